@@ -1,0 +1,264 @@
+//! The body of a trace export (opentelemetry-proto, trace service), by nested vectors: a function for each message,
+//! with its fields in rising number.
+ghost use Rattle.std.specs.Prelude.{◌≡◌, ◌≤◌, ◌<◌, ◌^◌, IfOk, OnOk, IsErrOf, length, map, pos};
+ghost use Rattle.trace_model.specs.Reading.{Reads};
+ghost use Rattle.trace_model.specs.AnyValue;
+ghost use Rattle.trace_model.specs.Tables;
+ghost use Rattle.trace_model.specs.Messages.{body_meaning, meaning};
+ghost use Rattle.trace_model.specs.Canon.{canon};
+ghost use Rattle.trace_model.specs.Export as model;
+ghost use Rattle.otlp_value.specs.Value.{value_view, attribute_view, attributes_view};
+ghost use Rattle.otlp_span.specs.Parts.{kind_view, parent_view, resource_view, scope_view};
+ghost use Rattle.trace_kit.specs.Group.{SharePlace, scope_group_view, resource_group_view, groups_view};
+ghost use Rattle.trace_kit.specs.Encode.{Puts, IsWritten, PutsMember};
+
+use crate::fields::{put_bytes, put_enum, put_fixed64, put_len, put_text, put_uint32, put_varint};
+use crate::grouping::{ResourceGroup, ScopeGroup, group};
+use otlp_ids::{OutOfMemory, SpanId};
+use otlp_span::{Kind, Resource, Scope, SpanData};
+use otlp_value::Value;
+use std::alloc::Allocator;
+use thiserror::Error;
+
+/// Appends a whole number as a value's member, in two's complement of 64 bits.
+fn put_int<A: Allocator>(out: &mut Vec<u8, A>, value: i64) -> Result<(), OutOfMemory>
+    ensures { OnOk result (PutsMember (AnyValue.int value) out.old.items out.new.items) }
+{
+    put_varint(out, 3, value.cast_unsigned())
+}
+
+/// Appends the one member that a value has, also where that is the default.
+fn put_member<A: Allocator>(out: &mut Vec<u8, A>, value: &Value<A>) -> Result<(), OutOfMemory>
+    ensures { OnOk result (PutsMember (model.value_message (value_view value.now)) out.old.items out.new.items) }
+{
+    match value {
+        Value::Text(text) => put_len(out, 1, text.as_str().as_bytes()),
+        Value::Int(number) => put_int(out, *number),
+    }
+}
+
+fn encode_key_value<A: Allocator + Copy>(
+    alloc: A,
+    pair: &(String<A>, Value<A>),
+) -> Result<Vec<u8, A>, OutOfMemory>
+    ensures { IfOk result (λ v. IsWritten Tables.key_value (model.attribute_message (attribute_view pair.now)) v.items) }
+{
+    let (key, value) = pair;
+    let mut out = Vec::new(alloc);
+    put_text(&mut out, 1, key.as_str())?;
+    let mut member = Vec::new(alloc);
+    put_member(&mut member, value)?;
+    put_len(&mut out, 2, member.as_slice())?;
+    Ok(out)
+}
+
+/// Appends attributes, each as a field of this number.
+fn put_attributes<A: Allocator + Copy>(
+    alloc: A,
+    out: &mut Vec<u8, A>,
+    number: u32,
+    pairs: &[(String<A>, Value<A>)],
+) -> Result<(), OutOfMemory>
+    requires { number < 2 ^ 29 }
+    ensures {
+        OnOk result (Puts number (Tables.repeated (Tables.message Tables.key_value))
+            (model.attribute_messages (attributes_view pairs.now)) out.old.items out.new.items)
+    }
+{
+    for pair in pairs {
+        let message = encode_key_value(alloc, pair)?;
+        put_len(out, number, message.as_slice())?;
+    }
+    Ok(())
+}
+
+fn encode_resource<A: Allocator + Copy>(
+    alloc: A,
+    resource: &Resource<A>,
+) -> Result<Vec<u8, A>, OutOfMemory>
+    ensures { IfOk result (λ v. IsWritten Tables.resource (model.resource_message (resource_view resource.now)) v.items) }
+{
+    let mut out = Vec::new(alloc);
+    put_attributes(alloc, &mut out, 1, resource.attributes.as_slice())?;
+    Ok(out)
+}
+
+fn encode_scope<A: Allocator + Copy>(
+    alloc: A,
+    scope: &Scope<A>,
+) -> Result<Vec<u8, A>, OutOfMemory>
+    ensures { IfOk result (λ v. IsWritten Tables.scope (model.scope_message (scope_view scope.now)) v.items) }
+{
+    let mut out = Vec::new(alloc);
+    put_text(&mut out, 1, scope.name.as_str())?;
+    put_text(&mut out, 2, scope.version.as_str())?;
+    put_attributes(alloc, &mut out, 3, scope.attributes.as_slice())?;
+    Ok(out)
+}
+
+/// The number of a kind in the protocol.
+fn kind_number(kind: Kind) -> u8
+    ensures { pos result ≡ model.kind_number (kind_view kind) }
+{
+    match kind {
+        Kind::Internal => 1,
+        Kind::Server => 2,
+        Kind::Client => 3,
+        Kind::Producer => 4,
+        Kind::Consumer => 5,
+    }
+}
+
+/// Appends the identifier of a parent; a root has none.
+fn put_parent<A: Allocator>(
+    out: &mut Vec<u8, A>,
+    number: u32,
+    parent: Option<SpanId>,
+) -> Result<(), OutOfMemory>
+    requires { number < 2 ^ 29 }
+    ensures { OnOk result (Puts number Tables.bytes (model.parent_id (parent_view parent)) out.old.items out.new.items) }
+{
+    match parent {
+        Some(id) => put_bytes(out, number, &id.0),
+        None => Ok(()),
+    }
+}
+
+fn encode_span<A: Allocator + Copy>(
+    alloc: A,
+    span: &SpanData<A>,
+) -> Result<Vec<u8, A>, OutOfMemory>
+    ensures { IfOk result (λ v. IsWritten Tables.span (model.span_message span.now.span) v.items) }
+{
+    let mut out = Vec::new(alloc);
+    let context = span.context();
+    put_bytes(&mut out, 1, &context.trace.0)?;
+    put_bytes(&mut out, 2, &context.span.0)?;
+    put_text(&mut out, 3, context.state.as_str())?;
+    put_parent(&mut out, 4, span.parent_span_id())?;
+    put_text(&mut out, 5, span.name())?;
+    put_enum(&mut out, 6, kind_number(span.kind()))?;
+    put_fixed64(&mut out, 7, span.start_time())?;
+    put_fixed64(&mut out, 8, span.end_time())?;
+    put_attributes(alloc, &mut out, 9, span.attributes())?;
+    put_uint32(&mut out, 10, span.dropped_attributes_count())?;
+    Ok(out)
+}
+
+fn encode_scope_spans<A: Allocator + Copy>(
+    alloc: A,
+    group: &ScopeGroup<'_, A>,
+) -> Result<Vec<u8, A>, OutOfMemory>
+    ensures { IfOk result (λ v. IsWritten Tables.scope_spans (model.scope_spans_message (scope_group_view group.now)) v.items) }
+{
+    let mut out = Vec::new(alloc);
+    let scope = encode_scope(alloc, group.scope)?;
+    put_len(&mut out, 1, scope.as_slice())?;
+    for span in &group.spans {
+        let message = encode_span(alloc, span)?;
+        put_len(&mut out, 2, message.as_slice())?;
+    }
+    put_text(&mut out, 3, group.scope.schema_url.as_str())?;
+    Ok(out)
+}
+
+fn encode_resource_spans<A: Allocator + Copy>(
+    alloc: A,
+    group: &ResourceGroup<'_, A>,
+) -> Result<Vec<u8, A>, OutOfMemory>
+    ensures { IfOk result (λ v. IsWritten Tables.resource_spans (model.resource_spans_message (resource_group_view group.now)) v.items) }
+{
+    let mut out = Vec::new(alloc);
+    let resource = encode_resource(alloc, group.resource)?;
+    put_len(&mut out, 1, resource.as_slice())?;
+    for scope_group in &group.scopes {
+        let message = encode_scope_spans(alloc, scope_group)?;
+        put_len(&mut out, 2, message.as_slice())?;
+    }
+    put_text(&mut out, 3, group.resource.schema_url.as_str())?;
+    Ok(out)
+}
+
+fn encode_request<A: Allocator + Copy>(
+    alloc: A,
+    groups: &[ResourceGroup<'_, A>],
+) -> Result<Vec<u8, A>, OutOfMemory>
+    ensures { IfOk result (λ v. IsWritten Tables.request (model.request_message (map resource_group_view groups.now)) v.items) }
+{
+    let mut out = Vec::new(alloc);
+    for group in groups {
+        let message = encode_resource_spans(alloc, group)?;
+        put_len(&mut out, 1, message.as_slice())?;
+    }
+    Ok(out)
+}
+
+/// Why there is no body.
+#[derive(Debug, Drop, PartialEq, Eq, Error)]
+pub enum EncodeFault {
+    /// Memory was refused.
+    #[error("out of memory")]
+    OutOfMemory,
+    /// The body is longer than it may be.
+    #[error("too large")]
+    TooLarge,
+}
+
+impl From<OutOfMemory> for EncodeFault {
+    ghost use Rattle.std.specs.Prelude.{◌≡◌};
+    ghost use Rattle.trace_kit.specs.declared.encoder.EncodeFault.{EncodeFault};
+    ghost use Rattle.trace_kit.specs.declared.encoder.EncodeFault.TheVariants as faults;
+
+    ghost from_gives = { λ _ fault. fault ≡ faults.OutOfMemory };
+
+    fn from(_: OutOfMemory) -> EncodeFault {
+        EncodeFault::OutOfMemory
+    }
+}
+
+/// The body of the request that exports these groups (opentelemetry-proto, ExportTraceServiceRequest), in the
+/// uncompressed Protocol Buffers encoding. It may have `max` bytes.
+///
+/// # Errors
+///
+/// `OutOfMemory` where memory was refused, and `TooLarge` where the body has more than `max` bytes.
+pub fn encode<A: Allocator + Copy>(
+    alloc: A,
+    groups: &[ResourceGroup<'_, A>],
+    max: usize,
+) -> Result<Vec<u8, A>, EncodeFault>
+    ensures meaning {
+        let message = model.request_message (groups_view groups.now) in
+        IfOk result (λ body. Reads (meaning Tables.request body.items) message)
+    }
+    ensures length { IfOk result (λ body. length body.items ≡ model.body_length (groups_view groups.now)) }
+    ensures within { OnOk result (model.body_length (groups_view groups.now) ≤ max) }
+    ensures too_large { IsErrOf result EncodeFault.TooLarge → max < model.body_length (groups_view groups.now) }
+{
+    let body = encode_request(alloc, groups)?;
+    if body.len() > max {
+        return Err(EncodeFault::TooLarge);
+    }
+    Ok(body)
+}
+
+/// The body of the request that exports these spans, grouped by resource and scope. It may have `max` bytes.
+/// Today all spans have to share one resource and one scope.
+///
+/// # Errors
+///
+/// `OutOfMemory` where memory was refused, and `TooLarge` where the body has more than `max` bytes.
+pub fn body_of<A: Allocator + Copy>(
+    alloc: A,
+    spans: &[SpanData<A>],
+    max: usize,
+) -> Result<Vec<u8, A>, EncodeFault>
+    requires { SharePlace spans.now }
+    ensures meaning { IfOk result (λ body. Reads (body_meaning body.items) (model.grouped_triples spans.now)) }
+    ensures length { IfOk result (λ body. length body.items ≡ model.body_length (model.groups spans.now)) }
+    ensures within { OnOk result (model.body_length (model.groups spans.now) ≤ max) }
+    ensures too_large { IsErrOf result EncodeFault.TooLarge → max < model.body_length (model.groups spans.now) }
+{
+    let groups = group(alloc, spans)?;
+    encode(alloc, groups.as_slice(), max)
+}

@@ -1,0 +1,59 @@
+-- Ended spans, grouped by resource and by scope. (opentelemetry-proto, ResourceSpans and ScopeSpans)
+use Rattle.std.specs.Prelude.{◌≡◌, ◌≢◌, ◌↔◌, ℕ, ◌<◌, List, [], filter, flat_map, Bool, ◌&&◌, IsTrue, All, AllPairs, IsPermutation}
+use Rattle.std.specs.List.{position_or_len}
+use Rattle.trace_model.specs.Spans.{Resource, Scope, EndedSpan}
+use Rattle.trace_model.specs.Export.{ResourceGroup, resource_eq, scope_eq, groups}
+
+-- the spans of the groups, in order
+abbrev pub spans_of : List ResourceGroup → List EndedSpan
+spans_of gs = flat_map (λ g. flat_map (λ h. h.items) g.items) gs
+
+-- whether the span has this resource and scope
+abbrev pub is_of : Resource → Scope → EndedSpan → Bool
+is_of r s x = resource_eq r x.resource && scope_eq s x.scope
+
+-- how many spans stand before the first one of the resource
+abbrev pub first_of_resource : Resource → List EndedSpan → ℕ
+first_of_resource r spans = position_or_len (λ x. resource_eq r x.resource) spans
+
+-- how many spans stand before the first one of the resource and scope
+abbrev pub first_of_scope : Resource → Scope → List EndedSpan → ℕ
+first_of_scope r s spans = position_or_len (is_of r s) spans
+
+-- ---- equality
+
+-- Resources are equal where all their parts are.
+abbrev pub ResourceEqDecides : Type 0
+ResourceEqDecides = (r s : Resource) → IsTrue (resource_eq r s) ↔ (r ≡ s)
+
+-- Scopes are equal where all their parts are: the name alone is not enough.
+abbrev pub ScopeEqDecides : Type 0
+ScopeEqDecides = (r s : Scope) → IsTrue (scope_eq r s) ↔ (r ≡ s)
+
+-- ---- the groups
+
+-- The groups have each span just as often as it is there.
+abbrev pub EachSpanIsGrouped : Type 0
+EachSpanIsGrouped = (spans : List EndedSpan) → IsPermutation spans (spans_of (groups spans))
+
+-- A group's spans are those with its resource and scope, in their order.
+abbrev pub GroupsAreOfOneScope : Type 0
+GroupsAreOfOneScope = (spans : List EndedSpan) → All (λ g. All (λ h. h.items ≡ filter (is_of g.key h.key) spans) g.items) (groups spans)
+
+abbrev pub EachResourceIsOnce : Type 0
+EachResourceIsOnce = (spans : List EndedSpan) → AllPairs (λ g h. g.key ≢ h.key) (groups spans)
+
+-- Under a resource each scope is there once.
+abbrev pub EachScopeIsOnce : Type 0
+EachScopeIsOnce = (spans : List EndedSpan) → All (λ g. AllPairs (λ h i. h.key ≢ i.key) g.items) (groups spans)
+
+abbrev pub NoGroupIsEmpty : Type 0
+NoGroupIsEmpty = (spans : List EndedSpan) → All (λ g. (g.items ≢ []) × All (λ h. h.items ≢ []) g.items) (groups spans)
+
+-- Resources stand in the order of their first spans.
+abbrev pub ResourcesAreInOrder : Type 0
+ResourcesAreInOrder = (spans : List EndedSpan) → AllPairs (λ g h. first_of_resource g.key spans < first_of_resource h.key spans) (groups spans)
+
+-- So do the scopes under a resource.
+abbrev pub ScopesAreInOrder : Type 0
+ScopesAreInOrder = (spans : List EndedSpan) → All (λ g. AllPairs (λ h i. first_of_scope g.key h.key spans < first_of_scope g.key i.key spans) g.items) (groups spans)

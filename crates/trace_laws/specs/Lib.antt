@@ -1,0 +1,4 @@
+pub mod Rows
+pub mod Keeping
+pub mod Calls
+pub mod Grouping

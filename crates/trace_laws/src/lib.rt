@@ -1,0 +1,89 @@
+//! Laws of the model of tracing: what holds of attributes, calls on a span and groups of spans, whatever they are.
+#![tactic(auto)]
+
+ghost use Rattle.trace_laws.specs.Rows.{OneRow};
+ghost use Rattle.trace_laws.specs.Keeping.{FirstKeysAreKept, AtMostTheLimitIsKept, NoKeyIsEmpty, NoKeyIsTwice, KeptKeysAreSet, KeysAreInOrderOfFirstUse, OnlyLaterKeysAreLeftOut, MorePairsKeepTheKeys, LastPairCounts, TextIsCut, EachTextIsCut, OtherValuesStay, NoLimitCutsNothing, OthersAreDropped, KeptAndDroppedAddUp};
+ghost use Rattle.trace_laws.specs.Calls.{FirstEventsAreKept, FirstLinksAreKept, OkIsFinal, UnsetIsIgnored, LastErrorCounts, StatusBeginsUnset, LastNameCounts, NameBeginsAsGiven, CallsBehindTheEndAreIgnored, FirstEndCounts};
+ghost use Rattle.trace_laws.specs.Grouping.{ResourceEqDecides, ScopeEqDecides, EachSpanIsGrouped, GroupsAreOfOneScope, EachResourceIsOnce, EachScopeIsOnce, NoGroupIsEmpty, ResourcesAreInOrder, ScopesAreInOrder};
+
+/// Some bytes are cut into fields in one way at most.
+pub fn one_row()
+    ensures { OneRow }
+{}
+
+/// Of the keys that are set on a list of attributes, the first are kept, up to the limit, in the order of their first
+/// use. An empty key is not kept. What is set later removes no key and moves none.
+pub fn keys_are_kept()
+    ensures first { FirstKeysAreKept }
+    ensures at_most { AtMostTheLimitIsKept }
+    ensures not_empty { NoKeyIsEmpty }
+    ensures not_twice { NoKeyIsTwice }
+    ensures set { KeptKeysAreSet }
+    ensures in_order { KeysAreInOrderOfFirstUse }
+    ensures left_out { OnlyLaterKeysAreLeftOut }
+    ensures stay { MorePairsKeepTheKeys }
+{}
+
+/// A key that is kept has the value that was set last, cut to the limit of its texts.
+pub fn last_value_counts()
+    ensures { LastPairCounts }
+{}
+
+/// Where texts have a limit, a value keeps the first characters of each of its texts, and any other value stays.
+pub fn texts_are_cut()
+    ensures text { TextIsCut }
+    ensures each_text { EachTextIsCut }
+    ensures others { OtherValuesStay }
+    ensures no_limit { NoLimitCutsNothing }
+{}
+
+/// The pairs that are kept and the count of dropped ones add up to the pairs that were set under a key, and the count
+/// stops at the greatest number of 32 bits.
+pub fn dropped_pairs_are_counted()
+    ensures capped { OthersAreDropped }
+    ensures exact { KeptAndDroppedAddUp }
+{}
+
+/// The first events and links are kept, up to the limit, and the others are counted.
+pub fn first_events_and_links_are_kept()
+    ensures events { FirstEventsAreKept }
+    ensures links { FirstLinksAreKept }
+{}
+
+/// Ok is final, Unset changes nothing, and without Ok the last Error counts.
+pub fn status_laws()
+    ensures ok { OkIsFinal }
+    ensures unset { UnsetIsIgnored }
+    ensures error { LastErrorCounts }
+    ensures none { StatusBeginsUnset }
+{}
+
+/// The last update of the name counts.
+pub fn name_laws()
+    ensures last { LastNameCounts }
+    ensures none { NameBeginsAsGiven }
+{}
+
+/// A span ends at its first end, and the calls behind it change nothing.
+pub fn end_laws()
+    ensures behind { CallsBehindTheEndAreIgnored }
+    ensures first { FirstEndCounts }
+{}
+
+/// Resources and scopes are equal where all their parts are.
+pub fn equality_laws()
+    ensures resource { ResourceEqDecides }
+    ensures scope { ScopeEqDecides }
+{}
+
+/// Each span is in the group of its resource and scope, in order, and in no other; no group is empty; a resource has
+/// one group, and a scope one in it. Groups stand in the order of their first spans.
+pub fn groups_are_the_spans()
+    ensures all { EachSpanIsGrouped }
+    ensures same { GroupsAreOfOneScope }
+    ensures resource_once { EachResourceIsOnce }
+    ensures scope_once { EachScopeIsOnce }
+    ensures not_empty { NoGroupIsEmpty }
+    ensures resources_in_order { ResourcesAreInOrder }
+    ensures scopes_in_order { ScopesAreInOrder }
+{}

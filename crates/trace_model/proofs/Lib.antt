@@ -1,0 +1,12 @@
+pub mod Fronts
+pub mod Varints
+pub mod Fields
+pub mod RowLaws
+pub mod ReadBack
+pub mod ValueBack
+pub mod Calls
+pub mod Composed
+pub mod Lengths
+pub mod Grouped
+pub mod Equalities
+pub mod Setting

@@ -1,0 +1,102 @@
+-- The bytes that a message is written as: known fields in rising number, shortest varints, and no scalar, text or bytes
+-- that is the default.
+use Rattle.std.specs.Prelude.{ℕ, zero, suc, ◌+◌, ◌*◌, ◌/◌, ◌%◌, List, [], ◌∷◌, ◌++◌, length, flat_map, nat_lt, ◌==◌, if◌then◌else◌}
+use Rattle.std.specs.Int.{w32, w64, to_le_bytes, cast_unsigned}
+use Rattle.trace_model.specs.Wire.{Payload, varint, i64, len, i32, Field}
+use Rattle.trace_model.specs.AnyValue.{AnyValue, AnyValues, no_values, value, KeyValues, no_pairs, pair}
+use Rattle.trace_model.specs.Tables.{Shape, text, bytes, bool, uint32, int64, enum, fixed64, any, message, optional, repeated, Table, end, ◌⦂◌◂◌, Meaning, Record}
+use Rattle.trace_model.specs.Messages.{wire_type}
+
+-- ---- fields as bytes
+
+-- groups of seven bits, the least first, in at most one more than so many bytes
+unfoldable pub groups_of : ℕ → ℕ → List ℕ
+groups_of zero n = n ∷ []
+groups_of (suc room) n = if nat_lt n 128 then n ∷ [] else (n % 128 + 128) ∷ groups_of room (n / 128)
+
+unfoldable pub shortest : ℕ → List ℕ
+unfolding groups_of
+shortest n = groups_of 9 n
+
+unfoldable pub payload_bytes : Payload → List ℕ
+unfolding shortest
+payload_bytes (varint n) = shortest n
+payload_bytes (i64 n) = to_le_bytes w64 n
+payload_bytes (len bs) = shortest (length bs) ++ bs
+payload_bytes (i32 n) = to_le_bytes w32 n
+
+unfoldable pub field_bytes : Field → List ℕ
+unfolding shortest payload_bytes
+field_bytes f = shortest (f.number * 8 + wire_type f.payload) ++ payload_bytes f.payload
+
+unfoldable pub row_bytes : List Field → List ℕ
+unfolding field_bytes
+row_bytes fields = flat_map field_bytes fields
+
+-- ---- messages as fields
+
+abbrev pub number_field : ℕ → ℕ → List Field
+number_field n x = if x == 0 then [] else record { number = n; payload = varint x } ∷ []
+
+abbrev pub bytes_field : ℕ → List ℕ → Field
+bytes_field n bs = record { number = n; payload = len bs }
+
+abbrev pub unless_empty : ℕ → List ℕ → List Field
+unless_empty n [] = []
+unless_empty n (b ∷ bs) = bytes_field n (b ∷ bs) ∷ []
+
+unfoldable mutual
+  unfolding row_bytes
+
+  -- a value as the one field of its kind
+  pub value_fields : AnyValue → List Field
+  value_fields AnyValue.none = []
+  value_fields (AnyValue.text t) = bytes_field 1 t ∷ []
+  value_fields (AnyValue.bool b) = record { number = 2; payload = varint (if b then 1 else 0) } ∷ []
+  value_fields (AnyValue.int i) = record { number = 3; payload = varint (cast_unsigned w64 i) } ∷ []
+  value_fields (AnyValue.double d) = record { number = 4; payload = i64 d } ∷ []
+  value_fields (AnyValue.array vs) = bytes_field 5 (row_bytes (values_fields vs)) ∷ []
+  value_fields (AnyValue.pairs ps) = bytes_field 6 (row_bytes (pairs_fields ps)) ∷ []
+  value_fields (AnyValue.bytes bs) = bytes_field 7 bs ∷ []
+
+  pub values_fields : AnyValues → List Field
+  values_fields no_values = []
+  values_fields (value v vs) = bytes_field 1 (row_bytes (value_fields v)) ∷ values_fields vs
+
+  pub pairs_fields : KeyValues → List Field
+  pairs_fields no_pairs = []
+  pairs_fields (pair k v ps) = bytes_field 1 (row_bytes (unless_empty 1 k ++ bytes_field 2 (row_bytes (value_fields v)) ∷ [])) ∷ pairs_fields ps
+
+abbrev pub unless_no_fields : ℕ → List Field → List Field
+unless_no_fields n [] = []
+unless_no_fields n (f ∷ fields) = bytes_field n (field_bytes f ++ row_bytes fields) ∷ []
+
+unfoldable mutual
+  unfolding value_fields row_bytes
+
+  -- a field of a table, as it is written under its number
+  pub shape_fields : ℕ → (s : Shape) → Meaning s → List Field
+  shape_fields n text t = unless_empty n t
+  shape_fields n bytes bs = unless_empty n bs
+  shape_fields n bool b = number_field n (if b then 1 else 0)
+  shape_fields n uint32 x = number_field n x
+  shape_fields n int64 i = number_field n (cast_unsigned w64 i)
+  shape_fields n enum i = number_field n (cast_unsigned w64 i)
+  shape_fields n fixed64 x = if x == 0 then [] else record { number = n; payload = i64 x } ∷ []
+  shape_fields n any v = bytes_field n (row_bytes (value_fields v)) ∷ []
+  shape_fields n (message t) r = bytes_field n (row_bytes (table_fields t r)) ∷ []
+  shape_fields n (optional t) r = unless_no_fields n (table_fields t r)
+  shape_fields n (repeated s) xs = flat_map (λ x. shape_fields n s x) xs
+
+  pub table_fields : (t : Table) → Record t → List Field
+  table_fields end r = []
+  table_fields (n ⦂ s ◂ t) r = shape_fields n s r.0 ++ table_fields t r.1
+
+-- the bytes that a message of the table is written as
+unfoldable pub canon : (t : Table) → Record t → List ℕ
+unfolding table_fields row_bytes
+canon t r = row_bytes (table_fields t r)
+
+-- the bytes of a field of a table, under its number
+abbrev pub shape_bytes : ℕ → (s : Shape) → Meaning s → List ℕ
+shape_bytes n s x = row_bytes (shape_fields n s x)

@@ -1,0 +1,139 @@
+-- The OTLP image of a span, and spans grouped under their resources and scopes.
+-- opentelemetry-proto: trace.proto, common.proto, resource.proto, trace_service.proto.
+use Rattle.std.specs.Prelude.{ℕ, ℤ, pos, List, [], length, map, flat_map, filter, Bool, false, ◌&&◌, Option, Some, None, bytes_eq}
+use Rattle.std.specs.Bool.{beq}
+use Rattle.std.specs.Ordering.{int_eq}
+use lib.Pointwise.{pointwise}
+use Rattle.trace_model.specs.AnyValue as protocol
+use Rattle.trace_model.specs.Tables
+use Rattle.trace_model.specs.Tables.{Record, ◌▸◌}
+use Rattle.trace_model.specs.Messages.{Triple}
+use Rattle.trace_model.specs.Canon.{canon}
+use Rattle.trace_model.specs.Attributes.{Value, text, bool, int, texts, bools, ints, Attribute, distinct}
+use Rattle.trace_model.specs.Spans.{Kind, internal, server, client, producer, consumer, Status, unset, ok, error, Event, Link, Span, Resource, Scope, EndedSpan}
+
+-- ---- in the protocol's messages
+
+abbrev pub array_of : {A : Type 0} → (A → protocol.AnyValue) → List A → protocol.AnyValue
+array_of f xs = protocol.AnyValue.array (protocol.as_values (map f xs))
+
+abbrev pub value_message : Value → protocol.AnyValue
+value_message (text t) = protocol.AnyValue.text t
+value_message (bool b) = protocol.AnyValue.bool b
+value_message (int i) = protocol.AnyValue.int i
+value_message (texts ts) = array_of protocol.AnyValue.text ts
+value_message (bools bs) = array_of protocol.AnyValue.bool bs
+value_message (ints is) = array_of protocol.AnyValue.int is
+
+abbrev pub attribute_message : Attribute → Record Tables.key_value
+attribute_message p = p.key ▸ value_message p.value ▸ tt
+
+abbrev pub attribute_messages : List Attribute → List (Record Tables.key_value)
+attribute_messages pairs = map attribute_message pairs
+
+abbrev pub resource_message : Resource → Record Tables.resource
+resource_message r = attribute_messages r.attributes ▸ 0 ▸ tt
+
+abbrev pub scope_message : Scope → Record Tables.scope
+scope_message s = s.name ▸ s.version ▸ attribute_messages s.attributes ▸ 0 ▸ tt
+
+abbrev pub event_message : Event → Record Tables.event
+event_message e = e.at ▸ e.name ▸ attribute_messages e.attributes.items ▸ e.attributes.dropped ▸ tt
+
+abbrev pub link_message : Link → Record Tables.link
+link_message l = l.context.trace ▸ l.context.span ▸ l.context.state ▸ attribute_messages l.attributes.items ▸ l.attributes.dropped ▸ tt
+
+abbrev pub status_message : Status → Record Tables.status
+status_message unset = [] ▸ pos 0 ▸ tt
+status_message ok = [] ▸ pos 1 ▸ tt
+status_message (error t) = t ▸ pos 2 ▸ tt
+
+abbrev pub kind_number : Kind → ℤ
+kind_number internal = pos 1
+kind_number server = pos 2
+kind_number client = pos 3
+kind_number producer = pos 4
+kind_number consumer = pos 5
+
+-- a root has no parent's id
+abbrev pub parent_id : Option (List ℕ) → List ℕ
+parent_id None = []
+parent_id (Some id) = id
+
+abbrev pub span_message : Span → Record Tables.span
+span_message s =
+    s.context.trace ▸ s.context.span ▸ s.context.state ▸ parent_id s.parent ▸ s.name ▸ kind_number s.kind ▸ s.start ▸ s.end ▸
+    attribute_messages s.attributes.items ▸ s.attributes.dropped ▸
+    map event_message s.events.items ▸ s.events.dropped ▸
+    map link_message s.links.items ▸ s.links.dropped ▸
+    status_message s.status ▸ tt
+
+unfoldable pub triple : EndedSpan → Triple
+triple x = record {
+  resource = resource_message x.resource;
+  resource_schema = x.resource.schema;
+  scope = scope_message x.scope;
+  scope_schema = x.scope.schema;
+  span = span_message x.span;
+}
+
+-- ---- equality, by all fields
+
+abbrev pub value_eq : Value → Value → Bool
+value_eq (text t) (text u) = bytes_eq t u
+value_eq (bool b) (bool c) = beq b c
+value_eq (int i) (int j) = int_eq i j
+value_eq (texts ts) (texts us) = pointwise bytes_eq ts us
+value_eq (bools bs) (bools cs) = pointwise beq bs cs
+value_eq (ints is) (ints js) = pointwise int_eq is js
+value_eq _ _ = false
+
+abbrev pub attribute_eq : Attribute → Attribute → Bool
+attribute_eq p q = bytes_eq p.key q.key && value_eq p.value q.value
+
+abbrev pub resource_eq : Resource → Resource → Bool
+resource_eq r s = pointwise attribute_eq r.attributes s.attributes && bytes_eq r.schema s.schema
+
+abbrev pub scope_eq : Scope → Scope → Bool
+scope_eq r s = bytes_eq r.name s.name && (bytes_eq r.version s.version && (pointwise attribute_eq r.attributes s.attributes && bytes_eq r.schema s.schema))
+
+-- ---- groups
+
+pub record Group (K A : Type 0) : Type 0 where
+  pub key : K
+  pub items : List A
+
+-- For each distinct key, in order of first occurrence, the items with that key in their order.
+unfoldable pub grouped : {K A : Type 0} → (K → K → Bool) → (A → K) → List A → List (Group K A)
+grouped same key_of items = map (λ k. record { key = k; items = filter (λ x. same k (key_of x)) items }) (distinct same (map key_of items))
+
+abbrev pub ScopeGroup : Type 0
+ScopeGroup = Group Scope EndedSpan
+
+abbrev pub ResourceGroup : Type 0
+ResourceGroup = Group Resource ScopeGroup
+
+-- by resource, and inside by scope
+unfoldable pub groups : List EndedSpan → List ResourceGroup
+unfolding grouped
+groups spans = map (λ g. record { key = g.key; items = grouped scope_eq (λ x. x.scope) g.items }) (grouped resource_eq (λ x. x.resource) spans)
+
+abbrev pub scope_spans_message : ScopeGroup → Record Tables.scope_spans
+scope_spans_message g = scope_message g.key ▸ map (λ x. span_message x.span) g.items ▸ g.key.schema ▸ tt
+
+abbrev pub resource_spans_message : ResourceGroup → Record Tables.resource_spans
+resource_spans_message g = resource_message g.key ▸ map scope_spans_message g.items ▸ g.key.schema ▸ tt
+
+-- the request that carries the groups
+unfoldable pub request_message : List ResourceGroup → Record Tables.request
+request_message gs = map resource_spans_message gs ▸ tt
+
+-- how many bytes the request that carries the groups has
+unfoldable pub body_length : List ResourceGroup → ℕ
+unfolding request_message
+body_length gs = length (canon Tables.request (request_message gs))
+
+-- the spans of the groups, in order
+unfoldable pub grouped_triples : List EndedSpan → List Triple
+unfolding groups triple
+grouped_triples spans = flat_map (λ g. flat_map (λ h. map triple h.items) g.items) (groups spans)

@@ -1,0 +1,37 @@
+-- What is proved of the model itself.
+use Rattle.std.specs.Prelude.{◌≡◌, ℕ, ◌<◌, ◌^◌, ◌↔◌, List, [], ◌∷◌, ◌++◌, length, true}
+use Rattle.trace_model.specs.Reading.{Reads, done}
+use Rattle.trace_model.specs.Wire.{Field, row}
+use Rattle.trace_model.specs.Spelling.{IsVarint, IsField, IsRow}
+use Rattle.trace_model.specs.Tables
+use Rattle.trace_model.specs.Tables.{Table, Record, is_table}
+use Rattle.trace_model.specs.Messages.{meaning, triples}
+use Rattle.trace_model.specs.Canon.{canon}
+use Rattle.trace_model.specs.Whole.{IsMessage}
+use Rattle.trace_model.specs.Attributes.{Attribute, Limits, attributes, set_one}
+use Rattle.trace_model.specs.Spans.{EndedSpan}
+use Rattle.trace_model.specs.Export.{groups, request_message, grouped_triples}
+
+-- no varint begins another, and each is one number
+abbrev pub OneVarint : Type 0
+OneVarint = (a b u v : List ℕ) (x y : ℕ) → IsVarint a x → IsVarint b y → a ++ u ≡ b ++ v → (a ≡ b) × (x ≡ y)
+
+-- no field begins another
+abbrev pub OneField : Type 0
+OneField = (a b u v : List ℕ) (f g : Field) → IsField a f → IsField b g → a ++ u ≡ b ++ v → (a ≡ b) × (f ≡ g)
+
+-- a row of fields is read just where it is spelled
+abbrev pub RowIsSpelled : Type 0
+RowIsSpelled = (bs : List ℕ) (fields : List Field) → IsRow bs fields ↔ Reads (row bs) fields
+
+-- a message that is written is read
+abbrev pub WrittenIsRead : Type 0
+WrittenIsRead = (t : Table) (r : Record t) → is_table 0 t ≡ true → IsMessage t r → length (canon t r) < 2 ^ 64 → meaning t (canon t r) ≡ done r
+
+-- the request that carries the groups has the triples of the spans, group by group
+abbrev pub GroupsAreCarried : Type 0
+GroupsAreCarried = (spans : List EndedSpan) → triples (request_message (groups spans)) ≡ grouped_triples spans
+
+-- one more pair
+abbrev pub SetsOne : Type 0
+SetsOne = (limits : Limits) (pairs : List Attribute) (p : Attribute) → attributes limits (pairs ++ p ∷ []) ≡ set_one limits (attributes limits pairs) p

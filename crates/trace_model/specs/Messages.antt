@@ -1,0 +1,167 @@
+-- What bytes mean by a message's table.
+use Rattle.std.specs.Prelude.{ℕ, zero, suc, ◌%◌, ◌^◌, List, [], ◌∷◌, Bool, ◌==◌, ◌&&◌, not, filter, map, reverse, flat_map, find, take_while, Option, Some, None, is_some, if◌then◌else◌}
+use Rattle.std.specs.Int.{w32, w64, cast_signed}
+use Rattle.std.specs.Str.{is_utf8}
+use Rattle.trace_model.specs.Reading.{Reading, ◌>>=◌, done, each, bad_utf8, too_deep}
+use Rattle.trace_model.specs.Wire.{Payload, varint, i64, len, i32, Field, row}
+use Rattle.trace_model.specs.AnyValue.{AnyValue, none, as_values, as_pairs}
+use Rattle.trace_model.specs.Tables
+use Rattle.trace_model.specs.Tables.{Shape, text, bytes, bool, uint32, int64, enum, fixed64, any, message, optional, repeated, Table, end, ◌⦂◌◂◌, ◌▸◌, Meaning, Record, key_value, array_value, key_value_list, resource, scope, span, scope_spans, resource_spans, request}
+
+-- ---- payloads
+
+abbrev pub wire_type : Payload → ℕ
+wire_type (varint n) = 0
+wire_type (i64 n) = 1
+wire_type (len bs) = 2
+wire_type (i32 n) = 5
+
+abbrev pub wire : Shape → ℕ
+wire text = 2
+wire bytes = 2
+wire bool = 0
+wire uint32 = 0
+wire int64 = 0
+wire enum = 0
+wire fixed64 = 1
+wire any = 2
+wire (message t) = 2
+wire (optional t) = 2
+wire (repeated s) = wire s
+
+-- whether the field is this one of a table, in its wire type
+abbrev pub is_field : ℕ → Shape → Field → Bool
+is_field n s f = (f.number == n) && (wire_type f.payload == wire s)
+
+unfoldable pub payloads : ℕ → Shape → List Field → List Payload
+payloads n s fields = map (λ f. f.payload) (filter (is_field n s) fields)
+
+abbrev pub number_in : Payload → ℕ
+number_in (varint n) = n
+number_in (i64 n) = n
+number_in (len bs) = 0
+number_in (i32 n) = n
+
+abbrev pub bytes_in : Payload → List ℕ
+bytes_in (varint n) = []
+bytes_in (i64 n) = []
+bytes_in (len bs) = bs
+bytes_in (i32 n) = []
+
+abbrev pub last_or : {A : Type 0} → A → List A → A
+last_or d [] = d
+last_or d (x ∷ xs) = last_or x xs
+
+abbrev pub last_number : List Payload → ℕ
+last_number ps = number_in (last_or (varint 0) ps)
+
+abbrev pub last_bytes : List Payload → List ℕ
+last_bytes ps = bytes_in (last_or (len []) ps)
+
+-- the rows of the payloads, one after another
+unfoldable pub joined : List Payload → Reading (List Field)
+joined ps = do
+  rows ← each (λ p. row (bytes_in p)) ps
+  done (flat_map (λ fields. fields) rows)
+
+abbrev pub utf8 : List ℕ → Reading (List ℕ)
+utf8 bs = record { value = bs; faults = if is_utf8 bs then [] else bad_utf8 ∷ [] }
+
+-- ---- a message, where the payloads of a value mean what `values` says
+
+abbrev pub Kind : Type 0 → Type 0
+Kind A = List Payload → Reading A
+
+unfoldable mutual
+  unfolding payloads joined
+
+  pub read : Kind AnyValue → (s : Shape) → List Payload → Reading (Meaning s)
+  read values text ps = utf8 (last_bytes ps)
+  read values bytes ps = done (last_bytes ps)
+  read values bool ps = done (not (last_number ps == 0))
+  read values uint32 ps = done (last_number ps % 2 ^ 32)
+  read values int64 ps = done (cast_signed w64 (last_number ps))
+  read values enum ps = done (cast_signed w32 (last_number ps % 2 ^ 32))
+  read values fixed64 ps = done (last_number ps)
+  read values any ps = values ps
+  read values (message t) ps = joined ps >>= λ fields. read_table values t fields
+  read values (optional t) ps = joined ps >>= λ fields. read_table values t fields
+  read values (repeated s) ps = each (λ p. read values s (p ∷ [])) ps
+
+  pub read_table : Kind AnyValue → (t : Table) → List Field → Reading (Record t)
+  read_table values end fields = done tt
+  read_table values (n ⦂ s ◂ t) fields = read values s (payloads n s fields) >>= λ first. read_table values t fields >>= λ others. done (first ▸ others)
+
+-- ---- a value
+
+-- one of the things that a value can be: the field that holds it, and the value that it makes
+pub record Member : Type 0 where
+  pub number : ℕ
+  pub shape : Shape
+  pub make : Meaning shape → AnyValue
+
+abbrev pub members : List Member
+members =
+    record { number = 1; shape = text; make = AnyValue.text } ∷
+    record { number = 2; shape = bool; make = AnyValue.bool } ∷
+    record { number = 3; shape = int64; make = AnyValue.int } ∷
+    record { number = 4; shape = fixed64; make = AnyValue.double } ∷
+    record { number = 5; shape = message array_value; make = λ a. AnyValue.array (as_values a.0) } ∷
+    record { number = 6; shape = message key_value_list; make = λ l. AnyValue.pairs (as_pairs l.0) } ∷
+    record { number = 7; shape = bytes; make = AnyValue.bytes } ∷ []
+
+abbrev pub member_of : Field → Option Member
+member_of f = find (λ m. is_field m.number m.shape f) members
+
+-- the payloads of the last unbroken run of a number, in a row that is given from its end
+abbrev pub last_run : ℕ → List Field → List Payload
+last_run n back = map (λ f. f.payload) (reverse (take_while (λ f. f.number == n) back))
+
+abbrev pub make_with : Kind AnyValue → Option Member → List Payload → Reading AnyValue
+make_with deeper None ps = done none
+make_with deeper (Some m) ps = read deeper m.shape ps >>= λ x. done (m.make x)
+
+-- the value of the members, given from the last
+abbrev pub value_of : Kind AnyValue → List Field → Reading AnyValue
+value_of deeper [] = done none
+value_of deeper (f ∷ back) = make_with deeper (member_of f) (last_run f.number (f ∷ back))
+
+-- a value with so many levels at most
+unfoldable pub value : ℕ → Kind AnyValue
+unfolding read joined
+value zero [] = done none
+value zero (p ∷ ps) = record { value = none; faults = too_deep ∷ [] }
+value (suc depth) ps = joined ps >>= λ fields. value_of (value depth) (reverse (filter (λ f. is_some (member_of f)) fields))
+
+abbrev pub max_depth : ℕ
+max_depth = 64
+
+-- ---- a body
+
+-- what the bytes mean as a message of the table
+unfoldable pub meaning : (t : Table) → List ℕ → Reading (Record t)
+unfolding read value row
+meaning t body = row body >>= λ fields. read_table (value max_depth) t fields
+
+-- a span with the scope and the resource that it stands under
+pub record Triple : Type 0 where
+  pub resource : Record Tables.resource
+  pub resource_schema : List ℕ
+  pub scope : Record Tables.scope
+  pub scope_schema : List ℕ
+  pub span : Record Tables.span
+
+abbrev pub scope_triples : Record Tables.resource → List ℕ → Record Tables.scope_spans → List Triple
+scope_triples r url (sc ▸ spans ▸ scope_url ▸ rest) = map (λ x. record { resource = r; resource_schema = url; scope = sc; scope_schema = scope_url; span = x }) spans
+
+abbrev pub resource_triples : Record Tables.resource_spans → List Triple
+resource_triples (r ▸ scopes ▸ url ▸ rest) = flat_map (scope_triples r url) scopes
+
+-- the spans of a request, in the order of reading
+abbrev pub triples : Record Tables.request → List Triple
+triples (groups ▸ rest) = flat_map resource_triples groups
+
+-- The meaning of a body: the spans of the request that it is, in the order of reading.
+unfoldable pub body_meaning : List ℕ → Reading (List Triple)
+unfolding meaning
+body_meaning body = meaning request body >>= λ message. done (triples message)

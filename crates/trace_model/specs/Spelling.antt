@@ -1,0 +1,46 @@
+-- What the bytes on the wire spell, as relations: a varint, a field, and a row of fields.
+use Rattle.std.specs.Prelude.{◌≡◌, ℕ, ◌+◌, ◌*◌, ◌%◌, ◌^◌, ◌<◌, ◌≤◌, List, [], ◌∷◌, ◌++◌, length}
+use Rattle.std.specs.Int.{w32, w64, from_le_bytes}
+use Rattle.trace_model.specs.Wire.{Payload, varint, i64, len, i32, Field}
+use Rattle.trace_model.specs.Messages.{wire_type}
+
+-- each byte is at least 128, except the last
+abbrev pub IsEnded : List ℕ → Type 0
+IsEnded [] = ⊥
+IsEnded (b ∷ []) = b < 128
+IsEnded (b ∷ c ∷ bs) = (128 ≤ b) × IsEnded (c ∷ bs)
+
+-- the low seven bits of each, the least first
+abbrev pub in_groups : List ℕ → ℕ
+in_groups [] = 0
+in_groups (b ∷ bs) = b % 128 + 128 * in_groups bs
+
+pub record IsVarint (bs : List ℕ) (n : ℕ) : Type 0 where
+  pub ended : IsEnded bs
+  pub size : length bs ≤ 10
+  pub value : n ≡ in_groups bs % 2 ^ 64
+
+pub record IsCounted (bs content : List ℕ) : Type 0 where
+  pub size : List ℕ
+  pub count : IsVarint size (length content)
+  pub whole : bs ≡ size ++ content
+
+abbrev pub IsPayload : List ℕ → Payload → Type 0
+IsPayload bs (varint n) = IsVarint bs n
+IsPayload bs (i64 n) = (length bs ≡ 8) × (n ≡ from_le_bytes w64 bs)
+IsPayload bs (len content) = IsCounted bs content
+IsPayload bs (i32 n) = (length bs ≡ 4) × (n ≡ from_le_bytes w32 bs)
+
+-- a tag, which is the field's number and wire type, and the payload
+pub record IsField (bs : List ℕ) (f : Field) : Type 0 where
+  pub tag : List ℕ
+  pub rest : List ℕ
+  pub is_tag : IsVarint tag (f.number * 8 + wire_type f.payload)
+  pub positive : 0 < f.number
+  pub in_range : f.number < 2 ^ 29
+  pub payload : IsPayload rest f.payload
+  pub whole : bs ≡ tag ++ rest
+
+abbrev pub IsRow : List ℕ → List Field → Type 0
+IsRow bs [] = bs ≡ []
+IsRow bs (f ∷ fields) = (front : List ℕ) × (rest : List ℕ) × IsField front f × IsRow rest fields × (bs ≡ front ++ rest)

@@ -1,0 +1,133 @@
+-- A message's table of fields, and what a message of that table is.
+use Rattle.std.specs.Prelude.{ℕ, ℤ, ◌^◌, List, Bool, true, false, ◌&&◌, nat_lt}
+use Rattle.trace_model.specs.AnyValue.{AnyValue}
+
+mutual
+  -- What a field of a table holds. An optional message is left out where it has no fields.
+  pub data Shape : Type 0 where
+    text bytes bool uint32 int64 enum fixed64 : Shape
+    any : Shape
+    message : Table → Shape
+    optional : Table → Shape
+    repeated : Shape → Shape
+
+  -- the fields of a message, by their numbers
+  pub data Table : Type 0 where
+    end : Table
+    ◌⦂◌◂◌ : ℕ → Shape → Table → Table
+
+infixr 20 ◌⦂◌◂◌
+abbrev mutual
+  pub Meaning : Shape → Type 0
+  Meaning text = List ℕ
+  Meaning bytes = List ℕ
+  Meaning bool = Bool
+  Meaning uint32 = ℕ
+  Meaning int64 = ℤ
+  Meaning enum = ℤ
+  Meaning fixed64 = ℕ
+  Meaning any = AnyValue
+  Meaning (message t) = Record t
+  Meaning (optional t) = Record t
+  Meaning (repeated s) = List (Meaning s)
+
+  pub Record : Table → Type 0
+  Record end = Unit {0}
+  Record (n ⦂ s ◂ t) = Meaning s × Record t
+
+-- the fields of a message, one behind the other
+infixr 20 ◌▸◌
+pattern abbrev pub ◌▸◌ : {A B : Type 0} → A → B → A × B
+x ▸ r = (x, r)
+
+-- ---- tables that can be written: numbers rise, and only messages and values are repeated
+
+abbrev pub is_element : Shape → Bool
+is_element any = true
+is_element (message t) = true
+is_element _ = false
+
+abbrev mutual
+  pub is_shape : Shape → Bool
+  is_shape text = true
+  is_shape bytes = true
+  is_shape bool = true
+  is_shape uint32 = true
+  is_shape int64 = true
+  is_shape enum = true
+  is_shape fixed64 = true
+  is_shape any = true
+  is_shape (message t) = is_table 0 t
+  is_shape (optional t) = is_table 0 t
+  is_shape (repeated s) = is_element s && is_shape s
+
+  pub is_table : ℕ → Table → Bool
+  is_table low end = true
+  is_table low (n ⦂ s ◂ t) = nat_lt low n && (nat_lt n (2 ^ 29) && (is_shape s && is_table n t))
+
+-- ---- the messages of a trace export
+
+abbrev pub key_value : Table
+key_value = 1 ⦂ text ◂ 2 ⦂ any ◂ end
+
+abbrev pub array_value : Table
+array_value = 1 ⦂ repeated any ◂ end
+
+abbrev pub key_value_list : Table
+key_value_list = 1 ⦂ repeated (message key_value) ◂ end
+
+-- the attributes, and how many were dropped
+abbrev pub resource : Table
+resource = 1 ⦂ repeated (message key_value) ◂ 2 ⦂ uint32 ◂ end
+
+-- name, version, attributes, how many were dropped
+abbrev pub scope : Table
+scope = 1 ⦂ text ◂ 2 ⦂ text ◂ 3 ⦂ repeated (message key_value) ◂ 4 ⦂ uint32 ◂ end
+
+-- time, name, attributes, how many were dropped
+abbrev pub event : Table
+event = 1 ⦂ fixed64 ◂ 2 ⦂ text ◂ 3 ⦂ repeated (message key_value) ◂ 4 ⦂ uint32 ◂ end
+
+-- trace id, span id, trace state, attributes, how many were dropped
+abbrev pub link : Table
+link = 1 ⦂ bytes ◂ 2 ⦂ bytes ◂ 3 ⦂ text ◂ 4 ⦂ repeated (message key_value) ◂ 5 ⦂ uint32 ◂ end
+
+-- message, code
+abbrev pub status : Table
+status = 2 ⦂ text ◂ 3 ⦂ enum ◂ end
+
+abbrev pub span : Table
+span =
+    1 ⦂ bytes ◂  -- trace id
+    2 ⦂ bytes ◂  -- span id
+    3 ⦂ text ◂  -- trace state
+    4 ⦂ bytes ◂  -- parent's span id
+    5 ⦂ text ◂  -- name
+    6 ⦂ enum ◂  -- kind
+    7 ⦂ fixed64 ◂  -- start
+    8 ⦂ fixed64 ◂  -- end
+    9 ⦂ repeated (message key_value) ◂
+    10 ⦂ uint32 ◂  -- attributes dropped
+    11 ⦂ repeated (message event) ◂
+    12 ⦂ uint32 ◂  -- events dropped
+    13 ⦂ repeated (message link) ◂
+    14 ⦂ uint32 ◂  -- links dropped
+    15 ⦂ optional status ◂ end
+
+-- scope, spans, schema URL
+abbrev pub scope_spans : Table
+scope_spans = 1 ⦂ message scope ◂ 2 ⦂ repeated (message span) ◂ 3 ⦂ text ◂ end
+
+-- resource, its spans by scope, schema URL
+abbrev pub resource_spans : Table
+resource_spans = 1 ⦂ message resource ◂ 2 ⦂ repeated (message scope_spans) ◂ 3 ⦂ text ◂ end
+
+abbrev pub request : Table
+request = 1 ⦂ repeated (message resource_spans) ◂ end
+
+-- how many spans were rejected, and a message
+abbrev pub partial_success : Table
+partial_success = 1 ⦂ int64 ◂ 2 ⦂ text ◂ end
+
+abbrev pub response : Table
+response = 1 ⦂ optional partial_success ◂ end
