@@ -46,7 +46,7 @@ pub ended : (first r : Recording) (e : EndedSpan) (start : Start) (before after 
     e ≡ record { resource = first.resource; scope = first.scope; span = span first.limits start (before ++ end at ∷ after) }
 ended first r e start before after at place rec ends =
     let whole : e.span ≡ span first.limits start (before ++ end at ∷ after) =
-        ends.value start before rec ∙ ap (λ l. span l start (before ++ end at ∷ [])) place.limits ∙ sym (span-behind first.limits start before after at rec.none_ends) in
+    ends.value start before rec ∙ ap (λ l. span l start (before ++ end at ∷ [])) place.limits ∙ sym (span-behind first.limits start before after at rec.none_ends) in
     same-ended e first.resource first.scope _ (ends.resource ∙ place.resource) (ends.scope ∙ place.scope) whole
 
 -- a span that is not ended by any of its calls
@@ -54,5 +54,5 @@ pub unended : (first r : Recording) (e : EndedSpan) (start : Start) (calls : Lis
     e ≡ record { resource = first.resource; scope = first.scope; span = span first.limits start calls }
 unended first r e start calls place rec ends =
     let whole : e.span ≡ span first.limits start calls =
-        ends.value start calls rec ∙ ap (λ l. span l start (calls ++ end start.at ∷ [])) place.limits ∙ span-ended first.limits start calls start.at rec.none_ends ∙ span-unended first.limits start calls rec.none_ends in
+    ends.value start calls rec ∙ ap (λ l. span l start (calls ++ end start.at ∷ [])) place.limits ∙ span-ended first.limits start calls start.at rec.none_ends ∙ span-unended first.limits start calls rec.none_ends in
     same-ended e first.resource first.scope _ (ends.resource ∙ place.resource) (ends.scope ∙ place.scope) whole

@@ -55,6 +55,10 @@ opened limits o = record {
   span = model.span (limits_view limits) (start_view o) [];
 }
 
+-- the list that the attributes are set in
+abbrev pub attributes_of : model.Recording → attributes.AttributeList
+attributes_of r = record { limits = record { count = r.limits.attributes; length = r.limits.value_length }; kept = r.span.attributes }
+
 -- the ended span of these calls
 abbrev pub replayed : {A : Type 0} → SpanLimits → Open A → List (SpanCall A) → model.EndedSpan
 replayed limits o made = record {

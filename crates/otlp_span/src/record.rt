@@ -2,8 +2,9 @@ ghost use Rattle.std.specs.Prelude.{◌≡◌, OnOk, OnErr, IfOk, string_bytes};
 ghost use Rattle.trace_model.specs.Spans as model;
 ghost use Rattle.trace_model.specs.Spans.{Adds, Ends};
 ghost use Rattle.otlp_ids.specs.SpanContext.{context_view};
+ghost use Rattle.otlp_value.specs.AttributeList.{TakesPlace};
 ghost use Rattle.otlp_value.specs.Value.{value_view, attributes_view};
-ghost use Rattle.otlp_span.specs.Parts.{HasOnlyAttributes, kind_view, parent_view, resource_view, scope_view, opened, replayed};
+ghost use Rattle.otlp_span.specs.Parts.{HasOnlyAttributes, attributes_of, kind_view, parent_view, resource_view, scope_view, opened, replayed};
 
 use crate::parts::{Kind, Open, Resource, Scope, SpanCall, SpanLimits};
 use otlp_ids::{OutOfMemory, SpanContext, SpanId};
@@ -26,7 +27,8 @@ struct SpanBody<A: Allocator> {
     attributes: AttributeList<A>,
 }
 
-/// A span that is recorded: calls on it count until it is closed. It is as large as a pointer.
+/// A span while it is recorded (Trace API, "Span"): calls on it count until it is closed. It is as large as
+/// a pointer.
 #[derive(Debug, Drop)]
 pub struct SpanRecord<A: Allocator = Global> {
     body: Box<SpanBody<A>, A>,
@@ -34,12 +36,16 @@ pub struct SpanRecord<A: Allocator = Global> {
 
 impl<A: Allocator> Model for SpanRecord<A> {
     ghost use Rattle.trace_model.specs.Spans.{Recording};
+
     ghost Value = { Recording };
+
     ghost use Rattle.otlp_span.specs.Body.{recording_view};
+
     ghost view = { λ r. recording_view r.body.value };
 }
 
-/// A span that has ended. It is as large as a pointer.
+/// A span that has ended, with its resource and its scope (Trace SDK, "Additional Span Interfaces"): it
+/// doesn't change any more. It is as large as a pointer.
 #[derive(Debug, Drop)]
 pub struct SpanData<A: Allocator = Global> {
     body: Box<SpanBody<A>, A>,
@@ -47,18 +53,26 @@ pub struct SpanData<A: Allocator = Global> {
 
 impl<A: Allocator> Model for SpanData<A> {
     ghost use Rattle.trace_model.specs.Spans.{EndedSpan};
+
     ghost Value = { EndedSpan };
+
     ghost use Rattle.otlp_span.specs.Body.{ended_view};
+
     ghost view = { λ s. ended_view s.body.value };
 }
 
 impl<A: Allocator + Copy> SpanRecord<A> {
-    /// Starts a record. All that it will be is on the heap from here on.
+    /// Starts a record that keeps as much as the limits allow (Trace API, "Span Creation"). No attribute is
+    /// set yet.
     ///
     /// # Errors
     ///
-    /// `OutOfMemory` where there is no room for the span.
-    pub fn open(alloc: A, opening: Open<A>, limits: &SpanLimits) -> Result<SpanRecord<A>, OutOfMemory>
+    /// `OutOfMemory` where there is no room for the record; what it was to start from is then dropped.
+    pub fn open(
+        alloc: A,
+        opening: Open<A>,
+        limits: &SpanLimits,
+    ) -> Result<SpanRecord<A>, OutOfMemory>
         ensures { IfOk result (λ r. r ≡ opened limits.now opening) }
     {
         let Open {
@@ -92,23 +106,24 @@ impl<A: Allocator + Copy> SpanRecord<A> {
 }
 
 impl<A: Allocator> SpanRecord<A> {
-    /// Sets an attribute (Trace API, "Set Attributes"). A key that is there keeps its place and gets the
-    /// value; an empty key is ignored; a new key beyond the limit is discarded and counted.
+    /// Sets an attribute (Trace API, "Set Attributes"; Trace SDK, "Span Limits"). A key that is there keeps
+    /// its place and gets the value; a new one is appended. A pair with an empty key is ignored, and one with
+    /// a new key is discarded and counted where as many keys are kept as the limit allows.
     ///
     /// # Errors
     ///
     /// `OutOfMemory` where a new key could not be stored; the record is then unchanged.
     pub fn set_attribute(&mut self, key: String<A>, value: Value<A>) -> Result<(), OutOfMemory>
-        ensures ok {
-            let call = model.set_attribute (record { key = string_bytes key; value = value_view value }) in
-            OnOk result (Adds call self.old self.new)
-        }
+        ensures ok { let call = model.set_attribute (record { key = string_bytes key; value = value_view value }) in
+            OnOk result (Adds call self.old self.new) }
         ensures err { OnErr result (self.new ≡ self.old) }
+        ensures in_place { OnErr result (TakesPlace (string_bytes key) (attributes_of self.old)) }
     {
         self.body.attributes.set(key, value)
     }
 
-    /// Ends the span at a moment, in nanoseconds since 1970, also before its start. It takes no memory.
+    /// Ends the span at a moment, in nanoseconds since 1970 (Trace API, "End"). The moment is kept as it is,
+    /// also where it is before the start (profile). It takes no memory.
     pub fn close(self, end: u64) -> SpanData<A>
         ensures { Ends end self result }
     {
@@ -119,7 +134,7 @@ impl<A: Allocator> SpanRecord<A> {
 }
 
 impl<A: Allocator> SpanData<A> {
-    /// The span's context.
+    /// The span's context (Trace API, "Get Context").
     pub fn context(&self) -> &SpanContext<A>
         ensures { context_view result.now ≡ self.now.span.context }
     {
@@ -154,7 +169,7 @@ impl<A: Allocator> SpanData<A> {
         self.body.name.as_str()
     }
 
-    /// What the span is to the spans round it.
+    /// What the span is to the spans round it (Trace API, "SpanKind").
     pub fn kind(&self) -> Kind
         ensures { kind_view result ≡ self.now.span.kind }
     {
@@ -168,14 +183,15 @@ impl<A: Allocator> SpanData<A> {
         self.body.start
     }
 
-    /// When it ended, in nanoseconds since 1970.
+    /// When it ended, in nanoseconds since 1970. It may be before the start (profile).
     pub fn end_time(&self) -> u64
         ensures { result ≡ self.now.span.end }
     {
         self.body.end
     }
 
-    /// The attributes that were kept, in the order in which their keys were first set.
+    /// The attributes that were kept, each with its last value, in the order in which their keys were first
+    /// set.
     pub fn attributes(&self) -> &[(String<A>, Value<A>)]
         ensures items { attributes_view result.now ≡ self.now.span.attributes.items }
         ensures alone { HasOnlyAttributes self.now.span }
@@ -183,7 +199,8 @@ impl<A: Allocator> SpanData<A> {
         self.body.attributes.pairs()
     }
 
-    /// How many attributes were discarded for want of room; it stops at 2^32 - 1.
+    /// How many times an attribute was discarded, since its key was new and as many keys were kept as the
+    /// limit allows (Trace SDK, "Span Limits"). It stops at 2^32 - 1 (profile).
     pub fn dropped_attributes_count(&self) -> u32
         ensures { result ≡ self.now.span.attributes.dropped }
     {
@@ -191,12 +208,13 @@ impl<A: Allocator> SpanData<A> {
     }
 }
 
-/// The span of a start and of the calls on it: those before the first end count, and where there is no
-/// end, it ends at its start.
+/// The span of a start and of the calls on it. The calls behind the first end are ignored (Trace API,
+/// "End"); where there is no end, the span ends at its start (profile). Keys and values are copied.
 ///
 /// # Errors
 ///
-/// `OutOfMemory` where there is no room for the span or its attributes.
+/// `OutOfMemory` where there is no room for the span, a key or a value; what it was to start from is then
+/// dropped, and so is what was recorded.
 pub fn replay<A: Allocator + Copy>(
     alloc: A,
     opening: Open<A>,
@@ -218,3 +236,6 @@ pub fn replay<A: Allocator + Copy>(
     }
     Ok(record.close(start))
 }
+
+#[cfg(test)]
+mod tests;

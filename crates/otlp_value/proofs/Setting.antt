@@ -1,5 +1,5 @@
 -- What the code does to the pairs of a list is what one more pair does to what is kept.
-use Rattle.std.proofs.Common.{◌≡◌, refl, sym, ap, ap₂, subst, ◌∙◌, ℕ, zero, suc, ◌<◌, ◌≤◌, ◌+◌, List, [], ◌∷◌, ◌++◌, map, filter, cond, take, length, Bool, true, false, not, ◌||◌, arith, bytes_eq, Option, Some, None, if◌then◌else◌, nat_lt, nat_eq, get_or}
+use Rattle.std.proofs.Common.{◌≡◌, refl, sym, ap, ap₂, subst, ◌∙◌, ℕ, zero, suc, ◌<◌, ◌≤◌, ◌+◌, List, [], ◌∷◌, ◌++◌, map, filter, cond, take, length, Bool, true, false, not, ◌||◌, arith, bytes_eq, Some, None, if◌then◌else◌, nat_lt, nat_eq, get_or}
 use Rattle.std.proofs.Math.ListN.{set, get_or-map}
 use Rattle.std.proofs.Math.Seq.{take-nil}
 use Rattle.std.specs.List.{list_any, position, position_or_len}

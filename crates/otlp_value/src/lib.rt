@@ -16,7 +16,7 @@ use std::marker::Model;
 pub enum Value<A: Allocator = Global> {
     /// A text.
     Text(String<A>),
-    /// A whole number.
+    /// A whole number of 64 bits, with its sign.
     Int(i64),
 }
 
@@ -40,7 +40,7 @@ impl<A: Allocator + Copy> Value<A> {
 /// How much an `AttributeList` keeps (OpenTelemetry Common, "Attribute Limits").
 #[derive(Debug, Clone, Copy, PartialEq, Eq)]
 pub struct Limits {
-    /// How many keys are kept, 0 or more.
+    /// How many keys are kept at most.
     pub count: u32,
 }
 

@@ -1,6 +1,7 @@
 -- Spans of one resource and one scope are one group.
-use Rattle.std.proofs.Common.{◌≡◌, refl, sym, ap, ◌∙◌, List, [], ◌∷◌, map, filter, cond, Bool, true, false, not, Some, None}
+use Rattle.std.proofs.Common.{◌≡◌, refl, sym, ap, ◌∙◌, List, [], ◌∷◌, map, filter, cond, Bool, true, false, not, Option, Some, None}
 use Rattle.std.specs.List.{AllByRecursion, slice_get}
+use Rattle.std.specs.Option.{option_to_list}
 use Rattle.trace_model.specs.Attributes.{distinct}
 use Rattle.trace_model.specs.Spans.{Resource, EndedSpan}
 use Rattle.trace_model.specs.Export.{Group, ScopeGroup, ResourceGroup, resource_eq, scope_eq, grouped, groups}
@@ -67,3 +68,8 @@ shared-first (y ∷ ys) x e h = let same : x ≡ y = cc in rw same (sym (shared 
 pub none-first : (spans : List EndedSpan) → None ≡ slice_get spans 0 → [] ≡ groups spans
 none-first [] e = sym no-groups
 none-first (y ∷ ys) e = cc
+
+-- one span at most
+pub share-one : (o : Option EndedSpan) (spans : List EndedSpan) → spans ≡ option_to_list o → SharePlace spans
+share-one None spans e = rw e tt
+share-one (Some x) spans e = rw e tt

@@ -16,10 +16,11 @@ UpdatesNoName c = (name : List ℕ) → c ≢ update_name name
 
 -- ---- events and links
 
--- of the events of the calls that count
+-- Of the events of the live calls. (Trace SDK, Span Limits)
 abbrev pub FirstEventsAreKept : Type 0
 FirstEventsAreKept = (limits : SpanLimits) (start : Start) (calls : List Call) → KeepsFirst limits.events (filter_map (event_of limits) (live calls)) (span limits start calls).events
 
+-- Of the links of the live calls that aren't ignored. (Trace SDK, Span Limits; Trace API, Link)
 abbrev pub FirstLinksAreKept : Type 0
 FirstLinksAreKept = (limits : SpanLimits) (start : Start) (calls : List Call) → KeepsFirst limits.links (filter_map (link_of limits) (live calls)) (span limits start calls).links
 
@@ -44,6 +45,7 @@ StatusBeginsUnset = (limits : SpanLimits) (start : Start) (calls : List Call) �
 
 -- ---- name. (Trace API, UpdateName)
 
+-- The last update before the end counts.
 abbrev pub LastNameCounts : Type 0
 LastNameCounts = (limits : SpanLimits) (start : Start) (front back : List Call) (name : List ℕ) → NoneEnds front → All UpdatesNoName (live back) →
     (span limits start (front ++ update_name name ∷ back)).name ≡ name

@@ -1,4 +1,5 @@
--- Ended spans, grouped by resource and by scope. (opentelemetry-proto, ResourceSpans and ScopeSpans)
+-- Ended spans, grouped by resource and by scope. (opentelemetry-proto, trace.proto: ResourceSpans, ScopeSpans; that each
+-- is there once, the order, and equality by all fields: profile)
 use Rattle.std.specs.Prelude.{◌≡◌, ◌≢◌, ◌↔◌, ℕ, ◌<◌, List, [], filter, flat_map, Bool, ◌&&◌, IsTrue, All, AllPairs, IsPermutation}
 use Rattle.std.specs.List.{position_or_len}
 use Rattle.trace_model.specs.Spans.{Resource, Scope, EndedSpan}
@@ -40,6 +41,7 @@ EachSpanIsGrouped = (spans : List EndedSpan) → IsPermutation spans (spans_of (
 abbrev pub GroupsAreOfOneScope : Type 0
 GroupsAreOfOneScope = (spans : List EndedSpan) → All (λ g. All (λ h. h.items ≡ filter (is_of g.key h.key) spans) g.items) (groups spans)
 
+-- No two groups have the same resource.
 abbrev pub EachResourceIsOnce : Type 0
 EachResourceIsOnce = (spans : List EndedSpan) → AllPairs (λ g h. g.key ≢ h.key) (groups spans)
 
@@ -47,6 +49,7 @@ EachResourceIsOnce = (spans : List EndedSpan) → AllPairs (λ g h. g.key ≢ h.
 abbrev pub EachScopeIsOnce : Type 0
 EachScopeIsOnce = (spans : List EndedSpan) → All (λ g. AllPairs (λ h i. h.key ≢ i.key) g.items) (groups spans)
 
+-- Each resource has a scope, and each scope a span.
 abbrev pub NoGroupIsEmpty : Type 0
 NoGroupIsEmpty = (spans : List EndedSpan) → All (λ g. (g.items ≢ []) × All (λ h. h.items ≢ []) g.items) (groups spans)
 

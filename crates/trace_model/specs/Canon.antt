@@ -1,5 +1,5 @@
 -- The bytes that a message is written as: known fields in rising number, shortest varints, and no scalar, text or bytes
--- that is the default.
+-- that is its default, but for the member of a value. One of the ways that Protocol Buffers allow. (profile)
 use Rattle.std.specs.Prelude.{ℕ, zero, suc, ◌+◌, ◌*◌, ◌/◌, ◌%◌, List, [], ◌∷◌, ◌++◌, length, flat_map, nat_lt, ◌==◌, if◌then◌else◌}
 use Rattle.std.specs.Int.{w32, w64, to_le_bytes, cast_unsigned}
 use Rattle.trace_model.specs.Wire.{Payload, varint, i64, len, i32, Field}
@@ -9,15 +9,18 @@ use Rattle.trace_model.specs.Messages.{wire_type}
 
 -- ---- fields as bytes
 
--- groups of seven bits, the least first, in at most one more than so many bytes
+-- groups of seven bits, the least first, in at most one more than so many bytes (Protocol Buffers, Encoding: Base 128
+-- Varints)
 unfoldable pub groups_of : ℕ → ℕ → List ℕ
 groups_of zero n = n ∷ []
 groups_of (suc room) n = if nat_lt n 128 then n ∷ [] else (n % 128 + 128) ∷ groups_of room (n / 128)
 
+-- the shortest varint of a number of 64 bits (Protocol Buffers, Encoding: Base 128 Varints; the shortest: profile)
 unfoldable pub shortest : ℕ → List ℕ
 unfolding groups_of
 shortest n = groups_of 9 n
 
+-- (Protocol Buffers, Encoding: Message Structure, Length-Delimited Records)
 unfoldable pub payload_bytes : Payload → List ℕ
 unfolding shortest
 payload_bytes (varint n) = shortest n
@@ -25,22 +28,27 @@ payload_bytes (i64 n) = to_le_bytes w64 n
 payload_bytes (len bs) = shortest (length bs) ++ bs
 payload_bytes (i32 n) = to_le_bytes w32 n
 
+-- the tag, then the payload (Protocol Buffers, Encoding: Message Structure)
 unfoldable pub field_bytes : Field → List ℕ
 unfolding shortest payload_bytes
 field_bytes f = shortest (f.number * 8 + wire_type f.payload) ++ payload_bytes f.payload
 
+-- one field behind the other
 unfoldable pub row_bytes : List Field → List ℕ
 unfolding field_bytes
 row_bytes fields = flat_map field_bytes fields
 
 -- ---- messages as fields
 
+-- a number other than 0, as a varint (Protocol Buffers, Language Guide: Default Field Values)
 abbrev pub number_field : ℕ → ℕ → List Field
 number_field n x = if x == 0 then [] else record { number = n; payload = varint x } ∷ []
 
+-- bytes behind their length, also where there are none
 abbrev pub bytes_field : ℕ → List ℕ → Field
 bytes_field n bs = record { number = n; payload = len bs }
 
+-- bytes, if there are any (Protocol Buffers, Language Guide: Default Field Values)
 abbrev pub unless_empty : ℕ → List ℕ → List Field
 unless_empty n [] = []
 unless_empty n (b ∷ bs) = bytes_field n (b ∷ bs) ∷ []
@@ -48,7 +56,8 @@ unless_empty n (b ∷ bs) = bytes_field n (b ∷ bs) ∷ []
 unfoldable mutual
   unfolding row_bytes
 
-  -- a value as the one field of its kind
+  -- A value as the one field of its kind, which is there also where it is the default. (Protocol Buffers, Encoding:
+  -- Oneofs; opentelemetry-proto, common.proto: AnyValue)
   pub value_fields : AnyValue → List Field
   value_fields AnyValue.none = []
   value_fields (AnyValue.text t) = bytes_field 1 t ∷ []
@@ -59,14 +68,17 @@ unfoldable mutual
   value_fields (AnyValue.pairs ps) = bytes_field 6 (row_bytes (pairs_fields ps)) ∷ []
   value_fields (AnyValue.bytes bs) = bytes_field 7 bs ∷ []
 
+  -- each value, also one that is none (common.proto: ArrayValue)
   pub values_fields : AnyValues → List Field
   values_fields no_values = []
   values_fields (value v vs) = bytes_field 1 (row_bytes (value_fields v)) ∷ values_fields vs
 
+  -- each pair, with its key unless that is empty, and with its value always (common.proto: KeyValueList)
   pub pairs_fields : KeyValues → List Field
   pairs_fields no_pairs = []
   pairs_fields (pair k v ps) = bytes_field 1 (row_bytes (unless_empty 1 k ++ bytes_field 2 (row_bytes (value_fields v)) ∷ [])) ∷ pairs_fields ps
 
+-- a message of these fields, if there are any
 abbrev pub unless_no_fields : ℕ → List Field → List Field
 unless_no_fields n [] = []
 unless_no_fields n (f ∷ fields) = bytes_field n (field_bytes f ++ row_bytes fields) ∷ []
@@ -74,7 +86,8 @@ unless_no_fields n (f ∷ fields) = bytes_field n (field_bytes f ++ row_bytes fi
 unfoldable mutual
   unfolding value_fields row_bytes
 
-  -- a field of a table, as it is written under its number
+  -- A field of a table, under its number: a scalar, text or bytes unless it is the default, a message or value always.
+  -- (Protocol Buffers, Encoding: Signed Integers; Language Guide: Default Field Values; empty messages: profile)
   pub shape_fields : ℕ → (s : Shape) → Meaning s → List Field
   shape_fields n text t = unless_empty n t
   shape_fields n bytes bs = unless_empty n bs
@@ -88,11 +101,12 @@ unfoldable mutual
   shape_fields n (optional t) r = unless_no_fields n (table_fields t r)
   shape_fields n (repeated s) xs = flat_map (λ x. shape_fields n s x) xs
 
+  -- the fields in the table's order (Protocol Buffers, Encoding: Field Order)
   pub table_fields : (t : Table) → Record t → List Field
   table_fields end r = []
   table_fields (n ⦂ s ◂ t) r = shape_fields n s r.0 ++ table_fields t r.1
 
--- the bytes that a message of the table is written as
+-- The bytes that a message of the table is written as. How many they are is the exact length of a body. (profile)
 unfoldable pub canon : (t : Table) → Record t → List ℕ
 unfolding table_fields row_bytes
 canon t r = row_bytes (table_fields t r)

@@ -1,4 +1,4 @@
--- What is proved of the model itself.
+-- What is proved of the model itself. The functions of `src/lib.rt` carry these statements.
 use Rattle.std.specs.Prelude.{◌≡◌, ℕ, ◌<◌, ◌^◌, ◌↔◌, List, [], ◌∷◌, ◌++◌, length, true}
 use Rattle.trace_model.specs.Reading.{Reads, done}
 use Rattle.trace_model.specs.Wire.{Field, row}
@@ -12,26 +12,29 @@ use Rattle.trace_model.specs.Attributes.{Attribute, Limits, attributes, set_one}
 use Rattle.trace_model.specs.Spans.{EndedSpan}
 use Rattle.trace_model.specs.Export.{groups, request_message, grouped_triples}
 
--- no varint begins another, and each is one number
+-- No varint begins another, and each is one number. (Protocol Buffers, Encoding: Base 128 Varints)
 abbrev pub OneVarint : Type 0
 OneVarint = (a b u v : List ℕ) (x y : ℕ) → IsVarint a x → IsVarint b y → a ++ u ≡ b ++ v → (a ≡ b) × (x ≡ y)
 
--- no field begins another
+-- No field begins another, and each is one field. (Protocol Buffers, Encoding: Message Structure)
 abbrev pub OneField : Type 0
 OneField = (a b u v : List ℕ) (f g : Field) → IsField a f → IsField b g → a ++ u ≡ b ++ v → (a ≡ b) × (f ≡ g)
 
--- a row of fields is read just where it is spelled
+-- A row of fields is read, without a fault, just where it is spelled. (Protocol Buffers, Encoding: Message Structure)
 abbrev pub RowIsSpelled : Type 0
 RowIsSpelled = (bs : List ℕ) (fields : List Field) → IsRow bs fields ↔ Reads (row bs) fields
 
--- a message that is written is read
+-- A message that is written is read, all of it and without a fault, by each table that can be written. Lengths have 64
+-- bits. (Protocol Buffers, Encoding)
 abbrev pub WrittenIsRead : Type 0
 WrittenIsRead = (t : Table) (r : Record t) → is_table 0 t ≡ true → IsMessage t r → length (canon t r) < 2 ^ 64 → meaning t (canon t r) ≡ done r
 
--- the request that carries the groups has the triples of the spans, group by group
+-- The request that carries the groups has the spans, group by group, each with its resource and scope.
+-- (opentelemetry-proto, trace.proto: ResourceSpans, ScopeSpans)
 abbrev pub GroupsAreCarried : Type 0
 GroupsAreCarried = (spans : List EndedSpan) → triples (request_message (groups spans)) ≡ grouped_triples spans
 
--- one more pair
+-- What is kept of some pairs and one more is what is kept after the one is set. (Trace API, Set Attributes; Common,
+-- Attribute Limits)
 abbrev pub SetsOne : Type 0
 SetsOne = (limits : Limits) (pairs : List Attribute) (p : Attribute) → attributes limits (pairs ++ p ∷ []) ≡ set_one limits (attributes limits pairs) p

@@ -1,4 +1,5 @@
--- What bytes mean by a message's table.
+-- What bytes mean by a message's table. What doesn't count is not looked into. (Protocol Buffers, Encoding; Language
+-- Guide: Default Field Values, Unknown Fields; what is not looked into: profile)
 use Rattle.std.specs.Prelude.{ℕ, zero, suc, ◌%◌, ◌^◌, List, [], ◌∷◌, Bool, ◌==◌, ◌&&◌, not, filter, map, reverse, flat_map, find, take_while, Option, Some, None, is_some, if◌then◌else◌}
 use Rattle.std.specs.Int.{w32, w64, cast_signed}
 use Rattle.std.specs.Str.{is_utf8}
@@ -10,12 +11,14 @@ use Rattle.trace_model.specs.Tables.{Shape, text, bytes, bool, uint32, int64, en
 
 -- ---- payloads
 
+-- (Protocol Buffers, Encoding: Message Structure)
 abbrev pub wire_type : Payload → ℕ
 wire_type (varint n) = 0
 wire_type (i64 n) = 1
 wire_type (len bs) = 2
 wire_type (i32 n) = 5
 
+-- the wire type of a field; of a repeated one, that of each element (Protocol Buffers, Encoding: Message Structure)
 abbrev pub wire : Shape → ℕ
 wire text = 2
 wire bytes = 2
@@ -29,52 +32,64 @@ wire (message t) = 2
 wire (optional t) = 2
 wire (repeated s) = wire s
 
--- whether the field is this one of a table, in its wire type
+-- Whether the field is this one of a table, in its wire type. Any other field is skipped. (Protocol Buffers, Language
+-- Guide: Unknown Fields; another wire type is skipped like an unknown number)
 abbrev pub is_field : ℕ → Shape → Field → Bool
 is_field n s f = (f.number == n) && (wire_type f.payload == wire s)
 
+-- the payloads of this field, in order
 unfoldable pub payloads : ℕ → Shape → List Field → List Payload
 payloads n s fields = map (λ f. f.payload) (filter (is_field n s) fields)
 
+-- the number that the payload is
 abbrev pub number_in : Payload → ℕ
 number_in (varint n) = n
 number_in (i64 n) = n
 number_in (len bs) = 0
 number_in (i32 n) = n
 
+-- the bytes that the payload is
 abbrev pub bytes_in : Payload → List ℕ
 bytes_in (varint n) = []
 bytes_in (i64 n) = []
 bytes_in (len bs) = bs
 bytes_in (i32 n) = []
 
+-- the last one, or the default where there is none
 abbrev pub last_or : {A : Type 0} → A → List A → A
 last_or d [] = d
 last_or d (x ∷ xs) = last_or x xs
 
+-- the last payload counts, and without one the default, 0 (Protocol Buffers, Encoding: Last One Wins)
 abbrev pub last_number : List Payload → ℕ
 last_number ps = number_in (last_or (varint 0) ps)
 
+-- likewise; the default is empty
 abbrev pub last_bytes : List Payload → List ℕ
 last_bytes ps = bytes_in (last_or (len []) ps)
 
--- the rows of the payloads, one after another
+-- The rows of the payloads, one after another, each cut by itself: so the parts of a message are merged.
+-- (Protocol Buffers, Encoding: Last One Wins)
 unfoldable pub joined : List Payload → Reading (List Field)
 joined ps = do
   rows ← each (λ p. row (bytes_in p)) ps
   done (flat_map (λ fields. fields) rows)
 
+-- a text is UTF-8 (Protocol Buffers, Language Guide: Scalar Value Types)
 abbrev pub utf8 : List ℕ → Reading (List ℕ)
 utf8 bs = record { value = bs; faults = if is_utf8 bs then [] else bad_utf8 ∷ [] }
 
--- ---- a message, where the payloads of a value mean what `values` says
+-- ---- a message, where the payloads of an AnyValue mean what `values` says
 
+-- what the payloads of a field mean
 abbrev pub Kind : Type 0 → Type 0
 Kind A = List Payload → Reading A
 
 unfoldable mutual
   unfolding payloads joined
 
+  -- A repeated field has all payloads, a message their joined rows, any other the last: uint32 and enum the low 32 bits,
+  -- bool whether it isn't 0. (Protocol Buffers, Encoding: Last One Wins; Language Guide: Updating A Message Type)
   pub read : Kind AnyValue → (s : Shape) → List Payload → Reading (Meaning s)
   read values text ps = utf8 (last_bytes ps)
   read values bytes ps = done (last_bytes ps)
@@ -88,18 +103,22 @@ unfoldable mutual
   read values (optional t) ps = joined ps >>= λ fields. read_table values t fields
   read values (repeated s) ps = each (λ p. read values s (p ∷ [])) ps
 
+  -- each field of the table has its own payloads: the order among the numbers is free (Protocol Buffers, Encoding:
+  -- Field Order)
   pub read_table : Kind AnyValue → (t : Table) → List Field → Reading (Record t)
   read_table values end fields = done tt
   read_table values (n ⦂ s ◂ t) fields = read values s (payloads n s fields) >>= λ first. read_table values t fields >>= λ others. done (first ▸ others)
 
 -- ---- a value
 
--- one of the things that a value can be: the field that holds it, and the value that it makes
+-- one of the things that a value can be: the field that holds it, and the value that it makes (opentelemetry-proto,
+-- common.proto: AnyValue)
 pub record Member : Type 0 where
   pub number : ℕ
   pub shape : Shape
   pub make : Meaning shape → AnyValue
 
+-- the members of the `oneof value` (opentelemetry-proto, common.proto: AnyValue)
 abbrev pub members : List Member
 members =
     record { number = 1; shape = text; make = AnyValue.text } ∷
@@ -110,40 +129,47 @@ members =
     record { number = 6; shape = message key_value_list; make = λ l. AnyValue.pairs (as_pairs l.0) } ∷
     record { number = 7; shape = bytes; make = AnyValue.bytes } ∷ []
 
+-- the member that the field holds, if any: it has its number and its wire type
 abbrev pub member_of : Field → Option Member
 member_of f = find (λ m. is_field m.number m.shape f) members
 
--- the payloads of the last unbroken run of a number, in a row that is given from its end
+-- The payloads of the last unbroken run of a number, in a row that is given from its end. A member of another number
+-- clears what stood before it. (Protocol Buffers, Encoding: Oneofs)
 abbrev pub last_run : ℕ → List Field → List Payload
 last_run n back = map (λ f. f.payload) (reverse (take_while (λ f. f.number == n) back))
 
+-- the value that the member makes of its payloads; none without a member
 abbrev pub make_with : Kind AnyValue → Option Member → List Payload → Reading AnyValue
 make_with deeper None ps = done none
 make_with deeper (Some m) ps = read deeper m.shape ps >>= λ x. done (m.make x)
 
--- the value of the members, given from the last
+-- The value of the members, which are given from the last: the last one's number decides. (Protocol Buffers, Encoding:
+-- Oneofs)
 abbrev pub value_of : Kind AnyValue → List Field → Reading AnyValue
 value_of deeper [] = done none
 value_of deeper (f ∷ back) = make_with deeper (member_of f) (last_run f.number (f ∷ back))
 
--- a value with so many levels at most
+-- What the payloads of an AnyValue mean where so many levels are left. Its rows are joined, and fields that are no
+-- member of it are skipped. Where no level is left a payload is too deep, and is not looked into. (profile: the depth)
 unfoldable pub value : ℕ → Kind AnyValue
 unfolding read joined
 value zero [] = done none
 value zero (p ∷ ps) = record { value = none; faults = too_deep ∷ [] }
 value (suc depth) ps = joined ps >>= λ fields. value_of (value depth) (reverse (filter (λ f. is_some (member_of f)) fields))
 
+-- an attribute's value has depth 1, and each member of an array or a list of pairs one more (profile)
 abbrev pub max_depth : ℕ
 max_depth = 64
 
 -- ---- a body
 
--- what the bytes mean as a message of the table
+-- What the bytes mean as a message of the table. (Protocol Buffers, Encoding)
 unfoldable pub meaning : (t : Table) → List ℕ → Reading (Record t)
 unfolding read value row
 meaning t body = row body >>= λ fields. read_table (value max_depth) t fields
 
--- a span with the scope and the resource that it stands under
+-- A span with the scope and the resource that it stands under, and the schema URL of each. (opentelemetry-proto,
+-- trace.proto: ResourceSpans, ScopeSpans)
 pub record Triple : Type 0 where
   pub resource : Record Tables.resource
   pub resource_schema : List ℕ
@@ -151,17 +177,20 @@ pub record Triple : Type 0 where
   pub scope_schema : List ℕ
   pub span : Record Tables.span
 
+-- the spans of a scope
 abbrev pub scope_triples : Record Tables.resource → List ℕ → Record Tables.scope_spans → List Triple
 scope_triples r url (sc ▸ spans ▸ scope_url ▸ rest) = map (λ x. record { resource = r; resource_schema = url; scope = sc; scope_schema = scope_url; span = x }) spans
 
+-- the spans of a resource, scope by scope
 abbrev pub resource_triples : Record Tables.resource_spans → List Triple
 resource_triples (r ▸ scopes ▸ url ▸ rest) = flat_map (scope_triples r url) scopes
 
--- the spans of a request, in the order of reading
+-- the spans of a request, in the order of reading (opentelemetry-proto, trace_service.proto: ExportTraceServiceRequest)
 abbrev pub triples : Record Tables.request → List Triple
 triples (groups ▸ rest) = flat_map resource_triples groups
 
--- The meaning of a body: the spans of the request that it is, in the order of reading.
+-- The meaning of a body: the spans of the request that it is, in the order of reading. (opentelemetry-proto,
+-- trace_service.proto: ExportTraceServiceRequest)
 unfoldable pub body_meaning : List ℕ → Reading (List Triple)
 unfolding meaning
 body_meaning body = meaning request body >>= λ message. done (triples message)

@@ -1,8 +1,10 @@
--- What the calls on a span make of it.
+-- What the calls on a span make of it. (Trace API, Span; Trace SDK, Span Limits)
 use Rattle.std.specs.Prelude.{◌≡◌, ℕ, ◌-◌, List, [], ◌∷◌, ◌++◌, take, take_while, filter, filter_map, length, Bool, true, false, not, ◌&&◌, ◌==◌, Option, Some, None, codes, if◌then◌else◌}
 use Rattle.std.specs.List.{list_any}
 use Rattle.trace_model.specs.Attributes.{text, Attribute, Kept, counted, attributes, is_empty, last_or}
 
+-- Identifiers, flags and trace state of a span, and whether it came from elsewhere. (Trace API, SpanContext; W3C Trace
+-- Context)
 pub record Context : Type 0 where
   pub trace : List ℕ
   pub span : List ℕ
@@ -10,23 +12,29 @@ pub record Context : Type 0 where
   pub remote : Bool
   pub state : List ℕ
 
+-- (Trace API, SpanKind)
 pub data Kind : Type 0 where
   internal server client producer consumer : Kind
 
+-- an error has a description (Trace API, Set Status)
 pub data Status : Type 0 where
   unset ok : Status
   error : List ℕ → Status
 
+-- a call on a span (Trace API, Span operations)
 pub data Call : Type 0 where
   set_attribute : Attribute → Call
+  -- name, moment, pairs
   add_event : List ℕ → ℕ → List Attribute → Call
   -- type, message, stack trace, moment, further pairs
   record_exception : List ℕ → List ℕ → List ℕ → ℕ → List Attribute → Call
   add_link : Context → List Attribute → Call
   set_status : Status → Call
   update_name : List ℕ → Call
+  -- the moment
   end : ℕ → Call
 
+-- how many are kept of each, and how many characters a text of their attributes may have (Trace SDK, Span Limits)
 pub record SpanLimits : Type 0 where
   pub attributes : ℕ
   pub events : ℕ
@@ -35,7 +43,8 @@ pub record SpanLimits : Type 0 where
   pub link_attributes : ℕ
   pub value_length : Option ℕ
 
--- how a span was started
+-- How a span was started. `parent` is the parent's span id, and a root has none. Moments are nanoseconds since 1970.
+-- (Trace API, Span Creation)
 pub record Start : Type 0 where
   pub context : Context
   pub parent : Option (List ℕ)
@@ -43,15 +52,18 @@ pub record Start : Type 0 where
   pub kind : Kind
   pub at : ℕ
 
+-- (Trace API, Add Events)
 pub record Event : Type 0 where
   pub at : ℕ
   pub name : List ℕ
   pub attributes : Kept Attribute
 
+-- (Trace API, Link)
 pub record Link : Type 0 where
   pub context : Context
   pub attributes : Kept Attribute
 
+-- a span, as an exporter gets it (Trace SDK, Additional Span Interfaces)
 pub record Span : Type 0 where
   pub context : Context
   pub parent : Option (List ℕ)
@@ -70,7 +82,7 @@ abbrev pub is_end : Call → Bool
 is_end (end at) = true
 is_end _ = false
 
--- the calls before the first end
+-- The live calls: those before the first end. All others are ignored. (Trace API, End)
 abbrev pub live : List Call → List Call
 live calls = take_while (λ c. not (is_end c)) calls
 
@@ -81,21 +93,26 @@ end_of _ = None
 
 -- ---- attributes, events and links
 
+-- (Trace API, Set Attributes)
 abbrev pub attribute_of : Call → Option Attribute
 attribute_of (set_attribute p) = Some p
 attribute_of _ = None
 
+-- a text under its key
 abbrev pub text_pair : List ℕ → List ℕ → Attribute
 text_pair k t = record { key = k; value = text t }
 
+-- a text under its key, left out where it is empty (profile)
 abbrev pub pair_unless_empty : List ℕ → List ℕ → List Attribute
 pair_unless_empty k t = if is_empty t then [] else text_pair k t ∷ []
 
--- an exception's own pairs, then the caller's
+-- An exception's own pairs, then the caller's, which replace them. (Trace API, Record Exception; Semantic Conventions,
+-- Exceptions)
 abbrev pub exception_pairs : List ℕ → List ℕ → List ℕ → List Attribute → List Attribute
 exception_pairs kind message stack pairs =
     pair_unless_empty (codes "exception.type") kind ++ (pair_unless_empty (codes "exception.message") message ++ (pair_unless_empty (codes "exception.stacktrace") stack ++ pairs))
 
+-- an event with what is kept of its pairs (Trace SDK, Span Limits)
 abbrev pub event : SpanLimits → List ℕ → ℕ → List Attribute → Event
 event limits name at pairs = record {
   at = at;
@@ -103,44 +120,55 @@ event limits name at pairs = record {
   attributes = attributes (record { count = limits.event_attributes; length = limits.value_length }) pairs;
 }
 
+-- the event that the call adds, if any: an exception is the event `exception` (Trace API, Add Events, Record Exception)
 abbrev pub event_of : SpanLimits → Call → Option Event
 event_of limits (add_event name at pairs) = Some (event limits name at pairs)
 event_of limits (record_exception kind message stack at pairs) = Some (event limits (codes "exception") at (exception_pairs kind message stack pairs))
 event_of limits _ = None
 
+-- some byte is not 0 (W3C Trace Context, trace-id, parent-id)
 abbrev pub is_id : List ℕ → Bool
 is_id bs = list_any (λ b. not (b == 0)) bs
 
+-- both identifiers are (Trace API, IsValid)
 abbrev pub is_valid : Context → Bool
 is_valid c = is_id c.trace && is_id c.span
 
+-- whether there are none; one with an empty key is one
 abbrev pub no_pairs : List Attribute → Bool
 no_pairs [] = true
 no_pairs (p ∷ pairs) = false
 
--- A link that says nothing is ignored.
+-- A link that says nothing is ignored: to an invalid context, without pairs and trace state. (Trace API, Link; that it
+-- is not counted: profile)
 abbrev pub is_ignored : Context → List Attribute → Bool
 is_ignored c pairs = not (is_valid c) && (no_pairs pairs && is_empty c.state)
 
+-- a link with what is kept of its pairs (Trace SDK, Span Limits)
 abbrev pub link : SpanLimits → Context → List Attribute → Link
 link limits c pairs = record {
   context = c;
   attributes = attributes (record { count = limits.link_attributes; length = limits.value_length }) pairs;
 }
 
+-- the link that the call adds, if any (Trace API, Add Link)
 abbrev pub link_of : SpanLimits → Call → Option Link
 link_of limits (add_link context pairs) = if is_ignored context pairs then None else Some (link limits context pairs)
 link_of limits _ = None
 
+-- The first ones are kept, as many as the limit says, and the others are counted. (Trace SDK, Span Limits; that the
+-- first are kept: profile)
 abbrev pub first : {A : Type 0} → ℕ → List A → Kept A
 first limit items = record { items = take limit items; dropped = counted (length items - limit) }
 
 -- ---- name and status
 
+-- (Trace API, UpdateName)
 abbrev pub name_of : Call → Option (List ℕ)
 name_of (update_name name) = Some name
 name_of _ = None
 
+-- (Trace API, Set Status)
 abbrev pub status_of : Call → Option Status
 status_of (set_status s) = Some s
 status_of _ = None
@@ -155,18 +183,19 @@ is_error unset = false
 is_error ok = false
 is_error (error t) = true
 
--- Ok if any was set, else the last error, else Unset
+-- Ok if any was set, else the last error, else Unset. (Trace API, Set Status)
 abbrev pub final_status : List Status → Status
 final_status set = if list_any is_ok_status set then ok else last_or unset (filter is_error set)
 
 -- ---- the whole
 
--- the first of the options that is there
+-- the first one, or the default where there is none
 abbrev pub first_or : {A : Type 0} → A → List A → A
 first_or d [] = d
 first_or d (x ∷ xs) = x
 
--- The span of a start and of the calls on it. Where it has not ended, its end is its start.
+-- The span of a start and of the calls on it: what the live calls set, and the moment of the first end. Where it has
+-- not ended, its end is its start. (Trace API, Span operations; Trace SDK, Span Limits; such an end: profile)
 unfoldable pub span : SpanLimits → Start → List Call → Span
 unfolding attributes
 span limits start calls = let counts = live calls in record {
@@ -184,12 +213,12 @@ span limits start calls = let counts = live calls in record {
 
 -- ---- a span with what it belongs to
 
--- What made the telemetry. (Resource SDK)
+-- What made the telemetry; equal where all fields are. (Resource SDK)
 pub record Resource : Type 0 where
   pub attributes : List Attribute
   pub schema : List ℕ
 
--- The instrumentation scope. (Common, Instrumentation Scope)
+-- The instrumentation scope; its attributes have no limits. (Common, Instrumentation Scope; no limits: profile)
 pub record Scope : Type 0 where
   pub name : List ℕ
   pub version : List ℕ
@@ -202,7 +231,7 @@ pub record EndedSpan : Type 0 where
   pub scope : Scope
   pub span : Span
 
--- A span on which calls are still counted, with the limits that it keeps.
+-- A span on which calls still count, with the limits that it keeps. (Trace API, IsRecording; Trace SDK, Span Limits)
 pub record Recording : Type 0 where
   pub limits : SpanLimits
   pub resource : Resource
@@ -225,7 +254,7 @@ pub record Adds (call : Call) (old new : Recording) : Type 0 where
   pub place : KeepsPlace old new
   pub value : (start : Start) (calls : List Call) → Records old start calls → Records new start (calls ++ call ∷ [])
 
--- The end of what is recorded: the value of its calls with the end behind them.
+-- The end of what is recorded: the value of its calls with the end behind them. (Trace API, End)
 pub record Ends (at : ℕ) (r : Recording) (ended : EndedSpan) : Type 0 where
   pub resource : ended.resource ≡ r.resource
   pub scope : ended.scope ≡ r.scope

@@ -1,37 +1,44 @@
 -- What the bytes on the wire spell, as relations: a varint, a field, and a row of fields.
+-- (Protocol Buffers, Encoding: Base 128 Varints, Message Structure)
 use Rattle.std.specs.Prelude.{◌≡◌, ℕ, ◌+◌, ◌*◌, ◌%◌, ◌^◌, ◌<◌, ◌≤◌, List, [], ◌∷◌, ◌++◌, length}
 use Rattle.std.specs.Int.{w32, w64, from_le_bytes}
 use Rattle.trace_model.specs.Wire.{Payload, varint, i64, len, i32, Field}
 use Rattle.trace_model.specs.Messages.{wire_type}
 
--- each byte is at least 128, except the last
+-- Each byte is at least 128, except the last. (Protocol Buffers, Encoding: Base 128 Varints)
 abbrev pub IsEnded : List ℕ → Type 0
 IsEnded [] = ⊥
 IsEnded (b ∷ []) = b < 128
 IsEnded (b ∷ c ∷ bs) = (128 ≤ b) × IsEnded (c ∷ bs)
 
--- the low seven bits of each, the least first
+-- the number of the low seven bits of each byte, the least first (Protocol Buffers, Encoding: Base 128 Varints)
 abbrev pub in_groups : List ℕ → ℕ
 in_groups [] = 0
 in_groups (b ∷ bs) = b % 128 + 128 * in_groups bs
 
+-- A varint of the number: one to ten bytes, not always the shortest; bits past the 64th don't count.
+-- (Protocol Buffers, Encoding: Base 128 Varints)
 pub record IsVarint (bs : List ℕ) (n : ℕ) : Type 0 where
   pub ended : IsEnded bs
   pub size : length bs ≤ 10
   pub value : n ≡ in_groups bs % 2 ^ 64
 
+-- the content behind its length (Protocol Buffers, Encoding: Length-Delimited Records)
 pub record IsCounted (bs content : List ℕ) : Type 0 where
   pub size : List ℕ
   pub count : IsVarint size (length content)
   pub whole : bs ≡ size ++ content
 
+-- by its wire type; a fixed number has its least byte first (Protocol Buffers, Encoding: Message Structure,
+-- Non-varint Numbers)
 abbrev pub IsPayload : List ℕ → Payload → Type 0
 IsPayload bs (varint n) = IsVarint bs n
 IsPayload bs (i64 n) = (length bs ≡ 8) × (n ≡ from_le_bytes w64 bs)
 IsPayload bs (len content) = IsCounted bs content
 IsPayload bs (i32 n) = (length bs ≡ 4) × (n ≡ from_le_bytes w32 bs)
 
--- a tag, which is the field's number and wire type, and the payload
+-- A tag, which is the field's number times 8 plus its wire type, and the payload. Numbers are from 1 to 2^29 - 1.
+-- (Protocol Buffers, Encoding: Message Structure; Language Guide: Assigning Field Numbers)
 pub record IsField (bs : List ℕ) (f : Field) : Type 0 where
   pub tag : List ℕ
   pub rest : List ℕ
@@ -41,6 +48,7 @@ pub record IsField (bs : List ℕ) (f : Field) : Type 0 where
   pub payload : IsPayload rest f.payload
   pub whole : bs ≡ tag ++ rest
 
+-- the fields' spellings, one behind the other, and nothing else (Protocol Buffers, Encoding: Message Structure)
 abbrev pub IsRow : List ℕ → List Field → Type 0
 IsRow bs [] = bs ≡ []
 IsRow bs (f ∷ fields) = (front : List ℕ) × (rest : List ℕ) × IsField front f × IsRow rest fields × (bs ≡ front ++ rest)

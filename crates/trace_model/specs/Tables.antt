@@ -1,9 +1,11 @@
--- A message's table of fields, and what a message of that table is.
+-- A message's table of fields, and what a message of that table is. (Protocol Buffers, Language Guide: Defining A
+-- Message Type; the tables: opentelemetry-proto)
 use Rattle.std.specs.Prelude.{ℕ, ℤ, ◌^◌, List, Bool, true, false, ◌&&◌, nat_lt}
 use Rattle.trace_model.specs.AnyValue.{AnyValue}
 
 mutual
-  -- What a field of a table holds. An optional message is left out where it has no fields.
+  -- What a field of a table holds. `any` is an AnyValue. `optional` is read as `message` is, and written only where it
+  -- has a field to write. (Protocol Buffers, Language Guide: Scalar Value Types; when it is written: profile)
   pub data Shape : Type 0 where
     text bytes bool uint32 int64 enum fixed64 : Shape
     any : Shape
@@ -18,6 +20,7 @@ mutual
 
 infixr 20 ◌⦂◌◂◌
 abbrev mutual
+  -- The values of a field. A text is its UTF-8 bytes, `fixed64` a number of 64 bits without a sign.
   pub Meaning : Shape → Type 0
   Meaning text = List ℕ
   Meaning bytes = List ℕ
@@ -31,6 +34,7 @@ abbrev mutual
   Meaning (optional t) = Record t
   Meaning (repeated s) = List (Meaning s)
 
+  -- the messages of a table: a value for each field, in the table's order
   pub Record : Table → Type 0
   Record end = Unit {0}
   Record (n ⦂ s ◂ t) = Meaning s × Record t
@@ -40,13 +44,16 @@ infixr 20 ◌▸◌
 pattern abbrev pub ◌▸◌ : {A B : Type 0} → A → B → A × B
 x ▸ r = (x, r)
 
--- ---- tables that can be written: numbers rise, and only messages and values are repeated
+-- ---- tables that can be written: numbers rise, from 1 to 2^29 - 1, and only messages and values are repeated
+-- ---- (Protocol Buffers, Language Guide: Assigning Field Numbers; the tables of a trace have no packed fields)
 
+-- what may be repeated
 abbrev pub is_element : Shape → Bool
 is_element any = true
 is_element (message t) = true
 is_element _ = false
 
+-- whether the field, or the table above a number, can be written
 abbrev mutual
   pub is_shape : Shape → Bool
   is_shape text = true
@@ -65,37 +72,42 @@ abbrev mutual
   is_table low end = true
   is_table low (n ⦂ s ◂ t) = nat_lt low n && (nat_lt n (2 ^ 29) && (is_shape s && is_table n t))
 
--- ---- the messages of a trace export
+-- ---- the messages of a trace export. Fields that the tables leave out are unknown: flags of spans and links, entity
+-- ---- references of resources. (opentelemetry-proto; which are left out: profile)
 
+-- key, value (common.proto: KeyValue)
 abbrev pub key_value : Table
 key_value = 1 ⦂ text ◂ 2 ⦂ any ◂ end
 
+-- (common.proto: ArrayValue)
 abbrev pub array_value : Table
 array_value = 1 ⦂ repeated any ◂ end
 
+-- (common.proto: KeyValueList)
 abbrev pub key_value_list : Table
 key_value_list = 1 ⦂ repeated (message key_value) ◂ end
 
--- the attributes, and how many were dropped
+-- the attributes, and how many were dropped (resource.proto: Resource)
 abbrev pub resource : Table
 resource = 1 ⦂ repeated (message key_value) ◂ 2 ⦂ uint32 ◂ end
 
--- name, version, attributes, how many were dropped
+-- name, version, attributes, how many were dropped (common.proto: InstrumentationScope)
 abbrev pub scope : Table
 scope = 1 ⦂ text ◂ 2 ⦂ text ◂ 3 ⦂ repeated (message key_value) ◂ 4 ⦂ uint32 ◂ end
 
--- time, name, attributes, how many were dropped
+-- time, name, attributes, how many were dropped (trace.proto: Span.Event)
 abbrev pub event : Table
 event = 1 ⦂ fixed64 ◂ 2 ⦂ text ◂ 3 ⦂ repeated (message key_value) ◂ 4 ⦂ uint32 ◂ end
 
--- trace id, span id, trace state, attributes, how many were dropped
+-- trace id, span id, trace state, attributes, how many were dropped (trace.proto: Span.Link)
 abbrev pub link : Table
 link = 1 ⦂ bytes ◂ 2 ⦂ bytes ◂ 3 ⦂ text ◂ 4 ⦂ repeated (message key_value) ◂ 5 ⦂ uint32 ◂ end
 
--- message, code
+-- message, code: 0 is Unset, 1 is Ok, 2 is Error (trace.proto: Status)
 abbrev pub status : Table
 status = 2 ⦂ text ◂ 3 ⦂ enum ◂ end
 
+-- (trace.proto: Span)
 abbrev pub span : Table
 span =
     1 ⦂ bytes ◂  -- trace id
@@ -114,20 +126,22 @@ span =
     14 ⦂ uint32 ◂  -- links dropped
     15 ⦂ optional status ◂ end
 
--- scope, spans, schema URL
+-- scope, spans, schema URL of the scope (trace.proto: ScopeSpans)
 abbrev pub scope_spans : Table
 scope_spans = 1 ⦂ message scope ◂ 2 ⦂ repeated (message span) ◂ 3 ⦂ text ◂ end
 
--- resource, its spans by scope, schema URL
+-- resource, its spans by scope, schema URL of the resource (trace.proto: ResourceSpans)
 abbrev pub resource_spans : Table
 resource_spans = 1 ⦂ message resource ◂ 2 ⦂ repeated (message scope_spans) ◂ 3 ⦂ text ◂ end
 
+-- (trace_service.proto: ExportTraceServiceRequest)
 abbrev pub request : Table
 request = 1 ⦂ repeated (message resource_spans) ◂ end
 
--- how many spans were rejected, and a message
+-- how many spans were rejected, and a message (trace_service.proto: ExportTracePartialSuccess)
 abbrev pub partial_success : Table
 partial_success = 1 ⦂ int64 ◂ 2 ⦂ text ◂ end
 
+-- (trace_service.proto: ExportTraceServiceResponse)
 abbrev pub response : Table
 response = 1 ⦂ optional partial_success ◂ end

@@ -10,14 +10,14 @@ returns-in-End g c =
     let i = c.loop-call.invariant in
     let all = from-index call_view c.args.calls.now c.loop-call.call-index c.call-item.result c.loop-call-test.true c.call-item.is in
     ended (opened c.args.limits.now c.args.opening) c.loop-call.record c.close.result (start_view c.args.opening) (map call_view (take c.loop-call.call-index c.args.calls.now))
-      (map call_view (drop (suc c.loop-call.call-index) c.args.calls.now)) c.in-End.at i.place i.value c.close.ensures
+    (map call_view (drop (suc c.loop-call.call-index) c.args.calls.now)) c.in-End.at i.place i.value c.close.ensures
     ∙ rw (all, c.in-End.is) refl
 
 pub loop-call-preserved : goal.loop-call-preserved
 loop-call-preserved g c =
     let i = c.loop-call.invariant in
     let added : Adds (call_view c.call-item.result) c.loop-call.record c.set_attribute.new.self =
-        rw (c.in-SetAttribute.is, ← c.as_str.ensures.value, ← c.in_ok-key-in-SetAttribute.ensures.ok, ← c.in_ok-copy-in-SetAttribute.ensures.value) c.in_ok-set_attribute-in-SetAttribute.ensures.ok in
+    rw (c.in-SetAttribute.is, ← c.as_str.ensures.value, ← c.in_ok-key-in-SetAttribute.ensures.ok, ← c.in_ok-copy-in-SetAttribute.ensures.value) c.in_ok-set_attribute-in-SetAttribute.ensures.ok in
     record {
       place = stays _ _ _ i.place added.place;
       value = rw (through-index call_view c.args.calls.now c.loop-call.call-index c.call-item.result c.loop-call-test.true c.call-item.is) (added.value (start_view c.args.opening) _ i.value);

@@ -1,7 +1,5 @@
-use Rattle.std.proofs.Common.{◌≡◌, ap, ap₂, ◌∙◌, [], map}
-use Rattle.std.proofs.Math.Seq.{take-nil}
+use Rattle.std.proofs.Common.{ap, ◌∙◌, map}
 use Rattle.otlp_value.specs.Value.{attribute_view, limits_view}
-use Rattle.trace_model.specs.Attributes.{Kept, Attribute, attributes, AttributeList}
 use Rattle.otlp_value.proofs.Setting.{attributes-nil, listed}
 use Rattle.otlp_value.proofs.AttributeList.new.Goals as goal
 

@@ -1,0 +1,7 @@
+pub mod Numbers
+pub mod Texts
+pub mod Lines
+pub mod Drafts
+pub mod Loop
+pub mod Kept
+pub mod Spelled

@@ -1,0 +1,36 @@
+use Rattle.std.proofs.Common.{sym, ap, ◌∙◌, rules}
+use Rattle.span_script.proofs.Lines.{words_at}
+use Rattle.span_script.proofs.Loop.{one_more_line, bad_line, no_more_lines, whole_text}
+use Rattle.span_script.proofs.Kept.{good_script, bad_line_is, runs}
+use Rattle.span_script.proofs.script.Script.parse.Goals as goal
+
+pub returns-in-Err-Bad-clause-exact : goal.returns-in-Err-Bad-clause-exact
+returns-in-Err-Bad-clause-exact g c =
+    let all = whole_text c.deref-line-items.result.now c.args.text.now (ap words_at c.deref-line-items.ensures.value ∙ c.in-Ok.ensures) in
+    let so_far = c.loop-index.invariant in
+    let bad = (rw c.in-Err-Bad.field-0-is at c.in-Err-Bad.ensures) so_far.0 so_far.1 in
+    sym all ∙ bad_line so_far.0 c.deref-line-items.result.now c.loop-index.index _ _ (search rules) bad so_far.2
+
+pub returns-in-Err-Bad-clause-numbered : goal.returns-in-Err-Bad-clause-numbered
+returns-in-Err-Bad-clause-numbered g c = bad_line_is c.args.text.now _ (returns-in-Err-Bad-clause-exact g c)
+
+pub loop-index-preserved : goal.loop-index-preserved
+loop-index-preserved g c =
+    let so_far = c.loop-index.invariant in
+    let more = c.in-Ok-add_line.ensures so_far.0 so_far.1 in
+    (more.0, more.2, one_more_line so_far.0 more.0 c.deref-line-items.result.now c.loop-index.index _ _ (search rules) more.1 so_far.2)
+
+pub returns-clause-exact : goal.returns-clause-exact
+returns-clause-exact g c =
+    let all = whole_text c.deref-line-items.result.now c.args.text.now (ap words_at c.deref-line-items.ensures.value ∙ c.in-Ok.ensures) in
+    let so_far = c.loop-index.invariant in
+    (so_far.0, sym all ∙ no_more_lines so_far.0 c.deref-line-items.result.now c.loop-index.index _ (search rules) so_far.2, c.from_draft.ensures so_far.0 so_far.1)
+
+pub returns-clause-one_scope : goal.returns-clause-one_scope
+returns-clause-one_scope g c = let s = returns-clause-exact g c in (runs c.from_draft.result s.0 s.2 (good_script s.0 _ s.1)).one_scope
+
+pub returns-clause-one_start : goal.returns-clause-one_start
+returns-clause-one_start g c = let s = returns-clause-exact g c in (runs c.from_draft.result s.0 s.2 (good_script s.0 _ s.1)).one_start
+
+pub returns-clause-identifiers : goal.returns-clause-identifiers
+returns-clause-identifiers g c = let s = returns-clause-exact g c in (runs c.from_draft.result s.0 s.2 (good_script s.0 _ s.1)).identifiers

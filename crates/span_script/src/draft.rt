@@ -1,0 +1,186 @@
+//! The lines of a script so far, and which line may follow them.
+
+ghost use Rattle.std.specs.Prelude.{◌≡◌, not, string_bytes};
+ghost use Rattle.std.specs.List.{list_any};
+ghost use Rattle.trace_model.specs.Attributes.{Attribute};
+ghost use Rattle.otlp_value.specs.Value.{value_view};
+ghost use Rattle.otlp_span.specs.Parts.{scope_view};
+ghost use Rattle.span_script.specs.Lines.{line_view, step_view, words, resource, scope, step};
+ghost use Rattle.span_script.specs.Scripts.{Script, no_items, has_ids, is_start, fits_step, no_script, followed, line_read};
+ghost use Rattle.span_script.specs.Drafts.{Holds, Follows};
+
+use crate::line::{Line, parse_line};
+use crate::step::Step;
+use crate::words::Fault;
+use otlp_span::Scope;
+use otlp_value::{AttributeList, Limits, Value};
+use std::alloc::Allocator;
+
+/// What the lines so far say.
+#[derive(Drop)]
+pub(crate) struct Draft<A: Allocator> {
+    /// The words of the generator.
+    pub(crate) words: Vec<u64, A>,
+    /// The attributes of the resource.
+    pub(crate) resource: AttributeList<A>,
+    /// The scopes.
+    pub(crate) scopes: Vec<Scope<A>, A>,
+    /// The steps.
+    pub(crate) steps: Vec<Step<A>, A>,
+}
+
+/// Whether the first two words and the third are there and valid identifiers: not zero.
+fn has_identifiers(words: &[u64]) -> bool
+    ensures { result ≡ has_ids words.now }
+{
+    match words {
+        [first, second, third, ..] => (*first != 0 || *second != 0) && *third != 0,
+        _ => false,
+    }
+}
+
+impl<A: Allocator + Copy> Draft<A> {
+    /// A script without lines. It takes no memory.
+    pub(crate) fn new(alloc: A) -> Draft<A>
+        ensures { Holds result no_script }
+    {
+        Draft {
+            words: Vec::new(alloc),
+            resource: AttributeList::new(alloc, Limits { count: u32::MAX }),
+            scopes: Vec::new(alloc),
+            steps: Vec::new(alloc),
+        }
+    }
+
+    /// Goes on with the bytes of a line, without its line feed. An empty line says nothing.
+    ///
+    /// # Errors
+    ///
+    /// `Bad` where the line may not stand there, `OutOfMemory` where memory was refused. What the draft
+    /// then holds is not specified.
+    #[tactic(auto, unfolding(crate::specs::Scripts::line_read))]
+    pub(crate) fn add_line(&mut self, alloc: A, line: &[u8]) -> Result<(), Fault>
+        ensures { Follows (λ s. line_read s line.now) self.old self.new result }
+    {
+        if line.is_empty() {
+            return Ok(());
+        }
+        let line = parse_line(alloc, line)?;
+        self.add(alloc, line)
+    }
+
+    /// Goes on with a line.
+    fn add(&mut self, alloc: A, line: Line<A>) -> Result<(), Fault>
+        ensures { Follows (λ s. followed s (line_view line)) self.old self.new result }
+    {
+        match line {
+            Line::Words(words) => self.add_words(words),
+            Line::Resource(key, value) => self.add_attribute(key, value),
+            Line::Scope {
+                number,
+                name,
+                version,
+                schema_url,
+            } => {
+                let attributes = Vec::new(alloc);
+                self.add_scope(
+                    number,
+                    Scope {
+                        name,
+                        version,
+                        attributes,
+                        schema_url,
+                    },
+                )
+            }
+            Line::Step(step) => self.add_step(step),
+        }
+    }
+
+    /// Goes on with further words of the generator.
+    #[tactic(auto, unfolding(crate::specs::Scripts::followed))]
+    fn add_words(&mut self, more: Vec<u64, A>) -> Result<(), Fault>
+        ensures { Follows (λ s. followed s (words more.items)) self.old self.new result }
+    {
+        if self.has_steps() {
+            return Err(Fault::Bad);
+        }
+        self.words.extend_from_slice(more.as_slice())?;
+        Ok(())
+    }
+
+    /// Goes on with an attribute of the resource.
+    #[tactic(auto, unfolding(crate::specs::Scripts::followed))]
+    fn add_attribute(&mut self, key: String<A>, value: Value<A>) -> Result<(), Fault>
+        ensures { let pair : Attribute = record { key = string_bytes key; value = value_view value } in
+            Follows (λ s. followed s (resource pair)) self.old self.new result }
+    {
+        if self.has_steps() {
+            return Err(Fault::Bad);
+        }
+        self.resource.set(key, value)?;
+        Ok(())
+    }
+
+    /// Goes on with a scope under its number.
+    #[tactic(auto, unfolding(crate::specs::Scripts::followed))]
+    fn add_scope(&mut self, number: u32, more: Scope<A>) -> Result<(), Fault>
+        ensures { Follows (λ s. followed s (scope number (scope_view more))) self.old self.new result }
+    {
+        if self.has_steps() || self.has_scopes() || number != 0 {
+            return Err(Fault::Bad);
+        }
+        self.scopes.push(more)?;
+        Ok(())
+    }
+
+    /// Goes on with a step.
+    #[tactic(auto, unfolding(crate::specs::Scripts::followed))]
+    fn add_step(&mut self, more: Step<A>) -> Result<(), Fault>
+        ensures { Follows (λ s. followed s (step (step_view more))) self.old self.new result }
+    {
+        if !self.fits(&more) {
+            return Err(Fault::Bad);
+        }
+        self.steps.push(more)?;
+        Ok(())
+    }
+
+    /// Whether a step has come, which no setting may follow.
+    fn has_steps(&self) -> bool
+        ensures { (s : Script) → Holds self.now s → result ≡ not (no_items s.steps) }
+    {
+        !self.steps.is_empty()
+    }
+
+    /// Whether a scope is there.
+    fn has_scopes(&self) -> bool
+        ensures { (s : Script) → Holds self.now s → result ≡ not (no_items s.scopes) }
+    {
+        !self.scopes.is_empty()
+    }
+
+    /// Whether a step may follow. A start is the only one, and where its scope is there, identifiers are
+    /// there for the span.
+    fn fits(&self, step: &Step<A>) -> bool
+        ensures { (s : Script) → Holds self.now s → result ≡ fits_step s (step_view step.now) }
+    {
+        match step {
+            Step::Start { scope, .. } => {
+                !self.has_start()
+                    && (*scope as usize >= self.scopes.len()
+                        || has_identifiers(self.words.as_slice()))
+            }
+            Step::Call { .. } | Step::End { .. } => true,
+        }
+    }
+
+    /// Whether a step starts a span.
+    fn has_start(&self) -> bool
+        ensures { (s : Script) → Holds self.now s → result ≡ list_any is_start s.steps }
+    {
+        self.steps
+            .iter()
+            .any(|step| matches!(step, Step::Start { .. }))
+    }
+}

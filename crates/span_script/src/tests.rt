@@ -1,0 +1,243 @@
+use crate::{Script, ScriptError, Step};
+use linked_list_allocator::LocalHeap;
+use otlp_span::SpanCall;
+use std::alloc::{AllocError, Allocator, Global};
+use std::fmt::Write;
+use std::test::Fail;
+
+const EXAMPLE: &str =
+    "words 0102030405060708 090a0b0c0d0e0f10 1112131415161718\nscope 0 s % %\nstart 0 root internal 1 a\nattr 0 a t:%\nend 0 2\n";
+
+/// A script, a line for each of its parts.
+fn shown<A: Allocator>(alloc: Global, script: &Script<A>) -> Result<String, AllocError> {
+    let mut out = String::new(alloc);
+    for word in &script.words {
+        writeln!(out, "words {word:016x}")?;
+    }
+    for (key, value) in &script.resource {
+        let key = key.as_str();
+        writeln!(out, "resource {key:?} {value:?}")?;
+    }
+    for scope in &script.scopes {
+        let name = scope.name.as_str();
+        let version = scope.version.as_str();
+        let schema_url = scope.schema_url.as_str();
+        let attributes = scope.attributes.len();
+        writeln!(
+            out,
+            "scope {name:?} {version:?} {schema_url:?} {attributes}"
+        )?;
+    }
+    for step in &script.steps {
+        show_step(&mut out, step)?;
+    }
+    Ok(out)
+}
+
+fn show_step<A: Allocator>(out: &mut String, step: &Step<A>) -> Result<(), AllocError> {
+    match step {
+        Step::Start {
+            scope,
+            parent,
+            kind,
+            at,
+            name,
+        } => {
+            let name = name.as_str();
+            writeln!(out, "start {scope} {parent:?} {kind:?} {at} {name:?}")
+        }
+        Step::Call {
+            span,
+            call: SpanCall::SetAttribute(key, value),
+        } => {
+            let key = key.as_str();
+            writeln!(out, "attr {span} {key:?} {value:?}")
+        }
+        Step::Call { span, .. } => writeln!(out, "call {span}"),
+        Step::End { span, at } => writeln!(out, "end {span} {at}"),
+    }
+}
+
+#[test]
+fn reads_scripts(rt: HostRuntime) -> Result<(), Fail> {
+    let alloc = rt.alloc();
+    for (text, want) in [
+        ("", ""),
+        ("\n\n\n", ""),
+        // The last line may lack its line feed, and hexadecimal digits have either case.
+        (
+            "words 00000000000000aB\n\nwords FFFFFFFFFFFFFFFF 0000000000000000",
+            "words 00000000000000ab\nwords ffffffffffffffff\nwords 0000000000000000\n",
+        ),
+        // A key that is there keeps its place and gets the value, an empty key is ignored.
+        (
+            "resource a i:1\nresource b t:x%20y\nresource a t:%\nresource % i:2\n",
+            "resource \"a\" Text(\"\")\nresource \"b\" Text(\"x y\")\n",
+        ),
+        (
+            "resource a i:-9223372036854775808\nresource b i:9223372036854775807\nresource c i:-0\nresource d i:007",
+            "resource \"a\" Int(-9223372036854775808)\nresource \"b\" Int(9223372036854775807)\nresource \"c\" Int(0)\nresource \"d\" Int(7)\n",
+        ),
+        // Controls stand for themselves in a text, and so does a colon.
+        (
+            "scope 000 a:b %41%6a%6A c\r\n",
+            "scope \"a:b\" \"Ajj\" \"c\\r\" 0\n",
+        ),
+        // A step may name a scope or a span that isn't there.
+        (
+            "start 7 root internal 18446744073709551615 caf%c3%a9\nend 4294967295 0\nattr 9 k i:0\n",
+            "start 7 Root Internal 18446744073709551615 \"café\"\nend 4294967295 0\nattr 9 \"k\" Int(0)\n",
+        ),
+        (
+            EXAMPLE,
+            "words 0102030405060708\nwords 090a0b0c0d0e0f10\nwords 1112131415161718\nscope \"s\" \"\" \"\" 0\nstart 0 Root Internal 1 \"a\"\nattr 0 \"a\" Text(\"\")\nend 0 2\n",
+        ),
+        // One of the first two words may be zero.
+        (
+            "words 0000000000000000 0000000000000001 0000000000000001\nscope 0 % % %\nstart 0 root internal 0 a",
+            "words 0000000000000000\nwords 0000000000000001\nwords 0000000000000001\nscope \"\" \"\" \"\" 0\nstart 0 Root Internal 0 \"a\"\n",
+        ),
+    ] {
+        let script = Script::parse(alloc, text.as_bytes())?;
+        assert_eq!(rt; shown(alloc, &script)?.as_str(), want, "{text:?}");
+    }
+    Ok(())
+}
+
+#[test]
+fn joins_raw_and_escaped_bytes(rt: HostRuntime) -> Result<(), Fail> {
+    let alloc = rt.alloc();
+    let script = Script::parse(alloc, b"scope 0 \xc3%a9 \x00\t %e2\x82%ac")?;
+    assert_eq!(rt;
+        shown(alloc, &script)?.as_str(),
+        "scope \"é\" \"\\0\\t\" \"€\" 0\n"
+    );
+    assert_eq!(rt;
+        Script::parse(alloc, b"\nscope 0 \xc3 % %").err(),
+        Some(ScriptError::BadLine(2))
+    );
+    Ok(())
+}
+
+#[test]
+fn tells_the_first_bad_line(rt: HostRuntime) {
+    let alloc = rt.alloc();
+    for (text, line) in [
+        // The line by its name and its words.
+        ("sampler on", 1),
+        ("Words 0102030405060708", 1),
+        ("\n\nend 0 1 \nnonsense", 3),
+        (" end 0 1", 1),
+        ("end  0 1", 1),
+        (" ", 1),
+        ("\r\n", 1),
+        ("words", 1),
+        ("words 0102030405060708 ", 1),
+        ("words 010203040506070", 1),
+        ("words 01020304050607080", 1),
+        ("words 010203040506070g", 1),
+        ("resource a", 1),
+        ("resource a i:1 b", 1),
+        ("scope 0 s %", 1),
+        ("scope 0 s % % %", 1),
+        ("start 0 root internal 1", 1),
+        ("start 0 root internal 1 a b", 1),
+        ("attr 0 a", 1),
+        ("attr 0 a i:1 i:2", 1),
+        ("end 0", 1),
+        ("end 0 1 2", 1),
+        // Numbers.
+        ("end 0 18446744073709551615\nend 0 18446744073709551616", 2),
+        ("end 4294967295 0\nend 4294967296 0", 2),
+        ("end 0 +1", 1),
+        ("end 0 -1", 1),
+        ("end 0 1a", 1),
+        ("end 0 1\r", 1),
+        ("attr 0 a i:", 1),
+        ("attr 0 a i:-", 1),
+        ("attr 0 a i:+1", 1),
+        ("attr 0 a i:9223372036854775808", 1),
+        ("attr 0 a i:-9223372036854775809", 1),
+        ("attr 0 a i:1\r", 1),
+        // Values and texts.
+        ("attr 0 a 1", 1),
+        ("attr 0 a b:true", 1),
+        ("attr 0 a t", 1),
+        ("attr 0 a t:", 1),
+        ("attr 0 a t:%%", 1),
+        ("attr 0 a t:x%", 1),
+        ("attr 0 a t:%4", 1),
+        ("attr 0 a t:%zz", 1),
+        ("attr 0 a t:%ff", 1),
+        ("attr 0 a t:%ed%a0%80", 1),
+        // Parents and kinds.
+        ("start 0 0 internal 1 a", 1),
+        ("start 0 root server 1 a", 1),
+        // The order of the lines.
+        ("end 0 1\nwords 0102030405060708", 2),
+        ("end 0 1\n\nresource a i:1", 3),
+        ("end 0 1\nscope 0 s % %", 2),
+        ("scope 1 s % %", 1),
+        ("scope 0 s % %\nscope 1 t % %", 2),
+        ("scope 0 s % %\nscope 0 t % %", 2),
+        ("start 0 root internal 1 a\nstart 0 root internal 1 a", 2),
+        // Identifiers.
+        ("scope 0 s % %\nstart 0 root internal 1 a", 2),
+        (
+            "words 0102030405060708 090a0b0c0d0e0f10\nscope 0 s % %\nstart 0 root internal 1 a",
+            3,
+        ),
+        (
+            "words 0000000000000000 0000000000000000 0000000000000001\nscope 0 s % %\nstart 0 root internal 1 a",
+            3,
+        ),
+        (
+            "words 0000000000000001 0000000000000000 0000000000000000\nscope 0 s % %\nstart 0 root internal 1 a",
+            3,
+        ),
+    ] {
+        assert_eq!(rt;
+            Script::parse(alloc, text.as_bytes()).err(),
+            Some(ScriptError::BadLine(line)),
+            "{text:?}"
+        );
+    }
+}
+
+#[test]
+fn prints_errors(rt: HostRuntime) -> Result<(), Fail> {
+    let alloc = rt.alloc();
+    let error = ScriptError::BadLine(3);
+    assert_eq!(rt;
+        format!(in alloc; "{error}")?.as_str(),
+        "line 3: bad script"
+    );
+    let error = ScriptError::OutOfMemory;
+    assert_eq!(rt; format!(in alloc; "{error}")?.as_str(), "out of memory");
+    Ok(())
+}
+
+#[test]
+fn is_refused_memory(rt: HostRuntime) -> Result<(), Fail> {
+    let alloc = rt.alloc();
+    let whole = Script::parse(alloc, EXAMPLE.as_bytes())?;
+    let want = shown(alloc, &whole)?;
+    let mut refused = 0u64;
+    let mut read = 0u64;
+    for size in 0..4000usize {
+        let heap = LocalHeap::new(alloc, size)?;
+        match Script::parse(&heap, EXAMPLE.as_bytes()) {
+            Ok(script) => {
+                assert_eq!(rt; shown(alloc, &script)?.as_str(), want.as_str(), "{size}");
+                read = read.saturating_add(1);
+            }
+            Err(error) => {
+                assert_eq!(rt; error, ScriptError::OutOfMemory, "{size}");
+                refused = refused.saturating_add(1);
+            }
+        }
+    }
+    assert!(rt; refused > 100, "{refused}");
+    assert!(rt; read > 100, "{read}");
+    Ok(())
+}

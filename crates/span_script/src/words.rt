@@ -1,0 +1,175 @@
+//! The words of a line: numbers, words of the generator, and texts.
+
+ghost use Rattle.std.specs.Prelude.{List, ℕ, ◌≡◌, ◌^◌, ◌==◌, map, IfOk, option_map, ok_or, string_bytes};
+ghost use Rattle.span_script.specs.Words.{Gives, number_below, signed_number, hex_word, hex_byte, first_byte_of, bytes_of, utf8_of, text_of, SpellsText};
+ghost use Rattle.std.specs.List.{slice_split};
+ghost use Rattle.std.specs.Str.{all_ascii_digits};
+ghost use Rattle.span_script.specs.declared.words.Fault.TheVariants.{Bad, OutOfMemory};
+
+use hex::FromHex;
+use std::alloc::{AllocError, AllocFailed, Allocator};
+use std::str;
+
+/// Why a part of a script was not read.
+#[derive(Debug, Clone, Copy, PartialEq, Eq)]
+pub(crate) enum Fault {
+    /// It spells nothing that may stand there.
+    Bad,
+    /// Memory was refused.
+    OutOfMemory,
+}
+
+impl From<AllocError> for Fault {
+    ghost from_gives = { λ _ fault. fault ≡ OutOfMemory };
+
+    fn from(_: AllocError) -> Fault {
+        Fault::OutOfMemory
+    }
+}
+
+impl From<otlp_ids::OutOfMemory> for Fault {
+    ghost from_gives = { λ _ fault. fault ≡ OutOfMemory };
+
+    fn from(_: otlp_ids::OutOfMemory) -> Fault {
+        Fault::OutOfMemory
+    }
+}
+
+impl<T: Drop> From<AllocFailed<T>> for Fault {
+    ghost from_gives = { λ _ fault. fault ≡ OutOfMemory };
+
+    fn from(_: AllocFailed<T>) -> Fault {
+        Fault::OutOfMemory
+    }
+}
+
+/// The parts between the bytes that are `separator`: one more than there are such bytes.
+pub(crate) fn parts_of<A: Allocator>(
+    alloc: A,
+    bytes: &[u8],
+    separator: u8,
+) -> Result<Vec<&[u8], A>, AllocError>
+    ensures { IfOk result (λ parts. map (λ p. p.now) parts.items ≡ slice_split (λ b. b == separator) bytes.now) }
+{
+    bytes.split(|byte| *byte == separator).collect(alloc)
+}
+
+/// Whether there are decimal digits alone.
+fn is_digits(word: &[u8]) -> bool
+    ensures { result ≡ all_ascii_digits word.now }
+{
+    word.iter().all(|byte| byte.is_ascii_digit())
+}
+
+/// A number of decimal digits alone, leading zeros allowed.
+#[tactic(auto, unfolding(crate::specs::Words::number_below))]
+pub(crate) fn number(word: &[u8]) -> Result<u64, Fault>
+    ensures { result ≡ ok_or (number_below (2 ^ 64) word.now) Bad }
+{
+    if !is_digits(word) {
+        return Err(Fault::Bad);
+    }
+    let Ok(text) = str::from_utf8(word) else {
+        return Err(Fault::Bad);
+    };
+    text.parse().ok().ok_or(Fault::Bad)
+}
+
+/// A number below 2^32 of decimal digits alone, leading zeros allowed.
+#[tactic(auto, unfolding(crate::specs::Words::number_below))]
+pub(crate) fn small_number(word: &[u8]) -> Result<u32, Fault>
+    ensures { result ≡ ok_or (number_below (2 ^ 32) word.now) Bad }
+{
+    let number = number(word)?;
+    u32::try_from(number).map_err(|_| Fault::Bad)
+}
+
+/// A whole number: decimal digits, behind a `-` or without one. `-0` is 0.
+#[tactic(auto, unfolding(crate::specs::Words::number_below, crate::specs::Words::signed_number))]
+pub(crate) fn integer(word: &[u8]) -> Result<i64, Fault>
+    ensures { result ≡ ok_or (signed_number word.now) Bad }
+{
+    let value = match word {
+        [b'-', digits @ ..] => 0i64.checked_sub_unsigned(number(digits)?),
+        _ => 0i64.checked_add_unsigned(number(word)?),
+    };
+    value.ok_or(Fault::Bad)
+}
+
+/// A word of the generator: sixteen hexadecimal digits of either case, the most significant first.
+#[tactic(auto, unfolding(crate::specs::Words::hex_word))]
+pub(crate) fn generator_word(word: &[u8]) -> Result<u64, Fault>
+    ensures { result ≡ ok_or (hex_word word.now) Bad }
+{
+    match <[u8; 8]>::from_hex(word) {
+        Ok(bytes) => Ok(u64::from_be_bytes(bytes)),
+        Err(_) => Err(Fault::Bad),
+    }
+}
+
+/// The byte that two hexadecimal digits of either case spell.
+fn escaped_byte(high: u8, low: u8) -> Option<u8>
+    ensures { result ≡ hex_byte high low }
+{
+    let [byte] = <[u8; 1]>::from_hex([high, low]).ok()?;
+    Some(byte)
+}
+
+/// The first byte that a word spells, and the word behind its spelling.
+fn first_byte(word: &[u8]) -> Option<(u8, &[u8])>
+    ensures { option_map (λ p. (p.0, p.1.now)) result ≡ first_byte_of word.now }
+{
+    match word {
+        [] | [b'%'] | [b'%', _] => None,
+        [b'%', high, low, rest @ ..] => Some((escaped_byte(*high, *low)?, rest)),
+        [byte, rest @ ..] => Some((*byte, rest)),
+    }
+}
+
+/// The bytes that a word spells.
+fn unescaped<A: Allocator>(alloc: A, word: &[u8]) -> Result<Vec<u8, A>, Fault>
+    ensures { Gives (λ v. v.items) result (bytes_of word.now) }
+{
+    let mut bytes = Vec::new(alloc);
+    let mut rest = word;
+    while !rest.is_empty() {
+        let Some((byte, after)) = first_byte(rest) else {
+            return Err(Fault::Bad);
+        };
+        bytes.push(byte)?;
+        rest = after;
+    }
+    Ok(bytes)
+}
+
+/// The text of these bytes, if they are UTF-8.
+fn utf8<A: Allocator>(bytes: Vec<u8, A>) -> Option<String<A>>
+    ensures { option_map string_bytes result ≡ utf8_of bytes.items }
+{
+    match String::from_utf8(bytes) {
+        Ok(text) => Some(text),
+        Err(_) => None,
+    }
+}
+
+/// A text: `%` and two hexadecimal digits are that byte, any other byte stands for itself, and the whole
+/// is UTF-8. The text of no bytes is spelled `%` alone.
+pub(crate) fn text<A: Allocator>(alloc: A, word: &[u8]) -> Result<String<A>, Fault>
+    ensures exact { Gives string_bytes result (text_of word.now) }
+    ensures spelled { IfOk result (λ text. SpellsText word.now (string_bytes text)) }
+    ensures only { (text : List ℕ) → SpellsText word.now text → Gives string_bytes result (Some text) }
+{
+    spelled_text(alloc, word)
+}
+
+/// The text that a word spells.
+#[tactic(auto, unfolding(crate::specs::Words::text_of))]
+fn spelled_text<A: Allocator>(alloc: A, word: &[u8]) -> Result<String<A>, Fault>
+    ensures { Gives string_bytes result (text_of word.now) }
+{
+    match word {
+        [] => Err(Fault::Bad),
+        b"%" => Ok(String::new(alloc)),
+        _ => utf8(unescaped(alloc, word)?).ok_or(Fault::Bad),
+    }
+}

@@ -1,0 +1,22 @@
+use Rattle.std.proofs.Common.{refl}
+use Rattle.trace_examples.specs.Hex.{hex}
+use Rattle.trace_examples.specs.Read.{read}
+use Rattle.trace_examples.specs.Samples.{ended}
+use Rattle.trace_examples.specs.Written.{body, request_with}
+use Rattle.trace_model.specs.Export.{grouped_triples}
+use Rattle.trace_examples.proofs.bodies.read_back.Goals as goal
+
+pub returns : goal.returns
+unfolding hex ended body request_with read grouped_triples
+returns c = record {
+  no_spans = record { request = refl; triples = refl };
+  one_span = record { request = refl; triples = refl };
+  one_span_with_attribute = record { request = refl; triples = refl };
+  two_equal_spans = record { request = refl; triples = refl };
+  parent_and_child = record { request = refl; triples = refl };
+  trace_state = record { request = refl; triples = refl };
+  two_scopes = record { request = refl; triples = refl };
+  first_scope_again = record { request = refl; triples = refl };
+  two_resources = record { request = refl; triples = refl };
+  attributes_of_both = record { request = refl; triples = refl };
+}

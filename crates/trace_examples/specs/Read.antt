@@ -1,0 +1,63 @@
+-- What bodies mean.
+use Rattle.std.specs.Prelude.{ℕ, zero, suc, ◌+◌, ◌%◌, ◌/◌, List, [], ◌∷◌, ◌++◌, take, length, nat_lt, if◌then◌else◌}
+use Rattle.std.specs.Str.{is_utf8, chars}
+use lib.Utf8.{encode}
+use Rattle.trace_examples.specs.Hex.{hex}
+use Rattle.trace_model.specs.Reading.{Reading, Fault}
+use Rattle.trace_model.specs.Wire.{len, groups, row}
+use Rattle.trace_model.specs.Tables.{Record, key_value, request, response}
+use Rattle.trace_model.specs.AnyValue.{AnyValue}
+use Rattle.trace_model.specs.Messages.{meaning, value, max_depth, read_table, joined}
+
+-- what the bytes mean as a request
+unfoldable pub read : List ℕ → Reading (Record request)
+unfolding meaning groups is_utf8 chars encode
+read bytes = meaning request bytes
+
+-- the faults that a request of these bytes has
+unfoldable pub faults : List ℕ → List Fault
+unfolding read
+faults bytes = (read bytes).faults
+
+-- what they mean as a pair of a key and a value
+unfoldable pub read_pair : List ℕ → Reading (Record key_value)
+unfolding meaning groups is_utf8 chars encode
+read_pair bytes = meaning key_value bytes
+
+-- what they mean as a value
+unfoldable pub read_value : List ℕ → Reading AnyValue
+unfolding value read_table joined row groups is_utf8 chars encode
+read_value bytes = value max_depth (len bytes ∷ [])
+
+-- what they mean as a response
+unfoldable pub read_response : List ℕ → Reading (Record response)
+unfolding meaning groups is_utf8 chars encode
+read_response bytes = meaning response bytes
+
+-- the first so many bytes, then one byte fewer, down to one byte
+abbrev pub beginnings : ℕ → List ℕ → List (List ℕ)
+beginnings zero bytes = []
+beginnings (suc n) bytes = take (suc n) bytes ∷ beginnings n bytes
+
+-- ---- values in values
+
+-- some bytes, fewer than 2 ^ 14, behind their length
+abbrev pub sized : List ℕ → List ℕ
+sized bytes = let n = length bytes in (if nat_lt n 128 then n ∷ [] else (n % 128 + 128) ∷ n / 128 ∷ []) ++ bytes
+
+-- the number 1 in so many arrays
+unfoldable pub nested_arrays : ℕ → List ℕ
+unfolding hex
+nested_arrays zero = hex "18 01"
+nested_arrays (suc n) = hex "2a" ++ sized (hex "0a" ++ sized (nested_arrays n))
+
+-- the number 1 in so many lists of pairs
+unfoldable pub nested_lists : ℕ → List ℕ
+unfolding hex
+nested_lists zero = hex "18 01"
+nested_lists (suc n) = hex "32" ++ sized (hex "0a" ++ sized (hex "0a 01 61 12" ++ sized (nested_lists n)))
+
+-- the body of a resource that has the value as its attribute a
+unfoldable pub attribute_body : List ℕ → List ℕ
+unfolding hex
+attribute_body value = hex "0a" ++ sized (hex "0a" ++ sized (hex "0a" ++ sized (hex "0a 01 61 12" ++ sized value)))

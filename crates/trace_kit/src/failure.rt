@@ -1,0 +1,65 @@
+//! Why a script has no answer, and how it is told.
+ghost use Rattle.std.specs.Prelude.{◌≡◌, ◌⊎◌};
+ghost use Rattle.trace_kit.specs.Program.{status_of};
+
+use crate::encoder::EncodeFault;
+use otlp_ids::OutOfMemory;
+use span_script::ScriptError;
+use std::io::Write;
+use thiserror::Error;
+
+/// Why a script has no answer.
+#[derive(Debug, Drop, Error)]
+pub enum Failure {
+    /// There is nothing to print but the body, and it was not asked for.
+    #[error("--body must be given")]
+    NoBody,
+    #[error("cannot read the script")]
+    Read,
+    #[error("cannot write the answer")]
+    Write,
+    #[error("{0}")]
+    Script(ScriptError),
+    #[error("out of memory")]
+    OutOfMemory,
+    #[error("too large")]
+    TooLarge,
+}
+
+impl Failure {
+    /// The status that the program ends with.
+    pub fn status(&self) -> u8
+        ensures { result ≡ status_of self.now }
+    {
+        match self {
+            Failure::Read | Failure::Write => 1,
+            Failure::NoBody | Failure::Script(ScriptError::BadLine(_)) => 2,
+            Failure::Script(ScriptError::OutOfMemory) | Failure::OutOfMemory | Failure::TooLarge => 3,
+        }
+    }
+}
+
+impl From<OutOfMemory> for Failure {
+    fn from(_: OutOfMemory) -> Failure {
+        Failure::OutOfMemory
+    }
+}
+
+impl From<EncodeFault> for Failure {
+    fn from(fault: EncodeFault) -> Failure {
+        match fault {
+            EncodeFault::OutOfMemory => Failure::OutOfMemory,
+            EncodeFault::TooLarge => Failure::TooLarge,
+        }
+    }
+}
+
+/// Tells a failure and answers its status, or 1 where it can't be told.
+pub fn tell<F: Write>(faults: &mut F, failure: &Failure) -> u8
+    ensures { (result ≡ status_of failure.now) ⊎ (result ≡ 1) }
+{
+    match writeln!(faults, "{failure}") {
+        Ok(()) => failure.status(),
+        Err(_) => 1,
+    }
+}

@@ -1,0 +1,84 @@
+//! The program `trace-script`, over readers and writers.
+ghost use Rattle.std.specs.Prelude.{◌≡◌, ◌≤◌, ◌++◌, ◌∷◌, [], IfOk, OnOk, string_bytes};
+ghost use Rattle.std.specs.Io.KnownBytes.{Appends, Keeps};
+ghost use Rattle.hex.specs.Hex.{encode_lower};
+ghost use Rattle.trace_kit.specs.Printed.{IsBodyLine, PrintsBody};
+
+use crate::failure::{Failure, tell};
+use crate::encoder::body_of;
+use crate::recorder::recorded;
+use otlp_ids::OutOfMemory;
+use span_script::Script;
+use std::alloc::Allocator;
+use std::io;
+use std::io::{ErrorKind, Read, Write};
+
+/// Runs a script of one span at most and prints, with `body`, the body of the request that exports it: a line of
+/// hexadecimal digits, which is empty where no span has ended. Nothing happens before the whole script is read.
+///
+/// The answer is the program's status: 0, or 1 where a read or a write failed, 2 where a line is bad (told as
+/// `line N: bad script` on `faults`; nothing is printed) or `body` is false (there is nothing else to print yet), 3
+/// where memory was refused (told as `out of memory`).
+pub fn script<A: Allocator + Copy, R: Read, W: Write, F: Write>(
+    alloc: A,
+    input: &mut R,
+    output: &mut W,
+    faults: &mut F,
+    body: bool,
+) -> u8
+    ensures status { result ≤ 3 }
+    ensures quiet { result ≡ 2 → Keeps (W.contents output.old) (W.contents output.new) }
+    ensures printed { result ≡ 0 → PrintsBody (W.contents output.old) (W.contents output.new) }
+{
+    let line = match body_line(alloc, input, body) {
+        Ok(line) => line,
+        Err(failure) => return tell(faults, &failure),
+    };
+    match print(output, line.as_str()) {
+        Ok(()) => 0,
+        Err(_) => tell(faults, &Failure::Write),
+    }
+}
+
+/// The line that is printed: the body of the script's span in hexadecimal digits, and the end of the line.
+fn body_line<A: Allocator + Copy, R: Read>(
+    alloc: A,
+    input: &mut R,
+    body: bool,
+) -> Result<String<A>, Failure>
+    ensures { IfOk result (λ line. IsBodyLine (string_bytes line)) }
+{
+    if !body {
+        return Err(Failure::NoBody);
+    }
+    let text = read_all(alloc, input)?;
+    let script = Script::parse(alloc, text.as_slice()).map_err(Failure::Script)?;
+    let spans = recorded(alloc, script)?;
+    let body = body_of(alloc, spans.as_slice(), usize::MAX)?;
+    Ok(hex_line(alloc, body.as_slice())?)
+}
+
+/// Bytes in hexadecimal digits, and the end of the line.
+fn hex_line<A: Allocator>(alloc: A, bytes: &[u8]) -> Result<String<A>, OutOfMemory>
+    ensures { IfOk result (λ line. string_bytes line ≡ encode_lower bytes.now ++ 10 ∷ []) }
+{
+    let mut line = hex::encode(alloc, bytes)?;
+    line.push('\n')?;
+    Ok(line)
+}
+
+fn read_all<A: Allocator, R: Read>(alloc: A, input: &mut R) -> Result<Vec<u8, A>, Failure> {
+    let mut text = Vec::new(alloc);
+    match input.read_to_end(&mut text) {
+        Ok(_) => Ok(text),
+        Err(error) if error.kind() == ErrorKind::OutOfMemory => Err(Failure::OutOfMemory),
+        Err(_) => Err(Failure::Read),
+    }
+}
+
+fn print<W: Write>(output: &mut W, line: &str) -> io::Result<()>
+    ensures { OnOk result (Appends (W.contents output.old) (W.contents output.new) line.now) }
+{
+    output.write_all(line.as_bytes())?;
+    output.flush()
+}

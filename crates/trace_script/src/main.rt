@@ -1,0 +1,42 @@
+//! `trace-script` reads a script of one span on standard input and prints the body of the request that exports it.
+#![tactic(auto)]
+
+use clap::{Arg, ArgAction, Command, Error};
+use std::alloc::Global;
+use std::env;
+use std::io;
+use std::io::{BufReader, BufWriter};
+use std::process::ExitCode;
+
+/// What the program does with its words: nothing but reading them.
+fn asks_for_body(alloc: Global, words: &[String]) -> Result<bool, Error> {
+    let body = Arg::new(alloc, "body")
+        .long("body")
+        .action(ArgAction::SetTrue)
+        .required(true)
+        .help("Print the body of the request that exports the script's span, in hexadecimal");
+    let command = Command::new(alloc, "trace-script")
+        .about("Reads a script of one span on standard input")
+        .arg(body)?;
+    let matches = command.try_get_matches_from(words)?;
+    Ok(matches.get_flag("body"))
+}
+
+fn main(rt: HostRuntime) -> io::Result<ExitCode> {
+    let mut words = Vec::new(rt.alloc());
+    for word in env::args(&rt)? {
+        words.push(word)?;
+    }
+    let body = match asks_for_body(rt.alloc(), words.as_slice()) {
+        Ok(body) => body,
+        Err(error) => {
+            error.print(&rt)?;
+            return Ok(ExitCode::from(error.exit_code() as u8));
+        }
+    };
+    let mut input = BufReader::new(rt.alloc(), rt.reader())?;
+    let mut output = BufWriter::new(rt.alloc(), io::writer(&rt))?;
+    let mut faults = rt.stderr();
+    let status = trace_kit::script(rt.alloc(), &mut input, &mut output, &mut faults, body);
+    Ok(ExitCode::from(status))
+}
