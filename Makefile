@@ -1,3 +1,27 @@
-.PHONY: test
-test:
+.DEFAULT_GOAL := help
+.PHONY: help run test install check format clean
+
+PREFIX ?= $(HOME)/.local
+
+help: ## List the targets
+	@grep -E '^[a-z]+:.*##' Makefile | sed -E 's/:.*## /: /'
+
+run: ## Build trace-script without its proofs and print the body of the example's span
+	@echo '# built before it is proved (make test proves): trace-script --body < examples/one-span.script' >&2
+	@cd crates/trace_script && rt try -- --body < ../../examples/one-span.script
+
+test: ## The gate: every proof from nothing, must-fail edits, tests and programs (tens of minutes)
 	rt ci
+
+install: ## Prove and build the programs, and put them into PREFIX/bin
+	cd crates/trace_script && rt run -- --body < stdin
+	install -D -m 755 crates/trace_script/out/trace_script '$(PREFIX)/bin/trace-script'
+
+check: ## Prove every crate over what earlier checks kept
+	rt all check
+
+format: ## Lay out the sources
+	for crate in crates/*/; do (cd $$crate && rt fmt) || exit 1; done
+
+clean: ## Remove what checks and builds made
+	rm -rf crates/*/out out

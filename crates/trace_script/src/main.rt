@@ -8,7 +8,7 @@ use std::io;
 use std::io::{BufReader, BufWriter};
 use std::process::ExitCode;
 
-/// What the program does with its words: nothing but reading them.
+/// Whether the words of the command line ask for the body. Today they have to.
 fn asks_for_body(alloc: Global, words: &[String]) -> Result<bool, Error> {
     let body = Arg::new(alloc, "body")
         .long("body")
@@ -39,4 +39,34 @@ fn main(rt: HostRuntime) -> io::Result<ExitCode> {
     let mut faults = rt.stderr();
     let status = trace_kit::script(rt.alloc(), &mut input, &mut output, &mut faults, body);
     Ok(ExitCode::from(status))
+}
+
+#[cfg(test)]
+mod tests {
+    use super::*;
+    use std::test::Fail;
+
+    /// The status that the words end with, and whether something is told on standard error; none where they ask
+    /// for the body.
+    fn refused(alloc: Global, words: &[&str]) -> Result<Option<(i32, bool)>, Fail> {
+        let mut owned = Vec::new(alloc);
+        owned.push(String::from_str(alloc, "trace-script")?)?;
+        for word in words {
+            owned.push(String::from_str(alloc, word)?)?;
+        }
+        match asks_for_body(alloc, owned.as_slice()) {
+            Ok(_) => Ok(None),
+            Err(error) => Ok(Some((error.exit_code(), error.use_stderr()))),
+        }
+    }
+
+    #[test]
+    fn reads_the_command_line(rt: HostRuntime) -> Result<(), Fail> {
+        assert_eq!(rt; refused(rt.alloc(), &["--body"])?, None);
+        assert_eq!(rt; refused(rt.alloc(), &["--help"])?, Some((0, false)));
+        assert_eq!(rt; refused(rt.alloc(), &[])?, Some((2, true)));
+        assert_eq!(rt; refused(rt.alloc(), &["--bodies"])?, Some((2, true)));
+        assert_eq!(rt; refused(rt.alloc(), &["--body", "more"])?, Some((2, true)));
+        Ok(())
+    }
 }
