@@ -1,9 +1,9 @@
 -- What a call makes of a body, and what a span's calls make of it when it ends.
-use Rattle.std.proofs.Common.{◌≡◌, refl, sym, ap, subst, ◌∙◌, ℕ, suc, ◌+◌, ◌<◌, ◌≤◌, List, [], ◌∷◌, ◌++◌, map, take, drop, length, get_or, Result, Ok, Err, OnOk, add-one}
+use Rattle.std.proofs.Common.{◌≡◌, sym, ap, ◌∙◌, ℕ, suc, ◌+◌, ◌<◌, List, [], ◌∷◌, ◌++◌, map, take, drop, length, get_or, Result, Ok, Err, OnOk, add-one}
 use Rattle.std.proofs.lemmas.List.{map-append, take-append-drop}
 use Rattle.std.proofs.Math.Seq.{drop-cons, take-suc}
 use Rattle.trace_model.specs.Attributes.{Attribute, AttributeList, SetsPair}
-use Rattle.trace_model.specs.Spans.{Call, set_attribute, end, SpanLimits, Start, Span, Resource, Scope, Recording, EndedSpan, KeepsPlace, Records, Adds, Ends, span, live}
+use Rattle.trace_model.specs.Spans.{Call, set_attribute, end, Start, Span, Resource, Scope, Recording, EndedSpan, KeepsPlace, Records, Adds, Ends, span}
 use Rattle.trace_model.proofs.Calls.{adds-attribute, span-ended, span-behind, span-unended}
 use Rattle.otlp_span.specs.declared.record.SpanBody.{SpanBody}
 use Rattle.otlp_span.specs.Body.{recording_view}

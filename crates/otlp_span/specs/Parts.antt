@@ -1,11 +1,10 @@
 -- What kinds, limits, resources, scopes, starts and calls are in the model.
-use Rattle.std.specs.Prelude.{◌≡◌, ℕ, List, [], String, map, Option, Some, None, option_map, string_bytes}
+use Rattle.std.specs.Prelude.{◌≡◌, ℕ, List, [], map, Option, None, option_map, string_bytes}
 use Rattle.std.specs.Arc.{arc_value}
 use Rattle.trace_model.specs.Spans as model
 use Rattle.trace_model.specs.Attributes as attributes
 use Rattle.otlp_ids.specs.declared.SpanId.{SpanId}
 use Rattle.otlp_ids.specs.SpanContext.{context_view}
-use Rattle.otlp_value.specs.declared.Value.{Value}
 use Rattle.otlp_value.specs.Value.{value_view, attributes_view}
 use Rattle.otlp_span.specs.declared.parts.Kind.{Kind}
 use Rattle.otlp_span.specs.declared.parts.Kind.TheVariants as kinds

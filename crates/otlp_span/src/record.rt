@@ -148,14 +148,14 @@ impl<A: Allocator> SpanData<A> {
         self.body.parent
     }
 
-    /// What made the span.
+    /// What made the span (Resource SDK).
     pub fn resource(&self) -> &Resource<A>
         ensures { resource_view result.now ≡ self.now.resource }
     {
         &self.body.resource
     }
 
-    /// The part of it that made the span.
+    /// The part of it that made the span (Common, "Instrumentation Scope").
     pub fn scope(&self) -> &Scope<A>
         ensures { scope_view result.now ≡ self.now.scope }
     {

@@ -41,7 +41,7 @@ unfolding grouped
 one-group {K} {A} same key_of own x xs h =
     let keys : distinct same (map key_of (x ∷ xs)) ≡ key_of x ∷ [] = one-key same (key_of x) (own (key_of x)) (map key_of xs) (turn (λ y. key_of y ≡ key_of x) (λ j. j ≡ key_of x) key_of (λ y e. e) xs h) in
     let each : AllByRecursion (λ y. same (key_of x) (key_of y) ≡ true) (x ∷ xs) =
-        (own (key_of x), weaker (λ y. key_of y ≡ key_of x) (λ y. same (key_of x) (key_of y) ≡ true) (λ y e. rw e (own (key_of x))) xs h) in
+    (own (key_of x), weaker (λ y. key_of y ≡ key_of x) (λ y. same (key_of x) (key_of y) ≡ true) (λ y e. rw e (own (key_of x))) xs h) in
     let at : K → List A → Group K A = λ k ys. record { key = k; items = ys } in
     let of : List K → List (Group K A) = λ ks. map (λ k. at k (filter (λ y. same k (key_of y)) (x ∷ xs))) ks in
     ap of keys ∙ ap (λ ys. at (key_of x) ys ∷ []) (all-pass (λ y. same (key_of x) (key_of y)) (x ∷ xs) each)
@@ -50,9 +50,9 @@ pub shared : (x : EndedSpan) (xs : List EndedSpan) → SharePlace (x ∷ xs) →
 unfolding groups
 shared x xs h =
     let resources : grouped resource_eq (λ (y : EndedSpan). y.resource) (x ∷ xs) ≡ record { key = x.resource; items = x ∷ xs } ∷ [] =
-        one-group resource_eq (λ (y : EndedSpan). y.resource) own-resource x xs (weaker _ _ (λ y e. e.0) xs h) in
+    one-group resource_eq (λ (y : EndedSpan). y.resource) own-resource x xs (weaker _ _ (λ y e. e.0) xs h) in
     let scopes : grouped scope_eq (λ (y : EndedSpan). y.scope) (x ∷ xs) ≡ record { key = x.scope; items = x ∷ xs } ∷ [] =
-        one-group scope_eq (λ (y : EndedSpan). y.scope) own-scope x xs (weaker _ _ (λ y e. e.1) xs h) in
+    one-group scope_eq (λ (y : EndedSpan). y.scope) own-scope x xs (weaker _ _ (λ y e. e.1) xs h) in
     let at : Resource → List ScopeGroup → ResourceGroup = λ r gs. record { key = r; items = gs } in
     let inside : List (Group Resource EndedSpan) → List ResourceGroup = λ gs. map (λ g. at g.key (grouped scope_eq (λ (y : EndedSpan). y.scope) g.items)) gs in
     ap inside resources ∙ ap (λ gs. at x.resource gs ∷ []) scopes

@@ -60,10 +60,8 @@ fn put_attributes<A: Allocator + Copy>(
     pairs: &[(String<A>, Value<A>)],
 ) -> Result<(), OutOfMemory>
     requires { number < 2 ^ 29 }
-    ensures {
-        OnOk result (Puts number (Tables.repeated (Tables.message Tables.key_value))
-            (model.attribute_messages (attributes_view pairs.now)) out.old.items out.new.items)
-    }
+    ensures { OnOk result (Puts number (Tables.repeated (Tables.message Tables.key_value))
+        (model.attribute_messages (attributes_view pairs.now)) out.old.items out.new.items) }
 {
     for pair in pairs {
         let message = encode_key_value(alloc, pair)?;
@@ -83,10 +81,7 @@ fn encode_resource<A: Allocator + Copy>(
     Ok(out)
 }
 
-fn encode_scope<A: Allocator + Copy>(
-    alloc: A,
-    scope: &Scope<A>,
-) -> Result<Vec<u8, A>, OutOfMemory>
+fn encode_scope<A: Allocator + Copy>(alloc: A, scope: &Scope<A>) -> Result<Vec<u8, A>, OutOfMemory>
     ensures { IfOk result (λ v. IsWritten Tables.scope (model.scope_message (scope_view scope.now)) v.items) }
 {
     let mut out = Vec::new(alloc);
@@ -124,10 +119,7 @@ fn put_parent<A: Allocator>(
     }
 }
 
-fn encode_span<A: Allocator + Copy>(
-    alloc: A,
-    span: &SpanData<A>,
-) -> Result<Vec<u8, A>, OutOfMemory>
+fn encode_span<A: Allocator + Copy>(alloc: A, span: &SpanData<A>) -> Result<Vec<u8, A>, OutOfMemory>
     ensures { IfOk result (λ v. IsWritten Tables.span (model.span_message span.now.span) v.items) }
 {
     let mut out = Vec::new(alloc);
@@ -227,10 +219,8 @@ pub fn encode<A: Allocator + Copy>(
     groups: &[ResourceGroup<'_, A>],
     max: usize,
 ) -> Result<Vec<u8, A>, EncodeFault>
-    ensures meaning {
-        let message = model.request_message (groups_view groups.now) in
-        IfOk result (λ body. Reads (meaning Tables.request body.items) message)
-    }
+    ensures meaning { let message = model.request_message (groups_view groups.now) in
+        IfOk result (λ body. Reads (meaning Tables.request body.items) message) }
     ensures length { IfOk result (λ body. length body.items ≡ model.body_length (groups_view groups.now)) }
     ensures within { OnOk result (model.body_length (groups_view groups.now) ≤ max) }
     ensures too_large { IsErrOf result EncodeFault.TooLarge → max < model.body_length (groups_view groups.now) }

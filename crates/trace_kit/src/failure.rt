@@ -34,7 +34,8 @@ impl Failure {
         match self {
             Failure::Read | Failure::Write => 1,
             Failure::NoBody | Failure::Script(ScriptError::BadLine(_)) => 2,
-            Failure::Script(ScriptError::OutOfMemory) | Failure::OutOfMemory | Failure::TooLarge => 3,
+            Failure::Script(ScriptError::OutOfMemory) | Failure::OutOfMemory | Failure::TooLarge =>
+                3,
         }
     }
 }

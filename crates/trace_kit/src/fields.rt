@@ -16,10 +16,8 @@ pub fn put_varint<A: Allocator>(
     value: u64,
 ) -> Result<(), OutOfMemory>
     requires { number < 2 ^ 29 }
-    ensures {
-        OnOk result (out.new.items
-            ≡ out.old.items ++ field_bytes (record { number = number; payload = Wire.varint value }))
-    }
+    ensures { OnOk result (out.new.items
+        ≡ out.old.items ++ field_bytes (record { number = number; payload = Wire.varint value })) }
 {
     write_varint(out, number as u64 * 8)?;
     write_varint(out, value)
@@ -32,10 +30,8 @@ pub fn put_len<A: Allocator>(
     bytes: &[u8],
 ) -> Result<(), OutOfMemory>
     requires { number < 2 ^ 29 }
-    ensures {
-        OnOk result (out.new.items
-            ≡ out.old.items ++ field_bytes (record { number = number; payload = Wire.len bytes.now }))
-    }
+    ensures { OnOk result (out.new.items
+        ≡ out.old.items ++ field_bytes (record { number = number; payload = Wire.len bytes.now })) }
 {
     write_varint(out, number as u64 * 8 + 2)?;
     write_len(out, bytes)

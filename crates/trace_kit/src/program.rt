@@ -4,8 +4,8 @@ ghost use Rattle.std.specs.Io.KnownBytes.{Appends, Keeps};
 ghost use Rattle.hex.specs.Hex.{encode_lower};
 ghost use Rattle.trace_kit.specs.Printed.{IsBodyLine, PrintsBody};
 
-use crate::failure::{Failure, tell};
 use crate::encoder::body_of;
+use crate::failure::{Failure, tell};
 use crate::recorder::recorded;
 use otlp_ids::OutOfMemory;
 use span_script::Script;

@@ -97,7 +97,11 @@ impl<A: Allocator + Copy> Recorder<A> {
     fn take_step(&mut self, step: Step<A>) -> Result<(), OutOfMemory> {
         match step {
             Step::Start {
-                scope, kind, at, name, ..
+                scope,
+                kind,
+                at,
+                name,
+                ..
             } => self.start(scope, kind, at, name),
             Step::Call { span: 0, call } => self.call(call),
             Step::End { span: 0, at } => {

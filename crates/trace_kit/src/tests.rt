@@ -7,8 +7,8 @@ ghost use Rattle.otlp_span.specs.Parts.{resource_view, scope_view};
 use super::*;
 use linked_list_allocator::LocalHeap;
 use otlp_ids::{OutOfMemory, SpanContext, SpanId, TraceFlags, TraceId};
-use otlp_value::Value;
 use otlp_span::{Kind, Open, Resource, Scope, SpanData, SpanLimits, SpanRecord};
+use otlp_value::Value;
 use std::alloc::{Allocator, Global};
 use std::io;
 use std::io::{Read, Write};
@@ -22,7 +22,8 @@ start 0 root internal 1 a
 end 0 2
 ";
 
-const ONE_SPAN_BODY: &str = "0a3e0a00123a0a030a017312330a100102030405060708090a0b0c0d0e0f10120811121314151617182a01613001390100000000000000410200000000000000\n";
+const ONE_SPAN_BODY: &str =
+    "0a3e0a00123a0a030a017312330a100102030405060708090a0b0c0d0e0f10120811121314151617182a01613001390100000000000000410200000000000000\n";
 
 const ONE_ATTRIBUTE: &str = "words 0102030405060708 090a0b0c0d0e0f10 1112131415161718
 scope 0 s % %
@@ -31,7 +32,8 @@ attr 0 a t:%
 end 0 2
 ";
 
-const ONE_ATTRIBUTE_BODY: &str = "0a470a0012430a030a0173123c0a100102030405060708090a0b0c0d0e0f10120811121314151617182a016130013901000000000000004102000000000000004a070a016112020a00\n";
+const ONE_ATTRIBUTE_BODY: &str =
+    "0a470a0012430a030a0173123c0a100102030405060708090a0b0c0d0e0f10120811121314151617182a016130013901000000000000004102000000000000004a070a016112020a00\n";
 
 /// What `script` answers and prints.
 #[derive(Drop)]
@@ -83,14 +85,20 @@ fn writes_defaults_and_negative_numbers(rt: HostRuntime) -> Result<(), Fail> {
     let cases = [
         ("attr 0 a i:0", "4a070a016112021800\n"),
         ("attr 0 a i:-1", "4a100a0161120b18ffffffffffffffffff01\n"),
-        ("attr 0 a i:-9223372036854775808", "4a100a0161120b1880808080808080808001\n"),
+        (
+            "attr 0 a i:-9223372036854775808",
+            "4a100a0161120b1880808080808080808001\n",
+        ),
         ("attr 0 a t:x", "4a080a016112030a0178\n"),
     ];
     for (step, ending) in cases {
         let text = with_step(rt.alloc(), step)?;
         let answer = run(rt.alloc(), rt.alloc(), text.as_str(), true);
         assert_eq!(rt; answer.status, 0, "{step}");
-        assert!(rt; answer.output.as_slice().ends_with(ending.as_bytes()), "{step}");
+        assert!(rt;
+            answer.output.as_slice().ends_with(ending.as_bytes()),
+            "{step}"
+        );
     }
     Ok(())
 }
@@ -123,8 +131,14 @@ fn ignores_calls_behind_the_end(rt: HostRuntime) -> Result<(), Fail> {
 #[test]
 fn tells_bad_lines_and_prints_nothing(rt: HostRuntime) {
     let cases = [
-        ("scope 0 s % %\n\nstart 0 root internal 1 a\nend 0 2\n", "line 3: bad script\n"),
-        ("words 0000000000000000 0000000000000000 1112131415161718\nscope 0 s % %\nstart 0 root internal 1 a\n", "line 3: bad script\n"),
+        (
+            "scope 0 s % %\n\nstart 0 root internal 1 a\nend 0 2\n",
+            "line 3: bad script\n",
+        ),
+        (
+            "words 0000000000000000 0000000000000000 1112131415161718\nscope 0 s % %\nstart 0 root internal 1 a\n",
+            "line 3: bad script\n",
+        ),
         ("flush\n", "line 1: bad script\n"),
         ("\nattr 0 a t:x\r\nend 0 2\r\n", "line 3: bad script\n"),
         ("attr 0 a t:x \n", "line 1: bad script\n"),
@@ -232,7 +246,11 @@ fn tells_a_writer_that_fails(rt: HostRuntime) {
         let status = script(rt.alloc(), &mut input, &mut output, &mut faults, true);
         assert_eq!(rt; status, 1, "after {left} bytes");
         assert_eq!(rt; output.taken.len(), left);
-        assert!(rt; ONE_SPAN_BODY.as_bytes().starts_with(output.taken.as_slice()));
+        assert!(rt;
+            ONE_SPAN_BODY
+                .as_bytes()
+                .starts_with(output.taken.as_slice())
+        );
         assert_eq!(rt; faults.as_slice(), b"cannot write the answer\n".as_slice());
     }
 }
@@ -312,20 +330,33 @@ fn bytes_of(alloc: Global, digits: &str) -> Result<Vec<u8>, Fail> {
 fn exports_two_spans_of_one_scope(rt: HostRuntime) -> Result<(), Fail> {
     let alloc = rt.alloc();
     let (resource, scope) = place(alloc)?;
-    let spans = [span(alloc, &resource, &scope)?, span(alloc, &resource, &scope)?];
+    let spans = [
+        span(alloc, &resource, &scope)?,
+        span(alloc, &resource, &scope)?,
+    ];
     let expected = bytes_of(alloc, TWO_SPANS)?;
     let body = body_of(alloc, &spans, 117)?;
     assert_eq!(rt; body.as_slice(), expected.as_slice());
-    assert_eq!(rt; body_of(alloc, &spans, 116).err(), Some(EncodeFault::TooLarge));
+    assert_eq!(rt;
+        body_of(alloc, &spans, 116).err(),
+        Some(EncodeFault::TooLarge)
+    );
 
     let groups = group(alloc, &spans)?;
     assert_eq!(rt; groups.len(), 1);
-    assert_eq!(rt; encode(alloc, groups.as_slice(), 117)?.as_slice(), expected.as_slice());
-    assert_eq!(rt; encode(alloc, groups.as_slice(), 116).err(), Some(EncodeFault::TooLarge));
+    assert_eq!(rt;
+        encode(alloc, groups.as_slice(), 117)?.as_slice(),
+        expected.as_slice()
+    );
+    assert_eq!(rt;
+        encode(alloc, groups.as_slice(), 116).err(),
+        Some(EncodeFault::TooLarge)
+    );
     Ok(())
 }
 
-const TWO_SPANS: &str = "0a730a00126f0a030a017312330a100102030405060708090a0b0c0d0e0f10120811121314151617182a0161300139010000000000000041020000000000000012330a100102030405060708090a0b0c0d0e0f10120811121314151617182a01613001390100000000000000410200000000000000";
+const TWO_SPANS: &str =
+    "0a730a00126f0a030a017312330a100102030405060708090a0b0c0d0e0f10120811121314151617182a0161300139010000000000000041020000000000000012330a100102030405060708090a0b0c0d0e0f10120811121314151617182a01613001390100000000000000410200000000000000";
 
 /// A pair of a key and a value.
 fn pair<A: Allocator + Copy>(

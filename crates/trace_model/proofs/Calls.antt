@@ -1,11 +1,11 @@
 -- One more call on a span.
-use Rattle.std.proofs.Common.{◌≡◌, refl, sym, ap, subst, ◌∙◌, ℕ, List, [], ◌∷◌, ◌++◌, Bool, true, false, not, cond, Option, Some, None}
-use Rattle.std.specs.List.{filter_map, take_while}
+use Rattle.std.proofs.Common.{◌≡◌, refl, sym, ap, ◌∙◌, ℕ, List, [], ◌∷◌, ◌++◌, Bool, true, false, not, cond, Option, Some, None}
+use Rattle.std.specs.List.{filter_map}
 use Rattle.std.proofs.lemmas.List.{append-nil}
 use Rattle.std.proofs.lemmas.List.Elements.{filter_map-append}
 use Rattle.std.proofs.lemmas.List.Sums.{take_while-cons}
-use Rattle.trace_model.specs.Attributes.{Attribute, Kept, attributes, last_or}
-use Rattle.trace_model.specs.Spans.{Call, set_attribute, end, SpanLimits, Start, Span, Recording, Records, KeepsPlace, Adds, Ends, is_end, live, end_of, attribute_of, event_of, link_of, name_of, status_of, span, first, first_or}
+use Rattle.trace_model.specs.Attributes.{Attribute, Kept, attributes}
+use Rattle.trace_model.specs.Spans.{Call, set_attribute, end, SpanLimits, Start, Span, Recording, Records, Adds, Ends, is_end, live, end_of, attribute_of, event_of, link_of, name_of, status_of, span}
 
 -- the calls of which none is an end
 abbrev NoneEnds : List Call → Type 0
@@ -55,8 +55,16 @@ pub span-attribute : (limits : SpanLimits) (start : Start) (calls : List Call) (
 unfolding span
 span-attribute limits start calls p h =
     let c : Call = set_attribute p in
-    rw (live-append calls (c ∷ []) (none-ends calls h), live-cons c [], h, gives-nothing name_of calls c refl, gives-nothing end_of calls c refl,
-      gives-nothing (event_of limits) calls c refl, gives-nothing (link_of limits) calls c refl, gives-nothing status_of calls c refl) refl
+    rw (
+      live-append calls (c ∷ []) (none-ends calls h),
+      live-cons c [],
+      h,
+      gives-nothing name_of calls c refl,
+      gives-nothing end_of calls c refl,
+      gives-nothing (event_of limits) calls c refl,
+      gives-nothing (link_of limits) calls c refl,
+      gives-nothing status_of calls c refl,
+    ) refl
 
 pub span-ended : (limits : SpanLimits) (start : Start) (calls : List Call) (at : ℕ) → live calls ≡ calls →
     span limits start (calls ++ end at ∷ []) ≡ record (span limits start calls) { end = at }
@@ -68,7 +76,7 @@ span-ended limits start calls at h =
 -- a record whose attributes are those of one more pair has one more call
 pub adds-attribute : (old : Recording) (p : Attribute) (kept : Kept Attribute) →
     ((pairs : List Attribute) → old.span.attributes ≡ attributes (record { count = old.limits.attributes; length = old.limits.value_length }) pairs
-      → kept ≡ attributes (record { count = old.limits.attributes; length = old.limits.value_length }) (pairs ++ p ∷ [])) →
+    → kept ≡ attributes (record { count = old.limits.attributes; length = old.limits.value_length }) (pairs ++ p ∷ [])) →
     Adds (set_attribute p) old (record old { span = record old.span { attributes = kept } })
 unfolding span
 adds-attribute old p kept sets = record {
@@ -113,4 +121,3 @@ pub span-unended : (limits : SpanLimits) (start : Start) (calls : List Call) →
     record (span limits start calls) { end = start.at } ≡ span limits start calls
 unfolding span
 span-unended limits start calls h = rw (no-end calls (none-ends calls h)) refl
-

@@ -10,7 +10,7 @@ use Rattle.trace_model.specs.Reading.{Reading, ◌>>=◌, done, each}
 use Rattle.trace_model.specs.Wire.{Field, Payload, varint, i64, len, row}
 use Rattle.trace_model.specs.AnyValue.{AnyValue}
 use Rattle.trace_model.specs.Tables.{Shape, text, bytes, bool, uint32, int64, enum, fixed64, any, message, optional, repeated, Table, end, ◌⦂◌◂◌, Meaning, Record}
-use Rattle.trace_model.specs.Messages.{Kind, wire, wire_type, is_field, payloads, last_number, joined, read, read_table, utf8, meaning, value, max_depth}
+use Rattle.trace_model.specs.Messages.{PayloadReading, wire, wire_type, is_field, payloads, last_number, joined, read, read_table, utf8, meaning, value, max_depth}
 use Rattle.trace_model.specs.Canon.{number_field, bytes_field, unless_empty, unless_no_fields, row_bytes, value_fields, shape_fields, table_fields, canon}
 use Rattle.trace_model.proofs.RowLaws.{HasPayload, HaveSpellings, row-row_bytes}
 
@@ -42,7 +42,7 @@ abbrev mutual
 -- ---- what can be written: texts are UTF-8, and numbers and lengths have their room
 
 abbrev mutual
-  pub FitsShape : Kind AnyValue → (s : Shape) → Meaning s → Type 0
+  pub FitsShape : PayloadReading AnyValue → (s : Shape) → Meaning s → Type 0
   FitsShape values text t = (is_utf8 t ≡ true) × (length t < 2 ^ 64)
   FitsShape values bytes bs = length bs < 2 ^ 64
   FitsShape values bool b = Unit {0}
@@ -55,7 +55,7 @@ abbrev mutual
   FitsShape values (optional t) r = FitsTable values t r × (length (row_bytes (table_fields t r)) < 2 ^ 64)
   FitsShape values (repeated s) xs = AllByRecursion (λ x. FitsShape values s x) xs
 
-  pub FitsTable : Kind AnyValue → (t : Table) → Record t → Type 0
+  pub FitsTable : PayloadReading AnyValue → (t : Table) → Record t → Type 0
   FitsTable values end r = Unit {0}
   FitsTable values (n ⦂ s ◂ t) r = FitsShape values s r.0 × FitsTable values t r.1
 
@@ -163,7 +163,7 @@ table-above low (n ⦂ s ◂ t) r h = All-append (λ g. low < g.number) (shape_f
 abbrev both : {A B : Type 0} → Reading A → Reading B → Reading (A × B)
 both a b = a >>= λ x. b >>= λ y. done (x, y)
 
-read-skip : (values : Kind AnyValue) (low : ℕ) (t : Table) (a b : List Field) → IsTable low t → AllUpTo low a → read_table values t (a ++ b) ≡ read_table values t b
+read-skip : (values : PayloadReading AnyValue) (low : ℕ) (t : Table) (a b : List Field) → IsTable low t → AllUpTo low a → read_table values t (a ++ b) ≡ read_table values t b
 unfolding read_table
 read-skip values low end a b h k = refl
 read-skip values low (n ⦂ s ◂ t) a b h k = ap₂ (λ p q. both p q)
@@ -175,12 +175,12 @@ read-skip values low (n ⦂ s ◂ t) a b h k = ap₂ (λ p q. both p q)
 pub utf8-ok : (bs : List ℕ) → is_utf8 bs ≡ true → utf8 bs ≡ done bs
 utf8-ok bs e = rw e refl
 
-text-back : (values : Kind AnyValue) (n : ℕ) (t : List ℕ) → is_utf8 t ≡ true → read values text (payloads n text (unless_empty n t)) ≡ done t
+text-back : (values : PayloadReading AnyValue) (n : ℕ) (t : List ℕ) → is_utf8 t ≡ true → read values text (payloads n text (unless_empty n t)) ≡ done t
 unfolding read payloads
 text-back values n [] e = utf8-ok [] e
 text-back values n (b ∷ t) e = ap (read values text) (payloads-own n text (len (b ∷ t)) refl) ∙ utf8-ok (b ∷ t) e
 
-octets-back : (values : Kind AnyValue) (n : ℕ) (bs : List ℕ) → read values bytes (payloads n bytes (unless_empty n bs)) ≡ done bs
+octets-back : (values : PayloadReading AnyValue) (n : ℕ) (bs : List ℕ) → read values bytes (payloads n bytes (unless_empty n bs)) ≡ done bs
 unfolding read payloads
 octets-back values n [] = refl
 octets-back values n (b ∷ bs) = ap (read values bytes) (payloads-own n bytes (len (b ∷ bs)) refl)
@@ -232,7 +232,7 @@ element-one n (message t) x h = (_, payloads-own n (message t) _ refl)
 element-one n (optional t) x h = absurd h
 element-one n (repeated s) x h = absurd h
 
-repeated-back : (values : Kind AnyValue) (n : ℕ) (s : Shape) → IsElement s → ((x : Meaning s) → FitsShape values s x → read values s (payloads n s (shape_fields n s x)) ≡ done x) →
+repeated-back : (values : PayloadReading AnyValue) (n : ℕ) (s : Shape) → IsElement s → ((x : Meaning s) → FitsShape values s x → read values s (payloads n s (shape_fields n s x)) ≡ done x) →
     (xs : List (Meaning s)) → AllByRecursion (FitsShape values s) xs → each (λ p. read values s (p ∷ [])) (payloads n s (flat_map (λ x. shape_fields n s x) xs)) ≡ done xs
 unfolding payloads
 repeated-back values n s el back [] h = refl
@@ -271,7 +271,7 @@ pub bit-below : (b : Bool) → (if b then 1 else 0) < 2 ^ 64
 bit-below true = omega arith
 bit-below false = omega arith
 
-shape-spelling : (values : Kind AnyValue) (n : ℕ) (s : Shape) (x : Meaning s) → 0 < n → n < 2 ^ 29 → FitsShape values s x → HaveSpellings (shape_fields n s x)
+shape-spelling : (values : PayloadReading AnyValue) (n : ℕ) (s : Shape) (x : Meaning s) → 0 < n → n < 2 ^ 29 → FitsShape values s x → HaveSpellings (shape_fields n s x)
 unfolding shape_fields
 shape-spelling values n text x l u h = unless_empty-spelling n x l u h.1
 shape-spelling values n bytes x l u h = unless_empty-spelling n x l u h
@@ -285,7 +285,7 @@ shape-spelling values n (message t) x l u h = bytes-spelling n _ l u h.1
 shape-spelling values n (optional t) x l u h = unless_no_fields-spelling n _ l u h.1
 shape-spelling values n (repeated s) x l u h = flat-spelling (FitsShape values s) (λ y. shape_fields n s y) (λ y k. shape-spelling values n s y l u k) x h
 
-table-spelling : (values : Kind AnyValue) (low : ℕ) (t : Table) (r : Record t) → IsTable low t → FitsTable values t r → HaveSpellings (table_fields t r)
+table-spelling : (values : PayloadReading AnyValue) (low : ℕ) (t : Table) (r : Record t) → IsTable low t → FitsTable values t r → HaveSpellings (table_fields t r)
 unfolding table_fields
 table-spelling values low end r h k = tt
 table-spelling values low (n ⦂ s ◂ t) r h k = spellings-append (shape_fields n s r.0) (table_fields t r.1) (shape-spelling values n s r.0 (omega (arith, h.0)) h.1 k.0) (table-spelling values n t r.1 h.3 k.1)
@@ -298,7 +298,7 @@ enumeration-back k l = let low : k < 2 ^ 32 = omega (arith, l) in rw (mod-eq_of_
 mutual
   unfolding read shape_fields
 
-  pub shape-back : (values : Kind AnyValue) (n : ℕ) (s : Shape) (x : Meaning s) → IsShape s → FitsShape values s x → read values s (payloads n s (shape_fields n s x)) ≡ done x
+  pub shape-back : (values : PayloadReading AnyValue) (n : ℕ) (s : Shape) (x : Meaning s) → IsShape s → FitsShape values s x → read values s (payloads n s (shape_fields n s x)) ≡ done x
   shape-back values n text x w h = text-back values n x h.0
   shape-back values n bytes x w h = octets-back values n x
   shape-back values n bool x w h = ap (λ z. done (not (z == 0))) (number-back n bool (if x then 1 else 0) refl) ∙ ap done (truth-back x)
@@ -311,7 +311,7 @@ mutual
   shape-back values n (optional t) x w h = optional-back (read_table values t) n (optional t) (table_fields t x) refl (table-spelling values 0 t x w h.0) ∙ table-back values 0 t x w h.0
   shape-back values n (repeated s) x w h = repeated-back values n s w.0 (λ y k. shape-back values n s y w.1 k) x h
 
-  pub table-back : (values : Kind AnyValue) (low : ℕ) (t : Table) (r : Record t) → IsTable low t → FitsTable values t r → read_table values t (table_fields t r) ≡ done r
+  pub table-back : (values : PayloadReading AnyValue) (low : ℕ) (t : Table) (r : Record t) → IsTable low t → FitsTable values t r → read_table values t (table_fields t r) ≡ done r
   table-back values low end r h k = refl
   table-back values low (n ⦂ s ◂ t) r h k = ap₂ (λ p q. both p q)
       (ap (read values s) (payloads-append n s (shape_fields n s r.0) (table_fields t r.1) ∙ ap (λ l. payloads n s (shape_fields n s r.0) ++ l) (payloads-others n s _ (others-above n _ (table-above n t r.1 h.3))) ∙ append-nil _) ∙ shape-back values n s r.0 h.2 k.0)

@@ -10,7 +10,7 @@ use Rattle.trace_model.specs.Wire.{varint, len}
 use Rattle.trace_model.specs.AnyValue.{AnyValue, AnyValues, no_values, KeyValues, no_pairs, pair, as_values, as_pairs}
 use Rattle.trace_model.specs.AnyValue as protocol
 use Rattle.trace_model.specs.Tables.{Table, bool, any, message, Record, key_value, array_value, key_value_list}
-use Rattle.trace_model.specs.Messages.{Kind, read, value, value_of, member_of}
+use Rattle.trace_model.specs.Messages.{PayloadReading, read, value, value_of, member_of}
 use Rattle.trace_model.specs.Canon.{bytes_field, unless_empty, row_bytes, value_fields, values_fields, pairs_fields, shape_fields, table_fields}
 use Rattle.trace_model.proofs.RowLaws.{HaveSpellings, row-row_bytes}
 use Rattle.trace_model.proofs.ReadBack.{utf8-ok, IsTable, FitsShape, FitsTable, joined-one, payloads-own, shape-back, bytes-spelling, bit-below}
@@ -79,11 +79,11 @@ member-spelling P (AnyValue.array vs) h = bytes-spelling 5 _ (omega arith) (omeg
 member-spelling P (AnyValue.pairs ps) h = bytes-spelling 6 _ (omega arith) (omega arith) h.1
 member-spelling P (AnyValue.bytes bs) h = bytes-spelling 7 bs (omega arith) (omega arith) h
 
-values-fit : (deeper : Kind AnyValue) (P : AnyValue → Type 0) → ((v : AnyValue) → P v → deeper (len (row_bytes (value_fields v)) ∷ []) ≡ done v) → (vs : AnyValues) → AllValues P vs → AllByRecursion (FitsShape deeper any) (list_of vs)
+values-fit : (deeper : PayloadReading AnyValue) (P : AnyValue → Type 0) → ((v : AnyValue) → P v → deeper (len (row_bytes (value_fields v)) ∷ []) ≡ done v) → (vs : AnyValues) → AllValues P vs → AllByRecursion (FitsShape deeper any) (list_of vs)
 values-fit deeper P back no_values h = tt
 values-fit deeper P back (protocol.value v vs) h = ((back v h.0, h.1), values-fit deeper P back vs h.2)
 
-pairs-fit : (deeper : Kind AnyValue) (P : AnyValue → Type 0) → ((v : AnyValue) → P v → deeper (len (row_bytes (value_fields v)) ∷ []) ≡ done v) → (ps : KeyValues) → AllPairs P ps → AllByRecursion (FitsShape deeper (message key_value)) (pairs_of ps)
+pairs-fit : (deeper : PayloadReading AnyValue) (P : AnyValue → Type 0) → ((v : AnyValue) → P v → deeper (len (row_bytes (value_fields v)) ∷ []) ≡ done v) → (ps : KeyValues) → AllPairs P ps → AllByRecursion (FitsShape deeper (message key_value)) (pairs_of ps)
 pairs-fit deeper P back no_pairs h = tt
 pairs-fit deeper P back (pair k v ps) h = (((h.0, ((back v h.1, h.2), tt)), h.3), pairs-fit deeper P back ps h.4)
 
@@ -94,24 +94,24 @@ key_value_list-table : IsTable 0 key_value_list
 key_value_list-table = (omega arith, omega arith, (tt, (omega arith, omega arith, tt, (omega arith, omega arith, tt, tt))), tt)
 
 -- a message under a number, by its payload alone
-message-read : (values : Kind AnyValue) (t : Table) (r : Record t) → IsTable 0 t → FitsTable values t r → length (row_bytes (table_fields t r)) < 2 ^ 64 → read values (message t) (len (row_bytes (table_fields t r)) ∷ []) ≡ done r
+message-read : (values : PayloadReading AnyValue) (t : Table) (r : Record t) → IsTable 0 t → FitsTable values t r → length (row_bytes (table_fields t r)) < 2 ^ 64 → read values (message t) (len (row_bytes (table_fields t r)) ∷ []) ≡ done r
 unfolding shape_fields
 message-read values t r w h l = ap (read values (message t)) (sym (payloads-own 1 (message t) (len (row_bytes (table_fields t r))) refl)) ∙ shape-back values 1 (message t) r w (h, l)
 
-array-read : (deeper : Kind AnyValue) (P : AnyValue → Type 0) → ((v : AnyValue) → P v → deeper (len (row_bytes (value_fields v)) ∷ []) ≡ done v) →
+array-read : (deeper : PayloadReading AnyValue) (P : AnyValue → Type 0) → ((v : AnyValue) → P v → deeper (len (row_bytes (value_fields v)) ∷ []) ≡ done v) →
     (vs : AnyValues) → AllValues P vs → length (row_bytes (values_fields vs)) < 2 ^ 64 → read deeper (message array_value) (len (row_bytes (values_fields vs)) ∷ []) ≡ done (list_of vs, tt)
 array-read deeper P back vs h l = rw (values-as-table vs) (message-read deeper array_value (list_of vs, tt) array_value-table (values-fit deeper P back vs h, tt) (rw values-as-table at l))
 
-pairs-read : (deeper : Kind AnyValue) (P : AnyValue → Type 0) → ((v : AnyValue) → P v → deeper (len (row_bytes (value_fields v)) ∷ []) ≡ done v) →
+pairs-read : (deeper : PayloadReading AnyValue) (P : AnyValue → Type 0) → ((v : AnyValue) → P v → deeper (len (row_bytes (value_fields v)) ∷ []) ≡ done v) →
     (ps : KeyValues) → AllPairs P ps → length (row_bytes (pairs_fields ps)) < 2 ^ 64 → read deeper (message key_value_list) (len (row_bytes (pairs_fields ps)) ∷ []) ≡ done (pairs_of ps, tt)
 pairs-read deeper P back ps h l = rw (pairs-as-table ps) (message-read deeper key_value_list (pairs_of ps, tt) key_value_list-table (pairs-fit deeper P back ps h, tt) (rw pairs-as-table at l))
 
-truth-read : (deeper : Kind AnyValue) (b : Bool) → read deeper bool (varint (if b then 1 else 0) ∷ []) >>= (λ x. done (AnyValue.bool x)) ≡ done (AnyValue.bool b)
+truth-read : (deeper : PayloadReading AnyValue) (b : Bool) → read deeper bool (varint (if b then 1 else 0) ∷ []) >>= (λ x. done (AnyValue.bool x)) ≡ done (AnyValue.bool b)
 unfolding read
 truth-read deeper true = refl
 truth-read deeper false = refl
 
-members-back : (deeper : Kind AnyValue) (P : AnyValue → Type 0) → ((v : AnyValue) → P v → deeper (len (row_bytes (value_fields v)) ∷ []) ≡ done v) →
+members-back : (deeper : PayloadReading AnyValue) (P : AnyValue → Type 0) → ((v : AnyValue) → P v → deeper (len (row_bytes (value_fields v)) ∷ []) ≡ done v) →
     (v : AnyValue) → FitsMember P v → value_of deeper (reverse (filter (λ f. is_some (member_of f)) (value_fields v))) ≡ done v
 unfolding value_fields read
 members-back deeper P back AnyValue.none h = refl

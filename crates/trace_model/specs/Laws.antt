@@ -3,7 +3,6 @@ use Rattle.std.specs.Prelude.{◌≡◌, ℕ, ◌<◌, ◌^◌, ◌↔◌, List,
 use Rattle.trace_model.specs.Reading.{Reads, done}
 use Rattle.trace_model.specs.Wire.{Field, row}
 use Rattle.trace_model.specs.Spelling.{IsVarint, IsField, IsRow}
-use Rattle.trace_model.specs.Tables
 use Rattle.trace_model.specs.Tables.{Table, Record, is_table}
 use Rattle.trace_model.specs.Messages.{meaning, triples}
 use Rattle.trace_model.specs.Canon.{canon}

@@ -5,6 +5,7 @@ use Rattle.std.specs.Int.{w32, w64, cast_signed}
 use Rattle.std.specs.Str.{is_utf8}
 use Rattle.trace_model.specs.Reading.{Reading, ◌>>=◌, done, each, bad_utf8, too_deep}
 use Rattle.trace_model.specs.Wire.{Payload, varint, i64, len, i32, Field, row}
+use Rattle.trace_model.specs.Attributes.{last_or}
 use Rattle.trace_model.specs.AnyValue.{AnyValue, none, as_values, as_pairs}
 use Rattle.trace_model.specs.Tables
 use Rattle.trace_model.specs.Tables.{Shape, text, bytes, bool, uint32, int64, enum, fixed64, any, message, optional, repeated, Table, end, ◌⦂◌◂◌, ◌▸◌, Meaning, Record, key_value, array_value, key_value_list, resource, scope, span, scope_spans, resource_spans, request}
@@ -55,11 +56,6 @@ bytes_in (i64 n) = []
 bytes_in (len bs) = bs
 bytes_in (i32 n) = []
 
--- the last one, or the default where there is none
-abbrev pub last_or : {A : Type 0} → A → List A → A
-last_or d [] = d
-last_or d (x ∷ xs) = last_or x xs
-
 -- the last payload counts, and without one the default, 0 (Protocol Buffers, Encoding: Last One Wins)
 abbrev pub last_number : List Payload → ℕ
 last_number ps = number_in (last_or (varint 0) ps)
@@ -82,15 +78,15 @@ utf8 bs = record { value = bs; faults = if is_utf8 bs then [] else bad_utf8 ∷ 
 -- ---- a message, where the payloads of an AnyValue mean what `values` says
 
 -- what the payloads of a field mean
-abbrev pub Kind : Type 0 → Type 0
-Kind A = List Payload → Reading A
+abbrev pub PayloadReading : Type 0 → Type 0
+PayloadReading A = List Payload → Reading A
 
 unfoldable mutual
   unfolding payloads joined
 
   -- A repeated field has all payloads, a message their joined rows, any other the last: uint32 and enum the low 32 bits,
   -- bool whether it isn't 0. (Protocol Buffers, Encoding: Last One Wins; Language Guide: Updating A Message Type)
-  pub read : Kind AnyValue → (s : Shape) → List Payload → Reading (Meaning s)
+  pub read : PayloadReading AnyValue → (s : Shape) → List Payload → Reading (Meaning s)
   read values text ps = utf8 (last_bytes ps)
   read values bytes ps = done (last_bytes ps)
   read values bool ps = done (not (last_number ps == 0))
@@ -105,7 +101,7 @@ unfoldable mutual
 
   -- each field of the table has its own payloads: the order among the numbers is free (Protocol Buffers, Encoding:
   -- Field Order)
-  pub read_table : Kind AnyValue → (t : Table) → List Field → Reading (Record t)
+  pub read_table : PayloadReading AnyValue → (t : Table) → List Field → Reading (Record t)
   read_table values end fields = done tt
   read_table values (n ⦂ s ◂ t) fields = read values s (payloads n s fields) >>= λ first. read_table values t fields >>= λ others. done (first ▸ others)
 
@@ -139,19 +135,19 @@ abbrev pub last_run : ℕ → List Field → List Payload
 last_run n back = map (λ f. f.payload) (reverse (take_while (λ f. f.number == n) back))
 
 -- the value that the member makes of its payloads; none without a member
-abbrev pub make_with : Kind AnyValue → Option Member → List Payload → Reading AnyValue
+abbrev pub make_with : PayloadReading AnyValue → Option Member → List Payload → Reading AnyValue
 make_with deeper None ps = done none
 make_with deeper (Some m) ps = read deeper m.shape ps >>= λ x. done (m.make x)
 
 -- The value of the members, which are given from the last: the last one's number decides. (Protocol Buffers, Encoding:
 -- Oneofs)
-abbrev pub value_of : Kind AnyValue → List Field → Reading AnyValue
+abbrev pub value_of : PayloadReading AnyValue → List Field → Reading AnyValue
 value_of deeper [] = done none
 value_of deeper (f ∷ back) = make_with deeper (member_of f) (last_run f.number (f ∷ back))
 
 -- What the payloads of an AnyValue mean where so many levels are left. Its rows are joined, and fields that are no
 -- member of it are skipped. Where no level is left a payload is too deep, and is not looked into. (profile: the depth)
-unfoldable pub value : ℕ → Kind AnyValue
+unfoldable pub value : ℕ → PayloadReading AnyValue
 unfolding read joined
 value zero [] = done none
 value zero (p ∷ ps) = record { value = none; faults = too_deep ∷ [] }

@@ -3,10 +3,9 @@
 
 use clap::{Arg, ArgAction, Command, Error};
 use std::alloc::Global;
-use std::env;
-use std::io;
 use std::io::{BufReader, BufWriter};
 use std::process::ExitCode;
+use std::{env, io};
 
 /// Whether the words of the command line ask for the body. Today they have to.
 fn asks_for_body(alloc: Global, words: &[String]) -> Result<bool, Error> {

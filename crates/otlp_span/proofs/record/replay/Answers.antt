@@ -1,7 +1,6 @@
-use Rattle.std.proofs.Common.{◌≡◌, sym, ap, ◌∙◌, ℕ, List, [], ◌∷◌, ◌++◌, map, take, drop, suc, take_all, refl}
-use Rattle.trace_model.specs.Spans.{Call, EndedSpan, Records, Adds, set_attribute, end, span}
-use Rattle.otlp_value.specs.Value.{value_view}
-use Rattle.otlp_span.specs.Parts.{call_view, limits_view, start_view, opened, replayed}
+use Rattle.std.proofs.Common.{◌∙◌, map, take, drop, suc, take_all, refl}
+use Rattle.trace_model.specs.Spans.{Adds}
+use Rattle.otlp_span.specs.Parts.{call_view, start_view, opened}
 use Rattle.otlp_span.proofs.Recorded.{stays, from-index, through-index, ended, unended}
 use Rattle.otlp_span.proofs.record.replay.Goals as goal
 

@@ -1,4 +1,4 @@
-use Rattle.std.proofs.Common.{◌≡◌, map, take}
+use Rattle.std.proofs.Common.{map, take}
 use Rattle.trace_model.specs.Spans.{Records, KeepsPlace}
 use Rattle.otlp_span.specs.Parts.{start_view, call_view, opened}
 use Rattle.otlp_span.proofs.record.replay.Given as goal

@@ -11,7 +11,7 @@ pub loop-group-preserved : goal.loop-group-preserved
 loop-group-preserved g c =
     let message = rw c.as_slice.ensures.value at c.in_ok-put_len.ensures in
     rw (through-index-2 resource_spans_message resource_group_view c.args.groups.now c.loop-group.group-index c.group-item.result c.loop-group-test.true c.group-item.is)
-      (one-more c.loop-group.invariant (put-message c.in_ok-message.ensures message))
+    (one-more c.loop-group.invariant (put-message c.in_ok-message.ensures message))
 
 pub returns : goal.returns
 unfolding request_message

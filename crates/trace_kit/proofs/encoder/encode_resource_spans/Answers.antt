@@ -11,7 +11,7 @@ pub loop-scope_group-preserved : goal.loop-scope_group-preserved
 loop-scope_group-preserved g c =
     let message = rw c.as_slice-in-loop-scope_group.ensures.value at c.in_ok-put_len-2.ensures in
     rw (through-index-2 scope_spans_message scope_group_view c.deref-scope_group-items.result.now c.loop-scope_group.scope_group-index c.scope_group-item.result c.loop-scope_group-test.true c.scope_group-item.is)
-      (one-more c.loop-scope_group.invariant (put-message c.in_ok-message.ensures message))
+    (one-more c.loop-scope_group.invariant (put-message c.in_ok-message.ensures message))
 
 pub returns : goal.returns
 returns g c =

@@ -11,7 +11,7 @@ pub loop-span-preserved : goal.loop-span-preserved
 loop-span-preserved g c =
     let message = rw c.as_slice-in-loop-span.ensures.value at c.in_ok-put_len-2.ensures in
     rw (through-index-2 (λ (x : EndedSpan). span_message x.span) (λ s. s.now) c.deref-span-items.result.now c.loop-span.span-index c.span-item.result c.loop-span-test.true c.span-item.is)
-      (one-more c.loop-span.invariant (put-message c.in_ok-message.ensures message))
+    (one-more c.loop-span.invariant (put-message c.in_ok-message.ensures message))
 
 pub returns : goal.returns
 returns g c =

@@ -14,5 +14,5 @@ returns g c =
     let dropped = rw c.dropped_attributes_count.ensures at c.in_ok-put_uint32.ensures in
     let only = c.attributes.ensures.alone in
     rw (← c.context-context.ensures, only.events, only.links, only.status)
-      (and-field trace (and-field c.in_ok-put_bytes-2.ensures (and-field state (and-field parent (and-field name (and-field kind (and-field start (and-field end
-        (and-field attributes (and-field dropped (and-field (none-yet _) (and-field no-uint32 (and-field (none-yet _) (and-field no-uint32 (and-field no-status (no-field _))))))))))))))))
+    (and-field trace (and-field c.in_ok-put_bytes-2.ensures (and-field state (and-field parent (and-field name (and-field kind (and-field start (and-field end
+    (and-field attributes (and-field dropped (and-field (none-yet _) (and-field no-uint32 (and-field (none-yet _) (and-field no-uint32 (and-field no-status (no-field _))))))))))))))))

@@ -10,4 +10,4 @@ pub loop-pair-preserved : goal.loop-pair-preserved
 loop-pair-preserved g c =
     let message = rw c.as_slice.ensures.value at c.in_ok-put_len.ensures in
     rw (through-index-2 attribute_message attribute_view c.args.pairs.now c.loop-pair.pair-index c.pair-item.result c.loop-pair-test.true c.pair-item.is)
-      (one-more c.loop-pair.invariant (put-message c.in_ok-message.ensures message))
+    (one-more c.loop-pair.invariant (put-message c.in_ok-message.ensures message))

@@ -6,4 +6,4 @@ use Rattle.trace_kit.proofs.fields.put_len.Goals as goal
 pub returns : goal.returns
 returns g c =
     on-ok c.write_len.result (tagged (record { number = c.args.number; payload = Wire.len c.args.bytes.now }) (c.args.number * 8 + 2) _ _ _ refl c.in_ok-write_varint.ensures.canonical)
-      c.write_len.ensures.canonical
+    c.write_len.ensures.canonical

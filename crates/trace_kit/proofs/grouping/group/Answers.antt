@@ -7,4 +7,4 @@ returns-in_default g c = rw c.new.ensures.items (none-first c.args.spans.now c.i
 pub returns : goal.returns
 returns g c =
     rw (c.in_ok-push-2.ensures.items, c.new-groups.ensures.items, c.in_ok-push.ensures.items, c.new-scopes.ensures.items, c.in_ok-references.ensures, c.scope.ensures, c.resource.ensures)
-      (shared-first c.args.spans.now c.in-Some.first.now c.in-Some.ensures.value c.requires)
+    (shared-first c.args.spans.now c.in-Some.first.now c.in-Some.ensures.value c.requires)

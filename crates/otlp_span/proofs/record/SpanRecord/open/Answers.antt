@@ -1,4 +1,4 @@
-use Rattle.std.proofs.Common.{◌≡◌, ap, ◌∙◌, refl}
+use Rattle.std.proofs.Common.{refl}
 use Rattle.trace_model.specs.Spans.{span}
 use Rattle.otlp_span.proofs.record.SpanRecord.open.Goals as goal
 

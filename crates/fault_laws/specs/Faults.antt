@@ -1,0 +1,67 @@
+-- What stands where no field does. (Protocol Buffers, Encoding: Base 128 Varints, Message Structure; Language Guide:
+-- Assigning Field Numbers)
+use Rattle.std.specs.Prelude.{◌≡◌, ◌≢◌, ◌⊎◌, ◌↔◌, ℕ, ◌≤◌, ◌/◌, ◌%◌, List, [], ◌∷◌, ◌++◌, length, true, false, Err}
+use Rattle.trace_model.specs.Reading.{Fault, truncated, long_varint, bad_number, group, bad_wire_type, bad_utf8, too_deep}
+use Rattle.trace_model.specs.Wire.{Field, field, row, is_field_number}
+use Rattle.trace_model.specs.Spelling.{IsVarint, IsField, IsRow}
+
+-- each byte is at least 128
+abbrev pub AreHigh : List ℕ → Type 0
+AreHigh [] = Unit {0}
+AreHigh (b ∷ bs) = (128 ≤ b) × AreHigh bs
+
+-- Ten bytes of at least 128 stand at the front. (Encoding: Base 128 Varints)
+pub record IsLongVarint (bs : List ℕ) : Type 0 where
+  pub front : List ℕ
+  pub rest : List ℕ
+  pub high : AreHigh front
+  pub size : length front ≡ 10
+  pub whole : bs ≡ front ++ rest
+
+-- A tag stands at the front, which is this number as a varint, and these bytes behind it.
+pub record HasTag (bs : List ℕ) (tag : ℕ) (rest : List ℕ) : Type 0 where
+  pub front : List ℕ
+  pub spelled : IsVarint front tag
+  pub whole : bs ≡ front ++ rest
+
+-- A tag stands at the front whose field number a field may have, and of whose wire type this holds. (Encoding: Message
+-- Structure)
+abbrev pub HasType : (ℕ → Type 0) → List ℕ → Type 0
+HasType P bs = (tag : ℕ) × (rest : List ℕ) × HasTag bs tag rest × (is_field_number (tag / 8) ≡ true) × P (tag % 8)
+
+-- With some bytes more they are a field, or a varint in the place of the tag.
+abbrev pub IsCutOff : List ℕ → Type 0
+IsCutOff bs = (more : List ℕ) × (more ≢ []) × (((f : Field) × IsField (bs ++ more) f) ⊎ ((tag : ℕ) × IsVarint (bs ++ more) tag))
+
+-- A long varint stands in the place of the tag, or behind the tag in that of a number or a length.
+abbrev pub HasLongVarint : List ℕ → Type 0
+HasLongVarint bs = IsLongVarint bs ⊎ ((tag : ℕ) × (rest : List ℕ) × HasTag bs tag rest × (is_field_number (tag / 8) ≡ true) × ((tag % 8 ≡ 0) ⊎ (tag % 8 ≡ 2)) × IsLongVarint rest)
+
+-- What each fault says of the front of some bytes. A bad field number is told before a bad wire type. Texts and depths
+-- are tested only in what a field holds. (that groups are refused, and which of two faults is told: profile)
+abbrev pub Stands : Fault → List ℕ → Type 0
+Stands truncated bs = IsCutOff bs
+Stands long_varint bs = HasLongVarint bs
+Stands bad_number bs = (tag : ℕ) × (rest : List ℕ) × HasTag bs tag rest × (is_field_number (tag / 8) ≡ false)
+Stands group bs = HasType (λ wire. (wire ≡ 3) ⊎ (wire ≡ 4)) bs
+Stands bad_wire_type bs = HasType (λ wire. (wire ≡ 6) ⊎ (wire ≡ 7)) bs
+Stands bad_utf8 bs = ⊥
+Stands too_deep bs = ⊥
+
+-- The front of some bytes is refused with a fault just where what the fault says stands there.
+abbrev pub FaultsSayWhatStands : Type 0
+FaultsSayWhatStands = (bs : List ℕ) (f : Fault) → (field bs ≡ Err f) ↔ Stands f bs
+
+-- Behind these fields bytes are left at whose front no field stands, but what the fault says.
+pub record StopsBehind (bs : List ℕ) (fields : List Field) (f : Fault) : Type 0 where
+  pub front : List ℕ
+  pub rest : List ℕ
+  pub spelled : IsRow front fields
+  pub more : rest ≢ []
+  pub stands : Stands f rest
+  pub whole : bs ≡ front ++ rest
+
+-- A row with a fault has just the fields before the first place where no field stands, and the fault says what stands
+-- there. (that the fields before a fault count: profile)
+abbrev pub RowStopsAtTheFault : Type 0
+RowStopsAtTheFault = (bs : List ℕ) (fields : List Field) (f : Fault) → (row bs ≡ record { value = fields; faults = f ∷ [] }) ↔ StopsBehind bs fields f
