@@ -30,6 +30,12 @@ span_named name =
     [] ▸ [] ▸ [] ▸ [] ▸ codes name ▸ pos 0 ▸ 0 ▸ 0 ▸
     [] ▸ 0 ▸ [] ▸ 0 ▸ [] ▸ 0 ▸ status_of "" 0 ▸ tt
 
+-- a span of which all but the kind is left out
+abbrev pub span_of_kind : ℤ → Record Tables.span
+span_of_kind kind =
+    [] ▸ [] ▸ [] ▸ [] ▸ [] ▸ kind ▸ 0 ▸ 0 ▸
+    [] ▸ 0 ▸ [] ▸ 0 ▸ [] ▸ 0 ▸ status_of "" 0 ▸ tt
+
 -- a request of one resource and one scope
 abbrev pub request_of : Record Tables.resource → Record Tables.scope → List (Record Tables.span) → Record Tables.request
 request_of resource scope spans = ((resource ▸ ((scope ▸ spans ▸ [] ▸ tt) ∷ []) ▸ [] ▸ tt) ∷ []) ▸ tt

@@ -45,11 +45,16 @@ beginnings (suc n) bytes = take (suc n) bytes ∷ beginnings n bytes
 abbrev pub sized : List ℕ → List ℕ
 sized bytes = let n = length bytes in (if nat_lt n 128 then n ∷ [] else (n % 128 + 128) ∷ n / 128 ∷ []) ++ bytes
 
+-- a value in so many arrays
+unfoldable pub in_arrays : ℕ → List ℕ → List ℕ
+unfolding hex
+in_arrays zero value = value
+in_arrays (suc n) value = hex "2a" ++ sized (hex "0a" ++ sized (in_arrays n value))
+
 -- the number 1 in so many arrays
 unfoldable pub nested_arrays : ℕ → List ℕ
-unfolding hex
-nested_arrays zero = hex "18 01"
-nested_arrays (suc n) = hex "2a" ++ sized (hex "0a" ++ sized (nested_arrays n))
+unfolding hex in_arrays
+nested_arrays n = in_arrays n (hex "18 01")
 
 -- the number 1 in so many lists of pairs
 unfoldable pub nested_lists : ℕ → List ℕ

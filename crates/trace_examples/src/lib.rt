@@ -9,6 +9,7 @@
 pub mod attributes;
 pub mod bodies;
 pub mod calls;
+pub mod edges;
 pub mod faults;
 pub mod readings;
 pub mod responses;
