@@ -1,3 +1,4 @@
 mod Read
 mod Shared
 mod Writing
+mod Steps

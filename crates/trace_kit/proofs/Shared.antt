@@ -1,5 +1,5 @@
 -- Spans of one resource and one scope are one group.
-use Rattle.std.proofs.Common.{◌≡◌, refl, sym, ap, ◌∙◌, List, [], ◌∷◌, map, filter, cond, Bool, true, false, not, Option, Some, None}
+use Rattle.std.proofs.Common.{◌≡◌, refl, sym, ap, ◌∙◌, List, [], ◌∷◌, map, filter, Bool, true, false, not, Option, Some, None}
 use Rattle.std.specs.List.{AllByRecursion, slice_get}
 use Rattle.std.specs.Option.{option_to_list}
 use Rattle.trace_model.specs.Attributes.{distinct}

@@ -14,8 +14,8 @@ use Rattle.trace_model.specs.Tables
 use Rattle.trace_model.specs.Messages.{wire_type}
 use Rattle.trace_model.specs.Spans.{unset}
 use Rattle.trace_model.specs.Export.{status_message}
-use Rattle.trace_model.specs.Canon.{shortest, payload_bytes, field_bytes, bytes_field, number_field, unless_empty, row_bytes, shape_fields, shape_bytes, table_fields, canon, value_fields}
-use Rattle.trace_model.specs.Whole.{IsText, IsValue, IsWhole, IsMessage}
+use Rattle.trace_model.specs.Canon.{shortest, payload_bytes, field_bytes, bytes_field, unless_empty, row_bytes, shape_fields, shape_bytes, canon, value_fields}
+use Rattle.trace_model.specs.Whole.{IsText, IsValue, IsWhole}
 use Rattle.trace_model.proofs.Composed.{canon-field, canon-end, repeated-none, repeated-more}
 use Rattle.trace_kit.specs.Encode.{Puts, PutsAll, IsWritten, PutsMember}
 

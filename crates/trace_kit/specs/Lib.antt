@@ -2,3 +2,5 @@ pub mod Group
 pub mod Encode
 pub mod Program
 pub mod Printed
+pub mod Recorded
+pub mod Recorder

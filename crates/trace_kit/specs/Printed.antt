@@ -1,21 +1,48 @@
 -- The line that the program prints.
-use Rattle.std.specs.Prelude.{◌≡◌, ℕ, List, [], ◌∷◌, ◌++◌, Option}
+use Rattle.std.specs.Prelude.{◌≡◌, ◌⊎◌, ℕ, List, [], ◌∷◌, ◌++◌, length, Bool, false, Option, Ok, Err, IfSome}
 use Rattle.std.specs.Io.KnownBytes.{Appends}
 use Rattle.hex.specs.Hex.{encode_lower}
 use Rattle.trace_model.specs.Reading.{Reads}
 use Rattle.trace_model.specs.Messages.{body_meaning}
-use Rattle.trace_model.specs.Spans.{EndedSpan}
-use Rattle.trace_model.specs.Export.{grouped_triples}
+use Rattle.trace_model.specs.Export.{grouped_triples, groups, body_length}
+use Rattle.span_script.specs.Scripts.{Script, script_read}
+use Rattle.span_script.specs.declared.script.ScriptError.TheVariants as scripts
+use Rattle.trace_kit.specs.Recorded.{spans_of}
+use Rattle.trace_kit.specs.declared.failure.Failure.{Failure}
+use Rattle.trace_kit.specs.declared.failure.Failure.TheVariants as failures
 
--- a body that means some spans, in hexadecimal digits, and the end of the line (10)
-pub record IsBodyLine (line : List ℕ) : Type 0 where
-  pub spans : List EndedSpan
+-- The input's text is a script, and the line is the body that exports the spans which it ends, in hexadecimal digits,
+-- and the end of the line (10). Of an input that doesn't tell its bytes, some text is.
+pub record IsBodyLine (input : Option (List ℕ)) (line : List ℕ) : Type 0 where
+  pub text : List ℕ
+  pub given : IfSome input (λ bytes. text ≡ bytes)
+  pub script : Script
+  pub read : script_read text ≡ Ok script
   pub body : List ℕ
-  pub meaning : Reads (body_meaning body) (grouped_triples spans)
+  pub meaning : Reads (body_meaning body) (grouped_triples (spans_of script))
+  pub size : length body ≡ body_length (groups (spans_of script))
   pub digits : line ≡ encode_lower body ++ 10 ∷ []
 
 -- what was known of the output has gained such a line
-pub record PrintsBody (old new : Option (List ℕ)) : Type 0 where
+pub record PrintsBody (input old new : Option (List ℕ)) : Type 0 where
   pub line : List ℕ
-  pub is : IsBodyLine line
+  pub is : IsBodyLine input line
   pub gained : Appends old new line
+
+-- the line with this number is the first bad one of the input's text
+pub record IsBadAt (input : Option (List ℕ)) (n : ℕ) : Type 0 where
+  pub bad : IfSome input (λ bytes. script_read bytes ≡ Err n)
+
+-- why there is no line: the body was not asked for, or the line that is told is the first bad one
+abbrev pub Explains : Bool → Option (List ℕ) → Failure → Type 0
+Explains asked input failures.NoBody = asked ≡ false
+Explains asked input (failures.Script (scripts.BadLine n)) = IsBadAt input n
+Explains asked input (failures.Script scripts.OutOfMemory) = Unit {0}
+Explains asked input failures.Read = Unit {0}
+Explains asked input failures.Write = ⊥
+Explains asked input failures.OutOfMemory = Unit {0}
+Explains asked input failures.TooLarge = Unit {0}
+
+-- why the program refuses: the body was not asked for, or the input has a bad line
+abbrev pub Refuses : Bool → Option (List ℕ) → Type 0
+Refuses asked input = (asked ≡ false) ⊎ ((n : ℕ) × IsBadAt input n)

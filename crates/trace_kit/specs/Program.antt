@@ -1,6 +1,8 @@
 -- What the program answers.
 use Rattle.std.specs.Prelude.{ℕ}
 use Rattle.span_script.specs.declared.script.ScriptError.TheVariants as scripts
+use Rattle.trace_kit.specs.declared.encoder.EncodeFault.{EncodeFault}
+use Rattle.trace_kit.specs.declared.encoder.EncodeFault.TheVariants as faults
 use Rattle.trace_kit.specs.declared.failure.Failure.{Failure}
 use Rattle.trace_kit.specs.declared.failure.Failure.TheVariants as failures
 
@@ -12,3 +14,7 @@ status_of (failures.Script (scripts.BadLine n)) = 2
 status_of (failures.Script scripts.OutOfMemory) = 3
 status_of failures.OutOfMemory = 3
 status_of failures.TooLarge = 3
+
+abbrev pub failure_of : EncodeFault → Failure
+failure_of faults.OutOfMemory = failures.OutOfMemory
+failure_of faults.TooLarge = failures.TooLarge

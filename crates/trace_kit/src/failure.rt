@@ -41,12 +41,23 @@ impl Failure {
 }
 
 impl From<OutOfMemory> for Failure {
+    ghost use Rattle.std.specs.Prelude.{◌≡◌};
+    ghost use Rattle.trace_kit.specs.declared.failure.Failure.{Failure};
+    ghost use Rattle.trace_kit.specs.declared.failure.Failure.TheVariants as failures;
+
+    ghost from_gives = { λ _ failure. failure ≡ failures.OutOfMemory };
+
     fn from(_: OutOfMemory) -> Failure {
         Failure::OutOfMemory
     }
 }
 
 impl From<EncodeFault> for Failure {
+    ghost use Rattle.std.specs.Prelude.{◌≡◌};
+    ghost use Rattle.trace_kit.specs.Program.{failure_of};
+
+    ghost from_gives = { λ fault failure. failure ≡ failure_of fault };
+
     fn from(fault: EncodeFault) -> Failure {
         match fault {
             EncodeFault::OutOfMemory => Failure::OutOfMemory,

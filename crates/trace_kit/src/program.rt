@@ -1,8 +1,8 @@
 //! The program `trace-script`, over readers and writers.
-ghost use Rattle.std.specs.Prelude.{◌≡◌, ◌≤◌, ◌++◌, ◌∷◌, [], IfOk, OnOk, string_bytes};
+ghost use Rattle.std.specs.Prelude.{◌≡◌, ◌≤◌, ◌⊎◌, ◌++◌, ◌∷◌, [], Bool, false, IfOk, IfErr, IfSome, IsErrOf, OnOk, string_bytes};
 ghost use Rattle.std.specs.Io.KnownBytes.{Appends, Keeps};
 ghost use Rattle.hex.specs.Hex.{encode_lower};
-ghost use Rattle.trace_kit.specs.Printed.{IsBodyLine, PrintsBody};
+ghost use Rattle.trace_kit.specs.Printed.{Explains, IsBodyLine, PrintsBody, Refuses};
 
 use crate::encoder::body_of;
 use crate::failure::{Failure, tell};
@@ -18,7 +18,8 @@ use std::io::{ErrorKind, Read, Write};
 ///
 /// The answer is the program's status: 0, or 1 where a read or a write failed, 2 where a line is bad (told as
 /// `line N: bad script` on `faults`; nothing is printed) or `body` is false (there is nothing else to print yet), 3
-/// where memory was refused (told as `out of memory`).
+/// where memory was refused (told as `out of memory`). Nothing is told where it is 0. Where the fault itself can't be
+/// told it is 1.
 pub fn script<A: Allocator + Copy, R: Read, W: Write, F: Write>(
     alloc: A,
     input: &mut R,
@@ -27,8 +28,11 @@ pub fn script<A: Allocator + Copy, R: Read, W: Write, F: Write>(
     body: bool,
 ) -> u8
     ensures status { result ≤ 3 }
-    ensures quiet { result ≡ 2 → Keeps (W.contents output.old) (W.contents output.new) }
-    ensures printed { result ≡ 0 → PrintsBody (W.contents output.old) (W.contents output.new) }
+    ensures printed { result ≡ 0 → PrintsBody (R.remaining input.old) (W.contents output.old) (W.contents output.new) }
+    ensures unasked { body ≡ false → (result ≡ 2) ⊎ (result ≡ 1) }
+    ensures untold { result ≡ 0 → Keeps (F.contents faults.old) (F.contents faults.new) }
+    ensures refused { result ≡ 2 → Refuses body (R.remaining input.old) }
+    ensures quiet { 2 ≤ result → Keeps (W.contents output.old) (W.contents output.new) }
 {
     let line = match body_line(alloc, input, body) {
         Ok(line) => line,
@@ -46,13 +50,18 @@ fn body_line<A: Allocator + Copy, R: Read>(
     input: &mut R,
     body: bool,
 ) -> Result<String<A>, Failure>
-    ensures { IfOk result (λ line. IsBodyLine (string_bytes line)) }
+    ensures line { IfOk result (λ line. IsBodyLine (R.remaining input.old) (string_bytes line)) }
+    ensures fault { IfErr result (Explains body (R.remaining input.old)) }
+    ensures unasked { body ≡ false → IsErrOf result Failure.NoBody }
 {
     if !body {
         return Err(Failure::NoBody);
     }
     let text = read_all(alloc, input)?;
-    let script = Script::parse(alloc, text.as_slice()).map_err(Failure::Script)?;
+    let script = match Script::parse(alloc, text.as_slice()) {
+        Ok(script) => script,
+        Err(error) => return Err(Failure::Script(error)),
+    };
     let spans = recorded(alloc, script)?;
     let body = body_of(alloc, spans.as_slice(), usize::MAX)?;
     Ok(hex_line(alloc, body.as_slice())?)
@@ -67,7 +76,11 @@ fn hex_line<A: Allocator>(alloc: A, bytes: &[u8]) -> Result<String<A>, OutOfMemo
     Ok(line)
 }
 
-fn read_all<A: Allocator, R: Read>(alloc: A, input: &mut R) -> Result<Vec<u8, A>, Failure> {
+/// All bytes that the input has left.
+fn read_all<A: Allocator, R: Read>(alloc: A, input: &mut R) -> Result<Vec<u8, A>, Failure>
+    ensures text { IfOk result (λ text. IfSome (R.remaining input.old) (λ bytes. text.items ≡ bytes)) }
+    ensures fault { (asked : Bool) → IfErr result (Explains asked (R.remaining input.old)) }
+{
     let mut text = Vec::new(alloc);
     match input.read_to_end(&mut text) {
         Ok(_) => Ok(text),

@@ -10,3 +10,4 @@ pub mod Export
 pub mod Spelling
 pub mod Whole
 pub mod Laws
+pub mod Sampling

@@ -1,4 +1,3 @@
-use Rattle.std.proofs.Common.{◌≡◌}
 use Rattle.trace_kit.proofs.Read.{body-means, if-ok}
 use Rattle.trace_kit.proofs.encoder.body_of.Goals as goal
 

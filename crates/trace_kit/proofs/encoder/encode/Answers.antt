@@ -1,5 +1,5 @@
-use Rattle.std.proofs.Common.{◌≡◌, arith, length, ◌<◌, ◌≤◌, ◌^◌}
-use Rattle.trace_model.specs.Export.{request_message, body_length}
+use Rattle.std.proofs.Common.{arith}
+use Rattle.trace_model.specs.Export.{request_message}
 use Rattle.trace_kit.specs.Group.{groups_view}
 use Rattle.trace_kit.proofs.Read.{reads-written, length-written}
 use Rattle.trace_kit.proofs.encoder.encode.Goals as goal

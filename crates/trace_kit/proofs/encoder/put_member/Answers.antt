@@ -1,5 +1,5 @@
 use Rattle.std.proofs.lemmas.Str.{is_utf8-from_IsUtf8}
-use Rattle.trace_kit.proofs.Writing.{on-ok, text-member, int-member}
+use Rattle.trace_kit.proofs.Writing.{on-ok, text-member}
 use Rattle.trace_kit.proofs.encoder.put_member.Goals as goal
 
 pub returns-in-Text : goal.returns-in-Text
