@@ -1,1 +1,2 @@
 pub mod SpanContext
+pub mod WordStream

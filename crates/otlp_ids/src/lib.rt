@@ -1,10 +1,16 @@
 //! Identifiers and contexts of spans (OpenTelemetry Trace API, "SpanContext"; W3C Trace Context).
 #![tactic(auto)]
 
-ghost use Rattle.std.specs.Prelude.{◌≡◌};
+ghost use Rattle.std.specs.Prelude.{◌≡◌, ◌≢◌, ◌*◌, ◌/◌, ◌%◌, ◌^◌, ◌<◌, ◌↔◌, IfOk, IfSome, IsErrOf, IsOk, IsOkUnless, IsTrue, OnErr, length};
+ghost use Rattle.std.specs.List.{AllPass};
+ghost use Rattle.hex.specs.Hex.{decode_of, decode_sized, encode_lower, is_hex_digit};
+ghost use Rattle.trace_model.specs.Identifiers.{bytes_at, identifier, has_sampled_flag, span_id, trace_id, words_after, words_spent};
 ghost use Rattle.trace_model.specs.Spans.{is_id, is_valid as is_valid_context};
 ghost use Rattle.otlp_ids.specs.SpanContext.{context_view};
+ghost use Rattle.otlp_ids.specs.WordStream.{after_words, words_of};
 
+use hex::FromHex;
+use rand_core::Rng;
 use std::alloc::{AllocError, AllocFailed, Allocator, Global};
 use thiserror::Error;
 
@@ -26,16 +32,129 @@ impl<T: Drop> From<AllocFailed<T>> for OutOfMemory {
     }
 }
 
+/// Why there is no identifier.
+#[derive(Debug, Clone, Copy, PartialEq, Eq, Error)]
+pub enum IdFault {
+    /// The generator gave only zeros, in eight draws.
+    #[error("no randomness: only zeros were drawn")]
+    NoRandomness,
+    /// The text is too short or too long.
+    #[error("bad length: an identifier has two digits a byte")]
+    BadLength,
+    /// A character is no hexadecimal digit.
+    #[error("bad digit: an identifier is written in hexadecimal")]
+    BadDigit,
+}
+
+/// Whether some byte isn't zero.
+fn is_any_set(bytes: &[u8]) -> bool
+    ensures { result ≡ is_id bytes.now }
+{
+    bytes.iter().any(|byte| *byte != 0)
+}
+
+/// How many times an identifier is drawn before the generator is given up. (profile)
+const DRAWS: usize = 8;
+
+/// The bytes of the first draw, of eight, that isn't all zero.
+fn draw_bytes<R: Rng, const N: usize>(rng: &mut R) -> Option<[u8; N]>
+    requires { N % 8 ≡ 0 }
+    ensures value { result ≡ identifier (N / 8) (words_of (R.stream rng.old)) }
+    ensures valid { IfSome result (λ bytes. IsTrue (is_id bytes)) }
+    ensures spent { let words = words_of (R.stream rng.old) in
+        R.stream rng.new ≡ after_words (words_spent (N / 8) words) (R.stream rng.old) }
+    ensures left { let words = words_of (R.stream rng.old) in
+        words_of (R.stream rng.new) ≡ words_after (words_spent (N / 8) words) words }
+{
+    'draws: for draw in 0..DRAWS {
+        let mut bytes = [0; N];
+        fill_with_words(rng, &mut bytes);
+        if is_any_set(&bytes) {
+            return Some(bytes);
+        }
+    }
+    None
+}
+
+/// Fills the bytes with random words, the high byte of each first.
+fn fill_with_words<R: Rng>(rng: &mut R, bytes: &mut [u8])
+    requires { length bytes.old % 8 ≡ 0 }
+    ensures bytes { bytes.new ≡ bytes_at (words_of (R.stream rng.old)) 0 (length bytes.old / 8) }
+    ensures rest { R.stream rng.new ≡ after_words (length bytes.old / 8) (R.stream rng.old) }
+{
+    'words: for i in 0..bytes.len() / 8 {
+        let word = rng.next_u64();
+        bytes[8 * i..8 * i + 8].copy_from_slice(&word.to_be_bytes());
+    }
+}
+
+/// The bytes that a text of two digits a byte spells.
+fn bytes_from_hex<const N: usize>(text: &str) -> Result<[u8; N], IdFault>
+    requires { N < 2 ^ 63 }
+    ensures value { IfOk result (λ bytes. decode_of text.now ≡ Ok bytes) }
+    ensures ok { IsOk result ↔ ((length text.now ≡ 2 * N) × AllPass is_hex_digit text.now) }
+    ensures length { IsErrOf result IdFault.BadLength ↔ (length text.now ≢ 2 * N) }
+    ensures digit { IsErrOf result IdFault.BadDigit ↔ ((length text.now ≡ 2 * N) × ¬ AllPass is_hex_digit text.now) }
+{
+    if text.len() != 2 * N {
+        return Err(IdFault::BadLength);
+    }
+    <[u8; N] as FromHex>::from_hex(text).or(Err(IdFault::BadDigit))
+}
+
 /// The identifier of a trace: 16 bytes, as they are sent.
 #[derive(Debug, Clone, Copy, PartialEq, Eq, Hash)]
 pub struct TraceId(pub [u8; 16]);
 
 impl TraceId {
-    /// Whether some byte isn't zero.
+    /// Draws an identifier: two words of the generator, the first one first, each with its high byte first. A
+    /// draw of zeros alone is repeated, up to seven times. (OpenTelemetry Trace SDK, "Id Generators"; order and
+    /// count: profile)
+    ///
+    /// # Errors
+    ///
+    /// `NoRandomness` where eight draws were all zero. In each case the words that were drawn are spent, and no
+    /// others.
+    pub fn draw<R: Rng>(rng: &mut R) -> Result<TraceId, IdFault>
+        ensures value { IfOk result (λ id. trace_id (words_of (R.stream rng.old)) ≡ Some id.0) }
+        ensures valid { IfOk result (λ id. IsTrue (is_id id.0)) }
+        ensures only { IsOkUnless result IdFault.NoRandomness }
+        ensures no_randomness { OnErr result (trace_id (words_of (R.stream rng.old)) ≡ None) }
+        ensures spent { let words = words_of (R.stream rng.old) in
+            R.stream rng.new ≡ after_words (words_spent 2 words) (R.stream rng.old) }
+        ensures left { let words = words_of (R.stream rng.old) in
+            words_of (R.stream rng.new) ≡ words_after (words_spent 2 words) words }
+    {
+        draw_bytes(rng).map(TraceId).ok_or(IdFault::NoRandomness)
+    }
+
+    /// The identifier that 32 hexadecimal digits spell (W3C Trace Context, "trace-id"; either case: profile).
+    ///
+    /// # Errors
+    ///
+    /// `BadLength` where the text hasn't 32 bytes, else `BadDigit` where one of them is no digit.
+    pub fn from_hex(text: &str) -> Result<TraceId, IdFault>
+        ensures value { IfOk result (λ id. decode_of text.now ≡ Ok id.0) }
+        ensures ok { IsOk result ↔ ((length text.now ≡ 32) × AllPass is_hex_digit text.now) }
+        ensures bad_length { IsErrOf result IdFault.BadLength ↔ (length text.now ≢ 32) }
+        ensures bad_digit { IsErrOf result IdFault.BadDigit ↔ ((length text.now ≡ 32) × ¬ AllPass is_hex_digit text.now) }
+    {
+        Ok(TraceId(bytes_from_hex(text)?))
+    }
+
+    /// Writes the identifier as 32 hexadecimal digits, in lower case (W3C Trace Context, "trace-id").
+    pub fn write_hex(&self, out: &mut [u8])
+        requires { length out.old ≡ 32 }
+        ensures { out.new ≡ encode_lower self.now.0 }
+    {
+        let _ = hex::encode_to_slice(self.0.as_slice(), out);
+    }
+
+    /// Whether some byte isn't zero (W3C Trace Context, "trace-id").
     pub fn is_valid(&self) -> bool
         ensures { result ≡ is_id self.now.0 }
     {
-        self.0.iter().any(|byte| *byte != 0)
+        is_any_set(&self.0)
     }
 }
 
@@ -44,11 +163,53 @@ impl TraceId {
 pub struct SpanId(pub [u8; 8]);
 
 impl SpanId {
-    /// Whether some byte isn't zero.
+    /// Draws an identifier: one word of the generator, its high byte first. A draw of zeros alone is repeated, up
+    /// to seven times. (OpenTelemetry Trace SDK, "Id Generators"; order and count: profile)
+    ///
+    /// # Errors
+    ///
+    /// `NoRandomness` where eight draws were all zero. In each case the words that were drawn are spent, and no
+    /// others.
+    pub fn draw<R: Rng>(rng: &mut R) -> Result<SpanId, IdFault>
+        ensures value { IfOk result (λ id. span_id (words_of (R.stream rng.old)) ≡ Some id.0) }
+        ensures valid { IfOk result (λ id. IsTrue (is_id id.0)) }
+        ensures only { IsOkUnless result IdFault.NoRandomness }
+        ensures no_randomness { OnErr result (span_id (words_of (R.stream rng.old)) ≡ None) }
+        ensures spent { let words = words_of (R.stream rng.old) in
+            R.stream rng.new ≡ after_words (words_spent 1 words) (R.stream rng.old) }
+        ensures left { let words = words_of (R.stream rng.old) in
+            words_of (R.stream rng.new) ≡ words_after (words_spent 1 words) words }
+    {
+        draw_bytes(rng).map(SpanId).ok_or(IdFault::NoRandomness)
+    }
+
+    /// The identifier that 16 hexadecimal digits spell (W3C Trace Context, "parent-id"; either case: profile).
+    ///
+    /// # Errors
+    ///
+    /// `BadLength` where the text hasn't 16 bytes, else `BadDigit` where one of them is no digit.
+    pub fn from_hex(text: &str) -> Result<SpanId, IdFault>
+        ensures value { IfOk result (λ id. decode_of text.now ≡ Ok id.0) }
+        ensures ok { IsOk result ↔ ((length text.now ≡ 16) × AllPass is_hex_digit text.now) }
+        ensures bad_length { IsErrOf result IdFault.BadLength ↔ (length text.now ≢ 16) }
+        ensures bad_digit { IsErrOf result IdFault.BadDigit ↔ ((length text.now ≡ 16) × ¬ AllPass is_hex_digit text.now) }
+    {
+        Ok(SpanId(bytes_from_hex(text)?))
+    }
+
+    /// Writes the identifier as 16 hexadecimal digits, in lower case (W3C Trace Context, "parent-id").
+    pub fn write_hex(&self, out: &mut [u8])
+        requires { length out.old ≡ 16 }
+        ensures { out.new ≡ encode_lower self.now.0 }
+    {
+        let _ = hex::encode_to_slice(self.0.as_slice(), out);
+    }
+
+    /// Whether some byte isn't zero (W3C Trace Context, "parent-id").
     pub fn is_valid(&self) -> bool
         ensures { result ≡ is_id self.now.0 }
     {
-        self.0.iter().any(|byte| *byte != 0)
+        is_any_set(&self.0)
     }
 }
 
@@ -56,8 +217,18 @@ impl SpanId {
 #[derive(Debug, Clone, Copy, PartialEq, Eq, Hash)]
 pub struct TraceFlags(pub u8);
 
+impl TraceFlags {
+    /// Whether the span is sampled (W3C Trace Context, "sampled flag").
+    pub fn sampled(&self) -> bool
+        ensures { result ≡ has_sampled_flag self.now.0 }
+    {
+        self.0 & 1 != 0
+    }
+}
+
 /// What a span hands on to its children, also in other processes.
-#[derive(Debug, Drop)]
+#[derive(Drop)]
+#[derive_where(Debug, PartialEq, Eq)]
 pub struct SpanContext<A: Allocator = Global> {
     /// The trace that the span belongs to.
     pub trace: TraceId,
@@ -80,43 +251,24 @@ impl<A: Allocator> SpanContext<A> {
     }
 }
 
-#[cfg(test)]
-mod tests {
-    use super::*;
-    use std::test::Fail;
-
-    #[test]
-    fn a_trace_id_is_valid_if_a_byte_is_not_zero(rt: HostRuntime) {
-        assert!(rt; !TraceId([0; 16]).is_valid());
-        assert!(rt; TraceId([1, 0, 0, 0, 0, 0, 0, 0, 0, 0, 0, 0, 0, 0, 0, 0]).is_valid());
-        assert!(rt; TraceId([0, 0, 0, 0, 0, 0, 0, 0, 0, 0, 0, 0, 0, 0, 0, 128]).is_valid());
-    }
-
-    #[test]
-    fn a_span_id_is_valid_if_a_byte_is_not_zero(rt: HostRuntime) {
-        assert!(rt; !SpanId([0; 8]).is_valid());
-        assert!(rt; SpanId([1, 0, 0, 0, 0, 0, 0, 0]).is_valid());
-        assert!(rt; SpanId([0, 0, 0, 0, 0, 0, 0, 128]).is_valid());
-    }
-
-    #[test]
-    fn a_context_is_valid_if_both_identifiers_are(rt: HostRuntime) {
-        for (trace, span, valid) in [(0, 0, false), (0, 1, false), (1, 0, false), (1, 1, true)] {
-            let context = SpanContext {
-                trace: TraceId([trace; 16]),
-                span: SpanId([span; 8]),
-                flags: TraceFlags(1),
-                remote: false,
-                state: String::new(rt.alloc()),
-            };
-            assert_eq!(rt; context.is_valid(), valid, "{trace} {span}");
-        }
-    }
-
-    #[test]
-    fn refused_memory_is_told(rt: HostRuntime) -> Result<(), Fail> {
-        let told = format!(in rt.alloc(); "{}", OutOfMemory)?;
-        assert_eq!(rt; told.as_str(), "out of memory");
-        Ok(())
+impl<A: Allocator + Copy> SpanContext<A> {
+    /// An equal context, on memory of its own.
+    ///
+    /// # Errors
+    ///
+    /// `OutOfMemory` where the trace state could not be stored.
+    pub fn copy(&self, alloc: A) -> Result<SpanContext<A>, OutOfMemory>
+        ensures { IfOk result (λ context. context_view context ≡ context_view self.now) }
+    {
+        Ok(SpanContext {
+            trace: self.trace,
+            span: self.span,
+            flags: self.flags,
+            remote: self.remote,
+            state: String::from_str(alloc, self.state.as_str())?,
+        })
     }
 }
+
+#[cfg(test)]
+mod tests;

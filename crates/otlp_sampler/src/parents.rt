@@ -60,7 +60,7 @@ impl<S0: Sampler, S1: Sampler, S2: Sampler, S3: Sampler, S4: Sampler> Sampler
         let Some(context) = parent else {
             return self.root.should_sample(parent, trace, name, kind);
         };
-        match (context.remote, context.flags.0 & 1 == 1) {
+        match (context.remote, context.flags.sampled()) {
             (true, true) => self
                 .remote_parent_sampled
                 .should_sample(parent, trace, name, kind),

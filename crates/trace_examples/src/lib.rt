@@ -11,6 +11,7 @@ pub mod bodies;
 pub mod calls;
 pub mod edges;
 pub mod faults;
+pub mod identifiers;
 pub mod readings;
 pub mod responses;
 pub mod values;

@@ -6,6 +6,7 @@ pub mod Messages
 pub mod Canon
 pub mod Attributes
 pub mod Spans
+pub mod Identifiers
 pub mod Export
 pub mod Spelling
 pub mod Whole

@@ -1,7 +1,8 @@
 -- What a sampler is asked when a span starts, and what it decides. (Trace SDK, Sampling)
-use Rattle.std.specs.Prelude.{ℕ, List, Bool, true, false, ◌==◌, bit_and, Option, Some, None, if◌then◌else◌}
+use Rattle.std.specs.Prelude.{ℕ, List, Bool, true, false, Option, Some, None, if◌then◌else◌}
 use Rattle.std.specs.Option.{option_map_or}
 use Rattle.trace_model.specs.Spans.{Context, Kind, is_valid}
+use Rattle.trace_model.specs.Identifiers.{has_sampled_flag}
 
 -- (Trace SDK, Sampling: ShouldSample)
 pub data Decision : Type 0 where
@@ -43,10 +44,6 @@ always_on span = record_and_sample
 -- (Trace SDK, Built-in samplers: AlwaysOff)
 abbrev pub always_off : Meaning
 always_off span = drop
-
--- bit 0 of the flags, the least significant (W3C Trace Context, trace-flags: Sampled flag)
-abbrev pub has_sampled_flag : ℕ → Bool
-has_sampled_flag flags = bit_and flags 1 == 1
 
 -- five samplers, of which the parent picks one (Trace SDK, Built-in samplers: ParentBased)
 pub record ByParent : Type 0 where
