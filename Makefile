@@ -6,9 +6,12 @@ PREFIX ?= $(HOME)/.local
 help: ## List the targets
 	@grep -E '^[a-z]+:.*##' Makefile | sed -E 's/:.*## /: /'
 
-run: ## Build trace-script without its proofs and print the body of the example's span
-	@echo '# built before it is proved (make test proves): trace-script --body < examples/one-span.script' >&2
-	@cd crates/trace_script && rt try -- --body < ../../examples/one-span.script
+run: ## Build trace-script without its proofs and print the bodies of the examples
+	@echo '# built before it is proved (make test proves)' >&2
+	@for script in one-span parent-and-child; do \
+		echo "# trace-script --body < examples/$$script.script" >&2; \
+		(cd crates/trace_script && rt try -- --body < ../../examples/$$script.script) || exit 1; \
+	done
 
 test: ## The gate: every proof from nothing, must-fail edits, tests and programs (tens of minutes)
 	rt ci

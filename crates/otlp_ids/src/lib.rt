@@ -4,7 +4,7 @@
 ghost use Rattle.std.specs.Prelude.{◌≡◌, ◌≢◌, ◌*◌, ◌/◌, ◌%◌, ◌^◌, ◌<◌, ◌↔◌, IfOk, IfSome, IsErrOf, IsOk, IsOkUnless, IsTrue, OnErr, length};
 ghost use Rattle.std.specs.List.{AllPass};
 ghost use Rattle.hex.specs.Hex.{decode_of, decode_sized, encode_lower, is_hex_digit};
-ghost use Rattle.trace_model.specs.Identifiers.{bytes_at, identifier, has_sampled_flag, span_id, trace_id, words_after, words_spent};
+ghost use Rattle.trace_model.specs.Identifiers.{bytes_at, identifier, has_sampled_flag, with_sampled_flag, span_id, trace_id, words_after, words_spent};
 ghost use Rattle.trace_model.specs.Spans.{is_id, is_valid as is_valid_context};
 ghost use Rattle.otlp_ids.specs.SpanContext.{context_view};
 ghost use Rattle.otlp_ids.specs.WordStream.{after_words, words_of};
@@ -223,6 +223,18 @@ impl TraceFlags {
         ensures { result ≡ has_sampled_flag self.now.0 }
     {
         self.0 & 1 != 0
+    }
+
+    /// The same flags, but for the sampled flag, which is as told (W3C Trace Context, "sampled flag").
+    pub fn with_sampled(&self, sampled: bool) -> TraceFlags
+        ensures { result.0 ≡ with_sampled_flag sampled self.now.0 }
+    {
+        let others = self.0 & 0xfe;
+        if sampled {
+            TraceFlags(others | 1)
+        } else {
+            TraceFlags(others)
+        }
     }
 }
 

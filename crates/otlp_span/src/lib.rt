@@ -3,7 +3,9 @@
 #![tactic(auto)]
 
 mod parts;
+mod reason;
 mod record;
 
 pub use parts::{Kind, Open, Resource, Scope, SpanCall, SpanLimits};
+pub use reason::Reason;
 pub use record::{SpanData, SpanRecord, replay};

@@ -1,5 +1,6 @@
 pub mod Numbers
 pub mod Texts
+pub mod Contexts
 pub mod Lines
 pub mod Drafts
 pub mod Loop

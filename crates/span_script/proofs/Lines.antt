@@ -85,6 +85,7 @@ unfolding entry is_utf8 chars encode
 no_name name arguments h =
     rw (
       other_than name (codes "words") h refl,
+      other_than name (codes "sampler") h refl,
       other_than name (codes "resource") h refl,
       other_than name (codes "scope") h refl,
       other_than name (codes "start") h refl,

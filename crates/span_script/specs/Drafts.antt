@@ -10,6 +10,7 @@ use Rattle.span_script.specs.declared.words.Fault.TheVariants.{Bad, OutOfMemory}
 
 pub record Holds {A : Type 0} (d : Draft A) (s : Script) : Type 0 where
   pub words : d.words.items ≡ s.words
+  pub sampler : d.sampler ≡ s.sampler
   pub limits : d.resource.limits ≡ all_kept
   pub resource : d.resource.kept ≡ attributes all_kept s.resource
   pub scopes : map scope_view d.scopes.items ≡ s.scopes

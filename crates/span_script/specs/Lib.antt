@@ -1,4 +1,5 @@
 pub mod Words
+pub mod Contexts
 pub mod Lines
 pub mod Scripts
 pub mod Drafts

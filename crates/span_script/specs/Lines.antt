@@ -3,41 +3,38 @@ use Rattle.std.specs.Prelude.{ℕ, ◌^◌, ◌==◌, List, [], ◌∷◌, if◌
 use Rattle.std.specs.List.{slice_split}
 use Rattle.trace_model.specs.Attributes as attributes
 use Rattle.trace_model.specs.Spans as spans
+use Rattle.trace_model.specs.History.{Step, start, call}
 use Rattle.otlp_value.specs.Value.{value_view}
 use Rattle.otlp_span.specs.declared.parts.Kind.{Kind}
 use Rattle.otlp_span.specs.declared.parts.Kind.TheVariants as kinds
 use Rattle.otlp_span.specs.Parts.{kind_view, call_view}
 use Rattle.span_script.specs.Words.{◌>>=◌, number_below, signed_number, hex_word, text_of}
-use Rattle.span_script.specs.declared.step.Parent.{Parent}
-use Rattle.span_script.specs.declared.step.Parent.TheVariants as parents
+use Rattle.span_script.specs.Contexts.{parent_view, parent_of}
+use Rattle.span_script.specs.declared.sampler.SamplerName.{SamplerName}
+use Rattle.span_script.specs.declared.sampler.SamplerName.TheVariants as samplers
 use Rattle.span_script.specs.declared.step.Step.{Step as CodeStep}
 use Rattle.span_script.specs.declared.step.Step.TheVariants as steps
 use Rattle.span_script.specs.declared.line.Line.{Line as CodeLine}
 use Rattle.span_script.specs.declared.line.Line.TheVariants as lines
 
-pub data Step : Type 0 where
-  -- the number of the scope, the parent, the kind, the moment and the name
-  start : ℕ → Parent → spans.Kind → ℕ → List ℕ → Step
-  -- the number of the span, and a call on it
-  call : ℕ → spans.Call → Step
-  -- the number of the span, and the moment
-  end : ℕ → ℕ → Step
-
 pub data Line : Type 0 where
   words : List ℕ → Line
+  sampler : SamplerName → Line
   resource : attributes.Attribute → Line
   scope : ℕ → spans.Scope → Line
   step : Step → Line
 
 -- ---- the types of the code
 
+-- an end is a call
 abbrev pub step_view : {A : Type 0} → CodeStep A → Step
-step_view (steps.Start number parent kind at name) = start number parent (kind_view kind) at (string_bytes name)
+step_view (steps.Start number parent kind at name) = start number (parent_view parent) (kind_view kind) at (string_bytes name)
 step_view (steps.Call span called) = call span (call_view called)
-step_view (steps.End span at) = end span at
+step_view (steps.End span at) = call span (spans.end at)
 
 abbrev pub line_view : {A : Type 0} → CodeLine A → Line
 line_view (lines.Words ws) = words ws.items
+line_view (lines.Sampler name) = sampler name
 line_view (lines.Resource key value) = resource (record { key = string_bytes key; value = value_view value })
 line_view (lines.Scope number name version schema) = scope number (record { name = string_bytes name; version = string_bytes version; attributes = []; schema = string_bytes schema })
 line_view (lines.Step s) = step (step_view s)
@@ -59,16 +56,33 @@ value_of (letter ∷ colon ∷ spelling) =
     else None
 value_of _ = None
 
-unfoldable pub parent_of : List ℕ → Option Parent
-parent_of word = if bytes_eq word (codes "root") then Some parents.Root else None
-
+-- (Trace API, SpanKind)
 unfoldable pub kind_of : List ℕ → Option Kind
-kind_of word = if bytes_eq word (codes "internal") then Some kinds.Internal else None
+kind_of word =
+    if bytes_eq word (codes "internal") then Some kinds.Internal
+    else if bytes_eq word (codes "server") then Some kinds.Server
+    else if bytes_eq word (codes "client") then Some kinds.Client
+    else if bytes_eq word (codes "producer") then Some kinds.Producer
+    else if bytes_eq word (codes "consumer") then Some kinds.Consumer
+    else None
+
+-- (Trace SDK, Built-in samplers)
+unfoldable pub sampler_of : List ℕ → Option SamplerName
+sampler_of word =
+    if bytes_eq word (codes "on") then Some samplers.AlwaysOn
+    else if bytes_eq word (codes "off") then Some samplers.AlwaysOff
+    else if bytes_eq word (codes "parent") then Some samplers.ParentBased
+    else None
 
 -- `words W ..`
 unfoldable pub words_line : List (List ℕ) → Option Line
 words_line [] = None
 words_line (w ∷ ws) = option_map words (each_of hex_word (w ∷ ws))
+
+-- `sampler NAME`
+unfoldable pub sampler_line : List (List ℕ) → Option Line
+sampler_line (name ∷ []) = option_map sampler (sampler_of name)
+sampler_line _ = None
 
 -- `resource KEY VALUE`
 unfoldable pub resource_line : List (List ℕ) → Option Line
@@ -113,13 +127,14 @@ unfoldable pub end_line : List (List ℕ) → Option Line
 end_line (span ∷ at ∷ []) = do
   n ← number_below (2 ^ 32) span
   a ← number_below (2 ^ 64) at
-  Some (step (end n a))
+  Some (step (call n (spans.end a)))
 end_line _ = None
 
 -- a line of this name and these words behind it
 unfoldable pub entry : List ℕ → List (List ℕ) → Option Line
 entry name arguments =
     if bytes_eq name (codes "words") then words_line arguments
+    else if bytes_eq name (codes "sampler") then sampler_line arguments
     else if bytes_eq name (codes "resource") then resource_line arguments
     else if bytes_eq name (codes "scope") then scope_line arguments
     else if bytes_eq name (codes "start") then start_line arguments

@@ -1,59 +1,47 @@
 -- What the lines of a script say together.
-use Rattle.std.specs.Prelude.{ℕ, ◌+◌, ◌-◌, ◌^◌, ◌<◌, ◌≤◌, ◌==◌, nat_lt, Bool, true, false, not, ◌&&◌, ◌||◌, List, [], ◌∷◌, ◌++◌, length, slice_index_or, if◌then◌else◌, Option, Some, None, Result, Ok, Err}
-use Rattle.std.specs.List.{slice_split, list_any}
+use Rattle.std.specs.Prelude.{ℕ, ◌+◌, ◌-◌, ◌^◌, ◌<◌, ◌≤◌, ◌==◌, Bool, true, false, not, ◌&&◌, List, [], ◌∷◌, ◌++◌, length, slice_index_or, if◌then◌else◌, Option, Some, None, is_some, Result, Ok, Err}
+use Rattle.std.specs.List.{slice_split}
 use Rattle.trace_model.specs.Attributes as attributes
 use Rattle.trace_model.specs.Spans as spans
+use Rattle.trace_model.specs.History.{Step}
 use Rattle.span_script.specs.Words.{◌>>=◌}
-use Rattle.span_script.specs.Lines.{Step, Line, start, call, end, words, resource, scope, step, line_of}
+use Rattle.span_script.specs.Lines.{Line, words, sampler, resource, scope, step, line_of}
+use Rattle.span_script.specs.declared.sampler.SamplerName.{SamplerName}
 
 pub record Script : Type 0 where
   -- the words of the generator
   pub words : List ℕ
+  -- the sampler, if one is named
+  pub sampler : Option SamplerName
   -- the attributes that are set on the resource, in order
   pub resource : List attributes.Attribute
   pub scopes : List spans.Scope
   pub steps : List Step
 
 abbrev pub no_script : Script
-no_script = record { words = []; resource = []; scopes = []; steps = [] }
+no_script = record { words = []; sampler = None; resource = []; scopes = []; steps = [] }
 
 -- a resource keeps all of its keys
 abbrev pub all_kept : attributes.Limits
 all_kept = record { count = 2 ^ 32 - 1; length = None }
 
-abbrev pub is_start : Step → Bool
-is_start (start number parent kind at name) = true
-is_start (call span called) = false
-is_start (end span at) = false
-
 abbrev pub no_items : {A : Type 0} → List A → Bool
 no_items [] = true
 no_items (x ∷ xs) = false
 
--- a trace identifier (the first two words) and a span identifier (the third) that are not all zero
-abbrev pub has_ids : List ℕ → Bool
-has_ids (first ∷ second ∷ third ∷ others) = (not (first == 0) || not (second == 0)) && not (third == 0)
-has_ids _ = false
-
--- a start fits where the script has none, and where its scope is there with identifiers for the span
-abbrev pub fits_start : Script → ℕ → Bool
-fits_start s number = not (list_any is_start s.steps) && (not (nat_lt number (length s.scopes)) || has_ids s.words)
-
-abbrev pub fits_step : Script → Step → Bool
-fits_step s (start number parent kind at name) = fits_start s number
-fits_step s (call span called) = true
-fits_step s (end span at) = true
-
--- whether a line may follow those of a script: settings stand before the first step, the one scope has the number 0
+-- Whether a line may follow those of a script: settings stand before the first step, the one scope has the number 0, and
+-- the sampler is named once.
 abbrev pub fits : Script → Line → Bool
 fits s (words ws) = no_items s.steps
+fits s (sampler name) = no_items s.steps && not (is_some s.sampler)
 fits s (resource p) = no_items s.steps
 fits s (scope number x) = no_items s.steps && (no_items s.scopes && number == 0)
-fits s (step x) = fits_step s x
+fits s (step x) = true
 
 -- a script with one more line
 abbrev pub extended : Script → Line → Script
 extended s (words ws) = record s { words = s.words ++ ws }
+extended s (sampler name) = record s { sampler = Some name }
 extended s (resource p) = record s { resource = s.resource ++ p ∷ [] }
 extended s (scope number x) = record s { scopes = s.scopes ++ x ∷ [] }
 extended s (step x) = record s { steps = s.steps ++ x ∷ [] }

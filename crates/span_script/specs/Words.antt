@@ -1,5 +1,5 @@
 -- What the words of a line stand for: a word is a list of bytes without a space.
-use Rattle.std.specs.Prelude.{◌≡◌, ◌≢◌, ◌⊎◌, ◌<◌, ◌++◌, ℕ, ◌+◌, ◌-◌, ◌*◌, ◌^◌, ◌==◌, ◌&&◌, nat_lt, ℤ, pos, neg_ℤ, List, [], ◌∷◌, length, Bool, false, if◌then◌else◌, Option, Some, None, option_map, bytes_eq, codes, Result, Ok, Err}
+use Rattle.std.specs.Prelude.{◌≡◌, ◌≢◌, ◌⊎◌, ◌<◌, ◌++◌, ℕ, ◌+◌, ◌-◌, ◌*◌, ◌^◌, ◌==◌, ◌&&◌, nat_lt, ℤ, pos, neg_ℤ, List, [], ◌∷◌, length, take, drop, position, Bool, false, if◌then◌else◌, Option, Some, None, option_map, bytes_eq, codes, Result, Ok, Err}
 use Rattle.std.specs.Int.{w64, from_be_bytes}
 use Rattle.std.specs.Result.{result_ok}
 use Rattle.std.specs.Str.{IsUtf8, is_utf8, all_ascii_digits}
@@ -36,9 +36,13 @@ signed_number (c ∷ cs) =
     if c == 45 then option_map (λ n. neg_ℤ (pos n)) (number_below (2 ^ 63 + 1) cs)
     else option_map pos (number_below (2 ^ 63) (c ∷ cs))
 
+-- the bytes that hexadecimal digits of either case spell, two digits each, if they are so many
+unfoldable pub hex_bytes : ℕ → List ℕ → Option (List ℕ)
+hex_bytes count word = result_ok (decode_sized word count)
+
 -- sixteen hexadecimal digits: the number of their eight bytes, the most significant first
 unfoldable pub hex_word : List ℕ → Option ℕ
-hex_word word = option_map (from_be_bytes w64) (result_ok (decode_sized word 8))
+hex_word word = option_map (from_be_bytes w64) (hex_bytes 8 word)
 
 -- ---- texts
 
@@ -53,6 +57,11 @@ hex_byte high low = do
   h ← hex_digit_value high
   l ← hex_digit_value low
   Some (h * 16 + l)
+
+-- two hexadecimal digits, and nothing else
+unfoldable pub byte_of : List ℕ → Option ℕ
+byte_of (high ∷ low ∷ []) = hex_byte high low
+byte_of _ = None
 
 -- one more byte in front, if both are spelled
 abbrev pub in_front : Option ℕ → Option (List ℕ) → Option (List ℕ)
@@ -83,6 +92,12 @@ first_byte_of (c ∷ []) = if c == 37 then None else Some (c, [])
 first_byte_of (c ∷ d ∷ []) = if c == 37 then None else Some (c, d ∷ [])
 first_byte_of (c ∷ d ∷ e ∷ rest) =
     if c == 37 then option_map (λ b. (b, rest)) (hex_byte d e) else Some (c, d ∷ e ∷ rest)
+
+-- ---- parts of a word
+
+-- what stands in front of the first colon (58), and what stands behind it, if there is one
+abbrev pub around_colon_of : List ℕ → Option (List ℕ × List ℕ)
+around_colon_of word = option_map (λ i. (take i word, drop (i + 1) word)) (position (λ b. b == 58) word)
 
 -- ---- how a text is spelled
 

@@ -1,15 +1,15 @@
 //! The lines of a script so far, and which line may follow them.
 
-ghost use Rattle.std.specs.Prelude.{◌≡◌, not, string_bytes};
-ghost use Rattle.std.specs.List.{list_any};
+ghost use Rattle.std.specs.Prelude.{◌≡◌, is_some, not, string_bytes};
 ghost use Rattle.trace_model.specs.Attributes.{Attribute};
 ghost use Rattle.otlp_value.specs.Value.{value_view};
 ghost use Rattle.otlp_span.specs.Parts.{scope_view};
-ghost use Rattle.span_script.specs.Lines.{line_view, step_view, words, resource, scope, step};
-ghost use Rattle.span_script.specs.Scripts.{Script, no_items, has_ids, is_start, fits_step, no_script, followed, line_read};
+ghost use Rattle.span_script.specs.Lines.{line_view, step_view, words, sampler, resource, scope, step};
+ghost use Rattle.span_script.specs.Scripts.{Script, no_items, no_script, followed, line_read};
 ghost use Rattle.span_script.specs.Drafts.{Holds, Follows};
 
 use crate::line::{Line, parse_line};
+use crate::sampler::SamplerName;
 use crate::step::Step;
 use crate::words::Fault;
 use otlp_span::Scope;
@@ -21,22 +21,14 @@ use std::alloc::Allocator;
 pub(crate) struct Draft<A: Allocator> {
     /// The words of the generator.
     pub(crate) words: Vec<u64, A>,
+    /// The sampler, if one is named.
+    pub(crate) sampler: Option<SamplerName>,
     /// The attributes of the resource.
     pub(crate) resource: AttributeList<A>,
     /// The scopes.
     pub(crate) scopes: Vec<Scope<A>, A>,
     /// The steps.
     pub(crate) steps: Vec<Step<A>, A>,
-}
-
-/// Whether the first two words and the third are there and valid identifiers: not zero.
-fn has_identifiers(words: &[u64]) -> bool
-    ensures { result ≡ has_ids words.now }
-{
-    match words {
-        [first, second, third, ..] => (*first != 0 || *second != 0) && *third != 0,
-        _ => false,
-    }
 }
 
 impl<A: Allocator + Copy> Draft<A> {
@@ -46,6 +38,7 @@ impl<A: Allocator + Copy> Draft<A> {
     {
         Draft {
             words: Vec::new(alloc),
+            sampler: None,
             resource: AttributeList::new(alloc, Limits { count: u32::MAX }),
             scopes: Vec::new(alloc),
             steps: Vec::new(alloc),
@@ -75,6 +68,7 @@ impl<A: Allocator + Copy> Draft<A> {
     {
         match line {
             Line::Words(words) => self.add_words(words),
+            Line::Sampler(name) => self.set_sampler(name),
             Line::Resource(key, value) => self.add_attribute(key, value),
             Line::Scope {
                 number,
@@ -109,6 +103,18 @@ impl<A: Allocator + Copy> Draft<A> {
         Ok(())
     }
 
+    /// Goes on with the name of the sampler.
+    #[tactic(auto, unfolding(crate::specs::Scripts::followed))]
+    fn set_sampler(&mut self, name: SamplerName) -> Result<(), Fault>
+        ensures { Follows (λ s. followed s (sampler name)) self.old self.new result }
+    {
+        if self.has_steps() || self.has_sampler() {
+            return Err(Fault::Bad);
+        }
+        self.sampler = Some(name);
+        Ok(())
+    }
+
     /// Goes on with an attribute of the resource.
     #[tactic(auto, unfolding(crate::specs::Scripts::followed))]
     fn add_attribute(&mut self, key: String<A>, value: Value<A>) -> Result<(), Fault>
@@ -139,9 +145,6 @@ impl<A: Allocator + Copy> Draft<A> {
     fn add_step(&mut self, more: Step<A>) -> Result<(), Fault>
         ensures { Follows (λ s. followed s (step (step_view more))) self.old self.new result }
     {
-        if !self.fits(&more) {
-            return Err(Fault::Bad);
-        }
         self.steps.push(more)?;
         Ok(())
     }
@@ -153,34 +156,17 @@ impl<A: Allocator + Copy> Draft<A> {
         !self.steps.is_empty()
     }
 
+    /// Whether a sampler is named.
+    fn has_sampler(&self) -> bool
+        ensures { (s : Script) → Holds self.now s → result ≡ is_some s.sampler }
+    {
+        self.sampler.is_some()
+    }
+
     /// Whether a scope is there.
     fn has_scopes(&self) -> bool
         ensures { (s : Script) → Holds self.now s → result ≡ not (no_items s.scopes) }
     {
         !self.scopes.is_empty()
-    }
-
-    /// Whether a step may follow. A start is the only one, and where its scope is there, identifiers are
-    /// there for the span.
-    fn fits(&self, step: &Step<A>) -> bool
-        ensures { (s : Script) → Holds self.now s → result ≡ fits_step s (step_view step.now) }
-    {
-        match step {
-            Step::Start { scope, .. } => {
-                !self.has_start()
-                    && (*scope as usize >= self.scopes.len()
-                        || has_identifiers(self.words.as_slice()))
-            }
-            Step::Call { .. } | Step::End { .. } => true,
-        }
-    }
-
-    /// Whether a step starts a span.
-    fn has_start(&self) -> bool
-        ensures { (s : Script) → Holds self.now s → result ≡ list_any is_start s.steps }
-    {
-        self.steps
-            .iter()
-            .any(|step| matches!(step, Step::Start { .. }))
     }
 }

@@ -3,10 +3,12 @@
 ghost use Rattle.std.specs.Prelude.{◌≡◌, map, ok_or};
 ghost use Rattle.otlp_value.specs.Value.{value_view};
 ghost use Rattle.span_script.specs.Words.{Gives};
-ghost use Rattle.span_script.specs.Lines.{line_view, value_of, parent_of, kind_of, words_line, resource_line, scope_line, start_line, attr_line, end_line, entry, line_of};
+ghost use Rattle.span_script.specs.Lines.{line_view, value_of, kind_of, sampler_of, words_line, sampler_line, resource_line, scope_line, start_line, attr_line, end_line, entry, line_of};
 ghost use Rattle.span_script.specs.declared.words.Fault.TheVariants.{Bad};
 
-use crate::step::{Parent, Step};
+use crate::context::parse_parent;
+use crate::sampler::SamplerName;
+use crate::step::Step;
 use crate::words::{Fault, generator_word, integer, number, parts_of, small_number, text};
 use otlp_span::{Kind, SpanCall};
 use otlp_value::Value;
@@ -18,6 +20,8 @@ use std::str;
 pub(crate) enum Line<A: Allocator> {
     /// Further words of the generator.
     Words(Vec<u64, A>),
+    /// The sampler.
+    Sampler(SamplerName),
     /// An attribute of the resource.
     Resource(String<A>, Value<A>),
     /// A scope without attributes.
@@ -61,6 +65,7 @@ fn parse_entry<A: Allocator + Copy>(
 {
     match name {
         "words" => parse_words(alloc, arguments),
+        "sampler" => parse_sampler(arguments),
         "resource" => parse_resource(alloc, arguments),
         "scope" => parse_scope(alloc, arguments),
         "start" => parse_start(alloc, arguments),
@@ -82,6 +87,17 @@ fn parse_words<A: Allocator>(alloc: A, arguments: &[&[u8]]) -> Result<Line<A>, F
         words.push(generator_word(word)?)?;
     }
     Ok(Line::Words(words))
+}
+
+/// `sampler NAME`
+#[tactic(auto, unfolding(crate::specs::Lines::sampler_line))]
+fn parse_sampler<A: Allocator>(arguments: &[&[u8]]) -> Result<Line<A>, Fault>
+    ensures { Gives line_view result (sampler_line (map (λ w. w.now) arguments.now)) }
+{
+    let [name] = arguments else {
+        return Err(Fault::Bad);
+    };
+    Ok(Line::Sampler(parse_sampler_name(name)?))
 }
 
 /// `resource KEY VALUE`
@@ -119,14 +135,14 @@ fn parse_scope<A: Allocator + Copy>(alloc: A, arguments: &[&[u8]]) -> Result<Lin
 
 /// `start SCOPE PARENT KIND AT NAME`
 #[tactic(auto, unfolding(crate::specs::Lines::start_line))]
-fn parse_start<A: Allocator>(alloc: A, arguments: &[&[u8]]) -> Result<Line<A>, Fault>
+fn parse_start<A: Allocator + Copy>(alloc: A, arguments: &[&[u8]]) -> Result<Line<A>, Fault>
     ensures { Gives line_view result (start_line (map (λ w. w.now) arguments.now)) }
 {
     let [scope, parent, kind, at, name] = arguments else {
         return Err(Fault::Bad);
     };
     let scope = small_number(scope)?;
-    let parent = parse_parent(parent)?;
+    let parent = parse_parent(alloc, parent)?;
     let kind = parse_kind(kind)?;
     let at = number(at)?;
     let name = text(alloc, name)?;
@@ -169,24 +185,30 @@ fn parse_end<A: Allocator>(arguments: &[&[u8]]) -> Result<Line<A>, Fault>
     Ok(Line::Step(Step::End { span, at }))
 }
 
-/// `root`
-#[tactic(auto, unfolding(crate::specs::Lines::parent_of))]
-fn parse_parent(word: &[u8]) -> Result<Parent, Fault>
-    ensures { result ≡ ok_or (parent_of word.now) Bad }
-{
-    match word {
-        b"root" => Ok(Parent::Root),
-        _ => Err(Fault::Bad),
-    }
-}
-
-/// `internal`
+/// `internal`, `server`, `client`, `producer` or `consumer`
 #[tactic(auto, unfolding(crate::specs::Lines::kind_of))]
 fn parse_kind(word: &[u8]) -> Result<Kind, Fault>
     ensures { result ≡ ok_or (kind_of word.now) Bad }
 {
     match word {
         b"internal" => Ok(Kind::Internal),
+        b"server" => Ok(Kind::Server),
+        b"client" => Ok(Kind::Client),
+        b"producer" => Ok(Kind::Producer),
+        b"consumer" => Ok(Kind::Consumer),
+        _ => Err(Fault::Bad),
+    }
+}
+
+/// `on`, `off` or `parent`
+#[tactic(auto, unfolding(crate::specs::Lines::sampler_of))]
+fn parse_sampler_name(word: &[u8]) -> Result<SamplerName, Fault>
+    ensures { result ≡ ok_or (sampler_of word.now) Bad }
+{
+    match word {
+        b"on" => Ok(SamplerName::AlwaysOn),
+        b"off" => Ok(SamplerName::AlwaysOff),
+        b"parent" => Ok(SamplerName::ParentBased),
         _ => Err(Fault::Bad),
     }
 }

@@ -1,11 +1,12 @@
 //! A whole script.
 
-ghost use Rattle.std.specs.Prelude.{◌≡◌, ◌≤◌, All, IfErr, IfOk, count_by, length};
+ghost use Rattle.std.specs.Prelude.{◌≤◌, IfErr, IfOk, length};
 ghost use Rattle.span_script.specs.Scripts.{Script as ScriptRead, script_read};
 ghost use Rattle.span_script.specs.Drafts.{Holds};
-ghost use Rattle.span_script.specs.Parsed.{Means, Parses, TellsLine, starts_span, HasIdentifiers};
+ghost use Rattle.span_script.specs.Parsed.{Means, Parses, TellsLine};
 
 use crate::draft::Draft;
+use crate::sampler::SamplerName;
 use crate::step::Step;
 use crate::words::{Fault, parts_of};
 use otlp_span::Scope;
@@ -18,6 +19,8 @@ use thiserror::Error;
 pub struct Script<A: Allocator = Global> {
     /// The words of the generator of identifiers, in order. After the last one all are 0.
     pub words: Vec<u64, A>,
+    /// The sampler of all spans: `AlwaysOn` where none is named.
+    pub sampler: SamplerName,
     /// The attributes of the resource, with distinct keys, in the order in which these were first set.
     pub resource: Vec<(String<A>, Value<A>), A>,
     /// The scopes, under their numbers.
@@ -38,24 +41,19 @@ pub enum ScriptError {
 }
 
 impl<A: Allocator + Copy> Script<A> {
-    /// Reads a script. Where a step starts a span in a scope that is there, the first two words are a
-    /// valid trace identifier and the third is a valid span identifier, as they stand (W3C Trace Context,
-    /// "trace-id" and "parent-id").
+    /// Reads a script.
     ///
     /// # Errors
     ///
     /// `BadLine` where a line is bad by itself or may not stand where it does: a setting behind a step, a
-    /// second scope or one with another number than 0, a second start, or a start in the scope without
-    /// identifiers. `OutOfMemory` where memory was refused.
+    /// second sampler, a second scope or one with another number than 0. `OutOfMemory` where memory was
+    /// refused.
     pub fn parse(alloc: A, text: &[u8]) -> Result<Script<A>, ScriptError>
         // What the lines say, or the first bad one.
         ensures exact { Parses result (script_read text.now) }
         ensures numbered { IfErr result (TellsLine text.now) }
         // What a runner may count on.
         ensures one_scope { IfOk result (λ script. length script.scopes.items ≤ 1) }
-        ensures one_start { IfOk result (λ script. count_by starts_span script.steps.items ≤ 1) }
-        ensures identifiers { IfOk result (λ script.
-            All (HasIdentifiers script.words.items (length script.scopes.items)) script.steps.items) }
     {
         let Ok(lines) = parts_of(alloc, text, b'\n') else {
             return Err(ScriptError::OutOfMemory);
@@ -77,12 +75,14 @@ impl<A: Allocator + Copy> Script<A> {
     {
         let Draft {
             words,
+            sampler,
             resource,
             scopes,
             steps,
         } = draft;
         Script {
             words,
+            sampler: sampler.unwrap_or(SamplerName::AlwaysOn),
             resource: resource.into_pairs(),
             scopes,
             steps,

@@ -1,13 +1,19 @@
 //! The steps of a script.
 
+use otlp_ids::SpanContext;
 use otlp_span::{Kind, SpanCall};
 use std::alloc::{Allocator, Global};
 
 /// The parent of a span that a script starts.
-#[derive(Debug, Clone, Copy, PartialEq, Eq)]
-pub enum Parent {
+#[derive(Drop)]
+#[derive_where(Debug, PartialEq, Eq)]
+pub enum Parent<A: Allocator = Global> {
     /// None: the span is the root of a trace.
     Root,
+    /// The span with this number, which need not be there.
+    Span(u32),
+    /// A span of elsewhere: of another process where the context is remote. The context may be invalid.
+    Given(SpanContext<A>),
 }
 
 /// A step of a script.
@@ -18,7 +24,7 @@ pub enum Step<A: Allocator = Global> {
         /// The number of the scope that makes the span, which need not be there.
         scope: u32,
         /// The parent of the span.
-        parent: Parent,
+        parent: Parent<A>,
         /// What the span is to the spans round it.
         kind: Kind,
         /// When the span starts, in nanoseconds since 1970.

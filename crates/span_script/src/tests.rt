@@ -1,18 +1,28 @@
-use crate::{Script, ScriptError, Step};
+use crate::{Parent, SamplerName, Script, ScriptError, Step};
 use linked_list_allocator::LocalHeap;
+use otlp_ids::{SpanContext, SpanId, TraceFlags, TraceId};
 use otlp_span::SpanCall;
 use std::alloc::{AllocError, Allocator, Global};
 use std::fmt::Write;
+use std::process::Abort;
 use std::test::Fail;
 
 const EXAMPLE: &str =
-    "words 0102030405060708 090a0b0c0d0e0f10 1112131415161718\nscope 0 s % %\nstart 0 root internal 1 a\nattr 0 a t:%\nend 0 2\n";
+    "words 0102030405060708 090a0b0c0d0e0f10 1112131415161718\nsampler parent\nscope 0 s % %\nstart 0 root internal 1 a\nattr 0 a t:%\nend 0 2\n";
+
+/// Two starts, the second one with a parent of another process.
+const REMOTE: &str =
+    "start 0 root server 1 a\nstart 0 remote:0102030405060708090A0b0c0d0e0f10:1112131415161718:aB:k=v:w client 2 b\n";
 
 /// A script, a line for each of its parts.
 fn shown<A: Allocator>(alloc: Global, script: &Script<A>) -> Result<String, AllocError> {
     let mut out = String::new(alloc);
     for word in &script.words {
         writeln!(out, "words {word:016x}")?;
+    }
+    if script.sampler != SamplerName::AlwaysOn {
+        let sampler = script.sampler;
+        writeln!(out, "sampler {sampler:?}")?;
     }
     for (key, value) in &script.resource {
         let key = key.as_str();
@@ -29,12 +39,16 @@ fn shown<A: Allocator>(alloc: Global, script: &Script<A>) -> Result<String, Allo
         )?;
     }
     for step in &script.steps {
-        show_step(&mut out, step)?;
+        show_step(alloc, &mut out, step)?;
     }
     Ok(out)
 }
 
-fn show_step<A: Allocator>(out: &mut String, step: &Step<A>) -> Result<(), AllocError> {
+fn show_step<A: Allocator>(
+    alloc: Global,
+    out: &mut String,
+    step: &Step<A>,
+) -> Result<(), AllocError> {
     match step {
         Step::Start {
             scope,
@@ -43,8 +57,10 @@ fn show_step<A: Allocator>(out: &mut String, step: &Step<A>) -> Result<(), Alloc
             at,
             name,
         } => {
+            write!(out, "start {scope} ")?;
+            show_parent(alloc, out, parent)?;
             let name = name.as_str();
-            writeln!(out, "start {scope} {parent:?} {kind:?} {at} {name:?}")
+            writeln!(out, " {kind:?} {at} {name:?}")
         }
         Step::Call {
             span,
@@ -55,6 +71,25 @@ fn show_step<A: Allocator>(out: &mut String, step: &Step<A>) -> Result<(), Alloc
         }
         Step::Call { span, .. } => writeln!(out, "call {span}"),
         Step::End { span, at } => writeln!(out, "end {span} {at}"),
+    }
+}
+
+fn show_parent<A: Allocator>(
+    alloc: Global,
+    out: &mut String,
+    parent: &Parent<A>,
+) -> Result<(), AllocError> {
+    match parent {
+        Parent::Root => write!(out, "root"),
+        Parent::Span(number) => write!(out, "{number}"),
+        Parent::Given(context) => {
+            let side = if context.remote { "remote" } else { "local" };
+            let trace = hex::encode(alloc, context.trace.0.as_slice())?;
+            let span = hex::encode(alloc, context.span.0.as_slice())?;
+            let flags = context.flags.0;
+            let state = context.state.as_str();
+            write!(out, "{side} {trace} {span} {flags:02x} {state:?}")
+        }
     }
 }
 
@@ -86,16 +121,35 @@ fn reads_scripts(rt: HostRuntime) -> Result<(), Fail> {
         // A step may name a scope or a span that isn't there.
         (
             "start 7 root internal 18446744073709551615 caf%c3%a9\nend 4294967295 0\nattr 9 k i:0\n",
-            "start 7 Root Internal 18446744073709551615 \"café\"\nend 4294967295 0\nattr 9 \"k\" Int(0)\n",
+            "start 7 root Internal 18446744073709551615 \"café\"\nend 4294967295 0\nattr 9 \"k\" Int(0)\n",
         ),
         (
             EXAMPLE,
-            "words 0102030405060708\nwords 090a0b0c0d0e0f10\nwords 1112131415161718\nscope \"s\" \"\" \"\" 0\nstart 0 Root Internal 1 \"a\"\nattr 0 \"a\" Text(\"\")\nend 0 2\n",
+            "words 0102030405060708\nwords 090a0b0c0d0e0f10\nwords 1112131415161718\nsampler ParentBased\nscope \"s\" \"\" \"\" 0\nstart 0 root Internal 1 \"a\"\nattr 0 \"a\" Text(\"\")\nend 0 2\n",
         ),
-        // One of the first two words may be zero.
+        // Any number of starts, with or without words, of all kinds.
         (
-            "words 0000000000000000 0000000000000001 0000000000000001\nscope 0 % % %\nstart 0 root internal 0 a",
-            "words 0000000000000000\nwords 0000000000000001\nwords 0000000000000001\nscope \"\" \"\" \"\" 0\nstart 0 Root Internal 0 \"a\"\n",
+            "start 0 root internal 1 a\nstart 0 root server 2 b\nstart 1 0 client 3 c\nstart 0 4294967295 producer 4 d\nstart 0 007 consumer 5 e",
+            "start 0 root Internal 1 \"a\"\nstart 0 root Server 2 \"b\"\nstart 1 0 Client 3 \"c\"\nstart 0 4294967295 Producer 4 \"d\"\nstart 0 7 Consumer 5 \"e\"\n",
+        ),
+        // Samplers.
+        ("sampler on\n", ""),
+        (
+            "\nsampler off\nwords 0000000000000001",
+            "words 0000000000000001\nsampler AlwaysOff\n",
+        ),
+        // Parents of elsewhere: further colons belong to the state, and identifiers may be zero.
+        (
+            REMOTE,
+            "start 0 root Server 1 \"a\"\nstart 0 remote 0102030405060708090a0b0c0d0e0f10 1112131415161718 ab \"k=v:w\" Client 2 \"b\"\n",
+        ),
+        (
+            "start 0 local:00000000000000000000000000000000:0000000000000000:00:% internal 1 a\n",
+            "start 0 local 00000000000000000000000000000000 0000000000000000 00 \"\" Internal 1 \"a\"\n",
+        ),
+        (
+            "start 0 local:FFFFFFFFFFFFFFFFFFFFFFFFFFFFFFFF:FFFFFFFFFFFFFFFF:FF::%3a%20: internal 1 a\n",
+            "start 0 local ffffffffffffffffffffffffffffffff ffffffffffffffff ff \":: :\" Internal 1 \"a\"\n",
         ),
     ] {
         let script = Script::parse(alloc, text.as_bytes())?;
@@ -124,7 +178,7 @@ fn tells_the_first_bad_line(rt: HostRuntime) {
     let alloc = rt.alloc();
     for (text, line) in [
         // The line by its name and its words.
-        ("sampler on", 1),
+        ("samplers on", 1),
         ("Words 0102030405060708", 1),
         ("\n\nend 0 1 \nnonsense", 3),
         (" end 0 1", 1),
@@ -171,8 +225,27 @@ fn tells_the_first_bad_line(rt: HostRuntime) {
         ("attr 0 a t:%ff", 1),
         ("attr 0 a t:%ed%a0%80", 1),
         // Parents and kinds.
-        ("start 0 0 internal 1 a", 1),
-        ("start 0 root server 1 a", 1),
+        ("start 0 Root internal 1 a", 1),
+        ("start 0 -1 internal 1 a", 1),
+        (
+            "start 0 4294967295 internal 1 a\nstart 0 4294967296 internal 1 a",
+            2,
+        ),
+        ("start 0 root: internal 1 a", 1),
+        ("start 0 0: internal 1 a", 1),
+        ("start 0 : internal 1 a", 1),
+        ("start 0 remote internal 1 a", 1),
+        ("start 0 root Internal 1 a", 1),
+        ("start 0 root unspecified 1 a", 1),
+        // Samplers.
+        ("sampler", 1),
+        ("sampler ", 1),
+        ("sampler On", 1),
+        ("sampler always_on", 1),
+        ("sampler on on", 1),
+        ("sampler on\nsampler on", 2),
+        ("sampler on\nsampler off", 2),
+        ("end 0 1\nsampler parent", 2),
         // The order of the lines.
         ("end 0 1\nwords 0102030405060708", 2),
         ("end 0 1\n\nresource a i:1", 3),
@@ -180,21 +253,6 @@ fn tells_the_first_bad_line(rt: HostRuntime) {
         ("scope 1 s % %", 1),
         ("scope 0 s % %\nscope 1 t % %", 2),
         ("scope 0 s % %\nscope 0 t % %", 2),
-        ("start 0 root internal 1 a\nstart 0 root internal 1 a", 2),
-        // Identifiers.
-        ("scope 0 s % %\nstart 0 root internal 1 a", 2),
-        (
-            "words 0102030405060708 090a0b0c0d0e0f10\nscope 0 s % %\nstart 0 root internal 1 a",
-            3,
-        ),
-        (
-            "words 0000000000000000 0000000000000000 0000000000000001\nscope 0 s % %\nstart 0 root internal 1 a",
-            3,
-        ),
-        (
-            "words 0000000000000001 0000000000000000 0000000000000000\nscope 0 s % %\nstart 0 root internal 1 a",
-            3,
-        ),
     ] {
         assert_eq!(rt;
             Script::parse(alloc, text.as_bytes()).err(),
@@ -202,6 +260,70 @@ fn tells_the_first_bad_line(rt: HostRuntime) {
             "{text:?}"
         );
     }
+}
+
+#[test]
+fn tells_bad_contexts(rt: HostRuntime) -> Result<(), Fail> {
+    let alloc = rt.alloc();
+    for parent in [
+        "remote:",
+        "remote:::",
+        "remote::::%",
+        // One part is missing, or empty.
+        "remote:0102030405060708090a0b0c0d0e0f10:1112131415161718:01",
+        "remote:0102030405060708090a0b0c0d0e0f10:1112131415161718:01:",
+        "remote:0102030405060708090a0b0c0d0e0f10:1112131415161718::%",
+        "0102030405060708090a0b0c0d0e0f10:1112131415161718:01:%",
+        ":0102030405060708090a0b0c0d0e0f10:1112131415161718:01:%",
+        "Remote:0102030405060708090a0b0c0d0e0f10:1112131415161718:01:%",
+        // Too few digits, too many, or a bad one.
+        "local:0102030405060708090a0b0c0d0e0f1:1112131415161718:01:%",
+        "local:0102030405060708090a0b0c0d0e0f100:1112131415161718:01:%",
+        "local:0102030405060708090a0b0c0d0e0f1g:1112131415161718:01:%",
+        "local:0102030405060708090a0b0c0d0e0fé:1112131415161718:01:%",
+        "local:0102030405060708090a0b0c0d0e0f10:111213141516171:01:%",
+        "local:0102030405060708090a0b0c0d0e0f10:11121314151617189:01:%",
+        "local:0102030405060708090a0b0c0d0e0f10:-112131415161718:01:%",
+        "local:0102030405060708090a0b0c0d0e0f10:1112131415161718:1:%",
+        "local:0102030405060708090a0b0c0d0e0f10:1112131415161718:001:%",
+        "local:0102030405060708090a0b0c0d0e0f10:1112131415161718:0x:%",
+        // The state is no text.
+        "local:0102030405060708090a0b0c0d0e0f10:1112131415161718:01:%zz",
+        "local:0102030405060708090a0b0c0d0e0f10:1112131415161718:01:a%",
+        "local:0102030405060708090a0b0c0d0e0f10:1112131415161718:01:%ff",
+    ] {
+        let text = format!(in alloc; "\nstart 0 {parent} internal 1 a\n")?;
+        assert_eq!(rt;
+            Script::parse(alloc, text.as_bytes()).err(),
+            Some(ScriptError::BadLine(2)),
+            "{parent}"
+        );
+    }
+    Ok(())
+}
+
+#[test]
+fn gives_the_context_of_a_parent(rt: HostRuntime) -> Result<(), Fail> {
+    let alloc = rt.alloc();
+    let script = Script::parse(alloc, REMOTE.as_bytes())?;
+    assert_eq!(rt; script.sampler, SamplerName::AlwaysOn);
+    let [
+        Step::Start { parent: root, .. },
+        Step::Start { parent: remote, .. },
+    ] = script.steps.as_slice()
+    else {
+        return Err(Fail::from("two starts"));
+    };
+    assert_eq!(rt; root, &Parent::Root);
+    let context = SpanContext {
+        trace: TraceId([1, 2, 3, 4, 5, 6, 7, 8, 9, 10, 11, 12, 13, 14, 15, 16]),
+        span: SpanId([17, 18, 19, 20, 21, 22, 23, 24]),
+        flags: TraceFlags(0xab),
+        remote: true,
+        state: String::from_str(alloc, "k=v:w")?,
+    };
+    assert_eq!(rt; remote, &Parent::Given(context));
+    Ok(())
 }
 
 #[test]
@@ -217,16 +339,15 @@ fn prints_errors(rt: HostRuntime) -> Result<(), Fail> {
     Ok(())
 }
 
-#[test]
-fn is_refused_memory(rt: HostRuntime) -> Result<(), Fail> {
-    let alloc = rt.alloc();
-    let whole = Script::parse(alloc, EXAMPLE.as_bytes())?;
+/// Parses the text on heaps of growing size: the script is the same, or memory is refused.
+fn is_refused(rt: &impl Abort, alloc: Global, text: &str) -> Result<(), Fail> {
+    let whole = Script::parse(alloc, text.as_bytes())?;
     let want = shown(alloc, &whole)?;
     let mut refused = 0u64;
     let mut read = 0u64;
     for size in 0..4000usize {
         let heap = LocalHeap::new(alloc, size)?;
-        match Script::parse(&heap, EXAMPLE.as_bytes()) {
+        match Script::parse(&heap, text.as_bytes()) {
             Ok(script) => {
                 assert_eq!(rt; shown(alloc, &script)?.as_str(), want.as_str(), "{size}");
                 read = read.saturating_add(1);
@@ -240,4 +361,10 @@ fn is_refused_memory(rt: HostRuntime) -> Result<(), Fail> {
     assert!(rt; refused > 100, "{refused}");
     assert!(rt; read > 100, "{read}");
     Ok(())
+}
+
+#[test]
+fn is_refused_memory(rt: HostRuntime) -> Result<(), Fail> {
+    is_refused(&rt, rt.alloc(), EXAMPLE)?;
+    is_refused(&rt, rt.alloc(), REMOTE)
 }

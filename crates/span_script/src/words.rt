@@ -1,7 +1,7 @@
-//! The words of a line: numbers, words of the generator, and texts.
+//! The words of a line: numbers, hexadecimal digits, and texts.
 
 ghost use Rattle.std.specs.Prelude.{List, ℕ, ◌≡◌, ◌^◌, ◌==◌, map, IfOk, option_map, ok_or, string_bytes};
-ghost use Rattle.span_script.specs.Words.{Gives, number_below, signed_number, hex_word, hex_byte, first_byte_of, bytes_of, utf8_of, text_of, SpellsText};
+ghost use Rattle.span_script.specs.Words.{Gives, number_below, signed_number, hex_word, hex_byte, byte_of, around_colon_of, first_byte_of, bytes_of, utf8_of, text_of, SpellsText};
 ghost use Rattle.std.specs.List.{slice_split};
 ghost use Rattle.std.specs.Str.{all_ascii_digits};
 ghost use Rattle.span_script.specs.declared.words.Fault.TheVariants.{Bad, OutOfMemory};
@@ -97,7 +97,7 @@ pub(crate) fn integer(word: &[u8]) -> Result<i64, Fault>
 }
 
 /// A word of the generator: sixteen hexadecimal digits of either case, the most significant first.
-#[tactic(auto, unfolding(crate::specs::Words::hex_word))]
+#[tactic(auto, unfolding(crate::specs::Words::hex_word, crate::specs::Words::hex_bytes))]
 pub(crate) fn generator_word(word: &[u8]) -> Result<u64, Fault>
     ensures { result ≡ ok_or (hex_word word.now) Bad }
 {
@@ -113,6 +113,25 @@ fn escaped_byte(high: u8, low: u8) -> Option<u8>
 {
     let [byte] = <[u8; 1]>::from_hex([high, low]).ok()?;
     Some(byte)
+}
+
+/// A byte: two hexadecimal digits of either case.
+#[tactic(auto, unfolding(crate::specs::Words::byte_of))]
+pub(crate) fn byte(word: &[u8]) -> Result<u8, Fault>
+    ensures { result ≡ ok_or (byte_of word.now) Bad }
+{
+    match word {
+        [high, low] => escaped_byte(*high, *low).ok_or(Fault::Bad),
+        _ => Err(Fault::Bad),
+    }
+}
+
+/// What stands in front of the first colon of a word, and what stands behind it.
+pub(crate) fn around_colon(word: &[u8]) -> Option<(&[u8], &[u8])>
+    ensures { option_map (λ p. (p.0.now, p.1.now)) result ≡ around_colon_of word.now }
+{
+    let colon = word.iter().position(|byte| *byte == b':')?;
+    Some((&word[..colon], &word[colon + 1..]))
 }
 
 /// The first byte that a word spells, and the word behind its spelling.

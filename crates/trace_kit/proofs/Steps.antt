@@ -1,206 +1,497 @@
--- What the steps of a script make of what a recorder holds.
-use Rattle.std.proofs.Common.{◌≡◌, refl, sym, ap, ◌∙◌, ℕ, ◌≤◌, length, List, [], ◌∷◌, ◌++◌, map, append_assoc, append-nil, cond, Bool, true, false, not, ◌||◌, Option, Some, None, arith, filter_map}
-use Rattle.std.specs.List.{slice_get, list_any, count_by}
+-- What a step of a script makes of what a recorder holds.
+use Rattle.std.proofs.Common.{◌≡◌, refl, sym, ap, ◌∙◌, ℕ, zero, suc, ◌+◌, ◌<◌, ◌≤◌, ◌==◌, nat_lt, length, List, [], ◌∷◌, ◌++◌, map, drop, append_assoc, cond, Bool, true, false, true≢false, not, if◌then◌else◌, ◌&&◌, ◌||◌, Option, Some, None, option_map, slice_get, slice_index, arith, add-zero, zero-add, add-one, take, ◌⊎◌, filter_map, get_or, ⊎_elim, inl, inr}
+use mathlib.Core.Path.{fun_ext}
+use mir.Val.{bool_byte}
+use Rattle.std.specs.List.{list_any, slice_set, sum_by, AllByRecursion}
 use Rattle.std.specs.Option.{option_to_list}
-use Rattle.std.proofs.lemmas.Option.{slice_get-map, slice_get_past}
-use Rattle.std.proofs.lemmas.List.Sums.{take_while-cons, sum_by-cons}
-use Rattle.trace_model.specs.Spans.{Call, Context, Scope, Kind, Start, Recording, EndedSpan, Records, Adds, Ends, is_end, live, span}
-use Rattle.trace_model.specs.Spans as model
-use Rattle.trace_model.proofs.Calls.{span-behind}
-use Rattle.otlp_span.specs.Parts.{span_limits}
-use Rattle.span_script.specs.Lines.{Step, start, call, end, step_view}
-use Rattle.span_script.specs.Parsed.{starts_span}
-use Rattle.span_script.specs.declared.step.Step.{Step as CodeStep}
-use Rattle.span_script.specs.declared.step.Step.TheVariants as code
+use Rattle.std.proofs.lemmas.List.{append-nil, length_push, length-set, get_or-drop}
+use Rattle.std.proofs.lemmas.List.Sums.{sum_by_push, take_while-cons}
+use Rattle.std.proofs.lemmas.Bool.{lt-ltb, ltb-true, ltb-false, eqb-true, eq-eqb}
+use Rattle.std.proofs.lemmas.Option.{slice_get-map, slice_get_past, slice_get_within}
+use Rattle.rand_core.specs.Stream.{next_u64}
+use Rattle.rand_core.specs.Steps.{steps_u64_high, stream_of}
+use Rattle.rand_core.proofs.StepsLemmas.{next_u64-stream_of}
+use Rattle.std.proofs.Math.Seq.{drop-nil}
+use Rattle.trace_model.specs.Identifiers.{Words, has_sampled_flag, words_after}
+use Rattle.trace_model.specs.Sampling.{Decision, drop as dropped, record_only, record_and_sample, is_recording, is_sampled}
+use Rattle.trace_model.specs.Spans.{Call, Context, Scope, Kind, Resource, Span, Recording, Records, Ends, EndedSpan, end, end_of, is_end, live, span}
+use Rattle.trace_model.specs.Starts.{Tracer, Provider, HeldSpan, SpanState, Started, Does, recording, not_recording, ended, held, state_after, exported, asked, started, ids_words}
+use Rattle.trace_model.specs.History.{Parent, Step, Setup, Outcome, root, numbered, given, start, call, no_span, outcome, outcome_in, outcomes_behind, outcomes, parent_of, words_left, calls_on, call_on, ended_spans, exported_of, starts}
+use Rattle.trace_model.proofs.Histories.{starts-append, outcomes-call, outcomes-start, outcomes-many, calls-more, calls-past, calls-first, ended-start, ended-no-more, ended-more, outcome-has-flag, IsPlaced}
+use Rattle.otlp_span.specs.Parts.{scope_view}
+use Rattle.span_script.specs.Lines.{step_view}
 use Rattle.span_script.specs.Scripts.{Script}
-use Rattle.span_script.specs.declared.step.Parent.{Parent}
-use Rattle.trace_kit.specs.Recorded.{call_of, context_of, resource_of, ended, ended_in, ended_of}
-use Rattle.trace_kit.specs.Recorder.{NoStart, OneStart, IsOpen, IsDone, Stands}
+use Rattle.span_script.specs.Parsed.{Means}
+use Rattle.span_script.specs.declared.script.Script.{Script as CodeScript}
+use Rattle.trace_kit.specs.Group.{SharePlace}
+use Rattle.trace_kit.proofs.Writing.{through-index}
+use Rattle.otlp_ids.specs.WordStream.{after_words, words_of}
+use Rattle.trace_api.specs.Pass.{Body, Admits, has_room, with_span}
+use Rattle.trace_api.specs.Calls.{EndsTo, EndsRecording, Asks, Says}
+use Rattle.trace_api.specs.declared.pass.Ended.{Ended}
+use Rattle.trace_api.specs.declared.pass.Ended.TheVariants.{AlreadyEnded}
+use Rattle.trace_kit.specs.Words.{next, stream}
+use Rattle.trace_kit.specs.Recorded.{words_of_list, spans_of}
+use Rattle.trace_api.specs.Starts.{ProviderWith, TracerWith, tracer_view}
+use Rattle.trace_kit.specs.declared.sampler.ScriptSampler.{ScriptSampler}
+use Rattle.trace_kit.specs.declared.recorder.Recorder.{Recorder}
+use Rattle.trace_kit.specs.Recorder.{tracers_of, Applies, ComesTo, Passes, Stands, begins, setup_view, span_after, context_in, parent_in, meaning}
 
--- ---- no start
+-- ---- words
 
-none-ended : (s : Script) (later : List Step) → NoStart later → ended_of s later ≡ []
-none-ended s [] h = refl
-none-ended s (start n p k at name ∷ later) h = absurd h
-none-ended s (call n c ∷ later) h = none-ended s later h
-none-ended s (end n at ∷ later) h = none-ended s later h
+drop-next : (n : ℕ) (ws : List ℕ) → drop 1 (drop n ws) ≡ drop (suc n) ws
+drop-next zero ws = refl
+drop-next (suc n) [] = rw drop-nil refl
+drop-next (suc n) (w ∷ ws) = drop-next n ws
 
-one-of-none : (later : List Step) → NoStart later → OneStart later
-one-of-none [] h = tt
-one-of-none (start n p k at name ∷ later) h = absurd h
-one-of-none (call n c ∷ later) h = one-of-none later h
-one-of-none (end n at ∷ later) h = one-of-none later h
+words-behind : (ws : List ℕ) (n : ℕ) → after_words n (stream ws) ≡ stream (drop n ws)
+unfolding after_words next_u64 stream_of
+words-behind ws zero = refl
+words-behind ws (suc n) = ap (λ t. (next_u64 t).1) (words-behind ws n) ∙ ap (λ p. p.1) (next_u64-stream_of (steps_u64_high next) (drop n ws)) ∙ ap stream (drop-next n ws)
 
--- a start that comes to nothing
-pub start-missed : (s : Script) (r : Option Recording) (e : Option EndedSpan) (n : ℕ) (p : Parent) (k : Kind) (at : ℕ) (name : List ℕ) (later : List Step) (spans : List EndedSpan) →
-    ended_in s (slice_get s.scopes n) (context_of s.words) k at name (filter_map call_of later) ≡ [] →
-    Stands s r e (start n p k at name ∷ later) spans → Stands s r e later spans
-start-missed s None None n p k at name later spans m h = record { one = one-of-none later h.one; spans_are = h.spans_are ∙ m ∙ sym (none-ended s later h.one) }
-start-missed s (Some r) None n p k at name later spans m h = absurd h.alone
-start-missed s None (Some e) n p k at name later spans m h = absurd h.alone
-start-missed s (Some r) (Some e) n p k at name later spans m h = absurd h
+pub words-are : (ws : List ℕ) → words_of (stream ws) ≡ words_of_list ws
+unfolding words_of next_u64 stream_of
+words-are ws = fun_ext (λ n. ap (λ t. (next_u64 t).0) (words-behind ws n) ∙ get_or-drop n ws 0 0 ∙ ap (λ i. get_or ws i 0) (add-zero n))
 
-pub no-scope : (s : Script) (c : Option Context) (k : Kind) (at : ℕ) (name : List ℕ) (calls : List Call) → ended_in s None c k at name calls ≡ []
-no-scope s c k at name calls = refl
+pub words-push : (os : List Outcome) (o : Outcome) (words : Words) → words_after o.spent (words_after (sum_by (λ o. o.spent) os) words) ≡ words_after (sum_by (λ o. o.spent) (os ++ o ∷ [])) words
+words-push os o words = fun_ext (λ k. ap words (let e = sum_by_push (λ o. o.spent) os o in let f : sum_by (λ o. o.spent) os + (o.spent + k) ≡ sum_by (λ o. o.spent) (os ++ o ∷ []) + k = omega (arith, e) in f))
 
--- what has opened
-pub start-opened : (s : Script) (r : Option Recording) (e : Option EndedSpan) (n : ℕ) (p : Parent) (k : Kind) (at : ℕ) (name : List ℕ) (later : List Step) (spans : List EndedSpan)
-    (x : Recording) (context : Context) → slice_get s.scopes n ≡ Some x.scope → context_of s.words ≡ Some context →
-    x.limits ≡ span_limits 128 None → x.resource ≡ resource_of s → Records x (record { context = context; parent = None; name = name; kind = k; at = at }) [] →
-    Stands s r e (start n p k at name ∷ later) spans → Stands s (Some x) e later spans
-start-opened s None None n p k at name later spans x context sc cx l rs rec h = record {
-  begin = record { context = context; parent = None; name = name; kind = k; at = at };
-  calls = [];
-  limits = l;
-  resource = rs;
-  value = rec;
-  alone = h.one;
-  spans_are = h.spans_are ∙ rw (sc, cx) refl;
-}
-start-opened s (Some r) None n p k at name later spans x context sc cx l rs rec h = absurd h.alone
-start-opened s None (Some e) n p k at name later spans x context sc cx l rs rec h = absurd h.alone
-start-opened s (Some r) (Some e) n p k at name later spans x context sc cx l rs rec h = absurd h
+-- ---- spans
 
--- ---- calls
+-- the spans of these outcomes after their calls
+abbrev pub AreAfter : (ℕ → List Call) → List Outcome → List (Option HeldSpan) → Type 0
+AreAfter calls os spans = (n : ℕ) → slice_get spans n ≡ option_map (span_after (calls n)) (slice_get os n)
 
--- a step that is no start
-abbrev NotStart : Step → Type 0
-NotStart (start n p k at name) = ⊥
-NotStart (call n c) = Unit {0}
-NotStart (end n at) = Unit {0}
-
--- a step that makes no call that counts
-pub passed-by : (s : Script) (r : Option Recording) (e : Option EndedSpan) (x : Step) (later : List Step) (spans : List EndedSpan) → NotStart x →
-    call_of x ≡ None → Stands s r e (x ∷ later) spans → Stands s r e later spans
-passed-by s r e (start n p k at name) later spans i m h = absurd i
-passed-by s None None (call n c) later spans i m h = record { one = h.one; spans_are = h.spans_are }
-passed-by s None None (end n c) later spans i m h = record { one = h.one; spans_are = h.spans_are }
-passed-by s (Some r) None (call n c) later spans i m h = record { begin = h.begin; calls = h.calls; limits = h.limits; resource = h.resource; value = h.value; alone = h.alone; spans_are = h.spans_are ∙ rw m refl }
-passed-by s (Some r) None (end n c) later spans i m h = record { begin = h.begin; calls = h.calls; limits = h.limits; resource = h.resource; value = h.value; alone = h.alone; spans_are = h.spans_are ∙ rw m refl }
-passed-by s None (Some e) (call n c) later spans i m h = record { alone = h.alone; spans_are = h.spans_are }
-passed-by s None (Some e) (end n c) later spans i m h = record { alone = h.alone; spans_are = h.spans_are }
-passed-by s (Some r) (Some e) (call n c) later spans i m h = absurd h
-passed-by s (Some r) (Some e) (end n c) later spans i m h = absurd h
-
--- a step on nothing that is recorded
-pub not-recording : (s : Script) (e : Option EndedSpan) (x : Step) (later : List Step) (spans : List EndedSpan) → NotStart x → Stands s None e (x ∷ later) spans → Stands s None e later spans
-not-recording s e (start n p k at name) later spans i h = absurd i
-not-recording s None (call n c) later spans i h = record { one = h.one; spans_are = h.spans_are }
-not-recording s None (end n c) later spans i h = record { one = h.one; spans_are = h.spans_are }
-not-recording s (Some e) (call n c) later spans i h = record { alone = h.alone; spans_are = h.spans_are }
-not-recording s (Some e) (end n c) later spans i h = record { alone = h.alone; spans_are = h.spans_are }
-
-opened-more : (s : Script) (old new : Recording) (x : Step) (c : Call) (later : List Step) (spans : List EndedSpan) → (NoStart (x ∷ later) → NoStart later) →
-    call_of x ≡ Some c → Adds c old new → IsOpen s old (x ∷ later) spans → IsOpen s new later spans
-opened-more s old new x c later spans i m a h = record {
-  begin = h.begin;
-  calls = h.calls ++ c ∷ [];
-  limits = a.place.limits ∙ h.limits;
-  resource = a.place.resource ∙ h.resource;
-  value = a.value h.begin h.calls h.value;
-  alone = i h.alone;
-  spans_are =
-      let made : filter_map call_of (x ∷ later) ≡ c ∷ filter_map call_of later = rw m refl in
-      h.spans_are ∙ ap (λ cs. ended s old.scope h.begin (h.calls ++ cs)) made
-      ∙ ap (λ sc. ended s sc h.begin (h.calls ++ c ∷ filter_map call_of later)) (sym a.place.scope)
-      ∙ ap (λ cs. ended s new.scope h.begin cs) (sym (append_assoc h.calls (c ∷ []) (filter_map call_of later)));
-}
-
--- one more call on what is recorded
-pub one-more : (s : Script) (old new : Recording) (e : Option EndedSpan) (x : Step) (c : Call) (later : List Step) (spans : List EndedSpan) → NotStart x →
-    call_of x ≡ Some c → Adds c old new → Stands s (Some old) e (x ∷ later) spans → Stands s (Some new) e later spans
-one-more s old new e (start n p k at name) c later spans i m a h = absurd i
-one-more s old new None (call n d) c later spans i m a h = opened-more s old new (call n d) c later spans (λ k. k) m a h
-one-more s old new None (end n d) c later spans i m a h = opened-more s old new (end n d) c later spans (λ k. k) m a h
-one-more s old new (Some e) (call n d) c later spans i m a h = absurd h
-one-more s old new (Some e) (end n d) c later spans i m a h = absurd h
-
--- ---- the end
-
-any-end : (calls more : List Call) (at : ℕ) → list_any is_end (calls ++ model.end at ∷ more) ≡ true
-any-end [] more at = refl
-any-end (c ∷ calls) more at = any-of (is_end c) (any-end calls more at)
+pub parent-same : (calls : ℕ → List Call) (os : List Outcome) (spans : List (Option HeldSpan)) → AreAfter calls os spans → (p : Parent) → parent_in spans p ≡ parent_of os p
+unfolding held
+parent-same calls os spans h root = refl
+parent-same calls os spans h (given c) = refl
+parent-same calls os spans h (numbered n) = rw (h n) (by (slice_get os n))
   where
-    any-of : {b : Bool} (a : Bool) → b ≡ true → (a || b) ≡ true
-    any-of true h = refl
-    any-of false h = h
+    within : (s : Option Started) → context_in (Some (option_map (λ s. held s (calls n)) s)) ≡ option_map (λ s. Some s.start.context) s
+    within None = refl
+    within (Some s) = refl
+
+    by : (o : Option Outcome) → context_in (option_map (span_after (calls n)) o) ≡ Rattle.trace_model.specs.History.context_of o
+    by None = refl
+    by (Some o) = within o.span
+
+get-first : {A : Type 0} (xs : List A) (y : A) (n : ℕ) → n < length xs → slice_get (xs ++ y ∷ []) n ≡ slice_get xs n
+get-first [] y n h = absurd (omega (arith, h))
+get-first (x ∷ xs) y zero h = refl
+get-first (x ∷ xs) y (suc n) h = get-first xs y n (omega (arith, h))
+
+get-last : {A : Type 0} (xs : List A) (y : A) → slice_get (xs ++ y ∷ []) (length xs) ≡ Some y
+get-last [] y = refl
+get-last (x ∷ xs) y = get-last xs y
+
+ne-eqb : (n m : ℕ) → (n ≡ m → ⊥) → (n == m) ≡ false
+ne-eqb n m h = by (n == m) refl
+  where
+    by : (b : Bool) → (n == m) ≡ b → b ≡ false
+    by true e = absurd (h (eqb-true n m e))
+    by false e = refl
+
+set-own : {A : Type 0} (xs : List A) (n : ℕ) (y : A) → n < length xs → slice_get (slice_set xs n y) n ≡ Some y
+set-own [] n y h = absurd (omega (arith, h))
+set-own (x ∷ xs) zero y h = refl
+set-own (x ∷ xs) (suc n) y h = set-own xs n y (omega (arith, h))
+
+set-other : {A : Type 0} (xs : List A) (n m : ℕ) (y : A) → (n == m) ≡ false → slice_get (slice_set xs n y) m ≡ slice_get xs m
+set-other [] n m y h = refl
+set-other (x ∷ xs) zero zero y h = cc
+set-other (x ∷ xs) zero (suc m) y h = refl
+set-other (x ∷ xs) (suc n) zero y h = refl
+set-other (x ∷ xs) (suc n) (suc m) y h = set-other xs n m y (ne-eqb n m (λ e. true≢false (sym (eq-eqb (suc n) (suc m) (ap suc e)) ∙ h)))
+
+-- a span, or none, for one more start
+pub spans-start : (setup : Setup) (done : List Step) (sc : ℕ) (p : Parent) (k : Kind) (at : ℕ) (name : List ℕ) (spans : List (Option HeldSpan)) (span : Option HeldSpan) →
+    length spans ≡ length (outcomes setup done) → AreAfter (λ n. calls_on n done) (outcomes setup done) spans → span ≡ span_after [] (outcome setup (outcomes setup done) sc p k at name) →
+    AreAfter (λ n. calls_on n (done ++ start sc p k at name ∷ [])) (outcomes setup (done ++ start sc p k at name ∷ [])) (spans ++ span ∷ [])
+spans-start setup done sc p k at name spans span many h e n = rw (outcomes-start setup done sc p k at name) (by (nat_lt n (length os)) refl (n == length os) refl)
+  where
+    os : List Outcome
+    os = outcomes setup done
+
+    o : Outcome
+    o = outcome setup os sc p k at name
+
+    x : Step
+    x = start sc p k at name
+
+    by : (l : Bool) → nat_lt n (length os) ≡ l → (s : Bool) → (n == length os) ≡ s → slice_get (spans ++ span ∷ []) n ≡ option_map (span_after (calls_on n (done ++ x ∷ []))) (slice_get (os ++ o ∷ []) n)
+    by true u s v =
+        let within : n < length os = ltb-true n (length os) u in
+        let started : n < starts done = rw (outcomes-many setup done) at within in
+        get-first spans span n (rw many within) ∙ h n ∙ ap (λ cs. option_map (span_after cs) (slice_get os n)) (sym (calls-more n done x started ∙ append-nil (calls_on n done)))
+        ∙ ap (option_map (span_after (calls_on n (done ++ x ∷ [])))) (sym (get-first os o n within))
+    by false u true v =
+        let last : n ≡ length os = eqb-true n (length os) v in
+        let calls : calls_on (length os) (done ++ x ∷ []) ≡ [] = rw (outcomes-many setup done) (calls-first done sc p k at name) in
+        rw (last, calls) (rw (get-last os o) (rw (← many) (get-last spans span) ∙ ap Some e))
+    by false u false v =
+        let past : length os ≤ n = ltb-false n (length os) u in
+        let other : n ≡ length os → ⊥ = λ i. true≢false (sym (eq-eqb n (length os) i) ∙ v) in
+        let beyond : length os + 1 ≤ n = omega (arith, past, other) in
+        slice_get_past (spans ++ span ∷ []) n (let f = length_push spans span in omega (arith, f, many, beyond))
+        ∙ sym (ap (option_map (span_after (calls_on n (done ++ x ∷ [])))) (slice_get_past (os ++ o ∷ []) n (let f = length_push os o in omega (arith, f, beyond))))
+
+-- the calls on other spans
+calls-other : (m n : ℕ) (c : Call) (done : List Step) → (n == m) ≡ false → calls_on m (done ++ call n c ∷ []) ≡ calls_on m done
+calls-other m n c done e = by (nat_lt m (starts done)) refl
+  where
+    none : filter_map (call_on m) (call n c ∷ []) ≡ []
+    none = rw e refl
+
+    by : (l : Bool) → nat_lt m (starts done) ≡ l → calls_on m (done ++ call n c ∷ []) ≡ calls_on m done
+    by true u = calls-more m done (call n c) (ltb-true m (starts done) u) ∙ ap (λ cs. calls_on m done ++ cs) none ∙ append-nil (calls_on m done)
+    by false u =
+        let past : starts done ≤ m = ltb-false m (starts done) u in
+        calls-past m (done ++ call n c ∷ []) (let f = starts-append done (call n c ∷ []) in omega (arith, f, past)) ∙ sym (calls-past m done past)
+
+calls-own : (n : ℕ) (c : Call) (done : List Step) → n < starts done → calls_on n (done ++ call n c ∷ []) ≡ calls_on n done ++ c ∷ []
+calls-own n c done h = calls-more n done (call n c) h ∙ ap (λ cs. calls_on n done ++ cs) (let own : filter_map (call_on n) (call n c ∷ []) ≡ c ∷ [] = rw (eq-eqb n n refl) refl in own)
+
+-- a call on a span that isn't there
+pub spans-same : (setup : Setup) (done : List Step) (n : ℕ) (c : Call) (spans : List (Option HeldSpan)) → AreAfter (λ m. calls_on m done) (outcomes setup done) spans →
+    ((h : HeldSpan) → slice_get spans n ≡ Some (Some h) → ⊥) → AreAfter (λ m. calls_on m (done ++ call n c ∷ [])) (outcomes setup (done ++ call n c ∷ [])) spans
+spans-same setup done n c spans h missing m = rw (outcomes-call setup done n c) (by (n == m) refl)
+  where
+    os : List Outcome
+    os = outcomes setup done
+
+    later : List Call
+    later = calls_on m (done ++ call n c ∷ [])
+
+    none : (o : Option Outcome) → slice_get os m ≡ o → n ≡ m → option_map (span_after (calls_on m done)) o ≡ option_map (span_after later) o
+    none None e i = refl
+    none (Some o) e i = go o.span refl
+      where
+        go : (s : Option Started) → o.span ≡ s → Some (option_map (λ s. held s (calls_on m done)) o.span) ≡ Some (option_map (λ s. held s later) o.span)
+        go None f = rw f refl
+        go (Some s) f = absurd (missing (held s (calls_on m done)) (rw i (h m ∙ rw e (rw f refl))))
+
+    by : (b : Bool) → (n == m) ≡ b → slice_get spans m ≡ option_map (span_after later) (slice_get os m)
+    by true e = h m ∙ none (slice_get os m) refl (eqb-true n m e)
+    by false e = h m ∙ ap (λ cs. option_map (span_after cs) (slice_get os m)) (sym (calls-other m n c done e))
+
+-- a call on a span that is there
+pub spans-called : (setup : Setup) (done : List Step) (n : ℕ) (c : Call) (spans : List (Option HeldSpan)) (o : Outcome) (s : Started) (new : HeldSpan) → AreAfter (λ m. calls_on m done) (outcomes setup done) spans →
+    slice_get (outcomes setup done) n ≡ Some o → o.span ≡ Some s → new ≡ held s (calls_on n done ++ c ∷ []) → length spans ≡ length (outcomes setup done) →
+    AreAfter (λ m. calls_on m (done ++ call n c ∷ [])) (outcomes setup (done ++ call n c ∷ [])) (slice_set spans n (Some new))
+spans-called setup done n c spans o s new h e f g many m = rw (outcomes-call setup done n c) (by (n == m) refl)
+  where
+    os : List Outcome
+    os = outcomes setup done
+
+    within : n < length os
+    within = slice_get_within os n o e
+
+    started : n < starts done
+    started = rw (outcomes-many setup done) at within
+
+    by : (b : Bool) → (n == m) ≡ b → slice_get (slice_set spans n (Some new)) m ≡ option_map (span_after (calls_on m (done ++ call n c ∷ []))) (slice_get os m)
+    by true i =
+        let same : n ≡ m = eqb-true n m i in
+        rw (← same) (rw (e, calls-own n c done started) (set-own spans n (Some new) (rw many within) ∙ ap Some (ap Some g ∙ rw f refl)))
+    by false i = set-other spans n m (Some new) i ∙ h m ∙ ap (λ cs. option_map (span_after cs) (slice_get os m)) (sym (calls-other m n c done i))
+
+-- ---- the pass
+
+abbrev body : List EndedSpan → ℕ → Body
+body spans room = record { spans = spans; room = room; dropped = 0 }
+
+-- so much of a pass as the steps have ended, with room for all starts
+abbrev pub pass_after : Setup → List Step → List Step → Body
+pass_after setup done later = body (ended_spans setup done) (starts (done ++ later))
+
+room-same : (done later : List Step) (x : Step) → starts (done ++ x ∷ later) ≡ starts ((done ++ x ∷ []) ++ later)
+room-same done later x = ap starts (sym (append_assoc done (x ∷ []) later))
+
+same-pass : (setup : Setup) (done later : List Step) (x : Step) → ended_spans setup (done ++ x ∷ []) ≡ ended_spans setup done → pass_after setup done (x ∷ later) ≡ pass_after setup (done ++ x ∷ []) later
+same-pass setup done later x e = ap (λ r. body (ended_spans setup done) r) (room-same done later x) ∙ ap (λ es. body es (starts ((done ++ x ∷ []) ++ later))) (sym e)
+
+pub pass-start : (setup : Setup) (done later : List Step) (sc : ℕ) (p : Parent) (k : Kind) (at : ℕ) (name : List ℕ) →
+    pass_after setup done (start sc p k at name ∷ later) ≡ pass_after setup (done ++ start sc p k at name ∷ []) later
+pass-start setup done later sc p k at name = same-pass setup done later (start sc p k at name) (ended-start setup done sc p k at name)
+
+-- a call on a span that isn't there, or didn't start
+pub pass-missed : (setup : Setup) (done later : List Step) (n : ℕ) (c : Call) (spans : List (Option HeldSpan)) → AreAfter (λ m. calls_on m done) (outcomes setup done) spans →
+    ((h : HeldSpan) → slice_get spans n ≡ Some (Some h) → ⊥) → pass_after setup done (call n c ∷ later) ≡ pass_after setup (done ++ call n c ∷ []) later
+pass-missed setup done later n c spans h missing = same-pass setup done later (call n c) (by (is_end c) refl (nat_lt n (starts done)) refl (list_any is_end (calls_on n done)) refl)
+  where
+    gone : (o : Option Outcome) → slice_get (outcomes setup done) n ≡ o → exported_of (calls_on n done ++ c ∷ []) o ≡ None
+    gone None e = refl
+    gone (Some o) e = go o.span refl
+      where
+        go : (s : Option Started) → o.span ≡ s → exported_of (calls_on n done ++ c ∷ []) (Some o) ≡ None
+        go None f = rw f refl
+        go (Some s) f = absurd (missing (held s (calls_on n done)) (h n ∙ rw e (rw f refl)))
+
+    by : (e : Bool) → is_end c ≡ e → (l : Bool) → nat_lt n (starts done) ≡ l → (b : Bool) → list_any is_end (calls_on n done) ≡ b → ended_spans setup (done ++ call n c ∷ []) ≡ ended_spans setup done
+    by true e true l false b =
+        let more = ended-more setup done n c e (ltb-true n (starts done) l) b in
+        more.0 ∙ rw (gone (slice_get (outcomes setup done) n) refl) (append-nil (ended_spans setup done))
+    by true e true l true b = ended-no-more setup done n c (rw (e, l, b) refl)
+    by true e false l b i = ended-no-more setup done n c (rw (e, l) refl)
+    by false e l i b j = ended-no-more setup done n c (rw e refl)
+
+-- ---- a call on a span that is there
+
+-- a call is an end or it isn't
+which : (c : Call) → ((is_end c ≡ false) × (end_of c ≡ None)) ⊎ ((at : ℕ) × (c ≡ end at))
+which (Call.set_attribute p) = inl (refl, refl)
+which (Call.add_event n a p) = inl (refl, refl)
+which (Call.record_exception k m s a p) = inl (refl, refl)
+which (Call.add_link x p) = inl (refl, refl)
+which (Call.set_status s) = inl (refl, refl)
+which (Call.update_name n) = inl (refl, refl)
+which (Call.end at) = inr (at, refl)
+
+none-ends : (calls : List Call) → list_any is_end calls ≡ false → live calls ≡ calls
+none-ends [] h = refl
+none-ends (c ∷ calls) h = by (none-ends calls) (is_end c) refl h
+  where
+    by : (list_any is_end calls ≡ false → live calls ≡ calls) → (b : Bool) → is_end c ≡ b → (b || list_any is_end calls) ≡ false → live (c ∷ calls) ≡ c ∷ calls
+    by rest true e k = cc
+    by rest false e k = take_while-cons (λ c. not (is_end c)) c calls ∙ rw e (ap (λ l. c ∷ l) (rest k))
 
 same-ended : (e f : EndedSpan) → e.resource ≡ f.resource → e.scope ≡ f.scope → e.span ≡ f.span → e ≡ f
 same-ended e f p q h =
-    let make : model.Resource → Scope → model.Span → EndedSpan = λ r s x. record { resource = r; scope = s; span = x } in
+    let make : Resource → Scope → Span → EndedSpan = λ r s x. record { resource = r; scope = s; span = x } in
     ap (λ y. make y e.scope e.span) p ∙ ap (λ y. make f.resource y e.span) q ∙ ap (λ y. make f.resource f.scope y) h
 
-opened-ends : (s : Script) (old : Recording) (e : EndedSpan) (x : Step) (at : ℕ) (later : List Step) (spans : List EndedSpan) → (NoStart (x ∷ later) → NoStart later) →
-    call_of x ≡ Some (model.end at) → Ends at old e → IsOpen s old (x ∷ later) spans → IsDone e later spans
-opened-ends s old e x at later spans i m a h =
-    let rest : List Call = filter_map call_of later in
-    let made : filter_map call_of (x ∷ later) ≡ model.end at ∷ rest = rw m refl in
-    let whole : EndedSpan = record { resource = resource_of s; scope = old.scope; span = span (span_limits 128 None) h.begin (h.calls ++ model.end at ∷ rest) } in
-    let same : e ≡ whole = same-ended e whole (a.resource ∙ h.resource) a.scope
-    (a.value h.begin h.calls h.value ∙ ap (λ l. span l h.begin (h.calls ++ model.end at ∷ [])) h.limits ∙ sym (span-behind (span_limits 128 None) h.begin h.calls rest at h.value.none_ends)) in
-    record {
-      alone = i h.alone;
-      spans_are = h.spans_are ∙ ap (λ cs. ended s old.scope h.begin (h.calls ++ cs)) made ∙ rw (any-end h.calls rest at) (ap (λ y. y ∷ []) (sym same));
-    }
+-- what is recorded of a span
+abbrev recorded : Started → List Call → Recording
+recorded s calls = record { limits = s.limits; resource = s.resource; scope = s.scope; span = span s.limits s.start calls }
 
--- what is recorded has ended
-pub ends : (s : Script) (old : Recording) (o : Option EndedSpan) (e : EndedSpan) (x : Step) (at : ℕ) (later : List Step) (spans : List EndedSpan) → NotStart x →
-    call_of x ≡ Some (model.end at) → Ends at old e → Stands s (Some old) o (x ∷ later) spans → Stands s None (Some e) later spans
-ends s old o e (start n p k t name) at later spans i m a h = absurd i
-ends s old None e (call n d) at later spans i m a h = opened-ends s old e (call n d) at later spans (λ k. k) m a h
-ends s old None e (end n d) at later spans i m a h = opened-ends s old e (end n d) at later spans (λ k. k) m a h
-ends s old (Some o) e (call n d) at later spans i m a h = absurd h
-ends s old (Some o) e (end n d) at later spans i m a h = absurd h
+ends-to-exported : (s : Started) (calls : List Call) (at : ℕ) (e : EndedSpan) → list_any is_end calls ≡ false → Ends at (recorded s calls) e → e ≡ exported s (calls ++ end at ∷ [])
+ends-to-exported s calls at e b h = same-ended e (exported s (calls ++ end at ∷ [])) h.resource h.scope (h.value s.start calls (record { none_ends = none-ends calls b; is = refl }))
 
--- ---- no more steps
+-- an end of a span that hasn't ended
+module _ (setup : Setup) (done later : List Step) (n at : ℕ) (o : Outcome) (s : Started) (before after : Body) (there : slice_get (outcomes setup done) n ≡ Some o) (has : o.span ≡ Some s)
+    (standing : before ≡ pass_after setup done (call n (end at) ∷ later)) (first : list_any is_end (calls_on n done) ≡ false) where
+  started-n : n < starts done
+  started-n = rw (outcomes-many setup done) at (slice_get_within (outcomes setup done) n o there)
 
-none-is-end : (calls : List Call) → live calls ≡ calls → list_any is_end calls ≡ false
-none-is-end [] h = refl
-none-is-end (c ∷ calls) h = by-first (λ r. none-is-end calls r) (is_end c) refl (sym (take_while-cons (λ c. not (is_end c)) c calls) ∙ h)
+  more : (ended_spans setup (done ++ call n (end at) ∷ []) ≡ ended_spans setup done ++ option_to_list (exported_of (calls_on n done ++ end at ∷ []) (slice_get (outcomes setup done) n)))
+      × (length (ended_spans setup done) < starts done)
+  more = ended-more setup done n (end at) refl started-n first
+
+  goes : (b : Bool) → is_sampled s.decision ≡ b → exported_of (calls_on n done ++ end at ∷ []) (slice_get (outcomes setup done) n) ≡ cond b (Some (exported s (calls_on n done ++ end at ∷ []))) None
+  goes b e = rw there (rw has (rw e refl))
+
+  -- it isn't sampled
+  left-out : is_sampled s.decision ≡ false → after ≡ before → after ≡ pass_after setup (done ++ call n (end at) ∷ []) later
+  left-out e same = same ∙ standing ∙ same-pass setup done later (call n (end at)) (more.0 ∙ rw (goes false e) (append-nil (ended_spans setup done)))
+
+  -- it is sampled, and the pass was asked
+  taken : (e : EndedSpan) (answer : Ended) → is_sampled s.decision ≡ true → Ends at (recorded s (calls_on n done)) e → Admits before e answer after → after ≡ pass_after setup (done ++ call n (end at) ∷ []) later
+  taken e answer sampled h admitted =
+      let all : starts (done ++ call n (end at) ∷ later) ≡ starts done + starts (call n (end at) ∷ later) = starts-append done (call n (end at) ∷ later) in
+      let few = more.1 in
+      let room : nat_lt (length (ended_spans setup done)) (starts (done ++ call n (end at) ∷ later)) ≡ true = lt-ltb _ _ (omega (arith, all, few)) in
+      let kept : with_span before e ≡ body (ended_spans setup done ++ e ∷ []) (starts (done ++ call n (end at) ∷ later)) = rw (standing, room) refl in
+      let whole : ended_spans setup (done ++ call n (end at) ∷ []) ≡ ended_spans setup done ++ e ∷ [] = more.0 ∙ rw (goes true sampled, ends-to-exported s (calls_on n done) at e first h) refl in
+      admitted.kept ∙ kept ∙ ap (λ r. body (ended_spans setup done ++ e ∷ []) r) (room-same done later (call n (end at)))
+      ∙ ap (λ es. body es (starts ((done ++ call n (end at) ∷ []) ++ later))) (sym whole)
+
+  -- whichever it is
+  ends-recorded : (b : Bool) → is_sampled s.decision ≡ b → (answer : Ended) → EndsRecording Admits at b (recorded s (calls_on n done)) before answer after → after ≡ pass_after setup (done ++ call n (end at) ∷ []) later
+  ends-recorded true e answer h = taken h.span answer e h.value h.asked
+  ends-recorded false e answer h = left-out e h.untouched
+
+  not-sampled : (d : Decision) → is_recording d ≡ false → is_sampled d ≡ false
+  not-sampled dropped h = refl
+  not-sampled record_only h = refl
+  not-sampled record_and_sample h = cc
+
+  ends-first : (d : Bool) → is_recording s.decision ≡ d → (answer : Ended) → EndsTo Admits at s.start.context.flags (if d then recording (recorded s (calls_on n done)) else not_recording) before answer after →
+      after ≡ pass_after setup (done ++ call n (end at) ∷ []) later
+  ends-first true e answer h = ends-recorded (is_sampled s.decision) refl answer (rw (outcome-has-flag setup done n o s there has) at h)
+  ends-first false e answer h = left-out (not-sampled s.decision e) h.untouched
+
+pub pass-called : (setup : Setup) (done later : List Step) (n : ℕ) (c : Call) (o : Outcome) (s : Started) (old : HeldSpan) (before after : Body) → slice_get (outcomes setup done) n ≡ Some o → o.span ≡ Some s →
+    old ≡ held s (calls_on n done) → before ≡ pass_after setup done (call n c ∷ later) → Passes (end_of c) old before after → after ≡ pass_after setup (done ++ call n c ∷ []) later
+unfolding held
+pass-called setup done later n c o s old before after there has is standing passes = ⊎_elim
+    (λ h. let same : after ≡ before = rw h.1 at passes in same ∙ standing ∙ same-pass setup done later (call n c) (ended-no-more setup done n c (rw h.0 refl)))
+    (λ h. ending h.0 h.1)
+    (which c)
   where
-    by-first : (live calls ≡ calls → list_any is_end calls ≡ false) → (b : Bool) → is_end c ≡ b → cond (not b) (c ∷ live calls) [] ≡ c ∷ calls → list_any is_end (c ∷ calls) ≡ false
-    by-first rest true e k = cc
-    by-first rest false e k = let same : live calls ≡ calls = cc in rw e (rest same)
+    ending : (at : ℕ) → c ≡ end at → after ≡ pass_after setup (done ++ call n c ∷ []) later
+    ending at e =
+        let now : (answer : Ended) × EndsTo Admits at s.start.context.flags (state_after s (calls_on n done)) before answer after = rw (e, is) at passes in
+        let standing_at : before ≡ pass_after setup done (call n (end at) ∷ later) = rw e at standing in
+        rw e (by (list_any is_end (calls_on n done)) refl now.0 now.1 standing_at)
+      where
+        by : (b : Bool) → list_any is_end (calls_on n done) ≡ b → (answer : Ended) → EndsTo Admits at s.start.context.flags (state_after s (calls_on n done)) before answer after →
+            before ≡ pass_after setup done (call n (end at) ∷ later) → after ≡ pass_after setup (done ++ call n (end at) ∷ []) later
+        by true b answer h from =
+            let said : Says AlreadyEnded before answer after = rw b at h in
+            said.untouched ∙ from ∙ same-pass setup done later (call n (end at)) (ended-no-more setup done n (end at) (by-last (nat_lt n (starts done)) b))
+          where
+            by-last : (l : Bool) → list_any is_end (calls_on n done) ≡ true → (true && l && not (list_any is_end (calls_on n done))) ≡ false
+            by-last true f = rw f refl
+            by-last false f = refl
+        by false b answer h from = ends-first setup done later n at o s before after there has from b (is_recording s.decision) refl answer (rw b at h)
 
-pub at-end : (s : Script) (r : Option Recording) (e : Option EndedSpan) (spans : List EndedSpan) → Stands s r e [] spans → spans ≡ option_to_list e
-at-end s None None spans h = h.spans_are
-at-end s (Some r) None spans h = h.spans_are ∙ ap (λ cs. ended s r.scope h.begin cs) (append-nil h.calls) ∙ rw (none-is-end h.calls h.value.none_ends) refl
-at-end s None (Some e) spans h = h.spans_are
-at-end s (Some r) (Some e) spans h = absurd h
+-- ---- the tracer of a scope, and what a start comes to
 
--- ---- at the beginning
+pub tracer-there : {T : Type 0} (view : T → Tracer) (provider : Provider) (tracers : List T) (scopes : List Scope) (n : ℕ) (t : T) →
+    map view tracers ≡ map (λ scope. record { provider = provider; scope = scope }) scopes → slice_get tracers n ≡ Some t → (scope : Scope) × (slice_get scopes n ≡ Some scope) × (view t ≡ record { provider = provider; scope = scope })
+tracer-there view provider tracers scopes n t e there = by (slice_get scopes n) refl
+  where
+    both : Some (view t) ≡ option_map (λ scope. record { provider = provider; scope = scope }) (slice_get scopes n)
+    both = sym (slice_get-map view tracers n ∙ rw there refl) ∙ ap (λ ts. slice_get ts n) e ∙ slice_get-map (λ scope. record { provider = provider; scope = scope }) scopes n
 
-no-start : {A : Type 0} (steps : List (CodeStep A)) → count_by starts_span steps ≡ 0 → NoStart (map step_view steps)
-no-start [] h = tt
-no-start (code.Start n p k at name ∷ steps) h = let e = sum_by-cons (λ x. cond (starts_span x) 1 0) (code.Start n p k at name) steps in absurd (omega (arith, h, e))
-no-start (code.Call n c ∷ steps) h = let e = sum_by-cons (λ x. cond (starts_span x) 1 0) (code.Call n c) steps in no-start steps (omega (arith, h, e))
-no-start (code.End n at ∷ steps) h = let e = sum_by-cons (λ x. cond (starts_span x) 1 0) (code.End n at) steps in no-start steps (omega (arith, h, e))
+    by : (o : Option Scope) → slice_get scopes n ≡ o → (scope : Scope) × (slice_get scopes n ≡ Some scope) × (view t ≡ record { provider = provider; scope = scope })
+    by None f = let no : Some (view t) ≡ None = both ∙ rw f refl in cc
+    by (Some scope) f = (scope, f, (let one : Some (view t) ≡ Some (record { provider = provider; scope = scope }) = both ∙ rw f refl in cc))
 
-pub one-start : {A : Type 0} (steps : List (CodeStep A)) → count_by starts_span steps ≤ 1 → OneStart (map step_view steps)
-one-start [] h = tt
-one-start (code.Start n p k at name ∷ steps) h = let e = sum_by-cons (λ x. cond (starts_span x) 1 0) (code.Start n p k at name) steps in no-start steps (omega (arith, h, e))
-one-start (code.Call n c ∷ steps) h = let e = sum_by-cons (λ x. cond (starts_span x) 1 0) (code.Call n c) steps in one-start steps (omega (arith, h, e))
-one-start (code.End n at ∷ steps) h = let e = sum_by-cons (λ x. cond (starts_span x) 1 0) (code.End n at) steps in one-start steps (omega (arith, h, e))
+pub tracer-past : {T : Type 0} (view : T → Tracer) (provider : Provider) (tracers : List T) (scopes : List Scope) (n : ℕ) →
+    map view tracers ≡ map (λ scope. record { provider = provider; scope = scope }) scopes → slice_get tracers n ≡ None → slice_get scopes n ≡ None
+tracer-past view provider tracers scopes n e none = by (slice_get scopes n) refl
+  where
+    tracer : Scope → Tracer
+    tracer scope = record { provider = provider; scope = scope }
 
--- ---- places and words
+    both : ◌≡◌ {A = Option Tracer} None (option_map tracer (slice_get scopes n))
+    both = sym (slice_get-map view tracers n ∙ rw none refl) ∙ ap (λ ts. slice_get ts n) e ∙ slice_get-map (λ scope. record { provider = provider; scope = scope }) scopes n
 
--- an end by either of its steps
-pub as-end : (s : Script) (r : Option Recording) (e : Option EndedSpan) (at : ℕ) (later : List Step) (spans : List EndedSpan) → Stands s r e (call 0 (model.end at) ∷ later) spans → Stands s r e (end 0 at ∷ later) spans
-as-end s None None at later spans h = record { one = h.one; spans_are = h.spans_are }
-as-end s (Some r) None at later spans h = record { begin = h.begin; calls = h.calls; limits = h.limits; resource = h.resource; value = h.value; alone = h.alone; spans_are = h.spans_are }
-as-end s None (Some e) at later spans h = record { alone = h.alone; spans_are = h.spans_are }
-as-end s (Some r) (Some e) at later spans h = absurd h
-
-pub no-context : (s : Script) (scope : Option Scope) (k : Kind) (at : ℕ) (name : List ℕ) (calls : List Call) → ended_in s scope None k at name calls ≡ []
-no-context s None k at name calls = refl
-no-context s (Some scope) k at name calls = refl
-
-pub past-all : {X Y : Type 0} (view : X → Y) (xs : List X) (ys : List Y) (n : ℕ) → map view xs ≡ ys → length xs ≤ n → slice_get ys n ≡ None
-past-all view xs ys n e l = rw (← e) (slice_get-map view xs n ∙ rw (slice_get_past xs n l) refl)
-
-pub there : {X Y : Type 0} (view : X → Y) (xs : List X) (ys : List Y) (n : ℕ) (x : X) → map view xs ≡ ys → slice_get xs n ≡ Some x → slice_get ys n ≡ Some (view x)
-there view xs ys n x e l = rw (← e) (slice_get-map view xs n ∙ rw l refl)
+    by : (o : Option Scope) → slice_get scopes n ≡ o → o ≡ None
+    by None f = refl
+    by (Some scope) f = let no : ◌≡◌ {A = Option Tracer} None (Some (tracer scope)) = both ∙ rw f refl in cc
 
 pub nothing-left : {X : Type 0} (l : List X) → length l ≡ 0 → l ≡ []
 nothing-left [] h = refl
-nothing-left (x ∷ xs) h = absurd (omega arith)
+nothing-left (x ∷ xs) h = absurd (omega (arith, h))
+
+set-same : {A : Type 0} (xs : List A) (n : ℕ) (y : A) → slice_get xs n ≡ Some y → slice_set xs n y ≡ xs
+set-same [] n y h = refl
+set-same (x ∷ xs) zero y h = let same : x ≡ y = cc in rw same refl
+set-same (x ∷ xs) (suc n) y h = ap (λ zs. x ∷ zs) (set-same xs n y h)
+
+-- ---- the recorder
+
+-- a call on a span that isn't there
+pub missed : {A : Type 0} (setup : Setup) (done later : List Step) (n : ℕ) (c : Call) (old new : Recorder A) → Stands setup done (call n c ∷ later) old →
+    ((h : HeldSpan) → slice_get old.spans.items n ≡ Some (Some h) → ⊥) → new.tracers.items ≡ old.tracers.items → new.words ≡ old.words → new.spans.items ≡ old.spans.items → new.pass ≡ old.pass →
+    Stands setup (done ++ call n c ∷ []) later new
+missed setup done later n c old new h missing t w s p = record {
+  tracers = ap (map (tracer_view meaning)) t ∙ h.tracers;
+  words = ap (λ ws. words_of (stream ws)) w ∙ h.words ∙ ap (words_left setup) (sym (outcomes-call setup done n c));
+  many = ap length s ∙ h.many ∙ ap length (sym (outcomes-call setup done n c));
+  spans = rw s (spans-same setup done n c old.spans.items h.spans missing);
+  pass = p ∙ h.pass ∙ pass-missed setup done later n c old.spans.items h.spans missing;
+}
+
+-- a span that is there, or was to be there
+pub missing-slot : {A : Type 0} (old new : Recorder A) (n : ℕ) → slice_get old.spans.items n ≡ Some None → new.spans.items ≡ slice_set old.spans.items n None → new.spans.items ≡ old.spans.items
+missing-slot old new n e s = s ∙ set-same old.spans.items n None e
+
+-- a call on a span that is there
+pub called : {A : Type 0} (setup : Setup) (done later : List Step) (n : ℕ) (c : Call) (old new : Recorder A) (span span' : HeldSpan) → Stands setup done (call n c ∷ later) old →
+    slice_get old.spans.items n ≡ Some (Some span) → Applies c span span' old.pass new.pass → new.tracers.items ≡ old.tracers.items → new.words ≡ old.words → new.spans.items ≡ slice_set old.spans.items n (Some span') →
+    Stands setup (done ++ call n c ∷ []) later new
+called setup done later n c old new span span' h there a t w s = by (slice_get (outcomes setup done) n) refl (sym there ∙ h.spans n)
+  where
+    go : (o : Outcome) → slice_get (outcomes setup done) n ≡ Some o → (x : Started) → o.span ≡ Some x → span ≡ held x (calls_on n done) → Stands setup (done ++ call n c ∷ []) later new
+    go o e x f i = record {
+      tracers = ap (map (tracer_view meaning)) t ∙ h.tracers;
+      words = ap (λ ws. words_of (stream ws)) w ∙ h.words ∙ ap (words_left setup) (sym (outcomes-call setup done n c));
+      many = ap length s ∙ length-set old.spans.items n (Some span') ∙ h.many ∙ ap length (sym (outcomes-call setup done n c));
+      spans = rw s (spans-called setup done n c old.spans.items o x span' h.spans e f (a.does.value x (calls_on n done) i) h.many);
+      pass = pass-called setup done later n c o x span old.pass new.pass e f i h.pass a.passes;
+    }
+
+    within : (o : Outcome) → slice_get (outcomes setup done) n ≡ Some o → (x : Option Started) → o.span ≡ x → Some (Some span) ≡ Some (option_map (λ s. held s (calls_on n done)) x) → Stands setup (done ++ call n c ∷ []) later new
+    within o e None f i = cc
+    within o e (Some x) f i = go o e x f (let same : span ≡ held x (calls_on n done) = cc in same)
+
+    by : (o : Option Outcome) → slice_get (outcomes setup done) n ≡ o → Some (Some span) ≡ option_map (span_after (calls_on n done)) o → Stands setup (done ++ call n c ∷ []) later new
+    by None e i = cc
+    by (Some o) e i = within o e o.span refl i
+
+none-spent : (words : Words) → words ≡ words_after 0 words
+none-spent words = fun_ext (λ k. ap words (sym (zero-add k)))
+
+pub comes-to-none : (setup : Setup) (os : List Outcome) (sc : ℕ) (p : Parent) (k : Kind) (at : ℕ) (name : List ℕ) (words : List ℕ) → (slice_get setup.scopes sc ≡ None) ⊎ (parent_of os p ≡ None) → ComesTo (outcome setup os sc p k at name) words words None
+comes-to-none setup os sc p k at name words h = rw (none h) (record { words = none-spent (words_of (stream words)); span_is = refl })
+  where
+    no-scope : (q : Option (Option Context)) → outcome_in setup (words_left setup os) None q k at name ≡ no_span
+    no-scope None = refl
+    no-scope (Some q) = refl
+
+    no-parent : (s : Option Scope) → outcome_in setup (words_left setup os) s None k at name ≡ no_span
+    no-parent None = refl
+    no-parent (Some s) = refl
+
+    none : (slice_get setup.scopes sc ≡ None) ⊎ (parent_of os p ≡ None) → outcome setup os sc p k at name ≡ no_span
+    none (inl e) = rw e (no-scope (parent_of os p))
+    none (inr e) = rw e (no-parent (slice_get setup.scopes sc))
+
+pub comes-to : (setup : Setup) (os : List Outcome) (sc : ℕ) (p : Parent) (k : Kind) (at : ℕ) (name before after : List ℕ) (t : Tracer) (scope : Scope) (parent : Option Context) (span : Option HeldSpan) →
+    slice_get setup.scopes sc ≡ Some scope → t ≡ record { provider = setup.provider; scope = scope } → parent_of os p ≡ Some parent → words_of (stream before) ≡ words_left setup os →
+    span ≡ option_map (λ s. held s []) (started t (asked parent name k at) (words_of (stream before))) →
+    words_of (stream after) ≡ words_after (ids_words (asked parent name k at).parent (words_of (stream before))) (words_of (stream before)) →
+    ComesTo (outcome setup os sc p k at name) before after span
+comes-to setup os sc p k at name before after t scope parent span there tracer from standing made spent = rw (there, from, ← tracer, ← standing) (record { words = spent; span_is = made })
+
+one-start : (x : Step) → starts (x ∷ []) ≡ cond (begins x) 1 0
+one-start (start sc p k at name) = refl
+one-start (call n c) = refl
+
+-- the starts among one step more
+pub starts-next : {X : Type 0} (view : X → Step) (xs : List X) (i : ℕ) (x : X) → i < length xs → x ≡ get_or xs i x → starts (map view (take (i + 1) xs)) ≡ starts (map view (take i xs)) + cond (begins (view x)) 1 0
+starts-next view xs i x l e = ap starts (through-index view xs i x l e) ∙ starts-append (map view (take i xs)) (view x ∷ []) ∙ ap (λ n. starts (map view (take i xs)) + n) (one-start (view x))
+
+-- what a script is
+pub same-script : {A : Type 0} (c : CodeScript A) (read : Script) → Means c read → ended_spans (setup_view c) (map step_view c.steps.items) ≡ spans_of read
+same-script c read m = rw (m.words, m.sampler, m.resource, m.scopes, m.steps) refl
+
+-- nothing is done yet
+pub begun : {A : Type 0} (setup : Setup) (steps : List Step) (r : Recorder A) → map (tracer_view meaning) r.tracers.items ≡ map (λ scope. record { provider = setup.provider; scope = scope }) setup.scopes →
+    words_of (stream r.words) ≡ setup.words → r.spans.items ≡ [] → r.pass ≡ record { spans = []; room = starts steps; dropped = 0 } → Stands setup [] steps r
+unfolding outcomes_behind
+begun setup steps r t w s p = record {
+  tracers = t;
+  words = w ∙ none-spent setup.words;
+  many = ap length s;
+  spans = λ n. ap (λ xs. slice_get xs n) s ∙ none n;
+  pass = p;
+}
+  where
+    none : (n : ℕ) → slice_get [] n ≡ option_map (span_after (calls_on n [])) (slice_get [] n)
+    none n = refl
+
+-- ---- spans of one scope share their place
+
+pub share : (setup : Setup) (spans : List EndedSpan) → length setup.scopes ≤ 1 → AllByRecursion (IsPlaced setup) spans → SharePlace spans
+share setup [] few h = tt
+share setup (x ∷ xs) few h = each xs h.1
+  where
+    first : (n : ℕ) (scope : Scope) → slice_get setup.scopes n ≡ Some scope → slice_get setup.scopes 0 ≡ Some scope
+    first n scope e = let l : n < length setup.scopes = slice_get_within setup.scopes n scope e in let zero-n : n ≡ 0 = omega (arith, l, few) in rw zero-n at e
+
+    each : (ys : List EndedSpan) → AllByRecursion (IsPlaced setup) ys → AllByRecursion (λ y. (y.resource ≡ x.resource) × (y.scope ≡ x.scope)) ys
+    each [] k = tt
+    each (y ∷ ys) k =
+        let both : Some y.scope ≡ Some x.scope = sym (first k.0.1 y.scope k.0.2) ∙ first h.0.1 x.scope h.0.2 in
+        ((k.0.0 ∙ sym h.0.0, (let same : y.scope ≡ x.scope = cc in same)), each ys k.1)
+
+pub truth-number : (n : ℕ) (b : Bool) → n ≡ bool_byte b → n ≡ cond b 1 0
+truth-number n true e = e
+truth-number n false e = e
+
+pub at-most-one : (b : Bool) → cond b 1 0 ≤ 1
+at-most-one true = omega arith
+at-most-one false = omega arith
+
+pub tracers-are : (p : ProviderWith ScriptSampler) (q : Provider) (scopes : List Scope) (ts : List (TracerWith ScriptSampler)) → ts ≡ tracers_of p scopes → record { sampler = meaning p.sampler; resource = p.resource; limits = p.limits } ≡ q →
+    map (tracer_view meaning) ts ≡ map (λ scope. record { provider = q; scope = scope }) scopes
+tracers-are p q scopes ts e f = rw e (each scopes)
+  where
+    each : (scopes : List Scope) → map (tracer_view meaning) (tracers_of p scopes) ≡ map (λ scope. record { provider = q; scope = scope }) scopes
+    each [] = refl
+    each (x ∷ xs) = rw (each xs) (ap (λ (r : Provider). (let one : Tracer = record { provider = r; scope = x } in one) ∷ map (λ scope. record { provider = q; scope = scope }) xs) f)

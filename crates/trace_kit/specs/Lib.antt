@@ -4,3 +4,4 @@ pub mod Program
 pub mod Printed
 pub mod Recorded
 pub mod Recorder
+pub mod Words

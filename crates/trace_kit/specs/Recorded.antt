@@ -1,54 +1,39 @@
--- The span that a script ends: one at most.
-use Rattle.std.specs.Prelude.{ℕ, ◌++◌, ◌==◌, List, [], ◌∷◌, false, if◌then◌else◌, Option, Some, None, filter_map}
-use Rattle.std.specs.List.{slice_get, list_any}
-use Rattle.std.specs.Int.{w64, to_be_bytes}
+-- The spans that a script ends.
+use Rattle.std.specs.Prelude.{ℕ, List, [], slice_index, unwrap_or, None}
 use Rattle.trace_model.specs.Attributes.{attributes}
 use Rattle.trace_model.specs.Spans as model
+use Rattle.trace_model.specs.Sampling.{Meaning, always_on, always_off, as_parent}
+use Rattle.trace_model.specs.Identifiers.{Words}
+use Rattle.trace_model.specs.History.{Setup, ended_spans}
 use Rattle.otlp_span.specs.Parts.{span_limits}
-use Rattle.span_script.specs.Lines.{Step, start, call, end}
 use Rattle.span_script.specs.Scripts.{Script, all_kept}
+use Rattle.span_script.specs.declared.sampler.SamplerName.{SamplerName}
+use Rattle.span_script.specs.declared.sampler.SamplerName.TheVariants.{AlwaysOn, AlwaysOff, ParentBased}
 
--- A sampled root's context: the first two words are the trace's identifier, the third is the span's, each with its
--- highest byte first (W3C Trace Context, traceparent; that the words stand as they are: profile).
-abbrev pub context_of : List ℕ → Option model.Context
-context_of (first ∷ second ∷ third ∷ others) = Some (record {
-  trace = to_be_bytes w64 first ++ to_be_bytes w64 second;
-  span = to_be_bytes w64 third;
-  flags = 1;
-  remote = false;
-  state = [];
-})
-context_of _ = None
+-- what a sampler of this name decides; one by the parent asks the sampler that is always on about roots (Trace SDK,
+-- Built-in samplers)
+abbrev pub meaning_of : SamplerName → Meaning
+meaning_of AlwaysOn = always_on
+meaning_of AlwaysOff = always_off
+meaning_of ParentBased = as_parent always_on
 
--- the call that a step makes on the span with the number 0, if it makes one
-abbrev pub call_of : Step → Option model.Call
-call_of (start number parent kind at name) = None
-call_of (call span c) = if span == 0 then Some c else None
-call_of (end span at) = if span == 0 then Some (model.end at) else None
+-- the words of a script, and zeros behind them
+abbrev pub words_of_list : List ℕ → Words
+words_of_list words k = slice_index words k
 
 -- what a script sets on its resource
 abbrev pub resource_of : Script → model.Resource
 resource_of s = record { attributes = (attributes all_kept s.resource).items; schema = [] }
 
--- the span of a start and of the calls on it, where one of these ends it; its limits are the standard's (Trace API, End;
--- Trace SDK, Span Limits)
-abbrev pub ended : Script → model.Scope → model.Start → List model.Call → List model.EndedSpan
-ended s scope begin calls = if list_any model.is_end calls
-    then record { resource = resource_of s; scope = scope; span = model.span (span_limits 128 None) begin calls } ∷ []
-    else []
+-- What a script has before its first step. Where it names no sampler all spans are sampled. The limits are the standard's
+-- (Trace SDK, Span Limits).
+abbrev pub setup_of : Script → Setup
+setup_of s = record {
+  words = words_of_list s.words;
+  provider = record { sampler = meaning_of (unwrap_or s.sampler AlwaysOn); resource = resource_of s; limits = span_limits 128 None };
+  scopes = s.scopes;
+}
 
--- the same of a start in a scope and with a context that may not be there
-abbrev pub ended_in : Script → Option model.Scope → Option model.Context → model.Kind → ℕ → List ℕ → List model.Call → List model.EndedSpan
-ended_in s (Some scope) (Some context) kind at name calls = ended s scope (record { context = context; parent = None; name = name; kind = kind; at = at }) calls
-ended_in s _ _ kind at name calls = []
-
--- what is ended of the first start among some steps: the calls on it are those behind it
-abbrev pub ended_of : Script → List Step → List model.EndedSpan
-ended_of s [] = []
-ended_of s (start number parent kind at name ∷ later) = ended_in s (slice_get s.scopes number) (context_of s.words) kind at name (filter_map call_of later)
-ended_of s (call span c ∷ later) = ended_of s later
-ended_of s (end span at ∷ later) = ended_of s later
-
--- the spans that a script ends
+-- the spans that a script ends, in the order of their ends
 abbrev pub spans_of : Script → List model.EndedSpan
-spans_of s = ended_of s s.steps
+spans_of s = ended_spans (setup_of s) s.steps

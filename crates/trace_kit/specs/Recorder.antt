@@ -1,59 +1,91 @@
 -- Where a recorder stands in a script.
-use Rattle.std.specs.Prelude.{◌≡◌, List, [], ◌∷◌, ◌++◌, map, Option, Some, None, filter_map}
-use Rattle.std.specs.Arc.{arc_value}
-use Rattle.trace_model.specs.Spans.{Call, Start, EndedSpan, Recording, Records}
-use Rattle.otlp_span.specs.Parts.{resource_view, scope_view, span_limits}
-use Rattle.span_script.specs.Lines.{Step, start, call, end}
-use Rattle.span_script.specs.Scripts.{Script}
-use Rattle.trace_kit.specs.Recorded.{call_of, resource_of, ended, ended_of}
+use Rattle.std.specs.Prelude.{◌≡◌, ℕ, Bool, true, false, List, [], ◌++◌, length, map, Option, Some, None, option_map, slice_get}
+use Rattle.std.specs.Borrow.{Bor}
+use Rattle.std.specs.Option.{option_copied}
+use Rattle.trace_model.specs.Spans.{Call, Context, Scope, Kind, end_of}
+use Rattle.trace_model.specs.Identifiers.{words_after}
+use Rattle.trace_model.specs.Sampling.{Meaning}
+use Rattle.trace_model.specs.Starts.{HeldSpan, Does, held}
+use Rattle.trace_model.specs.History.{Parent, Step, Setup, Outcome, start, call, root, numbered, given, outcome, outcomes, words_left, calls_on, ended_spans, starts}
+use Rattle.otlp_ids.specs.declared.SpanContext.{SpanContext}
+use Rattle.otlp_ids.specs.SpanContext.{context_view}
+use Rattle.otlp_ids.specs.WordStream.{words_of}
+use Rattle.otlp_value.specs.Value.{attributes_view}
+use Rattle.otlp_span.specs.Parts.{scope_view, span_limits}
+use Rattle.span_script.specs.declared.script.Script.{Script}
+use Rattle.trace_api.specs.Pass.{Body, Admits}
+use Rattle.trace_api.specs.Calls.{EndsTo}
+use Rattle.trace_api.specs.Starts.{ProviderWith, TracerWith, tracer_view}
+use Rattle.trace_api.specs.declared.pass.Ended.{Ended}
+use Rattle.trace_kit.specs.Words.{stream}
+use Rattle.trace_kit.specs.Recorded.{meaning_of, words_of_list}
+use Rattle.trace_kit.specs.declared.sampler.ScriptSampler.{ScriptSampler}
 use Rattle.trace_kit.specs.declared.recorder.Recorder.{Recorder}
 
-abbrev pub NoStart : List Step → Type 0
-NoStart [] = Unit {0}
-NoStart (start number parent kind at name ∷ steps) = ⊥
-NoStart (call span c ∷ steps) = NoStart steps
-NoStart (end span at ∷ steps) = NoStart steps
+-- what a script has before its first step
+abbrev pub setup_view : {A : Type 0} → Script A → Setup
+setup_view s = record {
+  words = words_of_list s.words.items;
+  provider = record { sampler = meaning_of s.sampler; resource = record { attributes = attributes_view s.resource.items; schema = [] }; limits = span_limits 128 None };
+  scopes = map scope_view s.scopes.items;
+}
 
-abbrev pub OneStart : List Step → Type 0
-OneStart [] = Unit {0}
-OneStart (start number parent kind at name ∷ steps) = NoStart steps
-OneStart (call span c ∷ steps) = OneStart steps
-OneStart (end span at ∷ steps) = OneStart steps
+-- whether a step is a start
+abbrev pub begins : Step → Bool
+begins (start scope parent kind at name) = true
+begins (call n c) = false
 
--- the recorder has what the script sets
-pub record Has {A : Type 0} (r : Recorder A) (s : Script) : Type 0 where
-  pub words : r.words.items ≡ s.words
-  pub resource : resource_view (arc_value r.resource) ≡ resource_of s
-  pub scopes : map (λ x. scope_view (arc_value x)) r.scopes.items ≡ s.scopes
-  pub limits : r.limits.max_attributes_per_span ≡ 128
+abbrev pub meaning : ScriptSampler → Meaning
+meaning s = meaning_of s.0
 
--- what is recorded is a start of the script and some calls on it, and the steps behind them make it these spans
-pub record IsOpen (s : Script) (r : Recording) (later : List Step) (spans : List EndedSpan) : Type 0 where
-  pub begin : Start
-  pub calls : List Call
-  pub limits : r.limits ≡ span_limits 128 None
-  pub resource : r.resource ≡ resource_of s
-  pub value : Records r begin calls
-  pub alone : NoStart later
-  pub spans_are : spans ≡ ended s r.scope begin (calls ++ filter_map call_of later)
+-- the tracers of a provider, one for each scope
+abbrev pub tracers_of : {S : Type 0} → ProviderWith S → List Scope → List (TracerWith S)
+tracers_of provider scopes = map (λ scope. record { provider = provider; scope = scope }) scopes
 
--- nothing has started, or nothing will
-pub record IsWaiting (s : Script) (later : List Step) (spans : List EndedSpan) : Type 0 where
-  pub one : OneStart later
-  pub spans_are : spans ≡ ended_of s later
+abbrev pub contexts_view : {A : Type 0} → Option (Bor (SpanContext A)) → Option Context
+contexts_view context = option_map context_view (option_copied context)
 
--- nothing more comes
-pub record IsDone (e : EndedSpan) (later : List Step) (spans : List EndedSpan) : Type 0 where
-  pub alone : NoStart later
-  pub spans_are : spans ≡ e ∷ []
+-- the span of this outcome after these calls
+abbrev pub span_after : List Call → Outcome → Option HeldSpan
+span_after calls o = option_map (λ s. held s calls) o.span
 
-abbrev pub Stands : Script → Option Recording → Option EndedSpan → List Step → List EndedSpan → Type 0
-Stands s None None later spans = IsWaiting s later spans
-Stands s (Some r) None later spans = IsOpen s r later spans
-Stands s None (Some e) later spans = IsDone e later spans
-Stands s (Some r) (Some e) later spans = ⊥
+-- The recorder has taken some steps, and these are still to come.
+pub record Stands {A : Type 0} (setup : Setup) (done later : List Step) (r : Recorder A) : Type 0 where
+  pub tracers : map (tracer_view meaning) r.tracers.items ≡ map (λ scope. record { provider = setup.provider; scope = scope }) setup.scopes
+  pub words : words_of (stream r.words) ≡ words_left setup (outcomes setup done)
+  pub many : length r.spans.items ≡ length (outcomes setup done)
+  pub spans : (n : ℕ) → slice_get r.spans.items n ≡ option_map (span_after (calls_on n done)) (slice_get (outcomes setup done) n)
+  pub pass : r.pass ≡ record { spans = ended_spans setup done; room = starts (done ++ later); dropped = 0 }
 
--- the recorder is where these later steps of the script lead to these spans
-pub record Leads {A : Type 0} (s : Script) (r : Recorder A) (later : List Step) (spans : List EndedSpan) : Type 0 where
-  pub has : Has r s
-  pub stands : Stands s r.recording r.ended later spans
+-- the span of an outcome, and the words that are left behind it
+pub record ComesTo (o : Outcome) (before after : List ℕ) (span : Option HeldSpan) : Type 0 where
+  pub words : words_of (stream after) ≡ words_after o.spent (words_of (stream before))
+  pub span_is : span ≡ span_after [] o
+
+-- The span of a start comes from the words; it is not among the recorder's spans yet.
+pub record StartsAmong {A : Type 0} (scope : ℕ) (parent : Parent) (kind : Kind) (at : ℕ) (name : List ℕ) (old new : Recorder A) (span : Option HeldSpan) : Type 0 where
+  pub tracers : new.tracers.items ≡ old.tracers.items
+  pub spans : new.spans.items ≡ old.spans.items
+  pub pass : new.pass ≡ old.pass
+  pub comes : (setup : Setup) (done later : List Step) → Stands setup done later old → ComesTo (outcome setup (outcomes setup done) scope parent kind at name) old.words new.words span
+
+-- what a call does to the pass: an end may hand its span to it
+abbrev pub Passes : Option ℕ → HeldSpan → Body → Body → Type 0
+Passes (Some at) span old new = (answer : Ended) × EndsTo Admits at span.context.flags span.state old answer new
+Passes None span old new = new ≡ old
+
+-- a call on a span, beside the pass
+pub record Applies (call : Call) (old new : HeldSpan) (before after : Body) : Type 0 where
+  pub does : Does call old new
+  pub passes : Passes (end_of call) old before after
+
+abbrev pub context_in : Option (Option HeldSpan) → Option (Option Context)
+context_in (Some (Some span)) = Some (Some span.context)
+context_in (Some None) = None
+context_in None = None
+
+-- the parent that a start names, where it is there, among these spans
+abbrev pub parent_in : List (Option HeldSpan) → Parent → Option (Option Context)
+parent_in spans root = Some None
+parent_in spans (numbered n) = context_in (slice_get spans n)
+parent_in spans (given c) = Some (Some c)

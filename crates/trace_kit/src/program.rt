@@ -13,8 +13,8 @@ use std::alloc::Allocator;
 use std::io;
 use std::io::{ErrorKind, Read, Write};
 
-/// Runs a script of one span at most and prints, with `body`, the body of the request that exports it: a line of
-/// hexadecimal digits, which is empty where no span has ended. Nothing happens before the whole script is read.
+/// Runs a script and prints, with `body`, the body of the request that exports the sampled spans which it ends, in the
+/// order of their ends: a line of hexadecimal digits, which is empty where there is none. Nothing happens before the whole script is read.
 ///
 /// The answer is the program's status: 0, or 1 where a read or a write failed, 2 where a line is bad (told as
 /// `line N: bad script` on `faults`; nothing is printed) or `body` is false (there is nothing else to print yet), 3
@@ -44,7 +44,7 @@ pub fn script<A: Allocator + Copy, R: Read, W: Write, F: Write>(
     }
 }
 
-/// The line that is printed: the body of the script's span in hexadecimal digits, and the end of the line.
+/// The line that is printed: the body of the script's spans in hexadecimal digits, and the end of the line.
 fn body_line<A: Allocator + Copy, R: Read>(
     alloc: A,
     input: &mut R,
@@ -62,8 +62,8 @@ fn body_line<A: Allocator + Copy, R: Read>(
         Ok(script) => script,
         Err(error) => return Err(Failure::Script(error)),
     };
-    let spans = recorded(alloc, script)?;
-    let body = body_of(alloc, spans.as_slice(), usize::MAX)?;
+    let pass = recorded(alloc, script)?;
+    let body = body_of(alloc, pass.spans(), usize::MAX)?;
     Ok(hex_line(alloc, body.as_slice())?)
 }
 

@@ -1,49 +1,44 @@
 //! The spans that a script starts, calls and ends.
-ghost use Rattle.std.specs.Prelude.{◌≡◌, ◌≤◌, ◌++◌, ◌∷◌, List, IfOk, OnOk, count_by, map, option_map, string_bytes};
-ghost use Rattle.std.specs.Option.{option_to_list};
-ghost use Rattle.std.specs.Int.{w64, to_be_bytes};
-ghost use Rattle.std.specs.Arc.{arc_value};
-ghost use Rattle.trace_model.specs.Spans.{EndedSpan};
-ghost use Rattle.otlp_ids.specs.SpanContext.{context_view};
+ghost use Rattle.std.specs.Prelude.{◌≡◌, ◌≤◌, List, ◌∷◌, ◌++◌, [], IfOk, OnOk, option_map, length, map, string_bytes};
+ghost use Rattle.trace_model.specs.History as history;
+ghost use Rattle.trace_model.specs.History.{Setup, Step as ModelStep, ended_spans};
 ghost use Rattle.otlp_span.specs.Parts.{call_view, kind_view, scope_view};
-ghost use Rattle.span_script.specs.Lines as lines;
+ghost use Rattle.span_script.specs.Contexts as contexts;
 ghost use Rattle.span_script.specs.Lines.{step_view};
-ghost use Rattle.span_script.specs.Scripts.{Script as ScriptRead};
-ghost use Rattle.span_script.specs.Parsed.{Means, starts_span};
-ghost use Rattle.span_script.specs.declared.step.Parent.{Parent};
 ghost use Rattle.trace_kit.specs.Group.{SharePlace};
-ghost use Rattle.trace_kit.specs.Recorded.{context_of, spans_of};
-ghost use Rattle.trace_kit.specs.Recorder.{Leads};
+ghost use Rattle.trace_kit.specs.Recorder.{Applies, Stands, StartsAmong, begins, contexts_view, parent_in, setup_view, tracers_of};
 
-use otlp_ids::{OutOfMemory, SpanContext, SpanId, TraceFlags, TraceId};
-use otlp_span::{Kind, Open, Resource, Scope, SpanCall, SpanData, SpanLimits, SpanRecord};
-use span_script::{Script, Step};
+use crate::sampler::ScriptSampler;
+use crate::words::ScriptWords;
+use otlp_ids::{OutOfMemory, SpanContext};
+use otlp_span::{Kind, Resource, Scope, SpanCall, SpanLimits};
+use span_script::{Parent, Script, Step};
 use std::alloc::Allocator;
 use std::sync::Arc;
+use trace_api::{BodyPass, Provider, Span, StartFault, Tracer};
 
-/// Runs the steps of a script, of which one at most starts a span.
+/// Runs the steps of a script.
 #[derive(Drop)]
-pub struct Recorder<A: Allocator + Copy> {
+pub struct Recorder<'a, A: Allocator + Copy> {
     alloc: A,
-    words: Vec<u64, A>,
-    resource: Arc<Resource<A>, A>,
-    scopes: Vec<Arc<Scope<A>, A>, A>,
-    limits: SpanLimits,
-    recording: Option<SpanRecord<A>>,
-    ended: Option<SpanData<A>>,
+    tracers: Vec<Tracer<'a, ScriptSampler, A>, A>,
+    words: ScriptWords<A>,
+    spans: Vec<Option<Span<A>>, A>,
+    pass: BodyPass<A>,
 }
 
-/// The spans that the script ends: one at most.
+/// The sampled spans that the script ends, in the order of their ends.
 pub fn recorded<A: Allocator + Copy>(
     alloc: A,
     script: Script<A>,
-) -> Result<Vec<SpanData<A>, A>, OutOfMemory>
-    requires { count_by starts_span script.steps.items ≤ 1 }
-    ensures exact { IfOk result (λ spans. (read : ScriptRead) → Means script read → spans.items ≡ spans_of read) }
-    ensures shared { IfOk result (λ spans. SharePlace spans.items) }
+) -> Result<BodyPass<A>, OutOfMemory>
+    requires { length script.scopes.items ≤ 1 }
+    ensures exact { IfOk result (λ pass. pass.spans ≡ ended_spans (setup_view script) (map step_view script.steps.items)) }
+    ensures shared { IfOk result (λ pass. SharePlace pass.spans) }
 {
     let Script {
         words,
+        sampler,
         resource,
         scopes,
         steps,
@@ -52,145 +47,147 @@ pub fn recorded<A: Allocator + Copy>(
         attributes: resource,
         schema_url: String::new(alloc),
     };
+    let resource = Arc::new(alloc, resource)?;
+    let provider = Provider::new(ScriptSampler(sampler), resource, SpanLimits::default());
     let mut recorder = Recorder {
         alloc,
-        words,
-        resource: Arc::new(alloc, resource)?,
-        scopes: shared(alloc, scopes)?,
-        limits: SpanLimits::default(),
-        recording: None,
-        ended: None,
+        tracers: tracers(alloc, &provider, scopes)?,
+        words: ScriptWords::new(words),
+        spans: Vec::new(alloc),
+        pass: BodyPass::new(alloc, count_starts(steps.as_slice()))?,
     };
     for step in steps {
         recorder.take_step(step)?;
     }
-    listed(alloc, recorder.ended.take())
+    let Recorder { pass, .. } = recorder;
+    Ok(pass)
 }
 
-/// The span, if there is one, as a list.
-fn listed<A: Allocator + Copy>(
-    alloc: A,
-    ended: Option<SpanData<A>>,
-) -> Result<Vec<SpanData<A>, A>, OutOfMemory>
-    ensures { IfOk result (λ spans. spans.items ≡ option_to_list ended) }
+/// Whether the step starts a span.
+fn is_start<A: Allocator>(step: &Step<A>) -> bool
+    ensures { result ≡ begins (step_view step.now) }
 {
-    let mut spans = Vec::new(alloc);
-    match ended {
-        Some(span) => {
-            spans.push(span)?;
-            Ok(spans)
-        }
-        None => Ok(spans),
-    }
+    matches!(step, Step::Start { .. })
 }
 
-/// The scopes, each with an owner of its own.
-fn shared<A: Allocator + Copy>(
+/// How many spans the steps start.
+fn count_starts<A: Allocator>(steps: &[Step<A>]) -> usize
+    ensures { result ≡ history.starts (map step_view steps.now) }
+{
+    let mut starts = 0;
+    for step in steps {
+        starts += usize::from(is_start(step));
+    }
+    starts
+}
+
+/// A tracer for each scope.
+fn tracers<'a, A: Allocator + Copy>(
     alloc: A,
+    provider: &'a Provider<ScriptSampler, A>,
     scopes: Vec<Scope<A>, A>,
-) -> Result<Vec<Arc<Scope<A>, A>, A>, OutOfMemory>
-    ensures { IfOk result (λ v. map (λ x. scope_view (arc_value x)) v.items ≡ map scope_view scopes.items) }
+) -> Result<Vec<Tracer<'a, ScriptSampler, A>, A>, OutOfMemory>
+    ensures { IfOk result (λ tracers. tracers.items ≡ tracers_of provider.now (map scope_view scopes.items)) }
 {
-    let mut owned = Vec::with_capacity(alloc, scopes.len())?;
+    let mut tracers = Vec::with_capacity(alloc, scopes.len())?;
     for scope in scopes {
-        owned.push(Arc::new(alloc, scope)?)?;
+        tracers.push(provider.tracer(Arc::new(alloc, scope)?))?;
     }
-    Ok(owned)
+    Ok(tracers)
 }
 
-/// A trace id of two words, the first byte of the first one first.
-fn trace_id(first: u64, second: u64) -> TraceId
-    ensures { result.0 ≡ to_be_bytes w64 first ++ to_be_bytes w64 second }
+/// The context of the parent that a start names, if there is such a parent: of a span by its number, of elsewhere as it
+/// is given.
+fn parent_context<'s, A: Allocator>(
+    spans: &'s [Option<Span<A>>],
+    parent: &'s Parent<A>,
+) -> Option<Option<&'s SpanContext<A>>>
+    ensures { option_map contexts_view result ≡ parent_in spans.now (contexts.parent_view parent.now) }
 {
-    let mut bytes = [0; 16];
-    bytes[..8].copy_from_slice(&first.to_be_bytes());
-    bytes[8..].copy_from_slice(&second.to_be_bytes());
-    TraceId(bytes)
+    match parent {
+        Parent::Root => Some(None),
+        Parent::Span(number) => match spans.get(*number as usize) {
+            Some(Some(span)) => Some(Some(span.context())),
+            _ => None,
+        },
+        Parent::Given(context) => Some(Some(context)),
+    }
 }
 
-/// The context of a sampled root, whose identifiers are the first three words as they stand.
-fn root_context<A: Allocator>(alloc: A, words: &[u64]) -> Option<SpanContext<A>>
-    ensures { option_map context_view result ≡ context_of words.now }
+/// Makes a call on a span. An end hands it to the pass.
+fn apply<A: Allocator>(
+    span: &mut Span<A>,
+    pass: &mut BodyPass<A>,
+    call: SpanCall<A>,
+) -> Result<(), OutOfMemory>
+    ensures { OnOk result (Applies (call_view call) span.old span.new pass.old pass.new) }
 {
-    let [first, second, third, ..] = words else {
-        return None;
-    };
-    Some(SpanContext {
-        trace: trace_id(*first, *second),
-        span: SpanId(third.to_be_bytes()),
-        flags: TraceFlags(1),
-        remote: false,
-        state: String::new(alloc),
-    })
+    match call {
+        SpanCall::SetAttribute(key, value) => span.set_attribute(key, value),
+        SpanCall::End(at) => {
+            span.end(pass, at);
+            Ok(())
+        }
+    }
 }
 
-impl<A: Allocator + Copy> Recorder<A> {
+impl<'a, A: Allocator + Copy> Recorder<'a, A> {
     fn take_step(&mut self, step: Step<A>) -> Result<(), OutOfMemory>
-        ensures { OnOk result ((read : ScriptRead) (later : List lines.Step) (spans : List EndedSpan) →
-            Leads read self.old (step_view step ∷ later) spans → Leads read self.new later spans) }
+        ensures { OnOk result ((setup : Setup) (done later : List ModelStep) →
+            Stands setup done (step_view step ∷ later) self.old → Stands setup (done ++ step_view step ∷ []) later self.new) }
     {
         match step {
             Step::Start {
                 scope,
+                parent,
                 kind,
                 at,
                 name,
-                ..
-            } => self.start(scope, kind, at, name),
-            Step::Call { span: 0, call } => self.call(call),
-            Step::End { span: 0, at } => {
-                self.end(at);
+            } => {
+                let span = self.start(scope, &parent, kind, at, name)?;
+                self.spans.push(span)?;
                 Ok(())
             }
-            Step::Call { .. } | Step::End { .. } => Ok(()),
+            Step::Call { span, call } => self.call(span, call),
+            Step::End { span, at } => self.call(span, SpanCall::End(at)),
         }
     }
 
-    /// Starts the root of a trace, whose identifiers are the first words as they stand. Where the scope isn't
-    /// there, nothing starts.
-    fn start(&mut self, scope: u32, kind: Kind, at: u64, name: String<A>) -> Result<(), OutOfMemory>
-        ensures { OnOk result ((read : ScriptRead) (parent : Parent) (later : List lines.Step) (spans : List EndedSpan) →
-            Leads read self.old (lines.start scope parent (kind_view kind) at (string_bytes name) ∷ later) spans → Leads read self.new later spans) }
+    /// The span that starts, unless the scope or the parent isn't there or the words give no identifier.
+    fn start(
+        &mut self,
+        scope: u32,
+        parent: &Parent<A>,
+        kind: Kind,
+        at: u64,
+        name: String<A>,
+    ) -> Result<Option<Span<A>>, OutOfMemory>
+        ensures { IfOk result (StartsAmong scope (contexts.parent_view parent.now) (kind_view kind) at (string_bytes name) self.old self.new) }
     {
-        let Some(scope) = self.scopes.get(scope as usize) else {
+        let Some(tracer) = self.tracers.get(scope as usize) else {
+            return Ok(None);
+        };
+        let Some(parent) = parent_context(self.spans.as_slice(), parent) else {
+            return Ok(None);
+        };
+        match tracer.start(self.alloc, &mut self.words, parent, name, kind, at) {
+            Ok(span) => Ok(Some(span)),
+            Err(StartFault::NoRandomness) => Ok(None),
+            Err(StartFault::OutOfMemory) => Err(OutOfMemory),
+        }
+    }
+
+    /// Makes a call on the span with this number, if there is one.
+    fn call(&mut self, number: u32, call: SpanCall<A>) -> Result<(), OutOfMemory>
+        ensures { OnOk result ((setup : Setup) (done later : List ModelStep) → let step = history.call number (call_view call) in
+            Stands setup done (step ∷ later) self.old → Stands setup (done ++ step ∷ []) later self.new) }
+    {
+        let Some(slot) = self.spans.get_mut(number as usize) else {
             return Ok(());
         };
-        let Some(context) = root_context(self.alloc, self.words.as_slice()) else {
+        let Some(span) = slot else {
             return Ok(());
         };
-        let opening = Open {
-            context,
-            parent: None,
-            resource: Arc::try_clone(&self.resource)?,
-            scope: Arc::try_clone(scope)?,
-            name,
-            kind,
-            start: at,
-        };
-        self.recording = Some(SpanRecord::open(self.alloc, opening, &self.limits)?);
-        Ok(())
-    }
-
-    fn call(&mut self, call: SpanCall<A>) -> Result<(), OutOfMemory>
-        ensures { OnOk result ((read : ScriptRead) (later : List lines.Step) (spans : List EndedSpan) →
-            Leads read self.old (lines.call 0 (call_view call) ∷ later) spans → Leads read self.new later spans) }
-    {
-        match (call, &mut self.recording) {
-            (SpanCall::SetAttribute(key, value), Some(record)) => record.set_attribute(key, value),
-            (SpanCall::End(at), _) => {
-                self.end(at);
-                Ok(())
-            }
-            (SpanCall::SetAttribute(..), None) => Ok(()),
-        }
-    }
-
-    fn end(&mut self, at: u64)
-        ensures { (read : ScriptRead) (later : List lines.Step) (spans : List EndedSpan) →
-            Leads read self.old (lines.end 0 at ∷ later) spans → Leads read self.new later spans }
-    {
-        if let Some(record) = self.recording.take() {
-            self.ended = Some(record.close(at));
-        }
+        apply(span, &mut self.pass, call)
     }
 }

@@ -22,7 +22,7 @@ start 0 root internal 1 a
 end 0 2
 ";
 
-const ONE_SPAN_BODY: &str =
+pub(crate) const ONE_SPAN_BODY: &str =
     "0a3e0a00123a0a030a017312330a100102030405060708090a0b0c0d0e0f10120811121314151617182a01613001390100000000000000410200000000000000\n";
 
 const ONE_ATTRIBUTE: &str = "words 0102030405060708 090a0b0c0d0e0f10 1112131415161718
@@ -37,13 +37,18 @@ const ONE_ATTRIBUTE_BODY: &str =
 
 /// What `script` answers and prints.
 #[derive(Drop)]
-struct Printed {
-    status: u8,
-    output: Vec<u8>,
-    faults: Vec<u8>,
+pub(crate) struct Printed {
+    pub(crate) status: u8,
+    pub(crate) output: Vec<u8>,
+    pub(crate) faults: Vec<u8>,
 }
 
-fn run<A: Allocator + Copy>(alloc: Global, memory: A, text: &str, body: bool) -> Printed {
+pub(crate) fn run<A: Allocator + Copy>(
+    alloc: Global,
+    memory: A,
+    text: &str,
+    body: bool,
+) -> Printed {
     let mut output = Vec::new(alloc);
     let mut faults = Vec::new(alloc);
     let mut input = text.as_bytes();
@@ -55,7 +60,7 @@ fn run<A: Allocator + Copy>(alloc: Global, memory: A, text: &str, body: bool) ->
     }
 }
 
-fn assert_run(rt: &impl Abort, run: &Printed, status: u8, output: &str, faults: &str) {
+pub(crate) fn assert_run(rt: &impl Abort, run: &Printed, status: u8, output: &str, faults: &str) {
     assert_eq!(rt; run.output.as_slice(), output.as_bytes());
     assert_eq!(rt; run.faults.as_slice(), faults.as_bytes());
     assert_eq!(rt; run.status, status);
@@ -132,13 +137,10 @@ fn ignores_calls_behind_the_end(rt: HostRuntime) -> Result<(), Fail> {
 fn tells_bad_lines_and_prints_nothing(rt: HostRuntime) {
     let cases = [
         (
-            "scope 0 s % %\n\nstart 0 root internal 1 a\nend 0 2\n",
+            "scope 0 s % %\n\nstart 0 root unknown 1 a\nend 0 2\n",
             "line 3: bad script\n",
         ),
-        (
-            "words 0000000000000000 0000000000000000 1112131415161718\nscope 0 s % %\nstart 0 root internal 1 a\n",
-            "line 3: bad script\n",
-        ),
+        ("sampler on\nsampler on\n", "line 2: bad script\n"),
         ("flush\n", "line 1: bad script\n"),
         ("\nattr 0 a t:x\r\nend 0 2\r\n", "line 3: bad script\n"),
         ("attr 0 a t:x \n", "line 1: bad script\n"),

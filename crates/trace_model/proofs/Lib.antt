@@ -10,3 +10,4 @@ pub mod Lengths
 pub mod Grouped
 pub mod Equalities
 pub mod Setting
+pub mod Histories

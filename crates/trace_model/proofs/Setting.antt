@@ -18,7 +18,7 @@ filter-append test (x ∷ xs) ys = go (test x) (filter-append test xs ys)
     go false h = h
 
 -- One more at the end is distinct from all before, or changes nothing.
-distinct-more : {A : Type 0} (same : A → A → Bool) (xs : List A) (y : A) → distinct same (xs ++ y ∷ []) ≡ cond (list_any (λ x. same x y) xs) (distinct same xs) (distinct same xs ++ y ∷ [])
+pub distinct-more : {A : Type 0} (same : A → A → Bool) (xs : List A) (y : A) → distinct same (xs ++ y ∷ []) ≡ cond (list_any (λ x. same x y) xs) (distinct same xs) (distinct same xs ++ y ∷ [])
 distinct-more same [] y = refl
 distinct-more {A = A} same (x ∷ xs) y = go (same x y) refl (list_any (λ z. same z y) xs) (distinct-more same xs y)
   where

@@ -1,6 +1,6 @@
 -- Identifiers of traces and spans, drawn from random words, and the flags of a trace. (W3C Trace Context, trace-id,
 -- parent-id, trace-flags; Trace SDK, Id Generators)
-use Rattle.std.specs.Prelude.{ℕ, ◌+◌, ◌*◌, ◌%◌, ◌==◌, Bool, List, flat_map, Option}
+use Rattle.std.specs.Prelude.{ℕ, ◌+◌, ◌-◌, ◌*◌, ◌%◌, ◌==◌, Bool, if◌then◌else◌, List, flat_map, Option}
 use Rattle.std.specs.Option.{option_map, option_map_or}
 use Rattle.std.specs.List.{find, range_with_len}
 use Rattle.std.specs.Int.{w64, to_be_bytes}
@@ -46,3 +46,7 @@ words_after n words k = words (n + k)
 -- bit 0 of the flags (W3C Trace Context, sampled flag)
 abbrev pub has_sampled_flag : ℕ → Bool
 has_sampled_flag flags = flags % 2 == 1
+
+-- the flags with bit 0 as it is told, and all others as they were (W3C Trace Context, sampled flag, other flags)
+abbrev pub with_sampled_flag : Bool → ℕ → ℕ
+with_sampled_flag sampled flags = (flags - flags % 2) + (if sampled then 1 else 0)

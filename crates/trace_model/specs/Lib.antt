@@ -12,3 +12,5 @@ pub mod Spelling
 pub mod Whole
 pub mod Laws
 pub mod Sampling
+pub mod Starts
+pub mod History

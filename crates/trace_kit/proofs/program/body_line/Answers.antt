@@ -1,6 +1,7 @@
-use Rattle.std.proofs.Common.{◌≡◌, Result, Ok, Err, IfErr}
+use Rattle.std.proofs.Common.{◌≡◌, ◌∙◌, Result, Ok, Err, IfErr}
 use Rattle.std.specs.Result.{IsErrAnd}
 use Rattle.trace_kit.specs.Printed.{Explains}
+use Rattle.trace_kit.proofs.Steps.{same-script}
 use Rattle.trace_kit.proofs.program.body_line.Goals as goal
 
 same-fault : {T E : Type 0} (r : Result T E) (P : E → Type 0) (fault : E) → IsErrAnd r (λ e. e ≡ fault) → P fault → IfErr r P
@@ -14,13 +15,14 @@ returns-in_err-text-clause-fault g c =
 pub returns-clause-line : goal.returns-clause-line
 returns-clause-line g c =
     let parsed = c.in-Ok.ensures.exact in
+    let spans = c.spans.ensures ∙ c.in_ok-pass.ensures.exact ∙ same-script c.in-Ok.script parsed.0 parsed.2 in
     record {
       text = c.in_ok-text.text.items;
       given = c.in_ok-text.ensures.text;
       script = parsed.0;
       read = rw c.as_slice.ensures.value at parsed.1;
       body = c.in_ok-body.body.items;
-      meaning = rw (c.as_slice-2.ensures.value, c.in_ok-spans.ensures.exact parsed.0 parsed.2) at c.in_ok-body.ensures.meaning;
-      size = rw (c.as_slice-2.ensures.value, c.in_ok-spans.ensures.exact parsed.0 parsed.2) at c.in_ok-body.ensures.length;
-      digits = rw c.as_slice-3.ensures.value at c.in_ok-hex_line.ensures;
+      meaning = rw spans at c.in_ok-body.ensures.meaning;
+      size = rw spans at c.in_ok-body.ensures.length;
+      digits = rw c.as_slice-2.ensures.value at c.in_ok-hex_line.ensures;
     }

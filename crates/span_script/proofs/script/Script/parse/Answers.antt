@@ -1,7 +1,7 @@
 use Rattle.std.proofs.Common.{sym, ap, ◌∙◌, rules}
 use Rattle.span_script.proofs.Lines.{words_at}
 use Rattle.span_script.proofs.Loop.{one_more_line, bad_line, no_more_lines, whole_text}
-use Rattle.span_script.proofs.Kept.{good_script, bad_line_is, runs}
+use Rattle.span_script.proofs.Kept.{one_scope, bad_line_is}
 use Rattle.span_script.proofs.script.Script.parse.Goals as goal
 
 pub returns-in-Err-Bad-clause-exact : goal.returns-in-Err-Bad-clause-exact
@@ -27,10 +27,4 @@ returns-clause-exact g c =
     (so_far.0, sym all ∙ no_more_lines so_far.0 c.deref-line-items.result.now c.loop-index.index _ (search rules) so_far.2, c.from_draft.ensures so_far.0 so_far.1)
 
 pub returns-clause-one_scope : goal.returns-clause-one_scope
-returns-clause-one_scope g c = let s = returns-clause-exact g c in (runs c.from_draft.result s.0 s.2 (good_script s.0 _ s.1)).one_scope
-
-pub returns-clause-one_start : goal.returns-clause-one_start
-returns-clause-one_start g c = let s = returns-clause-exact g c in (runs c.from_draft.result s.0 s.2 (good_script s.0 _ s.1)).one_start
-
-pub returns-clause-identifiers : goal.returns-clause-identifiers
-returns-clause-identifiers g c = let s = returns-clause-exact g c in (runs c.from_draft.result s.0 s.2 (good_script s.0 _ s.1)).identifiers
+returns-clause-one_scope g c = let s = returns-clause-exact g c in one_scope c.from_draft.result s.0 c.args.text.now s.2 s.1

@@ -1,12 +1,28 @@
-use Rattle.std.proofs.Common.{◌∷◌}
-use Rattle.trace_model.specs.Spans as model
-use Rattle.span_script.specs.Lines.{call}
-use Rattle.trace_kit.specs.Recorder.{Stands}
-use Rattle.trace_kit.proofs.Steps.{as-end}
+use Rattle.std.proofs.Common.{◌≡◌, ◌∙◌, refl, sym, ap, ◌≤◌, length, Some, None, slice_get, slice_set}
+use Rattle.std.proofs.lemmas.Option.{slice_get_past, slice_get_read}
+use Rattle.std.specs.Vec.{with_item}
+use Rattle.trace_model.specs.Starts.{HeldSpan}
+use Rattle.otlp_span.specs.Parts.{call_view}
+use Rattle.trace_kit.proofs.Writing.{on-ok}
+use Rattle.trace_kit.proofs.Steps.{missed, missing-slot, called}
 use Rattle.trace_kit.proofs.recorder.Recorder.call.Goals as goal
 
-pub returns-in-End-default : goal.returns-in-End-default
-returns-in-End-default g c = λ read later spans h.
-    let self = c.args.self.now in
-    let stands : Stands read self.recording self.ended (call 0 (model.end c.in-End-default.at) ∷ later) spans = rw c.in-End-default.is-0 at h.stands in
-    c.end.ensures read later spans (record { has = h.has; stands = as-end read self.recording self.ended c.in-End-default.at later spans stands })
+pub returns-in_default : goal.returns-in_default
+returns-in_default g c = λ setup done later h.
+    let spans = c.args.self.now.spans.items in
+    let past : length spans ≤ c.args.number = c.in_default.ensures.item.3 in
+    let none : slice_get spans c.args.number ≡ None = slice_get_past spans c.args.number past in
+    missed setup done later c.args.number (call_view c.args.call) c.args.self.now _ h (λ x e. let no : ◌≡◌ {A = _} None (Some (Some x)) = sym none ∙ e in cc) refl refl refl refl
+
+pub returns-in_default-slot : goal.returns-in_default-slot
+returns-in_default-slot g c = λ setup done later h.
+    let spans = c.args.self.now.spans.items in
+    let found : slice_get spans c.args.number ≡ Some c.in-Some.slot.now = slice_get_read spans (length spans) c.args.number c.in-Some.slot.now refl c.in-Some.ensures.item.3.0 c.in-Some.ensures.item.1 in
+    let there : slice_get spans c.args.number ≡ Some None = found ∙ ap Some c.in_default-slot.is in
+    missed setup done later c.args.number (call_view c.args.call) c.args.self.now (record c.args.self.now { spans = with_item c.args.self.now.spans c.args.number c.in-Some.slot.now }) h (λ x e. let no : Some None ≡ Some (Some x) = sym there ∙ e in cc) refl refl (missing-slot c.args.self.now (record c.args.self.now { spans = with_item c.args.self.now.spans c.args.number c.in-Some.slot.now }) c.args.number there (ap (λ o. slice_set spans c.args.number o) c.in_default-slot.is)) refl
+
+pub returns : goal.returns
+returns g c =
+    let spans = c.args.self.now.spans.items in
+    let found : slice_get spans c.args.number ≡ Some c.in-Some.slot.now = slice_get_read spans (length spans) c.args.number c.in-Some.slot.now refl c.in-Some.ensures.item.3.0 c.in-Some.ensures.item.1 in
+    on-ok c.apply.result (λ a setup done later h. called setup done later c.args.number (call_view c.args.call) c.args.self.now _ c.in-Some-slot.span c.apply.new.span h (found ∙ ap Some c.in-Some-slot.is) a refl refl refl) c.apply.ensures

@@ -1,0 +1,117 @@
+//! Contexts of spans and parents, as words.
+
+ghost use Rattle.std.specs.Prelude.{◌≡◌, ok_or};
+ghost use Rattle.otlp_ids.specs.SpanContext.{context_view};
+ghost use Rattle.span_script.specs.Words.{Gives, hex_bytes};
+ghost use Rattle.span_script.specs.Contexts.{context_of, given_of, is_remote_of, joined_context_of, parent_of, parent_view, plain_parent_of};
+ghost use Rattle.span_script.specs.declared.words.Fault.TheVariants.{Bad};
+
+use crate::step::Parent;
+use crate::words::{Fault, around_colon, byte, small_number, text};
+use otlp_ids::{SpanContext, SpanId, TraceFlags, TraceId};
+use std::alloc::Allocator;
+use std::str;
+
+/// Reads the parent of a span that starts: `root`, the number of a span, or `remote:` or `local:` with a
+/// context behind it.
+#[tactic(auto, unfolding(crate::specs::Contexts::parent_of))]
+pub(crate) fn parse_parent<A: Allocator>(alloc: A, word: &[u8]) -> Result<Parent<A>, Fault>
+    ensures { Gives parent_view result (parent_of word.now) }
+{
+    match around_colon(word) {
+        Some((side, context)) => parse_given(alloc, side, context),
+        None => parse_plain_parent(word),
+    }
+}
+
+/// `root`, or the number of a span.
+#[tactic(auto, unfolding(crate::specs::Contexts::plain_parent_of))]
+fn parse_plain_parent<A: Allocator>(word: &[u8]) -> Result<Parent<A>, Fault>
+    ensures { Gives parent_view result (plain_parent_of word.now) }
+{
+    match word {
+        b"root" => Ok(Parent::Root),
+        _ => Ok(Parent::Span(small_number(word)?)),
+    }
+}
+
+/// Whether the context behind `remote` or `local` is remote.
+#[tactic(auto, unfolding(crate::specs::Contexts::is_remote_of))]
+fn parse_side(side: &[u8]) -> Result<bool, Fault>
+    ensures { result ≡ ok_or (is_remote_of side.now) Bad }
+{
+    match side {
+        b"remote" => Ok(true),
+        b"local" => Ok(false),
+        _ => Err(Fault::Bad),
+    }
+}
+
+/// `remote` or `local`, and a context.
+#[tactic(auto, unfolding(crate::specs::Contexts::given_of))]
+fn parse_given<A: Allocator>(alloc: A, side: &[u8], context: &[u8]) -> Result<Parent<A>, Fault>
+    ensures { Gives parent_view result (given_of side.now context.now) }
+{
+    let remote = parse_side(side)?;
+    Ok(Parent::Given(parse_joined_context(alloc, remote, context)?))
+}
+
+/// `TRACE:SPAN:FLAGS:STATE`. A further colon belongs to the state.
+#[tactic(auto, unfolding(crate::specs::Contexts::joined_context_of))]
+fn parse_joined_context<A: Allocator>(
+    alloc: A,
+    remote: bool,
+    word: &[u8],
+) -> Result<SpanContext<A>, Fault>
+    ensures { Gives context_view result (joined_context_of remote word.now) }
+{
+    let (trace, rest) = around_colon(word).ok_or(Fault::Bad)?;
+    let (span, rest) = around_colon(rest).ok_or(Fault::Bad)?;
+    let (flags, state) = around_colon(rest).ok_or(Fault::Bad)?;
+    parse_context(alloc, remote, trace, span, flags, state)
+}
+
+/// The words TRACE, SPAN, FLAGS and STATE.
+#[tactic(auto, unfolding(crate::specs::Contexts::context_of))]
+fn parse_context<A: Allocator>(
+    alloc: A,
+    remote: bool,
+    trace: &[u8],
+    span: &[u8],
+    flags: &[u8],
+    state: &[u8],
+) -> Result<SpanContext<A>, Fault>
+    ensures { Gives context_view result (context_of remote trace.now span.now flags.now state.now) }
+{
+    let trace = trace_id(trace)?;
+    let span = span_id(span)?;
+    let flags = TraceFlags(byte(flags)?);
+    let state = text(alloc, state)?;
+    Ok(SpanContext {
+        trace,
+        span,
+        flags,
+        remote,
+        state,
+    })
+}
+
+/// An identifier of a trace, in hexadecimal digits of either case.
+fn trace_id(word: &[u8]) -> Result<TraceId, Fault>
+    ensures { Gives (λ id. id.0) result (hex_bytes 16 word.now) }
+{
+    let Ok(digits) = str::from_utf8(word) else {
+        return Err(Fault::Bad);
+    };
+    TraceId::from_hex(digits).or(Err(Fault::Bad))
+}
+
+/// An identifier of a span, in hexadecimal digits of either case.
+fn span_id(word: &[u8]) -> Result<SpanId, Fault>
+    ensures { Gives (λ id. id.0) result (hex_bytes 8 word.now) }
+{
+    let Ok(digits) = str::from_utf8(word) else {
+        return Err(Fault::Bad);
+    };
+    SpanId::from_hex(digits).or(Err(Fault::Bad))
+}

@@ -1,0 +1,56 @@
+-- The identifiers of a span, drawn one after the other.
+use Rattle.std.proofs.Common.{◌≡◌, refl, sym, ap, ◌∙◌, ℕ, zero, suc, ◌+◌, add-zero, add-suc, zero-add, arith, List, Option, Some, None, option_map}
+use mathlib.Core.Path.{fun_ext}
+use Rattle.rand_core.specs.Stream.{Stream, next_u64}
+use Rattle.trace_model.specs.Spans.{Context}
+use Rattle.trace_model.specs.Identifiers.{Words, span_id, words_after, words_spent}
+use Rattle.trace_model.specs.Starts.{Ids, Tracer, Asked, trace_of, trace_words, ids_of, ids_words, decided, started, started_as}
+use Rattle.otlp_ids.specs.WordStream.{after_words, words_of}
+use Rattle.trace_api.specs.Starts.{Spends}
+
+after-both : (a b : ℕ) (s : Stream) → after_words b (after_words a s) ≡ after_words (a + b) s
+unfolding after_words
+after-both a zero s = rw add-zero refl
+after-both a (suc b) s = rw add-suc (ap (λ t. (next_u64 t).1) (after-both a b s))
+
+words-both : (a b : ℕ) (words : Words) → words_after b (words_after a words) ≡ words_after (a + b) words
+words-both a b words = fun_ext (λ k. ap words (let same : a + (b + k) ≡ a + b + k = omega arith in same))
+
+pub none-spent : (s : Stream) → Spends (λ words. 0) s s
+unfolding after_words
+none-spent s = record { stream = refl; words = fun_ext (λ k. ap (words_of s) (sym (zero-add k))) }
+
+-- a trace, and no identifier in it
+pub no-trace : (parent : Option Context) (s t : Stream) → None ≡ trace_of parent (words_of s) → Spends (trace_words parent) s t →
+    (None ≡ ids_of parent (words_of s)) × Spends (ids_words parent) s t
+unfolding ids_of ids_words
+no-trace parent s t e spent =
+    let n = trace_words parent (words_of s) in
+    let all : ids_words parent (words_of s) ≡ n = rw (← e) (add-zero n) in
+    (rw (← e) refl, record { stream = spent.stream ∙ ap (λ k. after_words k s) (sym all); words = spent.words ∙ ap (λ k. words_after k (words_of s)) (sym all) })
+
+-- what is drawn behind a trace
+pub behind-trace : (parent : Option Context) (trace : List ℕ) (id : Option (List ℕ)) (s t u : Stream) → Some trace ≡ trace_of parent (words_of s) → Spends (trace_words parent) s t →
+    id ≡ span_id (words_of t) → Spends (words_spent 1) t u →
+    (option_map (λ i. record { trace = trace; span = i }) id ≡ ids_of parent (words_of s)) × Spends (ids_words parent) s u
+unfolding ids_of ids_words
+behind-trace parent trace id s t u e spent f more =
+    let n = trace_words parent (words_of s) in
+    let m = words_spent 1 (words_of t) in
+    let all : ids_words parent (words_of s) ≡ n + m = rw (← e, spent.words) refl in (
+      rw (← e, ← spent.words, f) refl,
+      record {
+        stream = more.stream ∙ ap (after_words m) spent.stream ∙ after-both n m s ∙ ap (λ k. after_words k s) (sym all);
+        words = more.words ∙ ap (words_after m) spent.words ∙ words-both n m (words_of s) ∙ ap (λ k. words_after k (words_of s)) (sym all);
+      },
+    )
+
+-- ---- the span that starts
+
+pub not-started : (tracer : Tracer) (a : Asked) (words : Words) → None ≡ ids_of a.parent words → started tracer a words ≡ None
+unfolding started
+not-started tracer a words e = rw (← e) refl
+
+pub has-started : (tracer : Tracer) (a : Asked) (words : Words) (ids : Ids) → Some ids ≡ ids_of a.parent words → started tracer a words ≡ Some (started_as tracer a ids (decided tracer a ids.trace))
+unfolding started
+has-started tracer a words ids e = rw (← e) refl

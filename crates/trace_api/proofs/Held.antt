@@ -1,0 +1,118 @@
+-- One more call on a span in the hands of a program.
+use Rattle.std.proofs.Common.{◌≡◌, refl, sym, ap, ◌∙◌, ℕ, List, [], ◌∷◌, ◌++◌, Bool, true, false, not, ◌||◌}
+use Rattle.std.specs.List.{list_any}
+use Rattle.std.proofs.lemmas.List.Folds.{list_any-append}
+use Rattle.std.proofs.lemmas.List.Sums.{take_while-cons}
+use Rattle.trace_model.specs.Spans.{Call, Context, Recording, SpanLimits, Resource, Scope, Span, Start, Adds, end, is_end, live, span}
+use Rattle.trace_model.specs.Sampling.{is_recording}
+use Rattle.trace_api.specs.State.{state_view}
+use Rattle.trace_api.specs.declared.span.State.{State}
+use Rattle.trace_api.specs.declared.span.State.TheVariants as states
+use Rattle.trace_model.specs.Starts.{Started, SpanState, HeldSpan, Does, recording, not_recording, ended, held, state_after, is_recording_state}
+
+-- calls of which none is an end all count
+none-ends : (calls : List Call) → list_any is_end calls ≡ false → live calls ≡ calls
+none-ends [] h = refl
+none-ends (c ∷ calls) h = by (none-ends calls) (is_end c) refl h
+  where
+    by : (list_any is_end calls ≡ false → live calls ≡ calls) → (b : Bool) → is_end c ≡ b → (b || list_any is_end calls) ≡ false → live (c ∷ calls) ≡ c ∷ calls
+    by rest true e k = cc
+    by rest false e k = take_while-cons (λ c. not (is_end c)) c calls ∙ rw e (ap (λ l. c ∷ l) (rest k))
+
+-- what is recorded of a span after some calls
+abbrev recorded : Started → List Call → Recording
+recorded s calls = record { limits = s.limits; resource = s.resource; scope = s.scope; span = span s.limits s.start calls }
+
+-- the state by whether a call is an end and whether the span was recorded
+abbrev state_by : Started → List Call → Bool → Bool → SpanState
+state_by s calls true d = ended
+state_by s calls false true = recording (recorded s calls)
+state_by s calls false false = not_recording
+
+state-is : (s : Started) (calls : List Call) (b d : Bool) → list_any is_end calls ≡ b → is_recording s.decision ≡ d → state_after s calls ≡ state_by s calls b d
+state-is s calls true d e f = rw e refl
+state-is s calls false true e f = rw (e, f) refl
+state-is s calls false false e f = rw (e, f) refl
+
+any-more : (c : Call) (calls : List Call) (b d : Bool) → list_any is_end calls ≡ b → is_end c ≡ d → list_any is_end (calls ++ c ∷ []) ≡ (b || (d || false))
+any-more c calls b d e f = list_any-append is_end calls (c ∷ []) ∙ rw (e, f) refl
+
+-- what a span's state says of its calls, and its state after one more
+record Told (c : Call) (x : Context) (old new : SpanState) : Type 0 where
+  value : (s : Started) (calls : List Call) (b d : Bool) → list_any is_end calls ≡ b → is_recording s.decision ≡ d → old ≡ state_by s calls b d → new ≡ state_after s (calls ++ c ∷ [])
+
+does : (c : Call) (x : Context) (old new : SpanState) → Told c x old new → Does c (record { context = x; state = old }) (record { context = x; state = new })
+unfolding held
+does c x old new t = record {
+  context = refl;
+  value = λ s calls h.
+      let was : old ≡ state_after s calls = ap (λ (y : HeldSpan). y.state) h in
+      let place : x ≡ s.start.context = ap (λ (y : HeldSpan). y.context) h in
+      let make : Context → SpanState → HeldSpan = λ y z. record { context = y; state = z } in
+      ap (λ y. make y new) place ∙ ap (make s.start.context)
+      (t.value s calls (list_any is_end calls) (is_recording s.decision) refl refl (was ∙ state-is s calls (list_any is_end calls) (is_recording s.decision) refl refl));
+}
+
+pub does-recorded : (c : Call) (x : Context) (old new : Recording) → is_end c ≡ false → Adds c old new →
+    Does c (record { context = x; state = recording old }) (record { context = x; state = recording new })
+does-recorded c x old new k a = does c x (recording old) (recording new) (record { value = by })
+  where
+    by : (s : Started) (calls : List Call) (b d : Bool) → list_any is_end calls ≡ b → is_recording s.decision ≡ d → recording old ≡ state_by s calls b d → recording new ≡ state_after s (calls ++ c ∷ [])
+    by s calls true d e f h = cc
+    by s calls false false e f h = cc
+    by s calls false true e f h =
+        let was : old ≡ recorded s calls = cc in
+        let limits = ap (λ (r : Recording). r.limits) was in
+        let now = a.value s.start calls (record { none_ends = none-ends calls e; is = ap (λ (r : Recording). r.span) was ∙ ap (λ l. span l s.start calls) (sym limits) }) in
+        let same : new ≡ recorded s (calls ++ c ∷ []) = place-of new (recorded s (calls ++ c ∷ []))
+        (a.place.limits ∙ limits) (a.place.resource ∙ ap (λ (r : Recording). r.resource) was) (a.place.scope ∙ ap (λ (r : Recording). r.scope) was)
+        (now.is ∙ ap (λ l. span l s.start (calls ++ c ∷ [])) (a.place.limits ∙ limits)) in
+        ap recording same ∙ sym (state-is s (calls ++ c ∷ []) false true (any-more c calls false false e k) f)
+      where
+        place-of : (r t : Recording) → r.limits ≡ t.limits → r.resource ≡ t.resource → r.scope ≡ t.scope → r.span ≡ t.span → r ≡ t
+        place-of r t l m n o =
+            let make : SpanLimits → Resource → Scope → Span → Recording = λ a b y z. record { limits = a; resource = b; scope = y; span = z } in
+            ap (λ a. make a r.resource r.scope r.span) l ∙ ap (λ b. make t.limits b r.scope r.span) m
+            ∙ ap (λ y. make t.limits t.resource y r.span) n ∙ ap (λ z. make t.limits t.resource t.scope z) o
+
+-- where calls don't count
+pub does-nothing : (c : Call) (x : Context) (state : SpanState) → is_end c ≡ false → is_recording_state state ≡ false →
+    Does c (record { context = x; state = state }) (record { context = x; state = state })
+does-nothing c x state k n = does c x state state (record { value = by state n })
+  where
+    by : (state : SpanState) → is_recording_state state ≡ false → (s : Started) (calls : List Call) (b d : Bool) → list_any is_end calls ≡ b → is_recording s.decision ≡ d → state ≡ state_by s calls b d → state ≡ state_after s (calls ++ c ∷ [])
+    by (recording r) n s calls b d e f h = cc
+    by not_recording n s calls true d e f h = cc
+    by not_recording n s calls false true e f h = cc
+    by not_recording n s calls false false e f h = sym (state-is s (calls ++ c ∷ []) false false (any-more c calls false false e k) f)
+    by ended n s calls false true e f h = cc
+    by ended n s calls false false e f h = cc
+    by ended n s calls true d e f h = sym (state-is s (calls ++ c ∷ []) true d (any-more c calls true false e k) f)
+
+pub does-end : (at : ℕ) (x : Context) (state : SpanState) → Does (end at) (record { context = x; state = state }) (record { context = x; state = ended })
+does-end at x state = does (end at) x state ended (record { value = by })
+  where
+    by : (s : Started) (calls : List Call) (b d : Bool) → list_any is_end calls ≡ b → is_recording s.decision ≡ d → state ≡ state_by s calls b d → ended ≡ state_after s (calls ++ end at ∷ [])
+    by s calls true d e f h = sym (state-is s (calls ++ end at ∷ []) true d (any-more (end at) calls true true e refl) f)
+    by s calls false d e f h = sym (state-is s (calls ++ end at ∷ []) true d (any-more (end at) calls false true e refl) f)
+
+-- ---- no call yet
+
+pub held-dropped : (s : Started) → is_recording s.decision ≡ false → record { context = s.start.context; state = not_recording } ≡ held s []
+unfolding held
+held-dropped s e = rw e refl
+
+pub held-recorded : (s : Started) → is_recording s.decision ≡ true → record { context = s.start.context; state = recording (recorded s []) } ≡ held s []
+unfolding held
+held-recorded s e = rw e refl
+
+pub recorded-is : (limits : SpanLimits) (resource : Resource) (scope : Scope) (start : Start) (s : Started) → limits ≡ s.limits → resource ≡ s.resource → scope ≡ s.scope → start ≡ s.start →
+    record { limits = limits; resource = resource; scope = scope; span = span limits start [] } ≡ recorded s []
+recorded-is limits resource scope start s l r c t = rw (l, r, c, t) refl
+
+-- ---- a span's state in the code
+
+pub not-recorded : {A : Type 0} (state : State A) → ((r : Recording) → state ≡ states.Recording r → ⊥) → is_recording_state (state_view state) ≡ false
+not-recorded (states.Recording r) h = absurd (h r refl)
+not-recorded states.NotRecording h = refl
+not-recorded states.Ended h = refl

@@ -1,0 +1,3 @@
+mod Read
+mod Held
+mod Drawn

@@ -1,0 +1,4 @@
+pub mod Pass
+pub mod Starts
+pub mod Calls
+pub mod State

@@ -1,0 +1,14 @@
+//! Spans as a program makes them (OpenTelemetry Trace API): a provider gives tracers, a tracer starts spans, and an
+//! ended span goes to a pass.
+#![tactic(auto)]
+
+mod pass;
+mod provider;
+mod span;
+
+pub use pass::{BodyPass, EndPass, Ended};
+pub use provider::{Provider, StartFault, Tracer};
+pub use span::Span;
+
+#[cfg(test)]
+mod tests;

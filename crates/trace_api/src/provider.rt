@@ -1,0 +1,260 @@
+//! What starts spans.
+ghost use Rattle.std.specs.Prelude.{◌≡◌, IfOk, IsTrue, [], option_map, string_bytes};
+ghost use Rattle.std.specs.Arc.{arc_value};
+ghost use Rattle.std.specs.Option.{ForSome, option_copied};
+ghost use Rattle.trace_model.specs.Identifiers.{span_id, words_spent};
+ghost use Rattle.trace_model.specs.Sampling.{valid_parent};
+ghost use Rattle.trace_model.specs.Spans.{is_valid};
+ghost use Rattle.trace_model.specs.Starts as model;
+ghost use Rattle.trace_model.specs.Starts.{held};
+ghost use Rattle.otlp_ids.specs.SpanContext.{context_view};
+ghost use Rattle.otlp_ids.specs.WordStream.{words_of};
+ghost use Rattle.otlp_span.specs.Parts.{limits_view, resource_view, scope_view};
+ghost use Rattle.otlp_sampler.specs.Sampling.{decision_view};
+ghost use Rattle.trace_api.specs.Starts.{Spends, StartsAs, asked_view, ids_view, parent_view, tracer_view, valid_asked_view};
+
+use crate::span::Span;
+use otlp_ids::{OutOfMemory, SpanContext, SpanId, TraceFlags, TraceId};
+use otlp_sampler::{Decision, Sampler};
+use otlp_span::{Kind, Open, Resource, Scope, SpanLimits, SpanRecord};
+use rand_core::Rng;
+use std::alloc::{Allocator, Global};
+use std::marker::Model;
+use std::sync::Arc;
+use thiserror::Error;
+
+/// Why a span has not started.
+#[derive(Debug, Clone, Copy, PartialEq, Eq, Error)]
+pub enum StartFault {
+    /// The generator gave only zeros, in eight draws of an identifier.
+    #[error("no randomness: only zeros were drawn")]
+    NoRandomness,
+    /// Memory was refused.
+    #[error("out of memory")]
+    OutOfMemory,
+}
+
+/// What the spans of a program have in common: who decides on them, what makes them, and how much they keep (Trace API,
+/// "TracerProvider").
+#[derive(Drop)]
+pub struct Provider<S: Sampler, A: Allocator = Global> {
+    sampler: S,
+    resource: Arc<Resource<A>, A>,
+    limits: SpanLimits,
+}
+
+impl<S: Sampler, A: Allocator> Model for Provider<S, A> {
+    ghost use Rattle.std.specs.Arc.{arc_value};
+    ghost use Rattle.otlp_span.specs.Parts.{limits_view, resource_view};
+    ghost use Rattle.trace_api.specs.Starts.{ProviderWith};
+
+    ghost Value = { ProviderWith S };
+
+    ghost view = { λ p. record {
+      sampler = p.sampler;
+      resource = resource_view (arc_value p.resource);
+      limits = limits_view p.limits;
+    } };
+}
+
+impl<S: Sampler, A: Allocator> Provider<S, A> {
+    /// Spans of this resource, which the sampler decides on and which keep as much as the limits allow. It takes no
+    /// memory.
+    pub fn new(sampler: S, resource: Arc<Resource<A>, A>, limits: SpanLimits) -> Provider<S, A>
+        ensures { result ≡ record {
+          sampler = sampler;
+          resource = resource_view (arc_value resource);
+          limits = limits_view limits;
+        } }
+    {
+        Provider {
+            sampler,
+            resource,
+            limits,
+        }
+    }
+
+    /// What starts the spans of a scope (Trace API, "Get a Tracer"). It takes no memory.
+    pub fn tracer(&self, scope: Arc<Scope<A>, A>) -> Tracer<'_, S, A>
+        ensures { result ≡ record { provider = self.now; scope = scope_view (arc_value scope) } }
+    {
+        Tracer {
+            provider: self,
+            scope,
+        }
+    }
+}
+
+/// Starts the spans of one scope (Trace API, "Tracer").
+#[derive(Drop)]
+pub struct Tracer<'a, S: Sampler, A: Allocator = Global> {
+    provider: &'a Provider<S, A>,
+    scope: Arc<Scope<A>, A>,
+}
+
+impl<'a, S: Sampler, A: Allocator> Model for Tracer<'a, S, A> {
+    ghost use Rattle.std.specs.Arc.{arc_value};
+    ghost use Rattle.otlp_span.specs.Parts.{scope_view};
+    ghost use Rattle.trace_api.specs.Starts.{TracerWith};
+
+    ghost Value = { TracerWith S };
+
+    ghost view = { λ t. record { provider = t.provider.now; scope = scope_view (arc_value t.scope) } };
+}
+
+/// The parent that counts: an invalid one is none.
+fn valid<'a, A: Allocator>(parent: Option<&'a SpanContext<A>>) -> Option<&'a SpanContext<A>>
+    ensures value { parent_view (option_copied result) ≡ valid_parent (parent_view (option_copied parent.entry)) }
+    ensures valid { ForSome result (λ context. IsTrue (is_valid (context_view context.now))) }
+{
+    parent.filter(|context| context.is_valid())
+}
+
+/// The identifiers of a span.
+#[derive(Drop)]
+struct Ids {
+    trace: TraceId,
+    span: SpanId,
+}
+
+/// The trace of a span with this parent: the parent's, or a new one, unless the generator gives only zeros.
+fn draw_trace<R: Rng, A: Allocator>(rng: &mut R, parent: Option<&SpanContext<A>>) -> Option<TraceId>
+    ensures value { option_map (λ id. id.0) result ≡ model.trace_of (parent_view (option_copied parent.entry)) (words_of (R.stream rng.old)) }
+    ensures spent { Spends (model.trace_words (parent_view (option_copied parent.entry))) (R.stream rng.old) (R.stream rng.new) }
+{
+    match parent {
+        Some(context) => Some(context.trace),
+        None => TraceId::draw(rng).ok(),
+    }
+}
+
+/// The identifier of a span, unless the generator gives only zeros.
+fn draw_span<R: Rng>(rng: &mut R) -> Option<SpanId>
+    ensures value { option_map (λ id. id.0) result ≡ span_id (words_of (R.stream rng.old)) }
+    ensures spent { Spends (words_spent 1) (R.stream rng.old) (R.stream rng.new) }
+{
+    SpanId::draw(rng).ok()
+}
+
+/// Draws the identifiers of a span with this parent, unless the generator gives only zeros.
+fn draw_ids<R: Rng, A: Allocator>(rng: &mut R, parent: Option<&SpanContext<A>>) -> Option<Ids>
+    ensures value { option_map ids_view result ≡ model.ids_of (parent_view (option_copied parent.entry)) (words_of (R.stream rng.old)) }
+    ensures spent { Spends (model.ids_words (parent_view (option_copied parent.entry))) (R.stream rng.old) (R.stream rng.new) }
+{
+    let Some(trace) = draw_trace(rng, parent) else {
+        return None;
+    };
+    let Some(span) = draw_span(rng) else {
+        return None;
+    };
+    Some(Ids { trace, span })
+}
+
+/// The flags of a span with this parent: the parent's, but for the sampled flag (W3C Trace Context, "trace-flags").
+fn child_flags<A: Allocator>(parent: Option<&SpanContext<A>>, sampled: bool) -> TraceFlags
+    ensures { result.0 ≡ model.flags_of (parent_view (option_copied parent.entry)) sampled }
+{
+    match parent {
+        Some(context) => context.flags.with_sampled(sampled),
+        None => TraceFlags(0).with_sampled(sampled),
+    }
+}
+
+/// The trace state of a span with this parent: the parent's (W3C Trace Context, "tracestate").
+fn child_state<A: Allocator + Copy>(
+    alloc: A,
+    parent: Option<&SpanContext<A>>,
+) -> Result<String<A>, OutOfMemory>
+    ensures { IfOk result (λ state. string_bytes state ≡ model.state_of (parent_view (option_copied parent.entry))) }
+{
+    match parent {
+        Some(context) => Ok(String::from_str(alloc, context.state.as_str())?),
+        None => Ok(String::new(alloc)),
+    }
+}
+
+/// The identifier of the parent's span, if there is one.
+fn parent_id<A: Allocator>(parent: Option<&SpanContext<A>>) -> Option<SpanId>
+    ensures { option_map (λ id. id.0) result ≡ option_map (λ context. context.span) (parent_view (option_copied parent.entry)) }
+{
+    match parent {
+        Some(context) => Some(context.span),
+        None => None,
+    }
+}
+
+impl<'a, S: Sampler, A: Allocator + Copy> Tracer<'a, S, A> {
+    /// Starts a span (Trace API, "Span Creation"; Trace SDK, "SDK Span creation") at a moment, in nanoseconds since 1970.
+    /// With a valid parent it belongs to the parent's trace, and has its trace state and its flags, but for the sampled
+    /// flag; an invalid parent counts as none. A root begins a trace, and has the sampled flag alone, where it is sampled.
+    /// The words of the generator are drawn before the sampler is asked and before memory is taken: first those of the
+    /// trace's identifier, if it is a new one, then those of the span's.
+    ///
+    /// # Errors
+    ///
+    /// `NoRandomness` where eight draws of an identifier were all zero, `OutOfMemory` where there is no room for the span.
+    /// The words that were drawn are spent, and nothing else changes.
+    pub fn start<R: Rng>(
+        &self,
+        alloc: A,
+        rng: &mut R,
+        parent: Option<&SpanContext<A>>,
+        name: String<A>,
+        kind: Kind,
+        at: u64,
+    ) -> Result<Span<A>, StartFault>
+        ensures started { StartsAs (model.started (tracer_view S.meaning self.now) (asked_view (option_copied parent.entry) (string_bytes name) kind at) (words_of (R.stream rng.old))) result }
+        ensures spent { Spends (model.ids_words (asked_view (option_copied parent.entry) (string_bytes name) kind at).parent) (R.stream rng.old) (R.stream rng.new) }
+    {
+        let parent = valid(parent);
+        let Some(ids) = draw_ids(rng, parent) else {
+            return Err(StartFault::NoRandomness);
+        };
+        let provider = self.provider;
+        let decision = provider
+            .sampler
+            .should_sample(parent, &ids.trace, name.as_str(), kind);
+        let Ok(span) = self.open(alloc, ids, parent, decision, name, kind, at) else {
+            return Err(StartFault::OutOfMemory);
+        };
+        Ok(span)
+    }
+
+    /// The span of these identifiers, with this parent, which is valid, and this decision.
+    fn open(
+        &self,
+        alloc: A,
+        ids: Ids,
+        parent: Option<&SpanContext<A>>,
+        decision: Decision,
+        name: String<A>,
+        kind: Kind,
+        at: u64,
+    ) -> Result<Span<A>, OutOfMemory>
+        ensures { IfOk result (λ opened. opened ≡ held (model.started_as (tracer_view S.meaning self.now)
+            (valid_asked_view (option_copied parent.entry) (string_bytes name) kind at) (ids_view ids) (decision_view decision)) []) }
+    {
+        let context = SpanContext {
+            trace: ids.trace,
+            span: ids.span,
+            flags: child_flags(parent, decision.is_sampled()),
+            remote: false,
+            state: child_state(alloc, parent)?,
+        };
+        if !decision.is_recording() {
+            return Ok(Span::not_recording(context));
+        }
+        let provider = self.provider;
+        let opening = Open {
+            context: context.copy(alloc)?,
+            parent: parent_id(parent),
+            resource: Arc::try_clone(&provider.resource)?,
+            scope: Arc::try_clone(&self.scope)?,
+            name,
+            kind,
+            start: at,
+        };
+        let record = SpanRecord::open(alloc, opening, &provider.limits)?;
+        Ok(Span::recording(context, record))
+    }
+}
