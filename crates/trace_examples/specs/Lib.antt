@@ -4,3 +4,4 @@ pub mod Written
 pub mod Bytes
 pub mod Expected
 pub mod Read
+pub mod Steps
