@@ -8,7 +8,7 @@ help: ## List the targets
 
 run: ## Build trace-script without its proofs and print the bodies of the examples
 	@echo '# built before it is proved (make test proves)' >&2
-	@for script in one-span parent-and-child; do \
+	@for script in one-span parent-and-child everything; do \
 		echo "# trace-script --body < examples/$$script.script" >&2; \
 		(cd crates/trace_script && rt try -- --body < ../../examples/$$script.script) || exit 1; \
 	done

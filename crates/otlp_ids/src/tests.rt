@@ -236,6 +236,22 @@ fn bit_0_is_the_sampled_flag(rt: HostRuntime) {
     }
 }
 
+#[test]
+fn the_sampled_flag_alone_is_told(rt: HostRuntime) {
+    for (flags, sampled, other) in [
+        (0, 1, 0),
+        (1, 1, 0),
+        (2, 3, 2),
+        (3, 3, 2),
+        (254, 255, 254),
+        (255, 255, 254),
+    ] {
+        let flags = TraceFlags(flags);
+        assert_eq!(rt; flags.with_sampled(true), TraceFlags(sampled), "{flags:?}");
+        assert_eq!(rt; flags.with_sampled(false), TraceFlags(other), "{flags:?}");
+    }
+}
+
 /// A context from another process, with this trace state.
 fn context<A: Allocator + Copy>(alloc: A, state: &str) -> Result<SpanContext<A>, OutOfMemory> {
     Ok(SpanContext {
@@ -311,24 +327,4 @@ fn refused_memory_is_told(rt: HostRuntime) -> Result<(), Fail> {
     let told = format!(in rt.alloc(); "{}", OutOfMemory)?;
     assert_eq!(rt; told.as_str(), "out of memory");
     Ok(())
-}
-
-#[test]
-fn the_sampled_flag_is_replaced_and_the_others_stay(rt: HostRuntime) {
-    for (flags, sampled, not_sampled) in [
-        (0, 1, 0),
-        (1, 1, 0),
-        (2, 3, 2),
-        (3, 3, 2),
-        (254, 255, 254),
-        (255, 255, 254),
-    ] {
-        let flags = TraceFlags(flags);
-        assert_eq!(rt; flags.with_sampled(true), TraceFlags(sampled), "{flags:?}");
-        assert_eq!(rt;
-            flags.with_sampled(false),
-            TraceFlags(not_sampled),
-            "{flags:?}"
-        );
-    }
 }

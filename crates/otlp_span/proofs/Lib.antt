@@ -1,1 +1,2 @@
+mod Setting
 mod Recorded

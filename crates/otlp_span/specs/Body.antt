@@ -1,10 +1,10 @@
 -- What the body of a span is in the model.
-use Rattle.std.specs.Prelude.{[], string_bytes}
+use Rattle.std.specs.Prelude.{◌≡◌, map, string_bytes}
 use Rattle.std.specs.Arc.{arc_value}
 use Rattle.trace_model.specs.Spans as model
 use Rattle.otlp_ids.specs.SpanContext.{context_view}
-use Rattle.otlp_span.specs.declared.record.SpanBody.{SpanBody}
-use Rattle.otlp_span.specs.Parts.{kind_view, span_limits, resource_view, scope_view, parent_view}
+use Rattle.otlp_span.specs.declared.body.SpanBody.{SpanBody}
+use Rattle.otlp_span.specs.Parts.{attribute_limits, event_view, kind_view, limits_view, link_view, resource_view, scope_view, parent_view, status_view}
 
 abbrev pub span_view : {A : Type 0} → SpanBody A → model.Span
 span_view b = record {
@@ -15,9 +15,9 @@ span_view b = record {
   start = b.start;
   end = b.end;
   attributes = b.attributes.kept;
-  events = record { items = []; dropped = 0 };
-  links = record { items = []; dropped = 0 };
-  status = model.unset;
+  events = record { items = map event_view b.events.items; dropped = b.dropped_events };
+  links = record { items = map link_view b.links.items; dropped = b.dropped_links };
+  status = status_view b.status;
 }
 
 abbrev pub ended_view : {A : Type 0} → SpanBody A → model.EndedSpan
@@ -25,8 +25,12 @@ ended_view b = record { resource = resource_view (arc_value b.resource); scope =
 
 abbrev pub recording_view : {A : Type 0} → SpanBody A → model.Recording
 recording_view b = record {
-  limits = span_limits b.attributes.limits.count b.attributes.limits.length;
+  limits = limits_view b.limits;
   resource = resource_view (arc_value b.resource);
   scope = scope_view (arc_value b.scope);
   span = span_view b;
 }
+
+-- the attributes are kept under the limits of the span
+abbrev pub IsLimited : {A : Type 0} → SpanBody A → Type 0
+IsLimited b = b.attributes.limits ≡ attribute_limits (limits_view b.limits)

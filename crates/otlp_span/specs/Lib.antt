@@ -1,2 +1,4 @@
 pub mod Parts
+pub mod Pairs
+pub mod Recording
 pub mod Body

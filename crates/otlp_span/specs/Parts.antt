@@ -1,5 +1,5 @@
--- What kinds, limits, resources, scopes, starts and calls are in the model.
-use Rattle.std.specs.Prelude.{◌≡◌, ℕ, List, [], map, Option, None, option_map, string_bytes}
+-- What kinds, limits, resources, scopes, starts, events, links and calls are in the model.
+use Rattle.std.specs.Prelude.{Bool, true, false, ℕ, List, [], map, Option, None, option_map, string_bytes}
 use Rattle.std.specs.Arc.{arc_value}
 use Rattle.trace_model.specs.Spans as model
 use Rattle.trace_model.specs.Attributes as attributes
@@ -12,6 +12,10 @@ use Rattle.otlp_span.specs.declared.parts.SpanLimits.{SpanLimits}
 use Rattle.otlp_span.specs.declared.parts.Resource.{Resource}
 use Rattle.otlp_span.specs.declared.parts.Scope.{Scope}
 use Rattle.otlp_span.specs.declared.parts.Open.{Open}
+use Rattle.otlp_span.specs.declared.parts.Status.{Status}
+use Rattle.otlp_span.specs.declared.parts.Status.TheVariants as statuses
+use Rattle.otlp_span.specs.declared.parts.Event.{Event}
+use Rattle.otlp_span.specs.declared.parts.Link.{Link}
 use Rattle.otlp_span.specs.declared.parts.SpanCall.{SpanCall}
 use Rattle.otlp_span.specs.declared.parts.SpanCall.TheVariants as calls
 
@@ -22,12 +26,15 @@ kind_view kinds.Client = model.client
 kind_view kinds.Producer = model.producer
 kind_view kinds.Consumer = model.consumer
 
--- The limits that can't be set yet are the standard's defaults.
-abbrev pub span_limits : ℕ → Option ℕ → model.SpanLimits
-span_limits count length = record { attributes = count; events = 128; links = 128; event_attributes = 128; link_attributes = 128; value_length = length }
-
 abbrev pub limits_view : SpanLimits → model.SpanLimits
-limits_view l = span_limits l.max_attributes_per_span None
+limits_view l = record {
+  attributes = l.max_attributes_per_span;
+  events = l.max_events_per_span;
+  links = l.max_links_per_span;
+  event_attributes = l.max_attributes_per_event;
+  link_attributes = l.max_attributes_per_link;
+  value_length = l.max_attribute_value_length;
+}
 
 abbrev pub resource_view : {A : Type 0} → Resource A → model.Resource
 resource_view r = record { attributes = attributes_view r.attributes.items; schema = string_bytes r.schema_url }
@@ -41,8 +48,31 @@ parent_view parent = option_map (λ id. id.0) parent
 abbrev pub start_view : {A : Type 0} → Open A → model.Start
 start_view o = record { context = context_view o.context; parent = parent_view o.parent; name = string_bytes o.name; kind = kind_view o.kind; at = o.start }
 
+abbrev pub status_view : {A : Type 0} → Status A → model.Status
+status_view statuses.Unset = model.unset
+status_view statuses.Ok = model.ok
+status_view (statuses.Error description) = model.error (string_bytes description)
+
+-- whether the status is Unset
+abbrev pub is_unset_status : model.Status → Bool
+is_unset_status model.unset = true
+is_unset_status model.ok = false
+is_unset_status (model.error description) = false
+
+abbrev pub event_view : {A : Type 0} → Event A → model.Event
+event_view e = record { at = e.timestamp; name = string_bytes e.name; attributes = record { items = attributes_view e.attributes.items; dropped = e.dropped_attributes_count } }
+
+abbrev pub link_view : {A : Type 0} → Link A → model.Link
+link_view l = record { context = context_view l.span_context; attributes = record { items = attributes_view l.attributes.items; dropped = l.dropped_attributes_count } }
+
 abbrev pub call_view : {A : Type 0} → SpanCall A → model.Call
 call_view (calls.SetAttribute key value) = model.set_attribute (record { key = string_bytes key; value = value_view value })
+call_view (calls.AddEvent name timestamp pairs) = model.add_event (string_bytes name) timestamp (attributes_view pairs.items)
+call_view (calls.RecordException kind message stack timestamp pairs) =
+    model.record_exception (string_bytes kind) (string_bytes message) (string_bytes stack) timestamp (attributes_view pairs.items)
+call_view (calls.AddLink context pairs) = model.add_link (context_view context) (attributes_view pairs.items)
+call_view (calls.SetStatus status) = model.set_status (status_view status)
+call_view (calls.UpdateName name) = model.update_name (string_bytes name)
 call_view (calls.End at) = model.end at
 
 -- what stands where no call was made yet
@@ -54,9 +84,21 @@ opened limits o = record {
   span = model.span (limits_view limits) (start_view o) [];
 }
 
+-- the limits of the attributes of a span
+abbrev pub attribute_limits : model.SpanLimits → attributes.Limits
+attribute_limits l = record { count = l.attributes; length = l.value_length }
+
+-- those of an event
+abbrev pub event_limits : model.SpanLimits → attributes.Limits
+event_limits l = record { count = l.event_attributes; length = l.value_length }
+
+-- those of a link
+abbrev pub link_limits : model.SpanLimits → attributes.Limits
+link_limits l = record { count = l.link_attributes; length = l.value_length }
+
 -- the list that the attributes are set in
 abbrev pub attributes_of : model.Recording → attributes.AttributeList
-attributes_of r = record { limits = record { count = r.limits.attributes; length = r.limits.value_length }; kept = r.span.attributes }
+attributes_of r = record { limits = attribute_limits r.limits; kept = r.span.attributes }
 
 -- the ended span of these calls
 abbrev pub replayed : {A : Type 0} → SpanLimits → Open A → List (SpanCall A) → model.EndedSpan
@@ -65,9 +107,3 @@ replayed limits o made = record {
   scope = scope_view (arc_value o.scope);
   span = model.span (limits_view limits) (start_view o) (map call_view made);
 }
-
--- Events, links and a status can't be recorded yet.
-pub record HasOnlyAttributes (s : model.Span) : Type 0 where
-  pub events : s.events ≡ record { items = []; dropped = 0 }
-  pub links : s.links ≡ record { items = []; dropped = 0 }
-  pub status : s.status ≡ model.unset

@@ -2,10 +2,19 @@
 //! "Span Limits").
 #![tactic(auto)]
 
+mod body;
+mod calls;
+mod data;
+mod pairs;
 mod parts;
 mod reason;
 mod record;
 
-pub use parts::{Kind, Open, Resource, Scope, SpanCall, SpanLimits};
+pub use calls::replay;
+pub use data::SpanData;
+pub use parts::{Event, Kind, Link, Open, Resource, Scope, SpanCall, SpanLimits, Status};
 pub use reason::Reason;
-pub use record::{SpanData, SpanRecord, replay};
+pub use record::SpanRecord;
+
+#[cfg(test)]
+mod tests;

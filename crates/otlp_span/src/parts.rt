@@ -1,7 +1,7 @@
-ghost use Rattle.std.specs.Prelude.{◌≡◌};
+ghost use Rattle.std.specs.Prelude.{◌≡◌, None};
 
 use otlp_ids::{SpanContext, SpanId};
-use otlp_value::Value;
+use otlp_value::{Limits, Value};
 use std::alloc::{Allocator, Global};
 use std::sync::Arc;
 
@@ -20,26 +20,86 @@ pub enum Kind {
     Consumer,
 }
 
-/// How much a span keeps (Trace SDK, "Span Limits").
+/// How much a span keeps (Trace SDK, "Span Limits"). With a limit of 0 it keeps none of that kind.
 #[derive(Debug, Clone, Copy, PartialEq, Eq)]
 pub struct SpanLimits {
-    /// How many attributes, by distinct keys (`AttributeCountLimit`). With 0 it keeps none.
+    /// How many attributes, by distinct keys (`AttributeCountLimit`).
     pub max_attributes_per_span: u32,
+    /// How many events (`EventCountLimit`).
+    pub max_events_per_span: u32,
+    /// How many links (`LinkCountLimit`).
+    pub max_links_per_span: u32,
+    /// How many attributes of an event, by distinct keys (`AttributePerEventCountLimit`).
+    pub max_attributes_per_event: u32,
+    /// How many attributes of a link, by distinct keys (`AttributePerLinkCountLimit`).
+    pub max_attributes_per_link: u32,
+    /// How many Unicode scalar values of a text that is the value of an attribute, or one of an array, of the
+    /// span, of its events and of its links (`AttributeValueLengthLimit`). Without it texts are kept whole.
+    pub max_attribute_value_length: Option<u32>,
+}
+
+impl SpanLimits {
+    ghost use Rattle.otlp_value.specs.Value as values;
+    ghost use Rattle.otlp_span.specs.Parts.{attribute_limits, event_limits, limits_view, link_limits};
+
+    /// Those of the attributes of the span.
+    pub(crate) fn of_span(&self) -> Limits
+        ensures { values.limits_view result ≡ attribute_limits (limits_view self.now) }
+    {
+        Limits {
+            count: self.max_attributes_per_span,
+            value_length: self.max_attribute_value_length,
+        }
+    }
+
+    /// Those of the attributes of an event.
+    pub(crate) fn of_event(&self) -> Limits
+        ensures { values.limits_view result ≡ event_limits (limits_view self.now) }
+    {
+        Limits {
+            count: self.max_attributes_per_event,
+            value_length: self.max_attribute_value_length,
+        }
+    }
+
+    /// Those of the attributes of a link.
+    pub(crate) fn of_link(&self) -> Limits
+        ensures { values.limits_view result ≡ link_limits (limits_view self.now) }
+    {
+        Limits {
+            count: self.max_attributes_per_link,
+            value_length: self.max_attribute_value_length,
+        }
+    }
 }
 
 impl Default for SpanLimits {
-    ghost is_default = { λ limits. limits.max_attributes_per_span ≡ 128 };
+    ghost is_default = { λ limits. limits ≡ record {
+      max_attributes_per_span = 128;
+      max_events_per_span = 128;
+      max_links_per_span = 128;
+      max_attributes_per_event = 128;
+      max_attributes_per_link = 128;
+      max_attribute_value_length = None;
+    } };
 
-    /// The standard's limits (Trace SDK, "Span Limits"): 128 attributes.
+    /// The standard's limits (Trace SDK, "Span Limits"; Common, "Attribute Limits"): 128 of each kind, and texts
+    /// of any length.
     fn default() -> SpanLimits {
         SpanLimits {
             max_attributes_per_span: 128,
+            max_events_per_span: 128,
+            max_links_per_span: 128,
+            max_attributes_per_event: 128,
+            max_attributes_per_link: 128,
+            max_attribute_value_length: None,
         }
     }
 }
 
 /// What makes telemetry, as a service or a host (Resource SDK).
-#[derive(Debug, Drop)]
+#[derive(Drop)]
+#[derive_where(Debug, PartialEq, Eq)]
 pub struct Resource<A: Allocator = Global> {
     /// Its attributes, with distinct keys. They stand as they are: no limit holds for them.
     pub attributes: Vec<(String<A>, Value<A>), A>,
@@ -48,7 +108,8 @@ pub struct Resource<A: Allocator = Global> {
 }
 
 /// The part of a program that makes spans (Common, "Instrumentation Scope").
-#[derive(Debug, Drop)]
+#[derive(Drop)]
+#[derive_where(Debug, PartialEq, Eq)]
 pub struct Scope<A: Allocator = Global> {
     /// Its name.
     pub name: String<A>,
@@ -61,7 +122,8 @@ pub struct Scope<A: Allocator = Global> {
 }
 
 /// How a span starts (Trace API, "Span Creation").
-#[derive(Debug, Drop)]
+#[derive(Drop)]
+#[derive_where(Debug, PartialEq, Eq)]
 pub struct Open<A: Allocator = Global> {
     /// The span's own context.
     pub context: SpanContext<A>,
@@ -79,11 +141,102 @@ pub struct Open<A: Allocator = Global> {
     pub start: u64,
 }
 
+/// What came of the operation that a span stands for (Trace API, "Set Status").
+#[derive(Drop)]
+#[derive_where(Debug, PartialEq, Eq)]
+pub enum Status<A: Allocator = Global> {
+    /// Nothing was said.
+    Unset,
+    /// It was declared a success.
+    Ok,
+    /// It failed; with a description, which may be empty.
+    Error(String<A>),
+}
+
+impl<A: Allocator> Status<A> {
+    ghost use Rattle.trace_model.specs.Spans.{is_ok_status};
+    ghost use Rattle.otlp_span.specs.Parts.{is_unset_status, status_view};
+
+    /// Whether no other status replaces it.
+    pub(crate) fn is_final(&self) -> bool
+        ensures { result ≡ is_ok_status (status_view self.now) }
+    {
+        matches!(self, Status::Ok)
+    }
+
+    /// Whether it says nothing.
+    pub(crate) fn is_unset(&self) -> bool
+        ensures { result ≡ is_unset_status (status_view self.now) }
+    {
+        matches!(self, Status::Unset)
+    }
+}
+
+/// Something that happened at a moment of a span (Trace API, "Add Events").
+#[derive(Drop)]
+#[derive_where(Debug, PartialEq, Eq)]
+pub struct Event<A: Allocator = Global> {
+    /// When it happened, in nanoseconds since 1970.
+    pub timestamp: u64,
+    /// Its name.
+    pub name: String<A>,
+    /// The attributes that were kept, each with its last value, in the order in which their keys were first set.
+    pub attributes: Vec<(String<A>, Value<A>), A>,
+    /// How many times an attribute was discarded; it stops at 2^32 - 1 (profile).
+    pub dropped_attributes_count: u32,
+}
+
+/// A span that another one refers to, in the same trace or in another (Trace API, "Link").
+#[derive(Drop)]
+#[derive_where(Debug, PartialEq, Eq)]
+pub struct Link<A: Allocator = Global> {
+    /// The context of the span that is referred to.
+    pub span_context: SpanContext<A>,
+    /// The attributes that were kept, each with its last value, in the order in which their keys were first set.
+    pub attributes: Vec<(String<A>, Value<A>), A>,
+    /// How many times an attribute was discarded; it stops at 2^32 - 1 (profile).
+    pub dropped_attributes_count: u32,
+}
+
 /// A call on a span (Trace API, "Span operations").
-#[derive(Debug, Drop)]
+#[derive(Drop)]
+#[derive_where(Debug, PartialEq, Eq)]
 pub enum SpanCall<A: Allocator = Global> {
     /// Sets the attribute under a key to a value, as `SpanRecord::set_attribute`.
     SetAttribute(String<A>, Value<A>),
+    /// Adds an event, as `SpanRecord::add_event`.
+    AddEvent {
+        /// Its name.
+        name: String<A>,
+        /// When it happened, in nanoseconds since 1970.
+        timestamp: u64,
+        /// Its attributes, in the order in which they are set.
+        attributes: Vec<(String<A>, Value<A>), A>,
+    },
+    /// Adds an event for an exception, as `SpanRecord::record_exception`.
+    RecordException {
+        /// The type of the exception.
+        exception_type: String<A>,
+        /// What it says.
+        message: String<A>,
+        /// Where it came from.
+        stacktrace: String<A>,
+        /// When it happened, in nanoseconds since 1970.
+        timestamp: u64,
+        /// Further attributes of the event, in the order in which they are set.
+        attributes: Vec<(String<A>, Value<A>), A>,
+    },
+    /// Links the span to another one, as `SpanRecord::add_link`.
+    AddLink {
+        /// The context of the other span.
+        span_context: SpanContext<A>,
+        /// The attributes of the link, in the order in which they are set.
+        attributes: Vec<(String<A>, Value<A>), A>,
+    },
+    /// Sets the status, as `SpanRecord::set_status`.
+    SetStatus(Status<A>),
+    /// Gives the span another name, as `SpanRecord::update_name`.
+    UpdateName(String<A>),
     /// Ends the span at a moment, in nanoseconds since 1970, as `SpanRecord::close`.
     End(u64),
 }
@@ -93,7 +246,15 @@ mod tests {
     use super::*;
 
     #[test]
-    fn the_default_limit_is_128_attributes(rt: HostRuntime) {
-        assert_eq!(rt; SpanLimits::default().max_attributes_per_span, 128);
+    fn the_default_limits_are_128_of_each_kind(rt: HostRuntime) {
+        let limits = SpanLimits::default();
+        assert_eq!(rt; limits.max_attributes_per_span, 128);
+        assert_eq!(rt;
+            (limits.max_events_per_span, limits.max_links_per_span),
+            (128, 128)
+        );
+        assert_eq!(rt; limits.max_attributes_per_event, 128);
+        assert_eq!(rt; limits.max_attributes_per_link, 128);
+        assert_eq!(rt; limits.max_attribute_value_length, None);
     }
 }

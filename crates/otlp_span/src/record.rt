@@ -1,35 +1,25 @@
-ghost use Rattle.std.specs.Prelude.{◌≡◌, OnOk, OnErr, IfOk, string_bytes};
+ghost use Rattle.std.specs.Prelude.{◌≡◌, IfOk, OnErr, OnOk, false, length, nat_lt, string_bytes};
 ghost use Rattle.trace_model.specs.Spans as model;
-ghost use Rattle.trace_model.specs.Spans.{Adds, Ends};
+ghost use Rattle.trace_model.specs.Spans.{Adds, Ends, is_ignored};
 ghost use Rattle.otlp_ids.specs.SpanContext.{context_view};
 ghost use Rattle.otlp_value.specs.AttributeList.{TakesPlace};
-ghost use Rattle.otlp_value.specs.Value.{value_view, attributes_view};
-ghost use Rattle.otlp_span.specs.Parts.{HasOnlyAttributes, attributes_of, kind_view, parent_view, resource_view, scope_view, opened, replayed};
+ghost use Rattle.otlp_value.specs.Value.{attributes_view, value_view};
+ghost use Rattle.otlp_span.specs.Parts.{attributes_of, opened, status_view};
+ghost use Rattle.otlp_span.specs.Recording.{HasRoom, one_counted, one_kept, with_events, with_links};
 
-use crate::parts::{Kind, Open, Resource, Scope, SpanCall, SpanLimits};
-use otlp_ids::{OutOfMemory, SpanContext, SpanId};
-use otlp_value::{AttributeList, Limits, Value};
+use crate::body::SpanBody;
+use crate::data::SpanData;
+use crate::pairs::{exception_attributes, kept_attributes};
+use crate::parts::{Event, Link, Open, SpanLimits, Status};
+use otlp_ids::{OutOfMemory, SpanContext};
+use otlp_value::{AttributeList, Value};
 use std::alloc::{Allocator, Global};
 use std::marker::Model;
-use std::sync::Arc;
-
-/// All of a span, in one place on the heap from its start on.
-#[derive(Debug, Drop)]
-struct SpanBody<A: Allocator> {
-    context: SpanContext<A>,
-    parent: Option<SpanId>,
-    resource: Arc<Resource<A>, A>,
-    scope: Arc<Scope<A>, A>,
-    name: String<A>,
-    kind: Kind,
-    start: u64,
-    end: u64,
-    attributes: AttributeList<A>,
-}
 
 /// A span while it is recorded (Trace API, "Span"): calls on it count until it is closed. It is as large as
 /// a pointer.
-#[derive(Debug, Drop)]
+#[derive(Drop)]
+#[derive_where(Debug)]
 pub struct SpanRecord<A: Allocator = Global> {
     body: Box<SpanBody<A>, A>,
 }
@@ -39,26 +29,11 @@ impl<A: Allocator> Model for SpanRecord<A> {
 
     ghost Value = { Recording };
 
-    ghost use Rattle.otlp_span.specs.Body.{recording_view};
+    ghost use Rattle.otlp_span.specs.Body.{IsLimited, recording_view};
 
     ghost view = { λ r. recording_view r.body.value };
-}
 
-/// A span that has ended, with its resource and its scope (Trace SDK, "Additional Span Interfaces"): it
-/// doesn't change any more. It is as large as a pointer.
-#[derive(Debug, Drop)]
-pub struct SpanData<A: Allocator = Global> {
-    body: Box<SpanBody<A>, A>,
-}
-
-impl<A: Allocator> Model for SpanData<A> {
-    ghost use Rattle.trace_model.specs.Spans.{EndedSpan};
-
-    ghost Value = { EndedSpan };
-
-    ghost use Rattle.otlp_span.specs.Body.{ended_view};
-
-    ghost view = { λ s. ended_view s.body.value };
+    ghost invariant = { λ r. IsLimited r.body.value };
 }
 
 impl<A: Allocator + Copy> SpanRecord<A> {
@@ -84,12 +59,10 @@ impl<A: Allocator + Copy> SpanRecord<A> {
             kind,
             start,
         } = opening;
-        let limits = Limits {
-            count: limits.max_attributes_per_span,
-        };
         let body = Box::new(
             alloc,
             SpanBody {
+                limits: *limits,
                 context,
                 parent,
                 resource,
@@ -98,7 +71,12 @@ impl<A: Allocator + Copy> SpanRecord<A> {
                 kind,
                 start,
                 end: start,
-                attributes: AttributeList::new(alloc, limits),
+                attributes: AttributeList::new(alloc, limits.of_span()),
+                events: Vec::new(alloc),
+                dropped_events: 0,
+                links: Vec::new(alloc),
+                dropped_links: 0,
+                status: Status::Unset,
             },
         )?;
         Ok(SpanRecord { body })
@@ -108,7 +86,8 @@ impl<A: Allocator + Copy> SpanRecord<A> {
 impl<A: Allocator> SpanRecord<A> {
     /// Sets an attribute (Trace API, "Set Attributes"; Trace SDK, "Span Limits"). A key that is there keeps
     /// its place and gets the value; a new one is appended. A pair with an empty key is ignored, and one with
-    /// a new key is discarded and counted where as many keys are kept as the limit allows.
+    /// a new key is discarded and counted where as many keys are kept as the limit allows. Texts of the value are
+    /// cut to the limit on their length.
     ///
     /// # Errors
     ///
@@ -122,6 +101,23 @@ impl<A: Allocator> SpanRecord<A> {
         self.body.attributes.set(key, value)
     }
 
+    /// Updates the name (Trace API, "UpdateName"). It takes no memory.
+    pub fn update_name(&mut self, name: String<A>)
+        ensures { Adds (model.update_name (string_bytes name)) self.old self.new }
+    {
+        self.body.name = name;
+    }
+
+    /// Sets the status (Trace API, "Set Status"): Ok is final, Unset is ignored, and an error replaces an earlier
+    /// one. It takes no memory.
+    pub fn set_status(&mut self, status: Status<A>)
+        ensures { Adds (model.set_status (status_view status)) self.old self.new }
+    {
+        if !self.body.status.is_final() && !status.is_unset() {
+            self.body.status = status;
+        }
+    }
+
     /// Ends the span at a moment, in nanoseconds since 1970 (Trace API, "End"). The moment is kept as it is,
     /// also where it is before the start (profile). It takes no memory.
     pub fn close(self, end: u64) -> SpanData<A>
@@ -133,109 +129,182 @@ impl<A: Allocator> SpanRecord<A> {
     }
 }
 
-impl<A: Allocator> SpanData<A> {
-    /// The span's context (Trace API, "Get Context").
-    pub fn context(&self) -> &SpanContext<A>
-        ensures { context_view result.now ≡ self.now.span.context }
+impl<A: Allocator + Copy> SpanRecord<A> {
+    /// Adds an event at a moment, in nanoseconds since 1970 (Trace API, "Add Events"; Trace SDK, "Span Limits"). It
+    /// has the first of its attributes, by distinct keys, up to the limit, each with its last value, whose texts are
+    /// cut. Where as many events are kept as the limit allows, it is discarded and counted, and takes no memory.
+    ///
+    /// # Errors
+    ///
+    /// `OutOfMemory` where an event that is to be kept could not be stored; the record is then unchanged.
+    pub fn add_event(
+        &mut self,
+        name: String<A>,
+        timestamp: u64,
+        attributes: Vec<(String<A>, Value<A>), A>,
+    ) -> Result<(), OutOfMemory>
+        ensures ok { let call = model.add_event (string_bytes name) timestamp (attributes_view attributes.items) in
+            OnOk result (Adds call self.old self.new) }
+        ensures err { OnErr result (self.new ≡ self.old) }
+        ensures in_place { OnErr result (HasRoom self.old.limits.events self.old.span.events) }
     {
-        &self.body.context
-    }
-
-    /// The identifier of the span's parent; a root has none.
-    pub fn parent_span_id(&self) -> Option<SpanId>
-        ensures { parent_view result ≡ self.now.span.parent }
-    {
-        self.body.parent
-    }
-
-    /// What made the span (Resource SDK).
-    pub fn resource(&self) -> &Resource<A>
-        ensures { resource_view result.now ≡ self.now.resource }
-    {
-        &self.body.resource
-    }
-
-    /// The part of it that made the span (Common, "Instrumentation Scope").
-    pub fn scope(&self) -> &Scope<A>
-        ensures { scope_view result.now ≡ self.now.scope }
-    {
-        &self.body.scope
-    }
-
-    /// The span's name.
-    pub fn name(&self) -> &str
-        ensures { result.now ≡ self.now.span.name }
-    {
-        self.body.name.as_str()
-    }
-
-    /// What the span is to the spans round it (Trace API, "SpanKind").
-    pub fn kind(&self) -> Kind
-        ensures { kind_view result ≡ self.now.span.kind }
-    {
-        self.body.kind
-    }
-
-    /// When it started, in nanoseconds since 1970.
-    pub fn start_time(&self) -> u64
-        ensures { result ≡ self.now.span.start }
-    {
-        self.body.start
-    }
-
-    /// When it ended, in nanoseconds since 1970. It may be before the start (profile).
-    pub fn end_time(&self) -> u64
-        ensures { result ≡ self.now.span.end }
-    {
-        self.body.end
-    }
-
-    /// The attributes that were kept, each with its last value, in the order in which their keys were first
-    /// set.
-    pub fn attributes(&self) -> &[(String<A>, Value<A>)]
-        ensures items { attributes_view result.now ≡ self.now.span.attributes.items }
-        ensures alone { HasOnlyAttributes self.now.span }
-    {
-        self.body.attributes.pairs()
-    }
-
-    /// How many times an attribute was discarded, since its key was new and as many keys were kept as the
-    /// limit allows (Trace SDK, "Span Limits"). It stops at 2^32 - 1 (profile).
-    pub fn dropped_attributes_count(&self) -> u32
-        ensures { result ≡ self.now.span.attributes.dropped }
-    {
-        self.body.attributes.dropped()
-    }
-}
-
-/// The span of a start and of the calls on it. The calls behind the first end are ignored (Trace API,
-/// "End"); where there is no end, the span ends at its start (profile). Keys and values are copied.
-///
-/// # Errors
-///
-/// `OutOfMemory` where there is no room for the span, a key or a value; what it was to start from is then
-/// dropped, and so is what was recorded.
-pub fn replay<A: Allocator + Copy>(
-    alloc: A,
-    opening: Open<A>,
-    limits: &SpanLimits,
-    calls: &[SpanCall<A>],
-) -> Result<SpanData<A>, OutOfMemory>
-    ensures { IfOk result (λ s. s ≡ replayed limits.now opening calls.now) }
-{
-    let start = opening.start;
-    let mut record = SpanRecord::open(alloc, opening, limits)?;
-    for call in calls {
-        match call {
-            SpanCall::SetAttribute(key, value) => {
-                let key = String::from_str(alloc, key.as_str())?;
-                record.set_attribute(key, value.copy(alloc)?)?;
-            }
-            SpanCall::End(at) => return Ok(record.close(*at)),
+        if !self.has_room_for_event() {
+            self.count_event();
+            return Ok(());
         }
+        let alloc = *Box::allocator(&self.body);
+        let limits = self.body.limits.of_event();
+        let attributes = kept_attributes(alloc, limits, attributes)?;
+        self.push_event(name, timestamp, attributes)
     }
-    Ok(record.close(start))
+
+    /// Adds an event for an exception, at a moment in nanoseconds since 1970 (Trace API, "Record Exception";
+    /// Semantic Conventions, "Exceptions"). It is named `exception` and has the attributes `exception.type`,
+    /// `exception.message` and `exception.stacktrace`, those with an empty text left out; then the others are set,
+    /// which replace them under the same keys. The limits are those of `add_event`.
+    ///
+    /// # Errors
+    ///
+    /// `OutOfMemory` where an event that is to be kept could not be stored; the record is then unchanged.
+    pub fn record_exception(
+        &mut self,
+        exception_type: String<A>,
+        message: String<A>,
+        stacktrace: String<A>,
+        timestamp: u64,
+        attributes: Vec<(String<A>, Value<A>), A>,
+    ) -> Result<(), OutOfMemory>
+        ensures ok { let call = model.record_exception (string_bytes exception_type) (string_bytes message) (string_bytes stacktrace) timestamp (attributes_view attributes.items) in
+            OnOk result (Adds call self.old self.new) }
+        ensures err { OnErr result (self.new ≡ self.old) }
+        ensures in_place { OnErr result (HasRoom self.old.limits.events self.old.span.events) }
+    {
+        if !self.has_room_for_event() {
+            self.count_event();
+            return Ok(());
+        }
+        let alloc = *Box::allocator(&self.body);
+        let limits = self.body.limits.of_event();
+        let attributes = exception_attributes(
+            alloc,
+            limits,
+            exception_type,
+            message,
+            stacktrace,
+            attributes,
+        )?;
+        self.push_event(String::from_str(alloc, "exception")?, timestamp, attributes)
+    }
+
+    /// Links the span to another one (Trace API, "Link"; Trace SDK, "Span Limits"). The link has the first of its
+    /// attributes, by distinct keys, up to the limit, each with its last value, whose texts are cut. One to an
+    /// invalid context, without attributes and with an empty trace state is ignored. Where as many links are kept as
+    /// the limit allows, another one is discarded and counted. Neither takes memory.
+    ///
+    /// # Errors
+    ///
+    /// `OutOfMemory` where a link that is to be kept could not be stored; the record is then unchanged.
+    pub fn add_link(
+        &mut self,
+        span_context: SpanContext<A>,
+        attributes: Vec<(String<A>, Value<A>), A>,
+    ) -> Result<(), OutOfMemory>
+        ensures ok { let call = model.add_link (context_view span_context) (attributes_view attributes.items) in
+            OnOk result (Adds call self.old self.new) }
+        ensures err { OnErr result (self.new ≡ self.old) }
+        ensures in_place { OnErr result (HasRoom self.old.limits.links self.old.span.links) }
+        ensures says_something { OnErr result (is_ignored (context_view span_context) (attributes_view attributes.items) ≡ false) }
+    {
+        if is_ignored_link(&span_context, &attributes) {
+            return Ok(());
+        }
+        if !self.has_room_for_link() {
+            self.count_link();
+            return Ok(());
+        }
+        let alloc = *Box::allocator(&self.body);
+        let limits = self.body.limits.of_link();
+        let attributes = kept_attributes(alloc, limits, attributes)?;
+        self.push_link(span_context, attributes)
+    }
 }
 
-#[cfg(test)]
-mod tests;
+impl<A: Allocator> SpanRecord<A> {
+    /// Whether one more event is kept.
+    fn has_room_for_event(&self) -> bool
+        ensures { result ≡ nat_lt (length self.now.span.events.items) self.now.limits.events }
+    {
+        self.body.events.len() < self.body.limits.max_events_per_span as usize
+    }
+
+    /// Counts an event that isn't kept.
+    fn count_event(&mut self)
+        ensures { self.new ≡ with_events self.old (one_counted self.old.span.events) }
+    {
+        self.body.dropped_events = self.body.dropped_events.saturating_add(1);
+    }
+
+    /// Keeps an event.
+    fn push_event(
+        &mut self,
+        name: String<A>,
+        timestamp: u64,
+        attributes: AttributeList<A>,
+    ) -> Result<(), OutOfMemory>
+        ensures ok { let event : model.Event = record { at = timestamp; name = string_bytes name; attributes = attributes.kept } in
+            OnOk result (self.new ≡ with_events self.old (one_kept self.old.span.events event)) }
+        ensures err { OnErr result (self.new ≡ self.old) }
+    {
+        let dropped_attributes_count = attributes.dropped();
+        self.body.events.push(Event {
+            timestamp,
+            name,
+            attributes: attributes.into_pairs(),
+            dropped_attributes_count,
+        })?;
+        Ok(())
+    }
+
+    /// Whether one more link is kept.
+    fn has_room_for_link(&self) -> bool
+        ensures { result ≡ nat_lt (length self.now.span.links.items) self.now.limits.links }
+    {
+        self.body.links.len() < self.body.limits.max_links_per_span as usize
+    }
+
+    /// Counts a link that isn't kept.
+    fn count_link(&mut self)
+        ensures { self.new ≡ with_links self.old (one_counted self.old.span.links) }
+    {
+        self.body.dropped_links = self.body.dropped_links.saturating_add(1);
+    }
+
+    /// Keeps a link.
+    fn push_link(
+        &mut self,
+        span_context: SpanContext<A>,
+        attributes: AttributeList<A>,
+    ) -> Result<(), OutOfMemory>
+        ensures ok { let link : model.Link = record { context = context_view span_context; attributes = attributes.kept } in
+            OnOk result (self.new ≡ with_links self.old (one_kept self.old.span.links link)) }
+        ensures err { OnErr result (self.new ≡ self.old) }
+    {
+        let dropped_attributes_count = attributes.dropped();
+        self.body.links.push(Link {
+            span_context,
+            attributes: attributes.into_pairs(),
+            dropped_attributes_count,
+        })?;
+        Ok(())
+    }
+}
+
+/// Whether a link says nothing: its context is invalid, and it has neither attributes nor a trace state.
+fn is_ignored_link<A: Allocator>(
+    span_context: &SpanContext<A>,
+    attributes: &[(String<A>, Value<A>)],
+) -> bool
+    ensures { result ≡ is_ignored (context_view span_context.now) (attributes_view attributes.now) }
+{
+    !span_context.is_valid() && attributes.is_empty() && span_context.state.is_empty()
+}

@@ -1,18 +1,26 @@
 -- What values, pairs and limits are in the model.
-use Rattle.std.specs.Prelude.{Bool, List, String, false, map, None, string_bytes, true}
+use Rattle.std.specs.Prelude.{◌<◌, List, String, length, map, string_bytes}
 use Rattle.trace_model.specs.Attributes as model
 use Rattle.otlp_value.specs.declared.Value.{Value}
-use Rattle.otlp_value.specs.declared.Value.TheVariants.{Text, Int}
+use Rattle.otlp_value.specs.declared.Value.TheVariants.{Text, Bool, Int, Texts, Bools, Ints}
 use Rattle.otlp_value.specs.declared.Limits.{Limits}
 
 abbrev pub value_view : {A : Type 0} → Value A → model.Value
 value_view (Text t) = model.text (string_bytes t)
+value_view (Bool b) = model.bool b
 value_view (Int i) = model.int i
+value_view (Texts ts) = model.texts (map string_bytes ts.items)
+value_view (Bools bs) = model.bools bs.items
+value_view (Ints is) = model.ints is.items
 
--- whether a copy of the value takes memory
-abbrev pub takes_memory : {A : Type 0} → Value A → Bool
-takes_memory (Text t) = true
-takes_memory (Int i) = false
+-- a copy of the value takes memory: of a text or an array that is not empty
+abbrev pub TakesMemory : {A : Type 0} → Value A → Type 0
+TakesMemory (Text t) = 0 < length (string_bytes t)
+TakesMemory (Bool b) = ⊥
+TakesMemory (Int i) = ⊥
+TakesMemory (Texts ts) = 0 < length ts.items
+TakesMemory (Bools bs) = 0 < length bs.items
+TakesMemory (Ints is) = 0 < length is.items
 
 abbrev pub attribute_view : {A : Type 0} → String A × Value A → model.Attribute
 attribute_view p = record { key = string_bytes p.0; value = value_view p.1 }
@@ -21,4 +29,4 @@ abbrev pub attributes_view : {A : Type 0} → List (String A × Value A) → Lis
 attributes_view pairs = map attribute_view pairs
 
 abbrev pub limits_view : Limits → model.Limits
-limits_view l = record { count = l.count; length = None }
+limits_view l = record { count = l.count; length = l.value_length }

@@ -1,38 +1,71 @@
 //! Attribute values and lists of attributes (OpenTelemetry Common, "Attribute"; Trace SDK, "Span Limits").
 #![tactic(auto)]
 
-ghost use Rattle.std.specs.Prelude.{◌≡◌, IfOk, IsTrue, OnErr, OnOk, [], position, string_bytes};
-ghost use Rattle.trace_model.specs.Attributes.{SetsPair, attribute_list, has_key};
+ghost use Rattle.std.specs.Prelude.{◌≡◌, ◌<◌, IfOk, OnErr, OnOk, Some, [], length, map, position, string_bytes};
+ghost use Rattle.trace_model.specs.Attributes.{SetsPair, attribute_list, cut, first_chars, has_key};
 ghost use Rattle.otlp_value.specs.AttributeList.{TakesPlace};
-ghost use Rattle.otlp_value.specs.Value.{attribute_view, attributes_view, limits_view, takes_memory, value_view};
+ghost use Rattle.otlp_value.specs.Value.{TakesMemory, attribute_view, attributes_view, limits_view, value_view};
 
 use otlp_ids::OutOfMemory;
 use std::alloc::{Allocator, Global};
 use std::marker::Model;
 
-/// A value of an attribute.
+/// A value of an attribute (OpenTelemetry Common, "Attribute").
 #[derive(Drop)]
 #[derive_where(Debug, PartialEq, Eq)]
 pub enum Value<A: Allocator = Global> {
     /// A text.
     Text(String<A>),
+    /// A truth value.
+    Bool(bool),
     /// A whole number of 64 bits, with its sign.
     Int(i64),
+    /// An array of texts.
+    Texts(Vec<String<A>, A>),
+    /// An array of truth values.
+    Bools(Vec<bool, A>),
+    /// An array of whole numbers.
+    Ints(Vec<i64, A>),
+}
+
+impl<A: Allocator> Value<A> {
+    /// The value with its text, or each text of its array by itself, cut to so many Unicode scalar values. The
+    /// others stay as they are, and without a limit all do. It takes no memory.
+    fn cut(self, length: Option<u32>) -> Value<A>
+        ensures { value_view result ≡ cut length (value_view self) }
+    {
+        let Some(length) = length else { return self };
+        match self {
+            Value::Text(mut text) => {
+                cut_text(&mut text, length);
+                Value::Text(text)
+            }
+            Value::Texts(mut texts) => {
+                cut_texts(&mut texts, length);
+                Value::Texts(texts)
+            }
+            other => other,
+        }
+    }
 }
 
 impl<A: Allocator + Copy> Value<A> {
-    /// An equal value, on memory of its own. A number takes none.
+    /// An equal value, on memory of its own. A number, a truth value and what is empty take none.
     ///
     /// # Errors
     ///
-    /// `OutOfMemory` where a text could not be stored.
+    /// `OutOfMemory` where a text or an array could not be stored.
     pub fn copy(&self, alloc: A) -> Result<Value<A>, OutOfMemory>
         ensures value { IfOk result (λ v. value_view v ≡ value_view self.now) }
-        ensures refused { OnErr result (IsTrue (takes_memory self.now)) }
+        ensures refused { OnErr result (TakesMemory self.now) }
     {
         match self {
-            Value::Text(text) => Ok(Value::Text(String::from_str(alloc, text.as_str())?)),
+            Value::Text(text) => Ok(Value::Text(copy_text(alloc, text)?)),
+            Value::Bool(truth) => Ok(Value::Bool(*truth)),
             Value::Int(number) => Ok(Value::Int(*number)),
+            Value::Texts(texts) => Ok(Value::Texts(copy_texts(alloc, texts)?)),
+            Value::Bools(truths) => Ok(Value::Bools(copy_items(alloc, truths)?)),
+            Value::Ints(numbers) => Ok(Value::Ints(copy_items(alloc, numbers)?)),
         }
     }
 }
@@ -40,8 +73,10 @@ impl<A: Allocator + Copy> Value<A> {
 /// How much an `AttributeList` keeps (OpenTelemetry Common, "Attribute Limits").
 #[derive(Debug, Clone, Copy, PartialEq, Eq)]
 pub struct Limits {
-    /// How many keys are kept at most.
+    /// How many keys are kept at most; 0 keeps none.
     pub count: u32,
+    /// How many Unicode scalar values a text has at most, as a value or in an array; `None` cuts none.
+    pub value_length: Option<u32>,
 }
 
 /// Attributes under distinct keys, in the order in which the keys were first set.
@@ -80,7 +115,8 @@ impl<A: Allocator> AttributeList<A> {
 
     /// Sets an attribute (OpenTelemetry Trace SDK, "Span Limits"; Common, "Attribute"). A key that is there
     /// keeps its place and gets the value; a new one is appended. A pair with an empty key is ignored. One
-    /// with a new key is discarded, and counted, where as many keys are kept as the limit allows.
+    /// with a new key is discarded, and counted, where as many keys are kept as the limit allows. A text that
+    /// is kept, and each of an array, is cut to the limit on its length; a key never is.
     ///
     /// # Errors
     ///
@@ -93,6 +129,7 @@ impl<A: Allocator> AttributeList<A> {
         if key.is_empty() {
             return Ok(());
         }
+        let value = value.cut(self.limits.value_length);
         match position_of(&self.pairs, &key) {
             Some(index) => self.pairs[index].1 = value,
             None if self.pairs.len() < self.limits.count as usize => self.pairs.push((key, value))?,
@@ -123,6 +160,59 @@ impl<A: Allocator> AttributeList<A> {
     }
 }
 
+/// Cuts a text to so many Unicode scalar values. It takes no memory.
+fn cut_text<A: Allocator>(text: &mut String<A>, length: u32)
+    ensures { string_bytes text.new ≡ first_chars (Some length) (string_bytes text.old) }
+{
+    if let Some((end, _)) = text.char_indices().nth(length as usize) {
+        text.truncate(end);
+    }
+}
+
+/// Cuts each of the texts to so many Unicode scalar values. It takes no memory.
+fn cut_texts<A: Allocator>(texts: &mut [String<A>], length: u32)
+    ensures { map string_bytes texts.new ≡ map (first_chars (Some length)) (map string_bytes texts.old) }
+{
+    for text in texts.iter_mut() {
+        cut_text(text, length);
+    }
+}
+
+/// An equal text, on memory of its own. An empty one takes none.
+fn copy_text<A: Allocator>(alloc: A, text: &str) -> Result<String<A>, OutOfMemory>
+    ensures value { IfOk result (λ t. string_bytes t ≡ text.now) }
+    ensures refused { OnErr result (0 < length text.now) }
+{
+    let mut copied = String::with_capacity(alloc, text.len())?;
+    copied.push_str(text)?;
+    Ok(copied)
+}
+
+/// Equal texts, on memory of their own. None at all take none.
+fn copy_texts<A: Allocator + Copy>(
+    alloc: A,
+    texts: &[String<A>],
+) -> Result<Vec<String<A>, A>, OutOfMemory>
+    ensures value { IfOk result (λ v. map string_bytes v.items ≡ map string_bytes texts.now) }
+    ensures refused { OnErr result (0 < length texts.now) }
+{
+    let mut copied = Vec::with_capacity(alloc, texts.len())?;
+    for text in texts {
+        copied.push(copy_text(alloc, text)?)?;
+    }
+    Ok(copied)
+}
+
+/// The same items, on memory of their own. None at all take none.
+fn copy_items<T: Copy, A: Allocator>(alloc: A, items: &[T]) -> Result<Vec<T, A>, OutOfMemory>
+    ensures value { IfOk result (λ v. v.items ≡ items.now) }
+    ensures refused { OnErr result (0 < length items.now) }
+{
+    let mut copied = Vec::with_capacity(alloc, items.len())?;
+    copied.extend_from_slice(items)?;
+    Ok(copied)
+}
+
 /// Where the pair with this key is.
 fn position_of<A: Allocator>(pairs: &[(String<A>, Value<A>)], key: &str) -> Option<usize>
     ensures { result ≡ position (λ p. has_key key.now (attribute_view p)) pairs.now }
@@ -131,150 +221,4 @@ fn position_of<A: Allocator>(pairs: &[(String<A>, Value<A>)], key: &str) -> Opti
 }
 
 #[cfg(test)]
-mod tests {
-    use super::*;
-    use linked_list_allocator::LocalHeap;
-    use std::process::Abort;
-    use std::test::Fail;
-
-    fn text<A: Allocator + Copy>(alloc: A, text: &str) -> Result<Value<A>, OutOfMemory> {
-        Ok(Value::Text(String::from_str(alloc, text)?))
-    }
-
-    fn set<A: Allocator + Copy>(
-        list: &mut AttributeList<A>,
-        alloc: A,
-        key: &str,
-        number: i64,
-    ) -> Result<(), OutOfMemory> {
-        list.set(String::from_str(alloc, key)?, Value::Int(number))
-    }
-
-    /// The attributes with these keys and numbers.
-    fn numbers<A: Allocator + Copy>(
-        alloc: A,
-        pairs: &[(&str, i64)],
-    ) -> Result<Vec<(String<A>, Value<A>), A>, OutOfMemory> {
-        let mut all = Vec::new(alloc);
-        for (key, number) in pairs {
-            all.push((String::from_str(alloc, key)?, Value::Int(*number)))?;
-        }
-        Ok(all)
-    }
-
-    #[test]
-    fn copies_a_value(rt: HostRuntime) -> Result<(), Fail> {
-        let alloc = rt.alloc();
-        assert_eq!(rt; text(alloc, "café")?.copy(alloc)?, text(alloc, "café")?);
-        assert_eq!(rt; Value::Int(-7).copy(alloc)?, Value::Int(-7));
-        assert_ne!(rt; text(alloc, "7")?, Value::Int(7));
-        Ok(())
-    }
-
-    #[test]
-    fn keeps_the_first_keys_with_their_last_values(rt: HostRuntime) -> Result<(), Fail> {
-        let alloc = rt.alloc();
-        let mut list = AttributeList::new(alloc, Limits { count: 2 });
-        set(&mut list, alloc, "a", 1)?;
-        set(&mut list, alloc, "b", 2)?;
-        set(&mut list, alloc, "c", 3)?;
-        set(&mut list, alloc, "a", 4)?;
-        set(&mut list, alloc, "c", 5)?;
-        assert_eq!(rt;
-            list.pairs(),
-            numbers(alloc, &[("a", 4), ("b", 2)])?.as_slice()
-        );
-        assert_eq!(rt; list.dropped(), 2);
-        assert_eq!(rt; list.into_pairs(), numbers(alloc, &[("a", 4), ("b", 2)])?);
-        Ok(())
-    }
-
-    #[test]
-    fn keeps_no_key_at_limit_zero(rt: HostRuntime) -> Result<(), Fail> {
-        let alloc = rt.alloc();
-        let mut list = AttributeList::new(alloc, Limits { count: 0 });
-        set(&mut list, alloc, "a", 1)?;
-        assert_eq!(rt; list.pairs(), numbers(alloc, &[])?.as_slice());
-        assert_eq!(rt; list.dropped(), 1);
-        Ok(())
-    }
-
-    #[test]
-    fn ignores_an_empty_key(rt: HostRuntime) -> Result<(), Fail> {
-        let alloc = rt.alloc();
-        let mut list = AttributeList::new(alloc, Limits { count: 1 });
-        set(&mut list, alloc, "", 1)?;
-        set(&mut list, alloc, "a", 2)?;
-        set(&mut list, alloc, "", 3)?;
-        assert_eq!(rt; list.pairs(), numbers(alloc, &[("a", 2)])?.as_slice());
-        assert_eq!(rt; list.dropped(), 0);
-        Ok(())
-    }
-
-    /// Copies a text into scarce memory, and answers whether that was refused.
-    fn is_copy_refused<A: Allocator + Copy>(
-        rt: &impl Abort,
-        ample: A,
-        scarce: A,
-    ) -> Result<bool, OutOfMemory> {
-        let value = text(ample, "a text that is longer than the least block")?;
-        assert_eq!(rt; Value::Int(5).copy(scarce)?, Value::Int(5));
-        if let Ok(copied) = value.copy(scarce) {
-            assert_eq!(rt; copied, value);
-            return Ok(false);
-        }
-        Ok(true)
-    }
-
-    #[test]
-    fn a_text_is_not_copied_where_memory_is_refused(rt: HostRuntime) -> Result<(), Fail> {
-        let ample = LocalHeap::new(rt.alloc(), 4096)?;
-        let mut refused = 0u32;
-        for size in 0..200usize {
-            let scarce = LocalHeap::new(rt.alloc(), size)?;
-            if is_copy_refused(&rt, &ample, &scarce)? {
-                refused = refused.saturating_add(1);
-            }
-        }
-        assert!(rt; refused > 10 && refused < 100, "{refused}");
-        Ok(())
-    }
-
-    /// Sets six numbers in a list on scarce memory, and answers how many there are in front of the first that is
-    /// refused.
-    fn count_set<A: Allocator + Copy>(
-        rt: &impl Abort,
-        ample: A,
-        scarce: A,
-    ) -> Result<usize, OutOfMemory> {
-        let pairs = [("a", 1), ("b", 2), ("c", 3), ("d", 4), ("e", 5), ("f", 6)];
-        let mut list = AttributeList::new(scarce, Limits { count: 6 });
-        for (place, (key, number)) in pairs.iter().enumerate() {
-            if set(&mut list, ample, key, *number).is_err() {
-                assert_eq!(rt; list.pairs(), numbers(ample, &pairs[..place])?.as_slice());
-                assert_eq!(rt; list.dropped(), 0);
-                return Ok(place);
-            }
-        }
-        assert_eq!(rt; list.pairs(), numbers(ample, &pairs)?.as_slice());
-        Ok(pairs.len())
-    }
-
-    #[test]
-    fn a_list_is_unchanged_where_memory_is_refused(rt: HostRuntime) -> Result<(), Fail> {
-        let ample = LocalHeap::new(rt.alloc(), 4096)?;
-        let mut counts = [0u32; 7];
-        for size in 0..1500usize {
-            let scarce = LocalHeap::new(rt.alloc(), size)?;
-            let count = count_set(&rt, &ample, &scarce)?;
-            assert!(rt; count < 7);
-            counts[count] = counts[count].saturating_add(1);
-        }
-        // The first place was refused and a later one, where the list grows, and in the end none.
-        assert!(rt;
-            counts[0] > 0 && counts[4] > 0 && counts[6] > 0,
-            "{counts:?}"
-        );
-        Ok(())
-    }
-}
+mod tests;

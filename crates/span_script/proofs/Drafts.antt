@@ -5,11 +5,12 @@ use Rattle.std.proofs.lemmas.List.{map_push}
 use Rattle.trace_model.specs.Attributes as attributes
 use Rattle.trace_model.specs.Attributes.{AttributeList, SetsPair}
 use Rattle.otlp_span.specs.declared.Scope.{Scope}
-use Rattle.otlp_span.specs.Parts.{scope_view}
+use Rattle.otlp_span.specs.declared.parts.SpanLimits.{SpanLimits}
+use Rattle.otlp_span.specs.Parts.{limits_view, scope_view}
 use Rattle.span_script.specs.declared.sampler.SamplerName.{SamplerName}
 use Rattle.span_script.specs.declared.step.Step.{Step as CodeStep}
 use Rattle.span_script.specs.declared.draft.Draft.{Draft}
-use Rattle.span_script.specs.Lines.{step_view, words, sampler, resource, scope, step}
+use Rattle.span_script.specs.Lines.{step_view, words, sampler, limits, resource, scope, step}
 use Rattle.span_script.specs.Scripts.{Script, no_items, followed}
 use Rattle.span_script.specs.Drafts.{Holds}
 
@@ -17,13 +18,19 @@ pub add_words : {A : Type 0} (d : Draft A) (after : Vec ℕ A) (s : Script) (mor
     → (t : Script) × (followed s (words more) ≡ Some t) × Holds (record d { words = after }) t
 unfolding followed
 add_words d after s more first e h =
-    (record s { words = s.words ++ more }, rw first refl, record { words = e ∙ ap (λ l. l ++ more) h.words; sampler = h.sampler; limits = h.limits; resource = h.resource; scopes = h.scopes; steps = h.steps })
+    (record s { words = s.words ++ more }, rw first refl, record { words = e ∙ ap (λ l. l ++ more) h.words; sampler = h.sampler; limits = h.limits; resource_limits = h.resource_limits; resource = h.resource; scopes = h.scopes; steps = h.steps })
 
 pub set_sampler : {A : Type 0} (d : Draft A) (s : Script) (name : SamplerName) → no_items s.steps ≡ true → is_some s.sampler ≡ false → Holds d s
     → (t : Script) × (followed s (sampler name) ≡ Some t) × Holds (record d { sampler = Some name }) t
 unfolding followed
 set_sampler d s name first none h =
-    (record s { sampler = Some name }, rw (first, none) refl, record { words = h.words; sampler = refl; limits = h.limits; resource = h.resource; scopes = h.scopes; steps = h.steps })
+    (record s { sampler = Some name }, rw (first, none) refl, record { words = h.words; sampler = refl; limits = h.limits; resource_limits = h.resource_limits; resource = h.resource; scopes = h.scopes; steps = h.steps })
+
+pub set_limits : {A : Type 0} (d : Draft A) (s : Script) (values : SpanLimits) → no_items s.steps ≡ true → is_some s.limits ≡ false → Holds d s
+    → (t : Script) × (followed s (limits (limits_view values)) ≡ Some t) × Holds (record d { limits = Some values }) t
+unfolding followed
+set_limits d s values first none h =
+    (record s { limits = Some (limits_view values) }, rw (first, none) refl, record { words = h.words; sampler = h.sampler; limits = refl; resource_limits = h.resource_limits; resource = h.resource; scopes = h.scopes; steps = h.steps })
 
 pub add_attribute : {A : Type 0} (d : Draft A) (after : AttributeList) (s : Script) (p : attributes.Attribute) → no_items s.steps ≡ true → SetsPair p d.resource after → Holds d s
     → (t : Script) × (followed s (resource p) ≡ Some t) × Holds (record d { resource = after }) t
@@ -34,8 +41,9 @@ add_attribute d after s p first set h = (
   record {
     words = h.words;
     sampler = h.sampler;
-    limits = set.limits ∙ h.limits;
-    resource = rw h.limits at (set.value s.resource (rw h.limits h.resource));
+    limits = h.limits;
+    resource_limits = set.limits ∙ h.resource_limits;
+    resource = rw h.resource_limits at (set.value s.resource (rw h.resource_limits h.resource));
     scopes = h.scopes;
     steps = h.steps;
   },
@@ -52,6 +60,7 @@ add_scope d after s more first only e h = (
     words = h.words;
     sampler = h.sampler;
     limits = h.limits;
+    resource_limits = h.resource_limits;
     resource = h.resource;
     scopes = ap (map scope_view) e ∙ map_push scope_view d.scopes.items more ∙ ap (λ l. l ++ scope_view more ∷ []) h.scopes;
     steps = h.steps;
@@ -69,6 +78,7 @@ add_step d after s more e h = (
     words = h.words;
     sampler = h.sampler;
     limits = h.limits;
+    resource_limits = h.resource_limits;
     resource = h.resource;
     scopes = h.scopes;
     steps = ap (map step_view) e ∙ map_push step_view d.steps.items more ∙ ap (λ l. l ++ step_view more ∷ []) h.steps;

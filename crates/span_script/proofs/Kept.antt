@@ -6,7 +6,7 @@ use Rattle.std.proofs.lemmas.List.{length-map}
 use Rattle.std.proofs.lemmas.Option.{cond_some}
 use Rattle.otlp_span.specs.Parts.{scope_view}
 use Rattle.span_script.specs.Words.{◌>>=◌}
-use Rattle.span_script.specs.Lines.{Line, words, sampler, resource, scope, step, line_of}
+use Rattle.span_script.specs.Lines.{Line, words, sampler, limits, resource, scope, step, line_of}
 use Rattle.span_script.specs.Scripts.{Script, no_script, no_items, fits, extended, followed, line_read, lines_read, lines_of, script_read, IsLine, numbered}
 use Rattle.span_script.specs.Parsed.{Means}
 use Rattle.span_script.specs.declared.script.Script.{Script as CodeScript}
@@ -23,6 +23,7 @@ OneScope s = length s.scopes ≤ 1
 fitting : (s : Script) (line : Line) → OneScope s → fits s line ≡ true → OneScope (extended s line)
 fitting s (words ws) one e = one
 fitting s (sampler name) one e = one
+fitting s (limits l) one e = one
 fitting s (resource x) one e = one
 fitting s (scope number x) one e =
     let p = and_parts (no_items s.steps) (no_items s.scopes && eqb number 0) e in

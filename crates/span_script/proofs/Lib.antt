@@ -1,4 +1,6 @@
 pub mod Numbers
+pub mod Each
+pub mod Pairs
 pub mod Texts
 pub mod Contexts
 pub mod Lines

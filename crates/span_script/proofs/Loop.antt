@@ -4,7 +4,7 @@ use Rattle.std.proofs.Math.ListN.{drop_of_length-le}
 use Rattle.std.specs.List.{slice_split}
 use denote.Ref.{Bor}
 use Rattle.span_script.specs.Scripts.{Script, no_script, line_read, lines_read, script_read, numbered}
-use Rattle.span_script.proofs.Lines.{words_at}
+use Rattle.span_script.proofs.Each.{words_at}
 
 -- what the lines from place i on say, after those of a script
 abbrev pub rest_read : Script → List (Bor (List ℕ)) → ℕ → Result Script ℕ

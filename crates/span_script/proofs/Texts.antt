@@ -1,12 +1,13 @@
 -- How a word spells bytes.
 use Rattle.std.proofs.lemmas.Bool.{cases_Bool}
-use Rattle.std.proofs.Common.{inl, inr, eqb, ◌≡◌, ℕ, ◌<◌, List, [], ◌∷◌, ◌++◌, length, get_or, Option, Some, None, refl, sym, ap, ◌∙◌, arith, append_assoc, append-nil}
+use Rattle.std.proofs.Common.{inl, inr, eqb, ◌≡◌, ℕ, ◌<◌, List, [], ◌∷◌, ◌++◌, length, get_or, Option, Some, None, refl, sym, ap, ◌∙◌, arith, append-nil}
 use Rattle.std.specs.Prelude.{option_map, option_and_then, String, string_bytes}
 use Rattle.std.specs.Str.{IsUtf8, is_utf8}
 use Rattle.std.proofs.lemmas.Str.{IsUtf8-string_bytes, IsUtf8-from_is_utf8, is_utf8-from_IsUtf8}
 use Rattle.std.specs.Result.{result_ok}
 use Rattle.hex.specs.Hex.{decode_sized, decode_pairs, hex_digit_value}
 use Rattle.span_script.specs.Words.{hex_byte, bytes_of, first_byte_of, in_front, utf8_of}
+use Rattle.span_script.proofs.Each.{behind, one_more}
 
 pairs_of : (high low : ℕ) (h l : Option ℕ) → hex_digit_value high ≡ h → hex_digit_value low ≡ l
     → result_ok (decode_pairs 0 (high ∷ low ∷ [])) ≡ option_map (λ b. b ∷ []) (hex_byte high low)
@@ -18,10 +19,6 @@ pairs_of high low None l p q = rw p refl
 -- two digits decode to their byte
 pub pair_decoded : (high low : ℕ) → result_ok (decode_sized (high ∷ low ∷ []) 1) ≡ option_map (λ b. b ∷ []) (hex_byte high low)
 pair_decoded high low = pairs_of high low (hex_digit_value high) (hex_digit_value low) refl refl
-
--- bytes, and those that the rest of a word spells
-abbrev pub behind : List ℕ → Option (List ℕ) → Option (List ℕ)
-behind front bytes = option_map (λ bs. front ++ bs) bytes
 
 pub no_byte : (o : Option ℕ) → option_map (λ b. b ∷ []) o ≡ None → o ≡ None
 no_byte None e = refl
@@ -47,10 +44,6 @@ unfolding bytes_of
 begins c [] = elim (cases_Bool (eqb c 37)) [ inl e ↦ rw e refl | inr e ↦ rw e refl ]
 begins c (d ∷ []) = elim (cases_Bool (eqb c 37)) [ inl e ↦ rw e refl | inr e ↦ rw e refl ]
 begins c (d ∷ e ∷ rest) = elim (cases_Bool (eqb c 37)) [ inl h ↦ rw h (escaped (hex_byte d e) rest) | inr h ↦ rw h refl ]
-
-pub one_more : (front : List ℕ) (b : ℕ) (o : Option (List ℕ)) → behind (front ++ b ∷ []) o ≡ behind front (in_front (Some b) o)
-one_more front b None = refl
-one_more front b (Some bs) = ap Some (append_assoc front (b ∷ []) bs)
 
 -- one more byte, and what the word behind it spells
 pub goes_on : (front w rest : List ℕ) (b : ℕ) (whole : Option (List ℕ))

@@ -1,7 +1,7 @@
 -- What the code has of the lines so far.
-use Rattle.std.specs.Prelude.{◌≡◌, map, Option, Some, None, Result, Ok, Err}
+use Rattle.std.specs.Prelude.{◌≡◌, map, option_map, Option, Some, None, Result, Ok, Err}
 use Rattle.trace_model.specs.Attributes.{attributes}
-use Rattle.otlp_span.specs.Parts.{scope_view}
+use Rattle.otlp_span.specs.Parts.{limits_view, scope_view}
 use Rattle.span_script.specs.Lines.{step_view}
 use Rattle.span_script.specs.Scripts.{Script, all_kept}
 use Rattle.span_script.specs.declared.draft.Draft.{Draft}
@@ -11,7 +11,8 @@ use Rattle.span_script.specs.declared.words.Fault.TheVariants.{Bad, OutOfMemory}
 pub record Holds {A : Type 0} (d : Draft A) (s : Script) : Type 0 where
   pub words : d.words.items ≡ s.words
   pub sampler : d.sampler ≡ s.sampler
-  pub limits : d.resource.limits ≡ all_kept
+  pub limits : option_map limits_view d.limits ≡ s.limits
+  pub resource_limits : d.resource.limits ≡ all_kept
   pub resource : d.resource.kept ≡ attributes all_kept s.resource
   pub scopes : map scope_view d.scopes.items ≡ s.scopes
   pub steps : map step_view d.steps.items ≡ s.steps

@@ -1,5 +1,7 @@
 pub mod Words
+pub mod Values
 pub mod Contexts
+pub mod Calls
 pub mod Lines
 pub mod Scripts
 pub mod Drafts

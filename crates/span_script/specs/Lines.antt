@@ -4,11 +4,13 @@ use Rattle.std.specs.List.{slice_split}
 use Rattle.trace_model.specs.Attributes as attributes
 use Rattle.trace_model.specs.Spans as spans
 use Rattle.trace_model.specs.History.{Step, start, call}
-use Rattle.otlp_value.specs.Value.{value_view}
+use Rattle.otlp_value.specs.Value.{attribute_view}
 use Rattle.otlp_span.specs.declared.parts.Kind.{Kind}
 use Rattle.otlp_span.specs.declared.parts.Kind.TheVariants as kinds
-use Rattle.otlp_span.specs.Parts.{kind_view, call_view}
-use Rattle.span_script.specs.Words.{◌>>=◌, number_below, signed_number, hex_word, text_of}
+use Rattle.otlp_span.specs.Parts.{kind_view, limits_view, call_view}
+use Rattle.span_script.specs.Words.{◌>>=◌, each_of, number_below, hex_word, text_of}
+use Rattle.span_script.specs.Values.{pair_of}
+use Rattle.span_script.specs.Calls.{call_of}
 use Rattle.span_script.specs.Contexts.{parent_view, parent_of}
 use Rattle.span_script.specs.declared.sampler.SamplerName.{SamplerName}
 use Rattle.span_script.specs.declared.sampler.SamplerName.TheVariants as samplers
@@ -20,6 +22,7 @@ use Rattle.span_script.specs.declared.line.Line.TheVariants as lines
 pub data Line : Type 0 where
   words : List ℕ → Line
   sampler : SamplerName → Line
+  limits : spans.SpanLimits → Line
   resource : attributes.Attribute → Line
   scope : ℕ → spans.Scope → Line
   step : Step → Line
@@ -35,26 +38,12 @@ step_view (steps.End span at) = call span (spans.end at)
 abbrev pub line_view : {A : Type 0} → CodeLine A → Line
 line_view (lines.Words ws) = words ws.items
 line_view (lines.Sampler name) = sampler name
-line_view (lines.Resource key value) = resource (record { key = string_bytes key; value = value_view value })
+line_view (lines.Limits l) = limits (limits_view l)
+line_view (lines.Resource key value) = resource (attribute_view (key, value))
 line_view (lines.Scope number name version schema) = scope number (record { name = string_bytes name; version = string_bytes version; attributes = []; schema = string_bytes schema })
 line_view (lines.Step s) = step (step_view s)
 
 -- ---- what the words of a line spell
-
--- each of them, where each is there
-abbrev pub each_of : {X Y : Type 0} → (X → Option Y) → List X → Option (List Y)
-each_of f [] = Some []
-each_of f (x ∷ xs) = f x >>= λ y. option_map (λ ys. y ∷ ys) (each_of f xs)
-
--- `t:TEXT` or `i:NUMBER`: 116 and 105 are the letters, 58 is the colon
-unfoldable pub value_of : List ℕ → Option attributes.Value
-value_of (letter ∷ colon ∷ spelling) =
-    if colon == 58 then
-    if letter == 116 then option_map attributes.text (text_of spelling)
-    else if letter == 105 then option_map attributes.int (signed_number spelling)
-    else None
-    else None
-value_of _ = None
 
 -- (Trace API, SpanKind)
 unfoldable pub kind_of : List ℕ → Option Kind
@@ -84,12 +73,30 @@ unfoldable pub sampler_line : List (List ℕ) → Option Line
 sampler_line (name ∷ []) = option_map sampler (sampler_of name)
 sampler_line _ = None
 
+-- `none`, or how many characters a text may have
+unfoldable pub length_of : List ℕ → Option (Option ℕ)
+length_of word = if bytes_eq word (codes "none") then Some None else option_map Some (number_below (2 ^ 32) word)
+
+-- How many attributes, events and links of a span, and attributes of an event and of a link; and the length of a text in
+-- an attribute. (Trace SDK, Span Limits; Common, Attribute Limits)
+unfoldable pub limits_of : List ℕ → List ℕ → List ℕ → List ℕ → List ℕ → List ℕ → Option spans.SpanLimits
+limits_of attributes events links event_attributes link_attributes value_length = do
+  a ← number_below (2 ^ 32) attributes
+  e ← number_below (2 ^ 32) events
+  l ← number_below (2 ^ 32) links
+  ea ← number_below (2 ^ 32) event_attributes
+  la ← number_below (2 ^ 32) link_attributes
+  v ← length_of value_length
+  Some (record { attributes = a; events = e; links = l; event_attributes = ea; link_attributes = la; value_length = v })
+
+-- `limits A E L EA LA V`
+unfoldable pub limits_line : List (List ℕ) → Option Line
+limits_line (a ∷ e ∷ l ∷ ea ∷ la ∷ v ∷ []) = option_map limits (limits_of a e l ea la v)
+limits_line _ = None
+
 -- `resource KEY VALUE`
 unfoldable pub resource_line : List (List ℕ) → Option Line
-resource_line (key ∷ value ∷ []) = do
-  k ← text_of key
-  v ← value_of value
-  Some (resource (record { key = k; value = v }))
+resource_line (key ∷ value ∷ []) = option_map resource (pair_of key value)
 resource_line _ = None
 
 -- `scope N NAME VERSION SCHEMA`
@@ -113,15 +120,6 @@ start_line (number ∷ parent ∷ kind ∷ at ∷ name ∷ []) = do
   Some (step (start n p (kind_view k) a t))
 start_line _ = None
 
--- `attr N KEY VALUE`
-unfoldable pub attr_line : List (List ℕ) → Option Line
-attr_line (span ∷ key ∷ value ∷ []) = do
-  n ← number_below (2 ^ 32) span
-  k ← text_of key
-  v ← value_of value
-  Some (step (call n (spans.set_attribute (record { key = k; value = v }))))
-attr_line _ = None
-
 -- `end N AT`
 unfoldable pub end_line : List (List ℕ) → Option Line
 end_line (span ∷ at ∷ []) = do
@@ -130,17 +128,25 @@ end_line (span ∷ at ∷ []) = do
   Some (step (call n (spans.end a)))
 end_line _ = None
 
+-- any other call on a span: the span's number stands behind the name
+unfoldable pub call_line : List ℕ → List (List ℕ) → Option Line
+call_line name [] = None
+call_line name (span ∷ others) = do
+  n ← number_below (2 ^ 32) span
+  c ← call_of name others
+  Some (step (call n c))
+
 -- a line of this name and these words behind it
 unfoldable pub entry : List ℕ → List (List ℕ) → Option Line
 entry name arguments =
     if bytes_eq name (codes "words") then words_line arguments
     else if bytes_eq name (codes "sampler") then sampler_line arguments
+    else if bytes_eq name (codes "limits") then limits_line arguments
     else if bytes_eq name (codes "resource") then resource_line arguments
     else if bytes_eq name (codes "scope") then scope_line arguments
     else if bytes_eq name (codes "start") then start_line arguments
-    else if bytes_eq name (codes "attr") then attr_line arguments
     else if bytes_eq name (codes "end") then end_line arguments
-    else None
+    else call_line name arguments
 
 abbrev pub entry_of : List (List ℕ) → Option Line
 entry_of [] = None

@@ -5,7 +5,7 @@ use Rattle.trace_model.specs.Attributes as attributes
 use Rattle.trace_model.specs.Spans as spans
 use Rattle.trace_model.specs.History.{Step}
 use Rattle.span_script.specs.Words.{◌>>=◌}
-use Rattle.span_script.specs.Lines.{Line, words, sampler, resource, scope, step, line_of}
+use Rattle.span_script.specs.Lines.{Line, words, sampler, limits, resource, scope, step, line_of}
 use Rattle.span_script.specs.declared.sampler.SamplerName.{SamplerName}
 
 pub record Script : Type 0 where
@@ -13,13 +13,19 @@ pub record Script : Type 0 where
   pub words : List ℕ
   -- the sampler, if one is named
   pub sampler : Option SamplerName
+  -- the limits of spans, if they are set
+  pub limits : Option spans.SpanLimits
   -- the attributes that are set on the resource, in order
   pub resource : List attributes.Attribute
   pub scopes : List spans.Scope
   pub steps : List Step
 
 abbrev pub no_script : Script
-no_script = record { words = []; sampler = None; resource = []; scopes = []; steps = [] }
+no_script = record { words = []; sampler = None; limits = None; resource = []; scopes = []; steps = [] }
+
+-- 128 of each, and texts of any length (Trace SDK, Span Limits; Common, Attribute Limits)
+abbrev pub default_limits : spans.SpanLimits
+default_limits = record { attributes = 128; events = 128; links = 128; event_attributes = 128; link_attributes = 128; value_length = None }
 
 -- a resource keeps all of its keys
 abbrev pub all_kept : attributes.Limits
@@ -30,10 +36,11 @@ no_items [] = true
 no_items (x ∷ xs) = false
 
 -- Whether a line may follow those of a script: settings stand before the first step, the one scope has the number 0, and
--- the sampler is named once.
+-- the sampler and the limits are set once.
 abbrev pub fits : Script → Line → Bool
 fits s (words ws) = no_items s.steps
 fits s (sampler name) = no_items s.steps && not (is_some s.sampler)
+fits s (limits l) = no_items s.steps && not (is_some s.limits)
 fits s (resource p) = no_items s.steps
 fits s (scope number x) = no_items s.steps && (no_items s.scopes && number == 0)
 fits s (step x) = true
@@ -42,6 +49,7 @@ fits s (step x) = true
 abbrev pub extended : Script → Line → Script
 extended s (words ws) = record s { words = s.words ++ ws }
 extended s (sampler name) = record s { sampler = Some name }
+extended s (limits l) = record s { limits = Some l }
 extended s (resource p) = record s { resource = s.resource ++ p ∷ [] }
 extended s (scope number x) = record s { scopes = s.scopes ++ x ∷ [] }
 extended s (step x) = record s { steps = s.steps ++ x ∷ [] }

@@ -51,6 +51,15 @@ abbrev pub ◌>>=◌ : {A B : Type 0} → Option A → (A → Option B) → Opti
 None >>= f = None
 (Some x) >>= f = f x
 
+-- one more in front, if all are there
+abbrev pub in_front : {X : Type 0} → Option X → Option (List X) → Option (List X)
+in_front first rest = first >>= λ x. option_map (λ xs. x ∷ xs) rest
+
+-- what the function gives of each, where it gives something of all
+abbrev pub each_of : {X Y : Type 0} → (X → Option Y) → List X → Option (List Y)
+each_of f [] = Some []
+each_of f (x ∷ xs) = in_front (f x) (each_of f xs)
+
 -- the byte of two hexadecimal digits, of either case
 abbrev pub hex_byte : ℕ → ℕ → Option ℕ
 hex_byte high low = do
@@ -62,10 +71,6 @@ hex_byte high low = do
 unfoldable pub byte_of : List ℕ → Option ℕ
 byte_of (high ∷ low ∷ []) = hex_byte high low
 byte_of _ = None
-
--- one more byte in front, if both are spelled
-abbrev pub in_front : Option ℕ → Option (List ℕ) → Option (List ℕ)
-in_front byte bytes = byte >>= λ b. option_map (λ bs. b ∷ bs) bytes
 
 -- The bytes that a word spells: `%` (37) and two hexadecimal digits are a byte, any other byte stands
 -- for itself.

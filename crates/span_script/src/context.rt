@@ -71,9 +71,9 @@ fn parse_joined_context<A: Allocator>(
     parse_context(alloc, remote, trace, span, flags, state)
 }
 
-/// The words TRACE, SPAN, FLAGS and STATE.
+/// Reads a context: the words TRACE, SPAN, FLAGS and STATE.
 #[tactic(auto, unfolding(crate::specs::Contexts::context_of))]
-fn parse_context<A: Allocator>(
+pub(crate) fn parse_context<A: Allocator>(
     alloc: A,
     remote: bool,
     trace: &[u8],

@@ -1,10 +1,9 @@
 //! The lines of a script so far, and which line may follow them.
 
-ghost use Rattle.std.specs.Prelude.{◌≡◌, is_some, not, string_bytes};
-ghost use Rattle.trace_model.specs.Attributes.{Attribute};
-ghost use Rattle.otlp_value.specs.Value.{value_view};
-ghost use Rattle.otlp_span.specs.Parts.{scope_view};
-ghost use Rattle.span_script.specs.Lines.{line_view, step_view, words, sampler, resource, scope, step};
+ghost use Rattle.std.specs.Prelude.{◌≡◌, is_some, not};
+ghost use Rattle.otlp_value.specs.Value.{attribute_view};
+ghost use Rattle.otlp_span.specs.Parts.{limits_view, scope_view};
+ghost use Rattle.span_script.specs.Lines.{line_view, step_view, words, sampler, limits, resource, scope, step};
 ghost use Rattle.span_script.specs.Scripts.{Script, no_items, no_script, followed, line_read};
 ghost use Rattle.span_script.specs.Drafts.{Holds, Follows};
 
@@ -12,7 +11,7 @@ use crate::line::{Line, parse_line};
 use crate::sampler::SamplerName;
 use crate::step::Step;
 use crate::words::Fault;
-use otlp_span::Scope;
+use otlp_span::{Scope, SpanLimits};
 use otlp_value::{AttributeList, Limits, Value};
 use std::alloc::Allocator;
 
@@ -23,6 +22,8 @@ pub(crate) struct Draft<A: Allocator> {
     pub(crate) words: Vec<u64, A>,
     /// The sampler, if one is named.
     pub(crate) sampler: Option<SamplerName>,
+    /// The limits of spans, if they are set.
+    pub(crate) limits: Option<SpanLimits>,
     /// The attributes of the resource.
     pub(crate) resource: AttributeList<A>,
     /// The scopes.
@@ -39,7 +40,14 @@ impl<A: Allocator + Copy> Draft<A> {
         Draft {
             words: Vec::new(alloc),
             sampler: None,
-            resource: AttributeList::new(alloc, Limits { count: u32::MAX }),
+            limits: None,
+            resource: AttributeList::new(
+                alloc,
+                Limits {
+                    count: u32::MAX,
+                    value_length: None,
+                },
+            ),
             scopes: Vec::new(alloc),
             steps: Vec::new(alloc),
         }
@@ -69,6 +77,7 @@ impl<A: Allocator + Copy> Draft<A> {
         match line {
             Line::Words(words) => self.add_words(words),
             Line::Sampler(name) => self.set_sampler(name),
+            Line::Limits(limits) => self.set_limits(limits),
             Line::Resource(key, value) => self.add_attribute(key, value),
             Line::Scope {
                 number,
@@ -115,11 +124,22 @@ impl<A: Allocator + Copy> Draft<A> {
         Ok(())
     }
 
+    /// Goes on with the limits of spans.
+    #[tactic(auto, unfolding(crate::specs::Scripts::followed))]
+    fn set_limits(&mut self, values: SpanLimits) -> Result<(), Fault>
+        ensures { Follows (λ s. followed s (limits (limits_view values))) self.old self.new result }
+    {
+        if self.has_steps() || self.has_limits() {
+            return Err(Fault::Bad);
+        }
+        self.limits = Some(values);
+        Ok(())
+    }
+
     /// Goes on with an attribute of the resource.
     #[tactic(auto, unfolding(crate::specs::Scripts::followed))]
     fn add_attribute(&mut self, key: String<A>, value: Value<A>) -> Result<(), Fault>
-        ensures { let pair : Attribute = record { key = string_bytes key; value = value_view value } in
-            Follows (λ s. followed s (resource pair)) self.old self.new result }
+        ensures { Follows (λ s. followed s (resource (attribute_view (key, value)))) self.old self.new result }
     {
         if self.has_steps() {
             return Err(Fault::Bad);
@@ -161,6 +181,13 @@ impl<A: Allocator + Copy> Draft<A> {
         ensures { (s : Script) → Holds self.now s → result ≡ is_some s.sampler }
     {
         self.sampler.is_some()
+    }
+
+    /// Whether limits are set.
+    fn has_limits(&self) -> bool
+        ensures { (s : Script) → Holds self.now s → result ≡ is_some s.limits }
+    {
+        self.limits.is_some()
     }
 
     /// Whether a scope is there.

@@ -7,22 +7,33 @@
 //! |---|---|
 //! | `words W ..` | adds words to the generator of identifiers, each of 16 hexadecimal digits |
 //! | `sampler on`, `off` or `parent` | names the sampler, once at most |
+//! | `limits A E L EA LA V` | sets the limits of spans, once at most |
 //! | `resource KEY VALUE` | sets an attribute of the resource |
 //! | `scope 0 NAME VERSION SCHEMA` | the one scope |
 //! | `start SCOPE PARENT KIND AT NAME` | starts a span |
-//! | `attr SPAN KEY VALUE` | sets an attribute of a span |
-//! | `end SPAN AT` | ends a span |
+//! | `attr N KEY VALUE` | sets an attribute of a span |
+//! | `event N AT NAME PAIRS` | adds an event |
+//! | `exception N AT TYPE MESSAGE STACK PAIRS` | records an exception |
+//! | `link N TRACE SPAN FLAGS STATE PAIRS` | adds a link, whose context isn't remote |
+//! | `status N unset`, `ok` or `error TEXT` | sets the status |
+//! | `name N TEXT` | gives the span another name |
+//! | `end N AT` | ends a span |
 //!
-//! The first four are settings, which stand before the first step. Spans are numbered from 0 by their
-//! starts. PARENT is `root`, the number of a span, or `remote:TRACE:SPAN:FLAGS:STATE`, or `local:` likewise:
-//! 32, 16 and 2 hexadecimal digits of either case and a text, which a further colon belongs to. KIND is
-//! `internal`, `server`, `client`, `producer` or `consumer`.
+//! The first five are settings, which stand before the first step. Limits are numbers of attributes, events
+//! and links of a span, of attributes of an event and of a link, and the length of a text in characters, or
+//! `none`. N is the number of a span: they are numbered from 0 by their starts. PARENT is `root`, such a number,
+//! or `remote:TRACE:SPAN:FLAGS:STATE`, or `local:` likewise: 32, 16 and 2 hexadecimal digits of either case and
+//! a text, which a further colon belongs to. KIND is `internal`, `server`, `client`, `producer` or `consumer`.
+//! PAIRS is any number of `KEY VALUE`.
 //!
 //! In a text `%` and two hexadecimal digits are that byte, `%` alone is the empty text, other bytes stand
-//! for themselves, and the whole is UTF-8. Numbers are decimal digits; moments have 64 bits, numbers of
-//! spans and scopes 32. A value is `t:TEXT` or `i:NUMBER`, a whole number of 64 bits that may begin with `-`.
+//! for themselves, and the whole is UTF-8. Numbers are decimal digits; moments have 64 bits, limits and
+//! numbers of spans and scopes 32. A value is `t:TEXT`, `b:true`, `b:false`, `i:NUMBER`, a whole number of 64
+//! bits that may begin with `-`, or an array `T:`, `B:` or `I:` of these, with commas between them; a comma in
+//! such a text is `%2c`.
 #![tactic(auto)]
 
+mod call;
 mod context;
 mod draft;
 mod line;
@@ -31,6 +42,7 @@ mod script;
 mod step;
 #[cfg(test)]
 mod tests;
+mod value;
 mod words;
 
 pub use sampler::SamplerName;

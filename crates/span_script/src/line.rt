@@ -1,16 +1,18 @@
 //! A line of a script by itself.
 
 ghost use Rattle.std.specs.Prelude.{◌≡◌, map, ok_or};
-ghost use Rattle.otlp_value.specs.Value.{value_view};
+ghost use Rattle.otlp_span.specs.Parts.{limits_view};
 ghost use Rattle.span_script.specs.Words.{Gives};
-ghost use Rattle.span_script.specs.Lines.{line_view, value_of, kind_of, sampler_of, words_line, sampler_line, resource_line, scope_line, start_line, attr_line, end_line, entry, line_of};
+ghost use Rattle.span_script.specs.Lines.{line_view, kind_of, sampler_of, length_of, limits_of, words_line, sampler_line, limits_line, resource_line, scope_line, start_line, end_line, call_line, entry, line_of};
 ghost use Rattle.span_script.specs.declared.words.Fault.TheVariants.{Bad};
 
+use crate::call::parse_call;
 use crate::context::parse_parent;
 use crate::sampler::SamplerName;
 use crate::step::Step;
-use crate::words::{Fault, generator_word, integer, number, parts_of, small_number, text};
-use otlp_span::{Kind, SpanCall};
+use crate::value::parse_pair;
+use crate::words::{Fault, generator_words, number, parts_of, small_number, text};
+use otlp_span::{Kind, SpanLimits};
 use otlp_value::Value;
 use std::alloc::Allocator;
 use std::str;
@@ -22,6 +24,8 @@ pub(crate) enum Line<A: Allocator> {
     Words(Vec<u64, A>),
     /// The sampler.
     Sampler(SamplerName),
+    /// The limits of spans.
+    Limits(SpanLimits),
     /// An attribute of the resource.
     Resource(String<A>, Value<A>),
     /// A scope without attributes.
@@ -66,27 +70,24 @@ fn parse_entry<A: Allocator + Copy>(
     match name {
         "words" => parse_words(alloc, arguments),
         "sampler" => parse_sampler(arguments),
+        "limits" => parse_limits(arguments),
         "resource" => parse_resource(alloc, arguments),
         "scope" => parse_scope(alloc, arguments),
         "start" => parse_start(alloc, arguments),
-        "attr" => parse_attribute(alloc, arguments),
         "end" => parse_end(arguments),
-        _ => Err(Fault::Bad),
+        _ => parse_call_line(alloc, name, arguments),
     }
 }
 
 /// `words W ..`
+#[tactic(auto, using(crate::proofs::Lines::some_words), unfolding(crate::specs::Lines::words_line))]
 fn parse_words<A: Allocator>(alloc: A, arguments: &[&[u8]]) -> Result<Line<A>, Fault>
     ensures { Gives line_view result (words_line (map (λ w. w.now) arguments.now)) }
 {
     if arguments.is_empty() {
         return Err(Fault::Bad);
     }
-    let mut words = Vec::new(alloc);
-    for word in arguments {
-        words.push(generator_word(word)?)?;
-    }
-    Ok(Line::Words(words))
+    Ok(Line::Words(generator_words(alloc, arguments)?))
 }
 
 /// `sampler NAME`
@@ -100,6 +101,67 @@ fn parse_sampler<A: Allocator>(arguments: &[&[u8]]) -> Result<Line<A>, Fault>
     Ok(Line::Sampler(parse_sampler_name(name)?))
 }
 
+/// `limits A E L EA LA V`
+#[tactic(auto, unfolding(crate::specs::Lines::limits_line))]
+fn parse_limits<A: Allocator>(arguments: &[&[u8]]) -> Result<Line<A>, Fault>
+    ensures { Gives line_view result (limits_line (map (λ w. w.now) arguments.now)) }
+{
+    let [
+        attributes,
+        events,
+        links,
+        event_attributes,
+        link_attributes,
+        value_length,
+    ] = arguments
+    else {
+        return Err(Fault::Bad);
+    };
+    let limits = parse_span_limits(
+        attributes,
+        events,
+        links,
+        event_attributes,
+        link_attributes,
+        value_length,
+    )?;
+    Ok(Line::Limits(limits))
+}
+
+/// The limits of spans, a word for each.
+#[tactic(auto, unfolding(crate::specs::Lines::limits_of))]
+fn parse_span_limits(
+    attributes: &[u8],
+    events: &[u8],
+    links: &[u8],
+    event_attributes: &[u8],
+    link_attributes: &[u8],
+    value_length: &[u8],
+) -> Result<SpanLimits, Fault>
+    ensures { Gives limits_view result
+        (limits_of attributes.now events.now links.now event_attributes.now link_attributes.now value_length.now) }
+{
+    Ok(SpanLimits {
+        max_attributes_per_span: small_number(attributes)?,
+        max_events_per_span: small_number(events)?,
+        max_links_per_span: small_number(links)?,
+        max_attributes_per_event: small_number(event_attributes)?,
+        max_attributes_per_link: small_number(link_attributes)?,
+        max_attribute_value_length: parse_length(value_length)?,
+    })
+}
+
+/// `none`, or the greatest length of a text.
+#[tactic(auto, unfolding(crate::specs::Lines::length_of))]
+fn parse_length(word: &[u8]) -> Result<Option<u32>, Fault>
+    ensures { result ≡ ok_or (length_of word.now) Bad }
+{
+    match word {
+        b"none" => Ok(None),
+        _ => Ok(Some(small_number(word)?)),
+    }
+}
+
 /// `resource KEY VALUE`
 #[tactic(auto, unfolding(crate::specs::Lines::resource_line))]
 fn parse_resource<A: Allocator + Copy>(alloc: A, arguments: &[&[u8]]) -> Result<Line<A>, Fault>
@@ -108,8 +170,7 @@ fn parse_resource<A: Allocator + Copy>(alloc: A, arguments: &[&[u8]]) -> Result<
     let [key, value] = arguments else {
         return Err(Fault::Bad);
     };
-    let key = text(alloc, key)?;
-    let value = parse_value(alloc, value)?;
+    let (key, value) = parse_pair(alloc, key, value)?;
     Ok(Line::Resource(key, value))
 }
 
@@ -155,23 +216,6 @@ fn parse_start<A: Allocator + Copy>(alloc: A, arguments: &[&[u8]]) -> Result<Lin
     }))
 }
 
-/// `attr N KEY VALUE`
-#[tactic(auto, unfolding(crate::specs::Lines::attr_line))]
-fn parse_attribute<A: Allocator + Copy>(alloc: A, arguments: &[&[u8]]) -> Result<Line<A>, Fault>
-    ensures { Gives line_view result (attr_line (map (λ w. w.now) arguments.now)) }
-{
-    let [span, key, value] = arguments else {
-        return Err(Fault::Bad);
-    };
-    let span = small_number(span)?;
-    let key = text(alloc, key)?;
-    let value = parse_value(alloc, value)?;
-    Ok(Line::Step(Step::Call {
-        span,
-        call: SpanCall::SetAttribute(key, value),
-    }))
-}
-
 /// `end N AT`
 #[tactic(auto, unfolding(crate::specs::Lines::end_line))]
 fn parse_end<A: Allocator>(arguments: &[&[u8]]) -> Result<Line<A>, Fault>
@@ -183,6 +227,23 @@ fn parse_end<A: Allocator>(arguments: &[&[u8]]) -> Result<Line<A>, Fault>
     let span = small_number(span)?;
     let at = number(at)?;
     Ok(Line::Step(Step::End { span, at }))
+}
+
+/// A call that isn't an end: `NAME N`, and the words of the call.
+#[tactic(auto, unfolding(crate::specs::Lines::call_line))]
+fn parse_call_line<A: Allocator + Copy>(
+    alloc: A,
+    name: &str,
+    arguments: &[&[u8]],
+) -> Result<Line<A>, Fault>
+    ensures { Gives line_view result (call_line name.now (map (λ w. w.now) arguments.now)) }
+{
+    let [span, words @ ..] = arguments else {
+        return Err(Fault::Bad);
+    };
+    let span = small_number(span)?;
+    let call = parse_call(alloc, name, words)?;
+    Ok(Line::Step(Step::Call { span, call }))
 }
 
 /// `internal`, `server`, `client`, `producer` or `consumer`
@@ -209,18 +270,6 @@ fn parse_sampler_name(word: &[u8]) -> Result<SamplerName, Fault>
         b"on" => Ok(SamplerName::AlwaysOn),
         b"off" => Ok(SamplerName::AlwaysOff),
         b"parent" => Ok(SamplerName::ParentBased),
-        _ => Err(Fault::Bad),
-    }
-}
-
-/// `t:TEXT` or `i:NUMBER`
-#[tactic(auto, unfolding(crate::specs::Lines::value_of))]
-fn parse_value<A: Allocator>(alloc: A, word: &[u8]) -> Result<Value<A>, Fault>
-    ensures { Gives value_view result (value_of word.now) }
-{
-    match word {
-        [b't', b':', spelling @ ..] => Ok(Value::Text(text(alloc, spelling)?)),
-        [b'i', b':', spelling @ ..] => Ok(Value::Int(integer(spelling)?)),
         _ => Err(Fault::Bad),
     }
 }

@@ -9,7 +9,7 @@ use crate::draft::Draft;
 use crate::sampler::SamplerName;
 use crate::step::Step;
 use crate::words::{Fault, parts_of};
-use otlp_span::Scope;
+use otlp_span::{Scope, SpanLimits};
 use otlp_value::Value;
 use std::alloc::{Allocator, Global};
 use thiserror::Error;
@@ -21,6 +21,8 @@ pub struct Script<A: Allocator = Global> {
     pub words: Vec<u64, A>,
     /// The sampler of all spans: `AlwaysOn` where none is named.
     pub sampler: SamplerName,
+    /// The limits of all spans: the standard's where none are set.
+    pub limits: SpanLimits,
     /// The attributes of the resource, with distinct keys, in the order in which these were first set.
     pub resource: Vec<(String<A>, Value<A>), A>,
     /// The scopes, under their numbers.
@@ -46,8 +48,8 @@ impl<A: Allocator + Copy> Script<A> {
     /// # Errors
     ///
     /// `BadLine` where a line is bad by itself or may not stand where it does: a setting behind a step, a
-    /// second sampler, a second scope or one with another number than 0. `OutOfMemory` where memory was
-    /// refused.
+    /// second sampler, second limits, a second scope or one with another number than 0. `OutOfMemory` where
+    /// memory was refused.
     pub fn parse(alloc: A, text: &[u8]) -> Result<Script<A>, ScriptError>
         // What the lines say, or the first bad one.
         ensures exact { Parses result (script_read text.now) }
@@ -76,6 +78,7 @@ impl<A: Allocator + Copy> Script<A> {
         let Draft {
             words,
             sampler,
+            limits,
             resource,
             scopes,
             steps,
@@ -83,6 +86,7 @@ impl<A: Allocator + Copy> Script<A> {
         Script {
             words,
             sampler: sampler.unwrap_or(SamplerName::AlwaysOn),
+            limits: limits.unwrap_or_default(),
             resource: resource.into_pairs(),
             scopes,
             steps,

@@ -17,7 +17,8 @@ pub enum Parent<A: Allocator = Global> {
 }
 
 /// A step of a script.
-#[derive(Debug, Drop)]
+#[derive(Drop)]
+#[derive_where(Debug, PartialEq, Eq)]
 pub enum Step<A: Allocator = Global> {
     /// Starts a span. Spans are numbered from 0 in the order of their starts.
     Start {

@@ -1,11 +1,13 @@
 use crate::{Parent, SamplerName, Script, ScriptError, Step};
 use linked_list_allocator::LocalHeap;
 use otlp_ids::{SpanContext, SpanId, TraceFlags, TraceId};
-use otlp_span::SpanCall;
+use otlp_span::{SpanCall, SpanLimits};
 use std::alloc::{AllocError, Allocator, Global};
 use std::fmt::Write;
 use std::process::Abort;
 use std::test::Fail;
+
+mod calls;
 
 const EXAMPLE: &str =
     "words 0102030405060708 090a0b0c0d0e0f10 1112131415161718\nsampler parent\nscope 0 s % %\nstart 0 root internal 1 a\nattr 0 a t:%\nend 0 2\n";
@@ -23,6 +25,9 @@ fn shown<A: Allocator>(alloc: Global, script: &Script<A>) -> Result<String, Allo
     if script.sampler != SamplerName::AlwaysOn {
         let sampler = script.sampler;
         writeln!(out, "sampler {sampler:?}")?;
+    }
+    if script.limits != SpanLimits::default() {
+        show_limits(&mut out, &script.limits)?;
     }
     for (key, value) in &script.resource {
         let key = key.as_str();
@@ -42,6 +47,19 @@ fn shown<A: Allocator>(alloc: Global, script: &Script<A>) -> Result<String, Allo
         show_step(alloc, &mut out, step)?;
     }
     Ok(out)
+}
+
+fn show_limits(out: &mut String, limits: &SpanLimits) -> Result<(), AllocError> {
+    let attributes = limits.max_attributes_per_span;
+    let events = limits.max_events_per_span;
+    let links = limits.max_links_per_span;
+    let event_attributes = limits.max_attributes_per_event;
+    let link_attributes = limits.max_attributes_per_link;
+    let value_length = limits.max_attribute_value_length;
+    writeln!(
+        out,
+        "limits {attributes} {events} {links} {event_attributes} {link_attributes} {value_length:?}"
+    )
 }
 
 fn show_step<A: Allocator>(
@@ -69,7 +87,7 @@ fn show_step<A: Allocator>(
             let key = key.as_str();
             writeln!(out, "attr {span} {key:?} {value:?}")
         }
-        Step::Call { span, .. } => writeln!(out, "call {span}"),
+        Step::Call { span, call } => writeln!(out, "{span} {call:?}"),
         Step::End { span, at } => writeln!(out, "end {span} {at}"),
     }
 }
@@ -137,6 +155,20 @@ fn reads_scripts(rt: HostRuntime) -> Result<(), Fail> {
         (
             "\nsampler off\nwords 0000000000000001",
             "words 0000000000000001\nsampler AlwaysOff\n",
+        ),
+        // Limits.
+        ("limits 128 128 128 128 128 none", ""),
+        (
+            "sampler off\nlimits 1 002 3 4 5 6\n",
+            "sampler AlwaysOff\nlimits 1 2 3 4 5 Some(6)\n",
+        ),
+        (
+            "limits 0 0 0 0 0 none\nend 0 1",
+            "limits 0 0 0 0 0 None\nend 0 1\n",
+        ),
+        (
+            "limits 4294967295 4294967295 4294967295 4294967295 4294967295 4294967295",
+            "limits 4294967295 4294967295 4294967295 4294967295 4294967295 Some(4294967295)\n",
         ),
         // Parents of elsewhere: further colons belong to the state, and identifiers may be zero.
         (
@@ -215,7 +247,6 @@ fn tells_the_first_bad_line(rt: HostRuntime) {
         ("attr 0 a i:1\r", 1),
         // Values and texts.
         ("attr 0 a 1", 1),
-        ("attr 0 a b:true", 1),
         ("attr 0 a t", 1),
         ("attr 0 a t:", 1),
         ("attr 0 a t:%%", 1),
@@ -246,6 +277,19 @@ fn tells_the_first_bad_line(rt: HostRuntime) {
         ("sampler on\nsampler on", 2),
         ("sampler on\nsampler off", 2),
         ("end 0 1\nsampler parent", 2),
+        // Limits.
+        ("limits", 1),
+        ("limits 1 2 3 4 5", 1),
+        ("limits 1 2 3 4 5 6 7", 1),
+        ("limits 1 2 3 4 5 None", 1),
+        ("limits none 2 3 4 5 6", 1),
+        ("limits 1 2 3 4 none none", 1),
+        ("limits 4294967296 2 3 4 5 6", 1),
+        ("limits 1 2 3 4 5 4294967296", 1),
+        ("limits 1 2 -3 4 5 6", 1),
+        ("limits 1 2 3 4 5 6\nlimits 1 2 3 4 5 6", 2),
+        ("limits 1 2 3 4 5 6\n\nlimits 1 2 3 4 5 none", 3),
+        ("end 0 1\nlimits 1 2 3 4 5 6", 2),
         // The order of the lines.
         ("end 0 1\nwords 0102030405060708", 2),
         ("end 0 1\n\nresource a i:1", 3),

@@ -1,7 +1,7 @@
 //! The words of a line: numbers, hexadecimal digits, and texts.
 
 ghost use Rattle.std.specs.Prelude.{List, ℕ, ◌≡◌, ◌^◌, ◌==◌, map, IfOk, option_map, ok_or, string_bytes};
-ghost use Rattle.span_script.specs.Words.{Gives, number_below, signed_number, hex_word, hex_byte, byte_of, around_colon_of, first_byte_of, bytes_of, utf8_of, text_of, SpellsText};
+ghost use Rattle.span_script.specs.Words.{Gives, each_of, number_below, signed_number, hex_word, hex_byte, byte_of, around_colon_of, first_byte_of, bytes_of, utf8_of, text_of, SpellsText};
 ghost use Rattle.std.specs.List.{slice_split};
 ghost use Rattle.std.specs.Str.{all_ascii_digits};
 ghost use Rattle.span_script.specs.declared.words.Fault.TheVariants.{Bad, OutOfMemory};
@@ -96,9 +96,20 @@ pub(crate) fn integer(word: &[u8]) -> Result<i64, Fault>
     value.ok_or(Fault::Bad)
 }
 
+/// The words of the generator, each of sixteen hexadecimal digits.
+pub(crate) fn generator_words<A: Allocator>(alloc: A, words: &[&[u8]]) -> Result<Vec<u64, A>, Fault>
+    ensures { Gives (λ all. all.items) result (each_of hex_word (map (λ w. w.now) words.now)) }
+{
+    let mut all = Vec::new(alloc);
+    for word in words {
+        all.push(generator_word(word)?)?;
+    }
+    Ok(all)
+}
+
 /// A word of the generator: sixteen hexadecimal digits of either case, the most significant first.
 #[tactic(auto, unfolding(crate::specs::Words::hex_word, crate::specs::Words::hex_bytes))]
-pub(crate) fn generator_word(word: &[u8]) -> Result<u64, Fault>
+fn generator_word(word: &[u8]) -> Result<u64, Fault>
     ensures { result ≡ ok_or (hex_word word.now) Bad }
 {
     match <[u8; 8]>::from_hex(word) {

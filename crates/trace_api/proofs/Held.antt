@@ -4,20 +4,12 @@ use Rattle.std.specs.List.{list_any}
 use Rattle.std.proofs.lemmas.List.Folds.{list_any-append}
 use Rattle.std.proofs.lemmas.List.Sums.{take_while-cons}
 use Rattle.trace_model.specs.Spans.{Call, Context, Recording, SpanLimits, Resource, Scope, Span, Start, Adds, end, is_end, live, span}
+use Rattle.trace_model.proofs.Histories.{all-live}
 use Rattle.trace_model.specs.Sampling.{is_recording}
 use Rattle.trace_api.specs.State.{state_view}
 use Rattle.trace_api.specs.declared.span.State.{State}
 use Rattle.trace_api.specs.declared.span.State.TheVariants as states
 use Rattle.trace_model.specs.Starts.{Started, SpanState, HeldSpan, Does, recording, not_recording, ended, held, state_after, is_recording_state}
-
--- calls of which none is an end all count
-none-ends : (calls : List Call) → list_any is_end calls ≡ false → live calls ≡ calls
-none-ends [] h = refl
-none-ends (c ∷ calls) h = by (none-ends calls) (is_end c) refl h
-  where
-    by : (list_any is_end calls ≡ false → live calls ≡ calls) → (b : Bool) → is_end c ≡ b → (b || list_any is_end calls) ≡ false → live (c ∷ calls) ≡ c ∷ calls
-    by rest true e k = cc
-    by rest false e k = take_while-cons (λ c. not (is_end c)) c calls ∙ rw e (ap (λ l. c ∷ l) (rest k))
 
 -- what is recorded of a span after some calls
 abbrev recorded : Started → List Call → Recording
@@ -63,7 +55,7 @@ does-recorded c x old new k a = does c x (recording old) (recording new) (record
     by s calls false true e f h =
         let was : old ≡ recorded s calls = cc in
         let limits = ap (λ (r : Recording). r.limits) was in
-        let now = a.value s.start calls (record { none_ends = none-ends calls e; is = ap (λ (r : Recording). r.span) was ∙ ap (λ l. span l s.start calls) (sym limits) }) in
+        let now = a.value s.start calls (record { none_ends = all-live calls e; is = ap (λ (r : Recording). r.span) was ∙ ap (λ l. span l s.start calls) (sym limits) }) in
         let same : new ≡ recorded s (calls ++ c ∷ []) = place-of new (recorded s (calls ++ c ∷ []))
         (a.place.limits ∙ limits) (a.place.resource ∙ ap (λ (r : Recording). r.resource) was) (a.place.scope ∙ ap (λ (r : Recording). r.scope) was)
         (now.is ∙ ap (λ l. span l s.start (calls ++ c ∷ [])) (a.place.limits ∙ limits)) in

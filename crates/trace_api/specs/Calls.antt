@@ -3,17 +3,15 @@ use Rattle.std.specs.Prelude.{◌≡◌, ℕ, List, Bool, true, false, IsTrue}
 use Rattle.trace_model.specs.Spans.{EndedSpan, Recording, Ends}
 use Rattle.trace_model.specs.Identifiers.{has_sampled_flag}
 use Rattle.trace_model.specs.Starts.{SpanState, recording, not_recording, ended}
-use Rattle.otlp_value.specs.AttributeList.{TakesPlace}
-use Rattle.otlp_span.specs.Parts.{attributes_of}
 use Rattle.trace_api.specs.declared.pass.Ended.{Ended}
 use Rattle.trace_api.specs.declared.pass.Ended.TheVariants.{NotSampled, AlreadyEnded}
 use Rattle.trace_api.specs.Pass.{is_admission}
 
--- the attribute needs a place that isn't there yet
-abbrev pub WantsPlace : List ℕ → SpanState → Type 0
-WantsPlace key (recording r) = TakesPlace key (attributes_of r)
-WantsPlace key not_recording = ⊥
-WantsPlace key ended = ⊥
+-- this is so of what is recorded
+abbrev pub Wants : (Recording → Type 0) → SpanState → Type 0
+Wants want (recording r) = want r
+Wants want not_recording = ⊥
+Wants want ended = ⊥
 
 -- A pass was asked for what is recorded, as it is after this end, and said what became of it.
 pub record Asks {P : Type 0} (admits : P → EndedSpan → Ended → P → Type 0) (at : ℕ) (r : Recording) (old : P) (answer : Ended) (new : P) : Type 0 where

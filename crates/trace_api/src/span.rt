@@ -1,15 +1,18 @@
 //! A span in the hands of a program.
-ghost use Rattle.std.specs.Prelude.{◌≡◌, OnErr, OnOk, string_bytes};
+ghost use Rattle.std.specs.Prelude.{◌≡◌, OnErr, OnOk, false, string_bytes};
 ghost use Rattle.trace_model.specs.Spans as model;
 ghost use Rattle.trace_model.specs.Starts as starts;
 ghost use Rattle.trace_model.specs.Starts.{Does, IgnoredUnlessRecording, is_recording_state};
 ghost use Rattle.otlp_ids.specs.SpanContext.{context_view};
-ghost use Rattle.otlp_value.specs.Value.{value_view};
-ghost use Rattle.trace_api.specs.Calls.{EndsTo, WantsPlace};
+ghost use Rattle.otlp_value.specs.AttributeList.{TakesPlace};
+ghost use Rattle.otlp_value.specs.Value.{attributes_view, value_view};
+ghost use Rattle.otlp_span.specs.Parts.{attributes_of, status_view};
+ghost use Rattle.otlp_span.specs.Recording.{HasRoom};
+ghost use Rattle.trace_api.specs.Calls.{EndsTo, Wants};
 
 use crate::pass::{EndPass, Ended};
 use otlp_ids::{OutOfMemory, SpanContext};
-use otlp_span::{SpanData, SpanRecord};
+use otlp_span::{SpanData, SpanRecord, Status};
 use otlp_value::Value;
 use std::alloc::{Allocator, Global};
 use std::marker::Model;
@@ -90,12 +93,36 @@ impl<A: Allocator> Span<A> {
             OnOk result (Does call self.old self.new) }
         ensures ignored { IgnoredUnlessRecording self.old self.new }
         ensures err { OnErr result (self.new ≡ self.old) }
-        ensures in_place { OnErr result (WantsPlace (string_bytes key) self.old.state) }
+        ensures in_place { OnErr result (Wants (λ r. TakesPlace (string_bytes key) (attributes_of r)) self.old.state) }
     {
         let State::Recording(record) = &mut self.state else {
             return Ok(());
         };
         record.set_attribute(key, value)
+    }
+
+    /// Sets the status, as `SpanRecord::set_status` (Trace API, "Set Status"): Ok is final, Unset is ignored, and a later
+    /// error replaces an earlier one. It is ignored where calls on the span don't count, and takes no memory.
+    pub fn set_status(&mut self, status: Status<A>)
+        ensures called { Does (model.set_status (status_view status)) self.old self.new }
+        ensures ignored { IgnoredUnlessRecording self.old self.new }
+    {
+        let State::Recording(record) = &mut self.state else {
+            return;
+        };
+        record.set_status(status);
+    }
+
+    /// Replaces the span's name (Trace API, "UpdateName"). It is ignored where calls on the span don't count, and takes no
+    /// memory.
+    pub fn update_name(&mut self, name: String<A>)
+        ensures called { Does (model.update_name (string_bytes name)) self.old self.new }
+        ensures ignored { IgnoredUnlessRecording self.old self.new }
+    {
+        let State::Recording(record) = &mut self.state else {
+            return;
+        };
+        record.update_name(name);
     }
 
     /// Ends the span at a moment, in nanoseconds since 1970 (Trace API, "End"). The first end of a sampled span hands it
@@ -115,5 +142,81 @@ impl<A: Allocator> Span<A> {
             State::Recording(_) | State::NotRecording => Ended::NotSampled,
             State::Ended => Ended::AlreadyEnded,
         }
+    }
+}
+
+impl<A: Allocator + Copy> Span<A> {
+    /// Adds an event at a moment, in nanoseconds since 1970, as `SpanRecord::add_event` (Trace API, "Add Events"). It is
+    /// ignored where calls on the span don't count.
+    ///
+    /// # Errors
+    ///
+    /// `OutOfMemory` where an event that is to be kept could not be stored; the span is then unchanged.
+    pub fn add_event(
+        &mut self,
+        name: String<A>,
+        timestamp: u64,
+        attributes: Vec<(String<A>, Value<A>), A>,
+    ) -> Result<(), OutOfMemory>
+        ensures ok { let call = model.add_event (string_bytes name) timestamp (attributes_view attributes.items) in
+            OnOk result (Does call self.old self.new) }
+        ensures ignored { IgnoredUnlessRecording self.old self.new }
+        ensures err { OnErr result (self.new ≡ self.old) }
+        ensures in_place { OnErr result (Wants (λ r. HasRoom r.limits.events r.span.events) self.old.state) }
+    {
+        let State::Recording(record) = &mut self.state else {
+            return Ok(());
+        };
+        record.add_event(name, timestamp, attributes)
+    }
+
+    /// Adds an event for an exception, at a moment in nanoseconds since 1970, as `SpanRecord::record_exception` (Trace API,
+    /// "Record Exception"). It is ignored where calls on the span don't count.
+    ///
+    /// # Errors
+    ///
+    /// `OutOfMemory` where an event that is to be kept could not be stored; the span is then unchanged.
+    pub fn record_exception(
+        &mut self,
+        exception_type: String<A>,
+        message: String<A>,
+        stacktrace: String<A>,
+        timestamp: u64,
+        attributes: Vec<(String<A>, Value<A>), A>,
+    ) -> Result<(), OutOfMemory>
+        ensures ok { let call = model.record_exception (string_bytes exception_type) (string_bytes message) (string_bytes stacktrace) timestamp (attributes_view attributes.items) in
+            OnOk result (Does call self.old self.new) }
+        ensures ignored { IgnoredUnlessRecording self.old self.new }
+        ensures err { OnErr result (self.new ≡ self.old) }
+        ensures in_place { OnErr result (Wants (λ r. HasRoom r.limits.events r.span.events) self.old.state) }
+    {
+        let State::Recording(record) = &mut self.state else {
+            return Ok(());
+        };
+        record.record_exception(exception_type, message, stacktrace, timestamp, attributes)
+    }
+
+    /// Links the span to another one, as `SpanRecord::add_link` (Trace API, "Link"). It is ignored where calls on the span
+    /// don't count.
+    ///
+    /// # Errors
+    ///
+    /// `OutOfMemory` where a link that is to be kept could not be stored; the span is then unchanged.
+    pub fn add_link(
+        &mut self,
+        span_context: SpanContext<A>,
+        attributes: Vec<(String<A>, Value<A>), A>,
+    ) -> Result<(), OutOfMemory>
+        ensures ok { let call = model.add_link (context_view span_context) (attributes_view attributes.items) in
+            OnOk result (Does call self.old self.new) }
+        ensures ignored { IgnoredUnlessRecording self.old self.new }
+        ensures err { OnErr result (self.new ≡ self.old) }
+        ensures in_place { OnErr result (Wants (λ r. HasRoom r.limits.links r.span.links) self.old.state) }
+        ensures says_something { OnErr result (model.is_ignored (context_view span_context) (attributes_view attributes.items) ≡ false) }
+    {
+        let State::Recording(record) = &mut self.state else {
+            return Ok(());
+        };
+        record.add_link(span_context, attributes)
     }
 }

@@ -7,7 +7,7 @@ use super::*;
 use linked_list_allocator::LocalHeap;
 use otlp_ids::{OutOfMemory, SpanContext, SpanId, TraceFlags, TraceId};
 use otlp_sampler::{AlwaysOff, AlwaysOn, Decision, ParentBased, Sampler};
-use otlp_span::{Kind, Reason, Resource, Scope, SpanData, SpanLimits};
+use otlp_span::{Kind, Reason, Resource, Scope, SpanData, SpanLimits, Status};
 use otlp_value::Value;
 use rand_core::utils::NextWord;
 use rand_core::{Rng, utils};
@@ -167,6 +167,7 @@ fn start<S: Sampler + Drop, A: Allocator + Copy>(
     };
     let limits = SpanLimits {
         max_attributes_per_span: 1,
+        ..SpanLimits::default()
     };
     let provider = Provider::new(sampler, resource, limits);
     start_on(&provider.tracer(scope), alloc, words, parent, alloc)
@@ -611,5 +612,123 @@ fn faults_are_told(rt: HostRuntime) -> Result<(), Fail> {
     ] {
         assert_eq!(rt; format!(in alloc; "{fault}")?.as_str(), text);
     }
+    Ok(())
+}
+
+// ---- events, links, status and name
+
+/// Makes each call but an end, with a text by which it is known again.
+fn call_all<A: Allocator + Copy>(
+    span: &mut Span<A>,
+    alloc: A,
+    mark: &str,
+) -> Result<(), OutOfMemory> {
+    span.add_event(String::from_str(alloc, mark)?, 5, Vec::new(alloc))?;
+    span.record_exception(
+        String::from_str(alloc, "E")?,
+        String::from_str(alloc, mark)?,
+        String::new(alloc),
+        6,
+        Vec::new(alloc),
+    )?;
+    span.add_link(context(alloc, true, 1)?, Vec::new(alloc))?;
+    span.set_status(Status::Error(String::from_str(alloc, mark)?));
+    span.update_name(String::from_str(alloc, mark)?);
+    Ok(())
+}
+
+#[test]
+fn each_call_counts_until_the_first_end(rt: HostRuntime) -> Result<(), Fail> {
+    let alloc = rt.alloc();
+    let mut pass = BodyPass::new(alloc, 1)?;
+    let mut span = start_root(alloc)?;
+    call_all(&mut span, alloc, "x")?;
+    assert_eq!(rt; span.end(&mut pass, END), Ended::Queued(0));
+    call_all(&mut span, alloc, "y")?;
+    let ended = &pass.spans()[0];
+    assert_eq!(rt; ended.name(), "x");
+    assert_eq!(rt;
+        *ended.status(),
+        Status::Error(String::from_str(alloc, "x")?)
+    );
+    assert_eq!(rt; ended.events().len(), 2);
+    let (event, exception) = (&ended.events()[0], &ended.events()[1]);
+    assert_eq!(rt; (event.name.as_str(), event.timestamp), ("x", 5));
+    assert_eq!(rt;
+        (exception.name.as_str(), exception.timestamp),
+        ("exception", 6)
+    );
+    assert_eq!(rt; exception.attributes.len(), 2);
+    assert_eq!(rt; ended.links().len(), 1);
+    assert_eq!(rt; ended.links()[0].span_context.trace, PARENT_TRACE);
+    assert_eq!(rt; ended.links()[0].span_context.state.as_str(), "k=v");
+    Ok(())
+}
+
+#[test]
+fn a_dropped_span_ignores_each_call(rt: HostRuntime) -> Result<(), Fail> {
+    let alloc = rt.alloc();
+    let mut pass = Closed { late: 0 };
+    let mut span = start(alloc, AlwaysOff, &mut Words(&WORDS), None)?;
+    call_all(&mut span, alloc, "x")?;
+    assert!(rt; !span.is_recording());
+    assert_eq!(rt; span.end(&mut pass, END), Ended::NotSampled);
+    Ok(())
+}
+
+/// How many events and links a span kept on scarce memory, each until the first was refused. `None` where it didn't start.
+fn count_kept<A: Allocator + Copy>(
+    rt: &impl Abort,
+    ample: A,
+    scarce: A,
+) -> Result<Option<(usize, usize)>, OutOfMemory> {
+    let provider = Provider::new(AlwaysOn, resource(ample)?, SpanLimits::default());
+    let tracer = provider.tracer(scope(ample)?);
+    let mut pass = BodyPass::new(ample, 1)?;
+    let mut words = Words(&WORDS);
+    let parent: Option<SpanContext<A>> = None;
+    let Ok(mut span) = start_on(&tracer, scarce, &mut words, parent.as_ref(), ample) else {
+        return Ok(None);
+    };
+    let (mut events, mut links) = (0usize, 0usize);
+    for _ in 0..6 {
+        let name = String::from_str(ample, "x")?;
+        if span.add_event(name, 5, Vec::new(ample)).is_err() {
+            break;
+        }
+        events = events.saturating_add(1);
+    }
+    for _ in 0..6 {
+        let linked = context(ample, true, 1)?;
+        if span.add_link(linked, Vec::new(ample)).is_err() {
+            break;
+        }
+        links = links.saturating_add(1);
+    }
+    assert_eq!(rt; span.end(&mut pass, END), Ended::Queued(0));
+    assert_eq!(rt; pass.spans().len(), 1);
+    assert_eq!(rt; pass.spans()[0].events().len(), events);
+    assert_eq!(rt; pass.spans()[0].links().len(), links);
+    Ok(Some((events, links)))
+}
+
+#[test]
+fn a_refused_event_or_link_is_not_kept(rt: HostRuntime) -> Result<(), Fail> {
+    let ample = LocalHeap::new(rt.alloc(), 8192)?;
+    let (mut neither, mut some, mut all) = (0u32, 0u32, 0u32);
+    for size in (0..6_000usize).step_by(8) {
+        let scarce = LocalHeap::new(rt.alloc(), size)?;
+        match count_kept(&rt, &ample, &scarce)? {
+            None => {}
+            Some((0, 0)) => neither = neither.saturating_add(1),
+            Some((6, 6)) => all = all.saturating_add(1),
+            Some(_) => some = some.saturating_add(1),
+        }
+        assert_eq!(rt; (ample.used(), scarce.used()), (0, 0), "{size}");
+    }
+    assert!(rt;
+        neither > 0 && some > 0 && all > 0,
+        "{neither} {some} {all}"
+    );
     Ok(())
 }

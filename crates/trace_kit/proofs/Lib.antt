@@ -1,4 +1,3 @@
 mod Read
 mod Shared
-mod Writing
 mod Steps

@@ -1,25 +1,13 @@
--- What is written is read: a body means the spans of the groups that it carries.
-use Rattle.std.proofs.Common.{◌≡◌, refl, ap, ◌∙◌, ℕ, List, ◌<◌, ◌^◌, length, Result, Ok, Err, IfOk}
-use Rattle.trace_model.specs.Reading.{Reading, Reads, done}
+-- What is written is read: a body means the spans of the groups that it carries. And facts of answers and of loops.
+use Rattle.std.proofs.Common.{◌≡◌, refl, sym, ap, ◌∙◌, ℕ, ◌+◌, ◌<◌, List, [], ◌∷◌, ◌++◌, map, take, get_or, length, add-one, Result, Ok, Err, IfOk, OnOk}
+use Rattle.std.proofs.lemmas.List.{map-append}
+use Rattle.std.proofs.Math.Seq.{take-suc}
+use Rattle.trace_model.specs.Reading.{Reads}
 use Rattle.trace_model.specs.Tables
-use Rattle.trace_model.specs.Tables.{Record}
-use Rattle.trace_model.specs.Canon.{canon}
 use Rattle.trace_model.specs.Messages.{meaning, body_meaning, triples}
 use Rattle.trace_model.specs.Spans.{EndedSpan}
-use Rattle.trace_model.specs.Export.{ResourceGroup, groups, grouped_triples, request_message, body_length}
-use Rattle.trace_model.proofs.Lengths.{canon-reads}
+use Rattle.trace_model.specs.Export.{groups, grouped_triples, request_message}
 use Rattle.trace_model.proofs.Grouped.{request-triples}
-use Rattle.trace_kit.specs.Encode.{IsWritten}
-
-pub reads-written : (r : Record Tables.request) (bs : List ℕ) → IsWritten Tables.request r bs → length bs < 2 ^ 64 → Reads (meaning Tables.request bs) r
-reads-written r bs w l =
-    let short : length (canon Tables.request r) < 2 ^ 64 = rw (← w.bytes) l in
-    let e : meaning Tables.request bs ≡ done r = ap (meaning Tables.request) w.bytes ∙ canon-reads Tables.request r refl w.whole short in
-    (ap (λ (x : Reading (Record Tables.request)). x.faults) e, ap (λ (x : Reading (Record Tables.request)). x.value) e)
-
-pub length-written : (gs : List ResourceGroup) (bs : List ℕ) → IsWritten Tables.request (request_message gs) bs → length bs ≡ body_length gs
-unfolding body_length
-length-written gs bs w = ap length w.bytes
 
 -- the body of the groups of some spans means these spans
 pub body-means : (spans : List EndedSpan) (bs : List ℕ) → Reads (meaning Tables.request bs) (request_message (groups spans)) → Reads (body_meaning bs) (grouped_triples spans)
@@ -29,3 +17,10 @@ body-means spans bs h = (rw h.0 refl, ap triples h.1 ∙ request-triples spans)
 pub if-ok : {T E : Type 0} {P Q : T → Type 0} (r : Result T E) → ((x : T) → P x → Q x) → IfOk r P → IfOk r Q
 if-ok (Ok x) f h = f x h
 if-ok (Err e) f h = tt
+
+pub on-ok : {T E : Type 0} {P Q : Type 0} (r : Result T E) → (P → Q) → OnOk r P → OnOk r Q
+on-ok (Ok x) f h = f h
+on-ok (Err e) f h = tt
+
+pub through-index : {X Y : Type 0} (f : X → Y) (xs : List X) (i : ℕ) (x : X) → i < length xs → x ≡ get_or xs i x → map f (take (i + 1) xs) ≡ map f (take i xs) ++ f x ∷ []
+through-index f xs i x l e = rw (add-one, take-suc xs i x l) (map-append f (take i xs) (get_or xs i x ∷ []) ∙ ap (λ y. map f (take i xs) ++ f y ∷ []) (sym e))

@@ -1,33 +1,32 @@
 -- What a step of a script makes of what a recorder holds.
-use Rattle.std.proofs.Common.{◌≡◌, refl, sym, ap, ◌∙◌, ℕ, zero, suc, ◌+◌, ◌<◌, ◌≤◌, ◌==◌, nat_lt, length, List, [], ◌∷◌, ◌++◌, map, drop, append_assoc, cond, Bool, true, false, true≢false, not, if◌then◌else◌, ◌&&◌, ◌||◌, Option, Some, None, option_map, slice_get, slice_index, arith, add-zero, zero-add, add-one, take, ◌⊎◌, filter_map, get_or, ⊎_elim, inl, inr}
+use Rattle.std.proofs.Common.{◌≡◌, refl, sym, ap, ◌∙◌, ℕ, zero, suc, ◌+◌, ◌<◌, ◌≤◌, ◌==◌, nat_lt, length, List, [], ◌∷◌, ◌++◌, map, drop, append_assoc, cond, Bool, true, false, true≢false, not, if◌then◌else◌, ◌&&◌, Option, Some, None, option_map, slice_get, arith, add-zero, zero-add, take, ◌⊎◌, filter_map, get_or, ⊎_elim, inl, inr}
 use mathlib.Core.Path.{fun_ext}
 use mir.Val.{bool_byte}
 use Rattle.std.specs.List.{list_any, slice_set, sum_by, AllByRecursion}
 use Rattle.std.specs.Option.{option_to_list}
 use Rattle.std.proofs.lemmas.List.{append-nil, length_push, length-set, get_or-drop}
-use Rattle.std.proofs.lemmas.List.Sums.{sum_by_push, take_while-cons}
+use Rattle.std.proofs.lemmas.List.Sums.{sum_by_push}
 use Rattle.std.proofs.lemmas.Bool.{lt-ltb, ltb-true, ltb-false, eqb-true, eq-eqb}
 use Rattle.std.proofs.lemmas.Option.{slice_get-map, slice_get_past, slice_get_within}
 use Rattle.rand_core.specs.Stream.{next_u64}
 use Rattle.rand_core.specs.Steps.{steps_u64_high, stream_of}
 use Rattle.rand_core.proofs.StepsLemmas.{next_u64-stream_of}
 use Rattle.std.proofs.Math.Seq.{drop-nil}
-use Rattle.trace_model.specs.Identifiers.{Words, has_sampled_flag, words_after}
+use Rattle.trace_model.specs.Identifiers.{Words, words_after}
 use Rattle.trace_model.specs.Sampling.{Decision, drop as dropped, record_only, record_and_sample, is_recording, is_sampled}
-use Rattle.trace_model.specs.Spans.{Call, Context, Scope, Kind, Resource, Span, Recording, Records, Ends, EndedSpan, end, end_of, is_end, live, span}
-use Rattle.trace_model.specs.Starts.{Tracer, Provider, HeldSpan, SpanState, Started, Does, recording, not_recording, ended, held, state_after, exported, asked, started, ids_words}
+use Rattle.trace_model.specs.Spans.{Call, Context, Scope, Kind, Resource, Span, Recording, Ends, EndedSpan, end, end_of, is_end, span}
+use Rattle.trace_model.specs.Starts.{Tracer, Provider, HeldSpan, Started, recording, not_recording, held, state_after, exported, asked, started, ids_words}
 use Rattle.trace_model.specs.History.{Parent, Step, Setup, Outcome, root, numbered, given, start, call, no_span, outcome, outcome_in, outcomes_behind, outcomes, parent_of, words_left, calls_on, call_on, ended_spans, exported_of, starts}
-use Rattle.trace_model.proofs.Histories.{starts-append, outcomes-call, outcomes-start, outcomes-many, calls-more, calls-past, calls-first, ended-start, ended-no-more, ended-more, outcome-has-flag, IsPlaced}
-use Rattle.otlp_span.specs.Parts.{scope_view}
+use Rattle.trace_model.proofs.Histories.{starts-append, outcomes-call, outcomes-start, outcomes-many, calls-more, calls-past, calls-first, ended-start, ended-no-more, ended-more, outcome-has-flag, IsPlaced, all-live, get-first}
 use Rattle.span_script.specs.Lines.{step_view}
 use Rattle.span_script.specs.Scripts.{Script}
 use Rattle.span_script.specs.Parsed.{Means}
 use Rattle.span_script.specs.declared.script.Script.{Script as CodeScript}
 use Rattle.trace_kit.specs.Group.{SharePlace}
-use Rattle.trace_kit.proofs.Writing.{through-index}
+use Rattle.trace_kit.proofs.Read.{through-index}
 use Rattle.otlp_ids.specs.WordStream.{after_words, words_of}
-use Rattle.trace_api.specs.Pass.{Body, Admits, has_room, with_span}
-use Rattle.trace_api.specs.Calls.{EndsTo, EndsRecording, Asks, Says}
+use Rattle.trace_api.specs.Pass.{Body, Admits, with_span}
+use Rattle.trace_api.specs.Calls.{EndsTo, EndsRecording, Says}
 use Rattle.trace_api.specs.declared.pass.Ended.{Ended}
 use Rattle.trace_api.specs.declared.pass.Ended.TheVariants.{AlreadyEnded}
 use Rattle.trace_kit.specs.Words.{next, stream}
@@ -75,11 +74,6 @@ parent-same calls os spans h (numbered n) = rw (h n) (by (slice_get os n))
     by : (o : Option Outcome) → context_in (option_map (span_after (calls n)) o) ≡ Rattle.trace_model.specs.History.context_of o
     by None = refl
     by (Some o) = within o.span
-
-get-first : {A : Type 0} (xs : List A) (y : A) (n : ℕ) → n < length xs → slice_get (xs ++ y ∷ []) n ≡ slice_get xs n
-get-first [] y n h = absurd (omega (arith, h))
-get-first (x ∷ xs) y zero h = refl
-get-first (x ∷ xs) y (suc n) h = get-first xs y n (omega (arith, h))
 
 get-last : {A : Type 0} (xs : List A) (y : A) → slice_get (xs ++ y ∷ []) (length xs) ≡ Some y
 get-last [] y = refl
@@ -248,14 +242,6 @@ which (Call.set_status s) = inl (refl, refl)
 which (Call.update_name n) = inl (refl, refl)
 which (Call.end at) = inr (at, refl)
 
-none-ends : (calls : List Call) → list_any is_end calls ≡ false → live calls ≡ calls
-none-ends [] h = refl
-none-ends (c ∷ calls) h = by (none-ends calls) (is_end c) refl h
-  where
-    by : (list_any is_end calls ≡ false → live calls ≡ calls) → (b : Bool) → is_end c ≡ b → (b || list_any is_end calls) ≡ false → live (c ∷ calls) ≡ c ∷ calls
-    by rest true e k = cc
-    by rest false e k = take_while-cons (λ c. not (is_end c)) c calls ∙ rw e (ap (λ l. c ∷ l) (rest k))
-
 same-ended : (e f : EndedSpan) → e.resource ≡ f.resource → e.scope ≡ f.scope → e.span ≡ f.span → e ≡ f
 same-ended e f p q h =
     let make : Resource → Scope → Span → EndedSpan = λ r s x. record { resource = r; scope = s; span = x } in
@@ -266,7 +252,7 @@ abbrev recorded : Started → List Call → Recording
 recorded s calls = record { limits = s.limits; resource = s.resource; scope = s.scope; span = span s.limits s.start calls }
 
 ends-to-exported : (s : Started) (calls : List Call) (at : ℕ) (e : EndedSpan) → list_any is_end calls ≡ false → Ends at (recorded s calls) e → e ≡ exported s (calls ++ end at ∷ [])
-ends-to-exported s calls at e b h = same-ended e (exported s (calls ++ end at ∷ [])) h.resource h.scope (h.value s.start calls (record { none_ends = none-ends calls b; is = refl }))
+ends-to-exported s calls at e b h = same-ended e (exported s (calls ++ end at ∷ [])) h.resource h.scope (h.value s.start calls (record { none_ends = all-live calls b; is = refl }))
 
 -- an end of a span that hasn't ended
 module _ (setup : Setup) (done later : List Step) (n at : ℕ) (o : Outcome) (s : Started) (before after : Body) (there : slice_get (outcomes setup done) n ≡ Some o) (has : o.span ≡ Some s)
@@ -448,7 +434,7 @@ starts-next view xs i x l e = ap starts (through-index view xs i x l e) ∙ star
 
 -- what a script is
 pub same-script : {A : Type 0} (c : CodeScript A) (read : Script) → Means c read → ended_spans (setup_view c) (map step_view c.steps.items) ≡ spans_of read
-same-script c read m = rw (m.words, m.sampler, m.resource, m.scopes, m.steps) refl
+same-script c read m = rw (m.words, m.sampler, m.limits, m.resource, m.scopes, m.steps) refl
 
 -- nothing is done yet
 pub begun : {A : Type 0} (setup : Setup) (steps : List Step) (r : Recorder A) → map (tracer_view meaning) r.tracers.items ≡ map (λ scope. record { provider = setup.provider; scope = scope }) setup.scopes →

@@ -1,20 +1,7 @@
--- What groups of spans are in the model.
-use Rattle.std.specs.Prelude.{◌≡◌, List, [], ◌∷◌, map}
+-- Which spans can be grouped today.
+use Rattle.std.specs.Prelude.{◌≡◌, List, [], ◌∷◌}
 use Rattle.std.specs.List.{AllByRecursion}
 use Rattle.trace_model.specs.Spans.{EndedSpan}
-use Rattle.trace_model.specs.Export as model
-use Rattle.otlp_span.specs.Parts.{resource_view, scope_view}
-use Rattle.trace_kit.specs.declared.grouping.ScopeGroup.{ScopeGroup}
-use Rattle.trace_kit.specs.declared.grouping.ResourceGroup.{ResourceGroup}
-
-abbrev pub scope_group_view : {A : Type 0} → ScopeGroup A → model.ScopeGroup
-scope_group_view g = record { key = scope_view g.scope.now; items = map (λ s. s.now) g.spans.items }
-
-abbrev pub resource_group_view : {A : Type 0} → ResourceGroup A → model.ResourceGroup
-resource_group_view g = record { key = resource_view g.resource.now; items = map scope_group_view g.scopes.items }
-
-abbrev pub groups_view : {A : Type 0} → List (ResourceGroup A) → List model.ResourceGroup
-groups_view groups = map resource_group_view groups
 
 -- All spans have the resource and the scope of the first.
 abbrev pub SharePlace : List EndedSpan → Type 0

@@ -1,5 +1,4 @@
 pub mod Group
-pub mod Encode
 pub mod Program
 pub mod Printed
 pub mod Recorded

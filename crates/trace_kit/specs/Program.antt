@@ -1,8 +1,8 @@
 -- What the program answers.
 use Rattle.std.specs.Prelude.{ℕ}
 use Rattle.span_script.specs.declared.script.ScriptError.TheVariants as scripts
-use Rattle.trace_kit.specs.declared.encoder.EncodeFault.{EncodeFault}
-use Rattle.trace_kit.specs.declared.encoder.EncodeFault.TheVariants as faults
+use Rattle.otlp_proto.specs.declared.encoder.EncodeFault.{EncodeFault}
+use Rattle.otlp_proto.specs.declared.encoder.EncodeFault.TheVariants as faults
 use Rattle.trace_kit.specs.declared.failure.Failure.{Failure}
 use Rattle.trace_kit.specs.declared.failure.Failure.TheVariants as failures
 

@@ -1,12 +1,11 @@
 -- The spans that a script ends.
-use Rattle.std.specs.Prelude.{ℕ, List, [], slice_index, unwrap_or, None}
+use Rattle.std.specs.Prelude.{ℕ, List, [], slice_index, unwrap_or}
 use Rattle.trace_model.specs.Attributes.{attributes}
 use Rattle.trace_model.specs.Spans as model
 use Rattle.trace_model.specs.Sampling.{Meaning, always_on, always_off, as_parent}
 use Rattle.trace_model.specs.Identifiers.{Words}
 use Rattle.trace_model.specs.History.{Setup, ended_spans}
-use Rattle.otlp_span.specs.Parts.{span_limits}
-use Rattle.span_script.specs.Scripts.{Script, all_kept}
+use Rattle.span_script.specs.Scripts.{Script, all_kept, default_limits}
 use Rattle.span_script.specs.declared.sampler.SamplerName.{SamplerName}
 use Rattle.span_script.specs.declared.sampler.SamplerName.TheVariants.{AlwaysOn, AlwaysOff, ParentBased}
 
@@ -25,12 +24,12 @@ words_of_list words k = slice_index words k
 abbrev pub resource_of : Script → model.Resource
 resource_of s = record { attributes = (attributes all_kept s.resource).items; schema = [] }
 
--- What a script has before its first step. Where it names no sampler all spans are sampled. The limits are the standard's
--- (Trace SDK, Span Limits).
+-- What a script has before its first step. Where it names no sampler all spans are sampled, and
+-- where it sets no limits they are the standard's. (Trace SDK, Span Limits)
 abbrev pub setup_of : Script → Setup
 setup_of s = record {
   words = words_of_list s.words;
-  provider = record { sampler = meaning_of (unwrap_or s.sampler AlwaysOn); resource = resource_of s; limits = span_limits 128 None };
+  provider = record { sampler = meaning_of (unwrap_or s.sampler AlwaysOn); resource = resource_of s; limits = unwrap_or s.limits default_limits };
   scopes = s.scopes;
 }
 

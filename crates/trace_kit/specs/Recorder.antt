@@ -11,7 +11,7 @@ use Rattle.otlp_ids.specs.declared.SpanContext.{SpanContext}
 use Rattle.otlp_ids.specs.SpanContext.{context_view}
 use Rattle.otlp_ids.specs.WordStream.{words_of}
 use Rattle.otlp_value.specs.Value.{attributes_view}
-use Rattle.otlp_span.specs.Parts.{scope_view, span_limits}
+use Rattle.otlp_span.specs.Parts.{scope_view, limits_view}
 use Rattle.span_script.specs.declared.script.Script.{Script}
 use Rattle.trace_api.specs.Pass.{Body, Admits}
 use Rattle.trace_api.specs.Calls.{EndsTo}
@@ -26,7 +26,7 @@ use Rattle.trace_kit.specs.declared.recorder.Recorder.{Recorder}
 abbrev pub setup_view : {A : Type 0} → Script A → Setup
 setup_view s = record {
   words = words_of_list s.words.items;
-  provider = record { sampler = meaning_of s.sampler; resource = record { attributes = attributes_view s.resource.items; schema = [] }; limits = span_limits 128 None };
+  provider = record { sampler = meaning_of s.sampler; resource = record { attributes = attributes_view s.resource.items; schema = [] }; limits = limits_view s.limits };
   scopes = map scope_view s.scopes.items;
 }
 

@@ -2,8 +2,8 @@
 ghost use Rattle.std.specs.Prelude.{◌≡◌, ◌⊎◌};
 ghost use Rattle.trace_kit.specs.Program.{status_of};
 
-use crate::encoder::EncodeFault;
 use otlp_ids::OutOfMemory;
+use otlp_proto::EncodeFault;
 use span_script::ScriptError;
 use std::io::Write;
 use thiserror::Error;

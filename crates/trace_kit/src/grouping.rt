@@ -1,29 +1,13 @@
 //! Grouping of spans by resource and scope.
 ghost use Rattle.std.specs.Prelude.{◌≡◌, IfOk, map};
 ghost use Rattle.trace_model.specs.Export.{groups};
-ghost use Rattle.trace_kit.specs.Group.{SharePlace, groups_view};
+ghost use Rattle.otlp_proto.specs.Group.{groups_view};
+ghost use Rattle.trace_kit.specs.Group.{SharePlace};
 
 use otlp_ids::OutOfMemory;
-use otlp_span::{Resource, Scope, SpanData};
-use std::alloc::{Allocator, Global};
-
-/// The spans of one scope, in their order.
-#[derive(Drop)]
-pub struct ScopeGroup<'a, A: Allocator = Global> {
-    /// The scope.
-    pub scope: &'a Scope<A>,
-    /// Its spans.
-    pub spans: Vec<&'a SpanData<A>, A>,
-}
-
-/// The spans of one resource, by scope, in the order in which the scopes came first.
-#[derive(Drop)]
-pub struct ResourceGroup<'a, A: Allocator = Global> {
-    /// The resource.
-    pub resource: &'a Resource<A>,
-    /// Its scopes, with their spans.
-    pub scopes: Vec<ScopeGroup<'a, A>, A>,
-}
+use otlp_proto::{ResourceGroup, ScopeGroup};
+use otlp_span::SpanData;
+use std::alloc::Allocator;
 
 /// The spans by resource, and inside by scope. Today all of them have to share both.
 ///

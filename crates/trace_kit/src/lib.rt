@@ -1,9 +1,8 @@
 //! Spans on their way: grouping, the bodies of OTLP/HTTP trace exports, and the program `trace-script`.
 #![tactic(auto)]
 
-mod encoder;
+mod body;
 mod failure;
-mod fields;
 mod grouping;
 mod program;
 mod recorder;
@@ -14,8 +13,10 @@ mod script_tests;
 mod tests;
 mod words;
 
-pub use encoder::{EncodeFault, body_of, encode};
-pub use grouping::{ResourceGroup, ScopeGroup, group};
+pub use body::body_of;
+pub use grouping::group;
+pub use otlp_proto::{EncodeFault, ResourceGroup, ScopeGroup, encode};
 pub use program::script;
 pub use sampler::ScriptSampler;
+pub use trace_api::{BodyPass, EndPass, Ended, Provider, Span, StartFault, Tracer};
 pub use words::ScriptWords;

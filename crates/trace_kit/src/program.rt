@@ -4,7 +4,7 @@ ghost use Rattle.std.specs.Io.KnownBytes.{Appends, Keeps};
 ghost use Rattle.hex.specs.Hex.{encode_lower};
 ghost use Rattle.trace_kit.specs.Printed.{Explains, IsBodyLine, PrintsBody, Refuses};
 
-use crate::encoder::body_of;
+use crate::body::body_of;
 use crate::failure::{Failure, tell};
 use crate::recorder::recorded;
 use otlp_ids::OutOfMemory;

@@ -11,7 +11,7 @@ ghost use Rattle.trace_kit.specs.Recorder.{Applies, Stands, StartsAmong, begins,
 use crate::sampler::ScriptSampler;
 use crate::words::ScriptWords;
 use otlp_ids::{OutOfMemory, SpanContext};
-use otlp_span::{Kind, Resource, Scope, SpanCall, SpanLimits};
+use otlp_span::{Kind, Resource, Scope, SpanCall};
 use span_script::{Parent, Script, Step};
 use std::alloc::Allocator;
 use std::sync::Arc;
@@ -39,6 +39,7 @@ pub fn recorded<A: Allocator + Copy>(
     let Script {
         words,
         sampler,
+        limits,
         resource,
         scopes,
         steps,
@@ -48,7 +49,7 @@ pub fn recorded<A: Allocator + Copy>(
         schema_url: String::new(alloc),
     };
     let resource = Arc::new(alloc, resource)?;
-    let provider = Provider::new(ScriptSampler(sampler), resource, SpanLimits::default());
+    let provider = Provider::new(ScriptSampler(sampler), resource, limits);
     let mut recorder = Recorder {
         alloc,
         tracers: tracers(alloc, &provider, scopes)?,
@@ -115,7 +116,7 @@ fn parent_context<'s, A: Allocator>(
 }
 
 /// Makes a call on a span. An end hands it to the pass.
-fn apply<A: Allocator>(
+fn apply<A: Allocator + Copy>(
     span: &mut Span<A>,
     pass: &mut BodyPass<A>,
     call: SpanCall<A>,
@@ -124,6 +125,30 @@ fn apply<A: Allocator>(
 {
     match call {
         SpanCall::SetAttribute(key, value) => span.set_attribute(key, value),
+        SpanCall::AddEvent {
+            name,
+            timestamp,
+            attributes,
+        } => span.add_event(name, timestamp, attributes),
+        SpanCall::RecordException {
+            exception_type,
+            message,
+            stacktrace,
+            timestamp,
+            attributes,
+        } => span.record_exception(exception_type, message, stacktrace, timestamp, attributes),
+        SpanCall::AddLink {
+            span_context,
+            attributes,
+        } => span.add_link(span_context, attributes),
+        SpanCall::SetStatus(status) => {
+            span.set_status(status);
+            Ok(())
+        }
+        SpanCall::UpdateName(name) => {
+            span.update_name(name);
+            Ok(())
+        }
         SpanCall::End(at) => {
             span.end(pass, at);
             Ok(())

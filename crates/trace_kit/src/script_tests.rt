@@ -245,6 +245,102 @@ end 4 2
 }
 
 #[test]
+fn prints_a_span_with_everything(rt: HostRuntime) {
+    assert_prints(
+        &rt,
+        rt.alloc(),
+        "words 0102030405060708 090a0b0c0d0e0f10 1112131415161718
+limits 8 3 1 2 1 4
+scope 0 s % %
+start 0 root internal 1 a
+attr 0 text t:abcdef
+attr 0 flag b:true
+attr 0 number i:-1
+attr 0 texts T:x,%2c,abcde
+attr 0 flags B:true,false
+attr 0 numbers I:
+attr 0 empty t:%
+attr 0 last b:false
+attr 0 beyond i:1
+event 0 3 seen k t:v k2 i:2 k3 i:3
+exception 0 2 E m %
+event 0 0 %
+event 0 5 beyond
+link 0 00000000000000000000000000000000 0000000000000000 00 %
+link 0 3132333435363738393A3B3C3D3E3F40 4142434445464748 01 k=v a t:% b i:2
+link 0 3132333435363738393a3b3c3d3e3f40 4142434445464748 01 %
+status 0 error broken
+status 0 unset
+name 0 renamed%20it
+end 0 2
+",
+        "0a88030a001283030a030a017312fb020a100102030405060708090a0b0c0d0e0f10120811121314151617182a0a72656e616d656420697430013901000000000000004102000000000000004a0e0a047465787412060a04616263644a0a0a04666c6167120210014a150a066e756d626572120b18ffffffffffffffffff014a1d0a05746578747312142a120a030a01780a030a012c0a060a04616263644a130a05666c616773120a2a080a0210010a0210004a0d0a076e756d6265727312022a004a0b0a05656d70747912020a004a0a0a046c6173741202100050015a2509030000000000000012047365656e1a080a016b12030a01761a080a026b321202180220015a450902000000000000001209657863657074696f6e1a150a0e657863657074696f6e2e7479706512030a01451a180a11657863657074696f6e2e6d65737361676512030a016d5a0060016a2c0a103132333435363738393a3b3c3d3e3f40120841424344454647481a036b3d7622070a016112020a00280170017a0a120662726f6b656e1802\n",
+    );
+}
+
+/// The ends of bodies, each of the span above with some calls on it.
+const CALLS: [(&str, &str); 9] = [
+    (
+        "exception 0 2 E m %\n",
+        "5a450902000000000000001209657863657074696f6e1a150a0e657863657074696f6e2e7479706512030a01451a180a11657863657074696f6e2e6d65737361676512030a016d\n",
+    ),
+    ("event 0 0 %\n", "5a00\n"),
+    (
+        "link 0 0102030405060708090a0b0c0d0e0f10 1112131415161718 01 %\n",
+        "6a1c0a100102030405060708090a0b0c0d0e0f1012081112131415161718\n",
+    ),
+    (
+        "link 0 00000000000000000000000000000000 0000000000000000 00 % a t:%\n",
+        "6a250a10000000000000000000000000000000001208000000000000000022070a016112020a00\n",
+    ),
+    (
+        "status 0 error x\nstatus 0 ok\nstatus 0 error y\n",
+        "7a021801\n",
+    ),
+    ("status 0 error x\nstatus 0 unset\n", "7a051201781802\n"),
+    (
+        "attr 0 a I:1,-1\n",
+        "4a180a016112132a110a0218010a0b18ffffffffffffffffff01\n",
+    ),
+    ("attr 0 a T:\n", "4a070a016112022a00\n"),
+    ("attr 0 a b:false\n", "4a070a016112021000\n"),
+];
+
+#[test]
+fn writes_what_each_call_means(rt: HostRuntime) -> Result<(), Fail> {
+    for (calls, ending) in CALLS {
+        let mut text = String::from_str(
+            rt.alloc(),
+            "words 0102030405060708 090a0b0c0d0e0f10 1112131415161718\nscope 0 s % %\nstart 0 root internal 1 a\n",
+        )?;
+        text.push_str(calls)?;
+        text.push_str("end 0 2\n")?;
+        let answer = run(rt.alloc(), rt.alloc(), text.as_str(), true);
+        assert_eq!(rt; answer.status, 0, "{calls}");
+        assert!(rt;
+            answer.output.as_slice().ends_with(ending.as_bytes()),
+            "{calls}"
+        );
+    }
+    Ok(())
+}
+
+#[test]
+fn a_link_that_says_nothing_changes_nothing(rt: HostRuntime) {
+    assert_prints(
+        &rt,
+        rt.alloc(),
+        "words 0102030405060708 090a0b0c0d0e0f10 1112131415161718
+scope 0 s % %
+start 0 root internal 1 a
+link 0 00000000000000000000000000000000 0000000000000000 00 %
+end 0 2
+",
+        ONE_SPAN_BODY,
+    );
+}
+
+#[test]
 fn tells_refused_memory_of_several_spans(rt: HostRuntime) -> Result<(), Fail> {
     let mut refused = 0u64;
     let mut printed = 0u64;

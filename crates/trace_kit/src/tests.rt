@@ -394,6 +394,7 @@ fn full_span<A: Allocator + Copy>(alloc: A) -> Result<SpanData<A>, OutOfMemory> 
     };
     let limits = SpanLimits {
         max_attributes_per_span: 1,
+        ..SpanLimits::default()
     };
     let mut record = SpanRecord::open(alloc, opening, &limits)?;
     record.set_attribute(text(alloc, "a")?, Value::Int(1))?;

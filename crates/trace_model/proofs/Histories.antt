@@ -202,8 +202,17 @@ ended-few steps = length-le_from_distinct_below (ended_numbers steps) (starts st
 
 -- ---- what is exported of them
 
-live-cons : (c : Call) (calls : List Call) → live (c ∷ calls) ≡ cond (not (is_end c)) (c ∷ live calls) []
+pub live-cons : (c : Call) (calls : List Call) → live (c ∷ calls) ≡ cond (not (is_end c)) (c ∷ live calls) []
 live-cons c calls = take_while-cons (λ c. not (is_end c)) c calls
+
+-- calls of which none is an end all count
+pub all-live : (calls : List Call) → list_any is_end calls ≡ false → live calls ≡ calls
+all-live [] h = refl
+all-live (c ∷ calls) h = by (all-live calls) (is_end c) refl h
+  where
+    by : (list_any is_end calls ≡ false → live calls ≡ calls) → (b : Bool) → is_end c ≡ b → (b || list_any is_end calls) ≡ false → live (c ∷ calls) ≡ c ∷ calls
+    by rest true e k = cc
+    by rest false e k = live-cons c calls ∙ rw e (ap (λ l. c ∷ l) (rest k))
 
 live-past : (calls more : List Call) → list_any is_end calls ≡ true → live (calls ++ more) ≡ live calls
 live-past [] more h = absurd (true≢false (sym h))
@@ -237,7 +246,7 @@ exported-same calls more (Some o) h = by o.span
     by None = refl
     by (Some s) = ap (λ e. cond (is_sampled s.decision) (Some e) None) (exported-past s calls more h)
 
-get-first : {A : Type 0} (xs : List A) (y : A) (n : ℕ) → n < length xs → slice_get (xs ++ y ∷ []) n ≡ slice_get xs n
+pub get-first : {A : Type 0} (xs : List A) (y : A) (n : ℕ) → n < length xs → slice_get (xs ++ y ∷ []) n ≡ slice_get xs n
 get-first [] y n h = absurd (omega (arith, h))
 get-first (x ∷ xs) y zero h = refl
 get-first (x ∷ xs) y (suc n) h = get-first xs y n (omega (arith, h))

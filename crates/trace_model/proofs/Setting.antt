@@ -32,7 +32,7 @@ distinct-more {A = A} same (x ∷ xs) y = go (same x y) refl (list_any (λ z. sa
     go false e true h = ap (λ l. x ∷ filter keep l) h
     go false e false h = ap (λ l. x ∷ filter keep l) h ∙ ap (λ l. x ∷ l) (filter-append keep (distinct same xs) (y ∷ []) ∙ (rw e refl))
 
-last-more : {A : Type 0} (d : A) (xs : List A) (y : A) → last_or d (xs ++ y ∷ []) ≡ y
+pub last-more : {A : Type 0} (d : A) (xs : List A) (y : A) → last_or d (xs ++ y ∷ []) ≡ y
 last-more d [] y = refl
 last-more d (x ∷ xs) y = last-more x xs y
 

@@ -103,14 +103,14 @@ calls_on n steps = filter_map (call_on n) (behind_start n steps)
 
 -- ---- ends
 
--- Whose ends there are, in order: the number of its span for each, where that has started before. The steps stand behind
--- so many starts.
+-- Whose ends there are, in order: for each the number of its span, where a start of this number stands before, also one
+-- that gave no span. The steps stand behind so many starts.
 abbrev pub ends_behind : ℕ → List Step → List ℕ
 ends_behind starts [] = []
 ends_behind starts (start scope parent kind at name ∷ steps) = ends_behind (starts + 1) steps
 ends_behind starts (call n c ∷ steps) = if is_end c && nat_lt n starts then n ∷ ends_behind starts steps else ends_behind starts steps
 
--- the spans that end, by their numbers, in the order of their first ends (Trace API, End)
+-- The numbers whose ends count, in the order of their first ends; those too whose start gave no span. (Trace API, End)
 abbrev pub ended_numbers : List Step → List ℕ
 ended_numbers steps = distinct (λ n m. n == m) (ends_behind 0 steps)
 

@@ -1,26 +1,24 @@
-use Rattle.std.proofs.Common.{◌≡◌, refl, sym, ap, ap₂, ◌∙◌, ℕ, List, Bool, true, false, Option, None, String, string_bytes, nat_eq, arith}
+use Rattle.std.proofs.Common.{◌≡◌, sym, ap, ap₂, ◌∙◌, ℕ, List, Bool, true, false, Option, String, string_bytes, nat_eq, arith}
 use Rattle.std.specs.List.{position}
 use Rattle.std.specs.String.{string_len}
 use Rattle.std.proofs.lemmas.List.{length-map}
 use Rattle.std.proofs.lemmas.Result.{err_from_is_err_and}
-use Rattle.trace_model.specs.Attributes.{Attribute, cut, has_key, is_empty}
-use Rattle.otlp_value.specs.declared.Value.{Value}
-use Rattle.otlp_value.specs.declared.Value.TheVariants.{Text, Int}
-use Rattle.otlp_value.specs.Value.{attribute_view, limits_view, value_view}
+use Rattle.trace_model.specs.Attributes.{Attribute, Value, has_key, is_empty}
+use Rattle.otlp_value.specs.declared.Value as declared
+use Rattle.otlp_value.specs.Value.{attribute_view, limits_view}
 use Rattle.otlp_value.proofs.Setting.{is_empty-length, is-new, sets-full, sets-ignored, sets-new, sets-there}
 use Rattle.otlp_value.proofs.AttributeList.set.Goals as goal
 
--- with no limit on its length a value is kept as it is
-uncut : {A : Type 0} (k : List ℕ) (v : Value A) → ◌≡◌ {A = Attribute} (record { key = k; value = value_view v }) (record { key = k; value = cut None (value_view v) })
-uncut k (Text t) = refl
-uncut k (Int i) = refl
+-- a pair with its value cut, as a pair of the model
+with_value : (k : List ℕ) (v w : Value) → v ≡ w → ◌≡◌ {A = Attribute} (record { key = k; value = v }) (record { key = k; value = w })
+with_value k v w e = ap (λ x. record { key = k; value = x }) e
 
 -- what the test of the key says
 emptiness : {A : Type 0} (key : String A) (r t : Bool) → r ≡ nat_eq (string_len key) 0 → r ≡ t → is_empty (string_bytes key) ≡ t
 emptiness key r t e h = is_empty-length (string_bytes key) t (ap (λ n. nat_eq n 0) (sym key.bytes.ok.0) ∙ sym e ∙ h)
 
 -- what the look-up found, of the key and the pairs themselves
-place : {A : Type 0} (key : String A) (pairs seen : List (String A × Value A)) (text : List ℕ) (r o : Option ℕ) → text ≡ string_bytes key → seen ≡ pairs →
+place : {A : Type 0} (key : String A) (pairs seen : List (String A × declared.Value A)) (text : List ℕ) (r o : Option ℕ) → text ≡ string_bytes key → seen ≡ pairs →
     r ≡ position (λ p. has_key text (attribute_view p)) seen → r ≡ o → position (λ p. has_key (string_bytes key) (attribute_view p)) pairs ≡ o
 place key pairs seen text r o k s e h = ap₂ (λ a b. position (λ p. has_key a (attribute_view p)) b) (sym k) (sym s) ∙ sym e ∙ h
 
@@ -34,7 +32,7 @@ returns-in-Some-clause-ok g c =
     let at = place c.args.key _ _ _ _ _ c.deref-2.ensures c.deref.ensures.value c.position_of.ensures c.in-Some.is in
     rw (← c.self.view_is)
     (sets-there attribute_view (limits_view l.limits) l.pairs.items l.dropped (attribute_view (c.args.key, c.args.value)) named
-    c.in-Some.index c.index_mut.result.now (c.index_mut.result.now.0, c.args.value) at c.index_mut.ensures.value (uncut _ c.args.value))
+    c.in-Some.index c.index_mut.result.now (c.index_mut.result.now.0, c.cut-value.result) at c.index_mut.ensures.value (with_value _ _ _ c.cut-value.ensures))
 
 pub returns-in_ok-push-in-None-clause-ok : goal.returns-in_ok-push-in-None-clause-ok
 returns-in_ok-push-in-None-clause-ok g c =
@@ -44,7 +42,7 @@ returns-in_ok-push-in-None-clause-ok g c =
     let counted = l.pairs.ok.0 in
     rw (← c.self.view_is, c.in_ok-push-in-None.ensures.items)
     (sets-new attribute_view (limits_view l.limits) l.pairs.items l.dropped (attribute_view (c.args.key, c.args.value)) named absent
-    (c.args.key, c.args.value) (omega arith) (uncut _ c.args.value))
+    (c.args.key, c.cut-value.result) (omega arith) (with_value _ _ _ c.cut-value.ensures))
 
 pub returns-in_err-push-in-None-clause-in_place : goal.returns-in_err-push-in-None-clause-in_place
 returns-in_err-push-in-None-clause-in_place g c =

@@ -1,6 +1,6 @@
 use Rattle.std.proofs.Common.{◌≡◌, length}
 use Rattle.span_script.specs.Words.{bytes_of}
-use Rattle.span_script.proofs.Texts.{behind}
+use Rattle.span_script.proofs.Each.{behind}
 use Rattle.span_script.proofs.words.unescaped.Given as goal
 
 abbrev pub invariant-loop-rest : goal.invariant-loop-rest

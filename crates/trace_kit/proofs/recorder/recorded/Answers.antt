@@ -1,4 +1,4 @@
-use Rattle.std.proofs.Common.{◌≡◌, ◌≤◌, ◌++◌, ◌∷◌, [], refl, sym, ap, ◌∙◌, map, length, append_assoc, arith}
+use Rattle.std.proofs.Common.{◌≤◌, ◌++◌, ◌∷◌, [], refl, sym, ap, ◌∙◌, map, length, append_assoc, arith}
 use Rattle.std.proofs.lemmas.List.{length-map}
 use Rattle.std.specs.Vec.Iter.{into_iter_items}
 use Rattle.trace_model.specs.History.{ended_spans}
@@ -18,7 +18,7 @@ loop-step-init g c =
         [],
         ap (map step_view) iterator.0,
         rw iterator.0 (begun setup steps _
-            (tracers-are _ setup.provider (map scope_view c.args.script.scopes.items) c.in_ok-tracers.field-0.items c.in_ok-tracers.ensures (rw (c.new-provider.ensures, c.in_ok-resource.ensures.ok, c.new.ensures.bytes, c.default.ensures) refl))
+            (tracers-are _ setup.provider (map scope_view c.args.script.scopes.items) c.in_ok-tracers.field-0.items c.in_ok-tracers.ensures (rw (c.new-provider.ensures, c.in_ok-resource.ensures.ok, c.new.ensures.bytes) refl))
             (rw c.new-3.ensures (words-are c.args.script.words.items)) c.new-4.ensures.items (c.in_ok-new.ensures ∙ rw (c.count_starts.ensures, c.as_slice.ensures.value) refl)),
       ),
       iterator.1 ∙ c.args.script.steps.ok.0 ∙ ap length (sym iterator.0),

@@ -1,9 +1,8 @@
 use Rattle.std.proofs.Common.{◌≡◌, ◌∙◌, refl, sym, ap, ◌≤◌, length, Some, None, slice_get, slice_set}
 use Rattle.std.proofs.lemmas.Option.{slice_get_past, slice_get_read}
 use Rattle.std.specs.Vec.{with_item}
-use Rattle.trace_model.specs.Starts.{HeldSpan}
 use Rattle.otlp_span.specs.Parts.{call_view}
-use Rattle.trace_kit.proofs.Writing.{on-ok}
+use Rattle.trace_kit.proofs.Read.{on-ok}
 use Rattle.trace_kit.proofs.Steps.{missed, missing-slot, called}
 use Rattle.trace_kit.proofs.recorder.Recorder.call.Goals as goal
 

@@ -1,4 +1,4 @@
-use Rattle.std.proofs.Common.{◌≡◌, ◌∙◌, refl, sym, ap, ◌⊎◌, inl, inr, length, Some, None, [], option_map, slice_get, string_bytes}
+use Rattle.std.proofs.Common.{◌≡◌, ◌∙◌, refl, sym, ap, inr, length, Some, None, [], option_map, string_bytes}
 use Rattle.std.proofs.lemmas.Option.{slice_get_read}
 use Rattle.trace_model.specs.History.{outcomes, calls_on, parent_of}
 use Rattle.trace_model.specs.Starts.{held}

@@ -1,4 +1,4 @@
-use Rattle.std.proofs.Common.{◌≡◌, ◌∙◌, refl, sym, ap, ◌∷◌, ◌+◌, ◌++◌, [], map, length, string_bytes, arith}
+use Rattle.std.proofs.Common.{◌∙◌, sym, ap, ◌∷◌, ◌+◌, ◌++◌, [], map, length, string_bytes}
 use Rattle.std.proofs.lemmas.List.{length_push}
 use Rattle.trace_model.specs.History.{words_left, outcomes, outcome, start}
 use Rattle.trace_model.specs.Identifiers.{words_after}

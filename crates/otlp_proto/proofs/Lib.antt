@@ -1,0 +1,3 @@
+mod Read
+mod Values
+mod Writing

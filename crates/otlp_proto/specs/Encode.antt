@@ -1,0 +1,34 @@
+-- What is written of a message: its bytes, and that it is one that can be read.
+use Rattle.std.specs.Prelude.{◌≡◌, ℕ, List, [], ◌++◌}
+use Rattle.trace_model.specs.AnyValue.{AnyValue, as_values}
+use Rattle.trace_model.specs.Tables.{Shape, Table, Meaning, Record}
+use Rattle.trace_model.specs.Canon.{canon, shape_bytes, value_fields, values_fields, row_bytes}
+use Rattle.trace_model.specs.Whole.{EachValue, IsValue, IsWhole, IsMessage}
+
+-- a field of a table, put behind what stands
+pub record Puts (n : ℕ) (s : Shape) (x : Meaning s) (old new : List ℕ) : Type 0 where
+  pub bytes : new ≡ old ++ shape_bytes n s x
+  pub whole : IsWhole s x
+
+-- the fields of a table, put behind what stands
+pub record PutsAll (t : Table) (r : Record t) (old new : List ℕ) : Type 0 where
+  pub bytes : new ≡ old ++ canon t r
+  pub whole : IsMessage t r
+
+-- a message, all of it
+abbrev pub IsWritten : (t : Table) → Record t → List ℕ → Type 0
+IsWritten t r bs = PutsAll t r [] bs
+
+-- the one member of a value of so many levels at most, put behind what stands
+pub record PutsMember (levels : ℕ) (v : AnyValue) (old new : List ℕ) : Type 0 where
+  pub bytes : new ≡ old ++ row_bytes (value_fields v)
+  pub whole : IsValue levels v
+
+-- values of one level, put behind what stands as those of an array
+pub record PutsValues (vs : List AnyValue) (old new : List ℕ) : Type 0 where
+  pub bytes : new ≡ old ++ row_bytes (values_fields (as_values vs))
+  pub whole : EachValue (IsValue 1) (as_values vs)
+
+-- an array, all of it
+abbrev pub IsArray : List AnyValue → List ℕ → Type 0
+IsArray vs bs = PutsValues vs [] bs

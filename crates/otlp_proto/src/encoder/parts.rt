@@ -1,0 +1,123 @@
+//! Events, links and the status of a span (opentelemetry-proto, trace.proto: Span.Event, Span.Link, Status).
+ghost use Rattle.std.specs.Prelude.{◌≡◌, ◌<◌, ◌^◌, IfOk, OnOk, map, pos};
+ghost use Rattle.trace_model.specs.Tables;
+ghost use Rattle.trace_model.specs.Export as model;
+ghost use Rattle.otlp_span.specs.Parts.{event_view, link_view, status_view};
+ghost use Rattle.otlp_proto.specs.Encode.{Puts, IsWritten};
+
+use crate::encoder::fields::{put_bytes, put_enum, put_fixed64, put_len, put_text, put_uint32};
+use crate::encoder::values::put_attributes;
+use otlp_ids::OutOfMemory;
+use otlp_span::{Event, Link, Status};
+use std::alloc::Allocator;
+
+fn encode_event<A: Allocator + Copy>(alloc: A, event: &Event<A>) -> Result<Vec<u8, A>, OutOfMemory>
+    ensures { IfOk result (λ v. IsWritten Tables.event (model.event_message (event_view event.now)) v.items) }
+{
+    let mut out = Vec::new(alloc);
+    put_fixed64(&mut out, 1, event.timestamp)?;
+    put_text(&mut out, 2, event.name.as_str())?;
+    put_attributes(alloc, &mut out, 3, event.attributes.as_slice())?;
+    put_uint32(&mut out, 4, event.dropped_attributes_count)?;
+    Ok(out)
+}
+
+/// Appends events, each as a field of this number.
+pub fn put_events<A: Allocator + Copy>(
+    alloc: A,
+    out: &mut Vec<u8, A>,
+    number: u32,
+    events: &[Event<A>],
+) -> Result<(), OutOfMemory>
+    requires { number < 2 ^ 29 }
+    ensures { OnOk result (Puts number (Tables.repeated (Tables.message Tables.event))
+        (map model.event_message (map event_view events.now)) out.old.items out.new.items) }
+{
+    for event in events {
+        let message = encode_event(alloc, event)?;
+        put_len(out, number, message.as_slice())?;
+    }
+    Ok(())
+}
+
+fn encode_link<A: Allocator + Copy>(alloc: A, link: &Link<A>) -> Result<Vec<u8, A>, OutOfMemory>
+    ensures { IfOk result (λ v. IsWritten Tables.link (model.link_message (link_view link.now)) v.items) }
+{
+    let mut out = Vec::new(alloc);
+    let context = &link.span_context;
+    put_bytes(&mut out, 1, &context.trace.0)?;
+    put_bytes(&mut out, 2, &context.span.0)?;
+    put_text(&mut out, 3, context.state.as_str())?;
+    put_attributes(alloc, &mut out, 4, link.attributes.as_slice())?;
+    put_uint32(&mut out, 5, link.dropped_attributes_count)?;
+    Ok(out)
+}
+
+/// Appends links, each as a field of this number.
+pub fn put_links<A: Allocator + Copy>(
+    alloc: A,
+    out: &mut Vec<u8, A>,
+    number: u32,
+    links: &[Link<A>],
+) -> Result<(), OutOfMemory>
+    requires { number < 2 ^ 29 }
+    ensures { OnOk result (Puts number (Tables.repeated (Tables.message Tables.link))
+        (map model.link_message (map link_view links.now)) out.old.items out.new.items) }
+{
+    for link in links {
+        let message = encode_link(alloc, link)?;
+        put_len(out, number, message.as_slice())?;
+    }
+    Ok(())
+}
+
+/// The description of an error; another status has none.
+fn status_message<A: Allocator>(status: &Status<A>) -> &str
+    ensures { let message = model.status_message (status_view status.now) in result.now ≡ message.0 }
+{
+    match status {
+        Status::Unset | Status::Ok => "",
+        Status::Error(description) => description.as_str(),
+    }
+}
+
+/// The number of a status in the protocol.
+fn status_code<A: Allocator>(status: &Status<A>) -> u8
+    ensures { let message = model.status_message (status_view status.now) in pos result ≡ message.1.0 }
+{
+    match status {
+        Status::Unset => 0,
+        Status::Ok => 1,
+        Status::Error(_) => 2,
+    }
+}
+
+fn encode_status<A: Allocator + Copy>(
+    alloc: A,
+    status: &Status<A>,
+) -> Result<Vec<u8, A>, OutOfMemory>
+    ensures { IfOk result (λ v. IsWritten Tables.status (model.status_message (status_view status.now)) v.items) }
+{
+    let mut out = Vec::new(alloc);
+    put_text(&mut out, 2, status_message(status))?;
+    put_enum(&mut out, 3, status_code(status))?;
+    Ok(out)
+}
+
+/// Appends a status, unless its message has no field, as where it is Unset.
+pub fn put_status<A: Allocator + Copy>(
+    alloc: A,
+    out: &mut Vec<u8, A>,
+    number: u32,
+    status: &Status<A>,
+) -> Result<(), OutOfMemory>
+    requires { number < 2 ^ 29 }
+    ensures { OnOk result (Puts number (Tables.optional Tables.status)
+        (model.status_message (status_view status.now)) out.old.items out.new.items) }
+{
+    let message = encode_status(alloc, status)?;
+    if message.is_empty() {
+        return Ok(());
+    }
+    put_len(out, number, message.as_slice())
+}

@@ -1,0 +1,30 @@
+-- Several pairs, set one after the other.
+use Rattle.std.proofs.Common.{◌≡◌, refl, sym, ap, ◌∙◌, List, [], ◌∷◌, ◌++◌, append_assoc}
+use Rattle.std.proofs.lemmas.List.{append-nil}
+use Rattle.trace_model.specs.Attributes.{Attribute, AttributeList, Kept, Limits, SetsPair, attribute_list, attributes}
+use Rattle.otlp_span.specs.Pairs.{SetsPairs}
+
+-- none at all
+pub sets-none : (list : AttributeList) → SetsPairs [] list list
+sets-none list = record { limits = refl; value = λ pairs is. is ∙ ap (attributes list.limits) (sym (append-nil pairs)) }
+
+-- some, and then others
+pub sets-more : {xs ys : List Attribute} {a b c : AttributeList} → SetsPairs xs a b → SetsPairs ys b c → SetsPairs (xs ++ ys) a c
+sets-more {xs = xs} {ys = ys} {a = a} {b = b} {c = c} f g = record {
+  limits = g.limits ∙ f.limits;
+  value = λ pairs is.
+      let then : c.kept ≡ attributes b.limits ((pairs ++ xs) ++ ys) = g.value (pairs ++ xs) (f.value pairs is ∙ ap (λ l. attributes l (pairs ++ xs)) (sym f.limits)) in
+      then ∙ ap (λ l. attributes l ((pairs ++ xs) ++ ys)) f.limits ∙ ap (attributes a.limits) (append_assoc pairs xs ys);
+}
+
+-- one of them
+pub sets-one : {p : Attribute} {a b : AttributeList} → SetsPair p a b → SetsPairs (p ∷ []) a b
+sets-one s = record { limits = s.limits; value = s.value }
+
+-- Set in an empty list, they are its pairs.
+pub sets-first : (limits : Limits) (more : List Attribute) (a b : AttributeList) → a ≡ attribute_list limits [] → SetsPairs more a b → b ≡ attribute_list limits more
+sets-first limits more a b is s =
+    let make : Limits → Kept Attribute → AttributeList = λ l k. record { limits = l; kept = k } in
+    let under : a.limits ≡ limits = ap (λ (list : AttributeList). list.limits) is in
+    let none : a.kept ≡ attributes a.limits [] = ap (λ (list : AttributeList). list.kept) is ∙ ap (λ l. attributes l []) (sym under) in
+    ap (λ l. make l b.kept) (s.limits ∙ under) ∙ ap (make limits) (s.value [] none ∙ ap (λ l. attributes l more) under)

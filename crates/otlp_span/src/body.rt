@@ -1,0 +1,26 @@
+use crate::parts::{Event, Kind, Link, Resource, Scope, SpanLimits, Status};
+use otlp_ids::{SpanContext, SpanId};
+use otlp_value::AttributeList;
+use std::alloc::Allocator;
+use std::sync::Arc;
+
+/// All of a span, in one place on the heap from its start on.
+#[derive(Drop)]
+#[derive_where(Debug)]
+pub(crate) struct SpanBody<A: Allocator> {
+    pub(crate) limits: SpanLimits,
+    pub(crate) context: SpanContext<A>,
+    pub(crate) parent: Option<SpanId>,
+    pub(crate) resource: Arc<Resource<A>, A>,
+    pub(crate) scope: Arc<Scope<A>, A>,
+    pub(crate) name: String<A>,
+    pub(crate) kind: Kind,
+    pub(crate) start: u64,
+    pub(crate) end: u64,
+    pub(crate) attributes: AttributeList<A>,
+    pub(crate) events: Vec<Event<A>, A>,
+    pub(crate) dropped_events: u32,
+    pub(crate) links: Vec<Link<A>, A>,
+    pub(crate) dropped_links: u32,
+    pub(crate) status: Status<A>,
+}

@@ -1,0 +1,139 @@
+ghost use Rattle.std.specs.Prelude.{◌≡◌, map};
+ghost use Rattle.otlp_ids.specs.SpanContext.{context_view};
+ghost use Rattle.otlp_value.specs.Value.{attributes_view};
+ghost use Rattle.otlp_span.specs.Parts.{event_view, kind_view, link_view, parent_view, resource_view, scope_view, status_view};
+
+use crate::body::SpanBody;
+use crate::parts::{Event, Kind, Link, Resource, Scope, Status};
+use otlp_ids::{SpanContext, SpanId};
+use otlp_value::Value;
+use std::alloc::{Allocator, Global};
+use std::marker::Model;
+
+/// A span that has ended, with its resource and its scope (Trace SDK, "Additional Span Interfaces"): it
+/// doesn't change any more. It is as large as a pointer.
+#[derive(Drop)]
+#[derive_where(Debug)]
+pub struct SpanData<A: Allocator = Global> {
+    pub(crate) body: Box<SpanBody<A>, A>,
+}
+
+impl<A: Allocator> Model for SpanData<A> {
+    ghost use Rattle.trace_model.specs.Spans.{EndedSpan};
+
+    ghost Value = { EndedSpan };
+
+    ghost use Rattle.otlp_span.specs.Body.{ended_view};
+
+    ghost view = { λ s. ended_view s.body.value };
+}
+
+impl<A: Allocator> SpanData<A> {
+    /// The span's context (Trace API, "Get Context").
+    pub fn context(&self) -> &SpanContext<A>
+        ensures { context_view result.now ≡ self.now.span.context }
+    {
+        &self.body.context
+    }
+
+    /// The identifier of the span's parent; a root has none.
+    pub fn parent_span_id(&self) -> Option<SpanId>
+        ensures { parent_view result ≡ self.now.span.parent }
+    {
+        self.body.parent
+    }
+
+    /// What made the span (Resource SDK).
+    pub fn resource(&self) -> &Resource<A>
+        ensures { resource_view result.now ≡ self.now.resource }
+    {
+        &self.body.resource
+    }
+
+    /// The part of it that made the span (Common, "Instrumentation Scope").
+    pub fn scope(&self) -> &Scope<A>
+        ensures { scope_view result.now ≡ self.now.scope }
+    {
+        &self.body.scope
+    }
+
+    /// The span's name.
+    pub fn name(&self) -> &str
+        ensures { result.now ≡ self.now.span.name }
+    {
+        self.body.name.as_str()
+    }
+
+    /// What the span is to the spans round it (Trace API, "SpanKind").
+    pub fn kind(&self) -> Kind
+        ensures { kind_view result ≡ self.now.span.kind }
+    {
+        self.body.kind
+    }
+
+    /// When it started, in nanoseconds since 1970.
+    pub fn start_time(&self) -> u64
+        ensures { result ≡ self.now.span.start }
+    {
+        self.body.start
+    }
+
+    /// When it ended, in nanoseconds since 1970. It may be before the start (profile).
+    pub fn end_time(&self) -> u64
+        ensures { result ≡ self.now.span.end }
+    {
+        self.body.end
+    }
+
+    /// The attributes that were kept, each with its last value, in the order in which their keys were first
+    /// set.
+    pub fn attributes(&self) -> &[(String<A>, Value<A>)]
+        ensures { attributes_view result.now ≡ self.now.span.attributes.items }
+    {
+        self.body.attributes.pairs()
+    }
+
+    /// How many times an attribute was discarded, since its key was new and as many keys were kept as the
+    /// limit allows (Trace SDK, "Span Limits"). It stops at 2^32 - 1 (profile).
+    pub fn dropped_attributes_count(&self) -> u32
+        ensures { result ≡ self.now.span.attributes.dropped }
+    {
+        self.body.attributes.dropped()
+    }
+    /// The events that were kept, in the order in which they were added (Trace API, "Add Events").
+    pub fn events(&self) -> &[Event<A>]
+        ensures { map event_view result.now ≡ self.now.span.events.items }
+    {
+        &self.body.events
+    }
+
+    /// How many events were discarded, since as many were kept as the limit allows (Trace SDK, "Span Limits"). It
+    /// stops at 2^32 - 1 (profile).
+    pub fn dropped_events_count(&self) -> u32
+        ensures { result ≡ self.now.span.events.dropped }
+    {
+        self.body.dropped_events
+    }
+
+    /// The links that were kept, in the order in which they were added (Trace API, "Link").
+    pub fn links(&self) -> &[Link<A>]
+        ensures { map link_view result.now ≡ self.now.span.links.items }
+    {
+        &self.body.links
+    }
+
+    /// How many links were discarded, since as many were kept as the limit allows (Trace SDK, "Span Limits"). It
+    /// stops at 2^32 - 1 (profile).
+    pub fn dropped_links_count(&self) -> u32
+        ensures { result ≡ self.now.span.links.dropped }
+    {
+        self.body.dropped_links
+    }
+
+    /// What came of the operation (Trace API, "Set Status").
+    pub fn status(&self) -> &Status<A>
+        ensures { status_view result.now ≡ self.now.span.status }
+    {
+        &self.body.status
+    }
+}

@@ -1,0 +1,51 @@
+-- How pairs are read one after the other.
+use Rattle.std.proofs.Common.{◌≡◌, ℕ, ◌<◌, ◌≤◌, List, [], ◌∷◌, ◌++◌, length, get_or, drop, Option, Some, None, Err, String, Vec, refl, sym, ap, ◌∙◌, arith, append-nil}
+use denote.Ref.{Bor}
+use Rattle.trace_model.specs.Attributes.{Attribute}
+use Rattle.otlp_value.specs.declared.Value.{Value}
+use Rattle.otlp_value.specs.Value.{attribute_view, attributes_view}
+use Rattle.span_script.specs.Words.{Gives, in_front}
+use Rattle.span_script.specs.Values.{pair_of, pairs_of}
+use Rattle.span_script.specs.declared.words.Fault.{Fault}
+use Rattle.span_script.specs.declared.words.Fault.TheVariants.{Bad, OutOfMemory}
+use Rattle.span_script.proofs.Each.{words_at, behind, one_more}
+
+-- the words begin with this pair
+at_pair : (words : List (Bor (List ℕ))) (d : Bor (List ℕ)) → 2 ≤ length words
+    → pairs_of (words_at words) ≡ in_front (pair_of (get_or words 0 d).now (get_or words 1 d).now) (pairs_of (words_at (drop 2 words)))
+unfolding pairs_of
+at_pair [] d some = absurd (omega arith)
+at_pair (key ∷ []) d some = absurd (omega arith)
+at_pair (key ∷ value ∷ others) d some = refl
+
+-- one more pair is read
+pub goes_on : (front : List Attribute) (words : List (Bor (List ℕ))) (d : Bor (List ℕ)) (p : Attribute) (whole : Option (List Attribute))
+    → 2 ≤ length words → pair_of (get_or words 0 d).now (get_or words 1 d).now ≡ Some p
+    → behind front (pairs_of (words_at words)) ≡ whole → behind (front ++ p ∷ []) (pairs_of (words_at (drop 2 words))) ≡ whole
+goes_on front words d p whole some found so_far =
+    one_more front p (pairs_of (words_at (drop 2 words)))
+    ∙ ap (λ o. behind front (in_front o (pairs_of (words_at (drop 2 words))))) (sym found)
+    ∙ ap (behind front) (sym (at_pair words d some)) ∙ so_far
+
+-- a pair is bad, or memory is refused
+pub stops : (A : Type 0) (front : List Attribute) (words : List (Bor (List ℕ))) (d : Bor (List ℕ)) (fault : Fault) (whole : Option (List Attribute))
+    → 2 ≤ length words → Gives (attribute_view {A = A}) (Err fault) (pair_of (get_or words 0 d).now (get_or words 1 d).now)
+    → behind front (pairs_of (words_at words)) ≡ whole → Gives {X = Vec (String A × Value A) A} (λ pairs. attributes_view pairs.items) (Err fault) whole
+stops A front words d Bad whole some bad so_far =
+    sym so_far ∙ ap (behind front) (at_pair words d some ∙ ap (λ o. in_front o (pairs_of (words_at (drop 2 words)))) bad)
+stops A front words d OutOfMemory whole some bad so_far = tt
+
+-- all pairs are read
+pub is_done : (front : List Attribute) (words : List (Bor (List ℕ))) (whole : Option (List Attribute)) → length words ≡ 0
+    → behind front (pairs_of (words_at words)) ≡ whole → whole ≡ Some front
+unfolding pairs_of
+is_done front [] whole none so_far = sym so_far ∙ ap Some (append-nil front)
+is_done front (w ∷ others) whole none so_far = absurd (omega arith)
+
+-- a key is left over
+pub no_value : (front : List Attribute) (words : List (Bor (List ℕ))) (whole : Option (List Attribute)) → 0 < length words → length words < 2
+    → behind front (pairs_of (words_at words)) ≡ whole → whole ≡ None
+unfolding pairs_of
+no_value front [] whole some few so_far = absurd (omega arith)
+no_value front (key ∷ []) whole some few so_far = sym so_far
+no_value front (key ∷ value ∷ others) whole some few so_far = absurd (omega arith)

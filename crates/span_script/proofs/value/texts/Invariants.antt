@@ -1,0 +1,7 @@
+use Rattle.std.proofs.Common.{◌≡◌, map, string_bytes}
+use Rattle.span_script.specs.Words.{each_of, text_of}
+use Rattle.span_script.proofs.Each.{words_at, behind, rest_of}
+use Rattle.span_script.proofs.value.texts.Given as goal
+
+abbrev pub invariant-loop-member : goal.invariant-loop-member
+invariant-loop-member g l = behind (map string_bytes l.all.items) (rest_of text_of l.members l.member-index) ≡ each_of text_of (words_at l.members)

@@ -1,9 +1,0 @@
-use Rattle.std.proofs.Common.{sym, ◌∙◌}
-use Rattle.trace_kit.proofs.Writing.{some-octets, no-octets}
-use Rattle.trace_kit.proofs.fields.put_bytes.Goals as goal
-
-pub returns-in_ok-put_len : goal.returns-in_ok-put_len
-returns-in_ok-put_len g c = some-octets (sym c.is_empty.ensures ∙ c.if-not-is_empty.true) c.in_ok-put_len.ensures
-
-pub returns-else-not-is_empty : goal.returns-else-not-is_empty
-returns-else-not-is_empty g c = no-octets (sym c.is_empty.ensures ∙ c.if-not-is_empty.false)

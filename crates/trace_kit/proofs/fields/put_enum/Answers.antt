@@ -1,9 +1,0 @@
-use Rattle.std.proofs.Common.{arith}
-use Rattle.trace_kit.proofs.Writing.{some-enum, no-enum}
-use Rattle.trace_kit.proofs.fields.put_enum.Goals as goal
-
-pub returns-in_ok-put_varint : goal.returns-in_ok-put_varint
-returns-in_ok-put_varint g c = some-enum c.if-value-ne0.true (omega (arith, c.ranges.value.fits)) c.in_ok-put_varint.ensures
-
-pub returns-else-value-ne0 : goal.returns-else-value-ne0
-returns-else-value-ne0 g c = rw c.if-value-ne0.false no-enum

@@ -1,9 +1,0 @@
-use Rattle.std.proofs.Common.{◌*◌, ◌+◌, refl}
-use Rattle.trace_model.specs.Wire
-use Rattle.trace_kit.proofs.Writing.{on-ok, tagged}
-use Rattle.trace_kit.proofs.fields.put_len.Goals as goal
-
-pub returns : goal.returns
-returns g c =
-    on-ok c.write_len.result (tagged (record { number = c.args.number; payload = Wire.len c.args.bytes.now }) (c.args.number * 8 + 2) _ _ _ refl c.in_ok-write_varint.ensures.canonical)
-    c.write_len.ensures.canonical
