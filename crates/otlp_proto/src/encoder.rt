@@ -22,17 +22,20 @@ use std::alloc::Allocator;
 use thiserror::Error;
 use values::put_attributes;
 
+/// The message of a resource.
 fn encode_resource<A: Allocator + Copy>(
     alloc: A,
     resource: &Resource<A>,
 ) -> Result<Vec<u8, A>, OutOfMemory>
-    ensures { IfOk result (λ v. IsWritten Tables.resource (model.resource_message (resource_view resource.now)) v.items) }
+    ensures { IfOk result (λ v.
+        IsWritten Tables.resource (model.resource_message (resource_view resource.now)) v.items) }
 {
     let mut out = Vec::new(alloc);
     put_attributes(alloc, &mut out, 1, resource.attributes.as_slice())?;
     Ok(out)
 }
 
+/// The message of a scope.
 fn encode_scope<A: Allocator + Copy>(alloc: A, scope: &Scope<A>) -> Result<Vec<u8, A>, OutOfMemory>
     ensures { IfOk result (λ v. IsWritten Tables.scope (model.scope_message (scope_view scope.now)) v.items) }
 {
@@ -63,7 +66,8 @@ fn put_parent<A: Allocator>(
     parent: Option<SpanId>,
 ) -> Result<(), OutOfMemory>
     requires { number < 2 ^ 29 }
-    ensures { OnOk result (Puts number Tables.bytes (model.parent_id (parent_view parent)) out.old.items out.new.items) }
+    ensures { OnOk result (Puts number Tables.bytes (model.parent_id (parent_view parent))
+        out.old.items out.new.items) }
 {
     match parent {
         Some(id) => put_bytes(out, number, &id.0),
@@ -71,6 +75,7 @@ fn put_parent<A: Allocator>(
     }
 }
 
+/// The message of a span.
 fn encode_span<A: Allocator + Copy>(alloc: A, span: &SpanData<A>) -> Result<Vec<u8, A>, OutOfMemory>
     ensures { IfOk result (λ v. IsWritten Tables.span (model.span_message span.now.span) v.items) }
 {
@@ -94,11 +99,13 @@ fn encode_span<A: Allocator + Copy>(alloc: A, span: &SpanData<A>) -> Result<Vec<
     Ok(out)
 }
 
+/// The message of a scope's spans.
 fn encode_scope_spans<A: Allocator + Copy>(
     alloc: A,
     group: &ScopeGroup<'_, A>,
 ) -> Result<Vec<u8, A>, OutOfMemory>
-    ensures { IfOk result (λ v. IsWritten Tables.scope_spans (model.scope_spans_message (scope_group_view group.now)) v.items) }
+    ensures { IfOk result (λ v.
+        IsWritten Tables.scope_spans (model.scope_spans_message (scope_group_view group.now)) v.items) }
 {
     let mut out = Vec::new(alloc);
     let scope = encode_scope(alloc, group.scope)?;
@@ -111,11 +118,13 @@ fn encode_scope_spans<A: Allocator + Copy>(
     Ok(out)
 }
 
+/// The message of a resource's spans, by scope.
 fn encode_resource_spans<A: Allocator + Copy>(
     alloc: A,
     group: &ResourceGroup<'_, A>,
 ) -> Result<Vec<u8, A>, OutOfMemory>
-    ensures { IfOk result (λ v. IsWritten Tables.resource_spans (model.resource_spans_message (resource_group_view group.now)) v.items) }
+    ensures { IfOk result (λ v.
+        IsWritten Tables.resource_spans (model.resource_spans_message (resource_group_view group.now)) v.items) }
 {
     let mut out = Vec::new(alloc);
     let resource = encode_resource(alloc, group.resource)?;
@@ -128,11 +137,13 @@ fn encode_resource_spans<A: Allocator + Copy>(
     Ok(out)
 }
 
+/// The message of a request, whatever its length.
 fn encode_request<A: Allocator + Copy>(
     alloc: A,
     groups: &[ResourceGroup<'_, A>],
 ) -> Result<Vec<u8, A>, OutOfMemory>
-    ensures { IfOk result (λ v. IsWritten Tables.request (model.request_message (map resource_group_view groups.now)) v.items) }
+    ensures { IfOk result (λ v.
+        IsWritten Tables.request (model.request_message (map resource_group_view groups.now)) v.items) }
 {
     let mut out = Vec::new(alloc);
     for group in groups {
@@ -143,7 +154,7 @@ fn encode_request<A: Allocator + Copy>(
 }
 
 /// Why there is no body.
-#[derive(Debug, Drop, PartialEq, Eq, Error)]
+#[derive(Debug, Clone, Copy, PartialEq, Eq, Error)]
 pub enum EncodeFault {
     /// Memory was refused.
     #[error("out of memory")]
@@ -166,7 +177,7 @@ impl From<OutOfMemory> for EncodeFault {
 }
 
 /// The body of the request that exports these groups (opentelemetry-proto, ExportTraceServiceRequest), in the
-/// uncompressed Protocol Buffers encoding. It may have `max` bytes.
+/// uncompressed Protocol Buffers encoding. It has at most `max` bytes.
 ///
 /// # Errors
 ///

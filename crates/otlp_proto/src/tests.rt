@@ -10,20 +10,6 @@ use std::process::Abort;
 use std::sync::Arc;
 use std::test::Fail;
 
-const DIGITS: [char; 16] = [
-    '0', '1', '2', '3', '4', '5', '6', '7', '8', '9', 'a', 'b', 'c', 'd', 'e', 'f',
-];
-
-/// Bytes in hexadecimal digits.
-fn digits(alloc: Global, bytes: &[u8]) -> Result<String, OutOfMemory> {
-    let mut all = String::new(alloc);
-    for byte in bytes {
-        all.push(DIGITS[(*byte / 16) as usize])?;
-        all.push(DIGITS[(*byte % 16) as usize])?;
-    }
-    Ok(all)
-}
-
 fn text<A: Allocator>(alloc: A, text: &str) -> Result<String<A>, OutOfMemory> {
     Ok(String::from_str(alloc, text)?)
 }
@@ -142,7 +128,7 @@ fn body_of(alloc: Global, record: SpanRecord) -> Result<String, Fail> {
     let span = record.close(2);
     let groups = groups_of(alloc, &span)?;
     let body = encode(alloc, groups.as_slice(), 4_194_304)?;
-    Ok(digits(alloc, body.as_slice())?)
+    Ok(hex::encode(alloc, body.as_slice())?)
 }
 
 /// The span's message has this length, written as a varint, and stands at the end of the body: the fields that are
@@ -223,7 +209,7 @@ fn writes_groups_in_their_order(rt: HostRuntime) -> Result<(), Fail> {
     })?;
     let body = encode(alloc, groups.as_slice(), 32)?;
     assert_eq!(rt;
-        digits(alloc, body.as_slice())?.as_str(),
+        hex::encode(alloc, body.as_slice())?.as_str(),
         "0a100a0012050a030a017312050a030a01740a0c0a0a0a080a016b12030a0176"
     );
     Ok(())
@@ -497,7 +483,7 @@ fn writes_every_field(rt: HostRuntime) -> Result<(), Fail> {
     let span = full_span(alloc)?;
     let groups = groups_of(alloc, &span)?;
     let body = encode(alloc, groups.as_slice(), 219)?;
-    assert_eq!(rt; digits(alloc, body.as_slice())?.as_str(), FULL_BODY);
+    assert_eq!(rt; hex::encode(alloc, body.as_slice())?.as_str(), FULL_BODY);
     assert_eq!(rt;
         encode(alloc, groups.as_slice(), 218).err(),
         Some(EncodeFault::TooLarge)
@@ -516,7 +502,7 @@ fn is_written(rt: &impl Abort, alloc: Global, size: usize) -> Result<Option<bool
     };
     match encode(&heap, groups.as_slice(), 219) {
         Ok(body) => {
-            let written = digits(alloc, body.as_slice())?;
+            let written = hex::encode(alloc, body.as_slice())?;
             assert_eq!(rt; written.as_str(), FULL_BODY, "at {size}");
             Ok(Some(true))
         }

@@ -5,7 +5,7 @@ use Rattle.std.proofs.lemmas.Bool.Decides.{nat_tests}
 use Rattle.std.proofs.lemmas.List.{map-append, take-append-drop}
 use Rattle.std.proofs.Math.Seq.{drop-cons, take-suc}
 use Rattle.trace_model.specs.Attributes.{Attribute, AttributeList, Kept, Limits, SetsPair, attribute_list, attributes, is_empty}
-use Rattle.trace_model.specs.Spans.{Call, set_attribute, add_link, end, Context, Event, event, event_of, is_ignored, is_valid, no_pairs, is_end, Start, Span, Resource, Scope, Recording, EndedSpan, KeepsPlace, Records, Adds, Ends, span}
+use Rattle.trace_model.specs.Spans.{Call, set_attribute, add_link, end, Context, Event, event, event_limits, event_of, link_limits, is_ignored, is_valid, no_pairs, is_end, Start, Span, Resource, Scope, Recording, EndedSpan, KeepsPlace, Records, Adds, Ends, span}
 use Rattle.trace_model.proofs.Calls.{AddsEvent, adds-attribute, adds-event, adds-counted-event, adds-link, adds-counted-link, span-ended, span-behind, span-unended}
 use Rattle.otlp_value.specs.declared.Value.{Value}
 use Rattle.otlp_value.specs.Value.{attributes_view}
@@ -13,7 +13,7 @@ use Rattle.otlp_span.specs.declared.body.SpanBody.{SpanBody}
 use Rattle.otlp_span.specs.declared.parts.SpanCall.{SpanCall}
 use Rattle.otlp_span.specs.declared.parts.SpanCall.TheVariants as calls
 use Rattle.otlp_span.specs.Body.{IsLimited, recording_view}
-use Rattle.otlp_span.specs.Parts.{attributes_of, call_view, event_limits, link_limits}
+use Rattle.otlp_span.specs.Parts.{attributes_of, call_view}
 use Rattle.otlp_span.specs.Recording.{one_counted, one_kept, with_events, with_links}
 
 pub on-ok : {T E : Type 0} {P Q : Type 0} (r : Result T E) → (P → Q) → OnOk r P → OnOk r Q

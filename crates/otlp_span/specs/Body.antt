@@ -4,7 +4,7 @@ use Rattle.std.specs.Arc.{arc_value}
 use Rattle.trace_model.specs.Spans as model
 use Rattle.otlp_ids.specs.SpanContext.{context_view}
 use Rattle.otlp_span.specs.declared.body.SpanBody.{SpanBody}
-use Rattle.otlp_span.specs.Parts.{attribute_limits, event_view, kind_view, limits_view, link_view, resource_view, scope_view, parent_view, status_view}
+use Rattle.otlp_span.specs.Parts.{event_view, kind_view, limits_view, link_view, resource_view, scope_view, parent_view, status_view}
 
 abbrev pub span_view : {A : Type 0} → SpanBody A → model.Span
 span_view b = record {
@@ -33,4 +33,4 @@ recording_view b = record {
 
 -- the attributes are kept under the limits of the span
 abbrev pub IsLimited : {A : Type 0} → SpanBody A → Type 0
-IsLimited b = b.attributes.limits ≡ attribute_limits (limits_view b.limits)
+IsLimited b = b.attributes.limits ≡ model.attribute_limits (limits_view b.limits)

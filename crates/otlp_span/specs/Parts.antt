@@ -1,5 +1,5 @@
 -- What kinds, limits, resources, scopes, starts, events, links and calls are in the model.
-use Rattle.std.specs.Prelude.{Bool, true, false, ℕ, List, [], map, Option, None, option_map, string_bytes}
+use Rattle.std.specs.Prelude.{Bool, true, false, ℕ, List, [], map, Option, option_map, string_bytes}
 use Rattle.std.specs.Arc.{arc_value}
 use Rattle.trace_model.specs.Spans as model
 use Rattle.trace_model.specs.Attributes as attributes
@@ -84,21 +84,9 @@ opened limits o = record {
   span = model.span (limits_view limits) (start_view o) [];
 }
 
--- the limits of the attributes of a span
-abbrev pub attribute_limits : model.SpanLimits → attributes.Limits
-attribute_limits l = record { count = l.attributes; length = l.value_length }
-
--- those of an event
-abbrev pub event_limits : model.SpanLimits → attributes.Limits
-event_limits l = record { count = l.event_attributes; length = l.value_length }
-
--- those of a link
-abbrev pub link_limits : model.SpanLimits → attributes.Limits
-link_limits l = record { count = l.link_attributes; length = l.value_length }
-
 -- the list that the attributes are set in
 abbrev pub attributes_of : model.Recording → attributes.AttributeList
-attributes_of r = record { limits = attribute_limits r.limits; kept = r.span.attributes }
+attributes_of r = record { limits = model.attribute_limits r.limits; kept = r.span.attributes }
 
 -- the ended span of these calls
 abbrev pub replayed : {A : Type 0} → SpanLimits → Open A → List (SpanCall A) → model.EndedSpan

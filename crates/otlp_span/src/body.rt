@@ -4,7 +4,7 @@ use otlp_value::AttributeList;
 use std::alloc::Allocator;
 use std::sync::Arc;
 
-/// All of a span, in one place on the heap from its start on.
+/// What a span is made of, in a box of its own from its start on.
 #[derive(Drop)]
 #[derive_where(Debug)]
 pub(crate) struct SpanBody<A: Allocator> {

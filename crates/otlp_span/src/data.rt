@@ -11,7 +11,7 @@ use std::alloc::{Allocator, Global};
 use std::marker::Model;
 
 /// A span that has ended, with its resource and its scope (Trace SDK, "Additional Span Interfaces"): it
-/// doesn't change any more. It is as large as a pointer.
+/// doesn't change any more. With an allocator of no size, as `Global`, it is as large as a pointer.
 #[derive(Drop)]
 #[derive_where(Debug)]
 pub struct SpanData<A: Allocator = Global> {
@@ -50,7 +50,7 @@ impl<A: Allocator> SpanData<A> {
         &self.body.resource
     }
 
-    /// The part of it that made the span (Common, "Instrumentation Scope").
+    /// The part of the program that made the span (Common, "Instrumentation Scope").
     pub fn scope(&self) -> &Scope<A>
         ensures { scope_view result.now ≡ self.now.scope }
     {
@@ -100,6 +100,7 @@ impl<A: Allocator> SpanData<A> {
     {
         self.body.attributes.dropped()
     }
+
     /// The events that were kept, in the order in which they were added (Trace API, "Add Events").
     pub fn events(&self) -> &[Event<A>]
         ensures { map event_view result.now ≡ self.now.span.events.items }

@@ -30,7 +30,8 @@ pub(crate) fn exception_attributes<A: Allocator + Copy>(
     stacktrace: String<A>,
     pairs: Vec<(String<A>, Value<A>), A>,
 ) -> Result<AttributeList<A>, OutOfMemory>
-    ensures { let set = exception_pairs (string_bytes exception_type) (string_bytes message) (string_bytes stacktrace) (attributes_view pairs.items) in
+    ensures { let set = exception_pairs (string_bytes exception_type) (string_bytes message)
+        (string_bytes stacktrace) (attributes_view pairs.items) in
         IfOk result (λ list. list ≡ attribute_list (limits_view limits) set) }
 {
     let mut list = AttributeList::new(alloc, limits);

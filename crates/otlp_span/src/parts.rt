@@ -6,9 +6,10 @@ use std::alloc::{Allocator, Global};
 use std::sync::Arc;
 
 /// What a span is to the spans round it (Trace API, "SpanKind").
-#[derive(Debug, Clone, Copy, PartialEq, Eq)]
+#[derive(Debug, Clone, Copy, Default, PartialEq, Eq)]
 pub enum Kind {
-    /// An operation inside a program, with no remote parent or child.
+    /// An operation inside a program, with no remote parent or child. It is the default.
+    #[default]
     Internal,
     /// The handling of a request from elsewhere, whose client waits for the reply.
     Server,
@@ -20,7 +21,8 @@ pub enum Kind {
     Consumer,
 }
 
-/// How much a span keeps (Trace SDK, "Span Limits"). With a limit of 0 it keeps none of that kind.
+/// How much a span keeps (Trace SDK, "Span Limits"). With a limit of 0 it keeps none of that kind, and of a text that is a
+/// value nothing.
 #[derive(Debug, Clone, Copy, PartialEq, Eq)]
 pub struct SpanLimits {
     /// How many attributes, by distinct keys (`AttributeCountLimit`).
@@ -40,7 +42,8 @@ pub struct SpanLimits {
 
 impl SpanLimits {
     ghost use Rattle.otlp_value.specs.Value as values;
-    ghost use Rattle.otlp_span.specs.Parts.{attribute_limits, event_limits, limits_view, link_limits};
+    ghost use Rattle.trace_model.specs.Spans.{attribute_limits, event_limits, link_limits};
+    ghost use Rattle.otlp_span.specs.Parts.{limits_view};
 
     /// Those of the attributes of the span.
     pub(crate) fn of_span(&self) -> Limits
@@ -131,7 +134,7 @@ pub struct Open<A: Allocator = Global> {
     pub parent: Option<SpanId>,
     /// What makes the span, shared with its other spans.
     pub resource: Arc<Resource<A>, A>,
-    /// The part of it that makes the span, shared with its other spans.
+    /// The part of the program that makes the span, shared with its other spans.
     pub scope: Arc<Scope<A>, A>,
     /// The span's name.
     pub name: String<A>,

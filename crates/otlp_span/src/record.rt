@@ -3,7 +3,7 @@ ghost use Rattle.trace_model.specs.Spans as model;
 ghost use Rattle.trace_model.specs.Spans.{Adds, Ends, is_ignored};
 ghost use Rattle.otlp_ids.specs.SpanContext.{context_view};
 ghost use Rattle.otlp_value.specs.AttributeList.{TakesPlace};
-ghost use Rattle.otlp_value.specs.Value.{attributes_view, value_view};
+ghost use Rattle.otlp_value.specs.Value.{attribute_view, attributes_view};
 ghost use Rattle.otlp_span.specs.Parts.{attributes_of, opened, status_view};
 ghost use Rattle.otlp_span.specs.Recording.{HasRoom, one_counted, one_kept, with_events, with_links};
 
@@ -16,8 +16,8 @@ use otlp_value::{AttributeList, Value};
 use std::alloc::{Allocator, Global};
 use std::marker::Model;
 
-/// A span while it is recorded (Trace API, "Span"): calls on it count until it is closed. It is as large as
-/// a pointer.
+/// A span while it is recorded (Trace API, "Span"): calls on it count until it is closed. One that is let go without that
+/// has ended nowhere. With an allocator of no size, as `Global`, it is as large as a pointer.
 #[derive(Drop)]
 #[derive_where(Debug)]
 pub struct SpanRecord<A: Allocator = Global> {
@@ -86,17 +86,17 @@ impl<A: Allocator + Copy> SpanRecord<A> {
 impl<A: Allocator> SpanRecord<A> {
     /// Sets an attribute (Trace API, "Set Attributes"; Trace SDK, "Span Limits"). A key that is there keeps
     /// its place and gets the value; a new one is appended. A pair with an empty key is ignored, and one with
-    /// a new key is discarded and counted where as many keys are kept as the limit allows. Texts of the value are
-    /// cut to the limit on their length.
+    /// a new key is discarded and counted where as many keys are kept as the limit allows (profile). Texts of the value
+    /// are cut to the limit on their length.
     ///
     /// # Errors
     ///
-    /// `OutOfMemory` where a new key could not be stored; the record is then unchanged.
+    /// `OutOfMemory` where a new key that is to be kept could not be stored; the record is then unchanged.
     pub fn set_attribute(&mut self, key: String<A>, value: Value<A>) -> Result<(), OutOfMemory>
-        ensures ok { let call = model.set_attribute (record { key = string_bytes key; value = value_view value }) in
+        ensures ok { let call = model.set_attribute (attribute_view (key, value)) in
             OnOk result (Adds call self.old self.new) }
         ensures err { OnErr result (self.new ≡ self.old) }
-        ensures in_place { OnErr result (TakesPlace (string_bytes key) (attributes_of self.old)) }
+        ensures refused_only_where_kept { OnErr result (TakesPlace (string_bytes key) (attributes_of self.old)) }
     {
         self.body.attributes.set(key, value)
     }
@@ -132,7 +132,8 @@ impl<A: Allocator> SpanRecord<A> {
 impl<A: Allocator + Copy> SpanRecord<A> {
     /// Adds an event at a moment, in nanoseconds since 1970 (Trace API, "Add Events"; Trace SDK, "Span Limits"). It
     /// has the first of its attributes, by distinct keys, up to the limit, each with its last value, whose texts are
-    /// cut. Where as many events are kept as the limit allows, it is discarded and counted, and takes no memory.
+    /// cut. Where as many events are kept as the limit allows, it is discarded and counted, and takes no memory (that the
+    /// first are kept: profile).
     ///
     /// # Errors
     ///
@@ -146,7 +147,7 @@ impl<A: Allocator + Copy> SpanRecord<A> {
         ensures ok { let call = model.add_event (string_bytes name) timestamp (attributes_view attributes.items) in
             OnOk result (Adds call self.old self.new) }
         ensures err { OnErr result (self.new ≡ self.old) }
-        ensures in_place { OnErr result (HasRoom self.old.limits.events self.old.span.events) }
+        ensures refused_only_where_kept { OnErr result (HasRoom self.old.limits.events self.old.span.events) }
     {
         if !self.has_room_for_event() {
             self.count_event();
@@ -160,8 +161,8 @@ impl<A: Allocator + Copy> SpanRecord<A> {
 
     /// Adds an event for an exception, at a moment in nanoseconds since 1970 (Trace API, "Record Exception";
     /// Semantic Conventions, "Exceptions"). It is named `exception` and has the attributes `exception.type`,
-    /// `exception.message` and `exception.stacktrace`, those with an empty text left out; then the others are set,
-    /// which replace them under the same keys. The limits are those of `add_event`.
+    /// `exception.message` and `exception.stacktrace`, those with an empty text left out (profile); then the others are
+    /// set, which replace them under the same keys. The limits are those of `add_event`.
     ///
     /// # Errors
     ///
@@ -174,10 +175,11 @@ impl<A: Allocator + Copy> SpanRecord<A> {
         timestamp: u64,
         attributes: Vec<(String<A>, Value<A>), A>,
     ) -> Result<(), OutOfMemory>
-        ensures ok { let call = model.record_exception (string_bytes exception_type) (string_bytes message) (string_bytes stacktrace) timestamp (attributes_view attributes.items) in
+        ensures ok { let call = model.record_exception (string_bytes exception_type) (string_bytes message)
+            (string_bytes stacktrace) timestamp (attributes_view attributes.items) in
             OnOk result (Adds call self.old self.new) }
         ensures err { OnErr result (self.new ≡ self.old) }
-        ensures in_place { OnErr result (HasRoom self.old.limits.events self.old.span.events) }
+        ensures refused_only_where_kept { OnErr result (HasRoom self.old.limits.events self.old.span.events) }
     {
         if !self.has_room_for_event() {
             self.count_event();
@@ -196,10 +198,11 @@ impl<A: Allocator + Copy> SpanRecord<A> {
         self.push_event(String::from_str(alloc, "exception")?, timestamp, attributes)
     }
 
-    /// Links the span to another one (Trace API, "Link"; Trace SDK, "Span Limits"). The link has the first of its
+    /// Links the span to another one (Trace API, "Add Link"; Trace SDK, "Span Limits"). The link has the first of its
     /// attributes, by distinct keys, up to the limit, each with its last value, whose texts are cut. One to an
     /// invalid context, without attributes and with an empty trace state is ignored. Where as many links are kept as
-    /// the limit allows, another one is discarded and counted. Neither takes memory.
+    /// the limit allows, another one is discarded and counted. Neither takes memory. (That an ignored link isn't counted, and
+    /// that the first are kept: profile.)
     ///
     /// # Errors
     ///
@@ -212,8 +215,9 @@ impl<A: Allocator + Copy> SpanRecord<A> {
         ensures ok { let call = model.add_link (context_view span_context) (attributes_view attributes.items) in
             OnOk result (Adds call self.old self.new) }
         ensures err { OnErr result (self.new ≡ self.old) }
-        ensures in_place { OnErr result (HasRoom self.old.limits.links self.old.span.links) }
-        ensures says_something { OnErr result (is_ignored (context_view span_context) (attributes_view attributes.items) ≡ false) }
+        ensures refused_only_where_kept { OnErr result (HasRoom self.old.limits.links self.old.span.links) }
+        ensures says_something { OnErr result
+            (is_ignored (context_view span_context) (attributes_view attributes.items) ≡ false) }
     {
         if is_ignored_link(&span_context, &attributes) {
             return Ok(());
@@ -251,7 +255,11 @@ impl<A: Allocator> SpanRecord<A> {
         timestamp: u64,
         attributes: AttributeList<A>,
     ) -> Result<(), OutOfMemory>
-        ensures ok { let event : model.Event = record { at = timestamp; name = string_bytes name; attributes = attributes.kept } in
+        ensures ok { let event : model.Event = record {
+          at = timestamp;
+          name = string_bytes name;
+          attributes = attributes.kept;
+        } in
             OnOk result (self.new ≡ with_events self.old (one_kept self.old.span.events event)) }
         ensures err { OnErr result (self.new ≡ self.old) }
     {
@@ -285,7 +293,10 @@ impl<A: Allocator> SpanRecord<A> {
         span_context: SpanContext<A>,
         attributes: AttributeList<A>,
     ) -> Result<(), OutOfMemory>
-        ensures ok { let link : model.Link = record { context = context_view span_context; attributes = attributes.kept } in
+        ensures ok { let link : model.Link = record {
+          context = context_view span_context;
+          attributes = attributes.kept;
+        } in
             OnOk result (self.new ≡ with_links self.old (one_kept self.old.span.links link)) }
         ensures err { OnErr result (self.new ≡ self.old) }
     {

@@ -1,10 +1,4 @@
-mod events;
-mod lengths;
-mod links;
 mod refusals;
-mod replays;
-mod spans;
-mod statuses;
 
 use super::*;
 use otlp_ids::{OutOfMemory, SpanContext, SpanId, TraceFlags, TraceId};
@@ -12,6 +6,7 @@ use otlp_value::Value;
 use std::alloc::Allocator;
 use std::process::Abort;
 use std::sync::Arc;
+use std::test::Fail;
 
 const TRACE: TraceId = TraceId([1, 2, 3, 4, 5, 6, 7, 8, 9, 10, 11, 12, 13, 14, 15, 16]);
 
@@ -30,19 +25,6 @@ const FEW: SpanLimits = SpanLimits {
     max_attributes_per_link: 5,
     max_attribute_value_length: None,
 };
-
-const NOTHING: SpanLimits = SpanLimits {
-    max_attributes_per_span: 0,
-    max_events_per_span: 0,
-    max_links_per_span: 0,
-    max_attributes_per_event: 0,
-    max_attributes_per_link: 0,
-    max_attribute_value_length: None,
-};
-
-fn text<A: Allocator + Copy>(alloc: A, text: &str) -> Result<Value<A>, OutOfMemory> {
-    Ok(Value::Text(String::from_str(alloc, text)?))
-}
 
 /// The attributes with these keys and numbers.
 fn numbers<A: Allocator + Copy>(
@@ -63,7 +45,8 @@ fn texts<A: Allocator + Copy>(
 ) -> Result<Vec<(String<A>, Value<A>), A>, OutOfMemory> {
     let mut all = Vec::new(alloc);
     for (key, value) in pairs {
-        all.push((String::from_str(alloc, key)?, text(alloc, value)?))?;
+        let value = Value::Text(String::from_str(alloc, value)?);
+        all.push((String::from_str(alloc, key)?, value))?;
     }
     Ok(all)
 }
@@ -105,10 +88,6 @@ fn opening<A: Allocator + Copy>(alloc: A) -> Result<Open<A>, OutOfMemory> {
         kind: Kind::Server,
         start: START,
     })
-}
-
-fn open<A: Allocator + Copy>(alloc: A, limits: &SpanLimits) -> Result<SpanRecord<A>, OutOfMemory> {
-    SpanRecord::open(alloc, opening(alloc)?, limits)
 }
 
 fn set<A: Allocator + Copy>(
@@ -322,5 +301,51 @@ fn assert_every_call<A: Allocator + Copy>(
     assert_eq!(rt; span.links(), links.as_slice());
     assert_eq!(rt; span.dropped_links_count(), 1);
     assert_eq!(rt; *span.status(), error(alloc, "failed")?);
+    Ok(())
+}
+
+#[test]
+fn a_span_keeps_what_it_is_opened_with(rt: HostRuntime) -> Result<(), Fail> {
+    let alloc = rt.alloc();
+    let record = SpanRecord::open(alloc, opening(alloc)?, &SpanLimits::default())?;
+    let span = record.close(2_000);
+    let context = span.context();
+    assert_eq!(rt; (context.trace, context.span), (TRACE, SPAN));
+    assert_eq!(rt; (context.flags, context.remote), (TraceFlags(3), true));
+    assert_eq!(rt; context.state.as_str(), "vendor=36");
+    assert_eq!(rt; span.parent_span_id(), Some(PARENT));
+    assert_eq!(rt; span.kind(), Kind::Server);
+    let resource = span.resource();
+    assert_eq!(rt;
+        resource.attributes.as_slice(),
+        numbers(alloc, &[("host", 33)])?.as_slice()
+    );
+    assert_eq!(rt; resource.schema_url.as_str(), "urn:resource");
+    let scope = span.scope();
+    assert_eq!(rt;
+        (scope.name.as_str(), scope.version.as_str()),
+        ("library", "1.2")
+    );
+    assert_eq!(rt;
+        scope.attributes.as_slice(),
+        numbers(alloc, &[("build", 34), ("patch", 35)])?.as_slice()
+    );
+    assert_eq!(rt; scope.schema_url.as_str(), "urn:scope");
+    assert_is(&rt, alloc, &span, 2_000, &[], 0)?;
+    assert!(rt; span.events().is_empty());
+    assert_eq!(rt; span.dropped_events_count(), 0);
+    assert!(rt; span.links().is_empty());
+    assert_eq!(rt; span.dropped_links_count(), 0);
+    assert_eq!(rt; *span.status(), Status::Unset);
+    Ok(())
+}
+
+#[test]
+fn calls_of_each_kind_are_replayed(rt: HostRuntime) -> Result<(), Fail> {
+    let alloc = rt.alloc();
+    let mut calls = every_call(alloc)?;
+    calls.push(SpanCall::End(2_000))?;
+    let span = replay(alloc, opening(alloc)?, &ONE_LINK, calls.as_slice())?;
+    assert_every_call(&rt, alloc, &span)?;
     Ok(())
 }

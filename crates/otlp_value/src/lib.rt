@@ -79,7 +79,8 @@ pub struct Limits {
     pub value_length: Option<u32>,
 }
 
-/// Attributes under distinct keys, in the order in which the keys were first set.
+/// Attributes under distinct keys, in the order in which the keys were first set (OpenTelemetry Common, "Attribute
+/// Limits"): as many as its limits allow.
 #[derive(Drop)]
 #[derive_where(Debug)]
 pub struct AttributeList<A: Allocator = Global> {
@@ -115,8 +116,8 @@ impl<A: Allocator> AttributeList<A> {
 
     /// Sets an attribute (OpenTelemetry Trace SDK, "Span Limits"; Common, "Attribute"). A key that is there
     /// keeps its place and gets the value; a new one is appended. A pair with an empty key is ignored. One
-    /// with a new key is discarded, and counted, where as many keys are kept as the limit allows. A text that
-    /// is kept, and each of an array, is cut to the limit on its length; a key never is.
+    /// with a new key is discarded, and counted, where as many keys are kept as the limit allows (profile). A text
+    /// that is kept, and each of an array, is cut to the limit on its length; a key never is.
     ///
     /// # Errors
     ///
@@ -124,7 +125,7 @@ impl<A: Allocator> AttributeList<A> {
     pub fn set(&mut self, key: String<A>, value: Value<A>) -> Result<(), OutOfMemory>
         ensures ok { OnOk result (SetsPair (attribute_view (key, value)) self.old self.new) }
         ensures err { OnErr result (self.new ≡ self.old) }
-        ensures in_place { OnErr result (TakesPlace (string_bytes key) self.old) }
+        ensures refused_only_where_kept { OnErr result (TakesPlace (string_bytes key) self.old) }
     {
         if key.is_empty() {
             return Ok(());
@@ -145,7 +146,7 @@ impl<A: Allocator> AttributeList<A> {
         &self.pairs
     }
 
-    /// How many pairs were discarded for want of room; it stops at 2^32 - 1.
+    /// How many pairs were discarded for want of room; it stops at 2^32 - 1 (profile).
     pub fn dropped(&self) -> u32
         ensures { result ≡ self.now.kept.dropped }
     {

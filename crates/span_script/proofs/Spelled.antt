@@ -1,14 +1,12 @@
 -- What a word is read as, it spells, and what it spells, it is read as.
-use Rattle.std.proofs.Common.{◌≡◌, ◌≢◌, ℕ, ◌<◌, false, eqb, List, [], ◌∷◌, ◌++◌, length, Option, Some, None, String, string_bytes, Result, Ok, Err, inl, inr, refl, sym, ap, ◌∙◌, subst, arith, codes}
-use Rattle.std.specs.Prelude.{option_map, option_and_then, bytes_eq, IfOk}
+use Rattle.std.proofs.Common.{◌≡◌, ◌≢◌, ℕ, ◌<◌, false, eqb, List, [], ◌∷◌, ◌++◌, length, Option, Some, None, inl, inr, refl, sym, ap, ◌∙◌, subst, arith, codes}
+use Rattle.std.specs.Prelude.{option_map, option_and_then, bytes_eq}
 use Rattle.std.specs.Str.{IsUtf8, is_utf8}
 use Rattle.std.proofs.lemmas.Bool.{cases_Bool, eqb-true, eqb-false, ne_eqb}
 use Rattle.std.proofs.lemmas.Option.{cond_some}
 use Rattle.std.proofs.lemmas.Slice.Eq.{bytes_eq-Decides}
 use Rattle.std.proofs.lemmas.Str.{IsUtf8-from_is_utf8, is_utf8-from_IsUtf8}
-use Rattle.span_script.specs.Words.{Gives, ◌>>=◌, hex_byte, bytes_of, utf8_of, text_of, first_byte_of, in_front, SpellsByte, SpellsBytes, SpellsText}
-use Rattle.span_script.specs.declared.words.Fault.{Fault}
-use Rattle.span_script.specs.declared.words.Fault.TheVariants.{Bad, OutOfMemory}
+use Rattle.span_script.specs.Words.{◌>>=◌, hex_byte, bytes_of, utf8_of, text_of, first_byte_of, in_front, SpellsByte, SpellsBytes, SpellsText}
 use Rattle.span_script.proofs.Texts.{begins, first_and_rest}
 
 -- ---- one byte
@@ -120,7 +118,7 @@ some_read : (c : ℕ) (cs t : List ℕ) → SpellsBytes (c ∷ cs) t → 0 < len
 some_read c cs [] h = cc
 some_read c cs (b ∷ bs) h = omega arith
 
-text_spelled : (w t : List ℕ) → text_of w ≡ Some t → SpellsText w t
+pub text_spelled : (w t : List ℕ) → text_of w ≡ Some t → SpellsText w t
 unfolding text_of
 text_spelled [] t e = cc
 text_spelled (c ∷ cs) t e = elim (cases_Bool (bytes_eq (c ∷ cs) (codes "%"))) [
@@ -144,18 +142,7 @@ text_bytes (c ∷ cs) t some e u = elim (cases_Bool (bytes_eq (c ∷ cs) (codes 
   | inr h ↦ rw h (ap (λ o. o >>= utf8_of) e ∙ rw (is_utf8-from_IsUtf8 t u) refl)
 ]
 
-text_again : (w t : List ℕ) → SpellsText w t → text_of w ≡ Some t
+pub text_again : (w t : List ℕ) → SpellsText w t → text_of w ≡ Some t
 unfolding text_of
 text_again w t (inl p) = rw (p.0, p.1) refl
 text_again w t (inr p) = text_bytes w t p.0 (bytes_again t w p.1) p.2
-
--- ---- what the code gives
-
-pub gives_spelled : {A : Type 0} (r : Result (String A) Fault) (w : List ℕ) → Gives string_bytes r (text_of w) → IfOk r (λ t. SpellsText w (string_bytes t))
-gives_spelled (Ok t) w e = text_spelled w (string_bytes t) e
-gives_spelled (Err fault) w e = tt
-
-pub gives_only : {A : Type 0} (r : Result (String A) Fault) (w : List ℕ) → Gives string_bytes r (text_of w) → (t : List ℕ) → SpellsText w t → Gives string_bytes r (Some t)
-gives_only (Ok x) w e t h = sym (text_again w t h) ∙ e
-gives_only (Err Bad) w e t h = sym (text_again w t h) ∙ e
-gives_only (Err OutOfMemory) w e t h = tt

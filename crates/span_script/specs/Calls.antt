@@ -44,11 +44,15 @@ link_call _ = None
 
 -- a status that has no description
 unfoldable pub plain_status_of : List ℕ → Option Status
-plain_status_of name = if bytes_eq name (codes "unset") then Some unset else if bytes_eq name (codes "ok") then Some ok else None
+plain_status_of name =
+    if bytes_eq name (codes "unset") then Some unset
+    else if bytes_eq name (codes "ok") then Some ok
+    else None
 
 -- one that has
 unfoldable pub described_status_of : List ℕ → List ℕ → Option Status
-described_status_of name description = if bytes_eq name (codes "error") then option_map error (text_of description) else None
+described_status_of name description =
+    if bytes_eq name (codes "error") then option_map error (text_of description) else None
 
 -- `unset`, `ok` or `error TEXT`
 unfoldable pub status_call : List (List ℕ) → Option Call

@@ -35,7 +35,10 @@ joined_context_of remote word = do
 
 -- whether the context behind `remote:` or `local:` is remote (Trace API, IsRemote)
 unfoldable pub is_remote_of : List ℕ → Option Bool
-is_remote_of side = if bytes_eq side (codes "remote") then Some true else if bytes_eq side (codes "local") then Some false else None
+is_remote_of side =
+    if bytes_eq side (codes "remote") then Some true
+    else if bytes_eq side (codes "local") then Some false
+    else None
 
 -- a context behind one of these
 unfoldable pub given_of : List ℕ → List ℕ → Option Parent
@@ -43,7 +46,8 @@ given_of side context = is_remote_of side >>= λ remote. option_map given (joine
 
 -- `root`, or the number of a span
 unfoldable pub plain_parent_of : List ℕ → Option Parent
-plain_parent_of word = if bytes_eq word (codes "root") then Some root else option_map numbered (number_below (2 ^ 32) word)
+plain_parent_of word =
+    if bytes_eq word (codes "root") then Some root else option_map numbered (number_below (2 ^ 32) word)
 
 abbrev pub parent_at : List ℕ → Option (List ℕ × List ℕ) → Option Parent
 parent_at word None = plain_parent_of word

@@ -31,7 +31,8 @@ pub data Line : Type 0 where
 
 -- an end is a call
 abbrev pub step_view : {A : Type 0} → CodeStep A → Step
-step_view (steps.Start number parent kind at name) = start number (parent_view parent) (kind_view kind) at (string_bytes name)
+step_view (steps.Start number parent kind at name) =
+    start number (parent_view parent) (kind_view kind) at (string_bytes name)
 step_view (steps.Call span called) = call span (call_view called)
 step_view (steps.End span at) = call span (spans.end at)
 
@@ -40,7 +41,13 @@ line_view (lines.Words ws) = words ws.items
 line_view (lines.Sampler name) = sampler name
 line_view (lines.Limits l) = limits (limits_view l)
 line_view (lines.Resource key value) = resource (attribute_view (key, value))
-line_view (lines.Scope number name version schema) = scope number (record { name = string_bytes name; version = string_bytes version; attributes = []; schema = string_bytes schema })
+line_view (lines.Scope number name version schema) =
+    scope number (record {
+      name = string_bytes name;
+      version = string_bytes version;
+      attributes = [];
+      schema = string_bytes schema;
+    })
 line_view (lines.Step s) = step (step_view s)
 
 -- ---- what the words of a line spell
@@ -77,8 +84,8 @@ sampler_line _ = None
 unfoldable pub length_of : List ℕ → Option (Option ℕ)
 length_of word = if bytes_eq word (codes "none") then Some None else option_map Some (number_below (2 ^ 32) word)
 
--- How many attributes, events and links of a span, and attributes of an event and of a link; and the length of a text in
--- an attribute. (Trace SDK, Span Limits; Common, Attribute Limits)
+-- How many attributes, events and links of a span, and attributes of an event and of a link; and the length of a text
+-- in an attribute. (Trace SDK, Span Limits; Common, Attribute Limits)
 unfoldable pub limits_of : List ℕ → List ℕ → List ℕ → List ℕ → List ℕ → List ℕ → Option spans.SpanLimits
 limits_of attributes events links event_attributes link_attributes value_length = do
   a ← number_below (2 ^ 32) attributes

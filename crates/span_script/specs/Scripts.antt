@@ -25,9 +25,16 @@ no_script = record { words = []; sampler = None; limits = None; resource = []; s
 
 -- 128 of each, and texts of any length (Trace SDK, Span Limits; Common, Attribute Limits)
 abbrev pub default_limits : spans.SpanLimits
-default_limits = record { attributes = 128; events = 128; links = 128; event_attributes = 128; link_attributes = 128; value_length = None }
+default_limits = record {
+  attributes = 128;
+  events = 128;
+  links = 128;
+  event_attributes = 128;
+  link_attributes = 128;
+  value_length = None;
+}
 
--- a resource keeps all of its keys
+-- a resource keeps the first 2^32 - 1 of its keys, and texts of any length (profile)
 abbrev pub all_kept : attributes.Limits
 all_kept = record { count = 2 ^ 32 - 1; length = None }
 
@@ -35,8 +42,8 @@ abbrev pub no_items : {A : Type 0} → List A → Bool
 no_items [] = true
 no_items (x ∷ xs) = false
 
--- Whether a line may follow those of a script: settings stand before the first step, the one scope has the number 0, and
--- the sampler and the limits are set once.
+-- Whether a line may follow those of a script: settings stand before the first step, the one scope has the number 0,
+-- and the sampler and the limits are set once.
 abbrev pub fits : Script → Line → Bool
 fits s (words ws) = no_items s.steps
 fits s (sampler name) = no_items s.steps && not (is_some s.sampler)

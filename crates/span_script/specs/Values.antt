@@ -6,7 +6,10 @@ use Rattle.span_script.specs.Words.{◌>>=◌, in_front, each_of, signed_number,
 
 -- `true` or `false`
 unfoldable pub bool_of : List ℕ → Option Bool
-bool_of word = if bytes_eq word (codes "true") then Some true else if bytes_eq word (codes "false") then Some false else None
+bool_of word =
+    if bytes_eq word (codes "true") then Some true
+    else if bytes_eq word (codes "false") then Some false
+    else None
 
 -- the members of an array, with commas (44) between them
 abbrev pub members_of : List ℕ → List (List ℕ)

@@ -1,5 +1,5 @@
 -- What the words of a line stand for: a word is a list of bytes without a space.
-use Rattle.std.specs.Prelude.{◌≡◌, ◌≢◌, ◌⊎◌, ◌<◌, ◌++◌, ℕ, ◌+◌, ◌-◌, ◌*◌, ◌^◌, ◌==◌, ◌&&◌, nat_lt, ℤ, pos, neg_ℤ, List, [], ◌∷◌, length, take, drop, position, Bool, false, if◌then◌else◌, Option, Some, None, option_map, bytes_eq, codes, Result, Ok, Err}
+use Rattle.std.specs.Prelude.{◌≡◌, ◌≢◌, ◌⊎◌, ◌↔◌, ◌<◌, ◌++◌, ℕ, ◌+◌, ◌-◌, ◌*◌, ◌^◌, ◌==◌, ◌&&◌, nat_lt, ℤ, pos, neg_ℤ, List, [], ◌∷◌, length, take, drop, position, Bool, false, if◌then◌else◌, Option, Some, None, option_map, bytes_eq, codes, Result, Ok, Err}
 use Rattle.std.specs.Int.{w64, from_be_bytes}
 use Rattle.std.specs.Result.{result_ok}
 use Rattle.std.specs.Str.{IsUtf8, is_utf8, all_ascii_digits}
@@ -27,7 +27,8 @@ decimal_value (c ∷ cs) = (c - 48) * 10 ^ length cs + decimal_value cs
 
 -- the number that a word writes, if it is below the limit
 unfoldable pub number_below : ℕ → List ℕ → Option ℕ
-number_below limit word = if is_number word && nat_lt (decimal_value word) limit then Some (decimal_value word) else None
+number_below limit word =
+    if is_number word && nat_lt (decimal_value word) limit then Some (decimal_value word) else None
 
 -- a whole number of 64 bits, with `-` (45) in front where it is below 0
 unfoldable pub signed_number : List ℕ → Option ℤ
@@ -115,9 +116,14 @@ SpellsByte piece b =
 -- bytes are spelled one after the other
 abbrev pub SpellsBytes : List ℕ → List ℕ → Type 0
 SpellsBytes word [] = word ≡ []
-SpellsBytes word (b ∷ bs) = (piece : List ℕ) × (rest : List ℕ) × (word ≡ piece ++ rest) × SpellsByte piece b × SpellsBytes rest bs
+SpellsBytes word (b ∷ bs) =
+    (piece : List ℕ) × (rest : List ℕ) × (word ≡ piece ++ rest) × SpellsByte piece b × SpellsBytes rest bs
 
 -- a text without bytes is spelled `%`, any other byte by byte
 abbrev pub SpellsText : List ℕ → List ℕ → Type 0
 SpellsText word text =
     ((word ≡ 37 ∷ []) × (text ≡ [])) ⊎ ((0 < length text) × SpellsBytes word text × IsUtf8 text)
+
+-- a word stands for a text just where it spells it (profile)
+abbrev pub TextsAreSpelled : Type 0
+TextsAreSpelled = (word text : List ℕ) → (text_of word ≡ Some text) ↔ SpellsText word text

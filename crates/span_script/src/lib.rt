@@ -48,3 +48,4 @@ mod words;
 pub use sampler::SamplerName;
 pub use script::{Script, ScriptError};
 pub use step::{Parent, Step};
+pub use words::texts_are_spelled;

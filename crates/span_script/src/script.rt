@@ -32,7 +32,7 @@ pub struct Script<A: Allocator = Global> {
 }
 
 /// Why a text is no script.
-#[derive(Debug, Drop, PartialEq, Eq, Error)]
+#[derive(Debug, Clone, Copy, PartialEq, Eq, Error)]
 pub enum ScriptError {
     /// The line with this number is the first bad one. All lines count, empty ones too, from 1 on.
     #[error("line {0}: bad script")]

@@ -1,7 +1,7 @@
 //! The words of a line: numbers, hexadecimal digits, and texts.
 
-ghost use Rattle.std.specs.Prelude.{List, ℕ, ◌≡◌, ◌^◌, ◌==◌, map, IfOk, option_map, ok_or, string_bytes};
-ghost use Rattle.span_script.specs.Words.{Gives, each_of, number_below, signed_number, hex_word, hex_byte, byte_of, around_colon_of, first_byte_of, bytes_of, utf8_of, text_of, SpellsText};
+ghost use Rattle.std.specs.Prelude.{◌≡◌, ◌^◌, ◌==◌, map, IfOk, option_map, ok_or, string_bytes};
+ghost use Rattle.span_script.specs.Words.{Gives, each_of, number_below, signed_number, hex_word, hex_byte, byte_of, around_colon_of, first_byte_of, bytes_of, utf8_of, text_of, TextsAreSpelled};
 ghost use Rattle.std.specs.List.{slice_split};
 ghost use Rattle.std.specs.Str.{all_ascii_digits};
 ghost use Rattle.span_script.specs.declared.words.Fault.TheVariants.{Bad, OutOfMemory};
@@ -184,17 +184,8 @@ fn utf8<A: Allocator>(bytes: Vec<u8, A>) -> Option<String<A>>
 
 /// A text: `%` and two hexadecimal digits are that byte, any other byte stands for itself, and the whole
 /// is UTF-8. The text of no bytes is spelled `%` alone.
-pub(crate) fn text<A: Allocator>(alloc: A, word: &[u8]) -> Result<String<A>, Fault>
-    ensures exact { Gives string_bytes result (text_of word.now) }
-    ensures spelled { IfOk result (λ text. SpellsText word.now (string_bytes text)) }
-    ensures only { (text : List ℕ) → SpellsText word.now text → Gives string_bytes result (Some text) }
-{
-    spelled_text(alloc, word)
-}
-
-/// The text that a word spells.
 #[tactic(auto, unfolding(crate::specs::Words::text_of))]
-fn spelled_text<A: Allocator>(alloc: A, word: &[u8]) -> Result<String<A>, Fault>
+pub(crate) fn text<A: Allocator>(alloc: A, word: &[u8]) -> Result<String<A>, Fault>
     ensures { Gives string_bytes result (text_of word.now) }
 {
     match word {
@@ -203,3 +194,9 @@ fn spelled_text<A: Allocator>(alloc: A, word: &[u8]) -> Result<String<A>, Fault>
         _ => utf8(unescaped(alloc, word)?).ok_or(Fault::Bad),
     }
 }
+
+/// A word stands for a text just where it spells it: each byte of the text by itself, unless it is `%`, or by `%` and
+/// two hexadecimal digits, one byte after the other; and a text without bytes by `%` alone. (profile)
+pub fn texts_are_spelled()
+    ensures { TextsAreSpelled }
+{}

@@ -1,12 +1,13 @@
 -- The identifiers of a span, drawn one after the other.
-use Rattle.std.proofs.Common.{◌≡◌, refl, sym, ap, ◌∙◌, ℕ, zero, suc, ◌+◌, add-zero, add-suc, zero-add, arith, List, Option, Some, None, option_map}
+use Rattle.std.proofs.Common.{◌≡◌, refl, sym, ap, subst, ◌∙◌, ℕ, zero, suc, ◌+◌, add-zero, add-suc, zero-add, arith, List, Option, Some, None, option_map}
 use mathlib.Core.Path.{fun_ext}
 use Rattle.rand_core.specs.Stream.{Stream, next_u64}
 use Rattle.trace_model.specs.Spans.{Context}
 use Rattle.trace_model.specs.Identifiers.{Words, span_id, words_after, words_spent}
+use Rattle.trace_model.specs.Sampling.{Decision}
 use Rattle.trace_model.specs.Starts.{Ids, Tracer, Asked, trace_of, trace_words, ids_of, ids_words, decided, started, started_as}
 use Rattle.otlp_ids.specs.WordStream.{after_words, words_of}
-use Rattle.trace_api.specs.Starts.{Spends}
+use Rattle.trace_api.specs.Starts.{Spends, TakesMemory}
 
 after-both : (a b : ℕ) (s : Stream) → after_words b (after_words a s) ≡ after_words (a + b) s
 unfolding after_words
@@ -54,3 +55,8 @@ not-started tracer a words e = rw (← e) refl
 pub has-started : (tracer : Tracer) (a : Asked) (words : Words) (ids : Ids) → Some ids ≡ ids_of a.parent words → started tracer a words ≡ Some (started_as tracer a ids (decided tracer a ids.trace))
 unfolding started
 has-started tracer a words ids e = rw (← e) refl
+
+-- memory that starting takes, of the same start in other words
+pub takes-memory : (tracer : Tracer) {a b : Asked} (ids : Ids) {d e : Decision} → a ≡ b → d ≡ e → TakesMemory (started_as tracer a ids d) → TakesMemory (started_as tracer b ids e)
+takes-memory tracer {a = a} ids {e = e} p q h =
+    subst (λ x. TakesMemory (started_as tracer x ids e)) p (subst (λ y. TakesMemory (started_as tracer a ids y)) q h)

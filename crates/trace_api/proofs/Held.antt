@@ -1,9 +1,8 @@
 -- One more call on a span in the hands of a program.
-use Rattle.std.proofs.Common.{◌≡◌, refl, sym, ap, ◌∙◌, ℕ, List, [], ◌∷◌, ◌++◌, Bool, true, false, not, ◌||◌}
+use Rattle.std.proofs.Common.{◌≡◌, refl, sym, ap, ◌∙◌, ℕ, List, [], ◌∷◌, ◌++◌, Bool, true, false, ◌||◌}
 use Rattle.std.specs.List.{list_any}
 use Rattle.std.proofs.lemmas.List.Folds.{list_any-append}
-use Rattle.std.proofs.lemmas.List.Sums.{take_while-cons}
-use Rattle.trace_model.specs.Spans.{Call, Context, Recording, SpanLimits, Resource, Scope, Span, Start, Adds, end, is_end, live, span}
+use Rattle.trace_model.specs.Spans.{Call, Context, Recording, SpanLimits, Resource, Scope, Span, Start, Adds, end, is_end, span}
 use Rattle.trace_model.proofs.Histories.{all-live}
 use Rattle.trace_model.specs.Sampling.{is_recording}
 use Rattle.trace_api.specs.State.{state_view}

@@ -1,5 +1,5 @@
 -- What calls on a span come to.
-use Rattle.std.specs.Prelude.{◌≡◌, ℕ, List, Bool, true, false, IsTrue}
+use Rattle.std.specs.Prelude.{◌≡◌, ℕ, Bool, true, false, IsTrue}
 use Rattle.trace_model.specs.Spans.{EndedSpan, Recording, Ends}
 use Rattle.trace_model.specs.Identifiers.{has_sampled_flag}
 use Rattle.trace_model.specs.Starts.{SpanState, recording, not_recording, ended}
@@ -7,11 +7,11 @@ use Rattle.trace_api.specs.declared.pass.Ended.{Ended}
 use Rattle.trace_api.specs.declared.pass.Ended.TheVariants.{NotSampled, AlreadyEnded}
 use Rattle.trace_api.specs.Pass.{is_admission}
 
--- this is so of what is recorded
-abbrev pub Wants : (Recording → Type 0) → SpanState → Type 0
-Wants want (recording r) = want r
-Wants want not_recording = ⊥
-Wants want ended = ⊥
+-- the span is recorded, and this is so of what is
+abbrev pub IsRecordingWith : (Recording → Type 0) → SpanState → Type 0
+IsRecordingWith holds (recording r) = holds r
+IsRecordingWith holds not_recording = ⊥
+IsRecordingWith holds ended = ⊥
 
 -- A pass was asked for what is recorded, as it is after this end, and said what became of it.
 pub record Asks {P : Type 0} (admits : P → EndedSpan → Ended → P → Type 0) (at : ℕ) (r : Recording) (old : P) (answer : Ended) (new : P) : Type 0 where

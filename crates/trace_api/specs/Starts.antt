@@ -1,9 +1,10 @@
 -- How a tracer starts spans.
-use Rattle.std.specs.Prelude.{◌≡◌, ℕ, List, [], Option, Some, None, option_map, Result, Ok, Err}
+use Rattle.std.specs.Prelude.{◌≡◌, ◌⊎◌, ℕ, List, [], true, false, Option, Some, None, option_map, Result, Ok, Err}
 use Rattle.rand_core.specs.Stream.{Stream}
 use Rattle.trace_model.specs.Spans.{Context, Resource, Scope, SpanLimits}
+use Rattle.trace_model.specs.Attributes.{is_empty}
 use Rattle.trace_model.specs.Identifiers.{Words, words_after}
-use Rattle.trace_model.specs.Sampling.{Meaning}
+use Rattle.trace_model.specs.Sampling.{Meaning, is_recording}
 use Rattle.trace_model.specs.Starts.{Ids as ModelIds, Asked, Started, Tracer, HeldSpan, asked, held}
 use Rattle.otlp_ids.specs.declared.SpanContext.{SpanContext}
 use Rattle.otlp_ids.specs.SpanContext.{context_view}
@@ -47,12 +48,21 @@ asked_view parent name kind at = asked (parent_view parent) name (kind_view kind
 abbrev pub valid_asked_view : {A : Type 0} → Option (SpanContext A) → List ℕ → Kind → ℕ → Asked
 valid_asked_view parent name kind at = record { parent = parent_view parent; name = name; kind = kind_view kind; at = at }
 
--- What a start answers: the span that starts, before any call, or no randomness exactly where there is none. (Trace SDK,
--- SDK Span creation)
+-- Starting it takes memory: it is recorded, or has a trace state to copy.
+abbrev pub TakesMemory : Started → Type 0
+TakesMemory s = (is_recording s.decision ≡ true) ⊎ (is_empty s.start.context.state ≡ false)
+
+-- The span that starts, before any call, or a refusal where it takes memory.
+abbrev pub OpensAs : {E : Type 0} → Started → Result HeldSpan E → Type 0
+OpensAs s (Ok span) = span ≡ held s []
+OpensAs s (Err fault) = TakesMemory s
+
+-- What a start answers: the span that starts, before any call, or no randomness exactly where there is none. Memory is
+-- refused only where starting takes some. (Trace SDK, SDK Span creation)
 abbrev pub StartsAs : Option Started → Result HeldSpan StartFault → Type 0
 StartsAs there (Ok span) = (s : Started) × (there ≡ Some s) × (span ≡ held s [])
 StartsAs there (Err NoRandomness) = there ≡ None
-StartsAs there (Err OutOfMemory) = (s : Started) × (there ≡ Some s)
+StartsAs there (Err OutOfMemory) = (s : Started) × (there ≡ Some s) × TakesMemory s
 
 -- A generator has given so many words, and no others.
 pub record Spends (spent : Words → ℕ) (old new : Stream) : Type 0 where

@@ -19,7 +19,7 @@ pub enum Ended {
     Handed(u64),
     /// It is dropped.
     Dropped(u64, Reason),
-    /// It ended after the shutdown, and is counted alone.
+    /// It ended after the shutdown, and is only counted.
     Late,
     /// It isn't sampled, so nothing was asked to take it.
     NotSampled,

@@ -1,17 +1,18 @@
 //! What starts spans.
-ghost use Rattle.std.specs.Prelude.{◌≡◌, IfOk, IsTrue, [], option_map, string_bytes};
+ghost use Rattle.std.specs.Prelude.{◌≡◌, IfOk, IsTrue, OnErr, false, option_map, string_bytes};
 ghost use Rattle.std.specs.Arc.{arc_value};
 ghost use Rattle.std.specs.Option.{ForSome, option_copied};
+ghost use Rattle.trace_model.specs.Attributes.{is_empty};
 ghost use Rattle.trace_model.specs.Identifiers.{span_id, words_spent};
 ghost use Rattle.trace_model.specs.Sampling.{valid_parent};
 ghost use Rattle.trace_model.specs.Spans.{is_valid};
 ghost use Rattle.trace_model.specs.Starts as model;
-ghost use Rattle.trace_model.specs.Starts.{held};
 ghost use Rattle.otlp_ids.specs.SpanContext.{context_view};
 ghost use Rattle.otlp_ids.specs.WordStream.{words_of};
 ghost use Rattle.otlp_span.specs.Parts.{limits_view, resource_view, scope_view};
 ghost use Rattle.otlp_sampler.specs.Sampling.{decision_view};
-ghost use Rattle.trace_api.specs.Starts.{Spends, StartsAs, asked_view, ids_view, parent_view, tracer_view, valid_asked_view};
+ghost use Rattle.trace_api.specs.Starts.{OpensAs, Spends, StartsAs, asked_view, ids_view, parent_view, tracer_view};
+ghost use Rattle.trace_api.specs.Starts.{valid_asked_view};
 
 use crate::span::Span;
 use otlp_ids::{OutOfMemory, SpanContext, SpanId, TraceFlags, TraceId};
@@ -119,8 +120,10 @@ struct Ids {
 
 /// The trace of a span with this parent: the parent's, or a new one, unless the generator gives only zeros.
 fn draw_trace<R: Rng, A: Allocator>(rng: &mut R, parent: Option<&SpanContext<A>>) -> Option<TraceId>
-    ensures value { option_map (λ id. id.0) result ≡ model.trace_of (parent_view (option_copied parent.entry)) (words_of (R.stream rng.old)) }
-    ensures spent { Spends (model.trace_words (parent_view (option_copied parent.entry))) (R.stream rng.old) (R.stream rng.new) }
+    ensures value { option_map (λ id. id.0) result ≡
+        model.trace_of (parent_view (option_copied parent.entry)) (words_of (R.stream rng.old)) }
+    ensures spent { Spends (model.trace_words (parent_view (option_copied parent.entry)))
+        (R.stream rng.old) (R.stream rng.new) }
 {
     match parent {
         Some(context) => Some(context.trace),
@@ -138,15 +141,13 @@ fn draw_span<R: Rng>(rng: &mut R) -> Option<SpanId>
 
 /// Draws the identifiers of a span with this parent, unless the generator gives only zeros.
 fn draw_ids<R: Rng, A: Allocator>(rng: &mut R, parent: Option<&SpanContext<A>>) -> Option<Ids>
-    ensures value { option_map ids_view result ≡ model.ids_of (parent_view (option_copied parent.entry)) (words_of (R.stream rng.old)) }
-    ensures spent { Spends (model.ids_words (parent_view (option_copied parent.entry))) (R.stream rng.old) (R.stream rng.new) }
+    ensures value { option_map ids_view result ≡
+        model.ids_of (parent_view (option_copied parent.entry)) (words_of (R.stream rng.old)) }
+    ensures spent { Spends (model.ids_words (parent_view (option_copied parent.entry)))
+        (R.stream rng.old) (R.stream rng.new) }
 {
-    let Some(trace) = draw_trace(rng, parent) else {
-        return None;
-    };
-    let Some(span) = draw_span(rng) else {
-        return None;
-    };
+    let trace = draw_trace(rng, parent)?;
+    let span = draw_span(rng)?;
     Some(Ids { trace, span })
 }
 
@@ -160,27 +161,30 @@ fn child_flags<A: Allocator>(parent: Option<&SpanContext<A>>, sampled: bool) -> 
     }
 }
 
-/// The trace state of a span with this parent: the parent's (W3C Trace Context, "tracestate").
+/// The trace state of a span with this parent: the parent's (W3C Trace Context, "tracestate"). An empty one takes no
+/// memory.
 fn child_state<A: Allocator + Copy>(
     alloc: A,
     parent: Option<&SpanContext<A>>,
 ) -> Result<String<A>, OutOfMemory>
-    ensures { IfOk result (λ state. string_bytes state ≡ model.state_of (parent_view (option_copied parent.entry))) }
+    ensures value { IfOk result (λ state. string_bytes state ≡ model.state_of (parent_view (option_copied parent.entry))) }
+    ensures refused { OnErr result (is_empty (model.state_of (parent_view (option_copied parent.entry))) ≡ false) }
 {
-    match parent {
-        Some(context) => Ok(String::from_str(alloc, context.state.as_str())?),
-        None => Ok(String::new(alloc)),
+    let Some(context) = parent else {
+        return Ok(String::new(alloc));
+    };
+    if context.state.is_empty() {
+        return Ok(String::new(alloc));
     }
+    Ok(String::from_str(alloc, context.state.as_str())?)
 }
 
 /// The identifier of the parent's span, if there is one.
 fn parent_id<A: Allocator>(parent: Option<&SpanContext<A>>) -> Option<SpanId>
-    ensures { option_map (λ id. id.0) result ≡ option_map (λ context. context.span) (parent_view (option_copied parent.entry)) }
+    ensures { option_map (λ id. id.0) result ≡
+        option_map (λ context. context.span) (parent_view (option_copied parent.entry)) }
 {
-    match parent {
-        Some(context) => Some(context.span),
-        None => None,
-    }
+    parent.map(|context| context.span)
 }
 
 impl<'a, S: Sampler, A: Allocator + Copy> Tracer<'a, S, A> {
@@ -192,8 +196,9 @@ impl<'a, S: Sampler, A: Allocator + Copy> Tracer<'a, S, A> {
     ///
     /// # Errors
     ///
-    /// `NoRandomness` where eight draws of an identifier were all zero, `OutOfMemory` where there is no room for the span.
-    /// The words that were drawn are spent, and nothing else changes.
+    /// `NoRandomness` where eight draws of an identifier were all zero, `OutOfMemory` where there is no room for the span;
+    /// one that is dropped takes memory for its parent's trace state alone. The words that were drawn are spent, and
+    /// nothing else changes.
     pub fn start<R: Rng>(
         &self,
         alloc: A,
@@ -203,8 +208,10 @@ impl<'a, S: Sampler, A: Allocator + Copy> Tracer<'a, S, A> {
         kind: Kind,
         at: u64,
     ) -> Result<Span<A>, StartFault>
-        ensures started { StartsAs (model.started (tracer_view S.meaning self.now) (asked_view (option_copied parent.entry) (string_bytes name) kind at) (words_of (R.stream rng.old))) result }
-        ensures spent { Spends (model.ids_words (asked_view (option_copied parent.entry) (string_bytes name) kind at).parent) (R.stream rng.old) (R.stream rng.new) }
+        ensures started { let a = asked_view (option_copied parent.entry) (string_bytes name) kind at in
+            StartsAs (model.started (tracer_view S.meaning self.now) a (words_of (R.stream rng.old))) result }
+        ensures spent { let a = asked_view (option_copied parent.entry) (string_bytes name) kind at in
+            Spends (model.ids_words a.parent) (R.stream rng.old) (R.stream rng.new) }
     {
         let parent = valid(parent);
         let Some(ids) = draw_ids(rng, parent) else {
@@ -231,8 +238,9 @@ impl<'a, S: Sampler, A: Allocator + Copy> Tracer<'a, S, A> {
         kind: Kind,
         at: u64,
     ) -> Result<Span<A>, OutOfMemory>
-        ensures { IfOk result (λ opened. opened ≡ held (model.started_as (tracer_view S.meaning self.now)
-            (valid_asked_view (option_copied parent.entry) (string_bytes name) kind at) (ids_view ids) (decision_view decision)) []) }
+        ensures { OpensAs (model.started_as (tracer_view S.meaning self.now)
+            (valid_asked_view (option_copied parent.entry) (string_bytes name) kind at)
+            (ids_view ids) (decision_view decision)) result }
     {
         let context = SpanContext {
             trace: ids.trace,

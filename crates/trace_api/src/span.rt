@@ -5,10 +5,10 @@ ghost use Rattle.trace_model.specs.Starts as starts;
 ghost use Rattle.trace_model.specs.Starts.{Does, IgnoredUnlessRecording, is_recording_state};
 ghost use Rattle.otlp_ids.specs.SpanContext.{context_view};
 ghost use Rattle.otlp_value.specs.AttributeList.{TakesPlace};
-ghost use Rattle.otlp_value.specs.Value.{attributes_view, value_view};
+ghost use Rattle.otlp_value.specs.Value.{attribute_view, attributes_view};
 ghost use Rattle.otlp_span.specs.Parts.{attributes_of, status_view};
 ghost use Rattle.otlp_span.specs.Recording.{HasRoom};
-ghost use Rattle.trace_api.specs.Calls.{EndsTo, Wants};
+ghost use Rattle.trace_api.specs.Calls.{EndsTo, IsRecordingWith};
 
 use crate::pass::{EndPass, Ended};
 use otlp_ids::{OutOfMemory, SpanContext};
@@ -30,7 +30,7 @@ enum State<A: Allocator> {
 }
 
 /// A span that has started (Trace API, "Span"). Calls on it count until its first end. On a span that its sampler dropped
-/// none does.
+/// none does. A span that is let go without an end goes to no pass: unlike in opentelemetry-rust, nothing ends it.
 #[derive(Debug, Drop)]
 pub struct Span<A: Allocator = Global> {
     context: SpanContext<A>,
@@ -87,13 +87,14 @@ impl<A: Allocator> Span<A> {
     ///
     /// # Errors
     ///
-    /// `OutOfMemory` where a new key could not be stored; the span is then unchanged.
+    /// `OutOfMemory` where a new key that is to be kept could not be stored; the span is then unchanged.
     pub fn set_attribute(&mut self, key: String<A>, value: Value<A>) -> Result<(), OutOfMemory>
-        ensures ok { let call = model.set_attribute (record { key = string_bytes key; value = value_view value }) in
+        ensures ok { let call = model.set_attribute (attribute_view (key, value)) in
             OnOk result (Does call self.old self.new) }
         ensures ignored { IgnoredUnlessRecording self.old self.new }
         ensures err { OnErr result (self.new ≡ self.old) }
-        ensures in_place { OnErr result (Wants (λ r. TakesPlace (string_bytes key) (attributes_of r)) self.old.state) }
+        ensures refused_only_where_kept { OnErr result
+            (IsRecordingWith (λ r. TakesPlace (string_bytes key) (attributes_of r)) self.old.state) }
     {
         let State::Recording(record) = &mut self.state else {
             return Ok(());
@@ -162,7 +163,8 @@ impl<A: Allocator + Copy> Span<A> {
             OnOk result (Does call self.old self.new) }
         ensures ignored { IgnoredUnlessRecording self.old self.new }
         ensures err { OnErr result (self.new ≡ self.old) }
-        ensures in_place { OnErr result (Wants (λ r. HasRoom r.limits.events r.span.events) self.old.state) }
+        ensures refused_only_where_kept { OnErr result
+            (IsRecordingWith (λ r. HasRoom r.limits.events r.span.events) self.old.state) }
     {
         let State::Recording(record) = &mut self.state else {
             return Ok(());
@@ -184,11 +186,13 @@ impl<A: Allocator + Copy> Span<A> {
         timestamp: u64,
         attributes: Vec<(String<A>, Value<A>), A>,
     ) -> Result<(), OutOfMemory>
-        ensures ok { let call = model.record_exception (string_bytes exception_type) (string_bytes message) (string_bytes stacktrace) timestamp (attributes_view attributes.items) in
+        ensures ok { let call = model.record_exception (string_bytes exception_type) (string_bytes message)
+            (string_bytes stacktrace) timestamp (attributes_view attributes.items) in
             OnOk result (Does call self.old self.new) }
         ensures ignored { IgnoredUnlessRecording self.old self.new }
         ensures err { OnErr result (self.new ≡ self.old) }
-        ensures in_place { OnErr result (Wants (λ r. HasRoom r.limits.events r.span.events) self.old.state) }
+        ensures refused_only_where_kept { OnErr result
+            (IsRecordingWith (λ r. HasRoom r.limits.events r.span.events) self.old.state) }
     {
         let State::Recording(record) = &mut self.state else {
             return Ok(());
@@ -196,8 +200,8 @@ impl<A: Allocator + Copy> Span<A> {
         record.record_exception(exception_type, message, stacktrace, timestamp, attributes)
     }
 
-    /// Links the span to another one, as `SpanRecord::add_link` (Trace API, "Link"). It is ignored where calls on the span
-    /// don't count.
+    /// Links the span to another one, as `SpanRecord::add_link` (Trace API, "Add Link"). It is ignored where calls on the
+    /// span don't count.
     ///
     /// # Errors
     ///
@@ -211,8 +215,10 @@ impl<A: Allocator + Copy> Span<A> {
             OnOk result (Does call self.old self.new) }
         ensures ignored { IgnoredUnlessRecording self.old self.new }
         ensures err { OnErr result (self.new ≡ self.old) }
-        ensures in_place { OnErr result (Wants (λ r. HasRoom r.limits.links r.span.links) self.old.state) }
-        ensures says_something { OnErr result (model.is_ignored (context_view span_context) (attributes_view attributes.items) ≡ false) }
+        ensures refused_only_where_kept { OnErr result
+            (IsRecordingWith (λ r. HasRoom r.limits.links r.span.links) self.old.state) }
+        ensures says_something { OnErr result
+            (model.is_ignored (context_view span_context) (attributes_view attributes.items) ≡ false) }
     {
         let State::Recording(record) = &mut self.state else {
             return Ok(());

@@ -266,26 +266,6 @@ fn only_zeros_are_no_randomness_and_are_spent(rt: HostRuntime) -> Result<(), Fai
 }
 
 #[test]
-fn a_child_draws_its_own_identifier_alone(rt: HostRuntime) -> Result<(), Fail> {
-    let alloc = rt.alloc();
-    for (remote, flags, sampled, dropped) in [
-        (false, 3, 3, 2),
-        (true, 3, 3, 2),
-        (true, 0, 1, 0),
-        (false, 254, 255, 254),
-    ] {
-        let parent = context(alloc, remote, flags)?;
-        let mut words = Words(&[SPAN_WORD, SPAN_WORD, 5]);
-        let span = start(alloc, AlwaysOn, &mut words, Some(&parent))?;
-        assert_context(&rt, &span, (PARENT_TRACE, SPAN), sampled, "k=v");
-        let span = start(alloc, AlwaysOff, &mut words, Some(&parent))?;
-        assert_context(&rt, &span, (PARENT_TRACE, SPAN), dropped, "k=v");
-        assert_eq!(rt; words.0, [5].as_slice());
-    }
-    Ok(())
-}
-
-#[test]
 fn an_ended_span_names_its_parent(rt: HostRuntime) -> Result<(), Fail> {
     let alloc = rt.alloc();
     let parent = context(alloc, true, 0)?;
@@ -297,25 +277,6 @@ fn an_ended_span_names_its_parent(rt: HostRuntime) -> Result<(), Fail> {
     assert_eq!(rt; spans.len(), 2);
     assert_eq!(rt; spans[0].parent_span_id(), Some(PARENT));
     assert_eq!(rt; spans[1].parent_span_id(), None);
-    Ok(())
-}
-
-#[test]
-fn an_invalid_parent_counts_as_none(rt: HostRuntime) -> Result<(), Fail> {
-    let alloc = rt.alloc();
-    for (trace, span) in [(0, 7), (7, 0), (0, 0)] {
-        let mut parent = context(alloc, false, 3)?;
-        parent.trace = TraceId([trace; 16]);
-        parent.span = SpanId([span; 8]);
-        let dropped = start(alloc, AlwaysOff, &mut Words(&WORDS), Some(&parent))?;
-        assert_context(&rt, &dropped, (TRACE, SPAN), 0, "");
-        let mut pass = BodyPass::new(alloc, 1)?;
-        let mut sampled = start(alloc, AlwaysOn, &mut Words(&WORDS), Some(&parent))?;
-        assert_context(&rt, &sampled, (TRACE, SPAN), 1, "");
-        assert_eq!(rt; sampled.end(&mut pass, END), Ended::Queued(0));
-        assert_eq!(rt; pass.spans().len(), 1);
-        assert_eq!(rt; pass.spans()[0].parent_span_id(), None);
-    }
     Ok(())
 }
 
@@ -371,21 +332,6 @@ fn a_span_that_is_only_recorded_asks_no_pass(rt: HostRuntime) -> Result<(), Fail
     assert_eq!(rt; span.end(&mut pass, END), Ended::NotSampled);
     assert!(rt; !span.is_recording());
     assert_eq!(rt; span.end(&mut pass, END), Ended::AlreadyEnded);
-    assert_eq!(rt; pass.late, 0);
-    Ok(())
-}
-
-#[test]
-fn a_dropped_span_ignores_calls(rt: HostRuntime) -> Result<(), Fail> {
-    let alloc = rt.alloc();
-    let mut pass = Closed { late: 0 };
-    let mut span = start(alloc, AlwaysOff, &mut Words(&WORDS), None)?;
-    assert!(rt; !span.is_recording());
-    set(&mut span, alloc, "a", 1)?;
-    assert!(rt; !span.is_recording());
-    assert_eq!(rt; span.end(&mut pass, END), Ended::NotSampled);
-    assert_eq!(rt; span.end(&mut pass, END), Ended::AlreadyEnded);
-    assert_context(&rt, &span, (TRACE, SPAN), 0, "");
     assert_eq!(rt; pass.late, 0);
     Ok(())
 }
@@ -549,57 +495,6 @@ fn a_refused_start_has_spent_its_words(rt: HostRuntime) -> Result<(), Fail> {
     Ok(())
 }
 
-/// Sets six attributes of a span on scarce memory, and answers how many were set before the first refusal;
-/// `None` where no span was started.
-fn count_set<A: Allocator + Copy>(
-    rt: &impl Abort,
-    ample: A,
-    scarce: A,
-) -> Result<Option<usize>, OutOfMemory> {
-    let pairs = [("a", 1), ("b", 2), ("c", 3), ("d", 4), ("e", 5), ("f", 6)];
-    let provider = Provider::new(AlwaysOn, resource(ample)?, SpanLimits::default());
-    let tracer = provider.tracer(scope(ample)?);
-    let mut pass = BodyPass::new(ample, 1)?;
-    let mut words = Words(&WORDS);
-    let parent: Option<SpanContext<A>> = None;
-    let Ok(mut span) = start_on(&tracer, scarce, &mut words, parent.as_ref(), ample) else {
-        return Ok(None);
-    };
-    let mut count = 0usize;
-    for (key, number) in pairs.iter() {
-        if set(&mut span, ample, key, *number).is_err() {
-            break;
-        }
-        count = pairs.len().min(count.saturating_add(1));
-    }
-    assert!(rt; span.is_recording());
-    assert_eq!(rt; span.end(&mut pass, END), Ended::Queued(0));
-    assert_eq!(rt; pass.spans().len(), 1);
-    assert!(rt; count <= 6);
-    assert_attributes(rt, ample, &pass.spans()[0], &pairs[..count])?;
-    Ok(Some(count))
-}
-
-#[test]
-fn a_span_is_unchanged_where_memory_is_refused(rt: HostRuntime) -> Result<(), Fail> {
-    let ample = LocalHeap::new(rt.alloc(), 4096)?;
-    let mut counts = [0u32; 7];
-    for size in 0..2_000usize {
-        let scarce = LocalHeap::new(rt.alloc(), size)?;
-        if let Some(count) = count_set(&rt, &ample, &scarce)? {
-            assert!(rt; count < 7);
-            counts[count] = counts[count].saturating_add(1);
-        }
-        assert_eq!(rt; (ample.used(), scarce.used()), (0, 0), "{size}");
-    }
-    // The first place was refused and a later one, where the list grows, and in the end none.
-    assert!(rt;
-        counts[0] > 0 && counts[4] > 0 && counts[6] > 0,
-        "{counts:?}"
-    );
-    Ok(())
-}
-
 #[test]
 fn faults_are_told(rt: HostRuntime) -> Result<(), Fail> {
     let alloc = rt.alloc();
@@ -676,12 +571,15 @@ fn a_dropped_span_ignores_each_call(rt: HostRuntime) -> Result<(), Fail> {
     Ok(())
 }
 
-/// How many events and links a span kept on scarce memory, each until the first was refused. `None` where it didn't start.
+/// How many attributes, events and links.
+type Counts = (usize, usize, usize);
+
+/// What a span kept on scarce memory, of each kind until the first was refused. `None` where it didn't start.
 fn count_kept<A: Allocator + Copy>(
     rt: &impl Abort,
     ample: A,
     scarce: A,
-) -> Result<Option<(usize, usize)>, OutOfMemory> {
+) -> Result<Option<Counts>, OutOfMemory> {
     let provider = Provider::new(AlwaysOn, resource(ample)?, SpanLimits::default());
     let tracer = provider.tracer(scope(ample)?);
     let mut pass = BodyPass::new(ample, 1)?;
@@ -690,7 +588,30 @@ fn count_kept<A: Allocator + Copy>(
     let Ok(mut span) = start_on(&tracer, scarce, &mut words, parent.as_ref(), ample) else {
         return Ok(None);
     };
-    let (mut events, mut links) = (0usize, 0usize);
+    let kept = keep_on(&mut span, ample)?;
+    assert!(rt; span.is_recording());
+    assert_eq!(rt; span.end(&mut pass, END), Ended::Queued(0));
+    assert_eq!(rt; pass.spans().len(), 1);
+    let ended = &pass.spans()[0];
+    let lengths = (
+        ended.attributes().len(),
+        ended.events().len(),
+        ended.links().len(),
+    );
+    assert_eq!(rt; lengths, kept);
+    Ok(Some(kept))
+}
+
+/// Sets six attributes, adds six events and six links, of each kind until the first is refused, and answers how many
+/// were made.
+fn keep_on<A: Allocator + Copy>(span: &mut Span<A>, ample: A) -> Result<Counts, OutOfMemory> {
+    let (mut attributes, mut events, mut links) = (0usize, 0usize, 0usize);
+    for key in ["a", "b", "c", "d", "e", "f"] {
+        if set(span, ample, key, 1).is_err() {
+            break;
+        }
+        attributes = attributes.saturating_add(1);
+    }
     for _ in 0..6 {
         let name = String::from_str(ample, "x")?;
         if span.add_event(name, 5, Vec::new(ample)).is_err() {
@@ -705,30 +626,23 @@ fn count_kept<A: Allocator + Copy>(
         }
         links = links.saturating_add(1);
     }
-    assert_eq!(rt; span.end(&mut pass, END), Ended::Queued(0));
-    assert_eq!(rt; pass.spans().len(), 1);
-    assert_eq!(rt; pass.spans()[0].events().len(), events);
-    assert_eq!(rt; pass.spans()[0].links().len(), links);
-    Ok(Some((events, links)))
+    Ok((attributes, events, links))
 }
 
 #[test]
-fn a_refused_event_or_link_is_not_kept(rt: HostRuntime) -> Result<(), Fail> {
+fn what_is_refused_is_not_kept(rt: HostRuntime) -> Result<(), Fail> {
     let ample = LocalHeap::new(rt.alloc(), 8192)?;
-    let (mut neither, mut some, mut all) = (0u32, 0u32, 0u32);
+    let (mut none, mut some, mut all) = (0u32, 0u32, 0u32);
     for size in (0..6_000usize).step_by(8) {
         let scarce = LocalHeap::new(rt.alloc(), size)?;
         match count_kept(&rt, &ample, &scarce)? {
             None => {}
-            Some((0, 0)) => neither = neither.saturating_add(1),
-            Some((6, 6)) => all = all.saturating_add(1),
+            Some((0, 0, 0)) => none = none.saturating_add(1),
+            Some((6, 6, 6)) => all = all.saturating_add(1),
             Some(_) => some = some.saturating_add(1),
         }
         assert_eq!(rt; (ample.used(), scarce.used()), (0, 0), "{size}");
     }
-    assert!(rt;
-        neither > 0 && some > 0 && all > 0,
-        "{neither} {some} {all}"
-    );
+    assert!(rt; none > 0 && some > 0 && all > 0, "{none} {some} {all}");
     Ok(())
 }

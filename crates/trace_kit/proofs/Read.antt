@@ -1,7 +1,5 @@
--- What is written is read: a body means the spans of the groups that it carries. And facts of answers and of loops.
-use Rattle.std.proofs.Common.{◌≡◌, refl, sym, ap, ◌∙◌, ℕ, ◌+◌, ◌<◌, List, [], ◌∷◌, ◌++◌, map, take, get_or, length, add-one, Result, Ok, Err, IfOk, OnOk}
-use Rattle.std.proofs.lemmas.List.{map-append}
-use Rattle.std.proofs.Math.Seq.{take-suc}
+-- What is written is read: a body means the spans of the groups that it carries. And facts of answers.
+use Rattle.std.proofs.Common.{refl, ap, ◌∙◌, ℕ, List, Result, Ok, Err, IfOk, OnOk}
 use Rattle.trace_model.specs.Reading.{Reads}
 use Rattle.trace_model.specs.Tables
 use Rattle.trace_model.specs.Messages.{meaning, body_meaning, triples}
@@ -21,6 +19,3 @@ if-ok (Err e) f h = tt
 pub on-ok : {T E : Type 0} {P Q : Type 0} (r : Result T E) → (P → Q) → OnOk r P → OnOk r Q
 on-ok (Ok x) f h = f h
 on-ok (Err e) f h = tt
-
-pub through-index : {X Y : Type 0} (f : X → Y) (xs : List X) (i : ℕ) (x : X) → i < length xs → x ≡ get_or xs i x → map f (take (i + 1) xs) ≡ map f (take i xs) ++ f x ∷ []
-through-index f xs i x l e = rw (add-one, take-suc xs i x l) (map-append f (take i xs) (get_or xs i x ∷ []) ∙ ap (λ y. map f (take i xs) ++ f y ∷ []) (sym e))

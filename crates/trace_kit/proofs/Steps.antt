@@ -1,7 +1,6 @@
 -- What a step of a script makes of what a recorder holds.
-use Rattle.std.proofs.Common.{◌≡◌, refl, sym, ap, ◌∙◌, ℕ, zero, suc, ◌+◌, ◌<◌, ◌≤◌, ◌==◌, nat_lt, length, List, [], ◌∷◌, ◌++◌, map, drop, append_assoc, cond, Bool, true, false, true≢false, not, if◌then◌else◌, ◌&&◌, Option, Some, None, option_map, slice_get, arith, add-zero, zero-add, take, ◌⊎◌, filter_map, get_or, ⊎_elim, inl, inr}
+use Rattle.std.proofs.Common.{◌≡◌, refl, sym, ap, ◌∙◌, ℕ, zero, suc, ◌+◌, ◌<◌, ◌≤◌, ◌==◌, nat_lt, length, List, [], ◌∷◌, ◌++◌, map, filter, drop, append_assoc, cond, Bool, true, false, true≢false, not, if◌then◌else◌, ◌&&◌, Option, Some, None, option_map, slice_get, arith, add-zero, zero-add, ◌⊎◌, filter_map, get_or, ⊎_elim, inl, inr}
 use mathlib.Core.Path.{fun_ext}
-use mir.Val.{bool_byte}
 use Rattle.std.specs.List.{list_any, slice_set, sum_by, AllByRecursion}
 use Rattle.std.specs.Option.{option_to_list}
 use Rattle.std.proofs.lemmas.List.{append-nil, length_push, length-set, get_or-drop}
@@ -23,7 +22,6 @@ use Rattle.span_script.specs.Scripts.{Script}
 use Rattle.span_script.specs.Parsed.{Means}
 use Rattle.span_script.specs.declared.script.Script.{Script as CodeScript}
 use Rattle.trace_kit.specs.Group.{SharePlace}
-use Rattle.trace_kit.proofs.Read.{through-index}
 use Rattle.otlp_ids.specs.WordStream.{after_words, words_of}
 use Rattle.trace_api.specs.Pass.{Body, Admits, with_span}
 use Rattle.trace_api.specs.Calls.{EndsTo, EndsRecording, Says}
@@ -424,13 +422,14 @@ pub comes-to : (setup : Setup) (os : List Outcome) (sc : ℕ) (p : Parent) (k : 
     ComesTo (outcome setup os sc p k at name) before after span
 comes-to setup os sc p k at name before after t scope parent span there tracer from standing made spent = rw (there, from, ← tracer, ← standing) (record { words = spent; span_is = made })
 
-one-start : (x : Step) → starts (x ∷ []) ≡ cond (begins x) 1 0
-one-start (start sc p k at name) = refl
-one-start (call n c) = refl
+one-more : {X : Type 0} (s : Step) (x : X) (xs : List X) (steps : List Step) → length xs ≡ starts steps → length (cond (begins s) (x ∷ xs) xs) ≡ starts (s ∷ steps)
+one-more (start sc p k at name) x xs steps e = ap suc e
+one-more (call n c) x xs steps e = e
 
--- the starts among one step more
-pub starts-next : {X : Type 0} (view : X → Step) (xs : List X) (i : ℕ) (x : X) → i < length xs → x ≡ get_or xs i x → starts (map view (take (i + 1) xs)) ≡ starts (map view (take i xs)) + cond (begins (view x)) 1 0
-starts-next view xs i x l e = ap starts (through-index view xs i x l e) ∙ starts-append (map view (take i xs)) (view x ∷ []) ∙ ap (λ n. starts (map view (take i xs)) + n) (one-start (view x))
+-- the starts among the steps
+pub starts-among : {X : Type 0} (view : X → Step) (xs : List X) → length (filter (λ x. begins (view x)) xs) ≡ starts (map view xs)
+starts-among view [] = refl
+starts-among view (x ∷ xs) = one-more (view x) x (filter (λ y. begins (view y)) xs) (map view xs) (starts-among view xs)
 
 -- what a script is
 pub same-script : {A : Type 0} (c : CodeScript A) (read : Script) → Means c read → ended_spans (setup_view c) (map step_view c.steps.items) ≡ spans_of read
@@ -465,14 +464,6 @@ share setup (x ∷ xs) few h = each xs h.1
     each (y ∷ ys) k =
         let both : Some y.scope ≡ Some x.scope = sym (first k.0.1 y.scope k.0.2) ∙ first h.0.1 x.scope h.0.2 in
         ((k.0.0 ∙ sym h.0.0, (let same : y.scope ≡ x.scope = cc in same)), each ys k.1)
-
-pub truth-number : (n : ℕ) (b : Bool) → n ≡ bool_byte b → n ≡ cond b 1 0
-truth-number n true e = e
-truth-number n false e = e
-
-pub at-most-one : (b : Bool) → cond b 1 0 ≤ 1
-at-most-one true = omega arith
-at-most-one false = omega arith
 
 pub tracers-are : (p : ProviderWith ScriptSampler) (q : Provider) (scopes : List Scope) (ts : List (TracerWith ScriptSampler)) → ts ≡ tracers_of p scopes → record { sampler = meaning p.sampler; resource = p.resource; limits = p.limits } ≡ q →
     map (tracer_view meaning) ts ≡ map (λ scope. record { provider = q; scope = scope }) scopes

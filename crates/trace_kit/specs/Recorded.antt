@@ -29,7 +29,11 @@ resource_of s = record { attributes = (attributes all_kept s.resource).items; sc
 abbrev pub setup_of : Script → Setup
 setup_of s = record {
   words = words_of_list s.words;
-  provider = record { sampler = meaning_of (unwrap_or s.sampler AlwaysOn); resource = resource_of s; limits = unwrap_or s.limits default_limits };
+  provider = record {
+    sampler = meaning_of (unwrap_or s.sampler AlwaysOn);
+    resource = resource_of s;
+    limits = unwrap_or s.limits default_limits;
+  };
   scopes = s.scopes;
 }
 

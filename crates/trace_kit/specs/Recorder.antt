@@ -26,7 +26,11 @@ use Rattle.trace_kit.specs.declared.recorder.Recorder.{Recorder}
 abbrev pub setup_view : {A : Type 0} → Script A → Setup
 setup_view s = record {
   words = words_of_list s.words.items;
-  provider = record { sampler = meaning_of s.sampler; resource = record { attributes = attributes_view s.resource.items; schema = [] }; limits = limits_view s.limits };
+  provider = record {
+    sampler = meaning_of s.sampler;
+    resource = record { attributes = attributes_view s.resource.items; schema = [] };
+    limits = limits_view s.limits;
+  };
   scopes = map scope_view s.scopes.items;
 }
 
@@ -51,10 +55,12 @@ span_after calls o = option_map (λ s. held s calls) o.span
 
 -- The recorder has taken some steps, and these are still to come.
 pub record Stands {A : Type 0} (setup : Setup) (done later : List Step) (r : Recorder A) : Type 0 where
-  pub tracers : map (tracer_view meaning) r.tracers.items ≡ map (λ scope. record { provider = setup.provider; scope = scope }) setup.scopes
+  pub tracers : map (tracer_view meaning) r.tracers.items
+      ≡ map (λ scope. record { provider = setup.provider; scope = scope }) setup.scopes
   pub words : words_of (stream r.words) ≡ words_left setup (outcomes setup done)
   pub many : length r.spans.items ≡ length (outcomes setup done)
-  pub spans : (n : ℕ) → slice_get r.spans.items n ≡ option_map (span_after (calls_on n done)) (slice_get (outcomes setup done) n)
+  pub spans : (n : ℕ) → slice_get r.spans.items n
+      ≡ option_map (span_after (calls_on n done)) (slice_get (outcomes setup done) n)
   pub pass : r.pass ≡ record { spans = ended_spans setup done; room = starts (done ++ later); dropped = 0 }
 
 -- the span of an outcome, and the words that are left behind it
@@ -63,11 +69,13 @@ pub record ComesTo (o : Outcome) (before after : List ℕ) (span : Option HeldSp
   pub span_is : span ≡ span_after [] o
 
 -- The span of a start comes from the words; it is not among the recorder's spans yet.
-pub record StartsAmong {A : Type 0} (scope : ℕ) (parent : Parent) (kind : Kind) (at : ℕ) (name : List ℕ) (old new : Recorder A) (span : Option HeldSpan) : Type 0 where
+pub record StartsAmong {A : Type 0} (scope : ℕ) (parent : Parent) (kind : Kind) (at : ℕ) (name : List ℕ)
+    (old new : Recorder A) (span : Option HeldSpan) : Type 0 where
   pub tracers : new.tracers.items ≡ old.tracers.items
   pub spans : new.spans.items ≡ old.spans.items
   pub pass : new.pass ≡ old.pass
-  pub comes : (setup : Setup) (done later : List Step) → Stands setup done later old → ComesTo (outcome setup (outcomes setup done) scope parent kind at name) old.words new.words span
+  pub comes : (setup : Setup) (done later : List Step) → Stands setup done later old →
+      ComesTo (outcome setup (outcomes setup done) scope parent kind at name) old.words new.words span
 
 -- what a call does to the pass: an end may hand its span to it
 abbrev pub Passes : Option ℕ → HeldSpan → Body → Body → Type 0

@@ -10,7 +10,7 @@ use otlp_proto::{EncodeFault, encode};
 use otlp_span::SpanData;
 use std::alloc::Allocator;
 
-/// The body of the request that exports these spans, grouped by resource and scope. It may have `max` bytes.
+/// The body of the request that exports these spans, grouped by resource and scope. It has at most `max` bytes.
 /// Today all spans have to share one resource and one scope.
 ///
 /// # Errors

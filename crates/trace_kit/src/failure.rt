@@ -14,14 +14,19 @@ pub enum Failure {
     /// There is nothing to print but the body, and it was not asked for.
     #[error("--body must be given")]
     NoBody,
+    /// The script cannot be read.
     #[error("cannot read the script")]
     Read,
+    /// The answer cannot be written.
     #[error("cannot write the answer")]
     Write,
+    /// The text is no script, or there was no memory to read it.
     #[error("{0}")]
     Script(ScriptError),
+    /// Memory was refused.
     #[error("out of memory")]
     OutOfMemory,
+    /// The body has more than `usize::MAX` bytes.
     #[error("too large")]
     TooLarge,
 }

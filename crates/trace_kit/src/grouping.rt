@@ -1,5 +1,5 @@
 //! Grouping of spans by resource and scope.
-ghost use Rattle.std.specs.Prelude.{◌≡◌, IfOk, map};
+ghost use Rattle.std.specs.Prelude.{◌≡◌, IfOk};
 ghost use Rattle.trace_model.specs.Export.{groups};
 ghost use Rattle.otlp_proto.specs.Group.{groups_view};
 ghost use Rattle.trace_kit.specs.Group.{SharePlace};
@@ -27,7 +27,7 @@ pub fn group<'a, A: Allocator + Copy>(
     let mut scopes = Vec::new(alloc);
     scopes.push(ScopeGroup {
         scope: first.scope(),
-        spans: references(alloc, spans)?,
+        spans: spans.iter().collect(alloc)?,
     })?;
     let mut groups = Vec::new(alloc);
     groups.push(ResourceGroup {
@@ -35,18 +35,4 @@ pub fn group<'a, A: Allocator + Copy>(
         scopes,
     })?;
     Ok(groups)
-}
-
-/// A reference to each span.
-fn references<'a, A: Allocator + Copy>(
-    alloc: A,
-    spans: &'a [SpanData<A>],
-) -> Result<Vec<&'a SpanData<A>, A>, OutOfMemory>
-    ensures { IfOk result (λ v. map (λ s. s.now) v.items ≡ spans.now) }
-{
-    let mut references = Vec::with_capacity(alloc, spans.len())?;
-    for span in spans {
-        references.push(span)?;
-    }
-    Ok(references)
 }

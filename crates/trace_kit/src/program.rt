@@ -1,6 +1,6 @@
 //! The program `trace-script`, over readers and writers.
 ghost use Rattle.std.specs.Prelude.{◌≡◌, ◌≤◌, ◌⊎◌, ◌++◌, ◌∷◌, [], Bool, false, IfOk, IfErr, IfSome, IsErrOf, OnOk, string_bytes};
-ghost use Rattle.std.specs.Io.KnownBytes.{Appends, Keeps};
+ghost use Rattle.std.specs.Io.KnownBytes.{Appends, IsAtEnd, Keeps};
 ghost use Rattle.hex.specs.Hex.{encode_lower};
 ghost use Rattle.trace_kit.specs.Printed.{Explains, IsBodyLine, PrintsBody, Refuses};
 
@@ -14,7 +14,8 @@ use std::io;
 use std::io::{ErrorKind, Read, Write};
 
 /// Runs a script and prints, with `body`, the body of the request that exports the sampled spans which it ends, in the
-/// order of their ends: a line of hexadecimal digits, which is empty where there is none. Nothing happens before the whole script is read.
+/// order of their first ends: a line of hexadecimal digits, which is empty where there is none. Nothing happens before
+/// the whole script is read.
 ///
 /// The answer is the program's status: 0, or 1 where a read or a write failed, 2 where a line is bad (told as
 /// `line N: bad script` on `faults`; nothing is printed) or `body` is false (there is nothing else to print yet), 3
@@ -29,6 +30,7 @@ pub fn script<A: Allocator + Copy, R: Read, W: Write, F: Write>(
 ) -> u8
     ensures status { result ≤ 3 }
     ensures printed { result ≡ 0 → PrintsBody (R.remaining input.old) (W.contents output.old) (W.contents output.new) }
+    ensures consumed { result ≡ 0 → IsAtEnd (R.remaining input.new) }
     ensures unasked { body ≡ false → (result ≡ 2) ⊎ (result ≡ 1) }
     ensures untold { result ≡ 0 → Keeps (F.contents faults.old) (F.contents faults.new) }
     ensures refused { result ≡ 2 → Refuses body (R.remaining input.old) }
@@ -53,6 +55,7 @@ fn body_line<A: Allocator + Copy, R: Read>(
     ensures line { IfOk result (λ line. IsBodyLine (R.remaining input.old) (string_bytes line)) }
     ensures fault { IfErr result (Explains body (R.remaining input.old)) }
     ensures unasked { body ≡ false → IsErrOf result Failure.NoBody }
+    ensures consumed { OnOk result (IsAtEnd (R.remaining input.new)) }
 {
     if !body {
         return Err(Failure::NoBody);
@@ -80,6 +83,7 @@ fn hex_line<A: Allocator>(alloc: A, bytes: &[u8]) -> Result<String<A>, OutOfMemo
 fn read_all<A: Allocator, R: Read>(alloc: A, input: &mut R) -> Result<Vec<u8, A>, Failure>
     ensures text { IfOk result (λ text. IfSome (R.remaining input.old) (λ bytes. text.items ≡ bytes)) }
     ensures fault { (asked : Bool) → IfErr result (Explains asked (R.remaining input.old)) }
+    ensures consumed { OnOk result (IsAtEnd (R.remaining input.new)) }
 {
     let mut text = Vec::new(alloc);
     match input.read_to_end(&mut text) {
@@ -89,6 +93,7 @@ fn read_all<A: Allocator, R: Read>(alloc: A, input: &mut R) -> Result<Vec<u8, A>
     }
 }
 
+/// Writes a line, and flushes.
 fn print<W: Write>(output: &mut W, line: &str) -> io::Result<()>
     ensures { OnOk result (Appends (W.contents output.old) (W.contents output.new) line.now) }
 {

@@ -33,7 +33,8 @@ pub fn recorded<A: Allocator + Copy>(
     script: Script<A>,
 ) -> Result<BodyPass<A>, OutOfMemory>
     requires { length script.scopes.items ≤ 1 }
-    ensures exact { IfOk result (λ pass. pass.spans ≡ ended_spans (setup_view script) (map step_view script.steps.items)) }
+    ensures exact { IfOk result (λ pass.
+        pass.spans ≡ ended_spans (setup_view script) (map step_view script.steps.items)) }
     ensures shared { IfOk result (λ pass. SharePlace pass.spans) }
 {
     let Script {
@@ -75,11 +76,7 @@ fn is_start<A: Allocator>(step: &Step<A>) -> bool
 fn count_starts<A: Allocator>(steps: &[Step<A>]) -> usize
     ensures { result ≡ history.starts (map step_view steps.now) }
 {
-    let mut starts = 0;
-    for step in steps {
-        starts += usize::from(is_start(step));
-    }
-    starts
+    steps.iter().filter(|step| is_start(step)).count()
 }
 
 /// A tracer for each scope.
@@ -157,9 +154,11 @@ fn apply<A: Allocator + Copy>(
 }
 
 impl<'a, A: Allocator + Copy> Recorder<'a, A> {
+    /// Takes the next step: a start, a call on a span, or an end, which is a call too.
     fn take_step(&mut self, step: Step<A>) -> Result<(), OutOfMemory>
         ensures { OnOk result ((setup : Setup) (done later : List ModelStep) →
-            Stands setup done (step_view step ∷ later) self.old → Stands setup (done ++ step_view step ∷ []) later self.new) }
+            Stands setup done (step_view step ∷ later) self.old →
+            Stands setup (done ++ step_view step ∷ []) later self.new) }
     {
         match step {
             Step::Start {
@@ -187,7 +186,8 @@ impl<'a, A: Allocator + Copy> Recorder<'a, A> {
         at: u64,
         name: String<A>,
     ) -> Result<Option<Span<A>>, OutOfMemory>
-        ensures { IfOk result (StartsAmong scope (contexts.parent_view parent.now) (kind_view kind) at (string_bytes name) self.old self.new) }
+        ensures { IfOk result (StartsAmong scope (contexts.parent_view parent.now) (kind_view kind) at
+            (string_bytes name) self.old self.new) }
     {
         let Some(tracer) = self.tracers.get(scope as usize) else {
             return Ok(None);
@@ -204,7 +204,8 @@ impl<'a, A: Allocator + Copy> Recorder<'a, A> {
 
     /// Makes a call on the span with this number, if there is one.
     fn call(&mut self, number: u32, call: SpanCall<A>) -> Result<(), OutOfMemory>
-        ensures { OnOk result ((setup : Setup) (done later : List ModelStep) → let step = history.call number (call_view call) in
+        ensures { OnOk result ((setup : Setup) (done later : List ModelStep) →
+            let step = history.call number (call_view call) in
             Stands setup done (step ∷ later) self.old → Stands setup (done ++ step ∷ []) later self.new) }
     {
         let Some(slot) = self.spans.get_mut(number as usize) else {

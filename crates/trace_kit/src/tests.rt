@@ -220,6 +220,23 @@ impl Write for FailingWriter {
     }
 }
 
+/// A writer that takes all bytes, and fails where it is flushed.
+#[derive(Drop)]
+struct FailingFlush {
+    taken: Vec<u8>,
+}
+
+impl Write for FailingFlush {
+    fn write(&mut self, buffer: &[u8]) -> io::Result<usize> {
+        self.taken.extend_from_slice(buffer)?;
+        Ok(buffer.len())
+    }
+
+    fn flush(&mut self) -> io::Result<()> {
+        Err(io::Error::from(io::ErrorKind::BrokenPipe))
+    }
+}
+
 #[test]
 fn tells_a_reader_that_fails(rt: HostRuntime) {
     for left in [0usize, 1, 60, ONE_SPAN.len() - 1] {
@@ -258,6 +275,19 @@ fn tells_a_writer_that_fails(rt: HostRuntime) {
 }
 
 #[test]
+fn tells_a_flush_that_fails(rt: HostRuntime) {
+    let mut input = ONE_SPAN.as_bytes();
+    let mut output = FailingFlush {
+        taken: Vec::new(rt.alloc()),
+    };
+    let mut faults = Vec::new(rt.alloc());
+    let status = script(rt.alloc(), &mut input, &mut output, &mut faults, true);
+    assert_eq!(rt; status, 1);
+    assert_eq!(rt; output.taken.as_slice(), ONE_SPAN_BODY.as_bytes());
+    assert_eq!(rt; faults.as_slice(), b"cannot write the answer\n".as_slice());
+}
+
+#[test]
 fn tells_that_faults_cannot_be_told(rt: HostRuntime) {
     let mut input = "flush\n".as_bytes();
     let mut output = Vec::new(rt.alloc());
@@ -270,7 +300,7 @@ fn tells_that_faults_cannot_be_told(rt: HostRuntime) {
     assert!(rt; output.is_empty());
 }
 
-// ---- spans that no script makes yet
+// ---- spans made without a script
 
 fn text<A: Allocator>(alloc: A, text: &str) -> Result<String<A>, OutOfMemory> {
     Ok(String::from_str(alloc, text)?)
@@ -371,7 +401,7 @@ fn pair<A: Allocator + Copy>(
     Ok(pairs)
 }
 
-/// A span in which every field that can be filled is filled.
+/// A span whose resource, scope and context have everything.
 fn full_span<A: Allocator + Copy>(alloc: A) -> Result<SpanData<A>, OutOfMemory> {
     let resource = Resource {
         attributes: pair(alloc, "k", Value::Text(text(alloc, "v")?))?,

@@ -1,7 +1,7 @@
 -- What the calls on a span make of it. (Trace API, Span; Trace SDK, Span Limits)
 use Rattle.std.specs.Prelude.{◌≡◌, ℕ, ◌-◌, List, [], ◌∷◌, ◌++◌, take, take_while, filter, filter_map, length, Bool, true, false, not, ◌&&◌, ◌==◌, Option, Some, None, codes, if◌then◌else◌}
 use Rattle.std.specs.List.{list_any}
-use Rattle.trace_model.specs.Attributes.{text, Attribute, Kept, counted, attributes, is_empty, last_or}
+use Rattle.trace_model.specs.Attributes.{text, Attribute, Kept, Limits, counted, attributes, is_empty, last_or}
 
 -- Identifiers, flags and trace state of a span, and whether it came from elsewhere. (Trace API, SpanContext; W3C Trace
 -- Context)
@@ -112,12 +112,22 @@ abbrev pub exception_pairs : List ℕ → List ℕ → List ℕ → List Attribu
 exception_pairs kind message stack pairs =
     pair_unless_empty (codes "exception.type") kind ++ (pair_unless_empty (codes "exception.message") message ++ (pair_unless_empty (codes "exception.stacktrace") stack ++ pairs))
 
+-- the limits of a span's own attributes, of those of an event, and of those of a link (Trace SDK, Span Limits)
+abbrev pub attribute_limits : SpanLimits → Limits
+attribute_limits limits = record { count = limits.attributes; length = limits.value_length }
+
+abbrev pub event_limits : SpanLimits → Limits
+event_limits limits = record { count = limits.event_attributes; length = limits.value_length }
+
+abbrev pub link_limits : SpanLimits → Limits
+link_limits limits = record { count = limits.link_attributes; length = limits.value_length }
+
 -- an event with what is kept of its pairs (Trace SDK, Span Limits)
 abbrev pub event : SpanLimits → List ℕ → ℕ → List Attribute → Event
 event limits name at pairs = record {
   at = at;
   name = name;
-  attributes = attributes (record { count = limits.event_attributes; length = limits.value_length }) pairs;
+  attributes = attributes (event_limits limits) pairs;
 }
 
 -- the event that the call adds, if any: an exception is the event `exception` (Trace API, Add Events, Record Exception)
@@ -148,7 +158,7 @@ is_ignored c pairs = not (is_valid c) && (no_pairs pairs && is_empty c.state)
 abbrev pub link : SpanLimits → Context → List Attribute → Link
 link limits c pairs = record {
   context = c;
-  attributes = attributes (record { count = limits.link_attributes; length = limits.value_length }) pairs;
+  attributes = attributes (link_limits limits) pairs;
 }
 
 -- the link that the call adds, if any (Trace API, Add Link)
@@ -205,7 +215,7 @@ span limits start calls = let counts = live calls in record {
   kind = start.kind;
   start = start.at;
   end = first_or start.at (filter_map end_of calls);
-  attributes = attributes (record { count = limits.attributes; length = limits.value_length }) (filter_map attribute_of counts);
+  attributes = attributes (attribute_limits limits) (filter_map attribute_of counts);
   events = first limits.events (filter_map (event_of limits) counts);
   links = first limits.links (filter_map (link_of limits) counts);
   status = final_status (filter_map status_of counts);

@@ -1,4 +1,5 @@
-//! `trace-script` reads a script of one span on standard input and prints the body of the request that exports it.
+//! `trace-script` reads a script of spans on standard input and prints the body of the request that exports the
+//! sampled ones that it ends.
 #![tactic(auto)]
 
 use clap::{Arg, ArgAction, Command, Error};
@@ -13,9 +14,11 @@ fn asks_for_body(alloc: Global, words: &[String]) -> Result<bool, Error> {
         .long("body")
         .action(ArgAction::SetTrue)
         .required(true)
-        .help("Print the body of the request that exports the script's span, in hexadecimal");
+        .help(
+            "Print the body of the request that exports the spans which the script ends, in hexadecimal",
+        );
     let command = Command::new(alloc, "trace-script")
-        .about("Reads a script of one span on standard input")
+        .about("Reads a script of spans on standard input")
         .arg(body)?;
     let matches = command.try_get_matches_from(words)?;
     Ok(matches.get_flag("body"))

@@ -11,6 +11,7 @@ use otlp_ids::OutOfMemory;
 use otlp_span::{Event, Link, Status};
 use std::alloc::Allocator;
 
+/// The message of an event.
 fn encode_event<A: Allocator + Copy>(alloc: A, event: &Event<A>) -> Result<Vec<u8, A>, OutOfMemory>
     ensures { IfOk result (λ v. IsWritten Tables.event (model.event_message (event_view event.now)) v.items) }
 {
@@ -40,6 +41,7 @@ pub fn put_events<A: Allocator + Copy>(
     Ok(())
 }
 
+/// The message of a link.
 fn encode_link<A: Allocator + Copy>(alloc: A, link: &Link<A>) -> Result<Vec<u8, A>, OutOfMemory>
     ensures { IfOk result (λ v. IsWritten Tables.link (model.link_message (link_view link.now)) v.items) }
 {
@@ -92,6 +94,7 @@ fn status_code<A: Allocator>(status: &Status<A>) -> u8
     }
 }
 
+/// The message of a status, which has no byte where that is Unset.
 fn encode_status<A: Allocator + Copy>(
     alloc: A,
     status: &Status<A>,

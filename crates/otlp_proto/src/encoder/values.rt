@@ -101,11 +101,13 @@ fn put_member<A: Allocator + Copy>(
     }
 }
 
+/// The message of an attribute: its key, and its value.
 fn encode_key_value<A: Allocator + Copy>(
     alloc: A,
     pair: &(String<A>, Value<A>),
 ) -> Result<Vec<u8, A>, OutOfMemory>
-    ensures { IfOk result (λ v. IsWritten Tables.key_value (model.attribute_message (attribute_view pair.now)) v.items) }
+    ensures { IfOk result (λ v.
+        IsWritten Tables.key_value (model.attribute_message (attribute_view pair.now)) v.items) }
 {
     let (key, value) = pair;
     let mut out = Vec::new(alloc);

@@ -1,15 +1,17 @@
+use Rattle.std.proofs.Common.{ap, ◌∙◌, option_map}
+use Rattle.trace_api.specs.Starts.{ids_view}
 use Rattle.trace_api.proofs.Drawn.{no-trace, behind-trace}
 use Rattle.trace_api.proofs.provider.draw_ids.Goals as goal
 
-pub returns-in_default : goal.returns-in_default
-returns-in_default g c = let done = no-trace _ _ _ c.in_default.ensures.value c.in_default.ensures.spent in record { value = done.0; spent = done.1 }
+pub returns-in_err-trace : goal.returns-in_err-trace
+returns-in_err-trace g c = let done = no-trace _ _ _ c.in_err-trace.ensures.value c.in_err-trace.ensures.spent in record { value = ap (option_map ids_view) c.from_residual.ensures ∙ done.0; spent = done.1 }
 
-pub returns-in_default-draw_span : goal.returns-in_default-draw_span
-returns-in_default-draw_span g c =
-    let done = behind-trace _ _ _ _ _ _ c.in-Some.ensures.value c.in-Some.ensures.spent c.in_default-draw_span.ensures.value c.in_default-draw_span.ensures.spent in
-    record { value = done.0; spent = done.1 }
+pub returns-in_err-span : goal.returns-in_err-span
+returns-in_err-span g c =
+    let done = behind-trace _ _ _ _ _ _ c.in_ok-trace.ensures.value c.in_ok-trace.ensures.spent c.in_err-span.ensures.value c.in_err-span.ensures.spent in
+    record { value = ap (option_map ids_view) c.from_residual-in_err-span.ensures ∙ done.0; spent = done.1 }
 
 pub returns : goal.returns
 returns g c =
-    let done = behind-trace _ _ _ _ _ _ c.in-Some.ensures.value c.in-Some.ensures.spent c.in-Some-draw_span.ensures.value c.in-Some-draw_span.ensures.spent in
+    let done = behind-trace _ _ _ _ _ _ c.in_ok-trace.ensures.value c.in_ok-trace.ensures.spent c.in_ok-span.ensures.value c.in_ok-span.ensures.spent in
     record { value = done.0; spent = done.1 }

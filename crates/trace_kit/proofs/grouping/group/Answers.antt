@@ -1,3 +1,5 @@
+use Rattle.std.proofs.Common.{◌≡◌, ◌∙◌, ap, map}
+use Rattle.std.proofs.lemmas.Iterator.{YieldsList-from_slice, items_from_drains}
 use Rattle.trace_kit.proofs.Shared.{shared-first, none-first}
 use Rattle.trace_kit.proofs.grouping.group.Goals as goal
 
@@ -6,5 +8,7 @@ returns-in_default g c = rw c.new.ensures.items (none-first c.args.spans.now c.i
 
 pub returns : goal.returns
 returns g c =
-    rw (c.in_ok-push-2.ensures.items, c.new-groups.ensures.items, c.in_ok-push.ensures.items, c.new-scopes.ensures.items, c.in_ok-references.ensures, c.scope.ensures, c.resource.ensures)
+    let ran = c.in_ok-collect.ensures.ran in
+    let all : map (λ s. s.now) c.in_ok-collect.field-0.items ≡ c.args.spans.now = ap (map (λ s. s.now)) ran.2.0 ∙ items_from_drains ran.0 ran.1 (YieldsList-from_slice c.args.spans.now c.iter.ensures.rest) in
+    rw (c.in_ok-push-2.ensures.items, c.new-groups.ensures.items, c.in_ok-push.ensures.items, c.new-scopes.ensures.items, all, c.scope.ensures, c.resource.ensures)
     (shared-first c.args.spans.now c.in-Some.first.now c.in-Some.ensures.value c.requires)

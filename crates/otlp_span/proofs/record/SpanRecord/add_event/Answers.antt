@@ -1,9 +1,8 @@
 use Rattle.std.proofs.Common.{◌≡◌, sym, ap, ◌∙◌, refl, string_bytes}
-use Rattle.trace_model.specs.Spans.{add_event, event}
+use Rattle.trace_model.specs.Spans.{add_event, event, event_limits}
 use Rattle.trace_model.specs.Attributes.{attributes}
 use Rattle.otlp_value.specs.Value.{attributes_view}
 use Rattle.otlp_span.specs.Body.{recording_view}
-use Rattle.otlp_span.specs.Parts.{event_limits}
 use Rattle.otlp_span.proofs.Recorded.{counts-event, keeps-event, kept-is, on-ok}
 use Rattle.otlp_span.proofs.record.SpanRecord.add_event.Goals as goal
 

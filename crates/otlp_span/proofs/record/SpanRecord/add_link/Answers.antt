@@ -1,11 +1,10 @@
 use Rattle.std.proofs.Common.{◌≡◌, sym, ap, ◌∙◌, true, false}
 use Rattle.trace_model.specs.Attributes.{attributes}
-use Rattle.trace_model.specs.Spans.{is_ignored}
+use Rattle.trace_model.specs.Spans.{is_ignored, link_limits}
 use Rattle.trace_model.proofs.Calls.{adds-ignored-link}
 use Rattle.otlp_ids.specs.SpanContext.{context_view}
 use Rattle.otlp_value.specs.Value.{attributes_view}
 use Rattle.otlp_span.specs.Body.{recording_view}
-use Rattle.otlp_span.specs.Parts.{link_limits}
 use Rattle.otlp_span.proofs.Recorded.{counts-link, keeps-link, kept-is, on-err, on-ok}
 use Rattle.otlp_span.proofs.record.SpanRecord.add_link.Goals as goal
 

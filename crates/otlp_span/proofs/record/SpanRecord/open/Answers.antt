@@ -1,8 +1,8 @@
 use Rattle.std.proofs.Common.{◌≡◌, refl, ap, ◌∙◌, []}
-use Rattle.trace_model.specs.Attributes.{AttributeList, attribute_list}
-use Rattle.trace_model.specs.Spans.{Event, Link, span}
+use Rattle.trace_model.specs.Attributes.{attribute_list}
+use Rattle.trace_model.specs.Spans.{Event, Link, attribute_limits, span}
 use Rattle.trace_model.proofs.Calls.{first-none}
-use Rattle.otlp_span.specs.Parts.{attribute_limits, limits_view}
+use Rattle.otlp_span.specs.Parts.{limits_view}
 use Rattle.otlp_span.proofs.record.SpanRecord.open.Goals as goal
 
 pub returns : goal.returns

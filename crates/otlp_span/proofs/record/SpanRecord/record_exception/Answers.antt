@@ -1,10 +1,9 @@
 use Rattle.std.proofs.Common.{◌≡◌, sym, ap, ◌∙◌, refl, ℕ, List, string_bytes, codes}
 use Rattle.std.proofs.lemmas.Bool.{ltb-true}
 use Rattle.trace_model.specs.Attributes.{attributes}
-use Rattle.trace_model.specs.Spans.{Recording, record_exception, event, exception_pairs}
+use Rattle.trace_model.specs.Spans.{Recording, record_exception, event, event_limits, exception_pairs}
 use Rattle.otlp_value.specs.Value.{attributes_view}
 use Rattle.otlp_span.specs.Body.{recording_view}
-use Rattle.otlp_span.specs.Parts.{event_limits}
 use Rattle.otlp_span.specs.Recording.{one_kept, with_events}
 use Rattle.otlp_span.proofs.Recorded.{counts-event, keeps-event, kept-is, on-err, on-ok}
 use Rattle.otlp_span.proofs.record.SpanRecord.record_exception.Goals as goal
@@ -34,8 +33,8 @@ returns-clause-ok g c =
     (λ is. keeps-event (record_exception kind message stack c.args.timestamp pairs) (codes "exception") c.args.timestamp all tt refl (sym c.has_room_for_event.ensures ∙ c.if-not-has_room_for_event.false) kept (is ∙ ap made named))
     c.push_event.ensures.ok
 
-pub returns-in_err-from_str-clause-in_place : goal.returns-in_err-from_str-clause-in_place
-returns-in_err-from_str-clause-in_place g c = on-err _ (ltb-true _ _ (sym c.has_room_for_event.ensures ∙ c.if-not-has_room_for_event.false))
+pub returns-in_err-from_str-clause-refused_only_where_kept : goal.returns-in_err-from_str-clause-refused_only_where_kept
+returns-in_err-from_str-clause-refused_only_where_kept g c = on-err _ (ltb-true _ _ (sym c.has_room_for_event.ensures ∙ c.if-not-has_room_for_event.false))
 
-pub returns-clause-in_place : goal.returns-clause-in_place
-returns-clause-in_place g c = on-err c.push_event.result (ltb-true _ _ (sym c.has_room_for_event.ensures ∙ c.if-not-has_room_for_event.false))
+pub returns-clause-refused_only_where_kept : goal.returns-clause-refused_only_where_kept
+returns-clause-refused_only_where_kept g c = on-err c.push_event.result (ltb-true _ _ (sym c.has_room_for_event.ensures ∙ c.if-not-has_room_for_event.false))

@@ -15,7 +15,7 @@ pub returns-then-not-is_recording : goal.returns-then-not-is_recording
 returns-then-not-is_recording g c =
     let s : Started = started_as (tracer_view g.S.Sampler.meaning c.args.self.now) (valid_asked_view (option_copied c.args.parent) (string_bytes c.args.name) c.args.kind c.args.at) (ids_view c.args.ids) (decision_view c.args.decision) in
     let e : is_recording (decision_view c.args.decision) ≡ false = sym c.is_recording.ensures ∙ c.if-not-is_recording.true in
-    c.not_recording.ensures ∙ rw (c.child_flags.ensures, c.is_sampled.ensures, c.in_ok-child_state.ensures) (held-dropped s e)
+    c.not_recording.ensures ∙ rw (c.child_flags.ensures, c.is_sampled.ensures, c.in_ok-child_state.ensures.value) (held-dropped s e)
 
 pub returns : goal.returns
 returns g c =
@@ -31,6 +31,6 @@ returns g c =
       kind = kind_view c.args.kind;
       at = c.args.at;
     } in
-    let started : begin ≡ s.start = rw (c.in_ok-copy.ensures, c.child_flags.ensures, c.is_sampled.ensures, c.in_ok-child_state.ensures, c.parent_id.ensures) refl in
+    let started : begin ≡ s.start = rw (c.in_ok-copy.ensures, c.child_flags.ensures, c.is_sampled.ensures, c.in_ok-child_state.ensures.value, c.parent_id.ensures) refl in
     let opened = c.in_ok-record.ensures ∙ recorded-is (limits_view c.provider.inside.limits) (resource_view (arc_value c.in_ok-try_clone.field-0)) (scope_view (arc_value c.in_ok-try_clone-2.field-0)) begin s limits resource scope started in
-    c.recording.ensures ∙ rw (c.child_flags.ensures, c.is_sampled.ensures, c.in_ok-child_state.ensures, opened) (held-recorded s e)
+    c.recording.ensures ∙ rw (c.child_flags.ensures, c.is_sampled.ensures, c.in_ok-child_state.ensures.value, opened) (held-recorded s e)

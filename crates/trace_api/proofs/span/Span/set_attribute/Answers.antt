@@ -9,7 +9,7 @@ returns-in_default g c = record {
   ok = rw (← c.self.view_is) (does-nothing _ (context_view c.self.inside.context) _ refl (not-recorded c.self.inside.state c.in_default.not-Recording));
   ignored = λ e. c.self.view_is;
   err = tt;
-  in_place = tt;
+  refused_only_where_kept = tt;
 }
 
 pub returns-clause-ok : goal.returns-clause-ok
