@@ -1,5 +1,5 @@
 .DEFAULT_GOAL := help
-.PHONY: help run test install check format clean
+.PHONY: help run test docs times install check format clean
 
 PREFIX ?= $(HOME)/.local
 
@@ -7,14 +7,18 @@ help: ## List the targets
 	@grep -E '^[a-z]+:.*##' Makefile | sed -E 's/:.*## /: /'
 
 run: ## Build trace-script without its proofs and print the bodies of the examples
-	@echo '# built before it is proved (make test proves)' >&2
-	@for script in one-span parent-and-child everything; do \
-		echo "# trace-script --body < examples/$$script.script" >&2; \
-		(cd crates/trace_script && rt try -- --body < ../../examples/$$script.script) || exit 1; \
-	done
+	@echo '# trace-script --body, built before it is proved (make test proves), on each of examples/*.script' >&2
+	@cd crates/trace_script && rt try --cases ../../examples -- --body
 
-test: ## The gate: every proof from nothing, must-fail edits, tests and programs (tens of minutes)
+test: docs ## The gate: documents, every proof from nothing, must-fail edits, tests, programs and stored runs (tens of minutes)
 	rt ci
+	tools/runs
+
+docs: ## Compare the documents with the sources
+	tools/check-docs
+
+times: ## The gate, and what each crate took of the processors
+	tools/times rt ci
 
 install: ## Prove and build the programs, and put them into PREFIX/bin
 	cd crates/trace_script && rt run -- --body < stdin

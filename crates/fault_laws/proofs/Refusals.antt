@@ -1,14 +1,14 @@
 -- Readers of what stands at the front of some bytes, and the faults where it doesn't.
 use Rattle.std.proofs.Common.{◌≡◌, ◌⊎◌, inl, inr, refl, sym, ap, ◌∙◌, ℕ, zero, suc, List, [], ◌∷◌, ◌++◌, length, take, drop, Result, Ok, Err, ◌↔◌, arith, nat_lt, cond, Bool, true, false, ◌<◌, ◌≤◌, ◌+◌, ◌*◌, ◌%◌, ◌/◌, ◌^◌, ◌==◌}
 use Rattle.std.proofs.lemmas.Bool.{ltb-true, ltb-false, lt-ltb, le-ltb, eqb-true, eqb-false, true≢false}
-use Rattle.trace_model.specs.Reading.{Fault, truncated, long_varint, bad_number, group, bad_wire_type}
-use Rattle.trace_model.specs.Wire.{Front, give, fail, after, ◌>>=◌, map_front, next_bytes, groups, number, counted_bytes, payload, varint, i64, len, i32, field, is_field_number}
-use Rattle.trace_model.specs.Spelling.{IsVarint, IsPayload}
-use Rattle.trace_model.specs.Messages.{wire_type}
+use Rattle.message_model.specs.Reading.{Fault, truncated, long_varint, bad_number, group, bad_wire_type}
+use Rattle.message_model.specs.Wire.{Front, give, fail, after, ◌>>=◌, map_front, next_bytes, septets, number, counted_bytes, payload, varint, i64, len, i32, field, is_field_number}
+use Rattle.message_model.specs.Spelling.{IsVarint, IsPayload}
+use Rattle.message_model.specs.Messages.{wire_type}
 use Rattle.std.specs.Int.{w32, w64, from_le_bytes}
-use Rattle.trace_model.proofs.Fields.{takes-payload}
-use Rattle.trace_model.proofs.Fronts.{Takes, Both, err-ok, takes-bind, takes-next, takes-fail, takes-as}
-use Rattle.trace_model.proofs.Varints.{takes-number, takes-groups}
+use Rattle.message_model.proofs.Fields.{takes-payload}
+use Rattle.message_model.proofs.Fronts.{Takes, Both, err-ok, takes-bind, takes-next, takes-fail, takes-as}
+use Rattle.message_model.proofs.Varints.{takes-number, takes-groups}
 use Rattle.fault_laws.specs.Faults.{AreHigh}
 
 -- what fault a result is
@@ -94,36 +94,36 @@ more-high : (room b : ℕ) (bs : List ℕ) (f : Fault) → 128 ≤ b → NoGroup
 more-high room b bs f l (inl h) = inl ((l, h.0), omega (arith, h.1), h.2)
 more-high room b bs f l (inr h) = inr ((b ∷ h.0.0, h.0.1, (l, h.0.2), omega (arith, h.0.3), ap (λ z. b ∷ z) h.0.4), h.1)
 
-step : (room b : ℕ) (bs : List ℕ) (f : Fault) → ((g : Fault) → groups room bs ≡ Err g → NoGroups room bs g) → (t : Bool) → nat_lt b 128 ≡ t → (r : Result (ℕ × List ℕ) Fault) → groups room bs ≡ r →
+step : (room b : ℕ) (bs : List ℕ) (f : Fault) → ((g : Fault) → septets room bs ≡ Err g → NoGroups room bs g) → (t : Bool) → nat_lt b 128 ≡ t → (r : Result (ℕ × List ℕ) Fault) → septets room bs ≡ r →
     cond {A = Result (ℕ × List ℕ) Fault} t (Ok (b, bs)) (after r (λ high. give (b % 128 + 128 * high))) ≡ Err f → NoGroups (suc room) (b ∷ bs) f
 step room b bs f ih true e r er h = absurd (err-ok f (b, bs) (sym h))
 step room b bs f ih false e (Ok x) er h = absurd (err-ok f (b % 128 + 128 * x.0, x.1) (sym h))
 step room b bs f ih false e (Err g) er h = more-high room b bs f (ltb-false b 128 e) (ih f (er ∙ h))
 
-groups-found : (room : ℕ) (bs : List ℕ) (f : Fault) → groups room bs ≡ Err f → NoGroups room bs f
-unfolding groups
+groups-found : (room : ℕ) (bs : List ℕ) (f : Fault) → septets room bs ≡ Err f → NoGroups room bs f
+unfolding septets
 groups-found zero bs f e = inr (([], bs, tt, refl, refl), sym (err-err {A = ℕ × List ℕ} long_varint f e))
 groups-found (suc room) [] f e = inl (tt, omega arith, sym (err-err {A = ℕ × List ℕ} truncated f e))
-groups-found (suc room) (b ∷ bs) f e = step room b bs f (groups-found room bs) (nat_lt b 128) refl (groups room bs) refl e
+groups-found (suc room) (b ∷ bs) f e = step room b bs f (groups-found room bs) (nat_lt b 128) refl (septets room bs) refl e
 
-groups-short : (room : ℕ) (bs : List ℕ) → AreHigh bs → length bs < room → groups room bs ≡ Err truncated
-unfolding groups
+groups-short : (room : ℕ) (bs : List ℕ) → AreHigh bs → length bs < room → septets room bs ≡ Err truncated
+unfolding septets
 groups-short zero bs h l = absurd (omega (arith, l))
 groups-short (suc room) [] h l = refl
 groups-short (suc room) (b ∷ bs) h l = rw (le-ltb b 128 h.0, groups-short room bs h.1 (omega (arith, l))) refl
 
-groups-long : (room : ℕ) (front rest : List ℕ) → AreHigh front → length front ≡ room → groups room (front ++ rest) ≡ Err long_varint
-unfolding groups
+groups-long : (room : ℕ) (front rest : List ℕ) → AreHigh front → length front ≡ room → septets room (front ++ rest) ≡ Err long_varint
+unfolding septets
 groups-long zero [] rest h l = refl
 groups-long zero (b ∷ front) rest h l = absurd (omega (arith, l))
 groups-long (suc room) [] rest h l = absurd (omega (arith, l))
 groups-long (suc room) (b ∷ front) rest h l = rw (le-ltb b 128 h.0, groups-long room front rest h.1 (omega (arith, l))) refl
 
-groups-again : (room : ℕ) (bs : List ℕ) (f : Fault) → NoGroups room bs f → groups room bs ≡ Err f
+groups-again : (room : ℕ) (bs : List ℕ) (f : Fault) → NoGroups room bs f → septets room bs ≡ Err f
 groups-again room bs f (inl h) = groups-short room bs h.0 h.1 ∙ ap Err (sym h.2)
-groups-again room bs f (inr h) = ap (groups room) h.0.4 ∙ groups-long room h.0.0 h.0.1 h.0.2 h.0.3 ∙ ap Err (sym h.1)
+groups-again room bs f (inr h) = ap (septets room) h.0.4 ∙ groups-long room h.0.0 h.0.1 h.0.2 h.0.3 ∙ ap Err (sym h.1)
 
-pub refuses-groups : (room : ℕ) → Refuses (groups room) (NoGroups room)
+pub refuses-groups : (room : ℕ) → Refuses (septets room) (NoGroups room)
 refuses-groups room = record { found = groups-found room; again = groups-again room }
 
 -- no varint stands there: it is cut off, or ten bytes are high
@@ -132,7 +132,7 @@ NoVarint bs f = NoGroups 10 bs f
 
 pub refuses-number : Refuses number NoVarint
 unfolding number
-refuses-number = refuses-map (λ n. n % 2 ^ 64) (groups 10) _ (NoGroups 10) (takes-groups 10) (refuses-groups 10)
+refuses-number = refuses-map (λ n. n % 2 ^ 64) (septets 10) _ (NoGroups 10) (takes-groups 10) (refuses-groups 10)
 
 -- ---- a payload
 

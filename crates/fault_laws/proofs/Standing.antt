@@ -4,13 +4,13 @@ use Rattle.std.proofs.lemmas.List.{length-append, length-replicate}
 use Rattle.std.proofs.lemmas.Nat.{div-add-mod', mod_below}
 use Rattle.std.proofs.lemmas.Bool.{ltb-true, ltb-false, and_parts}
 use Rattle.std.specs.Int.{w32, w64, from_le_bytes}
-use Rattle.trace_model.specs.Reading.{Fault, truncated, long_varint, bad_number, group, bad_wire_type, bad_utf8, too_deep}
-use Rattle.trace_model.specs.Wire.{Front, Payload, varint, i64, len, i32, field, number, is_field_number}
-use Rattle.trace_model.specs.Messages.{wire_type}
-use Rattle.trace_model.specs.Spelling.{IsEnded, in_groups, IsVarint, IsCounted, IsPayload, IsField}
-use Rattle.trace_model.proofs.Fronts.{Takes, err-ok, prefix-free}
-use Rattle.trace_model.proofs.Varints.{takes-number}
-use Rattle.trace_model.proofs.Fields.{takes-field}
+use Rattle.message_model.specs.Reading.{Fault, truncated, long_varint, bad_number, group, bad_wire_type, bad_utf8, too_deep}
+use Rattle.message_model.specs.Wire.{Front, Payload, varint, i64, len, i32, field, number, is_field_number}
+use Rattle.message_model.specs.Messages.{wire_type}
+use Rattle.message_model.specs.Spelling.{IsEnded, number_of_septets, IsVarint, IsCounted, IsPayload, IsField}
+use Rattle.message_model.proofs.Fronts.{Takes, err-ok, prefix-free}
+use Rattle.message_model.proofs.Varints.{takes-number}
+use Rattle.message_model.proofs.Fields.{takes-field}
 use Rattle.fault_laws.specs.Faults.{AreHigh, IsLongVarint, HasTag, IsCutOff, Stands}
 use Rattle.fault_laws.proofs.Refusals.{Refuses, IsLong, NoVarint, NoBytes, NoPayload, of_varint, of_fixed64, of_bytes, of_fixed32, of_group, of_type, NoRest, NoField, refuses-number, refuses-field}
 
@@ -21,7 +21,7 @@ high-ended [] h = omega arith
 high-ended (b ∷ []) h = (h.0, omega arith)
 high-ended (b ∷ c ∷ bs) h = (h.0, high-ended (c ∷ bs) h.1)
 
-closed-varint : (bs : List ℕ) → AreHigh bs → length bs < 10 → IsVarint (bs ++ 0 ∷ []) (in_groups (bs ++ 0 ∷ []) % 2 ^ 64)
+closed-varint : (bs : List ℕ) → AreHigh bs → length bs < 10 → IsVarint (bs ++ 0 ∷ []) (number_of_septets (bs ++ 0 ∷ []) % 2 ^ 64)
 closed-varint bs h l = record { ended = high-ended bs h; size = simp length-append (omega (arith, l)); value = refl }
 
 some : (b : ℕ) (bs : List ℕ) → b ∷ bs ≢ []
@@ -53,7 +53,7 @@ counted rest size content n v l e = record { size = size; count = subst (λ m. I
 
 complete-bytes : (rest : List ℕ) → AreHigh rest → length rest < 10 → Completes 2 rest
 complete-bytes rest h l =
-    let n : ℕ = in_groups (rest ++ 0 ∷ []) % 2 ^ 64 in (
+    let n : ℕ = number_of_septets (rest ++ 0 ∷ []) % 2 ^ 64 in (
       0 ∷ replicate n 0,
       some 0 (replicate n 0),
       len (replicate n 0),
@@ -88,7 +88,7 @@ as-payload : (f g : Fault) (wire : ℕ) (rest : List ℕ) → f ≡ g → Payloa
 as-payload f g wire rest e h = subst (λ k. PayloadStands k wire rest) (sym e) h
 
 payload-stands : (wire : ℕ) (rest : List ℕ) (f : Fault) → NoPayload wire rest f → PayloadStands f wire rest
-payload-stands wire rest f (of_varint w (inl h)) = as-payload f truncated wire rest h.2 (at wire 0 rest w (0 ∷ [], some 0 [], varint (in_groups (rest ++ 0 ∷ []) % 2 ^ 64), refl, closed-varint rest h.0 h.1))
+payload-stands wire rest f (of_varint w (inl h)) = as-payload f truncated wire rest h.2 (at wire 0 rest w (0 ∷ [], some 0 [], varint (number_of_septets (rest ++ 0 ∷ []) % 2 ^ 64), refl, closed-varint rest h.0 h.1))
 payload-stands wire rest f (of_varint w (inr h)) = as-payload f long_varint wire rest h.1 (inl w, h.0)
 payload-stands wire rest f (of_fixed64 w h) = as-payload f truncated wire rest h.1 (at wire 1 rest w (complete-fixed64 rest h.0))
 payload-stands wire rest f (of_bytes w (inl (inl h))) = as-payload f truncated wire rest h.2 (at wire 2 rest w (complete-bytes rest h.0 h.1))
@@ -126,7 +126,7 @@ as-stands : (f g : Fault) (bs : List ℕ) → f ≡ g → Stands g bs → Stands
 as-stands f g bs e h = subst (λ k. Stands k bs) (sym e) h
 
 stands : (bs : List ℕ) (f : Fault) → NoField bs f → Stands f bs
-stands bs f (inl (inl h)) = as-stands f truncated bs h.2 (0 ∷ [], some 0 [], inr (in_groups (bs ++ 0 ∷ []) % 2 ^ 64, closed-varint bs h.0 h.1))
+stands bs f (inl (inl h)) = as-stands f truncated bs h.2 (0 ∷ [], some 0 [], inr (number_of_septets (bs ++ 0 ∷ []) % 2 ^ 64, closed-varint bs h.0 h.1))
 stands bs f (inl (inr h)) = as-stands f long_varint bs h.1 (inl (long-varint bs h.0))
 stands bs f (inr s) = elim s.4 [
   | inl h ↦ of-payload f bs s.1 s.2 s.0 s.3 s.5 h.0 (payload-stands (s.0 % 8) s.2 f h.1)

@@ -1,11 +1,11 @@
 -- Where a row stops.
 use Rattle.std.proofs.Common.{◌≡◌, ◌≢◌, refl, sym, ap, subst, ◌∙◌, ℕ, zero, suc, List, [], ◌∷◌, ◌++◌, length, drop, Result, Ok, Err, ◌↔◌, append-nil, append_assoc, arith, ◌-◌}
 use Rattle.std.proofs.lemmas.List.{length-append, drop_at}
-use Rattle.trace_model.specs.Reading.{Fault, Reading}
-use Rattle.trace_model.specs.Wire.{field, Field, row_from, row_after, row}
-use Rattle.trace_model.specs.Spelling.{IsEnded, IsField}
-use Rattle.trace_model.proofs.Fields.{takes-field}
-use Rattle.trace_model.proofs.RowLaws.{row-append, behind}
+use Rattle.message_model.specs.Reading.{Fault, Reading}
+use Rattle.message_model.specs.Wire.{field, Field, row_from, row_after, row}
+use Rattle.message_model.specs.Spelling.{IsEnded, IsField}
+use Rattle.message_model.proofs.Fields.{takes-field}
+use Rattle.message_model.proofs.RowLaws.{row-append, behind}
 use Rattle.fault_laws.specs.Faults.{StopsBehind}
 use Rattle.fault_laws.proofs.Standing.{faults-stand}
 

@@ -1,9 +1,9 @@
--- What stands where no field does. (Protocol Buffers, Encoding: Base 128 Varints, Message Structure; Language Guide:
--- Assigning Field Numbers)
+-- What stands where no field does. (Protocol Buffers, Encoding: Base 128 Varints, Message
+-- Structure; Language Guide: Assigning Field Numbers)
 use Rattle.std.specs.Prelude.{◌≡◌, ◌≢◌, ◌⊎◌, ◌↔◌, ℕ, ◌≤◌, ◌/◌, ◌%◌, List, [], ◌∷◌, ◌++◌, length, true, false, Err}
-use Rattle.trace_model.specs.Reading.{Fault, truncated, long_varint, bad_number, group, bad_wire_type, bad_utf8, too_deep}
-use Rattle.trace_model.specs.Wire.{Field, field, row, is_field_number}
-use Rattle.trace_model.specs.Spelling.{IsVarint, IsField, IsRow}
+use Rattle.message_model.specs.Reading.{Fault, truncated, long_varint, bad_number, group, bad_wire_type, bad_utf8, too_deep}
+use Rattle.message_model.specs.Wire.{Field, field, row, is_field_number}
+use Rattle.message_model.specs.Spelling.{IsVarint, IsField, IsRow}
 
 -- each byte is at least 128
 abbrev pub AreHigh : List ℕ → Type 0
@@ -24,25 +24,34 @@ pub record HasTag (bs : List ℕ) (tag : ℕ) (rest : List ℕ) : Type 0 where
   pub spelled : IsVarint front tag
   pub whole : bs ≡ front ++ rest
 
--- A tag stands at the front whose field number a field may have, and of whose wire type this holds. (Encoding: Message
--- Structure)
+-- A tag stands at the front whose field number a field may have, and of whose wire type this holds.
+-- (Encoding: Message Structure)
 abbrev pub HasType : (ℕ → Type 0) → List ℕ → Type 0
-HasType P bs = (tag : ℕ) × (rest : List ℕ) × HasTag bs tag rest × (is_field_number (tag / 8) ≡ true) × P (tag % 8)
+HasType P bs =
+    (tag : ℕ) × (rest : List ℕ) × HasTag bs tag rest × (is_field_number (tag / 8) ≡ true)
+    × P (tag % 8)
 
 -- With some bytes more they are a field, or a varint in the place of the tag.
 abbrev pub IsCutOff : List ℕ → Type 0
-IsCutOff bs = (more : List ℕ) × (more ≢ []) × (((f : Field) × IsField (bs ++ more) f) ⊎ ((tag : ℕ) × IsVarint (bs ++ more) tag))
+IsCutOff bs =
+    (more : List ℕ) × (more ≢ [])
+    × (((f : Field) × IsField (bs ++ more) f) ⊎ ((tag : ℕ) × IsVarint (bs ++ more) tag))
 
 -- A long varint stands in the place of the tag, or behind the tag in that of a number or a length.
 abbrev pub HasLongVarint : List ℕ → Type 0
-HasLongVarint bs = IsLongVarint bs ⊎ ((tag : ℕ) × (rest : List ℕ) × HasTag bs tag rest × (is_field_number (tag / 8) ≡ true) × ((tag % 8 ≡ 0) ⊎ (tag % 8 ≡ 2)) × IsLongVarint rest)
+HasLongVarint bs =
+    IsLongVarint bs
+    ⊎ ((tag : ℕ) × (rest : List ℕ) × HasTag bs tag rest × (is_field_number (tag / 8) ≡ true)
+    × ((tag % 8 ≡ 0) ⊎ (tag % 8 ≡ 2)) × IsLongVarint rest)
 
--- What each fault says of the front of some bytes. A bad field number is told before a bad wire type. Texts and depths
--- are tested only in what a field holds. (that groups are refused, and which of two faults is told: profile)
+-- What each fault says of the front of some bytes. A bad field number is told before a bad wire
+-- type. Texts and depths are tested only in what a field holds. (that groups are refused, and which
+-- of two faults is told: profile)
 abbrev pub Stands : Fault → List ℕ → Type 0
 Stands truncated bs = IsCutOff bs
 Stands long_varint bs = HasLongVarint bs
-Stands bad_number bs = (tag : ℕ) × (rest : List ℕ) × HasTag bs tag rest × (is_field_number (tag / 8) ≡ false)
+Stands bad_number bs =
+    (tag : ℕ) × (rest : List ℕ) × HasTag bs tag rest × (is_field_number (tag / 8) ≡ false)
 Stands group bs = HasType (λ wire. (wire ≡ 3) ⊎ (wire ≡ 4)) bs
 Stands bad_wire_type bs = HasType (λ wire. (wire ≡ 6) ⊎ (wire ≡ 7)) bs
 Stands bad_utf8 bs = ⊥
@@ -61,7 +70,9 @@ pub record StopsBehind (bs : List ℕ) (fields : List Field) (f : Fault) : Type 
   pub stands : Stands f rest
   pub whole : bs ≡ front ++ rest
 
--- A row with a fault has just the fields before the first place where no field stands, and the fault says what stands
--- there. (that the fields before a fault count: profile)
+-- A row with a fault has just the fields before the first place where no field stands, and the
+-- fault says what stands there. (that the fields before a fault count: profile)
 abbrev pub RowStopsAtTheFault : Type 0
-RowStopsAtTheFault = (bs : List ℕ) (fields : List Field) (f : Fault) → (row bs ≡ record { value = fields; faults = f ∷ [] }) ↔ StopsBehind bs fields f
+RowStopsAtTheFault =
+    (bs : List ℕ) (fields : List Field) (f : Fault)
+    → (row bs ≡ record { value = fields; faults = f ∷ [] }) ↔ StopsBehind bs fields f

@@ -3,10 +3,10 @@
 
 ghost use Rattle.fault_laws.specs.Faults.{FaultsSayWhatStands, RowStopsAtTheFault};
 
-/// Where no field stands at the front of some bytes, the fault says what stands there: a field that breaks off, a varint
-/// of more than ten bytes, or a tag that no field has. A row is read up to the first such place. (Protocol Buffers,
-/// Encoding: Base 128 Varints, Message Structure; that groups are refused, and that the fields before a fault count:
-/// profile)
+/// Where no field stands at the front of some bytes, the fault says what stands there: a field that
+/// breaks off, a varint of more than ten bytes, or a tag that no field has. A row is read up to the
+/// first such place. (Protocol Buffers, Encoding: Base 128 Varints, Message Structure; that groups
+/// are refused, and that the fields before a fault count: profile)
 pub fn faults_say_what_stands()
     ensures field { FaultsSayWhatStands }
     ensures row { RowStopsAtTheFault }

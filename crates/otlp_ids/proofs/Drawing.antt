@@ -6,8 +6,8 @@ use Rattle.std.specs.List.{find, flat_map, range_with_len}
 use Rattle.rand_core.specs.Stream.{Stream, next_u64}
 use Rattle.rand_core.specs.Steps.{word_bytes}
 use Rattle.std.specs.Int.{to_be_bytes}
-use Rattle.trace_model.specs.Identifiers.{Words, bytes_at, draw, first_valid, identifier, words_after, words_spent}
-use Rattle.trace_model.specs.Spans.{is_id}
+use Rattle.span_model.specs.Identifiers.{Words, bytes_at, draw, first_valid, identifier, words_after, words_spent}
+use Rattle.span_model.specs.Spans.{is_id}
 use Rattle.otlp_ids.specs.WordStream.{after_words, words_of}
 
 -- the last of the places

@@ -1,7 +1,7 @@
 -- The 64-bit words that a generator of random numbers gives.
-use Rattle.std.specs.Prelude.{ℕ, zero, suc}
+use Rattle.std.specs.Prelude.{◌≡◌, ℕ, zero, suc}
 use Rattle.rand_core.specs.Stream.{Stream, next_u64}
-use Rattle.trace_model.specs.Identifiers.{Words}
+use Rattle.span_model.specs.Identifiers.{Words, words_after}
 
 -- what the generator will answer after so many words
 unfoldable pub after_words : ℕ → Stream → Stream
@@ -11,3 +11,8 @@ after_words (suc n) s = (next_u64 (after_words n s)).1
 -- its words, from now on
 unfoldable pub words_of : Stream → Words
 words_of s n = (next_u64 (after_words n s)).0
+
+-- A generator has given so many words, and no others.
+pub record Spends (spent : Words → ℕ) (old new : Stream) : Type 0 where
+  pub stream : new ≡ after_words (spent (words_of old)) old
+  pub words : words_of new ≡ words_after (spent (words_of old)) (words_of old)

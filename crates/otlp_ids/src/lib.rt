@@ -1,22 +1,26 @@
-//! Identifiers and contexts of spans (OpenTelemetry Trace API, "SpanContext"; W3C Trace Context).
+//! Identifiers and contexts of spans (OpenTelemetry Trace API, "SpanContext"; W3C Trace Context),
+//! and what is answered where memory is refused.
 #![tactic(auto)]
 
-ghost use Rattle.std.specs.Prelude.{◌≡◌, ◌≢◌, ◌*◌, ◌/◌, ◌%◌, ◌^◌, ◌<◌, ◌↔◌, IfOk, IfSome, IsErrOf, IsOk, IsOkUnless, IsTrue, OnErr, length};
+ghost use Rattle.std.specs.Prelude.{◌≡◌, ◌≢◌, ◌*◌, ◌/◌, ◌%◌, ◌^◌, ◌<◌, ◌↔◌, ◌∷◌, [], false, IfOk, IfSome, IsErrOf, IsOk, IsOkUnless, IsTrue, OnErr, Some, length, string_bytes};
+ghost use Rattle.std.specs.Fmt.{DisplaysOnOk};
 ghost use Rattle.std.specs.List.{AllPass};
 ghost use Rattle.hex.specs.Hex.{decode_of, decode_sized, encode_lower, is_hex_digit};
-ghost use Rattle.trace_model.specs.Identifiers.{bytes_at, identifier, has_sampled_flag, with_sampled_flag, span_id, trace_id, words_after, words_spent};
-ghost use Rattle.trace_model.specs.Spans.{is_id, is_valid as is_valid_context};
+ghost use Rattle.span_model.specs.Attributes.{is_empty};
+ghost use Rattle.span_model.specs.Identifiers.{bytes_at, identifier, has_sampled_flag, with_sampled_flag, span_id, trace_id, words_spent};
+ghost use Rattle.span_model.specs.Spans.{is_id, is_valid as is_valid_context};
 ghost use Rattle.otlp_ids.specs.SpanContext.{context_view};
-ghost use Rattle.otlp_ids.specs.WordStream.{after_words, words_of};
+ghost use Rattle.otlp_ids.specs.WordStream.{Spends, after_words, words_of};
 
 use hex::FromHex;
 use rand_core::Rng;
 use std::alloc::{AllocError, AllocFailed, Allocator, Global};
+use std::{fmt, str};
 use thiserror::Error;
 
-/// Memory was refused: a growth, or one more owner of an `Arc`. What was called is unchanged, unless it
-/// says otherwise.
-#[derive(Debug, Drop, PartialEq, Eq, Error)]
+/// Memory was refused: a growth, or one more owner of an `Arc`. What was called is unchanged,
+/// unless it says otherwise.
+#[derive(Debug, Clone, Copy, PartialEq, Eq, Error)]
 #[error("out of memory")]
 pub struct OutOfMemory;
 
@@ -30,6 +34,21 @@ impl<T: Drop> From<AllocFailed<T>> for OutOfMemory {
     fn from(_: AllocFailed<T>) -> OutOfMemory {
         OutOfMemory
     }
+}
+
+/// An equal text, on memory of its own. An empty one takes none.
+///
+/// # Errors
+///
+/// `OutOfMemory` where the text could not be stored.
+pub fn copy_text<A: Allocator>(alloc: A, text: &str) -> Result<String<A>, OutOfMemory>
+    ensures value { IfOk result (λ copied. string_bytes copied ≡ text.now) }
+    ensures refused { OnErr result (is_empty text.now ≡ false) }
+{
+    if text.is_empty() {
+        return Ok(String::new(alloc));
+    }
+    Ok(String::from_str(alloc, text)?)
 }
 
 /// Why there is no identifier.
@@ -61,10 +80,7 @@ fn draw_bytes<R: Rng, const N: usize>(rng: &mut R) -> Option<[u8; N]>
     requires { N % 8 ≡ 0 }
     ensures value { result ≡ identifier (N / 8) (words_of (R.stream rng.old)) }
     ensures valid { IfSome result (λ bytes. IsTrue (is_id bytes)) }
-    ensures spent { let words = words_of (R.stream rng.old) in
-        R.stream rng.new ≡ after_words (words_spent (N / 8) words) (R.stream rng.old) }
-    ensures left { let words = words_of (R.stream rng.old) in
-        words_of (R.stream rng.new) ≡ words_after (words_spent (N / 8) words) words }
+    ensures spent { Spends (words_spent (N / 8)) (R.stream rng.old) (R.stream rng.new) }
 {
     'draws: for draw in 0..DRAWS {
         let mut bytes = [0; N];
@@ -94,7 +110,8 @@ fn bytes_from_hex<const N: usize>(text: &str) -> Result<[u8; N], IdFault>
     ensures value { IfOk result (λ bytes. decode_of text.now ≡ Ok bytes) }
     ensures ok { IsOk result ↔ ((length text.now ≡ 2 * N) × AllPass is_hex_digit text.now) }
     ensures length { IsErrOf result IdFault.BadLength ↔ (length text.now ≢ 2 * N) }
-    ensures digit { IsErrOf result IdFault.BadDigit ↔ ((length text.now ≡ 2 * N) × ¬ AllPass is_hex_digit text.now) }
+    ensures digit { IsErrOf result IdFault.BadDigit
+        ↔ ((length text.now ≡ 2 * N) × ¬ AllPass is_hex_digit text.now) }
 {
     if text.len() != 2 * N {
         return Err(IdFault::BadLength);
@@ -102,33 +119,52 @@ fn bytes_from_hex<const N: usize>(text: &str) -> Result<[u8; N], IdFault>
     <[u8; N] as FromHex>::from_hex(text).or(Err(IdFault::BadDigit))
 }
 
+/// Writes bytes as hexadecimal digits, in lower case.
+fn write_digits(bytes: &[u8], out: &mut [u8])
+    requires { length out.old ≡ 2 * length bytes.now }
+    ensures { out.new ≡ encode_lower bytes.now }
+{
+    let _ = hex::encode_to_slice(bytes, out);
+}
+
+/// Displays bytes as hexadecimal digits, in lower case, by way of room for them.
+fn display_digits<W: fmt::Write>(
+    bytes: &[u8],
+    room: &mut [u8],
+    f: &mut fmt::Formatter<W>,
+) -> fmt::Result
+    requires { length room.old ≡ 2 * length bytes.now }
+    ensures { DisplaysOnOk W.write_str_gives f.old result (Some (encode_lower bytes.now)) f.new }
+{
+    write_digits(bytes, room);
+    f.pad(str::from_utf8(room).map_err(|_| fmt::Error)?)
+}
+
 /// The identifier of a trace: 16 bytes, as they are sent.
 #[derive(Debug, Clone, Copy, PartialEq, Eq, Hash)]
 pub struct TraceId(pub [u8; 16]);
 
 impl TraceId {
-    /// Draws an identifier: two words of the generator, the first one first, each with its high byte first. A
-    /// draw of zeros alone is repeated, up to seven times. (OpenTelemetry Trace SDK, "Id Generators"; order and
-    /// count: profile)
+    /// Draws an identifier: two words of the generator, the first one first, each with its high
+    /// byte first. A draw of zeros alone is repeated, up to seven times. (OpenTelemetry Trace SDK,
+    /// "Id Generators"; order and count: profile)
     ///
     /// # Errors
     ///
-    /// `NoRandomness` where eight draws were all zero. In each case the words that were drawn are spent, and no
-    /// others.
+    /// `NoRandomness` where eight draws were all zero. In each case the words that were drawn are
+    /// spent, and no others.
     pub fn draw<R: Rng>(rng: &mut R) -> Result<TraceId, IdFault>
         ensures value { IfOk result (λ id. trace_id (words_of (R.stream rng.old)) ≡ Some id.0) }
         ensures valid { IfOk result (λ id. IsTrue (is_id id.0)) }
         ensures only { IsOkUnless result IdFault.NoRandomness }
         ensures no_randomness { OnErr result (trace_id (words_of (R.stream rng.old)) ≡ None) }
-        ensures spent { let words = words_of (R.stream rng.old) in
-            R.stream rng.new ≡ after_words (words_spent 2 words) (R.stream rng.old) }
-        ensures left { let words = words_of (R.stream rng.old) in
-            words_of (R.stream rng.new) ≡ words_after (words_spent 2 words) words }
+        ensures spent { Spends (words_spent 2) (R.stream rng.old) (R.stream rng.new) }
     {
         draw_bytes(rng).map(TraceId).ok_or(IdFault::NoRandomness)
     }
 
-    /// The identifier that 32 hexadecimal digits spell (W3C Trace Context, "trace-id"; either case: profile).
+    /// The identifier that 32 hexadecimal digits spell (W3C Trace Context, "trace-id"; either case:
+    /// profile).
     ///
     /// # Errors
     ///
@@ -137,17 +173,19 @@ impl TraceId {
         ensures value { IfOk result (λ id. decode_of text.now ≡ Ok id.0) }
         ensures ok { IsOk result ↔ ((length text.now ≡ 32) × AllPass is_hex_digit text.now) }
         ensures bad_length { IsErrOf result IdFault.BadLength ↔ (length text.now ≢ 32) }
-        ensures bad_digit { IsErrOf result IdFault.BadDigit ↔ ((length text.now ≡ 32) × ¬ AllPass is_hex_digit text.now) }
+        ensures bad_digit { IsErrOf result IdFault.BadDigit
+            ↔ ((length text.now ≡ 32) × ¬ AllPass is_hex_digit text.now) }
     {
         Ok(TraceId(bytes_from_hex(text)?))
     }
 
-    /// Writes the identifier as 32 hexadecimal digits, in lower case (W3C Trace Context, "trace-id").
+    /// Writes the identifier as 32 hexadecimal digits, in lower case (W3C Trace Context,
+    /// "trace-id").
     pub fn write_hex(&self, out: &mut [u8])
         requires { length out.old ≡ 32 }
         ensures { out.new ≡ encode_lower self.now.0 }
     {
-        let _ = hex::encode_to_slice(self.0.as_slice(), out);
+        write_digits(&self.0, out)
     }
 
     /// Whether some byte isn't zero (W3C Trace Context, "trace-id").
@@ -158,32 +196,40 @@ impl TraceId {
     }
 }
 
+/// As 32 hexadecimal digits, in lower case (W3C Trace Context, "trace-id").
+impl fmt::Display for TraceId {
+    ghost output = { λ id. Some (encode_lower id.0) };
+
+    fn fmt<W: fmt::Write>(&self, f: &mut fmt::Formatter<W>) -> fmt::Result {
+        display_digits(&self.0, &mut [0; 32], f)
+    }
+}
+
 /// The identifier of a span: 8 bytes, as they are sent.
 #[derive(Debug, Clone, Copy, PartialEq, Eq, Hash)]
 pub struct SpanId(pub [u8; 8]);
 
 impl SpanId {
-    /// Draws an identifier: one word of the generator, its high byte first. A draw of zeros alone is repeated, up
-    /// to seven times. (OpenTelemetry Trace SDK, "Id Generators"; order and count: profile)
+    /// Draws an identifier: one word of the generator, its high byte first. A draw of zeros alone
+    /// is repeated, up to seven times. (OpenTelemetry Trace SDK, "Id Generators"; order and count:
+    /// profile)
     ///
     /// # Errors
     ///
-    /// `NoRandomness` where eight draws were all zero. In each case the words that were drawn are spent, and no
-    /// others.
+    /// `NoRandomness` where eight draws were all zero. In each case the words that were drawn are
+    /// spent, and no others.
     pub fn draw<R: Rng>(rng: &mut R) -> Result<SpanId, IdFault>
         ensures value { IfOk result (λ id. span_id (words_of (R.stream rng.old)) ≡ Some id.0) }
         ensures valid { IfOk result (λ id. IsTrue (is_id id.0)) }
         ensures only { IsOkUnless result IdFault.NoRandomness }
         ensures no_randomness { OnErr result (span_id (words_of (R.stream rng.old)) ≡ None) }
-        ensures spent { let words = words_of (R.stream rng.old) in
-            R.stream rng.new ≡ after_words (words_spent 1 words) (R.stream rng.old) }
-        ensures left { let words = words_of (R.stream rng.old) in
-            words_of (R.stream rng.new) ≡ words_after (words_spent 1 words) words }
+        ensures spent { Spends (words_spent 1) (R.stream rng.old) (R.stream rng.new) }
     {
         draw_bytes(rng).map(SpanId).ok_or(IdFault::NoRandomness)
     }
 
-    /// The identifier that 16 hexadecimal digits spell (W3C Trace Context, "parent-id"; either case: profile).
+    /// The identifier that 16 hexadecimal digits spell (W3C Trace Context, "parent-id"; either
+    /// case: profile).
     ///
     /// # Errors
     ///
@@ -192,17 +238,19 @@ impl SpanId {
         ensures value { IfOk result (λ id. decode_of text.now ≡ Ok id.0) }
         ensures ok { IsOk result ↔ ((length text.now ≡ 16) × AllPass is_hex_digit text.now) }
         ensures bad_length { IsErrOf result IdFault.BadLength ↔ (length text.now ≢ 16) }
-        ensures bad_digit { IsErrOf result IdFault.BadDigit ↔ ((length text.now ≡ 16) × ¬ AllPass is_hex_digit text.now) }
+        ensures bad_digit { IsErrOf result IdFault.BadDigit
+            ↔ ((length text.now ≡ 16) × ¬ AllPass is_hex_digit text.now) }
     {
         Ok(SpanId(bytes_from_hex(text)?))
     }
 
-    /// Writes the identifier as 16 hexadecimal digits, in lower case (W3C Trace Context, "parent-id").
+    /// Writes the identifier as 16 hexadecimal digits, in lower case (W3C Trace Context,
+    /// "parent-id").
     pub fn write_hex(&self, out: &mut [u8])
         requires { length out.old ≡ 16 }
         ensures { out.new ≡ encode_lower self.now.0 }
     {
-        let _ = hex::encode_to_slice(self.0.as_slice(), out);
+        write_digits(&self.0, out)
     }
 
     /// Whether some byte isn't zero (W3C Trace Context, "parent-id").
@@ -210,6 +258,15 @@ impl SpanId {
         ensures { result ≡ is_id self.now.0 }
     {
         is_any_set(&self.0)
+    }
+}
+
+/// As 16 hexadecimal digits, in lower case (W3C Trace Context, "parent-id").
+impl fmt::Display for SpanId {
+    ghost output = { λ id. Some (encode_lower id.0) };
+
+    fn fmt<W: fmt::Write>(&self, f: &mut fmt::Formatter<W>) -> fmt::Result {
+        display_digits(&self.0, &mut [0; 16], f)
     }
 }
 
@@ -225,7 +282,8 @@ impl TraceFlags {
         self.0 & 1 != 0
     }
 
-    /// The same flags, but for the sampled flag, which is as told (W3C Trace Context, "sampled flag").
+    /// The same flags, but for the sampled flag, which is as told (W3C Trace Context, "sampled
+    /// flag").
     pub fn with_sampled(&self, sampled: bool) -> TraceFlags
         ensures { result.0 ≡ with_sampled_flag sampled self.now.0 }
     {
@@ -235,6 +293,15 @@ impl TraceFlags {
         } else {
             TraceFlags(others)
         }
+    }
+}
+
+/// As 2 hexadecimal digits, in lower case (W3C Trace Context, "trace-flags").
+impl fmt::Display for TraceFlags {
+    ghost output = { λ flags. Some (encode_lower (flags.0 ∷ [])) };
+
+    fn fmt<W: fmt::Write>(&self, f: &mut fmt::Formatter<W>) -> fmt::Result {
+        display_digits(&[self.0], &mut [0; 2], f)
     }
 }
 
@@ -264,23 +331,21 @@ impl<A: Allocator> SpanContext<A> {
 }
 
 impl<A: Allocator + Copy> SpanContext<A> {
-    /// An equal context, on memory of its own.
+    /// An equal context, on memory of its own. One whose trace state is empty takes none.
     ///
     /// # Errors
     ///
     /// `OutOfMemory` where the trace state could not be stored.
     pub fn copy(&self, alloc: A) -> Result<SpanContext<A>, OutOfMemory>
-        ensures { IfOk result (λ context. context_view context ≡ context_view self.now) }
+        ensures value { IfOk result (λ context. context_view context ≡ context_view self.now) }
+        ensures refused { OnErr result (is_empty (context_view self.now).state ≡ false) }
     {
         Ok(SpanContext {
             trace: self.trace,
             span: self.span,
             flags: self.flags,
             remote: self.remote,
-            state: String::from_str(alloc, self.state.as_str())?,
+            state: copy_text(alloc, &self.state)?,
         })
     }
 }
-
-#[cfg(test)]
-mod tests;

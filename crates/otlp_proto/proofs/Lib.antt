@@ -1,3 +1,6 @@
 mod Read
 mod Values
 mod Writing
+mod Shared
+mod Carried
+mod Equal

@@ -3,13 +3,13 @@ use Rattle.std.proofs.Common.{◌≡◌, refl, sym, ap, ◌∙◌, ℕ, ℤ, zer
 use Rattle.std.proofs.lemmas.List.{append-nil}
 use Rattle.std.specs.Int.{w64, cast_unsigned}
 use mir.Val.{SFits, bool_byte}
-use Rattle.trace_model.specs.Wire.{Field, varint}
-use Rattle.trace_model.specs.AnyValue.{AnyValue, AnyValues, no_values, value, KeyValues, no_pairs, pair, as_values}
-use Rattle.trace_model.specs.Tables.{any}
-use Rattle.trace_model.specs.Messages.{max_depth}
-use Rattle.trace_model.specs.Canon.{field_bytes, bytes_field, row_bytes, shape_fields, value_fields, values_fields}
-use Rattle.trace_model.specs.Whole.{IsText, EachValue, EachPair, IsMember, IsValue}
-use Rattle.trace_model.proofs.Composed.{row_bytes-append}
+use Rattle.message_model.specs.Wire.{Field, varint}
+use Rattle.message_model.specs.AnyValue.{AnyValue, AnyValues, no_values, value, KeyValues, no_pairs, pair, as_values}
+use Rattle.message_model.specs.Tables.{any}
+use Rattle.message_model.specs.Messages.{max_depth}
+use Rattle.message_model.specs.Canon.{field_bytes, bytes_field, row_bytes, shape_fields, value_fields, values_fields}
+use Rattle.message_model.specs.Whole.{IsText, EachValue, EachPair, IsMember, IsValue}
+use Rattle.message_model.proofs.Composed.{row_bytes-append}
 use Rattle.otlp_proto.specs.Encode.{Puts, PutsMember, PutsValues, IsArray}
 use Rattle.otlp_proto.proofs.Writing.{one-field}
 

@@ -4,52 +4,60 @@ use Rattle.std.proofs.lemmas.List.{append-nil, length-append, map-append}
 use Rattle.std.proofs.Math.Seq.{take-suc}
 use Rattle.std.proofs.lemmas.Bool.{eqb-true, ne_eqb}
 use Rattle.std.specs.List.{AllByRecursion}
-use Rattle.trace_model.specs.Wire.{Field, varint, i64}
-use Rattle.trace_model.specs.Tables.{Shape, text, bytes, uint32, enum, fixed64, message, optional, repeated, Table, end, ◌⦂◌◂◌, Meaning, Record}
-use Rattle.trace_model.specs.Messages.{wire_type}
-use Rattle.trace_model.specs.Canon.{groups_of, shortest, payload_bytes, field_bytes, bytes_field, unless_empty, unless_no_fields, row_bytes, shape_fields, shape_bytes, table_fields, canon}
-use Rattle.trace_model.specs.Whole.{IsText, IsWhole}
-use Rattle.trace_model.proofs.Composed.{canon-field, canon-end, repeated-none, repeated-more}
+use Rattle.message_model.specs.Wire.{Field, varint, i64}
+use Rattle.message_model.specs.Tables.{Shape, text, bytes, uint32, enum, fixed64, message, repeated, Table, end, ◌⦂◌◂◌, ValueOf, Message}
+use Rattle.message_model.specs.Messages.{wire_type}
+use Rattle.message_model.specs.Canon.{septets_of, shortest, payload_bytes, field_bytes, bytes_field, unless_empty, unless_no_fields, message_field, is_flat, row_bytes, shape_fields, shape_bytes, table_fields, canon}
+use Rattle.message_model.specs.Whole.{IsText, IsWhole, IsMessage}
+use Rattle.message_model.proofs.Composed.{canon-field, canon-end, repeated-none, repeated-more}
 use Rattle.otlp_proto.specs.Encode.{Puts, PutsAll, IsWritten}
 
 pub no-field : (out : List ℕ) → PutsAll end tt out out
 no-field out = record { bytes = sym (ap (λ bs. out ++ bs) canon-end ∙ append-nil out); whole = tt }
 
-pub and-field : {n : ℕ} {s : Shape} {t : Table} {x : Meaning s} {r : Record t} {old mid new : List ℕ} → Puts n s x old mid → PutsAll t r mid new → PutsAll (n ⦂ s ◂ t) (x, r) old new
+pub and-field : {n : ℕ} {s : Shape} {t : Table} {x : ValueOf s} {r : Message t} {old mid new : List ℕ} → Puts n s x old mid → PutsAll t r mid new → PutsAll (n ⦂ s ◂ t) (x, r) old new
 and-field {n} {s} {t} {x} {r} {old} p q = record {
   bytes = q.bytes ∙ ap (λ bs. bs ++ canon t r) p.bytes ∙ append_assoc old (shape_bytes n s x) (canon t r) ∙ ap (λ bs. old ++ bs) (sym (canon-field n s t x r));
   whole = (p.whole, q.whole);
 }
 
 -- a field with nothing to write
-pub nothing : {n : ℕ} {s : Shape} {x : Meaning s} {out : List ℕ} → shape_bytes n s x ≡ [] → IsWhole s x → Puts n s x out out
+pub nothing : {n : ℕ} {s : Shape} {x : ValueOf s} {out : List ℕ} → shape_bytes n s x ≡ [] → IsWhole s x → Puts n s x out out
 nothing {n} {s} {x} {out} e w = record { bytes = sym (ap (λ bs. out ++ bs) e ∙ append-nil out); whole = w }
 
 pub one-field : (f : Field) → row_bytes (f ∷ []) ≡ field_bytes f
 unfolding row_bytes
 one-field f = append-nil (field_bytes f)
 
-pub put-message : {n : ℕ} {t : Table} {r : Record t} {bs old new : List ℕ} → IsWritten t r bs → new ≡ old ++ field_bytes (bytes_field n bs) → Puts n (message t) r old new
+-- a message that is written as one field, whatever it has
+one-message : (n : ℕ) {t : Table} {r : Message t} {bs : List ℕ} (old : List ℕ) {new : List ℕ} → IsWritten t r bs → new ≡ old ++ field_bytes (bytes_field n bs) → new ≡ old ++ row_bytes (bytes_field n (canon t r) ∷ [])
+one-message n {t} {r} old w e = e ∙ ap (λ b. old ++ field_bytes (bytes_field n b)) w.bytes ∙ ap (λ b. old ++ b) (sym (one-field (bytes_field n (canon t r))))
+
+-- a message that is not flat
+pub put-message : {n : ℕ} {t : Table} {r : Message t} {bs old new : List ℕ} → is_flat t ≡ false → IsWritten t r bs → new ≡ old ++ field_bytes (bytes_field n bs) → Puts n (message t) r old new
 unfolding shape_fields canon
-put-message {n} {t} {r} {bs} {old} w e = record {
-  bytes = e ∙ ap (λ b. old ++ field_bytes (bytes_field n b)) w.bytes ∙ ap (λ b. old ++ b) (sym (one-field (bytes_field n (canon t r))));
+put-message {n} {t} {r} {bs} {old} {new} deep w e = record {
+  bytes = one-message n old w e ∙ ap (λ b. old ++ row_bytes (cond b (unless_no_fields n (table_fields t r)) (message_field n (table_fields t r) ∷ []))) (sym deep);
   whole = w.whole;
 }
 
 -- ---- a repeated field
 
-pub none-yet : {n : ℕ} {s : Shape} (out : List ℕ) → Puts n (repeated s) [] out out
-none-yet {n} {s} out = nothing (repeated-none n s) tt
+pub none_yet : {n : ℕ} {s : Shape} (out : List ℕ) → Puts n (repeated s) [] out out
+none_yet {n} {s} out = nothing (repeated-none n s) tt
 
-all-more : {A : Type 0} (P : A → Type 0) (xs : List A) (x : A) → AllByRecursion P xs → P x → AllByRecursion P (xs ++ x ∷ [])
+pub all-more : {A : Type 0} (P : A → Type 0) (xs : List A) (x : A) → AllByRecursion P xs → P x → AllByRecursion P (xs ++ x ∷ [])
 all-more P [] x h k = (k, tt)
 all-more P (y ∷ xs) x h k = (h.0, all-more P xs x h.1 k)
 
-pub one-more : {n : ℕ} {s : Shape} {xs : List (Meaning s)} {x : Meaning s} {old mid new : List ℕ} → Puts n (repeated s) xs old mid → Puts n s x mid new → Puts n (repeated s) (xs ++ x ∷ []) old new
-one-more {n} {s} {xs} {x} {old} p q = record {
-  bytes = q.bytes ∙ ap (λ bs. bs ++ shape_bytes n s x) p.bytes ∙ append_assoc old (shape_bytes n (repeated s) xs) (shape_bytes n s x) ∙ ap (λ bs. old ++ bs) (sym (repeated-more n s xs x));
-  whole = all-more (λ y. IsWhole s y) xs x p.whole q.whole;
-}
+one-more : {n : ℕ} {t : Table} {rs : List (Message t)} {r : Message t} {bs old mid new : List ℕ} → Puts n (repeated (message t)) rs old mid → IsWritten t r bs → new ≡ mid ++ field_bytes (bytes_field n bs) →
+    Puts n (repeated (message t)) (rs ++ r ∷ []) old new
+unfolding shape_fields canon
+one-more {n} {t} {rs} {r} {bs} {old} {mid} p w e =
+    let own : List ℕ = row_bytes (bytes_field n (canon t r) ∷ []) in record {
+      bytes = one-message n mid w e ∙ ap (λ b. b ++ own) p.bytes ∙ append_assoc old (shape_bytes n (repeated (message t)) rs) own ∙ ap (λ b. old ++ b) (sym (repeated-more n (message t) rs r));
+      whole = all-more (λ y. IsMessage t y) rs r p.whole w.whole;
+    }
 
 pub through-index : {X Y : Type 0} (f : X → Y) (xs : List X) (i : ℕ) (x : X) → i < length xs → x ≡ get_or xs i x → map f (take (i + 1) xs) ≡ map f (take i xs) ++ f x ∷ []
 through-index f xs i x l e = rw (add-one, take-suc xs i x l) (map-append f (take i xs) (get_or xs i x ∷ []) ∙ ap (λ y. map f (take i xs) ++ f y ∷ []) (sym e))
@@ -60,6 +68,12 @@ through-item f xs i d l = rw (add-one, take-suc xs i d l) (map-append f (take i 
 pub through-index-2 : {X Y Z : Type 0} (f : Y → Z) (g : X → Y) (xs : List X) (i : ℕ) (x : X) → i < length xs → x ≡ get_or xs i x →
     map f (map g (take (i + 1) xs)) ≡ map f (map g (take i xs)) ++ f (g x) ∷ []
 through-index-2 f g xs i x l e = ap (map f) (through-index g xs i x l e) ∙ map-append f (map g (take i xs)) (g x ∷ [])
+
+-- one message more, in a loop over what the messages are made of
+pub message-more : {X Y : Type 0} {n : ℕ} {t : Table} {bs old mid new : List ℕ} (f : Y → Message t) (g : X → Y) (xs : List X) (i : ℕ) (x : X) → i < length xs → x ≡ get_or xs i x →
+    Puts n (repeated (message t)) (map f (map g (take i xs))) old mid → IsWritten t (f (g x)) bs → new ≡ mid ++ field_bytes (bytes_field n bs) → Puts n (repeated (message t)) (map f (map g (take (i + 1) xs))) old new
+message-more {n = n} {t = t} {bs = bs} {old = old} {mid = mid} {new = new} f g xs i x l e p w q =
+    rw (through-index-2 f g xs i x l e) (one-more {n = n} {t = t} {rs = map f (map g (take i xs))} {r = f (g x)} {bs = bs} {old = old} {mid = mid} {new = new} p w q)
 
 -- ---- fields
 
@@ -74,11 +88,11 @@ unfolding field_bytes payload_bytes
 tagged f tag old mid new e p q = q ∙ ap (λ bs. bs ++ payload_bytes f.payload) (p ∙ ap (λ n. old ++ shortest n) e) ∙ append_assoc old (shortest (f.number * 8 + wire_type f.payload)) (payload_bytes f.payload)
 
 -- one field, where the shape has just this one to write
-one : {n : ℕ} {s : Shape} {x : Meaning s} {old new : List ℕ} (f : Field) → shape_fields n s x ≡ f ∷ [] → IsWhole s x → new ≡ old ++ field_bytes f → Puts n s x old new
+one : {n : ℕ} {s : Shape} {x : ValueOf s} {old new : List ℕ} (f : Field) → shape_fields n s x ≡ f ∷ [] → IsWhole s x → new ≡ old ++ field_bytes f → Puts n s x old new
 one {n} {s} {x} {old} f e w q = record { bytes = q ∙ ap (λ bs. old ++ bs) (sym (ap row_bytes e ∙ one-field f)); whole = w }
 
 -- no field, where the shape has none to write
-none : {n : ℕ} {s : Shape} {x : Meaning s} {out : List ℕ} → shape_fields n s x ≡ [] → IsWhole s x → Puts n s x out out
+none : {n : ℕ} {s : Shape} {x : ValueOf s} {out : List ℕ} → shape_fields n s x ≡ [] → IsWhole s x → Puts n s x out out
 unfolding row_bytes
 none e w = nothing (ap row_bytes e) w
 
@@ -138,10 +152,10 @@ no-octets-at-all = no-octets refl
 
 -- ---- a message that is left out where it has no field
 
-groups-some : (room n : ℕ) → 0 < length (groups_of room n)
-unfolding groups_of
+groups-some : (room n : ℕ) → 0 < length (septets_of room n)
+unfolding septets_of
 groups-some zero n = omega arith
-groups-some (suc room) n = elim (nat_lt n 128) as (λ t. 0 < length (cond t (n ∷ []) ((n % 128 + 128) ∷ groups_of room (n / 128)))) [ true ↦ omega arith | false ↦ omega arith ]
+groups-some (suc room) n = elim (nat_lt n 128) as (λ t. 0 < length (cond t (n ∷ []) ((n % 128 + 128) ∷ septets_of room (n / 128)))) [ true ↦ omega arith | false ↦ omega arith ]
 
 field-some : (f : Field) (fields : List Field) → 0 < length (row_bytes (f ∷ fields))
 unfolding row_bytes field_bytes shortest
@@ -160,10 +174,10 @@ row-none : (n : ℕ) (fields : List Field) → (length (row_bytes fields) == 0) 
 row-none n [] e = refl
 row-none n (f ∷ fields) e = absurd (let l : length (row_bytes (f ∷ fields)) ≡ 0 = eqb-true (length (row_bytes (f ∷ fields))) 0 e in omega (arith, l, field-some f fields))
 
-pub some-message : {n : ℕ} {t : Table} {r : Record t} {bs old new : List ℕ} → IsWritten t r bs → (length bs == 0) ≡ false → new ≡ old ++ field_bytes (bytes_field n bs) → Puts n (optional t) r old new
+pub some-message : {n : ℕ} {t : Table} {r : Message t} {bs old new : List ℕ} → is_flat t ≡ true → IsWritten t r bs → (length bs == 0) ≡ false → new ≡ old ++ field_bytes (bytes_field n bs) → Puts n (message t) r old new
 unfolding shape_fields canon
-some-message {n} {t} {r} {bs} {old} w e q = one (bytes_field n (canon t r)) (row-some n (table_fields t r) (ap (λ b. length b == 0) (sym w.bytes) ∙ e)) w.whole (q ∙ ap (λ b. old ++ field_bytes (bytes_field n b)) w.bytes)
+some-message {n} {t} {r} {bs} {old} flat w e q = one (bytes_field n (canon t r)) (rw flat (row-some n (table_fields t r) (ap (λ b. length b == 0) (sym w.bytes) ∙ e))) w.whole (q ∙ ap (λ b. old ++ field_bytes (bytes_field n b)) w.bytes)
 
-pub no-message : {n : ℕ} {t : Table} {r : Record t} {bs out : List ℕ} → IsWritten t r bs → (length bs == 0) ≡ true → Puts n (optional t) r out out
+pub no-message : {n : ℕ} {t : Table} {r : Message t} {bs out : List ℕ} → is_flat t ≡ true → IsWritten t r bs → (length bs == 0) ≡ true → Puts n (message t) r out out
 unfolding shape_fields canon
-no-message {n} {t} {r} w e = none (row-none n (table_fields t r) (ap (λ b. length b == 0) (sym w.bytes) ∙ e)) w.whole
+no-message {n} {t} {r} flat w e = none (rw flat (row-none n (table_fields t r) (ap (λ b. length b == 0) (sym w.bytes) ∙ e))) w.whole

@@ -1,11 +1,11 @@
-//! The body of a trace export (opentelemetry-proto, trace service), by nested vectors: a function for each message,
-//! with its fields in rising number.
-ghost use Rattle.std.specs.Prelude.{◌≡◌, ◌≤◌, ◌<◌, ◌^◌, IfOk, OnOk, IsErrOf, length, map, pos};
-ghost use Rattle.trace_model.specs.Reading.{Reads};
-ghost use Rattle.trace_model.specs.Tables;
-ghost use Rattle.trace_model.specs.Messages.{meaning};
-ghost use Rattle.trace_model.specs.Export as model;
-ghost use Rattle.otlp_span.specs.Parts.{kind_view, parent_view, resource_view, scope_view};
+//! The body of a trace export (opentelemetry-proto, trace service), by nested vectors: a function
+//! for each message, with its fields in rising number.
+ghost use Rattle.std.specs.Prelude.{◌≡◌, ◌≢◌, ◌≤◌, ◌<◌, ◌^◌, [], IfOk, OnOk, OnErr, IsErrOf, length, pos};
+ghost use Rattle.message_model.specs.Reading.{Reads};
+ghost use Rattle.message_model.specs.Tables;
+ghost use Rattle.message_model.specs.Messages.{meaning, body_meaning};
+ghost use Rattle.export_model.specs.Export as model;
+ghost use Rattle.otlp_span.specs.Parts.{kind_view, parent_id_view, resource_view, scope_view};
 ghost use Rattle.otlp_proto.specs.Group.{scope_group_view, resource_group_view, groups_view};
 ghost use Rattle.otlp_proto.specs.Encode.{Puts, IsWritten};
 
@@ -37,7 +37,8 @@ fn encode_resource<A: Allocator + Copy>(
 
 /// The message of a scope.
 fn encode_scope<A: Allocator + Copy>(alloc: A, scope: &Scope<A>) -> Result<Vec<u8, A>, OutOfMemory>
-    ensures { IfOk result (λ v. IsWritten Tables.scope (model.scope_message (scope_view scope.now)) v.items) }
+    ensures { IfOk result
+        (λ v. IsWritten Tables.scope (model.scope_message (scope_view scope.now)) v.items) }
 {
     let mut out = Vec::new(alloc);
     put_text(&mut out, 1, scope.name.as_str())?;
@@ -66,7 +67,7 @@ fn put_parent<A: Allocator>(
     parent: Option<SpanId>,
 ) -> Result<(), OutOfMemory>
     requires { number < 2 ^ 29 }
-    ensures { OnOk result (Puts number Tables.bytes (model.parent_id (parent_view parent))
+    ensures { OnOk result (Puts number Tables.bytes (model.parent_id (parent_id_view parent))
         out.old.items out.new.items) }
 {
     match parent {
@@ -100,12 +101,13 @@ fn encode_span<A: Allocator + Copy>(alloc: A, span: &SpanData<A>) -> Result<Vec<
 }
 
 /// The message of a scope's spans.
+#[tactic(auto, using(crate::proofs::Writing::none_yet))]
 fn encode_scope_spans<A: Allocator + Copy>(
     alloc: A,
     group: &ScopeGroup<'_, A>,
 ) -> Result<Vec<u8, A>, OutOfMemory>
-    ensures { IfOk result (λ v.
-        IsWritten Tables.scope_spans (model.scope_spans_message (scope_group_view group.now)) v.items) }
+    ensures { let message = model.scope_spans_message (scope_group_view group.now) in
+        IfOk result (λ v. IsWritten Tables.scope_spans message v.items) }
 {
     let mut out = Vec::new(alloc);
     let scope = encode_scope(alloc, group.scope)?;
@@ -119,12 +121,13 @@ fn encode_scope_spans<A: Allocator + Copy>(
 }
 
 /// The message of a resource's spans, by scope.
+#[tactic(auto, using(crate::proofs::Writing::none_yet))]
 fn encode_resource_spans<A: Allocator + Copy>(
     alloc: A,
     group: &ResourceGroup<'_, A>,
 ) -> Result<Vec<u8, A>, OutOfMemory>
-    ensures { IfOk result (λ v.
-        IsWritten Tables.resource_spans (model.resource_spans_message (resource_group_view group.now)) v.items) }
+    ensures { let message = model.resource_spans_message (resource_group_view group.now) in
+        IfOk result (λ v. IsWritten Tables.resource_spans message v.items) }
 {
     let mut out = Vec::new(alloc);
     let resource = encode_resource(alloc, group.resource)?;
@@ -137,13 +140,15 @@ fn encode_resource_spans<A: Allocator + Copy>(
     Ok(out)
 }
 
-/// The message of a request, whatever its length.
+/// The message of a request, whatever its length. Without a group it takes no memory.
+#[tactic(auto, using(crate::proofs::Shared::some_items, crate::proofs::Writing::none_yet))]
 fn encode_request<A: Allocator + Copy>(
     alloc: A,
     groups: &[ResourceGroup<'_, A>],
 ) -> Result<Vec<u8, A>, OutOfMemory>
-    ensures { IfOk result (λ v.
-        IsWritten Tables.request (model.request_message (map resource_group_view groups.now)) v.items) }
+    ensures written { let message = model.request_message (groups_view groups.now) in
+        IfOk result (λ v. IsWritten Tables.request message v.items) }
+    ensures refused { OnErr result (groups.now ≢ []) }
 {
     let mut out = Vec::new(alloc);
     for group in groups {
@@ -152,6 +157,10 @@ fn encode_request<A: Allocator + Copy>(
     }
     Ok(out)
 }
+
+/// The greatest body that exporters send by default, in bytes: 4 MiB, what a collector's gRPC
+/// receiver takes by default (profile).
+pub const DEFAULT_MAX_BODY: usize = 4_194_304;
 
 /// Why there is no body.
 #[derive(Debug, Clone, Copy, PartialEq, Eq, Error)]
@@ -176,12 +185,14 @@ impl From<OutOfMemory> for EncodeFault {
     }
 }
 
-/// The body of the request that exports these groups (opentelemetry-proto, ExportTraceServiceRequest), in the
-/// uncompressed Protocol Buffers encoding. It has at most `max` bytes.
+/// The body of the request that exports these groups (opentelemetry-proto,
+/// ExportTraceServiceRequest), in the uncompressed Protocol Buffers encoding. It has at most `max`
+/// bytes.
 ///
 /// # Errors
 ///
-/// `OutOfMemory` where memory was refused, and `TooLarge` where the body has more than `max` bytes.
+/// `OutOfMemory` where memory was refused; without a group none is taken. `TooLarge` where the body
+/// has more than `max` bytes: it is made before it is measured, so want of memory is told first.
 pub fn encode<A: Allocator + Copy>(
     alloc: A,
     groups: &[ResourceGroup<'_, A>],
@@ -189,9 +200,14 @@ pub fn encode<A: Allocator + Copy>(
 ) -> Result<Vec<u8, A>, EncodeFault>
     ensures meaning { let message = model.request_message (groups_view groups.now) in
         IfOk result (λ body. Reads (meaning Tables.request body.items) message) }
-    ensures length { IfOk result (λ body. length body.items ≡ model.body_length (groups_view groups.now)) }
+    ensures spans { let images = model.triples_of (groups_view groups.now) in
+        IfOk result (λ body. Reads (body_meaning body.items) images) }
+    ensures length { IfOk result
+        (λ body. length body.items ≡ model.body_length (groups_view groups.now)) }
     ensures within { OnOk result (model.body_length (groups_view groups.now) ≤ max) }
-    ensures too_large { IsErrOf result EncodeFault.TooLarge → max < model.body_length (groups_view groups.now) }
+    ensures too_large { IsErrOf result EncodeFault.TooLarge
+        → max < model.body_length (groups_view groups.now) }
+    ensures refused { IsErrOf result EncodeFault.OutOfMemory → groups.now ≢ [] }
 {
     let body = encode_request(alloc, groups)?;
     if body.len() > max {

@@ -1,11 +1,13 @@
-//! The messages of OTLP's trace exports, as Protocol Buffers write them (opentelemetry-proto: trace_service.proto,
-//! trace.proto, common.proto, resource.proto).
+//! The messages of OTLP's trace exports, as Protocol Buffers write them (opentelemetry-proto:
+//! trace_service.proto, trace.proto, common.proto, resource.proto).
 #![tactic(auto)]
 
+mod body;
 mod encoder;
 mod groups;
-#[cfg(test)]
-mod tests;
+mod place;
 
-pub use encoder::{EncodeFault, encode};
-pub use groups::{ResourceGroup, ScopeGroup};
+pub use body::body_of;
+pub use encoder::{DEFAULT_MAX_BODY, EncodeFault, encode};
+pub use groups::{ResourceGroup, ScopeGroup, group};
+pub use place::share_place;

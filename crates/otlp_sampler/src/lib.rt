@@ -1,5 +1,5 @@
-//! Samplers, which decide at its start whether a span is recorded and whether it is exported (OpenTelemetry
-//! Trace SDK, "Sampling"). Nothing here takes memory.
+//! Samplers, which decide at its start whether a span is recorded and whether it is exported
+//! (OpenTelemetry Trace SDK, "Sampling"). Nothing here takes memory.
 #![tactic(auto)]
 
 mod parents;
@@ -7,6 +7,3 @@ mod sampling;
 
 pub use parents::ParentBased;
 pub use sampling::{AlwaysOff, AlwaysOn, Decision, Sampler};
-
-#[cfg(test)]
-mod tests;

@@ -1,13 +1,13 @@
 ghost use Rattle.std.specs.Prelude.{◌≡◌};
-ghost use Rattle.trace_model.specs.Sampling as model;
+ghost use Rattle.span_model.specs.Sampling as model;
 
 use crate::sampling::{AlwaysOff, AlwaysOn, Decision, Sampler};
 use otlp_ids::{SpanContext, TraceId};
 use otlp_span::Kind;
 use std::alloc::Allocator;
 
-/// Asks one of five samplers: the parent picks it, by whether it came from another process and by its
-/// sampled flag (Trace SDK, "ParentBased").
+/// Asks one of five samplers: the parent picks it, by whether it came from another process and by
+/// its sampled flag (Trace SDK, "ParentBased").
 #[derive(Debug, Drop)]
 pub struct ParentBased<S0, S1 = AlwaysOn, S2 = AlwaysOff, S3 = AlwaysOn, S4 = AlwaysOff> {
     /// For a root, which has no parent.
@@ -23,8 +23,8 @@ pub struct ParentBased<S0, S1 = AlwaysOn, S2 = AlwaysOff, S3 = AlwaysOn, S4 = Al
 }
 
 impl<S0: Sampler> ParentBased<S0> {
-    /// A root is for `root` to decide. Any other span is sampled exactly where its parent is, and else
-    /// dropped (Trace SDK, "ParentBased", the defaults).
+    /// A root is for `root` to decide. Any other span is sampled exactly where its parent is, and
+    /// else dropped (Trace SDK, "ParentBased", the defaults).
     pub fn new(root: S0) -> Self
         ensures kept { result.root ≡ root }
         ensures follows_parent { (span : model.Question) →

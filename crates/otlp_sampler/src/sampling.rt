@@ -1,8 +1,8 @@
 ghost use Rattle.std.specs.Prelude.{◌≡◌, IsTrue};
-ghost use Rattle.std.specs.Option.{ForSome, option_copied};
-ghost use Rattle.trace_model.specs.Sampling as model;
-ghost use Rattle.trace_model.specs.Spans.{is_valid};
-ghost use Rattle.otlp_ids.specs.SpanContext.{context_view};
+ghost use Rattle.std.specs.Option.{ForSome};
+ghost use Rattle.span_model.specs.Sampling as model;
+ghost use Rattle.span_model.specs.Spans.{is_valid};
+ghost use Rattle.otlp_ids.specs.SpanContext.{context_view, parent_view};
 ghost use Rattle.otlp_sampler.specs.Sampling.{decision_view, question};
 
 use otlp_ids::{SpanContext, TraceId};
@@ -36,17 +36,17 @@ impl Decision {
     }
 }
 
-/// Decides, when a span starts, what becomes of it (Trace SDK, "Sampling"). It sees neither attributes nor
-/// links, changes no trace state and takes no memory (profile).
+/// Decides, when a span starts, what becomes of it (Trace SDK, "Sampling"). It sees neither
+/// attributes nor links, changes no trace state and takes no memory (profile).
 ///
-/// What a sampler decides is a function of its value and of what it is asked. An `impl` says which one by
-/// its ghost member `meaning`.
+/// What a sampler decides is a function of its value and of what it is asked. An `impl` says which
+/// one by its ghost member `meaning`.
 pub trait Sampler {
-    ghost meaning: { Self → model.Meaning };
+    ghost meaning: { Self → model.SamplerMeaning };
 
-    /// What becomes of a span with this parent, trace identifier, name and kind. A root has no parent, and
-    /// any other span has its parent's trace identifier. A parent is valid: an invalid one counts as none,
-    /// so whoever starts a span hands in `None` in its place (profile).
+    /// What becomes of a span with this parent, trace identifier, name and kind. A root has no
+    /// parent, and any other span has its parent's trace identifier. A parent is valid: an invalid
+    /// one counts as none, so whoever starts a span hands in `None` in its place (profile).
     fn should_sample<A: Allocator>(
         &self,
         parent: Option<&SpanContext<A>>,
@@ -56,7 +56,7 @@ pub trait Sampler {
     ) -> Decision
         requires { ForSome parent (λ context. IsTrue (is_valid (context_view context.now))) }
         ensures { decision_view result ≡
-            meaning self.now (question (option_copied parent.entry) trace.now name.now kind) };
+            meaning self.now (question (parent_view parent.entry) trace.now name.now kind) };
 }
 
 /// Records and samples each span (Trace SDK, "AlwaysOn").

@@ -1,2 +1,2 @@
 mod Setting
-mod Recorded
+pub mod Recorded

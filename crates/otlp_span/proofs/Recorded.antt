@@ -1,29 +1,51 @@
 -- What a call makes of a body, and what a span's calls make of it when it ends.
-use Rattle.std.proofs.Common.{◌≡◌, sym, ap, subst, ◌∙◌, ℕ, suc, ◌+◌, ◌<◌, List, [], ◌∷◌, ◌++◌, map, take, drop, length, get_or, Result, Ok, Err, OnErr, OnOk, add-one, arith, Bool, true, false, not, ◌&&◌, nat_eq, nat_lt, refl, Some, String}
+use Rattle.std.proofs.Common.{◌≡◌, sym, ap, ap₂, subst, ◌∙◌, ℕ, suc, ◌+◌, ◌<◌, ◌≤◌, List, [], ◌∷◌, ◌++◌, map, take, drop, length, get_or, Result, Ok, Err, OnErr, OnOk, add-one, arith, Bool, true, false, not, ◌&&◌, nat_eq, nat_lt, refl, Some, String}
 use Rattle.std.proofs.lemmas.Bool.{ltb-true, ltb-false}
 use Rattle.std.proofs.lemmas.Bool.Decides.{nat_tests}
-use Rattle.std.proofs.lemmas.List.{map-append, take-append-drop}
+use Rattle.std.proofs.lemmas.List.{length-map, map-append, take-append-drop}
 use Rattle.std.proofs.Math.Seq.{drop-cons, take-suc}
-use Rattle.trace_model.specs.Attributes.{Attribute, AttributeList, Kept, Limits, SetsPair, attribute_list, attributes, is_empty}
-use Rattle.trace_model.specs.Spans.{Call, set_attribute, add_link, end, Context, Event, event, event_limits, event_of, link_limits, is_ignored, is_valid, no_pairs, is_end, Start, Span, Resource, Scope, Recording, EndedSpan, KeepsPlace, Records, Adds, Ends, span}
-use Rattle.trace_model.proofs.Calls.{AddsEvent, adds-attribute, adds-event, adds-counted-event, adds-link, adds-counted-link, span-ended, span-behind, span-unended}
+use Rattle.span_model.specs.Attributes.{Attribute, AttributeList, Kept, Limits, SetsPair, attribute_list, attributes, is_empty}
+use Rattle.span_model.specs.Spans.{Call, SpanLimits, unset, attribute_limits, set_attribute, add_link, end, Context, Event, event_of, Link, link, is_ignored, is_valid, no_pairs, is_end, Start, Span, Resource, Scope, Recording, EndedSpan, KeepsPlace, Records, Adds, Ends, span}
+use Rattle.span_model.proofs.Calls.{AddsEvent, adds-attribute, adds-event, adds-counted-event, adds-link, adds-counted-link, first-none, span-ended, span-behind, span-unended}
 use Rattle.otlp_value.specs.declared.Value.{Value}
 use Rattle.otlp_value.specs.Value.{attributes_view}
 use Rattle.otlp_span.specs.declared.body.SpanBody.{SpanBody}
+use Rattle.otlp_span.specs.declared.parts.Event as parts
+use Rattle.otlp_span.specs.declared.parts.Link as link_parts
 use Rattle.otlp_span.specs.declared.parts.SpanCall.{SpanCall}
 use Rattle.otlp_span.specs.declared.parts.SpanCall.TheVariants as calls
-use Rattle.otlp_span.specs.Body.{IsLimited, recording_view}
-use Rattle.otlp_span.specs.Parts.{attributes_of, call_view}
-use Rattle.otlp_span.specs.Recording.{one_counted, one_kept, with_events, with_links}
+use Rattle.otlp_span.specs.Body.{IsLimited, kept_view, recording_view}
+use Rattle.otlp_span.specs.Parts.{attributes_of, call_view, event_view, limits_view, link_view}
+use Rattle.otlp_span.specs.Recording.{KeepsOneMore, one_counted, one_kept}
 
 pub on-ok : {T E : Type 0} {P Q : Type 0} (r : Result T E) → (P → Q) → OnOk r P → OnOk r Q
 on-ok (Ok x) f h = f h
 on-ok (Err e) f h = tt
 
+pub on-err-then : {T E : Type 0} {P Q : Type 0} (r : Result T E) → (P → Q) → OnErr r P → OnErr r Q
+on-err-then (Ok x) f h = tt
+on-err-then (Err e) f h = f h
+
 -- what holds anyway
 pub on-err : {T E : Type 0} {P : Type 0} (r : Result T E) → P → OnErr r P
 on-err (Ok x) h = tt
 on-err (Err e) h = h
+
+-- the span where no call was made yet
+pub span-none : (limits : SpanLimits) (start : Start) → span limits start [] ≡ record {
+  context = start.context;
+  parent = start.parent;
+  name = start.name;
+  kind = start.kind;
+  start = start.at;
+  end = start.at;
+  attributes = attributes (attribute_limits limits) [];
+  events = record { items = []; dropped = 0 };
+  links = record { items = []; dropped = 0 };
+  status = unset;
+}
+unfolding span
+span-none limits start = rw (first-none {A = Event} limits.events, first-none {A = Link} limits.links) refl
 
 -- a body with one more pair has one more call
 pub set-adds : {A : Type 0} (b : SpanBody A) (p : Attribute) (a : AttributeList) → IsLimited b → SetsPair p b.attributes a →
@@ -38,22 +60,62 @@ limited b h = let list : Limits → AttributeList = λ l. record { limits = l; k
 
 -- ---- an event or a link more
 
+abbrev with_events : Recording → Kept Event → Recording
+with_events r events = record r { span = record r.span { events = events } }
+
+abbrev with_links : Recording → Kept Link → Recording
+with_links r links = record r { span = record r.span { links = links } }
+
 -- what is kept of the pairs, under the limits that the record has
 pub kept-is : {list : AttributeList} {l : Limits} (pairs : List Attribute) (m : Limits) → list ≡ attribute_list l pairs → l ≡ m → list.kept ≡ attributes m pairs
 kept-is pairs m is e = ap (λ (list : AttributeList). list.kept) is ∙ ap (λ l. attributes l pairs) e
 
+-- one more item, seen in the model
+view-one : {T M : Type 0} (view : T → M) (kept : Kept T) (x : T) → kept_view view (one_kept kept x) ≡ one_kept (kept_view view kept) (view x)
+view-one view kept x = let with : List _ → Kept _ = λ items. record { items = items; dropped = kept.dropped } in ap with (map-append view kept.items (x ∷ []))
+
+-- whether the link of a call is ignored, as the test said of its pairs
+pub ignored-is : {A : Type 0} (to : Context) (xs ys : List (String A × Value A)) (b u : Bool) → xs ≡ ys → b ≡ is_ignored to (attributes_view xs) → b ≡ u → is_ignored to (attributes_view ys) ≡ u
+ignored-is to xs ys b u p q r = ap (λ z. is_ignored to (attributes_view z)) (sym p) ∙ sym q ∙ r
+
+-- whether there is room for one more event; its items and its limits are read one after the other
+abbrev pub event-room : {A : Type 0} → SpanBody A → SpanBody A → Bool
+event-room b d = nat_lt (length b.events.items) d.limits.max_events_per_span
+
+-- what the test said of the body that is changed then
+pub event-room-is : {A : Type 0} {x d e b : SpanBody A} {t u : Bool} → d ≡ x → e ≡ x → b ≡ x → t ≡ event-room d e → t ≡ u → event-room b b ≡ u
+event-room-is p q r h k = ap₂ event-room (r ∙ sym p) (r ∙ sym q) ∙ sym h ∙ k
+
+pub keeps-one-event : {A : Type 0} (b : SpanBody A) (r : Recording) → event-room b b ≡ true → recording_view b ≡ r → KeepsOneMore r.limits.events r.span.events
+keeps-one-event b r room is =
+    let one : length (map event_view b.events.items) < b.limits.max_events_per_span = rw (length-map b.events.items event_view) (ltb-true _ _ room) in
+    subst (λ (r : Recording). KeepsOneMore r.limits.events r.span.events) is one
+
 -- an event that was kept
-pub keeps-event : {old new : Recording} {kept : Kept Attribute} (call : Call) (name : List ℕ) (at : ℕ) (pairs : List Attribute) → AddsEvent call → event_of old.limits call ≡ Some (event old.limits name at pairs) →
-    nat_lt (length old.span.events.items) old.limits.events ≡ true → kept ≡ attributes (event_limits old.limits) pairs → new ≡ with_events old (one_kept old.span.events (record { at = at; name = name; attributes = kept })) →
-    Adds call old new
-keeps-event {old = old} call name at pairs adds gives room kept is =
-    let made : Kept Attribute → Recording = λ k. with_events old (one_kept old.span.events (record { at = at; name = name; attributes = k })) in
-    subst (Adds call old) (sym (is ∙ ap made kept)) (adds-event old call (event old.limits name at pairs) adds gives (ltb-true _ _ room))
+pub keeps-event : {A : Type 0} (b : SpanBody A) (r : Recording) (call : Call) (e : parts.Event A) (k : Kept (parts.Event A)) (is : Event) → recording_view b ≡ r → AddsEvent call → event_of (limits_view b.limits) call ≡ Some is → event-room b b ≡ true → event_view e ≡ is → k ≡ one_kept b.events e →
+    Adds call r (recording_view (record b { events = k }))
+keeps-event b r call e k is before adds gives room same more =
+    let old = recording_view b in
+    let with : Kept Event → Recording = λ k. with_events old k in
+    let view : Kept (parts.Event _) → Kept Event = λ k. kept_view event_view k in
+    let what : view k ≡ one_kept old.span.events is = ap view more ∙ view-one event_view b.events e ∙ ap (one_kept old.span.events) same in
+    subst (λ o. Adds call o (with (view k))) before (subst (λ k. Adds call old (with k)) (sym what) (adds-event old call is adds gives (keeps-one-event b old room refl)))
 
 -- one that was only counted
-pub counts-event : {old new : Recording} (call : Call) (e : Event) → AddsEvent call → event_of old.limits call ≡ Some e →
-    nat_lt (length old.span.events.items) old.limits.events ≡ false → new ≡ with_events old (one_counted old.span.events) → Adds call old new
-counts-event {old = old} call e adds gives full is = subst (Adds call old) (sym is) (adds-counted-event old call e adds gives (ltb-false _ _ full))
+pub counts-event : {A : Type 0} (b : SpanBody A) (r : Recording) (call : Call) (k : Kept (parts.Event A)) (is : Event) → recording_view b ≡ r → AddsEvent call → event_of (limits_view b.limits) call ≡ Some is → event-room b b ≡ false → k ≡ one_counted b.events →
+    Adds call r (recording_view (record b { events = k }))
+counts-event b r call k is before adds gives full more =
+    let old = recording_view b in
+    let with : Kept Event → Recording = λ k. with_events old k in
+    let view : Kept (parts.Event _) → Kept Event = λ k. kept_view event_view k in
+    let no_room : old.limits.events ≤ length old.span.events.items = rw (length-map b.events.items event_view) (ltb-false _ _ full) in
+    subst (λ o. Adds call o (with (view k))) before (subst (λ k. Adds call old (with k)) (sym (ap view more)) (adds-counted-event old call is adds gives no_room))
+
+-- no event more
+pub same-events : {A : Type 0} (b : SpanBody A) (r : Recording) (k : Kept (parts.Event A)) → recording_view b ≡ r → k ≡ b.events → recording_view (record b { events = k }) ≡ r
+same-events b r k before is =
+    let with : Kept (parts.Event _) → Recording = λ k. recording_view (record b { events = k }) in
+    ap with is ∙ before
 
 and-false : (b : Bool) → (b && false) ≡ false
 and-false true = refl
@@ -74,18 +136,43 @@ valid-counts to pairs h = ap (λ v. not v && (no_pairs pairs && is_empty to.stat
 pub pairs-count : (to : Context) (pairs : List Attribute) → no_pairs pairs ≡ false → is_ignored to pairs ≡ false
 pairs-count to pairs h = ap (λ p. not (is_valid to) && (p && is_empty to.state)) h ∙ and-false (not (is_valid to))
 
+-- the same of links
+abbrev pub link-room : {A : Type 0} → SpanBody A → SpanBody A → Bool
+link-room b d = nat_lt (length b.links.items) d.limits.max_links_per_span
+
+pub link-room-is : {A : Type 0} {x d e b : SpanBody A} {t u : Bool} → d ≡ x → e ≡ x → b ≡ x → t ≡ link-room d e → t ≡ u → link-room b b ≡ u
+link-room-is p q r h k = ap₂ link-room (r ∙ sym p) (r ∙ sym q) ∙ sym h ∙ k
+
+pub keeps-one-link : {A : Type 0} (b : SpanBody A) (r : Recording) → link-room b b ≡ true → recording_view b ≡ r → KeepsOneMore r.limits.links r.span.links
+keeps-one-link b r room is =
+    let one : length (map link_view b.links.items) < b.limits.max_links_per_span = rw (length-map b.links.items link_view) (ltb-true _ _ room) in
+    subst (λ (r : Recording). KeepsOneMore r.limits.links r.span.links) is one
+
 -- a link that was kept
-pub keeps-link : {old new : Recording} {kept : Kept Attribute} (to : Context) (pairs : List Attribute) → is_ignored to pairs ≡ false →
-    nat_lt (length old.span.links.items) old.limits.links ≡ true → kept ≡ attributes (link_limits old.limits) pairs → new ≡ with_links old (one_kept old.span.links (record { context = to; attributes = kept })) →
-    Adds (add_link to pairs) old new
-keeps-link {old = old} to pairs says room kept is =
-    let made : Kept Attribute → Recording = λ k. with_links old (one_kept old.span.links (record { context = to; attributes = k })) in
-    subst (Adds (add_link to pairs) old) (sym (is ∙ ap made kept)) (adds-link old to pairs says (ltb-true _ _ room))
+pub keeps-link : {A : Type 0} (b : SpanBody A) (r : Recording) (to : Context) (pairs : List Attribute) (l : link_parts.Link A) (k : Kept (link_parts.Link A)) → recording_view b ≡ r → is_ignored to pairs ≡ false → link-room b b ≡ true → link_view l ≡ link (limits_view b.limits) to pairs → k ≡ one_kept b.links l →
+    Adds (add_link to pairs) r (recording_view (record b { links = k }))
+keeps-link b r to pairs l k before says room same more =
+    let old = recording_view b in
+    let with : Kept Link → Recording = λ k. with_links old k in
+    let view : Kept (link_parts.Link _) → Kept Link = λ k. kept_view link_view k in
+    let what : view k ≡ one_kept old.span.links (link old.limits to pairs) = ap view more ∙ view-one link_view b.links l ∙ ap (one_kept old.span.links) same in
+    subst (λ o. Adds (add_link to pairs) o (with (view k))) before (subst (λ k. Adds (add_link to pairs) old (with k)) (sym what) (adds-link old to pairs says (keeps-one-link b old room refl)))
 
 -- one that was only counted
-pub counts-link : {old new : Recording} (to : Context) (pairs : List Attribute) → is_ignored to pairs ≡ false →
-    nat_lt (length old.span.links.items) old.limits.links ≡ false → new ≡ with_links old (one_counted old.span.links) → Adds (add_link to pairs) old new
-counts-link {old = old} to pairs says full is = subst (Adds (add_link to pairs) old) (sym is) (adds-counted-link old to pairs says (ltb-false _ _ full))
+pub counts-link : {A : Type 0} (b : SpanBody A) (r : Recording) (to : Context) (pairs : List Attribute) (k : Kept (link_parts.Link A)) → recording_view b ≡ r → is_ignored to pairs ≡ false → link-room b b ≡ false → k ≡ one_counted b.links →
+    Adds (add_link to pairs) r (recording_view (record b { links = k }))
+counts-link b r to pairs k before says full more =
+    let old = recording_view b in
+    let with : Kept Link → Recording = λ k. with_links old k in
+    let view : Kept (link_parts.Link _) → Kept Link = λ k. kept_view link_view k in
+    let no_room : old.limits.links ≤ length old.span.links.items = rw (length-map b.links.items link_view) (ltb-false _ _ full) in
+    subst (λ o. Adds (add_link to pairs) o (with (view k))) before (subst (λ k. Adds (add_link to pairs) old (with k)) (sym (ap view more)) (adds-counted-link old to pairs says no_room))
+
+-- no link more
+pub same-links : {A : Type 0} (b : SpanBody A) (r : Recording) (k : Kept (link_parts.Link A)) → recording_view b ≡ r → k ≡ b.links → recording_view (record b { links = k }) ≡ r
+same-links b r k before is =
+    let with : Kept (link_parts.Link _) → Recording = λ k. recording_view (record b { links = k }) in
+    ap with is ∙ before
 
 -- ---- a run of calls
 
@@ -116,23 +203,23 @@ pub through-index : {X : Type 0} (view : X → Call) (calls : List X) (i : ℕ) 
 through-index view calls i x l e =
     rw (add-one, take-suc calls i x l) (map-append view (take i calls) (get_or calls i x ∷ []) ∙ ap (λ y. map view (take i calls) ++ view y ∷ []) (sym e))
 
-same-ended : (e : EndedSpan) (r : Resource) (s : Scope) (x : Span) → e.resource ≡ r → e.scope ≡ s → e.span ≡ x → e ≡ record { resource = r; scope = s; span = x }
-same-ended e r s x p q h =
-    let make : Resource → Scope → Span → EndedSpan = λ r s x. record { resource = r; scope = s; span = x } in
-    ap (λ y. make y e.scope e.span) p ∙ ap (λ y. make r y e.span) q ∙ ap (λ y. make r s y) h
+same-ended : (e : EndedSpan) (r : Resource) (s : Scope) (x : Span) → e.resource ≡ r → e.scope ≡ s → e.span ≡ x → e.ticket ≡ 0 → e ≡ record { resource = r; scope = s; span = x; ticket = 0 }
+same-ended e r s x p q h t =
+    let make : Resource → Scope → Span → ℕ → EndedSpan = λ r s x n. record { resource = r; scope = s; span = x; ticket = n } in
+    ap (λ y. make y e.scope e.span e.ticket) p ∙ ap (λ y. make r y e.span e.ticket) q ∙ ap (λ y. make r s y e.ticket) h ∙ ap (λ n. make r s x n) t
 
 -- a span that is ended among its calls
 pub ended : (first r : Recording) (e : EndedSpan) (start : Start) (before after : List Call) (at : ℕ) → KeepsPlace first r → Records r start before → Ends at r e →
-    e ≡ record { resource = first.resource; scope = first.scope; span = span first.limits start (before ++ end at ∷ after) }
+    e ≡ record { resource = first.resource; scope = first.scope; span = span first.limits start (before ++ end at ∷ after); ticket = 0 }
 ended first r e start before after at place rec ends =
     let whole : e.span ≡ span first.limits start (before ++ end at ∷ after) =
     ends.value start before rec ∙ ap (λ l. span l start (before ++ end at ∷ [])) place.limits ∙ sym (span-behind first.limits start before after at rec.none_ends) in
-    same-ended e first.resource first.scope _ (ends.resource ∙ place.resource) (ends.scope ∙ place.scope) whole
+    same-ended e first.resource first.scope _ (ends.resource ∙ place.resource) (ends.scope ∙ place.scope) whole ends.ticket
 
 -- a span that is not ended by any of its calls
 pub unended : (first r : Recording) (e : EndedSpan) (start : Start) (calls : List Call) → KeepsPlace first r → Records r start calls → Ends start.at r e →
-    e ≡ record { resource = first.resource; scope = first.scope; span = span first.limits start calls }
+    e ≡ record { resource = first.resource; scope = first.scope; span = span first.limits start calls; ticket = 0 }
 unended first r e start calls place rec ends =
     let whole : e.span ≡ span first.limits start calls =
     ends.value start calls rec ∙ ap (λ l. span l start (calls ++ end start.at ∷ [])) place.limits ∙ span-ended first.limits start calls start.at rec.none_ends ∙ span-unended first.limits start calls rec.none_ends in
-    same-ended e first.resource first.scope _ (ends.resource ∙ place.resource) (ends.scope ∙ place.scope) whole
+    same-ended e first.resource first.scope _ (ends.resource ∙ place.resource) (ends.scope ∙ place.scope) whole ends.ticket

@@ -1,7 +1,9 @@
 -- Several pairs, set one after the other.
-use Rattle.std.proofs.Common.{◌≡◌, refl, sym, ap, ◌∙◌, List, [], ◌∷◌, ◌++◌, append_assoc}
-use Rattle.std.proofs.lemmas.List.{append-nil}
-use Rattle.trace_model.specs.Attributes.{Attribute, AttributeList, Kept, Limits, SetsPair, attribute_list, attributes}
+use Rattle.std.proofs.Common.{◌≡◌, refl, sym, ap, subst, ◌∙◌, List, [], ◌∷◌, ◌++◌, append_assoc, String}
+use Rattle.std.proofs.lemmas.List.{append-nil, map-append}
+use Rattle.span_model.specs.Attributes.{Attribute, AttributeList, Kept, Limits, SetsPair, attribute_list, attributes}
+use Rattle.otlp_value.specs.declared.Value.{Value}
+use Rattle.otlp_value.specs.Value.{attribute_view, attributes_view}
 use Rattle.otlp_span.specs.Pairs.{SetsPairs}
 
 -- none at all
@@ -18,8 +20,16 @@ sets-more {xs = xs} {ys = ys} {a = a} {b = b} {c = c} f g = record {
 }
 
 -- one of them
-pub sets-one : {p : Attribute} {a b : AttributeList} → SetsPair p a b → SetsPairs (p ∷ []) a b
-sets-one s = record { limits = s.limits; value = s.value }
+pub sets-one : (p : Attribute) (a b : AttributeList) → SetsPair p a b → SetsPairs (p ∷ []) a b
+sets-one p a b s = record { limits = s.limits; value = s.value }
+
+-- the pairs that were set, and one more
+pub sets-next : {A : Type 0} (before : List (String A × Value A)) (pair : String A × Value A) (a b c : AttributeList) → SetsPairs (attributes_view before) a b → SetsPair (attribute_view pair) b c → SetsPairs (attributes_view (before ++ pair ∷ [])) a c
+sets-next before pair a b c f s = subst (λ more. SetsPairs more a c) (sym (map-append attribute_view before (pair ∷ []))) (sets-more f (sets-one (attribute_view pair) b c s))
+
+-- one of those to come is now one of those that came
+pub moves-one : {X : Type 0} (all before rest after : List X) (x : X) → all ≡ before ++ rest → rest ≡ x ∷ after → all ≡ (before ++ x ∷ []) ++ after
+moves-one all before rest after x p q = p ∙ ap (λ r. before ++ r) q ∙ sym (append_assoc before (x ∷ []) after)
 
 -- Set in an empty list, they are its pairs.
 pub sets-first : (limits : Limits) (more : List Attribute) (a b : AttributeList) → a ≡ attribute_list limits [] → SetsPairs more a b → b ≡ attribute_list limits more

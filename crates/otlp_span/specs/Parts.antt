@@ -1,8 +1,8 @@
 -- What kinds, limits, resources, scopes, starts, events, links and calls are in the model.
 use Rattle.std.specs.Prelude.{Bool, true, false, ℕ, List, [], map, Option, option_map, string_bytes}
 use Rattle.std.specs.Arc.{arc_value}
-use Rattle.trace_model.specs.Spans as model
-use Rattle.trace_model.specs.Attributes as attributes
+use Rattle.span_model.specs.Spans as model
+use Rattle.span_model.specs.Attributes as attributes
 use Rattle.otlp_ids.specs.declared.SpanId.{SpanId}
 use Rattle.otlp_ids.specs.SpanContext.{context_view}
 use Rattle.otlp_value.specs.Value.{value_view, attributes_view}
@@ -37,16 +37,28 @@ limits_view l = record {
 }
 
 abbrev pub resource_view : {A : Type 0} → Resource A → model.Resource
-resource_view r = record { attributes = attributes_view r.attributes.items; schema = string_bytes r.schema_url }
+resource_view r =
+    record { attributes = attributes_view r.attributes.items; schema = string_bytes r.schema_url }
 
 abbrev pub scope_view : {A : Type 0} → Scope A → model.Scope
-scope_view s = record { name = string_bytes s.name; version = string_bytes s.version; attributes = attributes_view s.attributes.items; schema = string_bytes s.schema_url }
+scope_view s = record {
+  name = string_bytes s.name;
+  version = string_bytes s.version;
+  attributes = attributes_view s.attributes.items;
+  schema = string_bytes s.schema_url;
+}
 
-abbrev pub parent_view : Option SpanId → Option (List ℕ)
-parent_view parent = option_map (λ id. id.0) parent
+abbrev pub parent_id_view : Option SpanId → Option (List ℕ)
+parent_id_view parent = option_map (λ id. id.0) parent
 
 abbrev pub start_view : {A : Type 0} → Open A → model.Start
-start_view o = record { context = context_view o.context; parent = parent_view o.parent; name = string_bytes o.name; kind = kind_view o.kind; at = o.start }
+start_view o = record {
+  context = context_view o.context;
+  parent = parent_id_view o.parent;
+  name = string_bytes o.name;
+  kind = kind_view o.kind;
+  at = o.start;
+}
 
 abbrev pub status_view : {A : Type 0} → Status A → model.Status
 status_view statuses.Unset = model.unset
@@ -60,24 +72,41 @@ is_unset_status model.ok = false
 is_unset_status (model.error description) = false
 
 abbrev pub event_view : {A : Type 0} → Event A → model.Event
-event_view e = record { at = e.timestamp; name = string_bytes e.name; attributes = record { items = attributes_view e.attributes.items; dropped = e.dropped_attributes_count } }
+event_view e = record {
+  at = e.timestamp;
+  name = string_bytes e.name;
+  attributes = record {
+    items = attributes_view e.attributes.items;
+    dropped = e.dropped_attributes_count;
+  };
+}
 
 abbrev pub link_view : {A : Type 0} → Link A → model.Link
-link_view l = record { context = context_view l.span_context; attributes = record { items = attributes_view l.attributes.items; dropped = l.dropped_attributes_count } }
+link_view l = record {
+  context = context_view l.span_context;
+  attributes = record {
+    items = attributes_view l.attributes.items;
+    dropped = l.dropped_attributes_count;
+  };
+}
 
 abbrev pub call_view : {A : Type 0} → SpanCall A → model.Call
-call_view (calls.SetAttribute key value) = model.set_attribute (record { key = string_bytes key; value = value_view value })
-call_view (calls.AddEvent name timestamp pairs) = model.add_event (string_bytes name) timestamp (attributes_view pairs.items)
+call_view (calls.SetAttribute key value) =
+    model.set_attribute (record { key = string_bytes key; value = value_view value })
+call_view (calls.AddEvent name timestamp pairs) =
+    model.add_event (string_bytes name) timestamp (attributes_view pairs.items)
 call_view (calls.RecordException kind message stack timestamp pairs) =
-    model.record_exception (string_bytes kind) (string_bytes message) (string_bytes stack) timestamp (attributes_view pairs.items)
-call_view (calls.AddLink context pairs) = model.add_link (context_view context) (attributes_view pairs.items)
+    model.record_exception (string_bytes kind) (string_bytes message) (string_bytes stack) timestamp
+    (attributes_view pairs.items)
+call_view (calls.AddLink context pairs) =
+    model.add_link (context_view context) (attributes_view pairs.items)
 call_view (calls.SetStatus status) = model.set_status (status_view status)
 call_view (calls.UpdateName name) = model.update_name (string_bytes name)
 call_view (calls.End at) = model.end at
 
 -- what stands where no call was made yet
-abbrev pub opened : {A : Type 0} → SpanLimits → Open A → model.Recording
-opened limits o = record {
+abbrev pub opened_recording : {A : Type 0} → SpanLimits → Open A → model.Recording
+opened_recording limits o = record {
   limits = limits_view limits;
   resource = resource_view (arc_value o.resource);
   scope = scope_view (arc_value o.scope);
@@ -89,9 +118,10 @@ abbrev pub attributes_of : model.Recording → attributes.AttributeList
 attributes_of r = record { limits = model.attribute_limits r.limits; kept = r.span.attributes }
 
 -- the ended span of these calls
-abbrev pub replayed : {A : Type 0} → SpanLimits → Open A → List (SpanCall A) → model.EndedSpan
-replayed limits o made = record {
+abbrev pub replayed_span : {A : Type 0} → SpanLimits → Open A → List (SpanCall A) → model.EndedSpan
+replayed_span limits o made = record {
   resource = resource_view (arc_value o.resource);
   scope = scope_view (arc_value o.scope);
   span = model.span (limits_view limits) (start_view o) (map call_view made);
+  ticket = 0;
 }

@@ -1,3 +1,4 @@
+use crate::kept::Kept;
 use crate::parts::{Event, Kind, Link, Resource, Scope, SpanLimits, Status};
 use otlp_ids::{SpanContext, SpanId};
 use otlp_value::AttributeList;
@@ -18,9 +19,7 @@ pub(crate) struct SpanBody<A: Allocator> {
     pub(crate) start: u64,
     pub(crate) end: u64,
     pub(crate) attributes: AttributeList<A>,
-    pub(crate) events: Vec<Event<A>, A>,
-    pub(crate) dropped_events: u32,
-    pub(crate) links: Vec<Link<A>, A>,
-    pub(crate) dropped_links: u32,
+    pub(crate) events: Kept<Event<A>, A>,
+    pub(crate) links: Kept<Link<A>, A>,
     pub(crate) status: Status<A>,
 }

@@ -1,7 +1,8 @@
-ghost use Rattle.std.specs.Prelude.{◌≡◌, IfOk, OnOk, false};
-ghost use Rattle.trace_model.specs.Spans.{Adds, is_end};
+ghost use Rattle.std.specs.Prelude.{◌≡◌, IfOk, OnErr, OnOk, false};
+ghost use Rattle.span_model.specs.Spans.{Adds, is_end, set_status};
 ghost use Rattle.otlp_value.specs.Value.{attributes_view};
-ghost use Rattle.otlp_span.specs.Parts.{call_view, replayed, status_view};
+ghost use Rattle.otlp_span.specs.Parts.{call_view, replayed_span, status_view};
+ghost use Rattle.otlp_span.specs.Recording.{CallTakesMemory, HoldsText};
 
 use crate::data::SpanData;
 use crate::parts::{Open, SpanCall, SpanLimits, Status};
@@ -10,80 +11,138 @@ use otlp_ids::OutOfMemory;
 use otlp_value::Value;
 use std::alloc::Allocator;
 
-/// The span of a start and of the calls on it. The calls behind the first end are ignored (Trace API,
-/// "End"); where there is no end, the span ends at its start (profile). What the calls hold is copied.
+/// The span of a start and of the calls on it. The calls behind the first end are ignored (Trace
+/// API, "End"); where there is no end, the span ends at its start (profile). What the calls hold is
+/// copied.
 ///
 /// # Errors
 ///
-/// `OutOfMemory` where there is no room for the span or for a copy; what it was to start from is then dropped, and
-/// so is what was recorded.
+/// `OutOfMemory` where there is no room for the span or for a copy; what it was to start from is
+/// then dropped, and so is what was recorded.
 pub fn replay<A: Allocator + Copy>(
     alloc: A,
     opening: Open<A>,
     limits: &SpanLimits,
     calls: &[SpanCall<A>],
 ) -> Result<SpanData<A>, OutOfMemory>
-    ensures { IfOk result (λ s. s ≡ replayed limits.now opening calls.now) }
+    ensures { IfOk result (λ s. s ≡ replayed_span limits.now opening calls.now) }
 {
     let start = opening.start;
     let mut record = SpanRecord::open(alloc, opening, limits)?;
     for call in calls {
         match call {
             SpanCall::End(at) => return Ok(record.close(*at)),
-            call => make_call(alloc, &mut record, call)?,
+            call => record.call(call.copy(alloc)?)?,
         }
     }
     Ok(record.close(start))
 }
 
-/// Makes a call that is no end, with copies of what it holds.
-fn make_call<A: Allocator + Copy>(
-    alloc: A,
-    span: &mut SpanRecord<A>,
-    call: &SpanCall<A>,
-) -> Result<(), OutOfMemory>
-    requires { is_end (call_view call.now) ≡ false }
-    ensures { OnOk result (Adds (call_view call.now) span.old span.new) }
-{
-    match call {
-        SpanCall::SetAttribute(key, value) => {
-            let key = String::from_str(alloc, key.as_str())?;
-            span.set_attribute(key, value.copy(alloc)?)
+impl<A: Allocator> SpanCall<A> {
+    /// Whether the call ends the span.
+    pub fn is_end(&self) -> bool
+        ensures { result ≡ is_end (call_view self.now) }
+    {
+        matches!(self, SpanCall::End(_))
+    }
+}
+
+impl<A: Allocator + Copy> SpanCall<A> {
+    /// An equal call, on memory of its own. An end takes none, nor does a status without a
+    /// description.
+    ///
+    /// # Errors
+    ///
+    /// `OutOfMemory` where a text or a list could not be stored.
+    pub fn copy(&self, alloc: A) -> Result<SpanCall<A>, OutOfMemory>
+        ensures value { IfOk result (λ call. call_view call ≡ call_view self.now) }
+        ensures refused { OnErr result (HoldsText (call_view self.now)) }
+    {
+        match self {
+            SpanCall::SetAttribute(key, value) => {
+                let key = String::from_str(alloc, key.as_str())?;
+                Ok(SpanCall::SetAttribute(key, value.copy(alloc)?))
+            }
+            SpanCall::AddEvent {
+                name,
+                timestamp,
+                attributes,
+            } => Ok(SpanCall::AddEvent {
+                name: String::from_str(alloc, name.as_str())?,
+                timestamp: *timestamp,
+                attributes: copy_pairs(alloc, attributes)?,
+            }),
+            SpanCall::RecordException {
+                exception_type,
+                message,
+                stacktrace,
+                timestamp,
+                attributes,
+            } => Ok(SpanCall::RecordException {
+                exception_type: String::from_str(alloc, exception_type.as_str())?,
+                message: String::from_str(alloc, message.as_str())?,
+                stacktrace: String::from_str(alloc, stacktrace.as_str())?,
+                timestamp: *timestamp,
+                attributes: copy_pairs(alloc, attributes)?,
+            }),
+            SpanCall::AddLink {
+                span_context,
+                attributes,
+            } => Ok(SpanCall::AddLink {
+                span_context: span_context.copy(alloc)?,
+                attributes: copy_pairs(alloc, attributes)?,
+            }),
+            SpanCall::SetStatus(status) => Ok(SpanCall::SetStatus(copy_status(alloc, status)?)),
+            SpanCall::UpdateName(name) => {
+                Ok(SpanCall::UpdateName(String::from_str(alloc, name.as_str())?))
+            }
+            SpanCall::End(at) => Ok(SpanCall::End(*at)),
         }
-        SpanCall::AddEvent {
-            name,
-            timestamp,
-            attributes,
-        } => {
-            let name = String::from_str(alloc, name.as_str())?;
-            span.add_event(name, *timestamp, copy_pairs(alloc, attributes)?)
+    }
+}
+
+impl<A: Allocator + Copy> SpanRecord<A> {
+    /// Makes a call that is no end (`SpanCall::is_end`; an end is `close`), as the method of its
+    /// kind does.
+    ///
+    /// # Errors
+    ///
+    /// `OutOfMemory` where an attribute, an event or a link that is to be kept could not be stored;
+    /// the record is then unchanged.
+    pub fn call(&mut self, call: SpanCall<A>) -> Result<(), OutOfMemory>
+        requires { is_end (call_view call) ≡ false }
+        ensures ok { OnOk result (Adds (call_view call) self.old self.new) }
+        ensures err { OnErr result (self.new ≡ self.old) }
+        ensures refused_only_where_kept { OnErr result (CallTakesMemory (call_view call) self.old) }
+    {
+        match call {
+            SpanCall::SetAttribute(key, value) => self.set_attribute(key, value),
+            SpanCall::AddEvent {
+                name,
+                timestamp,
+                attributes,
+            } => self.add_event(name, timestamp, attributes),
+            SpanCall::RecordException {
+                exception_type,
+                message,
+                stacktrace,
+                timestamp,
+                attributes,
+            } => self.record_exception(exception_type, message, stacktrace, timestamp, attributes),
+            SpanCall::AddLink {
+                span_context,
+                attributes,
+            } => self.add_link(span_context, attributes),
+            SpanCall::SetStatus(status) => {
+                self.set_status(status);
+                Ok(())
+            }
+            SpanCall::UpdateName(name) => {
+                self.update_name(name);
+                Ok(())
+            }
+            SpanCall::End(_) => unreachable!(),
         }
-        SpanCall::RecordException {
-            exception_type,
-            message,
-            stacktrace,
-            timestamp,
-            attributes,
-        } => {
-            let exception_type = String::from_str(alloc, exception_type.as_str())?;
-            let message = String::from_str(alloc, message.as_str())?;
-            let stacktrace = String::from_str(alloc, stacktrace.as_str())?;
-            let attributes = copy_pairs(alloc, attributes)?;
-            span.record_exception(exception_type, message, stacktrace, *timestamp, attributes)
-        }
-        SpanCall::AddLink {
-            span_context,
-            attributes,
-        } => span.add_link(span_context.copy(alloc)?, copy_pairs(alloc, attributes)?),
-        SpanCall::SetStatus(status) => {
-            span.set_status(copy_status(alloc, status)?);
-            Ok(())
-        }
-        SpanCall::UpdateName(name) => {
-            span.update_name(String::from_str(alloc, name.as_str())?);
-            Ok(())
-        }
-        SpanCall::End(_) => unreachable!(),
     }
 }
 
@@ -103,7 +162,8 @@ fn copy_pairs<A: Allocator + Copy>(
 
 /// An equal status, on memory of its own.
 fn copy_status<A: Allocator + Copy>(alloc: A, status: &Status<A>) -> Result<Status<A>, OutOfMemory>
-    ensures { IfOk result (λ copied. status_view copied ≡ status_view status.now) }
+    ensures value { IfOk result (λ copied. status_view copied ≡ status_view status.now) }
+    ensures refused { OnErr result (HoldsText (set_status (status_view status.now))) }
 {
     match status {
         Status::Unset => Ok(Status::Unset),

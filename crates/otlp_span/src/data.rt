@@ -1,7 +1,8 @@
 ghost use Rattle.std.specs.Prelude.{◌≡◌, map};
+ghost use Rattle.span_model.specs.Spans.{with_ticket};
 ghost use Rattle.otlp_ids.specs.SpanContext.{context_view};
 ghost use Rattle.otlp_value.specs.Value.{attributes_view};
-ghost use Rattle.otlp_span.specs.Parts.{event_view, kind_view, link_view, parent_view, resource_view, scope_view, status_view};
+ghost use Rattle.otlp_span.specs.Parts.{event_view, kind_view, link_view, parent_id_view, resource_view, scope_view, status_view};
 
 use crate::body::SpanBody;
 use crate::parts::{Event, Kind, Link, Resource, Scope, Status};
@@ -10,22 +11,24 @@ use otlp_value::Value;
 use std::alloc::{Allocator, Global};
 use std::marker::Model;
 
-/// A span that has ended, with its resource and its scope (Trace SDK, "Additional Span Interfaces"): it
-/// doesn't change any more. With an allocator of no size, as `Global`, it is as large as a pointer.
+/// A span that has ended, with its resource and its scope (Trace SDK, "Additional Span
+/// Interfaces"): only its ticket may still be set. With an allocator of no size, as `Global`, it is
+/// two words large.
 #[derive(Drop)]
 #[derive_where(Debug)]
 pub struct SpanData<A: Allocator = Global> {
     pub(crate) body: Box<SpanBody<A>, A>,
+    pub(crate) ticket: u64,
 }
 
 impl<A: Allocator> Model for SpanData<A> {
-    ghost use Rattle.trace_model.specs.Spans.{EndedSpan};
+    ghost use Rattle.span_model.specs.Spans.{EndedSpan};
 
     ghost Value = { EndedSpan };
 
     ghost use Rattle.otlp_span.specs.Body.{ended_view};
 
-    ghost view = { λ s. ended_view s.body.value };
+    ghost view = { λ s. ended_view s.ticket s.body.value };
 }
 
 impl<A: Allocator> SpanData<A> {
@@ -38,7 +41,7 @@ impl<A: Allocator> SpanData<A> {
 
     /// The identifier of the span's parent; a root has none.
     pub fn parent_span_id(&self) -> Option<SpanId>
-        ensures { parent_view result ≡ self.now.span.parent }
+        ensures { parent_id_view result ≡ self.now.span.parent }
     {
         self.body.parent
     }
@@ -85,16 +88,16 @@ impl<A: Allocator> SpanData<A> {
         self.body.end
     }
 
-    /// The attributes that were kept, each with its last value, in the order in which their keys were first
-    /// set.
+    /// The attributes that were kept, each with its last value, in the order in which their keys
+    /// were first set.
     pub fn attributes(&self) -> &[(String<A>, Value<A>)]
         ensures { attributes_view result.now ≡ self.now.span.attributes.items }
     {
         self.body.attributes.pairs()
     }
 
-    /// How many times an attribute was discarded, since its key was new and as many keys were kept as the
-    /// limit allows (Trace SDK, "Span Limits"). It stops at 2^32 - 1 (profile).
+    /// How many times an attribute was discarded, since its key was new and as many keys were kept
+    /// as the limit allows (Trace SDK, "Span Limits"). It stops at 2^32 - 1 (profile).
     pub fn dropped_attributes_count(&self) -> u32
         ensures { result ≡ self.now.span.attributes.dropped }
     {
@@ -105,30 +108,45 @@ impl<A: Allocator> SpanData<A> {
     pub fn events(&self) -> &[Event<A>]
         ensures { map event_view result.now ≡ self.now.span.events.items }
     {
-        &self.body.events
+        self.body.events.items()
     }
 
-    /// How many events were discarded, since as many were kept as the limit allows (Trace SDK, "Span Limits"). It
-    /// stops at 2^32 - 1 (profile).
+    /// How many events were discarded, since as many were kept as the limit allows (Trace SDK,
+    /// "Span Limits"). It stops at 2^32 - 1 (profile).
     pub fn dropped_events_count(&self) -> u32
         ensures { result ≡ self.now.span.events.dropped }
     {
-        self.body.dropped_events
+        self.body.events.dropped()
     }
 
     /// The links that were kept, in the order in which they were added (Trace API, "Link").
     pub fn links(&self) -> &[Link<A>]
         ensures { map link_view result.now ≡ self.now.span.links.items }
     {
-        &self.body.links
+        self.body.links.items()
     }
 
-    /// How many links were discarded, since as many were kept as the limit allows (Trace SDK, "Span Limits"). It
-    /// stops at 2^32 - 1 (profile).
+    /// How many links were discarded, since as many were kept as the limit allows (Trace SDK, "Span
+    /// Limits"). It stops at 2^32 - 1 (profile).
     pub fn dropped_links_count(&self) -> u32
         ensures { result ≡ self.now.span.links.dropped }
     {
-        self.body.dropped_links
+        self.body.links.dropped()
+    }
+
+    /// The number of the span among those that a pass admitted, and 0 until it is admitted
+    /// (profile).
+    pub fn ticket(&self) -> u64
+        ensures { result ≡ self.now.ticket }
+    {
+        self.ticket
+    }
+
+    /// Gives the span its ticket, for whoever admits it (profile). Nothing else changes.
+    pub fn set_ticket(&mut self, ticket: u64)
+        ensures { self.new ≡ with_ticket ticket self.old }
+    {
+        self.ticket = ticket;
     }
 
     /// What came of the operation (Trace API, "Set Status").

@@ -1,10 +1,11 @@
-//! Spans while they are recorded, and when they have ended (OpenTelemetry Trace API, "Span"; Trace SDK,
-//! "Span Limits").
+//! Spans while they are recorded, and when they have ended (OpenTelemetry Trace API, "Span"; Trace
+//! SDK, "Span Limits").
 #![tactic(auto)]
 
 mod body;
 mod calls;
 mod data;
+mod kept;
 mod pairs;
 mod parts;
 mod reason;
@@ -15,6 +16,3 @@ pub use data::SpanData;
 pub use parts::{Event, Kind, Link, Open, Resource, Scope, SpanCall, SpanLimits, Status};
 pub use reason::Reason;
 pub use record::SpanRecord;
-
-#[cfg(test)]
-mod tests;

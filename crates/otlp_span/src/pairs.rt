@@ -1,6 +1,6 @@
 ghost use Rattle.std.specs.Prelude.{◌≡◌, IfOk, OnOk, string_bytes};
-ghost use Rattle.trace_model.specs.Attributes.{attribute_list};
-ghost use Rattle.trace_model.specs.Spans.{exception_pairs, pair_unless_empty};
+ghost use Rattle.span_model.specs.Attributes.{attribute_list};
+ghost use Rattle.span_model.specs.Spans.{exception_pairs, pair_unless_empty};
 ghost use Rattle.otlp_value.specs.Value.{attributes_view, limits_view};
 ghost use Rattle.otlp_span.specs.Pairs.{SetsPairs};
 
@@ -14,14 +14,16 @@ pub(crate) fn kept_attributes<A: Allocator + Copy>(
     limits: Limits,
     pairs: Vec<(String<A>, Value<A>), A>,
 ) -> Result<AttributeList<A>, OutOfMemory>
-    ensures { IfOk result (λ list. list ≡ attribute_list (limits_view limits) (attributes_view pairs.items)) }
+    ensures { IfOk result
+        (λ list. list ≡ attribute_list (limits_view limits) (attributes_view pairs.items)) }
 {
     let mut list = AttributeList::new(alloc, limits);
     set_all(&mut list, pairs)?;
     Ok(list)
 }
 
-/// What is kept of the attributes of an exception: its own, and then those of the caller, which replace them.
+/// What is kept of the attributes of an exception: its own, and then those of the caller, which
+/// replace them.
 pub(crate) fn exception_attributes<A: Allocator + Copy>(
     alloc: A,
     limits: Limits,
@@ -49,7 +51,8 @@ fn set_text<A: Allocator + Copy>(
     key: &str,
     text: String<A>,
 ) -> Result<(), OutOfMemory>
-    ensures { OnOk result (SetsPairs (pair_unless_empty key.now (string_bytes text)) list.old list.new) }
+    ensures { OnOk result
+        (SetsPairs (pair_unless_empty key.now (string_bytes text)) list.old list.new) }
 {
     if text.is_empty() {
         return Ok(());

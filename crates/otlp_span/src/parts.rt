@@ -1,28 +1,40 @@
 ghost use Rattle.std.specs.Prelude.{◌≡◌, None};
 
 use otlp_ids::{SpanContext, SpanId};
-use otlp_value::{Limits, Value};
+use otlp_value::{AttributeList, Limits, Value};
 use std::alloc::{Allocator, Global};
 use std::sync::Arc;
 
 /// What a span is to the spans round it (Trace API, "SpanKind").
-#[derive(Debug, Clone, Copy, Default, PartialEq, Eq)]
+#[derive(Debug, Clone, Copy, PartialEq, Eq)]
 pub enum Kind {
     /// An operation inside a program, with no remote parent or child. It is the default.
-    #[default]
     Internal,
     /// The handling of a request from elsewhere, whose client waits for the reply.
     Server,
     /// A request to elsewhere, which waits for the reply.
     Client,
-    /// The start of work that is done later, as the sending of a message; it doesn't wait for the outcome.
+    /// The start of work that is done later, as the sending of a message; it doesn't wait for the
+    /// outcome.
     Producer,
     /// The handling of what a producer sent.
     Consumer,
 }
 
-/// How much a span keeps (Trace SDK, "Span Limits"). With a limit of 0 it keeps none of that kind, and of a text that is a
-/// value nothing.
+impl Default for Kind {
+    ghost use Rattle.span_model.specs.Spans.{internal};
+    ghost use Rattle.otlp_span.specs.Parts.{kind_view};
+
+    ghost is_default = { λ kind. kind_view kind ≡ internal };
+
+    /// The standard's default, an operation inside a program (Trace API, "SpanKind").
+    fn default() -> Kind {
+        Kind::Internal
+    }
+}
+
+/// How much a span keeps (Trace SDK, "Span Limits"). With a limit of 0 it keeps none of that kind,
+/// and of a text that is a value nothing.
 #[derive(Debug, Clone, Copy, PartialEq, Eq)]
 pub struct SpanLimits {
     /// How many attributes, by distinct keys (`AttributeCountLimit`).
@@ -35,14 +47,15 @@ pub struct SpanLimits {
     pub max_attributes_per_event: u32,
     /// How many attributes of a link, by distinct keys (`AttributePerLinkCountLimit`).
     pub max_attributes_per_link: u32,
-    /// How many Unicode scalar values of a text that is the value of an attribute, or one of an array, of the
-    /// span, of its events and of its links (`AttributeValueLengthLimit`). Without it texts are kept whole.
+    /// How many Unicode scalar values of a text that is the value of an attribute, or one of an
+    /// array, of the span, of its events and of its links (`AttributeValueLengthLimit`). Without it
+    /// texts are kept whole.
     pub max_attribute_value_length: Option<u32>,
 }
 
 impl SpanLimits {
     ghost use Rattle.otlp_value.specs.Value as values;
-    ghost use Rattle.trace_model.specs.Spans.{attribute_limits, event_limits, link_limits};
+    ghost use Rattle.span_model.specs.Spans.{attribute_limits, event_limits, link_limits};
     ghost use Rattle.otlp_span.specs.Parts.{limits_view};
 
     /// Those of the attributes of the span.
@@ -77,17 +90,14 @@ impl SpanLimits {
 }
 
 impl Default for SpanLimits {
-    ghost is_default = { λ limits. limits ≡ record {
-      max_attributes_per_span = 128;
-      max_events_per_span = 128;
-      max_links_per_span = 128;
-      max_attributes_per_event = 128;
-      max_attributes_per_link = 128;
-      max_attribute_value_length = None;
-    } };
+    ghost use Rattle.std.specs.Prelude.{◌≡◌};
+    ghost use Rattle.span_model.specs.Spans.{default_limits};
+    ghost use Rattle.otlp_span.specs.Parts.{limits_view};
 
-    /// The standard's limits (Trace SDK, "Span Limits"; Common, "Attribute Limits"): 128 of each kind, and texts
-    /// of any length.
+    ghost is_default = { λ limits. limits_view limits ≡ default_limits };
+
+    /// The standard's limits (Trace SDK, "Span Limits"; Common, "Attribute Limits"): 128 of each
+    /// kind, and texts of any length.
     fn default() -> SpanLimits {
         SpanLimits {
             max_attributes_per_span: 128,
@@ -118,7 +128,8 @@ pub struct Scope<A: Allocator = Global> {
     pub name: String<A>,
     /// Its version, or an empty text.
     pub version: String<A>,
-    /// Its attributes, with distinct keys. They stand as they are: no limit holds for them (profile).
+    /// Its attributes, with distinct keys. They stand as they are: no limit holds for them
+    /// (profile).
     pub attributes: Vec<(String<A>, Value<A>), A>,
     /// The schema that its telemetry follows, or an empty text.
     pub schema_url: String<A>,
@@ -157,7 +168,7 @@ pub enum Status<A: Allocator = Global> {
 }
 
 impl<A: Allocator> Status<A> {
-    ghost use Rattle.trace_model.specs.Spans.{is_ok_status};
+    ghost use Rattle.span_model.specs.Spans.{is_ok_status};
     ghost use Rattle.otlp_span.specs.Parts.{is_unset_status, status_view};
 
     /// Whether no other status replaces it.
@@ -183,10 +194,33 @@ pub struct Event<A: Allocator = Global> {
     pub timestamp: u64,
     /// Its name.
     pub name: String<A>,
-    /// The attributes that were kept, each with its last value, in the order in which their keys were first set.
+    /// The attributes that were kept, each with its last value, in the order in which their keys
+    /// were first set.
     pub attributes: Vec<(String<A>, Value<A>), A>,
     /// How many times an attribute was discarded; it stops at 2^32 - 1 (profile).
     pub dropped_attributes_count: u32,
+}
+
+impl<A: Allocator> Event<A> {
+    ghost use Rattle.std.specs.Prelude.{string_bytes};
+    ghost use Rattle.otlp_span.specs.Parts.{event_view};
+
+    /// An event with what is kept of its attributes.
+    pub(crate) fn new(timestamp: u64, name: String<A>, attributes: AttributeList<A>) -> Event<A>
+        ensures { event_view result ≡ record {
+          at = timestamp;
+          name = string_bytes name;
+          attributes = attributes.kept;
+        } }
+    {
+        let dropped_attributes_count = attributes.dropped();
+        Event {
+            timestamp,
+            name,
+            attributes: attributes.into_pairs(),
+            dropped_attributes_count,
+        }
+    }
 }
 
 /// A span that another one refers to, in the same trace or in another (Trace API, "Link").
@@ -195,10 +229,31 @@ pub struct Event<A: Allocator = Global> {
 pub struct Link<A: Allocator = Global> {
     /// The context of the span that is referred to.
     pub span_context: SpanContext<A>,
-    /// The attributes that were kept, each with its last value, in the order in which their keys were first set.
+    /// The attributes that were kept, each with its last value, in the order in which their keys
+    /// were first set.
     pub attributes: Vec<(String<A>, Value<A>), A>,
     /// How many times an attribute was discarded; it stops at 2^32 - 1 (profile).
     pub dropped_attributes_count: u32,
+}
+
+impl<A: Allocator> Link<A> {
+    ghost use Rattle.otlp_ids.specs.SpanContext.{context_view};
+    ghost use Rattle.otlp_span.specs.Parts.{link_view};
+
+    /// A link with what is kept of its attributes.
+    pub(crate) fn new(span_context: SpanContext<A>, attributes: AttributeList<A>) -> Link<A>
+        ensures { link_view result ≡ record {
+          context = context_view span_context;
+          attributes = attributes.kept;
+        } }
+    {
+        let dropped_attributes_count = attributes.dropped();
+        Link {
+            span_context,
+            attributes: attributes.into_pairs(),
+            dropped_attributes_count,
+        }
+    }
 }
 
 /// A call on a span (Trace API, "Span operations").
@@ -242,22 +297,4 @@ pub enum SpanCall<A: Allocator = Global> {
     UpdateName(String<A>),
     /// Ends the span at a moment, in nanoseconds since 1970, as `SpanRecord::close`.
     End(u64),
-}
-
-#[cfg(test)]
-mod tests {
-    use super::*;
-
-    #[test]
-    fn the_default_limits_are_128_of_each_kind(rt: HostRuntime) {
-        let limits = SpanLimits::default();
-        assert_eq!(rt; limits.max_attributes_per_span, 128);
-        assert_eq!(rt;
-            (limits.max_events_per_span, limits.max_links_per_span),
-            (128, 128)
-        );
-        assert_eq!(rt; limits.max_attributes_per_event, 128);
-        assert_eq!(rt; limits.max_attributes_per_link, 128);
-        assert_eq!(rt; limits.max_attribute_value_length, None);
-    }
 }

@@ -1,14 +1,15 @@
 ghost use Rattle.std.specs.Prelude.{◌≡◌, IfOk, OnErr, OnOk, false, length, nat_lt, string_bytes};
-ghost use Rattle.trace_model.specs.Spans as model;
-ghost use Rattle.trace_model.specs.Spans.{Adds, Ends, is_ignored};
+ghost use Rattle.span_model.specs.Spans as model;
+ghost use Rattle.span_model.specs.Spans.{Adds, Ends, is_ignored};
 ghost use Rattle.otlp_ids.specs.SpanContext.{context_view};
 ghost use Rattle.otlp_value.specs.AttributeList.{TakesPlace};
 ghost use Rattle.otlp_value.specs.Value.{attribute_view, attributes_view};
-ghost use Rattle.otlp_span.specs.Parts.{attributes_of, opened, status_view};
-ghost use Rattle.otlp_span.specs.Recording.{HasRoom, one_counted, one_kept, with_events, with_links};
+ghost use Rattle.otlp_span.specs.Parts.{attributes_of, opened_recording, status_view};
+ghost use Rattle.otlp_span.specs.Recording.{KeepsOneMore};
 
 use crate::body::SpanBody;
 use crate::data::SpanData;
+use crate::kept::Kept;
 use crate::pairs::{exception_attributes, kept_attributes};
 use crate::parts::{Event, Link, Open, SpanLimits, Status};
 use otlp_ids::{OutOfMemory, SpanContext};
@@ -16,8 +17,9 @@ use otlp_value::{AttributeList, Value};
 use std::alloc::{Allocator, Global};
 use std::marker::Model;
 
-/// A span while it is recorded (Trace API, "Span"): calls on it count until it is closed. One that is let go without that
-/// has ended nowhere. With an allocator of no size, as `Global`, it is as large as a pointer.
+/// A span while it is recorded (Trace API, "Span"): calls on it count until it is closed. One that
+/// is let go without that has ended nowhere. With an allocator of no size, as `Global`, it is as
+/// large as a pointer.
 #[derive(Drop)]
 #[derive_where(Debug)]
 pub struct SpanRecord<A: Allocator = Global> {
@@ -25,7 +27,7 @@ pub struct SpanRecord<A: Allocator = Global> {
 }
 
 impl<A: Allocator> Model for SpanRecord<A> {
-    ghost use Rattle.trace_model.specs.Spans.{Recording};
+    ghost use Rattle.span_model.specs.Spans.{Recording};
 
     ghost Value = { Recording };
 
@@ -37,18 +39,19 @@ impl<A: Allocator> Model for SpanRecord<A> {
 }
 
 impl<A: Allocator + Copy> SpanRecord<A> {
-    /// Starts a record that keeps as much as the limits allow (Trace API, "Span Creation"). No attribute is
-    /// set yet.
+    /// Starts a record that keeps as much as the limits allow (Trace API, "Span Creation"). No
+    /// attribute is set yet.
     ///
     /// # Errors
     ///
-    /// `OutOfMemory` where there is no room for the record; what it was to start from is then dropped.
+    /// `OutOfMemory` where there is no room for the record; what it was to start from is then
+    /// dropped.
     pub fn open(
         alloc: A,
         opening: Open<A>,
         limits: &SpanLimits,
     ) -> Result<SpanRecord<A>, OutOfMemory>
-        ensures { IfOk result (λ r. r ≡ opened limits.now opening) }
+        ensures { IfOk result (λ r. r ≡ opened_recording limits.now opening) }
     {
         let Open {
             context,
@@ -72,10 +75,8 @@ impl<A: Allocator + Copy> SpanRecord<A> {
                 start,
                 end: start,
                 attributes: AttributeList::new(alloc, limits.of_span()),
-                events: Vec::new(alloc),
-                dropped_events: 0,
-                links: Vec::new(alloc),
-                dropped_links: 0,
+                events: Kept::new(alloc),
+                links: Kept::new(alloc),
                 status: Status::Unset,
             },
         )?;
@@ -84,19 +85,21 @@ impl<A: Allocator + Copy> SpanRecord<A> {
 }
 
 impl<A: Allocator> SpanRecord<A> {
-    /// Sets an attribute (Trace API, "Set Attributes"; Trace SDK, "Span Limits"). A key that is there keeps
-    /// its place and gets the value; a new one is appended. A pair with an empty key is ignored, and one with
-    /// a new key is discarded and counted where as many keys are kept as the limit allows (profile). Texts of the value
-    /// are cut to the limit on their length.
+    /// Sets an attribute (Trace API, "Set Attributes"; Trace SDK, "Span Limits"). A key that is
+    /// there keeps its place and gets the value; a new one is appended. A pair with an empty key is
+    /// ignored, and one with a new key is discarded and counted where as many keys are kept as the
+    /// limit allows (profile). Texts of the value are cut to the limit on their length.
     ///
     /// # Errors
     ///
-    /// `OutOfMemory` where a new key that is to be kept could not be stored; the record is then unchanged.
+    /// `OutOfMemory` where a new key that is to be kept could not be stored; the record is then
+    /// unchanged.
     pub fn set_attribute(&mut self, key: String<A>, value: Value<A>) -> Result<(), OutOfMemory>
         ensures ok { let call = model.set_attribute (attribute_view (key, value)) in
             OnOk result (Adds call self.old self.new) }
         ensures err { OnErr result (self.new ≡ self.old) }
-        ensures refused_only_where_kept { OnErr result (TakesPlace (string_bytes key) (attributes_of self.old)) }
+        ensures refused_only_where_kept { OnErr result
+            (TakesPlace (string_bytes key) (attributes_of self.old)) }
     {
         self.body.attributes.set(key, value)
     }
@@ -108,8 +111,8 @@ impl<A: Allocator> SpanRecord<A> {
         self.body.name = name;
     }
 
-    /// Sets the status (Trace API, "Set Status"): Ok is final, Unset is ignored, and an error replaces an earlier
-    /// one. It takes no memory.
+    /// Sets the status (Trace API, "Set Status"): Ok is final, Unset is ignored, and an error
+    /// replaces an earlier one. It takes no memory.
     pub fn set_status(&mut self, status: Status<A>)
         ensures { Adds (model.set_status (status_view status)) self.old self.new }
     {
@@ -118,55 +121,66 @@ impl<A: Allocator> SpanRecord<A> {
         }
     }
 
-    /// Ends the span at a moment, in nanoseconds since 1970 (Trace API, "End"). The moment is kept as it is,
-    /// also where it is before the start (profile). It takes no memory.
+    /// Ends the span at a moment, in nanoseconds since 1970 (Trace API, "End"). The moment is kept
+    /// as it is, also where it is before the start (profile). It takes no memory.
     pub fn close(self, end: u64) -> SpanData<A>
         ensures { Ends end self result }
     {
         let SpanRecord { mut body } = self;
         body.end = end;
-        SpanData { body }
+        SpanData { body, ticket: 0 }
     }
 }
 
 impl<A: Allocator + Copy> SpanRecord<A> {
-    /// Adds an event at a moment, in nanoseconds since 1970 (Trace API, "Add Events"; Trace SDK, "Span Limits"). It
-    /// has the first of its attributes, by distinct keys, up to the limit, each with its last value, whose texts are
-    /// cut. Where as many events are kept as the limit allows, it is discarded and counted, and takes no memory (that the
-    /// first are kept: profile).
+    /// Adds an event at a moment, in nanoseconds since 1970 (Trace API, "Add Events"; Trace SDK,
+    /// "Span Limits"). It has the first of its attributes, by distinct keys, up to the limit, each
+    /// with its last value, whose texts are cut. Where as many events are kept as the limit allows,
+    /// it is discarded and counted, and takes no memory (that the first are kept: profile).
     ///
     /// # Errors
     ///
-    /// `OutOfMemory` where an event that is to be kept could not be stored; the record is then unchanged.
+    /// `OutOfMemory` where an event that is to be kept could not be stored; the record is then
+    /// unchanged.
     pub fn add_event(
         &mut self,
         name: String<A>,
         timestamp: u64,
         attributes: Vec<(String<A>, Value<A>), A>,
     ) -> Result<(), OutOfMemory>
-        ensures ok { let call = model.add_event (string_bytes name) timestamp (attributes_view attributes.items) in
+        ensures ok { let call =
+            model.add_event (string_bytes name) timestamp (attributes_view attributes.items) in
             OnOk result (Adds call self.old self.new) }
         ensures err { OnErr result (self.new ≡ self.old) }
-        ensures refused_only_where_kept { OnErr result (HasRoom self.old.limits.events self.old.span.events) }
+        ensures refused_only_where_kept { OnErr result
+            (KeepsOneMore self.old.limits.events self.old.span.events) }
     {
-        if !self.has_room_for_event() {
-            self.count_event();
+        if !self
+            .body
+            .events
+            .has_room(self.body.limits.max_events_per_span)
+        {
+            self.body.events.count();
             return Ok(());
         }
         let alloc = *Box::allocator(&self.body);
         let limits = self.body.limits.of_event();
         let attributes = kept_attributes(alloc, limits, attributes)?;
-        self.push_event(name, timestamp, attributes)
+        self.body
+            .events
+            .push(Event::new(timestamp, name, attributes))
     }
 
-    /// Adds an event for an exception, at a moment in nanoseconds since 1970 (Trace API, "Record Exception";
-    /// Semantic Conventions, "Exceptions"). It is named `exception` and has the attributes `exception.type`,
-    /// `exception.message` and `exception.stacktrace`, those with an empty text left out (profile); then the others are
-    /// set, which replace them under the same keys. The limits are those of `add_event`.
+    /// Adds an event for an exception, at a moment in nanoseconds since 1970 (Trace API, "Record
+    /// Exception"; Semantic Conventions, "Exceptions"). It is named `exception` and has the
+    /// attributes `exception.type`, `exception.message` and `exception.stacktrace`, those with an
+    /// empty text left out (profile); then the others are set, which replace them under the same
+    /// keys. The limits are those of `add_event`.
     ///
     /// # Errors
     ///
-    /// `OutOfMemory` where an event that is to be kept could not be stored; the record is then unchanged.
+    /// `OutOfMemory` where an event that is to be kept could not be stored; the record is then
+    /// unchanged.
     pub fn record_exception(
         &mut self,
         exception_type: String<A>,
@@ -175,14 +189,20 @@ impl<A: Allocator + Copy> SpanRecord<A> {
         timestamp: u64,
         attributes: Vec<(String<A>, Value<A>), A>,
     ) -> Result<(), OutOfMemory>
-        ensures ok { let call = model.record_exception (string_bytes exception_type) (string_bytes message)
+        ensures ok { let call =
+            model.record_exception (string_bytes exception_type) (string_bytes message)
             (string_bytes stacktrace) timestamp (attributes_view attributes.items) in
             OnOk result (Adds call self.old self.new) }
         ensures err { OnErr result (self.new ≡ self.old) }
-        ensures refused_only_where_kept { OnErr result (HasRoom self.old.limits.events self.old.span.events) }
+        ensures refused_only_where_kept { OnErr result
+            (KeepsOneMore self.old.limits.events self.old.span.events) }
     {
-        if !self.has_room_for_event() {
-            self.count_event();
+        if !self
+            .body
+            .events
+            .has_room(self.body.limits.max_events_per_span)
+        {
+            self.body.events.count();
             return Ok(());
         }
         let alloc = *Box::allocator(&self.body);
@@ -195,122 +215,57 @@ impl<A: Allocator + Copy> SpanRecord<A> {
             stacktrace,
             attributes,
         )?;
-        self.push_event(String::from_str(alloc, "exception")?, timestamp, attributes)
+        let name = String::from_str(alloc, "exception")?;
+        self.body
+            .events
+            .push(Event::new(timestamp, name, attributes))
     }
 
-    /// Links the span to another one (Trace API, "Add Link"; Trace SDK, "Span Limits"). The link has the first of its
-    /// attributes, by distinct keys, up to the limit, each with its last value, whose texts are cut. One to an
-    /// invalid context, without attributes and with an empty trace state is ignored. Where as many links are kept as
-    /// the limit allows, another one is discarded and counted. Neither takes memory. (That an ignored link isn't counted, and
-    /// that the first are kept: profile.)
+    /// Links the span to another one (Trace API, "Add Link"; Trace SDK, "Span Limits"). The link
+    /// has the first of its attributes, by distinct keys, up to the limit, each with its last
+    /// value, whose texts are cut. One to an invalid context, without attributes and with an empty
+    /// trace state is ignored. Where as many links are kept as the limit allows, another one is
+    /// discarded and counted. Neither takes memory. (That an ignored link isn't counted, and that
+    /// the first are kept: profile.)
     ///
     /// # Errors
     ///
-    /// `OutOfMemory` where a link that is to be kept could not be stored; the record is then unchanged.
+    /// `OutOfMemory` where a link that is to be kept could not be stored; the record is then
+    /// unchanged.
     pub fn add_link(
         &mut self,
         span_context: SpanContext<A>,
         attributes: Vec<(String<A>, Value<A>), A>,
     ) -> Result<(), OutOfMemory>
-        ensures ok { let call = model.add_link (context_view span_context) (attributes_view attributes.items) in
+        ensures ok { let call =
+            model.add_link (context_view span_context) (attributes_view attributes.items) in
             OnOk result (Adds call self.old self.new) }
         ensures err { OnErr result (self.new ≡ self.old) }
-        ensures refused_only_where_kept { OnErr result (HasRoom self.old.limits.links self.old.span.links) }
+        ensures refused_only_where_kept { OnErr result
+            (KeepsOneMore self.old.limits.links self.old.span.links) }
         ensures says_something { OnErr result
             (is_ignored (context_view span_context) (attributes_view attributes.items) ≡ false) }
     {
         if is_ignored_link(&span_context, &attributes) {
             return Ok(());
         }
-        if !self.has_room_for_link() {
-            self.count_link();
+        if !self
+            .body
+            .links
+            .has_room(self.body.limits.max_links_per_span)
+        {
+            self.body.links.count();
             return Ok(());
         }
         let alloc = *Box::allocator(&self.body);
         let limits = self.body.limits.of_link();
         let attributes = kept_attributes(alloc, limits, attributes)?;
-        self.push_link(span_context, attributes)
+        self.body.links.push(Link::new(span_context, attributes))
     }
 }
 
-impl<A: Allocator> SpanRecord<A> {
-    /// Whether one more event is kept.
-    fn has_room_for_event(&self) -> bool
-        ensures { result ≡ nat_lt (length self.now.span.events.items) self.now.limits.events }
-    {
-        self.body.events.len() < self.body.limits.max_events_per_span as usize
-    }
-
-    /// Counts an event that isn't kept.
-    fn count_event(&mut self)
-        ensures { self.new ≡ with_events self.old (one_counted self.old.span.events) }
-    {
-        self.body.dropped_events = self.body.dropped_events.saturating_add(1);
-    }
-
-    /// Keeps an event.
-    fn push_event(
-        &mut self,
-        name: String<A>,
-        timestamp: u64,
-        attributes: AttributeList<A>,
-    ) -> Result<(), OutOfMemory>
-        ensures ok { let event : model.Event = record {
-          at = timestamp;
-          name = string_bytes name;
-          attributes = attributes.kept;
-        } in
-            OnOk result (self.new ≡ with_events self.old (one_kept self.old.span.events event)) }
-        ensures err { OnErr result (self.new ≡ self.old) }
-    {
-        let dropped_attributes_count = attributes.dropped();
-        self.body.events.push(Event {
-            timestamp,
-            name,
-            attributes: attributes.into_pairs(),
-            dropped_attributes_count,
-        })?;
-        Ok(())
-    }
-
-    /// Whether one more link is kept.
-    fn has_room_for_link(&self) -> bool
-        ensures { result ≡ nat_lt (length self.now.span.links.items) self.now.limits.links }
-    {
-        self.body.links.len() < self.body.limits.max_links_per_span as usize
-    }
-
-    /// Counts a link that isn't kept.
-    fn count_link(&mut self)
-        ensures { self.new ≡ with_links self.old (one_counted self.old.span.links) }
-    {
-        self.body.dropped_links = self.body.dropped_links.saturating_add(1);
-    }
-
-    /// Keeps a link.
-    fn push_link(
-        &mut self,
-        span_context: SpanContext<A>,
-        attributes: AttributeList<A>,
-    ) -> Result<(), OutOfMemory>
-        ensures ok { let link : model.Link = record {
-          context = context_view span_context;
-          attributes = attributes.kept;
-        } in
-            OnOk result (self.new ≡ with_links self.old (one_kept self.old.span.links link)) }
-        ensures err { OnErr result (self.new ≡ self.old) }
-    {
-        let dropped_attributes_count = attributes.dropped();
-        self.body.links.push(Link {
-            span_context,
-            attributes: attributes.into_pairs(),
-            dropped_attributes_count,
-        })?;
-        Ok(())
-    }
-}
-
-/// Whether a link says nothing: its context is invalid, and it has neither attributes nor a trace state.
+/// Whether a link says nothing: its context is invalid, and it has neither attributes nor a trace
+/// state.
 fn is_ignored_link<A: Allocator>(
     span_context: &SpanContext<A>,
     attributes: &[(String<A>, Value<A>)],

@@ -5,7 +5,7 @@ use Rattle.std.proofs.lemmas.List.{length-map, map-id, map-set, nil_from_length}
 use Rattle.std.proofs.lemmas.Str.{IsUtf8-past_char, chars_past_char, encodes-chars, chars-nil}
 use Rattle.std.specs.Iterator.{SkipsThenYields, Yields}
 use Rattle.std.specs.Str.Iter.{char_indices_steps, char_indices_rest, char_indices_offset}
-use Rattle.trace_model.specs.Attributes.{Value, text, bool, int, texts, bools, ints, cut}
+use Rattle.span_model.specs.Attributes.{Value, text, bool, int, texts, bools, ints, cut}
 
 -- ---- one text
 

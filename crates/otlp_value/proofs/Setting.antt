@@ -9,8 +9,8 @@ use Rattle.std.proofs.lemmas.List.{length-map, map-append, map-set}
 use Rattle.std.proofs.lemmas.List.Folds.{list_any_at}
 use Rattle.std.proofs.lemmas.List.Quantifiers.{position-Some}
 use lib.Pointwise.{bytes_decides}
-use Rattle.trace_model.specs.Attributes.{Value, Attribute, AttributeList, Limits, Kept, SetsPair, attributes, counted, cut, distinct, has_key, is_empty, kept_keys, last_value, set_by, set_one}
-use Rattle.trace_model.proofs.Setting.{attributes-more}
+use Rattle.span_model.specs.Attributes.{Value, Attribute, AttributeList, Limits, Kept, SetsPair, attributes, capped_count, cut, distinct_of, has_key, is_empty, kept_keys, last_value}
+use Rattle.span_model.proofs.Setting.{set_by, set_one, attributes-more}
 
 -- ---- what no element passes
 
@@ -70,9 +70,9 @@ left-out k (l ∷ keys) = go (bytes_eq k l) refl (bytes_eq l k) refl (left-out k
     go false e true f ih = absurd (true≢false (sym (own-key l) ∙ ap (λ z. bytes_eq z l) (same-key l k f) ∙ e))
     go false e false f ih = or_from _ _ f ih
 
-apart-distinct : (keys : List (List ℕ)) → IsApart (distinct bytes_eq keys)
+apart-distinct : (keys : List (List ℕ)) → IsApart (distinct_of bytes_eq keys)
 apart-distinct [] = tt
-apart-distinct (k ∷ keys) = (left-out k (distinct bytes_eq keys), apart-filter (λ l. not (bytes_eq k l)) (distinct bytes_eq keys) (apart-distinct keys))
+apart-distinct (k ∷ keys) = (left-out k (distinct_of bytes_eq keys), apart-filter (λ l. not (bytes_eq k l)) (distinct_of bytes_eq keys) (apart-distinct keys))
 
 abbrev keys_of : List Attribute → List (List ℕ)
 keys_of items = map (λ q. q.key) items
@@ -209,7 +209,7 @@ module _ {P : Type 0} (view : P → Attribute) (limits : Limits) (pairs : List P
         ap (λ items. record { items = items; dropped = dropped }) (map-append view pairs (y ∷ []) ∙ ap (λ q. map view pairs ++ q ∷ []) new)
         ∙ by_tests false true is-new (ap (λ n. nat_lt n limits.count) (length-map pairs view) ∙ is-lt _ _ room))
 
-    pub sets-full : limits.count ≤ length pairs → SetsPair p (listed limits dropped (map view pairs)) (listed limits (counted (dropped + 1)) (map view pairs))
+    pub sets-full : limits.count ≤ length pairs → SetsPair p (listed limits dropped (map view pairs)) (listed limits (capped_count (dropped + 1)) (map view pairs))
     sets-full full = sets limits old _ p (λ kept e. by_tests false false is-new (ap (λ n. nat_lt n limits.count) (length-map pairs view) ∙ not-lt _ _ full))
 
 -- nothing is kept of no pairs

@@ -1,6 +1,6 @@
 -- What values, pairs and limits are in the model.
-use Rattle.std.specs.Prelude.{◌<◌, List, String, length, map, string_bytes}
-use Rattle.trace_model.specs.Attributes as model
+use Rattle.std.specs.Prelude.{◌≡◌, ◌<◌, List, String, false, length, map, string_bytes}
+use Rattle.span_model.specs.Attributes as model
 use Rattle.otlp_value.specs.declared.Value.{Value}
 use Rattle.otlp_value.specs.declared.Value.TheVariants.{Text, Bool, Int, Texts, Bools, Ints}
 use Rattle.otlp_value.specs.declared.Limits.{Limits}
@@ -14,13 +14,13 @@ value_view (Bools bs) = model.bools bs.items
 value_view (Ints is) = model.ints is.items
 
 -- a copy of the value takes memory: of a text or an array that is not empty
-abbrev pub TakesMemory : {A : Type 0} → Value A → Type 0
-TakesMemory (Text t) = 0 < length (string_bytes t)
-TakesMemory (Bool b) = ⊥
-TakesMemory (Int i) = ⊥
-TakesMemory (Texts ts) = 0 < length ts.items
-TakesMemory (Bools bs) = 0 < length bs.items
-TakesMemory (Ints is) = 0 < length is.items
+abbrev pub CopyTakesMemory : {A : Type 0} → Value A → Type 0
+CopyTakesMemory (Text t) = model.is_empty (string_bytes t) ≡ false
+CopyTakesMemory (Bool b) = ⊥
+CopyTakesMemory (Int i) = ⊥
+CopyTakesMemory (Texts ts) = 0 < length ts.items
+CopyTakesMemory (Bools bs) = 0 < length bs.items
+CopyTakesMemory (Ints is) = 0 < length is.items
 
 abbrev pub attribute_view : {A : Type 0} → String A × Value A → model.Attribute
 attribute_view p = record { key = string_bytes p.0; value = value_view p.1 }

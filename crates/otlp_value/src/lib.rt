@@ -1,12 +1,13 @@
-//! Attribute values and lists of attributes (OpenTelemetry Common, "Attribute"; Trace SDK, "Span Limits").
+//! Attribute values and lists of attributes (OpenTelemetry Common, "Attribute"; Trace SDK, "Span
+//! Limits").
 #![tactic(auto)]
 
 ghost use Rattle.std.specs.Prelude.{◌≡◌, ◌<◌, IfOk, OnErr, OnOk, Some, [], length, map, position, string_bytes};
-ghost use Rattle.trace_model.specs.Attributes.{SetsPair, attribute_list, cut, first_chars, has_key};
+ghost use Rattle.span_model.specs.Attributes.{SetsPair, attribute_list, cut, first_chars, has_key};
 ghost use Rattle.otlp_value.specs.AttributeList.{TakesPlace};
-ghost use Rattle.otlp_value.specs.Value.{TakesMemory, attribute_view, attributes_view, limits_view, value_view};
+ghost use Rattle.otlp_value.specs.Value.{CopyTakesMemory, attribute_view, attributes_view, limits_view, value_view};
 
-use otlp_ids::OutOfMemory;
+use otlp_ids::{OutOfMemory, copy_text};
 use std::alloc::{Allocator, Global};
 use std::marker::Model;
 
@@ -29,8 +30,8 @@ pub enum Value<A: Allocator = Global> {
 }
 
 impl<A: Allocator> Value<A> {
-    /// The value with its text, or each text of its array by itself, cut to so many Unicode scalar values. The
-    /// others stay as they are, and without a limit all do. It takes no memory.
+    /// The value with its text, or each text of its array by itself, cut to so many Unicode scalar
+    /// values. The others stay as they are, and without a limit all do. It takes no memory.
     fn cut(self, length: Option<u32>) -> Value<A>
         ensures { value_view result ≡ cut length (value_view self) }
     {
@@ -57,7 +58,7 @@ impl<A: Allocator + Copy> Value<A> {
     /// `OutOfMemory` where a text or an array could not be stored.
     pub fn copy(&self, alloc: A) -> Result<Value<A>, OutOfMemory>
         ensures value { IfOk result (λ v. value_view v ≡ value_view self.now) }
-        ensures refused { OnErr result (TakesMemory self.now) }
+        ensures refused { OnErr result (CopyTakesMemory self.now) }
     {
         match self {
             Value::Text(text) => Ok(Value::Text(copy_text(alloc, text)?)),
@@ -75,12 +76,13 @@ impl<A: Allocator + Copy> Value<A> {
 pub struct Limits {
     /// How many keys are kept at most; 0 keeps none.
     pub count: u32,
-    /// How many Unicode scalar values a text has at most, as a value or in an array; `None` cuts none.
+    /// How many Unicode scalar values a text has at most, as a value or in an array; `None` cuts
+    /// none.
     pub value_length: Option<u32>,
 }
 
-/// Attributes under distinct keys, in the order in which the keys were first set (OpenTelemetry Common, "Attribute
-/// Limits"): as many as its limits allow.
+/// Attributes under distinct keys, in the order in which the keys were first set (OpenTelemetry
+/// Common, "Attribute Limits"): as many as its limits allow.
 #[derive(Drop)]
 #[derive_where(Debug)]
 pub struct AttributeList<A: Allocator = Global> {
@@ -90,7 +92,7 @@ pub struct AttributeList<A: Allocator = Global> {
 }
 
 impl<A: Allocator> Model for AttributeList<A> {
-    ghost use Rattle.trace_model.specs.Attributes.{AttributeList};
+    ghost use Rattle.span_model.specs.Attributes.{AttributeList};
 
     ghost Value = { AttributeList };
 
@@ -114,10 +116,11 @@ impl<A: Allocator> AttributeList<A> {
         }
     }
 
-    /// Sets an attribute (OpenTelemetry Trace SDK, "Span Limits"; Common, "Attribute"). A key that is there
-    /// keeps its place and gets the value; a new one is appended. A pair with an empty key is ignored. One
-    /// with a new key is discarded, and counted, where as many keys are kept as the limit allows (profile). A text
-    /// that is kept, and each of an array, is cut to the limit on its length; a key never is.
+    /// Sets an attribute (OpenTelemetry Trace SDK, "Span Limits"; Common, "Attribute"). A key that
+    /// is there keeps its place and gets the value; a new one is appended. A pair with an empty key
+    /// is ignored. One with a new key is discarded, and counted, where as many keys are kept as the
+    /// limit allows (profile). A text that is kept, and each of an array, is cut to the limit on
+    /// its length; a key never is.
     ///
     /// # Errors
     ///
@@ -172,21 +175,12 @@ fn cut_text<A: Allocator>(text: &mut String<A>, length: u32)
 
 /// Cuts each of the texts to so many Unicode scalar values. It takes no memory.
 fn cut_texts<A: Allocator>(texts: &mut [String<A>], length: u32)
-    ensures { map string_bytes texts.new ≡ map (first_chars (Some length)) (map string_bytes texts.old) }
+    ensures { map string_bytes texts.new ≡ map (first_chars (Some length))
+        (map string_bytes texts.old) }
 {
     for text in texts.iter_mut() {
         cut_text(text, length);
     }
-}
-
-/// An equal text, on memory of its own. An empty one takes none.
-fn copy_text<A: Allocator>(alloc: A, text: &str) -> Result<String<A>, OutOfMemory>
-    ensures value { IfOk result (λ t. string_bytes t ≡ text.now) }
-    ensures refused { OnErr result (0 < length text.now) }
-{
-    let mut copied = String::with_capacity(alloc, text.len())?;
-    copied.push_str(text)?;
-    Ok(copied)
 }
 
 /// Equal texts, on memory of their own. None at all take none.
@@ -220,6 +214,3 @@ fn position_of<A: Allocator>(pairs: &[(String<A>, Value<A>)], key: &str) -> Opti
 {
     pairs.iter().position(|(name, _)| name.as_str() == key)
 }
-
-#[cfg(test)]
-mod tests;

@@ -3,14 +3,14 @@ use Rattle.std.proofs.Common.{◌≡◌, refl, ℕ, zero, suc, ◌<◌, ◌≤�
 use Rattle.std.proofs.lemmas.Bool.{lt-ltb, le-ltb}
 use Rattle.std.proofs.lemmas.Nat.{div_below, mod_below}
 use Rattle.std.proofs.Math.Nat.{mod-le}
-use Rattle.trace_model.specs.Canon.{groups_of, shortest}
-use Rattle.trace_model.specs.Spelling.{in_groups}
-use Rattle.trace_model.proofs.Varints.{shortest-is}
+use Rattle.message_model.specs.Canon.{septets_of, shortest}
+use Rattle.message_model.specs.Spelling.{number_of_septets}
+use Rattle.message_model.proofs.Varints.{shortest-is}
 use Rattle.otlp_wire.specs.Writing.{IsLeastSize, IsReachedSize}
 
 -- the groups of a number that takes one
-pub low_groups : (room n : ℕ) → n < 128 → groups_of room n ≡ n ∷ []
-unfolding groups_of
+pub low_groups : (room n : ℕ) → n < 128 → septets_of room n ≡ n ∷ []
+unfolding septets_of
 low_groups zero n l = refl
 low_groups (suc room) n l = rw (lt-ltb n 128 l) refl
 
@@ -19,17 +19,17 @@ pub record MoreGroups (room n : ℕ) : Type 0 where
   pub less : ℕ
   pub one_less : room ≡ suc less
   pub in_range : n / 128 < 128 ^ suc less
-  pub first : groups_of room n ≡ (n % 128 + 128) ∷ groups_of less (n / 128)
+  pub first : septets_of room n ≡ (n % 128 + 128) ∷ septets_of less (n / 128)
 
 pub high_groups : (room n : ℕ) → 128 ≤ n → n < 128 ^ suc room → MoreGroups room n
-unfolding groups_of
+unfolding septets_of
 high_groups zero n l u = absurd (omega (arith, u))
 high_groups (suc room) n l u = record { less = room; one_less = refl; in_range = div_below n 128 (128 ^ suc room) (omega arith) (rw pow-suc at u); first = rw (le-ltb n 128 l) refl }
 
 -- ---- no spelling is shorter
 
 -- so many groups of seven bits are below so much
-in_groups-below : (bs : List ℕ) → in_groups bs < 128 ^ length bs
+in_groups-below : (bs : List ℕ) → number_of_septets bs < 128 ^ length bs
 in_groups-below [] = omega arith
 in_groups-below (b ∷ bs) = let ih = in_groups-below bs in let low = mod_below b 128 (omega arith) in rw pow-suc (omega (arith, ih, low))
 
@@ -38,16 +38,16 @@ one-more : (t : Bool) (n : ℕ) (rest : List ℕ) (size : ℕ) → length rest �
 one-more true n rest size l = omega arith
 one-more false n rest size l = omega (arith, l)
 
-groups_of-length : (room n size : ℕ) → n < 128 ^ suc size → length (groups_of room n) ≤ suc size
-unfolding groups_of
+groups_of-length : (room n size : ℕ) → n < 128 ^ suc size → length (septets_of room n) ≤ suc size
+unfolding septets_of
 groups_of-length zero n size l = omega arith
 groups_of-length (suc room) n zero l = rw (low_groups (suc room) n (omega (arith, l))) (omega arith)
-groups_of-length (suc room) n (suc size) l = one-more (nat_lt n 128) n (groups_of room (n / 128)) size (groups_of-length room (n / 128) size (div_below n 128 (128 ^ suc size) (omega arith) (rw pow-suc at l)))
+groups_of-length (suc room) n (suc size) l = one-more (nat_lt n 128) n (septets_of room (n / 128)) size (groups_of-length room (n / 128) size (div_below n 128 (128 ^ suc size) (omega arith) (rw pow-suc at l)))
 
 pub shortest-least : (n : ℕ) → IsLeastSize n (length (shortest n))
 unfolding shortest
 shortest-least n [] v = absurd v.ended
-shortest-least n (b ∷ bs) v = groups_of-length 9 n (length bs) (omega (arith, v.value, mod-le (in_groups (b ∷ bs)) (2 ^ 64), in_groups-below (b ∷ bs)))
+shortest-least n (b ∷ bs) v = groups_of-length 9 n (length bs) (omega (arith, v.value, mod-le (number_of_septets (b ∷ bs)) (2 ^ 64), in_groups-below (b ∷ bs)))
 
 pub shortest-reached : (n : ℕ) → n < 2 ^ 64 → IsReachedSize n (length (shortest n))
 shortest-reached n l = record { spelling = shortest n; spells = shortest-is n l; exact = refl }

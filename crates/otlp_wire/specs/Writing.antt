@@ -1,8 +1,8 @@
 -- What a writer puts behind the bytes of a vector (Protocol Buffers, Encoding).
 use Rattle.std.specs.Prelude.{◌≡◌, ℕ, ◌+◌, ◌≤◌, List, ◌++◌, length, Vec, vec_len, vec_capacity}
-use Rattle.trace_model.specs.Wire.{Payload}
-use Rattle.trace_model.specs.Spelling.{IsVarint, IsPayload}
-use Rattle.trace_model.specs.Canon.{payload_bytes}
+use Rattle.message_model.specs.Wire.{Payload}
+use Rattle.message_model.specs.Spelling.{IsVarint, IsPayload}
+use Rattle.message_model.specs.Canon.{payload_bytes}
 
 -- the new bytes are the old ones, with a spelling of the payload behind them
 pub record Appends (p : Payload) (old new : List ℕ) : Type 0 where
@@ -11,8 +11,8 @@ pub record Appends (p : Payload) (old new : List ℕ) : Type 0 where
   pub whole : new ≡ old ++ spelling
 
 -- the vector takes the payload without growing
-abbrev pub HasRoom : {A : Type 0} → Payload → Vec ℕ A → Type 0
-HasRoom p v = vec_len v + length (payload_bytes p) ≤ vec_capacity v
+abbrev pub FitsCapacity : {A : Type 0} → Payload → Vec ℕ A → Type 0
+FitsCapacity p v = vec_len v + length (payload_bytes p) ≤ vec_capacity v
 
 -- no spelling of the number as a varint has fewer bytes
 abbrev pub IsLeastSize : ℕ → ℕ → Type 0

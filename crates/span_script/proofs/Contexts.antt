@@ -8,9 +8,9 @@ use Rattle.std.proofs.lemmas.Str.{IsUtf8-from_ascii}
 use Rattle.std.proofs.lemmas.Str.Ascii.{IsAscii-from_all}
 use Rattle.hex.specs.Hex.{decode_of, decode_sized, is_hex_digit}
 use Rattle.hex.proofs.HexLemmas.{decode_sized-twice, IsOk-decode_sized}
-use Rattle.span_script.specs.Words.{Gives, hex_bytes}
-use Rattle.span_script.specs.declared.words.Fault.{Fault}
-use Rattle.span_script.specs.declared.words.Fault.TheVariants.{Bad}
+use Rattle.script_words.specs.Words.{Gives, hex_bytes}
+use Rattle.script_words.specs.declared.WordFault.{WordFault}
+use Rattle.script_words.specs.declared.WordFault.TheVariants.{Bad}
 
 small_digit : (c : ℕ) → is_hex_digit c ≡ true → c < 128
 small_digit c h = search (rules, tests)
@@ -27,7 +27,7 @@ no_digits count word h = nothing_there (decode_sized word count) (λ ok.
     h (IsUtf8-from_ascii word (IsAscii-from_all word (λ k d within. small_digit _ (digits k d within)))))
 
 -- what the digits of an identifier spell
-pub digits_read : {X E : Type 0} (bytes : X → List ℕ) (count : ℕ) (word : List ℕ) (r : Result X E) (q : Result X Fault)
+pub digits_read : {X E : Type 0} (bytes : X → List ℕ) (count : ℕ) (word : List ℕ) (r : Result X E) (q : Result X WordFault)
     → IfOk r (λ id. decode_of word ≡ Ok (bytes id)) → (IsOk r ↔ ((length word ≡ 2 * count) × AllPass is_hex_digit word))
     → q ≡ result_or r (Err Bad) → Gives bytes q (hex_bytes count word)
 unfolding hex_bytes

@@ -2,39 +2,40 @@
 use Rattle.std.proofs.Common.{◌≡◌, ℕ, true, false, List, [], ◌∷◌, ◌++◌, map, Some, Vec, refl, ap, ◌∙◌}
 use Rattle.std.specs.Prelude.{is_some}
 use Rattle.std.proofs.lemmas.List.{map_push}
-use Rattle.trace_model.specs.Attributes as attributes
-use Rattle.trace_model.specs.Attributes.{AttributeList, SetsPair}
+use Rattle.span_model.specs.Attributes as attributes
+use Rattle.span_model.specs.Attributes.{AttributeList, SetsPair}
 use Rattle.otlp_span.specs.declared.Scope.{Scope}
 use Rattle.otlp_span.specs.declared.parts.SpanLimits.{SpanLimits}
 use Rattle.otlp_span.specs.Parts.{limits_view, scope_view}
 use Rattle.span_script.specs.declared.sampler.SamplerName.{SamplerName}
-use Rattle.span_script.specs.declared.step.Step.{Step as CodeStep}
+use Rattle.trace_history.specs.declared.Step.{Step as CodeStep}
 use Rattle.span_script.specs.declared.draft.Draft.{Draft}
-use Rattle.span_script.specs.Lines.{step_view, words, sampler, limits, resource, scope, step}
-use Rattle.span_script.specs.Scripts.{Script, no_items, followed}
-use Rattle.span_script.specs.Drafts.{Holds}
+use Rattle.trace_history.specs.Steps.{step_view}
+use Rattle.span_script.specs.Lines.{words, sampler, limits, resource, scope, step}
+use Rattle.span_script.specs.Scripts.{Script}
+use Rattle.span_script.specs.Drafts.{Holds, no_items, with_line}
 
 pub add_words : {A : Type 0} (d : Draft A) (after : Vec ℕ A) (s : Script) (more : List ℕ) → no_items s.steps ≡ true → after.items ≡ d.words.items ++ more → Holds d s
-    → (t : Script) × (followed s (words more) ≡ Some t) × Holds (record d { words = after }) t
-unfolding followed
+    → (t : Script) × (with_line s (words more) ≡ Some t) × Holds (record d { words = after }) t
+unfolding with_line
 add_words d after s more first e h =
     (record s { words = s.words ++ more }, rw first refl, record { words = e ∙ ap (λ l. l ++ more) h.words; sampler = h.sampler; limits = h.limits; resource_limits = h.resource_limits; resource = h.resource; scopes = h.scopes; steps = h.steps })
 
 pub set_sampler : {A : Type 0} (d : Draft A) (s : Script) (name : SamplerName) → no_items s.steps ≡ true → is_some s.sampler ≡ false → Holds d s
-    → (t : Script) × (followed s (sampler name) ≡ Some t) × Holds (record d { sampler = Some name }) t
-unfolding followed
+    → (t : Script) × (with_line s (sampler name) ≡ Some t) × Holds (record d { sampler = Some name }) t
+unfolding with_line
 set_sampler d s name first none h =
     (record s { sampler = Some name }, rw (first, none) refl, record { words = h.words; sampler = refl; limits = h.limits; resource_limits = h.resource_limits; resource = h.resource; scopes = h.scopes; steps = h.steps })
 
 pub set_limits : {A : Type 0} (d : Draft A) (s : Script) (values : SpanLimits) → no_items s.steps ≡ true → is_some s.limits ≡ false → Holds d s
-    → (t : Script) × (followed s (limits (limits_view values)) ≡ Some t) × Holds (record d { limits = Some values }) t
-unfolding followed
+    → (t : Script) × (with_line s (limits (limits_view values)) ≡ Some t) × Holds (record d { limits = Some values }) t
+unfolding with_line
 set_limits d s values first none h =
     (record s { limits = Some (limits_view values) }, rw (first, none) refl, record { words = h.words; sampler = h.sampler; limits = refl; resource_limits = h.resource_limits; resource = h.resource; scopes = h.scopes; steps = h.steps })
 
 pub add_attribute : {A : Type 0} (d : Draft A) (after : AttributeList) (s : Script) (p : attributes.Attribute) → no_items s.steps ≡ true → SetsPair p d.resource after → Holds d s
-    → (t : Script) × (followed s (resource p) ≡ Some t) × Holds (record d { resource = after }) t
-unfolding followed
+    → (t : Script) × (with_line s (resource p) ≡ Some t) × Holds (record d { resource = after }) t
+unfolding with_line
 add_attribute d after s p first set h = (
   record s { resource = s.resource ++ p ∷ [] },
   rw first refl,
@@ -51,8 +52,8 @@ add_attribute d after s p first set h = (
 
 pub add_scope : {A : Type 0} (d : Draft A) (after : Vec (Scope A) A) (s : Script) (more : Scope A) → no_items s.steps ≡ true → no_items s.scopes ≡ true
     → after.items ≡ d.scopes.items ++ more ∷ [] → Holds d s
-    → (t : Script) × (followed s (scope 0 (scope_view more)) ≡ Some t) × Holds (record d { scopes = after }) t
-unfolding followed
+    → (t : Script) × (with_line s (scope 0 (scope_view more)) ≡ Some t) × Holds (record d { scopes = after }) t
+unfolding with_line
 add_scope d after s more first only e h = (
   record s { scopes = s.scopes ++ scope_view more ∷ [] },
   rw (first, only) refl,
@@ -69,8 +70,8 @@ add_scope d after s more first only e h = (
 
 pub add_step : {A : Type 0} (d : Draft A) (after : Vec (CodeStep A) A) (s : Script) (more : CodeStep A)
     → after.items ≡ d.steps.items ++ more ∷ [] → Holds d s
-    → (t : Script) × (followed s (step (step_view more)) ≡ Some t) × Holds (record d { steps = after }) t
-unfolding followed
+    → (t : Script) × (with_line s (step (step_view more)) ≡ Some t) × Holds (record d { steps = after }) t
+unfolding with_line
 add_step d after s more e h = (
   record s { steps = s.steps ++ step_view more ∷ [] },
   refl,

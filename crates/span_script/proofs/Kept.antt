@@ -5,9 +5,11 @@ use Rattle.std.proofs.lemmas.Bool.{and_parts}
 use Rattle.std.proofs.lemmas.List.{length-map}
 use Rattle.std.proofs.lemmas.Option.{cond_some}
 use Rattle.otlp_span.specs.Parts.{scope_view}
-use Rattle.span_script.specs.Words.{◌>>=◌}
+use Rattle.script_words.specs.Words.{◌>>=◌}
 use Rattle.span_script.specs.Lines.{Line, words, sampler, limits, resource, scope, step, line_of}
-use Rattle.span_script.specs.Scripts.{Script, no_script, no_items, fits, extended, followed, line_read, lines_read, lines_of, script_read, IsLine, numbered}
+use Rattle.span_script.specs.Scripts.{Script, lines_of, script_read, IsLine}
+use Rattle.span_script.specs.Drafts.{no_script, no_items, fits, extended_script, with_line, line_read}
+use Rattle.span_script.proofs.Together.{lines_read, numbered, text_read}
 use Rattle.span_script.specs.Parsed.{Means}
 use Rattle.span_script.specs.declared.script.Script.{Script as CodeScript}
 
@@ -20,7 +22,7 @@ nothing (x ∷ xs) e = cc
 abbrev OneScope : Script → Type 0
 OneScope s = length s.scopes ≤ 1
 
-fitting : (s : Script) (line : Line) → OneScope s → fits s line ≡ true → OneScope (extended s line)
+fitting : (s : Script) (line : Line) → OneScope s → fits s line ≡ true → OneScope (extended_script s line)
 fitting s (words ws) one e = one
 fitting s (sampler name) one e = one
 fitting s (limits l) one e = one
@@ -31,13 +33,13 @@ fitting s (scope number x) one e =
     rw (nothing s.scopes q.0) (omega arith)
 fitting s (step x) one e = one
 
-followed_one : (s t : Script) (line : Line) → OneScope s → followed s line ≡ Some t → OneScope t
-unfolding followed
-followed_one s t line one e = let p = cond_some (fits s line) (extended s line) t e in subst OneScope p.1 (fitting s line one p.0)
+with_line_one : (s t : Script) (line : Line) → OneScope s → with_line s line ≡ Some t → OneScope t
+unfolding with_line
+with_line_one s t line one e = let p = cond_some (fits s line) (extended_script s line) t e in subst OneScope p.1 (fitting s line one p.0)
 
-line_one : (s t : Script) (o : Option Line) → OneScope s → (o >>= λ line. followed s line) ≡ Some t → OneScope t
+line_one : (s t : Script) (o : Option Line) → OneScope s → (o >>= λ line. with_line s line) ≡ Some t → OneScope t
 line_one s t None one e = cc
-line_one s t (Some line) one e = followed_one s t line one e
+line_one s t (Some line) one e = with_line_one s t line one e
 
 read_one : (s t : Script) (line : List ℕ) → OneScope s → line_read s line ≡ Some t → OneScope t
 unfolding line_read
@@ -60,7 +62,7 @@ lines_one n s t (line ∷ lines) one e =
 -- the script in the code has one scope at most
 pub one_scope : {A : Type 0} (c : CodeScript A) (s : Script) (text : List ℕ) → Means c s → script_read text ≡ Ok s → length c.scopes.items ≤ 1
 one_scope c s text means e =
-    let one : length s.scopes ≤ 1 = lines_one 1 no_script s (lines_of text) (omega arith) e in
+    let one : length s.scopes ≤ 1 = lines_one 1 no_script s (lines_of text) (omega arith) (text_read text ∙ e) in
     rw (sym (length-map c.scopes.items scope_view) ∙ ap length means.scopes) one
 
 numbered_err : (n m : ℕ) (o : Option Script) (next : Script → Result Script ℕ) → numbered n o next ≡ Err m
@@ -88,6 +90,6 @@ bad_place n m s (line ∷ lines) e =
 
 pub bad_line_is : (text : List ℕ) (m : ℕ) → script_read text ≡ Err m → IsLine text m
 bad_line_is text m e =
-    let p = bad_place 1 m no_script (lines_of text) e in
+    let p = bad_place 1 m no_script (lines_of text) (text_read text ∙ e) in
     let place : m - 1 ≡ p.0 = omega (arith, p.1) in
     record { from_one = omega (arith, p.1); there = omega (arith, p.1, p.2); some = rw place p.3 }

@@ -1,10 +1,8 @@
-pub mod Numbers
-pub mod Each
 pub mod Pairs
-pub mod Texts
 pub mod Contexts
 pub mod Lines
 pub mod Drafts
+pub mod Orders
+pub mod Together
 pub mod Loop
 pub mod Kept
-pub mod Spelled

@@ -7,11 +7,11 @@ use Rattle.std.proofs.lemmas.Bool.{cases_Bool}
 use Rattle.std.proofs.lemmas.Slice.Eq.{bytes_eq-Decides}
 use Rattle.std.proofs.lemmas.Str.{IsUtf8-from_is_utf8}
 use denote.Ref.{Bor}
-use Rattle.trace_model.specs.History.{call}
-use Rattle.span_script.specs.Words.{◌>>=◌, each_of, number_below, hex_word}
+use Rattle.history_model.specs.History.{call}
+use Rattle.script_words.specs.Words.{◌>>=◌, each_of, number_below, hex_word}
 use Rattle.span_script.specs.Calls.{call_of}
 use Rattle.span_script.specs.Lines.{words, step, words_line, call_line, entry}
-use Rattle.span_script.proofs.Each.{words_at}
+use Rattle.script_words.proofs.Each.{words_at}
 
 -- a list of words that isn't empty
 pub some_words : (arguments : List (Bor (List ℕ))) → 0 < length arguments → words_line (words_at arguments) ≡ option_map words (each_of hex_word (words_at arguments))

@@ -3,8 +3,10 @@ use Rattle.std.proofs.Common.{◌≡◌, ◌==◌, ℕ, ◌+◌, ◌<◌, ◌≤
 use Rattle.std.proofs.Math.ListN.{drop_of_length-le}
 use Rattle.std.specs.List.{slice_split}
 use denote.Ref.{Bor}
-use Rattle.span_script.specs.Scripts.{Script, no_script, line_read, lines_read, script_read, numbered}
-use Rattle.span_script.proofs.Each.{words_at}
+use Rattle.span_script.specs.Scripts.{Script, script_read}
+use Rattle.span_script.specs.Drafts.{no_script, line_read}
+use Rattle.span_script.proofs.Together.{lines_read, numbered, text_read}
+use Rattle.script_words.proofs.Each.{words_at}
 
 -- what the lines from place i on say, after those of a script
 abbrev pub rest_read : Script → List (Bor (List ℕ)) → ℕ → Result Script ℕ
@@ -38,4 +40,4 @@ no_more_lines s lines i whole past so_far = sym so_far ∙ ap (λ l. lines_read 
 
 -- all lines of a text
 pub whole_text : (lines : List (Bor (List ℕ))) (text : List ℕ) → words_at lines ≡ slice_split (λ b. b == 10) text → rest_read no_script lines 0 ≡ script_read text
-whole_text lines text e = ap (lines_read 1 no_script) e
+whole_text lines text e = ap (lines_read 1 no_script) e ∙ text_read text

@@ -1,14 +1,14 @@
 -- How pairs are read one after the other.
 use Rattle.std.proofs.Common.{◌≡◌, ℕ, ◌<◌, ◌≤◌, List, [], ◌∷◌, ◌++◌, length, get_or, drop, Option, Some, None, Err, String, Vec, refl, sym, ap, ◌∙◌, arith, append-nil}
 use denote.Ref.{Bor}
-use Rattle.trace_model.specs.Attributes.{Attribute}
+use Rattle.span_model.specs.Attributes.{Attribute}
 use Rattle.otlp_value.specs.declared.Value.{Value}
 use Rattle.otlp_value.specs.Value.{attribute_view, attributes_view}
-use Rattle.span_script.specs.Words.{Gives, in_front}
+use Rattle.script_words.specs.Words.{Gives, in_front}
 use Rattle.span_script.specs.Values.{pair_of, pairs_of}
-use Rattle.span_script.specs.declared.words.Fault.{Fault}
-use Rattle.span_script.specs.declared.words.Fault.TheVariants.{Bad, OutOfMemory}
-use Rattle.span_script.proofs.Each.{words_at, behind, one_more}
+use Rattle.script_words.specs.declared.WordFault.{WordFault}
+use Rattle.script_words.specs.declared.WordFault.TheVariants.{Bad, OutOfMemory}
+use Rattle.script_words.proofs.Each.{words_at, behind, one_more}
 
 -- the words begin with this pair
 at_pair : (words : List (Bor (List ℕ))) (d : Bor (List ℕ)) → 2 ≤ length words
@@ -28,7 +28,7 @@ goes_on front words d p whole some found so_far =
     ∙ ap (behind front) (sym (at_pair words d some)) ∙ so_far
 
 -- a pair is bad, or memory is refused
-pub stops : (A : Type 0) (front : List Attribute) (words : List (Bor (List ℕ))) (d : Bor (List ℕ)) (fault : Fault) (whole : Option (List Attribute))
+pub stops : (A : Type 0) (front : List Attribute) (words : List (Bor (List ℕ))) (d : Bor (List ℕ)) (fault : WordFault) (whole : Option (List Attribute))
     → 2 ≤ length words → Gives (attribute_view {A = A}) (Err fault) (pair_of (get_or words 0 d).now (get_or words 1 d).now)
     → behind front (pairs_of (words_at words)) ≡ whole → Gives {X = Vec (String A × Value A) A} (λ pairs. attributes_view pairs.items) (Err fault) whole
 stops A front words d Bad whole some bad so_far =

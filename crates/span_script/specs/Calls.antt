@@ -1,7 +1,7 @@
 -- The calls on a span, by the name of the line and the words behind the span's number.
 use Rattle.std.specs.Prelude.{ℕ, ◌^◌, false, List, [], ◌∷◌, if◌then◌else◌, Option, Some, None, option_map, bytes_eq, codes}
-use Rattle.trace_model.specs.Spans.{Call, Status, set_attribute, add_event, record_exception, add_link, set_status, update_name, unset, ok, error}
-use Rattle.span_script.specs.Words.{◌>>=◌, number_below, text_of}
+use Rattle.span_model.specs.Spans.{Call, Status, set_attribute, add_event, record_exception, add_link, set_status, update_name, unset, ok, error}
+use Rattle.script_words.specs.Words.{◌>>=◌, number_below, text_of}
 use Rattle.span_script.specs.Values.{pair_of, pairs_of}
 use Rattle.span_script.specs.Contexts.{context_of}
 

@@ -1,18 +1,8 @@
 -- How the context of a span, and the parent of one that starts, are spelled.
 use Rattle.std.specs.Prelude.{ℕ, ◌^◌, Bool, true, false, List, if◌then◌else◌, Option, Some, None, option_map, bytes_eq, codes}
-use Rattle.trace_model.specs.Spans.{Context}
-use Rattle.trace_model.specs.History.{Parent, root, numbered, given}
-use Rattle.otlp_ids.specs.SpanContext.{context_view}
-use Rattle.span_script.specs.Words.{◌>>=◌, number_below, hex_bytes, byte_of, text_of, around_colon_of}
-use Rattle.span_script.specs.declared.step.Parent.{Parent as CodeParent}
-use Rattle.span_script.specs.declared.step.Parent.TheVariants as parents
-
--- ---- the type of the code
-
-abbrev pub parent_view : {A : Type 0} → CodeParent A → Parent
-parent_view parents.Root = root
-parent_view (parents.Span number) = numbered number
-parent_view (parents.Given context) = given (context_view context)
+use Rattle.span_model.specs.Spans.{Context}
+use Rattle.history_model.specs.History.{Parent, root, numbered, given}
+use Rattle.script_words.specs.Words.{◌>>=◌, number_below, hex_bytes, byte_of, text_of, around_colon_of}
 
 -- ---- what words spell
 
@@ -42,12 +32,14 @@ is_remote_of side =
 
 -- a context behind one of these
 unfoldable pub given_of : List ℕ → List ℕ → Option Parent
-given_of side context = is_remote_of side >>= λ remote. option_map given (joined_context_of remote context)
+given_of side context =
+    is_remote_of side >>= λ remote. option_map given (joined_context_of remote context)
 
 -- `root`, or the number of a span
 unfoldable pub plain_parent_of : List ℕ → Option Parent
 plain_parent_of word =
-    if bytes_eq word (codes "root") then Some root else option_map numbered (number_below (2 ^ 32) word)
+    if bytes_eq word (codes "root") then Some root
+    else option_map numbered (number_below (2 ^ 32) word)
 
 abbrev pub parent_at : List ℕ → Option (List ℕ × List ℕ) → Option Parent
 parent_at word None = plain_parent_of word

@@ -1,4 +1,3 @@
-pub mod Words
 pub mod Values
 pub mod Contexts
 pub mod Calls

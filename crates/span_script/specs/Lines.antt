@@ -1,21 +1,21 @@
--- What a line of a script says: words with one space (32) between them, the first of which is its name.
+-- What a line of a script says: words with one space (32) between them, the first of which is its
+-- name.
 use Rattle.std.specs.Prelude.{ℕ, ◌^◌, ◌==◌, List, [], ◌∷◌, if◌then◌else◌, Option, Some, None, option_map, bytes_eq, codes, string_bytes}
 use Rattle.std.specs.List.{slice_split}
-use Rattle.trace_model.specs.Attributes as attributes
-use Rattle.trace_model.specs.Spans as spans
-use Rattle.trace_model.specs.History.{Step, start, call}
+use Rattle.span_model.specs.Attributes as attributes
+use Rattle.span_model.specs.Spans as spans
+use Rattle.history_model.specs.History.{Step, start, call}
 use Rattle.otlp_value.specs.Value.{attribute_view}
 use Rattle.otlp_span.specs.declared.parts.Kind.{Kind}
 use Rattle.otlp_span.specs.declared.parts.Kind.TheVariants as kinds
 use Rattle.otlp_span.specs.Parts.{kind_view, limits_view, call_view}
-use Rattle.span_script.specs.Words.{◌>>=◌, each_of, number_below, hex_word, text_of}
+use Rattle.script_words.specs.Words.{◌>>=◌, each_of, number_below, hex_word, text_of}
 use Rattle.span_script.specs.Values.{pair_of}
 use Rattle.span_script.specs.Calls.{call_of}
-use Rattle.span_script.specs.Contexts.{parent_view, parent_of}
+use Rattle.trace_history.specs.Steps.{step_view}
+use Rattle.span_script.specs.Contexts.{parent_of}
 use Rattle.span_script.specs.declared.sampler.SamplerName.{SamplerName}
 use Rattle.span_script.specs.declared.sampler.SamplerName.TheVariants as samplers
-use Rattle.span_script.specs.declared.step.Step.{Step as CodeStep}
-use Rattle.span_script.specs.declared.step.Step.TheVariants as steps
 use Rattle.span_script.specs.declared.line.Line.{Line as CodeLine}
 use Rattle.span_script.specs.declared.line.Line.TheVariants as lines
 
@@ -28,13 +28,6 @@ pub data Line : Type 0 where
   step : Step → Line
 
 -- ---- the types of the code
-
--- an end is a call
-abbrev pub step_view : {A : Type 0} → CodeStep A → Step
-step_view (steps.Start number parent kind at name) =
-    start number (parent_view parent) (kind_view kind) at (string_bytes name)
-step_view (steps.Call span called) = call span (call_view called)
-step_view (steps.End span at) = call span (spans.end at)
 
 abbrev pub line_view : {A : Type 0} → CodeLine A → Line
 line_view (lines.Words ws) = words ws.items
@@ -82,11 +75,13 @@ sampler_line _ = None
 
 -- `none`, or how many characters a text may have
 unfoldable pub length_of : List ℕ → Option (Option ℕ)
-length_of word = if bytes_eq word (codes "none") then Some None else option_map Some (number_below (2 ^ 32) word)
+length_of word =
+    if bytes_eq word (codes "none") then Some None else option_map Some (number_below (2 ^ 32) word)
 
--- How many attributes, events and links of a span, and attributes of an event and of a link; and the length of a text
--- in an attribute. (Trace SDK, Span Limits; Common, Attribute Limits)
-unfoldable pub limits_of : List ℕ → List ℕ → List ℕ → List ℕ → List ℕ → List ℕ → Option spans.SpanLimits
+-- How many attributes, events and links of a span, and attributes of an event and of a link; and
+-- the length of a text in an attribute. (Trace SDK, Span Limits; Common, Attribute Limits)
+unfoldable pub limits_of : List ℕ → List ℕ → List ℕ → List ℕ → List ℕ → List ℕ
+    → Option spans.SpanLimits
 limits_of attributes events links event_attributes link_attributes value_length = do
   a ← number_below (2 ^ 32) attributes
   e ← number_below (2 ^ 32) events
@@ -94,7 +89,15 @@ limits_of attributes events links event_attributes link_attributes value_length 
   ea ← number_below (2 ^ 32) event_attributes
   la ← number_below (2 ^ 32) link_attributes
   v ← length_of value_length
-  Some (record { attributes = a; events = e; links = l; event_attributes = ea; link_attributes = la; value_length = v })
+  Some (record {
+    attributes = a;
+    events = e;
+    links = l;
+    event_attributes = ea;
+    link_attributes =
+        la;
+    value_length = v;
+  })
 
 -- `limits A E L EA LA V`
 unfoldable pub limits_line : List (List ℕ) → Option Line

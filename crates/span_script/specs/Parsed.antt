@@ -1,17 +1,19 @@
 -- What a script in the code is.
 use Rattle.std.specs.Prelude.{◌≡◌, ℕ, List, map, unwrap_or, Result, Ok, Err}
-use Rattle.trace_model.specs.Attributes.{attributes}
+use Rattle.span_model.specs.Attributes.{attributes}
 use Rattle.otlp_value.specs.Value.{attributes_view}
 use Rattle.otlp_span.specs.Parts.{limits_view, scope_view}
-use Rattle.span_script.specs.Lines.{step_view}
-use Rattle.span_script.specs.Scripts.{Script, all_kept, default_limits, IsLine}
+use Rattle.trace_history.specs.Steps.{step_view}
+use Rattle.span_model.specs.Spans.{default_limits}
+use Rattle.span_script.specs.Scripts.{Script, all_kept, IsLine}
 use Rattle.span_script.specs.declared.sampler.SamplerName.TheVariants.{AlwaysOn}
 use Rattle.span_script.specs.declared.script.Script.{Script as CodeScript}
 use Rattle.span_script.specs.declared.script.ScriptError.{ScriptError}
 use Rattle.span_script.specs.declared.script.ScriptError.TheVariants.{BadLine, OutOfMemory}
 
--- The script in the code says the same. Its resource has the attributes that are left of those that were set. Where no
--- sampler is named, all spans are sampled, and where no limits are set, they are the standard's.
+-- The script in the code says the same. Its resource has the attributes that are left of those that
+-- were set. Where no sampler is named, all spans are sampled, and where no limits are set, they are
+-- the standard's.
 pub record Means {A : Type 0} (c : CodeScript A) (s : Script) : Type 0 where
   pub words : c.words.items ≡ s.words
   pub sampler : c.sampler ≡ unwrap_or s.sampler AlwaysOn

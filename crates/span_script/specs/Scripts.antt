@@ -1,10 +1,10 @@
 -- What the lines of a script say together.
-use Rattle.std.specs.Prelude.{ℕ, ◌+◌, ◌-◌, ◌^◌, ◌<◌, ◌≤◌, ◌==◌, Bool, true, false, not, ◌&&◌, List, [], ◌∷◌, ◌++◌, length, slice_index_or, if◌then◌else◌, Option, Some, None, is_some, Result, Ok, Err}
-use Rattle.std.specs.List.{slice_split}
-use Rattle.trace_model.specs.Attributes as attributes
-use Rattle.trace_model.specs.Spans as spans
-use Rattle.trace_model.specs.History.{Step}
-use Rattle.span_script.specs.Words.{◌>>=◌}
+use Rattle.std.specs.Prelude.{ℕ, ◌+◌, ◌-◌, ◌^◌, ◌<◌, ◌≤◌, ◌==◌, Bool, true, false, not, ◌&&◌, List, [], ◌∷◌, ◌++◌, length, map, take, filter, filter_map, flat_map, slice_index_or, if◌then◌else◌, Option, Some, None, is_some, ok_or, Result, Ok, Err}
+use Rattle.std.specs.List.{slice_split, list_all, position_or_len, range_with_len}
+use Rattle.span_model.specs.Attributes as attributes
+use Rattle.span_model.specs.Spans as spans
+use Rattle.history_model.specs.History.{Step}
+use Rattle.script_words.specs.Words.{◌>>=◌, each_of}
 use Rattle.span_script.specs.Lines.{Line, words, sampler, limits, resource, scope, step, line_of}
 use Rattle.span_script.specs.declared.sampler.SamplerName.{SamplerName}
 
@@ -20,72 +20,108 @@ pub record Script : Type 0 where
   pub scopes : List spans.Scope
   pub steps : List Step
 
-abbrev pub no_script : Script
-no_script = record { words = []; sampler = None; limits = None; resource = []; scopes = []; steps = [] }
-
--- 128 of each, and texts of any length (Trace SDK, Span Limits; Common, Attribute Limits)
-abbrev pub default_limits : spans.SpanLimits
-default_limits = record {
-  attributes = 128;
-  events = 128;
-  links = 128;
-  event_attributes = 128;
-  link_attributes = 128;
-  value_length = None;
-}
-
 -- a resource keeps the first 2^32 - 1 of its keys, and texts of any length (profile)
 abbrev pub all_kept : attributes.Limits
 all_kept = record { count = 2 ^ 32 - 1; length = None }
 
-abbrev pub no_items : {A : Type 0} → List A → Bool
-no_items [] = true
-no_items (x ∷ xs) = false
+-- ---- the lines that together are a script
 
--- Whether a line may follow those of a script: settings stand before the first step, the one scope has the number 0,
--- and the sampler and the limits are set once.
-abbrev pub fits : Script → Line → Bool
-fits s (words ws) = no_items s.steps
-fits s (sampler name) = no_items s.steps && not (is_some s.sampler)
-fits s (limits l) = no_items s.steps && not (is_some s.limits)
-fits s (resource p) = no_items s.steps
-fits s (scope number x) = no_items s.steps && (no_items s.scopes && number == 0)
-fits s (step x) = true
+abbrev pub is_step : Line → Bool
+is_step (step x) = true
+is_step _ = false
 
--- a script with one more line
-abbrev pub extended : Script → Line → Script
-extended s (words ws) = record s { words = s.words ++ ws }
-extended s (sampler name) = record s { sampler = Some name }
-extended s (limits l) = record s { limits = Some l }
-extended s (resource p) = record s { resource = s.resource ++ p ∷ [] }
-extended s (scope number x) = record s { scopes = s.scopes ++ x ∷ [] }
-extended s (step x) = record s { steps = s.steps ++ x ∷ [] }
+abbrev pub words_in : Line → List ℕ
+words_in (words ws) = ws
+words_in _ = []
 
-unfoldable pub followed : Script → Line → Option Script
-followed s line = if fits s line then Some (extended s line) else None
+abbrev pub sampler_in : Line → Option SamplerName
+sampler_in (sampler name) = Some name
+sampler_in _ = None
 
--- the same of the bytes of a line: an empty line says nothing
-unfoldable pub line_read : Script → List ℕ → Option Script
-line_read s [] = Some s
-line_read s (b ∷ bs) = line_of (b ∷ bs) >>= λ line. followed s line
+abbrev pub limits_in : Line → Option spans.SpanLimits
+limits_in (limits l) = Some l
+limits_in _ = None
 
-abbrev pub numbered : ℕ → Option Script → (Script → Result Script ℕ) → Result Script ℕ
-numbered n None next = Err n
-numbered n (Some s) next = next s
+abbrev pub attribute_in : Line → Option attributes.Attribute
+attribute_in (resource p) = Some p
+attribute_in _ = None
 
--- A script and the lines behind it, the first of which has the number n: what they say together, or the
--- number of the first bad one.
-unfoldable pub lines_read : ℕ → Script → List (List ℕ) → Result Script ℕ
-lines_read n s [] = Ok s
-lines_read n s (line ∷ lines) = numbered n (line_read s line) (λ t. lines_read (n + 1) t lines)
+abbrev pub scope_in : Line → Option (ℕ × spans.Scope)
+scope_in (scope number x) = Some (number, x)
+scope_in _ = None
+
+abbrev pub step_in : Line → Option Step
+step_in (step x) = Some x
+step_in _ = None
+
+-- settings stand before steps: behind the first step there are steps alone
+abbrev pub settings_first : List Line → Bool
+settings_first [] = true
+settings_first (line ∷ lines) =
+    if is_step line then list_all is_step lines else settings_first lines
+
+abbrev pub at_most_one : {A : Type 0} → List A → Bool
+at_most_one [] = true
+at_most_one (x ∷ []) = true
+at_most_one _ = false
+
+-- scopes are numbered from 0 in their order, and there is one at most
+abbrev pub scopes_in_order : List (ℕ × spans.Scope) → Bool
+scopes_in_order [] = true
+scopes_in_order ((number, x) ∷ []) = number == 0
+scopes_in_order _ = false
+
+-- Settings stand before steps, the sampler and the limits are set once at most, and the one scope
+-- has the number 0.
+abbrev pub is_script : List Line → Bool
+is_script lines =
+    settings_first lines
+    && (at_most_one (filter_map sampler_in lines)
+    && (at_most_one (filter_map limits_in lines)
+    && scopes_in_order (filter_map scope_in lines)))
+
+abbrev pub first_of : {A : Type 0} → List A → Option A
+first_of [] = None
+first_of (x ∷ xs) = Some x
+
+-- what they say together
+abbrev pub contents_of : List Line → Script
+contents_of lines = record {
+  words = flat_map words_in lines;
+  sampler = first_of (filter_map sampler_in lines);
+  limits = first_of (filter_map limits_in lines);
+  resource = filter_map attribute_in lines;
+  scopes = map (λ p. p.1) (filter_map scope_in lines);
+  steps = filter_map step_in lines;
+}
+
+-- ---- texts
 
 -- the lines of a text: each ends with a line feed (10), and what follows the last one is one too
 abbrev pub lines_of : List ℕ → List (List ℕ)
 lines_of text = slice_split (λ b. b == 10) text
 
--- what a text says
+abbrev pub some_bytes : List ℕ → Bool
+some_bytes [] = false
+some_bytes (b ∷ bs) = true
+
+abbrev pub script_if : List Line → Option Script
+script_if lines = if is_script lines then Some (contents_of lines) else None
+
+-- What the bytes of lines say, if each that isn't empty says something and together they are a
+-- script. Empty lines say nothing.
+unfoldable pub script_of : List (List ℕ) → Option Script
+script_of lines = each_of line_of (filter some_bytes lines) >>= script_if
+
+-- the number of the first bad line: the least n for which the first n lines are no script
+abbrev pub first_bad_line : List (List ℕ) → ℕ
+first_bad_line lines =
+    position_or_len (λ n. not (is_some (script_of (take n lines))))
+    (range_with_len 0 (length lines + 1))
+
+-- what a text says, or the number of its first bad line
 abbrev pub script_read : List ℕ → Result Script ℕ
-script_read text = lines_read 1 no_script (lines_of text)
+script_read text = ok_or (script_of (lines_of text)) (first_bad_line (lines_of text))
 
 -- a line with the number n is there, and isn't empty
 pub record IsLine (text : List ℕ) (n : ℕ) : Type 0 where

@@ -1,8 +1,8 @@
 -- How the value of an attribute is spelled, and how pairs are.
 use Rattle.std.specs.Prelude.{ℕ, ◌==◌, Bool, true, false, List, [], ◌∷◌, if◌then◌else◌, Option, Some, None, option_map, bytes_eq, codes}
 use Rattle.std.specs.List.{slice_split}
-use Rattle.trace_model.specs.Attributes.{Value, Attribute, text, bool, int, texts, bools, ints}
-use Rattle.span_script.specs.Words.{◌>>=◌, in_front, each_of, signed_number, text_of}
+use Rattle.span_model.specs.Attributes.{Value, Attribute, text, bool, int, texts, bools, ints}
+use Rattle.script_words.specs.Words.{◌>>=◌, in_front, each_of, signed_number, text_of}
 
 -- `true` or `false`
 unfoldable pub bool_of : List ℕ → Option Bool

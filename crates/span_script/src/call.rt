@@ -2,13 +2,13 @@
 
 ghost use Rattle.std.specs.Prelude.{map};
 ghost use Rattle.otlp_span.specs.Parts.{call_view, status_view};
-ghost use Rattle.span_script.specs.Words.{Gives};
+ghost use Rattle.script_words.specs.Words.{Gives};
 ghost use Rattle.span_script.specs.Calls.{attribute_call, call_of, described_status_of, event_call, exception_call, exception_of, link_call, name_call, plain_status_of, status_call};
 
 use crate::context::parse_context;
 use crate::value::{parse_pair, parse_pairs};
-use crate::words::{Fault, number, text};
 use otlp_span::{SpanCall, Status};
+use script_words::{WordFault, number, text};
 use std::alloc::Allocator;
 
 /// Reads a call of this name, and the words behind the span's number.
@@ -17,7 +17,7 @@ pub(crate) fn parse_call<A: Allocator + Copy>(
     alloc: A,
     name: &str,
     words: &[&[u8]],
-) -> Result<SpanCall<A>, Fault>
+) -> Result<SpanCall<A>, WordFault>
     ensures { Gives call_view result (call_of name.now (map (λ w. w.now) words.now)) }
 {
     match name {
@@ -27,17 +27,17 @@ pub(crate) fn parse_call<A: Allocator + Copy>(
         "link" => parse_link(alloc, words),
         "status" => parse_status(alloc, words),
         "name" => parse_name(alloc, words),
-        _ => Err(Fault::Bad),
+        _ => Err(WordFault::Bad),
     }
 }
 
 /// `KEY VALUE`
 #[tactic(auto, unfolding(crate::specs::Calls::attribute_call))]
-fn parse_attribute<A: Allocator + Copy>(alloc: A, words: &[&[u8]]) -> Result<SpanCall<A>, Fault>
+fn parse_attribute<A: Allocator + Copy>(alloc: A, words: &[&[u8]]) -> Result<SpanCall<A>, WordFault>
     ensures { Gives call_view result (attribute_call (map (λ w. w.now) words.now)) }
 {
     let [key, value] = words else {
-        return Err(Fault::Bad);
+        return Err(WordFault::Bad);
     };
     let (key, value) = parse_pair(alloc, key, value)?;
     Ok(SpanCall::SetAttribute(key, value))
@@ -45,11 +45,11 @@ fn parse_attribute<A: Allocator + Copy>(alloc: A, words: &[&[u8]]) -> Result<Spa
 
 /// `AT NAME PAIRS`
 #[tactic(auto, unfolding(crate::specs::Calls::event_call))]
-fn parse_event<A: Allocator + Copy>(alloc: A, words: &[&[u8]]) -> Result<SpanCall<A>, Fault>
+fn parse_event<A: Allocator + Copy>(alloc: A, words: &[&[u8]]) -> Result<SpanCall<A>, WordFault>
     ensures { Gives call_view result (event_call (map (λ w. w.now) words.now)) }
 {
     let [timestamp, name, pairs @ ..] = words else {
-        return Err(Fault::Bad);
+        return Err(WordFault::Bad);
     };
     let timestamp = number(timestamp)?;
     let name = text(alloc, name)?;
@@ -63,14 +63,14 @@ fn parse_event<A: Allocator + Copy>(alloc: A, words: &[&[u8]]) -> Result<SpanCal
 
 /// `AT TYPE MESSAGE STACK PAIRS`
 #[tactic(auto, unfolding(crate::specs::Calls::exception_call))]
-fn parse_exception<A: Allocator + Copy>(alloc: A, words: &[&[u8]]) -> Result<SpanCall<A>, Fault>
+fn parse_exception<A: Allocator + Copy>(alloc: A, words: &[&[u8]]) -> Result<SpanCall<A>, WordFault>
     ensures { Gives call_view result (exception_call (map (λ w. w.now) words.now)) }
 {
     match words {
         [timestamp, exception_type, message, stacktrace, pairs @ ..] => {
             exception(alloc, timestamp, exception_type, message, stacktrace, pairs)
         }
-        _ => Err(Fault::Bad),
+        _ => Err(WordFault::Bad),
     }
 }
 
@@ -83,8 +83,9 @@ fn exception<A: Allocator + Copy>(
     message: &[u8],
     stacktrace: &[u8],
     pairs: &[&[u8]],
-) -> Result<SpanCall<A>, Fault>
-    ensures { Gives call_view result (exception_of timestamp.now exception_type.now message.now stacktrace.now
+) -> Result<SpanCall<A>, WordFault>
+    ensures { Gives call_view result
+        (exception_of timestamp.now exception_type.now message.now stacktrace.now
         (map (λ w. w.now) pairs.now)) }
 {
     let timestamp = number(timestamp)?;
@@ -103,11 +104,11 @@ fn exception<A: Allocator + Copy>(
 
 /// `TRACE SPAN FLAGS STATE PAIRS`
 #[tactic(auto, unfolding(crate::specs::Calls::link_call))]
-fn parse_link<A: Allocator + Copy>(alloc: A, words: &[&[u8]]) -> Result<SpanCall<A>, Fault>
+fn parse_link<A: Allocator + Copy>(alloc: A, words: &[&[u8]]) -> Result<SpanCall<A>, WordFault>
     ensures { Gives call_view result (link_call (map (λ w. w.now) words.now)) }
 {
     let [trace, span, flags, state, pairs @ ..] = words else {
-        return Err(Fault::Bad);
+        return Err(WordFault::Bad);
     };
     let span_context = parse_context(alloc, false, trace, span, flags, state)?;
     let attributes = parse_pairs(alloc, pairs)?;
@@ -119,7 +120,7 @@ fn parse_link<A: Allocator + Copy>(alloc: A, words: &[&[u8]]) -> Result<SpanCall
 
 /// `unset`, `ok` or `error TEXT`
 #[tactic(auto, unfolding(crate::specs::Calls::status_call))]
-fn parse_status<A: Allocator>(alloc: A, words: &[&[u8]]) -> Result<SpanCall<A>, Fault>
+fn parse_status<A: Allocator>(alloc: A, words: &[&[u8]]) -> Result<SpanCall<A>, WordFault>
     ensures { Gives call_view result (status_call (map (λ w. w.now) words.now)) }
 {
     match words {
@@ -128,19 +129,19 @@ fn parse_status<A: Allocator>(alloc: A, words: &[&[u8]]) -> Result<SpanCall<A>, 
             let status = parse_described_status(alloc, name, description)?;
             Ok(SpanCall::SetStatus(status))
         }
-        _ => Err(Fault::Bad),
+        _ => Err(WordFault::Bad),
     }
 }
 
 /// `unset` or `ok`
 #[tactic(auto, unfolding(crate::specs::Calls::plain_status_of))]
-fn parse_plain_status<A: Allocator>(name: &[u8]) -> Result<Status<A>, Fault>
+fn parse_plain_status<A: Allocator>(name: &[u8]) -> Result<Status<A>, WordFault>
     ensures { Gives status_view result (plain_status_of name.now) }
 {
     match name {
         b"unset" => Ok(Status::Unset),
         b"ok" => Ok(Status::Ok),
-        _ => Err(Fault::Bad),
+        _ => Err(WordFault::Bad),
     }
 }
 
@@ -150,22 +151,22 @@ fn parse_described_status<A: Allocator>(
     alloc: A,
     name: &[u8],
     description: &[u8],
-) -> Result<Status<A>, Fault>
+) -> Result<Status<A>, WordFault>
     ensures { Gives status_view result (described_status_of name.now description.now) }
 {
     match name {
         b"error" => Ok(Status::Error(text(alloc, description)?)),
-        _ => Err(Fault::Bad),
+        _ => Err(WordFault::Bad),
     }
 }
 
 /// `TEXT`
 #[tactic(auto, unfolding(crate::specs::Calls::name_call))]
-fn parse_name<A: Allocator>(alloc: A, words: &[&[u8]]) -> Result<SpanCall<A>, Fault>
+fn parse_name<A: Allocator>(alloc: A, words: &[&[u8]]) -> Result<SpanCall<A>, WordFault>
     ensures { Gives call_view result (name_call (map (λ w. w.now) words.now)) }
 {
     let [name] = words else {
-        return Err(Fault::Bad);
+        return Err(WordFault::Bad);
     };
     Ok(SpanCall::UpdateName(text(alloc, name)?))
 }

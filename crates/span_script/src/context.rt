@@ -2,21 +2,22 @@
 
 ghost use Rattle.std.specs.Prelude.{◌≡◌, ok_or};
 ghost use Rattle.otlp_ids.specs.SpanContext.{context_view};
-ghost use Rattle.span_script.specs.Words.{Gives, hex_bytes};
-ghost use Rattle.span_script.specs.Contexts.{context_of, given_of, is_remote_of, joined_context_of, parent_of, parent_view, plain_parent_of};
-ghost use Rattle.span_script.specs.declared.words.Fault.TheVariants.{Bad};
+ghost use Rattle.script_words.specs.Words.{Gives, hex_bytes};
+ghost use Rattle.trace_history.specs.Steps.{parent_name_view};
+ghost use Rattle.span_script.specs.Contexts.{context_of, given_of, is_remote_of, joined_context_of, parent_of, plain_parent_of};
+ghost use Rattle.script_words.specs.declared.WordFault.TheVariants.{Bad};
 
-use crate::step::Parent;
-use crate::words::{Fault, around_colon, byte, small_number, text};
 use otlp_ids::{SpanContext, SpanId, TraceFlags, TraceId};
+use script_words::{WordFault, around_colon, byte, small_number, text};
 use std::alloc::Allocator;
 use std::str;
+use trace_history::Parent;
 
-/// Reads the parent of a span that starts: `root`, the number of a span, or `remote:` or `local:` with a
-/// context behind it.
+/// Reads the parent of a span that starts: `root`, the number of a span, or `remote:` or `local:`
+/// with a context behind it.
 #[tactic(auto, unfolding(crate::specs::Contexts::parent_of))]
-pub(crate) fn parse_parent<A: Allocator>(alloc: A, word: &[u8]) -> Result<Parent<A>, Fault>
-    ensures { Gives parent_view result (parent_of word.now) }
+pub(crate) fn parse_parent<A: Allocator>(alloc: A, word: &[u8]) -> Result<Parent<A>, WordFault>
+    ensures { Gives parent_name_view result (parent_of word.now) }
 {
     match around_colon(word) {
         Some((side, context)) => parse_given(alloc, side, context),
@@ -26,8 +27,8 @@ pub(crate) fn parse_parent<A: Allocator>(alloc: A, word: &[u8]) -> Result<Parent
 
 /// `root`, or the number of a span.
 #[tactic(auto, unfolding(crate::specs::Contexts::plain_parent_of))]
-fn parse_plain_parent<A: Allocator>(word: &[u8]) -> Result<Parent<A>, Fault>
-    ensures { Gives parent_view result (plain_parent_of word.now) }
+fn parse_plain_parent<A: Allocator>(word: &[u8]) -> Result<Parent<A>, WordFault>
+    ensures { Gives parent_name_view result (plain_parent_of word.now) }
 {
     match word {
         b"root" => Ok(Parent::Root),
@@ -37,20 +38,20 @@ fn parse_plain_parent<A: Allocator>(word: &[u8]) -> Result<Parent<A>, Fault>
 
 /// Whether the context behind `remote` or `local` is remote.
 #[tactic(auto, unfolding(crate::specs::Contexts::is_remote_of))]
-fn parse_side(side: &[u8]) -> Result<bool, Fault>
+fn parse_side(side: &[u8]) -> Result<bool, WordFault>
     ensures { result ≡ ok_or (is_remote_of side.now) Bad }
 {
     match side {
         b"remote" => Ok(true),
         b"local" => Ok(false),
-        _ => Err(Fault::Bad),
+        _ => Err(WordFault::Bad),
     }
 }
 
 /// `remote` or `local`, and a context.
 #[tactic(auto, unfolding(crate::specs::Contexts::given_of))]
-fn parse_given<A: Allocator>(alloc: A, side: &[u8], context: &[u8]) -> Result<Parent<A>, Fault>
-    ensures { Gives parent_view result (given_of side.now context.now) }
+fn parse_given<A: Allocator>(alloc: A, side: &[u8], context: &[u8]) -> Result<Parent<A>, WordFault>
+    ensures { Gives parent_name_view result (given_of side.now context.now) }
 {
     let remote = parse_side(side)?;
     Ok(Parent::Given(parse_joined_context(alloc, remote, context)?))
@@ -62,12 +63,12 @@ fn parse_joined_context<A: Allocator>(
     alloc: A,
     remote: bool,
     word: &[u8],
-) -> Result<SpanContext<A>, Fault>
+) -> Result<SpanContext<A>, WordFault>
     ensures { Gives context_view result (joined_context_of remote word.now) }
 {
-    let (trace, rest) = around_colon(word).ok_or(Fault::Bad)?;
-    let (span, rest) = around_colon(rest).ok_or(Fault::Bad)?;
-    let (flags, state) = around_colon(rest).ok_or(Fault::Bad)?;
+    let (trace, rest) = around_colon(word).ok_or(WordFault::Bad)?;
+    let (span, rest) = around_colon(rest).ok_or(WordFault::Bad)?;
+    let (flags, state) = around_colon(rest).ok_or(WordFault::Bad)?;
     parse_context(alloc, remote, trace, span, flags, state)
 }
 
@@ -80,7 +81,7 @@ pub(crate) fn parse_context<A: Allocator>(
     span: &[u8],
     flags: &[u8],
     state: &[u8],
-) -> Result<SpanContext<A>, Fault>
+) -> Result<SpanContext<A>, WordFault>
     ensures { Gives context_view result (context_of remote trace.now span.now flags.now state.now) }
 {
     let trace = trace_id(trace)?;
@@ -97,21 +98,21 @@ pub(crate) fn parse_context<A: Allocator>(
 }
 
 /// An identifier of a trace, in hexadecimal digits of either case.
-fn trace_id(word: &[u8]) -> Result<TraceId, Fault>
+fn trace_id(word: &[u8]) -> Result<TraceId, WordFault>
     ensures { Gives (λ id. id.0) result (hex_bytes 16 word.now) }
 {
     let Ok(digits) = str::from_utf8(word) else {
-        return Err(Fault::Bad);
+        return Err(WordFault::Bad);
     };
-    TraceId::from_hex(digits).or(Err(Fault::Bad))
+    TraceId::from_hex(digits).or(Err(WordFault::Bad))
 }
 
 /// An identifier of a span, in hexadecimal digits of either case.
-fn span_id(word: &[u8]) -> Result<SpanId, Fault>
+fn span_id(word: &[u8]) -> Result<SpanId, WordFault>
     ensures { Gives (λ id. id.0) result (hex_bytes 8 word.now) }
 {
     let Ok(digits) = str::from_utf8(word) else {
-        return Err(Fault::Bad);
+        return Err(WordFault::Bad);
     };
-    SpanId::from_hex(digits).or(Err(Fault::Bad))
+    SpanId::from_hex(digits).or(Err(WordFault::Bad))
 }

@@ -3,17 +3,18 @@
 ghost use Rattle.std.specs.Prelude.{◌≡◌, is_some, not};
 ghost use Rattle.otlp_value.specs.Value.{attribute_view};
 ghost use Rattle.otlp_span.specs.Parts.{limits_view, scope_view};
-ghost use Rattle.span_script.specs.Lines.{line_view, step_view, words, sampler, limits, resource, scope, step};
-ghost use Rattle.span_script.specs.Scripts.{Script, no_items, no_script, followed, line_read};
-ghost use Rattle.span_script.specs.Drafts.{Holds, Follows};
+ghost use Rattle.trace_history.specs.Steps.{step_view};
+ghost use Rattle.span_script.specs.Lines.{line_view, words, sampler, limits, resource, scope, step};
+ghost use Rattle.span_script.specs.Scripts.{Script};
+ghost use Rattle.span_script.specs.Drafts.{Holds, Follows, no_items, no_script, with_line, line_read};
 
 use crate::line::{Line, parse_line};
 use crate::sampler::SamplerName;
-use crate::step::Step;
-use crate::words::Fault;
 use otlp_span::{Scope, SpanLimits};
 use otlp_value::{AttributeList, Limits, Value};
+use script_words::WordFault;
 use std::alloc::Allocator;
+use trace_history::Step;
 
 /// What the lines so far say.
 #[derive(Drop)]
@@ -57,10 +58,10 @@ impl<A: Allocator + Copy> Draft<A> {
     ///
     /// # Errors
     ///
-    /// `Bad` where the line may not stand there, `OutOfMemory` where memory was refused. What the draft
-    /// then holds is not specified.
-    #[tactic(auto, unfolding(crate::specs::Scripts::line_read))]
-    pub(crate) fn add_line(&mut self, alloc: A, line: &[u8]) -> Result<(), Fault>
+    /// `Bad` where the line may not stand there, `OutOfMemory` where memory was refused. What the
+    /// draft then holds is not specified.
+    #[tactic(auto, unfolding(crate::specs::Drafts::line_read))]
+    pub(crate) fn add_line(&mut self, alloc: A, line: &[u8]) -> Result<(), WordFault>
         ensures { Follows (λ s. line_read s line.now) self.old self.new result }
     {
         if line.is_empty() {
@@ -71,8 +72,8 @@ impl<A: Allocator + Copy> Draft<A> {
     }
 
     /// Goes on with a line.
-    fn add(&mut self, alloc: A, line: Line<A>) -> Result<(), Fault>
-        ensures { Follows (λ s. followed s (line_view line)) self.old self.new result }
+    fn add(&mut self, alloc: A, line: Line<A>) -> Result<(), WordFault>
+        ensures { Follows (λ s. with_line s (line_view line)) self.old self.new result }
     {
         match line {
             Line::Words(words) => self.add_words(words),
@@ -101,69 +102,71 @@ impl<A: Allocator + Copy> Draft<A> {
     }
 
     /// Goes on with further words of the generator.
-    #[tactic(auto, unfolding(crate::specs::Scripts::followed))]
-    fn add_words(&mut self, more: Vec<u64, A>) -> Result<(), Fault>
-        ensures { Follows (λ s. followed s (words more.items)) self.old self.new result }
+    #[tactic(auto, unfolding(crate::specs::Drafts::with_line))]
+    fn add_words(&mut self, more: Vec<u64, A>) -> Result<(), WordFault>
+        ensures { Follows (λ s. with_line s (words more.items)) self.old self.new result }
     {
         if self.has_steps() {
-            return Err(Fault::Bad);
+            return Err(WordFault::Bad);
         }
         self.words.extend_from_slice(more.as_slice())?;
         Ok(())
     }
 
     /// Goes on with the name of the sampler.
-    #[tactic(auto, unfolding(crate::specs::Scripts::followed))]
-    fn set_sampler(&mut self, name: SamplerName) -> Result<(), Fault>
-        ensures { Follows (λ s. followed s (sampler name)) self.old self.new result }
+    #[tactic(auto, unfolding(crate::specs::Drafts::with_line))]
+    fn set_sampler(&mut self, name: SamplerName) -> Result<(), WordFault>
+        ensures { Follows (λ s. with_line s (sampler name)) self.old self.new result }
     {
         if self.has_steps() || self.has_sampler() {
-            return Err(Fault::Bad);
+            return Err(WordFault::Bad);
         }
         self.sampler = Some(name);
         Ok(())
     }
 
     /// Goes on with the limits of spans.
-    #[tactic(auto, unfolding(crate::specs::Scripts::followed))]
-    fn set_limits(&mut self, values: SpanLimits) -> Result<(), Fault>
-        ensures { Follows (λ s. followed s (limits (limits_view values))) self.old self.new result }
+    #[tactic(auto, unfolding(crate::specs::Drafts::with_line))]
+    fn set_limits(&mut self, values: SpanLimits) -> Result<(), WordFault>
+        ensures { Follows (λ s. with_line s (limits (limits_view values))) self.old self.new result }
     {
         if self.has_steps() || self.has_limits() {
-            return Err(Fault::Bad);
+            return Err(WordFault::Bad);
         }
         self.limits = Some(values);
         Ok(())
     }
 
     /// Goes on with an attribute of the resource.
-    #[tactic(auto, unfolding(crate::specs::Scripts::followed))]
-    fn add_attribute(&mut self, key: String<A>, value: Value<A>) -> Result<(), Fault>
-        ensures { Follows (λ s. followed s (resource (attribute_view (key, value)))) self.old self.new result }
+    #[tactic(auto, unfolding(crate::specs::Drafts::with_line))]
+    fn add_attribute(&mut self, key: String<A>, value: Value<A>) -> Result<(), WordFault>
+        ensures { Follows
+            (λ s. with_line s (resource (attribute_view (key, value)))) self.old self.new result }
     {
         if self.has_steps() {
-            return Err(Fault::Bad);
+            return Err(WordFault::Bad);
         }
         self.resource.set(key, value)?;
         Ok(())
     }
 
     /// Goes on with a scope under its number.
-    #[tactic(auto, unfolding(crate::specs::Scripts::followed))]
-    fn add_scope(&mut self, number: u32, more: Scope<A>) -> Result<(), Fault>
-        ensures { Follows (λ s. followed s (scope number (scope_view more))) self.old self.new result }
+    #[tactic(auto, unfolding(crate::specs::Drafts::with_line))]
+    fn add_scope(&mut self, number: u32, more: Scope<A>) -> Result<(), WordFault>
+        ensures { Follows
+            (λ s. with_line s (scope number (scope_view more))) self.old self.new result }
     {
         if self.has_steps() || self.has_scopes() || number != 0 {
-            return Err(Fault::Bad);
+            return Err(WordFault::Bad);
         }
         self.scopes.push(more)?;
         Ok(())
     }
 
     /// Goes on with a step.
-    #[tactic(auto, unfolding(crate::specs::Scripts::followed))]
-    fn add_step(&mut self, more: Step<A>) -> Result<(), Fault>
-        ensures { Follows (λ s. followed s (step (step_view more))) self.old self.new result }
+    #[tactic(auto, unfolding(crate::specs::Drafts::with_line))]
+    fn add_step(&mut self, more: Step<A>) -> Result<(), WordFault>
+        ensures { Follows (λ s. with_line s (step (step_view more))) self.old self.new result }
     {
         self.steps.push(more)?;
         Ok(())

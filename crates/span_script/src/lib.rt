@@ -1,7 +1,7 @@
 //! The script of `trace-script`: what to record, read from bytes (profile).
 //!
-//! Lines end with a line feed, which the last may lack; empty ones are skipped. The others are words with
-//! one space between them:
+//! Lines end with a line feed, which the last may lack; empty ones are skipped. The others are
+//! words with one space between them:
 //!
 //! | Line | Meaning |
 //! |---|---|
@@ -19,18 +19,19 @@
 //! | `name N TEXT` | gives the span another name |
 //! | `end N AT` | ends a span |
 //!
-//! The first five are settings, which stand before the first step. Limits are numbers of attributes, events
-//! and links of a span, of attributes of an event and of a link, and the length of a text in characters, or
-//! `none`. N is the number of a span: they are numbered from 0 by their starts. PARENT is `root`, such a number,
-//! or `remote:TRACE:SPAN:FLAGS:STATE`, or `local:` likewise: 32, 16 and 2 hexadecimal digits of either case and
-//! a text, which a further colon belongs to. KIND is `internal`, `server`, `client`, `producer` or `consumer`.
-//! PAIRS is any number of `KEY VALUE`.
+//! The first five are settings, which stand before the first step. Limits are numbers of
+//! attributes, events and links of a span, of attributes of an event and of a link, and the length
+//! of a text in characters, or `none`. N is the number of a span: they are numbered from 0 by their
+//! starts. PARENT is `root`, such a number, or `remote:TRACE:SPAN:FLAGS:STATE`, or `local:`
+//! likewise: 32, 16 and 2 hexadecimal digits of either case and a text, which a further colon
+//! belongs to. KIND is `internal`, `server`, `client`, `producer` or `consumer`. PAIRS is any
+//! number of `KEY VALUE`.
 //!
-//! In a text `%` and two hexadecimal digits are that byte, `%` alone is the empty text, other bytes stand
-//! for themselves, and the whole is UTF-8. Numbers are decimal digits; moments have 64 bits, limits and
-//! numbers of spans and scopes 32. A value is `t:TEXT`, `b:true`, `b:false`, `i:NUMBER`, a whole number of 64
-//! bits that may begin with `-`, or an array `T:`, `B:` or `I:` of these, with commas between them; a comma in
-//! such a text is `%2c`.
+//! In a text `%` and two hexadecimal digits are that byte, `%` alone is the empty text, other bytes
+//! stand for themselves, and the whole is UTF-8. Numbers are decimal digits; moments have 64 bits,
+//! limits and numbers of spans and scopes 32. A value is `t:TEXT`, `b:true`, `b:false`, `i:NUMBER`,
+//! a whole number of 64 bits that may begin with `-`, or an array `T:`, `B:` or `I:` of these, with
+//! commas between them; a comma in such a text is `%2c`.
 #![tactic(auto)]
 
 mod call;
@@ -39,13 +40,7 @@ mod draft;
 mod line;
 mod sampler;
 mod script;
-mod step;
-#[cfg(test)]
-mod tests;
 mod value;
-mod words;
 
 pub use sampler::SamplerName;
 pub use script::{Script, ScriptError};
-pub use step::{Parent, Step};
-pub use words::texts_are_spelled;

@@ -7,6 +7,7 @@ pub enum SamplerName {
     AlwaysOn,
     /// No span is recorded.
     AlwaysOff,
-    /// A root is sampled, and any other span where its parent is: the standard's defaults over `AlwaysOn`.
+    /// A root is sampled, and any other span where its parent is: the standard's defaults over
+    /// `AlwaysOn`.
     ParentBased,
 }

@@ -7,12 +7,12 @@ ghost use Rattle.span_script.specs.Parsed.{Means, Parses, TellsLine};
 
 use crate::draft::Draft;
 use crate::sampler::SamplerName;
-use crate::step::Step;
-use crate::words::{Fault, parts_of};
 use otlp_span::{Scope, SpanLimits};
 use otlp_value::Value;
+use script_words::{WordFault, parts_of};
 use std::alloc::{Allocator, Global};
 use thiserror::Error;
+use trace_history::Step;
 
 /// What to record, as a text says it.
 #[derive(Debug, Drop)]
@@ -23,7 +23,8 @@ pub struct Script<A: Allocator = Global> {
     pub sampler: SamplerName,
     /// The limits of all spans: the standard's where none are set.
     pub limits: SpanLimits,
-    /// The attributes of the resource, with distinct keys, in the order in which these were first set.
+    /// The attributes of the resource, with distinct keys, in the order in which these were first
+    /// set.
     pub resource: Vec<(String<A>, Value<A>), A>,
     /// The scopes, under their numbers.
     pub scopes: Vec<Scope<A>, A>,
@@ -42,14 +43,25 @@ pub enum ScriptError {
     OutOfMemory,
 }
 
+impl From<otlp_ids::OutOfMemory> for ScriptError {
+    ghost use Rattle.std.specs.Prelude.{◌≡◌};
+    ghost use Rattle.span_script.specs.declared.script.ScriptError.TheVariants.{OutOfMemory};
+
+    ghost from_gives = { λ _ error. error ≡ OutOfMemory };
+
+    fn from(_: otlp_ids::OutOfMemory) -> ScriptError {
+        ScriptError::OutOfMemory
+    }
+}
+
 impl<A: Allocator + Copy> Script<A> {
     /// Reads a script.
     ///
     /// # Errors
     ///
-    /// `BadLine` where a line is bad by itself or may not stand where it does: a setting behind a step, a
-    /// second sampler, second limits, a second scope or one with another number than 0. `OutOfMemory` where
-    /// memory was refused.
+    /// `BadLine` where a line is bad by itself or may not stand where it does: a setting behind a
+    /// step, a second sampler, second limits, a second scope or one with another number than 0.
+    /// `OutOfMemory` where memory was refused.
     pub fn parse(alloc: A, text: &[u8]) -> Result<Script<A>, ScriptError>
         // What the lines say, or the first bad one.
         ensures exact { Parses result (script_read text.now) }
@@ -64,8 +76,8 @@ impl<A: Allocator + Copy> Script<A> {
         for (index, line) in lines.iter().enumerate() {
             match draft.add_line(alloc, line) {
                 Ok(()) => {}
-                Err(Fault::Bad) => return Err(ScriptError::BadLine(index as u64 + 1)),
-                Err(Fault::OutOfMemory) => return Err(ScriptError::OutOfMemory),
+                Err(WordFault::Bad) => return Err(ScriptError::BadLine(index as u64 + 1)),
+                Err(WordFault::OutOfMemory) => return Err(ScriptError::OutOfMemory),
             }
         }
         Ok(Script::from_draft(draft))

@@ -2,20 +2,21 @@
 
 ghost use Rattle.std.specs.Prelude.{◌≡◌, IfOk, map, ok_or, string_bytes};
 ghost use Rattle.otlp_value.specs.Value.{attribute_view, attributes_view, value_view};
-ghost use Rattle.span_script.specs.Words.{Gives, each_of, signed_number, text_of};
+ghost use Rattle.script_words.specs.Words.{Gives, each_of, signed_number, text_of};
 ghost use Rattle.span_script.specs.Values.{bool_of, members_of, pair_of, pairs_of, value_of, value_of_kind};
-ghost use Rattle.span_script.specs.declared.words.Fault.TheVariants.{Bad};
+ghost use Rattle.script_words.specs.declared.WordFault.TheVariants.{Bad};
 
-use crate::words::{Fault, integer, parts_of, text};
 use otlp_value::Value;
+use script_words::{WordFault, integer, parts_of, text};
 use std::alloc::{AllocError, Allocator};
 
 /// Any number of keys, each with a value behind it.
 pub(crate) fn parse_pairs<A: Allocator + Copy>(
     alloc: A,
     words: &[&[u8]],
-) -> Result<Vec<(String<A>, Value<A>), A>, Fault>
-    ensures { Gives (λ pairs. attributes_view pairs.items) result (pairs_of (map (λ w. w.now) words.now)) }
+) -> Result<Vec<(String<A>, Value<A>), A>, WordFault>
+    ensures { Gives (λ pairs. attributes_view pairs.items) result
+        (pairs_of (map (λ w. w.now) words.now)) }
 {
     let mut pairs = Vec::new(alloc);
     let mut rest = words;
@@ -26,7 +27,7 @@ pub(crate) fn parse_pairs<A: Allocator + Copy>(
     if rest.is_empty() {
         Ok(pairs)
     } else {
-        Err(Fault::Bad)
+        Err(WordFault::Bad)
     }
 }
 
@@ -36,7 +37,7 @@ pub(crate) fn parse_pair<A: Allocator + Copy>(
     alloc: A,
     key: &[u8],
     value: &[u8],
-) -> Result<(String<A>, Value<A>), Fault>
+) -> Result<(String<A>, Value<A>), WordFault>
     ensures { Gives attribute_view result (pair_of key.now value.now) }
 {
     let key = text(alloc, key)?;
@@ -44,15 +45,15 @@ pub(crate) fn parse_pair<A: Allocator + Copy>(
     Ok((key, value))
 }
 
-/// `t:TEXT`, `b:true`, `b:false`, `i:NUMBER`, or an array of these: `T:`, `B:` or `I:`, and its members with
-/// commas between them.
+/// `t:TEXT`, `b:true`, `b:false`, `i:NUMBER`, or an array of these: `T:`, `B:` or `I:`, and its
+/// members with commas between them.
 #[tactic(auto, unfolding(crate::specs::Values::value_of))]
-fn parse_value<A: Allocator + Copy>(alloc: A, word: &[u8]) -> Result<Value<A>, Fault>
+fn parse_value<A: Allocator + Copy>(alloc: A, word: &[u8]) -> Result<Value<A>, WordFault>
     ensures { Gives value_view result (value_of word.now) }
 {
     match word {
         [letter, b':', spelling @ ..] => parse_value_of_kind(alloc, *letter, spelling),
-        _ => Err(Fault::Bad),
+        _ => Err(WordFault::Bad),
     }
 }
 
@@ -62,7 +63,7 @@ fn parse_value_of_kind<A: Allocator + Copy>(
     alloc: A,
     letter: u8,
     spelling: &[u8],
-) -> Result<Value<A>, Fault>
+) -> Result<Value<A>, WordFault>
     ensures { Gives value_view result (value_of_kind letter spelling.now) }
 {
     match letter {
@@ -72,19 +73,19 @@ fn parse_value_of_kind<A: Allocator + Copy>(
         b'T' => Ok(Value::Texts(texts(alloc, &members(alloc, spelling)?)?)),
         b'B' => Ok(Value::Bools(truths(alloc, &members(alloc, spelling)?)?)),
         b'I' => Ok(Value::Ints(integers(alloc, &members(alloc, spelling)?)?)),
-        _ => Err(Fault::Bad),
+        _ => Err(WordFault::Bad),
     }
 }
 
 /// `true` or `false`
 #[tactic(auto, unfolding(crate::specs::Values::bool_of))]
-fn truth(word: &[u8]) -> Result<bool, Fault>
+fn truth(word: &[u8]) -> Result<bool, WordFault>
     ensures { result ≡ ok_or (bool_of word.now) Bad }
 {
     match word {
         b"true" => Ok(true),
         b"false" => Ok(false),
-        _ => Err(Fault::Bad),
+        _ => Err(WordFault::Bad),
     }
 }
 
@@ -99,8 +100,9 @@ fn members<A: Allocator>(alloc: A, spelling: &[u8]) -> Result<Vec<&[u8], A>, All
 }
 
 /// The texts that the members of an array spell.
-fn texts<A: Allocator + Copy>(alloc: A, members: &[&[u8]]) -> Result<Vec<String<A>, A>, Fault>
-    ensures { Gives (λ all. map string_bytes all.items) result (each_of text_of (map (λ w. w.now) members.now)) }
+fn texts<A: Allocator + Copy>(alloc: A, members: &[&[u8]]) -> Result<Vec<String<A>, A>, WordFault>
+    ensures { Gives (λ all. map string_bytes all.items) result
+        (each_of text_of (map (λ w. w.now) members.now)) }
 {
     let mut all = Vec::new(alloc);
     for member in members {
@@ -110,7 +112,7 @@ fn texts<A: Allocator + Copy>(alloc: A, members: &[&[u8]]) -> Result<Vec<String<
 }
 
 /// The truth values that the members of an array spell.
-fn truths<A: Allocator>(alloc: A, members: &[&[u8]]) -> Result<Vec<bool, A>, Fault>
+fn truths<A: Allocator>(alloc: A, members: &[&[u8]]) -> Result<Vec<bool, A>, WordFault>
     ensures { Gives (λ all. all.items) result (each_of bool_of (map (λ w. w.now) members.now)) }
 {
     let mut all = Vec::new(alloc);
@@ -121,8 +123,9 @@ fn truths<A: Allocator>(alloc: A, members: &[&[u8]]) -> Result<Vec<bool, A>, Fau
 }
 
 /// The whole numbers that the members of an array spell.
-fn integers<A: Allocator>(alloc: A, members: &[&[u8]]) -> Result<Vec<i64, A>, Fault>
-    ensures { Gives (λ all. all.items) result (each_of signed_number (map (λ w. w.now) members.now)) }
+fn integers<A: Allocator>(alloc: A, members: &[&[u8]]) -> Result<Vec<i64, A>, WordFault>
+    ensures { Gives (λ all. all.items) result
+        (each_of signed_number (map (λ w. w.now) members.now)) }
 {
     let mut all = Vec::new(alloc);
     for member in members {

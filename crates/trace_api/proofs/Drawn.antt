@@ -1,13 +1,15 @@
 -- The identifiers of a span, drawn one after the other.
-use Rattle.std.proofs.Common.{◌≡◌, refl, sym, ap, subst, ◌∙◌, ℕ, zero, suc, ◌+◌, add-zero, add-suc, zero-add, arith, List, Option, Some, None, option_map}
+use Rattle.std.proofs.Common.{◌≡◌, refl, sym, ap, subst, ◌∙◌, ℕ, zero, suc, ◌+◌, add-zero, add-suc, zero-add, arith, List, Option, Some, None, option_map, Result, Ok, Err, IsErrAnd}
 use mathlib.Core.Path.{fun_ext}
 use Rattle.rand_core.specs.Stream.{Stream, next_u64}
-use Rattle.trace_model.specs.Spans.{Context}
-use Rattle.trace_model.specs.Identifiers.{Words, span_id, words_after, words_spent}
-use Rattle.trace_model.specs.Sampling.{Decision}
-use Rattle.trace_model.specs.Starts.{Ids, Tracer, Asked, trace_of, trace_words, ids_of, ids_words, decided, started, started_as}
-use Rattle.otlp_ids.specs.WordStream.{after_words, words_of}
-use Rattle.trace_api.specs.Starts.{Spends, TakesMemory}
+use Rattle.span_model.specs.Spans.{Context}
+use Rattle.span_model.specs.Identifiers.{Words, span_id, words_after, words_spent}
+use Rattle.span_model.specs.Sampling.{Decision}
+use Rattle.span_model.specs.Starts.{Ids, Tracer, StartRequest, StartedSpan, HeldSpan, trace_of, trace_words, ids_of, ids_words, decision_of, started_span, started_span_as}
+use Rattle.otlp_ids.specs.WordStream.{Spends, after_words, words_of}
+use Rattle.trace_api.specs.Starts.{StartTakesMemory, StartsAs}
+use Rattle.trace_api.specs.declared.provider.StartFault.{StartFault}
+use Rattle.trace_api.specs.declared.provider.StartFault.TheVariants.{NoRandomness, OutOfMemory}
 
 after-both : (a b : ℕ) (s : Stream) → after_words b (after_words a s) ≡ after_words (a + b) s
 unfolding after_words
@@ -48,15 +50,21 @@ behind-trace parent trace id s t u e spent f more =
 
 -- ---- the span that starts
 
-pub not-started : (tracer : Tracer) (a : Asked) (words : Words) → None ≡ ids_of a.parent words → started tracer a words ≡ None
-unfolding started
+pub not-started : (tracer : Tracer) (a : StartRequest) (words : Words) → None ≡ ids_of a.parent words → started_span tracer a words ≡ None
+unfolding started_span
 not-started tracer a words e = rw (← e) refl
 
-pub has-started : (tracer : Tracer) (a : Asked) (words : Words) (ids : Ids) → Some ids ≡ ids_of a.parent words → started tracer a words ≡ Some (started_as tracer a ids (decided tracer a ids.trace))
-unfolding started
+pub has-started : (tracer : Tracer) (a : StartRequest) (words : Words) (ids : Ids) → Some ids ≡ ids_of a.parent words → started_span tracer a words ≡ Some (started_span_as tracer a ids (decision_of tracer a ids.trace))
+unfolding started_span
 has-started tracer a words ids e = rw (← e) refl
 
 -- memory that starting takes, of the same start in other words
-pub takes-memory : (tracer : Tracer) {a b : Asked} (ids : Ids) {d e : Decision} → a ≡ b → d ≡ e → TakesMemory (started_as tracer a ids d) → TakesMemory (started_as tracer b ids e)
+pub takes-memory : (tracer : Tracer) {a b : StartRequest} (ids : Ids) {d e : Decision} → a ≡ b → d ≡ e → StartTakesMemory (started_span_as tracer a ids d) → StartTakesMemory (started_span_as tracer b ids e)
 takes-memory tracer {a = a} ids {e = e} p q h =
-    subst (λ x. TakesMemory (started_as tracer x ids e)) p (subst (λ y. TakesMemory (started_as tracer a ids y)) q h)
+    subst (λ x. StartTakesMemory (started_span_as tracer x ids e)) p (subst (λ y. StartTakesMemory (started_span_as tracer a ids y)) q h)
+
+-- a refusal of memory where starting takes some
+pub refused : (there : Option StartedSpan) (s : StartedSpan) (r : Result HeldSpan StartFault) → IsErrAnd r (λ fault. fault ≡ OutOfMemory) → there ≡ Some s → StartTakesMemory s → StartsAs there r
+refused there s (Ok span) h e t = absurd h
+refused there s (Err NoRandomness) h e t = cc
+refused there s (Err OutOfMemory) h e t = (s, e, t)

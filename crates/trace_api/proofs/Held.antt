@@ -2,25 +2,25 @@
 use Rattle.std.proofs.Common.{◌≡◌, refl, sym, ap, ◌∙◌, ℕ, List, [], ◌∷◌, ◌++◌, Bool, true, false, ◌||◌}
 use Rattle.std.specs.List.{list_any}
 use Rattle.std.proofs.lemmas.List.Folds.{list_any-append}
-use Rattle.trace_model.specs.Spans.{Call, Context, Recording, SpanLimits, Resource, Scope, Span, Start, Adds, end, is_end, span}
-use Rattle.trace_model.proofs.Histories.{all-live}
-use Rattle.trace_model.specs.Sampling.{is_recording}
+use Rattle.span_model.specs.Spans.{Call, Context, Recording, SpanLimits, Resource, Scope, Span, Start, Adds, end, is_end, span}
+use Rattle.span_model.proofs.Live.{all-live}
+use Rattle.span_model.specs.Sampling.{is_recording}
 use Rattle.trace_api.specs.State.{state_view}
 use Rattle.trace_api.specs.declared.span.State.{State}
 use Rattle.trace_api.specs.declared.span.State.TheVariants as states
-use Rattle.trace_model.specs.Starts.{Started, SpanState, HeldSpan, Does, recording, not_recording, ended, held, state_after, is_recording_state}
+use Rattle.span_model.specs.Starts.{StartedSpan, SpanState, HeldSpan, Does, recording, not_recording, ended, held_span, state_after, is_recording_state}
 
 -- what is recorded of a span after some calls
-abbrev recorded : Started → List Call → Recording
+abbrev recorded : StartedSpan → List Call → Recording
 recorded s calls = record { limits = s.limits; resource = s.resource; scope = s.scope; span = span s.limits s.start calls }
 
 -- the state by whether a call is an end and whether the span was recorded
-abbrev state_by : Started → List Call → Bool → Bool → SpanState
+abbrev state_by : StartedSpan → List Call → Bool → Bool → SpanState
 state_by s calls true d = ended
 state_by s calls false true = recording (recorded s calls)
 state_by s calls false false = not_recording
 
-state-is : (s : Started) (calls : List Call) (b d : Bool) → list_any is_end calls ≡ b → is_recording s.decision ≡ d → state_after s calls ≡ state_by s calls b d
+state-is : (s : StartedSpan) (calls : List Call) (b d : Bool) → list_any is_end calls ≡ b → is_recording s.decision ≡ d → state_after s calls ≡ state_by s calls b d
 state-is s calls true d e f = rw e refl
 state-is s calls false true e f = rw (e, f) refl
 state-is s calls false false e f = rw (e, f) refl
@@ -30,10 +30,10 @@ any-more c calls b d e f = list_any-append is_end calls (c ∷ []) ∙ rw (e, f)
 
 -- what a span's state says of its calls, and its state after one more
 record Told (c : Call) (x : Context) (old new : SpanState) : Type 0 where
-  value : (s : Started) (calls : List Call) (b d : Bool) → list_any is_end calls ≡ b → is_recording s.decision ≡ d → old ≡ state_by s calls b d → new ≡ state_after s (calls ++ c ∷ [])
+  value : (s : StartedSpan) (calls : List Call) (b d : Bool) → list_any is_end calls ≡ b → is_recording s.decision ≡ d → old ≡ state_by s calls b d → new ≡ state_after s (calls ++ c ∷ [])
 
 does : (c : Call) (x : Context) (old new : SpanState) → Told c x old new → Does c (record { context = x; state = old }) (record { context = x; state = new })
-unfolding held
+unfolding held_span
 does c x old new t = record {
   context = refl;
   value = λ s calls h.
@@ -48,7 +48,7 @@ pub does-recorded : (c : Call) (x : Context) (old new : Recording) → is_end c 
     Does c (record { context = x; state = recording old }) (record { context = x; state = recording new })
 does-recorded c x old new k a = does c x (recording old) (recording new) (record { value = by })
   where
-    by : (s : Started) (calls : List Call) (b d : Bool) → list_any is_end calls ≡ b → is_recording s.decision ≡ d → recording old ≡ state_by s calls b d → recording new ≡ state_after s (calls ++ c ∷ [])
+    by : (s : StartedSpan) (calls : List Call) (b d : Bool) → list_any is_end calls ≡ b → is_recording s.decision ≡ d → recording old ≡ state_by s calls b d → recording new ≡ state_after s (calls ++ c ∷ [])
     by s calls true d e f h = cc
     by s calls false false e f h = cc
     by s calls false true e f h =
@@ -71,7 +71,7 @@ pub does-nothing : (c : Call) (x : Context) (state : SpanState) → is_end c ≡
     Does c (record { context = x; state = state }) (record { context = x; state = state })
 does-nothing c x state k n = does c x state state (record { value = by state n })
   where
-    by : (state : SpanState) → is_recording_state state ≡ false → (s : Started) (calls : List Call) (b d : Bool) → list_any is_end calls ≡ b → is_recording s.decision ≡ d → state ≡ state_by s calls b d → state ≡ state_after s (calls ++ c ∷ [])
+    by : (state : SpanState) → is_recording_state state ≡ false → (s : StartedSpan) (calls : List Call) (b d : Bool) → list_any is_end calls ≡ b → is_recording s.decision ≡ d → state ≡ state_by s calls b d → state ≡ state_after s (calls ++ c ∷ [])
     by (recording r) n s calls b d e f h = cc
     by not_recording n s calls true d e f h = cc
     by not_recording n s calls false true e f h = cc
@@ -83,21 +83,21 @@ does-nothing c x state k n = does c x state state (record { value = by state n }
 pub does-end : (at : ℕ) (x : Context) (state : SpanState) → Does (end at) (record { context = x; state = state }) (record { context = x; state = ended })
 does-end at x state = does (end at) x state ended (record { value = by })
   where
-    by : (s : Started) (calls : List Call) (b d : Bool) → list_any is_end calls ≡ b → is_recording s.decision ≡ d → state ≡ state_by s calls b d → ended ≡ state_after s (calls ++ end at ∷ [])
+    by : (s : StartedSpan) (calls : List Call) (b d : Bool) → list_any is_end calls ≡ b → is_recording s.decision ≡ d → state ≡ state_by s calls b d → ended ≡ state_after s (calls ++ end at ∷ [])
     by s calls true d e f h = sym (state-is s (calls ++ end at ∷ []) true d (any-more (end at) calls true true e refl) f)
     by s calls false d e f h = sym (state-is s (calls ++ end at ∷ []) true d (any-more (end at) calls false true e refl) f)
 
 -- ---- no call yet
 
-pub held-dropped : (s : Started) → is_recording s.decision ≡ false → record { context = s.start.context; state = not_recording } ≡ held s []
-unfolding held
+pub held-dropped : (s : StartedSpan) → is_recording s.decision ≡ false → record { context = s.start.context; state = not_recording } ≡ held_span s []
+unfolding held_span
 held-dropped s e = rw e refl
 
-pub held-recorded : (s : Started) → is_recording s.decision ≡ true → record { context = s.start.context; state = recording (recorded s []) } ≡ held s []
-unfolding held
+pub held-recorded : (s : StartedSpan) → is_recording s.decision ≡ true → record { context = s.start.context; state = recording (recorded s []) } ≡ held_span s []
+unfolding held_span
 held-recorded s e = rw e refl
 
-pub recorded-is : (limits : SpanLimits) (resource : Resource) (scope : Scope) (start : Start) (s : Started) → limits ≡ s.limits → resource ≡ s.resource → scope ≡ s.scope → start ≡ s.start →
+pub recorded-is : (limits : SpanLimits) (resource : Resource) (scope : Scope) (start : Start) (s : StartedSpan) → limits ≡ s.limits → resource ≡ s.resource → scope ≡ s.scope → start ≡ s.start →
     record { limits = limits; resource = resource; scope = scope; span = span limits start [] } ≡ recorded s []
 recorded-is limits resource scope start s l r c t = rw (l, r, c, t) refl
 

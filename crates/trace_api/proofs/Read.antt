@@ -1,6 +1,25 @@
 -- Facts of answers.
-use Rattle.std.proofs.Common.{Result, Ok, Err, OnOk}
+use Rattle.std.proofs.Common.{Result, Ok, Err, OnOk, OnErr}
+use Rattle.span_model.specs.Spans.{Recording}
+use Rattle.span_model.specs.Starts.{SpanState, recording, not_recording, ended}
+use Rattle.trace_api.specs.Calls.{IsRecordingWith}
 
 pub on-ok : {T E : Type 0} {P Q : Type 0} (r : Result T E) → (P → Q) → OnOk r P → OnOk r Q
 on-ok (Ok x) f h = f h
 on-ok (Err e) f h = tt
+
+pub on-err : {T E : Type 0} {P Q : Type 0} (r : Result T E) → (P → Q) → OnErr r P → OnErr r Q
+on-err (Ok x) f h = tt
+on-err (Err e) f h = f h
+
+-- of a span that is recorded
+pub recording-with : {P Q : Recording → Type 0} (state : SpanState) → ((r : Recording) → P r → Q r) → IsRecordingWith P state → IsRecordingWith Q state
+recording-with (recording r) f h = f r h
+recording-with not_recording f h = h
+recording-with ended f h = h
+
+-- what is so whatever is recorded
+pub said-with : {P : Recording → Type 0} {Q : Type 0} (state : SpanState) → ((r : Recording) → P r → Q) → IsRecordingWith P state → Q
+said-with (recording r) f h = f r h
+said-with not_recording f h = absurd h
+said-with ended f h = absurd h

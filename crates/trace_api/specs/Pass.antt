@@ -1,6 +1,6 @@
 -- What ended spans go to. (Trace SDK, Span processor)
 use Rattle.std.specs.Prelude.{◌≡◌, ℕ, ◌+◌, ◌-◌, ◌^◌, min, nat_lt, Bool, true, false, List, [], ◌∷◌, ◌++◌, length, if◌then◌else◌}
-use Rattle.trace_model.specs.Spans.{EndedSpan}
+use Rattle.span_model.specs.Spans.{EndedSpan, with_ticket}
 use Rattle.otlp_span.specs.declared.reason.Reason.TheVariants.{QueueFull}
 use Rattle.trace_api.specs.declared.pass.Ended.{Ended}
 use Rattle.trace_api.specs.declared.pass.Ended.TheVariants.{Queued, Handed, Dropped, Late, NotSampled, AlreadyEnded}
@@ -36,7 +36,9 @@ abbrev pub answer_of : Body → Ended
 answer_of b = if has_room b then Queued (next_ticket b) else Dropped (next_ticket b) QueueFull
 
 abbrev pub with_span : Body → EndedSpan → Body
-with_span b span = if has_room b then record b { spans = b.spans ++ span ∷ [] } else record b { dropped = counted_spans (b.dropped + 1) }
+with_span b span =
+    if has_room b then record b { spans = b.spans ++ with_ticket (next_ticket b) span ∷ [] }
+    else record b { dropped = counted_spans (b.dropped + 1) }
 
 pub record Admits (old : Body) (span : EndedSpan) (answer : Ended) (new : Body) : Type 0 where
   pub answered : answer ≡ answer_of old

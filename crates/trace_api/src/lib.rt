@@ -1,5 +1,5 @@
-//! Spans as a program makes them (OpenTelemetry Trace API): a provider gives tracers, a tracer starts spans, and an
-//! ended span goes to a pass.
+//! Spans as a program makes them (OpenTelemetry Trace API): a provider gives tracers, a tracer
+//! starts spans, and an ended span goes to a pass.
 #![tactic(auto)]
 
 mod pass;
@@ -9,6 +9,3 @@ mod span;
 pub use pass::{BodyPass, EndPass, Ended};
 pub use provider::{Provider, StartFault, Tracer};
 pub use span::Span;
-
-#[cfg(test)]
-mod tests;

@@ -1,6 +1,6 @@
 //! What ended spans go to.
-ghost use Rattle.std.specs.Prelude.{◌≡◌, IfOk, IsTrue, []};
-ghost use Rattle.trace_model.specs.Spans.{EndedSpan};
+ghost use Rattle.std.specs.Prelude.{◌≡◌, ◌<◌, IfOk, IsTrue, OnErr, []};
+ghost use Rattle.span_model.specs.Spans.{EndedSpan};
 ghost use Rattle.trace_api.specs.declared.pass.Ended.{Ended};
 ghost use Rattle.trace_api.specs.Pass.{Admits, is_admission};
 
@@ -9,8 +9,8 @@ use otlp_span::{Reason, SpanData};
 use std::alloc::{Allocator, Global};
 use std::marker::Model;
 
-/// What became of a span at its end. A ticket is the span's number among the sampled spans that have ended, from
-/// 0 on.
+/// What became of a span at its end. A ticket is the span's number among the sampled spans that
+/// have ended, from 0 on.
 #[derive(Debug, Clone, Copy, PartialEq, Eq)]
 pub enum Ended {
     /// It waits to be handed to an exporter.
@@ -27,20 +27,22 @@ pub enum Ended {
     AlreadyEnded,
 }
 
-/// Takes sampled spans when they end (Trace SDK, "Span processor": `OnEnd`), each as an `S`, which is `SpanData`.
+/// Takes sampled spans when they end (Trace SDK, "Span processor": `OnEnd`), each as an `S`, which
+/// is `SpanData`.
 pub trait EndPass<S> {
     /// What may come of a span: this value before, the span, the answer, and this value after.
     ghost admits: { Self → S → Ended → Self → Type 0 };
 
-    /// Takes a span that has ended. The answer is neither `NotSampled` nor `AlreadyEnded`: these are said by the
-    /// span, which then asks nothing of the pass.
+    /// Takes a span that has ended. The answer is neither `NotSampled` nor `AlreadyEnded`: these
+    /// are said by the span, which then asks nothing of the pass.
     fn admit(&mut self, span: S) -> Ended
         ensures admits { admits self.old span result self.new }
         ensures admission { IsTrue (is_admission result) };
 }
 
 /// Keeps ended spans, in the order in which they ended, for one body.
-#[derive(Debug, Drop)]
+#[derive(Drop)]
+#[derive_where(Debug)]
 pub struct BodyPass<A: Allocator = Global> {
     spans: Vec<SpanData<A>, A>,
     dropped: u64,
@@ -52,17 +54,23 @@ impl<A: Allocator> Model for BodyPass<A> {
 
     ghost Value = { Body };
 
-    ghost view = { λ p. record { spans = p.spans.items; room = vec_capacity p.spans; dropped = p.dropped } };
+    ghost view = { λ p. record {
+      spans = p.spans.items;
+      room = vec_capacity p.spans;
+      dropped = p.dropped;
+    } };
 }
 
 impl<A: Allocator> BodyPass<A> {
-    /// Keeps no span yet, and has room for so many.
+    /// Keeps no span yet, and has room for so many. Where this is none, it takes no memory.
     ///
     /// # Errors
     ///
     /// `OutOfMemory` where this room can't be had.
     pub fn new(alloc: A, room: usize) -> Result<BodyPass<A>, OutOfMemory>
-        ensures { IfOk result (λ pass. pass ≡ record { spans = []; room = room; dropped = 0 }) }
+        ensures value { IfOk result
+            (λ pass. pass ≡ record { spans = []; room = room; dropped = 0 }) }
+        ensures refused_only_with_room { OnErr result (0 < room) }
     {
         Ok(BodyPass {
             spans: Vec::with_capacity(alloc, room)?,
@@ -83,11 +91,14 @@ impl<A: Allocator> EndPass<SpanData<A>> for BodyPass<A> {
 
     ghost admits = { Admits };
 
-    /// Keeps the span while there is room. Beyond it, the span is dropped as `QueueFull`. Its ticket is the number of
-    /// spans that have ended before, which stops at 2^64 - 1 (profile). No memory is taken.
+    /// Keeps the span while there is room. Beyond it, the span is dropped as `QueueFull`. Its
+    /// ticket is the number of spans that have ended before, which stops at 2^64 - 1 (profile). No
+    /// memory is taken.
     fn admit(&mut self, span: SpanData<A>) -> Ended {
         let ticket = (self.spans.len() as u64).saturating_add(self.dropped);
         if self.spans.len() < self.spans.capacity() {
+            let mut span = span;
+            span.set_ticket(ticket);
             self.spans.push_reserved(span);
             Ended::Queued(ticket)
         } else {

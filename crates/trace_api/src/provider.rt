@@ -1,18 +1,17 @@
 //! What starts spans.
 ghost use Rattle.std.specs.Prelude.{◌≡◌, IfOk, IsTrue, OnErr, false, option_map, string_bytes};
 ghost use Rattle.std.specs.Arc.{arc_value};
-ghost use Rattle.std.specs.Option.{ForSome, option_copied};
-ghost use Rattle.trace_model.specs.Attributes.{is_empty};
-ghost use Rattle.trace_model.specs.Identifiers.{span_id, words_spent};
-ghost use Rattle.trace_model.specs.Sampling.{valid_parent};
-ghost use Rattle.trace_model.specs.Spans.{is_valid};
-ghost use Rattle.trace_model.specs.Starts as model;
-ghost use Rattle.otlp_ids.specs.SpanContext.{context_view};
-ghost use Rattle.otlp_ids.specs.WordStream.{words_of};
-ghost use Rattle.otlp_span.specs.Parts.{limits_view, resource_view, scope_view};
-ghost use Rattle.otlp_sampler.specs.Sampling.{decision_view};
-ghost use Rattle.trace_api.specs.Starts.{OpensAs, Spends, StartsAs, asked_view, ids_view, parent_view, tracer_view};
-ghost use Rattle.trace_api.specs.Starts.{valid_asked_view};
+ghost use Rattle.std.specs.Option.{ForSome};
+ghost use Rattle.span_model.specs.Attributes.{is_empty};
+ghost use Rattle.span_model.specs.Identifiers.{span_id, words_spent};
+ghost use Rattle.span_model.specs.Sampling.{valid_parent};
+ghost use Rattle.span_model.specs.Spans.{is_valid};
+ghost use Rattle.span_model.specs.Starts as model;
+ghost use Rattle.span_model.specs.Starts.{start_request};
+ghost use Rattle.otlp_ids.specs.SpanContext.{context_view, parent_view};
+ghost use Rattle.otlp_ids.specs.WordStream.{Spends, words_of};
+ghost use Rattle.otlp_span.specs.Parts.{kind_view, limits_view, resource_view, scope_view};
+ghost use Rattle.trace_api.specs.Starts.{OpensAs, StartsAs, ids_view, opening_view, tracer_view};
 
 use crate::span::Span;
 use otlp_ids::{OutOfMemory, SpanContext, SpanId, TraceFlags, TraceId};
@@ -35,9 +34,21 @@ pub enum StartFault {
     OutOfMemory,
 }
 
-/// What the spans of a program have in common: who decides on them, what makes them, and how much they keep (Trace API,
-/// "TracerProvider").
+impl From<OutOfMemory> for StartFault {
+    ghost use Rattle.std.specs.Prelude.{◌≡◌};
+    ghost use Rattle.trace_api.specs.declared.provider.StartFault.TheVariants as faults;
+
+    ghost from_gives = { λ _ fault. fault ≡ faults.OutOfMemory };
+
+    fn from(_: OutOfMemory) -> StartFault {
+        StartFault::OutOfMemory
+    }
+}
+
+/// What the spans of a program have in common: who decides on them, what makes them, and how much
+/// they keep (Trace API, "TracerProvider").
 #[derive(Drop)]
+#[derive_where(Debug; S)]
 pub struct Provider<S: Sampler, A: Allocator = Global> {
     sampler: S,
     resource: Arc<Resource<A>, A>,
@@ -59,8 +70,8 @@ impl<S: Sampler, A: Allocator> Model for Provider<S, A> {
 }
 
 impl<S: Sampler, A: Allocator> Provider<S, A> {
-    /// Spans of this resource, which the sampler decides on and which keep as much as the limits allow. It takes no
-    /// memory.
+    /// Spans of this resource, which the sampler decides on and which keep as much as the limits
+    /// allow. It takes no memory.
     pub fn new(sampler: S, resource: Arc<Resource<A>, A>, limits: SpanLimits) -> Provider<S, A>
         ensures { result ≡ record {
           sampler = sampler;
@@ -88,6 +99,7 @@ impl<S: Sampler, A: Allocator> Provider<S, A> {
 
 /// Starts the spans of one scope (Trace API, "Tracer").
 #[derive(Drop)]
+#[derive_where(Debug; S)]
 pub struct Tracer<'a, S: Sampler, A: Allocator = Global> {
     provider: &'a Provider<S, A>,
     scope: Arc<Scope<A>, A>,
@@ -100,12 +112,15 @@ impl<'a, S: Sampler, A: Allocator> Model for Tracer<'a, S, A> {
 
     ghost Value = { TracerWith S };
 
-    ghost view = { λ t. record { provider = t.provider.now; scope = scope_view (arc_value t.scope) } };
+    ghost view = { λ t. record {
+      provider = t.provider.now;
+      scope = scope_view (arc_value t.scope);
+    } };
 }
 
 /// The parent that counts: an invalid one is none.
 fn valid<'a, A: Allocator>(parent: Option<&'a SpanContext<A>>) -> Option<&'a SpanContext<A>>
-    ensures value { parent_view (option_copied result) ≡ valid_parent (parent_view (option_copied parent.entry)) }
+    ensures value { parent_view result ≡ valid_parent (parent_view parent.entry) }
     ensures valid { ForSome result (λ context. IsTrue (is_valid (context_view context.now))) }
 {
     parent.filter(|context| context.is_valid())
@@ -118,11 +133,12 @@ struct Ids {
     span: SpanId,
 }
 
-/// The trace of a span with this parent: the parent's, or a new one, unless the generator gives only zeros.
+/// The trace of a span with this parent: the parent's, or a new one, unless the generator gives
+/// only zeros.
 fn draw_trace<R: Rng, A: Allocator>(rng: &mut R, parent: Option<&SpanContext<A>>) -> Option<TraceId>
     ensures value { option_map (λ id. id.0) result ≡
-        model.trace_of (parent_view (option_copied parent.entry)) (words_of (R.stream rng.old)) }
-    ensures spent { Spends (model.trace_words (parent_view (option_copied parent.entry)))
+        model.trace_of (parent_view parent.entry) (words_of (R.stream rng.old)) }
+    ensures spent { Spends (model.trace_words (parent_view parent.entry))
         (R.stream rng.old) (R.stream rng.new) }
 {
     match parent {
@@ -142,8 +158,8 @@ fn draw_span<R: Rng>(rng: &mut R) -> Option<SpanId>
 /// Draws the identifiers of a span with this parent, unless the generator gives only zeros.
 fn draw_ids<R: Rng, A: Allocator>(rng: &mut R, parent: Option<&SpanContext<A>>) -> Option<Ids>
     ensures value { option_map ids_view result ≡
-        model.ids_of (parent_view (option_copied parent.entry)) (words_of (R.stream rng.old)) }
-    ensures spent { Spends (model.ids_words (parent_view (option_copied parent.entry)))
+        model.ids_of (parent_view parent.entry) (words_of (R.stream rng.old)) }
+    ensures spent { Spends (model.ids_words (parent_view parent.entry))
         (R.stream rng.old) (R.stream rng.new) }
 {
     let trace = draw_trace(rng, parent)?;
@@ -151,9 +167,23 @@ fn draw_ids<R: Rng, A: Allocator>(rng: &mut R, parent: Option<&SpanContext<A>>) 
     Some(Ids { trace, span })
 }
 
-/// The flags of a span with this parent: the parent's, but for the sampled flag (W3C Trace Context, "trace-flags").
+/// How a span opens that has been decided on.
+#[derive(Drop)]
+struct Opening<'a, A: Allocator> {
+    ids: Ids,
+    /// The parent that counts: it is valid.
+    parent: Option<&'a SpanContext<A>>,
+    decision: Decision,
+    name: String<A>,
+    kind: Kind,
+    /// In nanoseconds since 1970.
+    at: u64,
+}
+
+/// The flags of a span with this parent: the parent's, but for the sampled flag (W3C Trace Context,
+/// "trace-flags").
 fn child_flags<A: Allocator>(parent: Option<&SpanContext<A>>, sampled: bool) -> TraceFlags
-    ensures { result.0 ≡ model.flags_of (parent_view (option_copied parent.entry)) sampled }
+    ensures { result.0 ≡ model.flags_of (parent_view parent.entry) sampled }
 {
     match parent {
         Some(context) => context.flags.with_sampled(sampled),
@@ -161,14 +191,16 @@ fn child_flags<A: Allocator>(parent: Option<&SpanContext<A>>, sampled: bool) -> 
     }
 }
 
-/// The trace state of a span with this parent: the parent's (W3C Trace Context, "tracestate"). An empty one takes no
-/// memory.
+/// The trace state of a span with this parent: the parent's (W3C Trace Context, "tracestate"). An
+/// empty one takes no memory.
 fn child_state<A: Allocator + Copy>(
     alloc: A,
     parent: Option<&SpanContext<A>>,
 ) -> Result<String<A>, OutOfMemory>
-    ensures value { IfOk result (λ state. string_bytes state ≡ model.state_of (parent_view (option_copied parent.entry))) }
-    ensures refused { OnErr result (is_empty (model.state_of (parent_view (option_copied parent.entry))) ≡ false) }
+    ensures value { IfOk result
+        (λ state. string_bytes state ≡ model.state_of (parent_view parent.entry)) }
+    ensures refused { OnErr result
+        (is_empty (model.state_of (parent_view parent.entry)) ≡ false) }
 {
     let Some(context) = parent else {
         return Ok(String::new(alloc));
@@ -182,23 +214,24 @@ fn child_state<A: Allocator + Copy>(
 /// The identifier of the parent's span, if there is one.
 fn parent_id<A: Allocator>(parent: Option<&SpanContext<A>>) -> Option<SpanId>
     ensures { option_map (λ id. id.0) result ≡
-        option_map (λ context. context.span) (parent_view (option_copied parent.entry)) }
+        option_map (λ context. context.span) (parent_view parent.entry) }
 {
     parent.map(|context| context.span)
 }
 
 impl<'a, S: Sampler, A: Allocator + Copy> Tracer<'a, S, A> {
-    /// Starts a span (Trace API, "Span Creation"; Trace SDK, "SDK Span creation") at a moment, in nanoseconds since 1970.
-    /// With a valid parent it belongs to the parent's trace, and has its trace state and its flags, but for the sampled
-    /// flag; an invalid parent counts as none. A root begins a trace, and has the sampled flag alone, where it is sampled.
-    /// The words of the generator are drawn before the sampler is asked and before memory is taken: first those of the
-    /// trace's identifier, if it is a new one, then those of the span's.
+    /// Starts a span (Trace API, "Span Creation"; Trace SDK, "SDK Span creation") at a moment, in
+    /// nanoseconds since 1970. With a valid parent it belongs to the parent's trace, and has its
+    /// trace state and its flags, but for the sampled flag; an invalid parent counts as none. A
+    /// root begins a trace, and has the sampled flag alone, where it is sampled. The words of the
+    /// generator are drawn before the sampler is asked and before memory is taken: first those of
+    /// the trace's identifier, if it is a new one, then those of the span's.
     ///
     /// # Errors
     ///
-    /// `NoRandomness` where eight draws of an identifier were all zero, `OutOfMemory` where there is no room for the span;
-    /// one that is dropped takes memory for its parent's trace state alone. The words that were drawn are spent, and
-    /// nothing else changes.
+    /// `NoRandomness` where eight draws of an identifier were all zero, `OutOfMemory` where there
+    /// is no room for the span; one that is dropped takes memory for its parent's trace state
+    /// alone. The words that were drawn are spent, and nothing else changes.
     pub fn start<R: Rng>(
         &self,
         alloc: A,
@@ -208,10 +241,11 @@ impl<'a, S: Sampler, A: Allocator + Copy> Tracer<'a, S, A> {
         kind: Kind,
         at: u64,
     ) -> Result<Span<A>, StartFault>
-        ensures started { let a = asked_view (option_copied parent.entry) (string_bytes name) kind at in
-            StartsAs (model.started (tracer_view S.meaning self.now) a (words_of (R.stream rng.old))) result }
-        ensures spent { let a = asked_view (option_copied parent.entry) (string_bytes name) kind at in
-            Spends (model.ids_words a.parent) (R.stream rng.old) (R.stream rng.new) }
+        ensures started { let tracer = tracer_view S.meaning self.now in
+            let a = start_request (parent_view parent.entry) (string_bytes name) (kind_view kind) at
+            in StartsAs (model.started_span tracer a (words_of (R.stream rng.old))) result }
+        ensures spent { let parent = valid_parent (parent_view parent.entry) in
+            Spends (model.ids_words parent) (R.stream rng.old) (R.stream rng.new) }
     {
         let parent = valid(parent);
         let Some(ids) = draw_ids(rng, parent) else {
@@ -221,46 +255,40 @@ impl<'a, S: Sampler, A: Allocator + Copy> Tracer<'a, S, A> {
         let decision = provider
             .sampler
             .should_sample(parent, &ids.trace, name.as_str(), kind);
-        let Ok(span) = self.open(alloc, ids, parent, decision, name, kind, at) else {
-            return Err(StartFault::OutOfMemory);
+        let opening = Opening {
+            ids,
+            parent,
+            decision,
+            name,
+            kind,
+            at,
         };
-        Ok(span)
+        Ok(self.open(alloc, opening)?)
     }
 
-    /// The span of these identifiers, with this parent, which is valid, and this decision.
-    fn open(
-        &self,
-        alloc: A,
-        ids: Ids,
-        parent: Option<&SpanContext<A>>,
-        decision: Decision,
-        name: String<A>,
-        kind: Kind,
-        at: u64,
-    ) -> Result<Span<A>, OutOfMemory>
-        ensures { OpensAs (model.started_as (tracer_view S.meaning self.now)
-            (valid_asked_view (option_copied parent.entry) (string_bytes name) kind at)
-            (ids_view ids) (decision_view decision)) result }
+    /// The span that opens so.
+    fn open(&self, alloc: A, opening: Opening<'_, A>) -> Result<Span<A>, OutOfMemory>
+        ensures { OpensAs (opening_view (tracer_view S.meaning self.now) opening.entry) result }
     {
         let context = SpanContext {
-            trace: ids.trace,
-            span: ids.span,
-            flags: child_flags(parent, decision.is_sampled()),
+            trace: opening.ids.trace,
+            span: opening.ids.span,
+            flags: child_flags(opening.parent, opening.decision.is_sampled()),
             remote: false,
-            state: child_state(alloc, parent)?,
+            state: child_state(alloc, opening.parent)?,
         };
-        if !decision.is_recording() {
+        if !opening.decision.is_recording() {
             return Ok(Span::not_recording(context));
         }
         let provider = self.provider;
         let opening = Open {
             context: context.copy(alloc)?,
-            parent: parent_id(parent),
+            parent: parent_id(opening.parent),
             resource: Arc::try_clone(&provider.resource)?,
             scope: Arc::try_clone(&self.scope)?,
-            name,
-            kind,
-            start: at,
+            name: opening.name,
+            kind: opening.kind,
+            start: opening.at,
         };
         let record = SpanRecord::open(alloc, opening, &provider.limits)?;
         Ok(Span::recording(context, record))

@@ -1,25 +1,26 @@
 //! A span in the hands of a program.
-ghost use Rattle.std.specs.Prelude.{◌≡◌, OnErr, OnOk, false, string_bytes};
-ghost use Rattle.trace_model.specs.Spans as model;
-ghost use Rattle.trace_model.specs.Starts as starts;
-ghost use Rattle.trace_model.specs.Starts.{Does, IgnoredUnlessRecording, is_recording_state};
+ghost use Rattle.std.specs.Prelude.{◌≡◌, ◌≢◌, IfOk, IfSome, OnErr, OnOk, false, is_some, true, string_bytes};
+ghost use Rattle.span_model.specs.Spans as model;
+ghost use Rattle.span_model.specs.Starts as starts;
+ghost use Rattle.span_model.specs.Starts.{Does, IgnoredUnlessRecording, is_recording_state};
 ghost use Rattle.otlp_ids.specs.SpanContext.{context_view};
 ghost use Rattle.otlp_value.specs.AttributeList.{TakesPlace};
 ghost use Rattle.otlp_value.specs.Value.{attribute_view, attributes_view};
-ghost use Rattle.otlp_span.specs.Parts.{attributes_of, status_view};
-ghost use Rattle.otlp_span.specs.Recording.{HasRoom};
-ghost use Rattle.trace_api.specs.Calls.{EndsTo, IsRecordingWith};
+ghost use Rattle.otlp_span.specs.Parts.{attributes_of, call_view, status_view};
+ghost use Rattle.otlp_span.specs.Recording.{CallTakesMemory, KeepsOneMore};
+ghost use Rattle.trace_api.specs.Calls.{Asks, IfAnswered, IsRecordingWith, Says, goes_to_pass};
 
 use crate::pass::{EndPass, Ended};
 use otlp_ids::{OutOfMemory, SpanContext};
-use otlp_span::{SpanData, SpanRecord, Status};
+use otlp_span::{SpanCall, SpanData, SpanRecord, Status};
 use otlp_value::Value;
 use std::alloc::{Allocator, Global};
 use std::marker::Model;
 use std::mem;
 
 /// Whether the calls on a span still count.
-#[derive(Debug, Drop)]
+#[derive(Drop)]
+#[derive_where(Debug)]
 enum State<A: Allocator> {
     /// They do.
     Recording(SpanRecord<A>),
@@ -29,16 +30,18 @@ enum State<A: Allocator> {
     Ended,
 }
 
-/// A span that has started (Trace API, "Span"). Calls on it count until its first end. On a span that its sampler dropped
-/// none does. A span that is let go without an end goes to no pass: unlike in opentelemetry-rust, nothing ends it.
-#[derive(Debug, Drop)]
+/// A span that has started (Trace API, "Span"). Calls on it count until its first end. On a span
+/// that its sampler dropped none does. A span that is let go without an end goes to no pass: unlike
+/// in opentelemetry-rust, nothing ends it.
+#[derive(Drop)]
+#[derive_where(Debug)]
 pub struct Span<A: Allocator = Global> {
     context: SpanContext<A>,
     state: State<A>,
 }
 
 impl<A: Allocator> Model for Span<A> {
-    ghost use Rattle.trace_model.specs.Starts.{HeldSpan};
+    ghost use Rattle.span_model.specs.Starts.{HeldSpan};
     ghost use Rattle.otlp_ids.specs.SpanContext.{context_view};
     ghost use Rattle.trace_api.specs.State.{state_view};
 
@@ -60,7 +63,11 @@ impl<A: Allocator> Span<A> {
 
     /// A span on which calls count.
     pub(crate) fn recording(context: SpanContext<A>, recorded: SpanRecord<A>) -> Span<A>
-        ensures { result ≡ record { context = context_view context; state = starts.recording recorded } }
+        ensures { result ≡ record {
+          context = context_view context;
+          state =
+              starts.recording recorded;
+        } }
     {
         Span {
             context,
@@ -82,19 +89,21 @@ impl<A: Allocator> Span<A> {
         matches!(self.state, State::Recording(_))
     }
 
-    /// Sets an attribute, as `SpanRecord::set_attribute` (Trace API, "Set Attributes"). It is ignored where calls on the
-    /// span don't count.
+    /// Sets an attribute, as `SpanRecord::set_attribute` (Trace API, "Set Attributes"). It is
+    /// ignored where calls on the span don't count.
     ///
     /// # Errors
     ///
-    /// `OutOfMemory` where a new key that is to be kept could not be stored; the span is then unchanged.
+    /// `OutOfMemory` where a new key that is to be kept could not be stored; the span is then
+    /// unchanged.
     pub fn set_attribute(&mut self, key: String<A>, value: Value<A>) -> Result<(), OutOfMemory>
         ensures ok { let call = model.set_attribute (attribute_view (key, value)) in
             OnOk result (Does call self.old self.new) }
         ensures ignored { IgnoredUnlessRecording self.old self.new }
         ensures err { OnErr result (self.new ≡ self.old) }
         ensures refused_only_where_kept { OnErr result
-            (IsRecordingWith (λ r. TakesPlace (string_bytes key) (attributes_of r)) self.old.state) }
+            (IsRecordingWith
+            (λ r. TakesPlace (string_bytes key) (attributes_of r)) self.old.state) }
     {
         let State::Recording(record) = &mut self.state else {
             return Ok(());
@@ -102,8 +111,9 @@ impl<A: Allocator> Span<A> {
         record.set_attribute(key, value)
     }
 
-    /// Sets the status, as `SpanRecord::set_status` (Trace API, "Set Status"): Ok is final, Unset is ignored, and a later
-    /// error replaces an earlier one. It is ignored where calls on the span don't count, and takes no memory.
+    /// Sets the status, as `SpanRecord::set_status` (Trace API, "Set Status"): Ok is final, Unset
+    /// is ignored, and a later error replaces an earlier one. It is ignored where calls on the span
+    /// don't count, and takes no memory.
     pub fn set_status(&mut self, status: Status<A>)
         ensures called { Does (model.set_status (status_view status)) self.old self.new }
         ensures ignored { IgnoredUnlessRecording self.old self.new }
@@ -114,8 +124,8 @@ impl<A: Allocator> Span<A> {
         record.set_status(status);
     }
 
-    /// Replaces the span's name (Trace API, "UpdateName"). It is ignored where calls on the span don't count, and takes no
-    /// memory.
+    /// Replaces the span's name (Trace API, "UpdateName"). It is ignored where calls on the span
+    /// don't count, and takes no memory.
     pub fn update_name(&mut self, name: String<A>)
         ensures called { Does (model.update_name (string_bytes name)) self.old self.new }
         ensures ignored { IgnoredUnlessRecording self.old self.new }
@@ -126,15 +136,20 @@ impl<A: Allocator> Span<A> {
         record.update_name(name);
     }
 
-    /// Ends the span at a moment, in nanoseconds since 1970 (Trace API, "End"). The first end of a sampled span hands it
-    /// to the pass, whose answer it gives. It takes no memory of its own.
+    /// Ends the span at a moment, in nanoseconds since 1970 (Trace API, "End"). The first end of a
+    /// sampled span hands it to the pass, whose answer it gives. It takes no memory of its own.
     ///
-    /// The answer is `AlreadyEnded` where the span has ended before, else `NotSampled` where it isn't sampled; the pass is
-    /// then not asked.
+    /// The answer is `AlreadyEnded` where the span has ended before, else `NotSampled` where it
+    /// isn't sampled; the pass is then not asked.
     pub fn end<P: EndPass<SpanData<A>>>(&mut self, pass: &mut P, at: u64) -> Ended
         ensures ended { Does (model.end at) self.old self.new }
         ensures state { self.new.state ≡ starts.ended }
-        ensures answer { EndsTo P.admits at self.old.context.flags self.old.state pass.old result pass.new }
+        ensures already_ended { self.old.state ≡ starts.ended
+            → Says Ended.AlreadyEnded pass.old result pass.new }
+        ensures not_sampled { self.old.state ≢ starts.ended → goes_to_pass self.old ≡ false
+            → Says Ended.NotSampled pass.old result pass.new }
+        ensures sampled { goes_to_pass self.old ≡ true
+            → IsRecordingWith (λ r. Asks P.admits at r pass.old result pass.new) self.old.state }
     {
         match mem::replace(&mut self.state, State::Ended) {
             State::Recording(record) if self.context.flags.sampled() => {
@@ -147,37 +162,96 @@ impl<A: Allocator> Span<A> {
 }
 
 impl<A: Allocator + Copy> Span<A> {
-    /// Adds an event at a moment, in nanoseconds since 1970, as `SpanRecord::add_event` (Trace API, "Add Events"). It is
-    /// ignored where calls on the span don't count.
+    /// Makes a call (Trace API, "Span operations"): an end as `end`, whose answer it gives, and any
+    /// other as the operation of its name, which answers `None` and asks nothing of the pass.
     ///
     /// # Errors
     ///
-    /// `OutOfMemory` where an event that is to be kept could not be stored; the span is then unchanged.
+    /// `OutOfMemory` where an attribute, an event or a link that is to be kept could not be stored;
+    /// the span and the pass are then unchanged. An end takes no memory of its own.
+    pub fn call<P: EndPass<SpanData<A>>>(
+        &mut self,
+        pass: &mut P,
+        call: SpanCall<A>,
+    ) -> Result<Option<Ended>, OutOfMemory>
+        ensures ok { OnOk result (Does (call_view call) self.old self.new) }
+        ensures ignored { model.is_end (call_view call) ≡ false
+            → IgnoredUnlessRecording self.old self.new }
+        ensures err { OnErr result (self.new ≡ self.old) }
+        ensures err_pass { OnErr result (pass.new ≡ pass.old) }
+        ensures refused_only_where_kept { OnErr result
+            (IsRecordingWith (CallTakesMemory (call_view call)) self.old.state) }
+        ensures answered { IfOk result (λ answer. is_some answer ≡ model.is_end (call_view call)) }
+        ensures asks_nothing { model.is_end (call_view call) ≡ false → pass.new ≡ pass.old }
+        ensures ended { IfAnswered result (λ answer. self.new.state ≡ starts.ended) }
+        ensures already_ended { self.old.state ≡ starts.ended
+            → IfAnswered result (λ answer. Says Ended.AlreadyEnded pass.old answer pass.new) }
+        ensures not_sampled { self.old.state ≢ starts.ended → goes_to_pass self.old ≡ false
+            → IfAnswered result (λ answer. Says Ended.NotSampled pass.old answer pass.new) }
+        ensures sampled { goes_to_pass self.old ≡ true → IfSome (model.end_of (call_view call))
+            (λ at. IfAnswered result (λ answer. IsRecordingWith
+            (λ r. Asks P.admits at r pass.old answer pass.new) self.old.state)) }
+    {
+        match call {
+            SpanCall::End(at) => Ok(Some(self.end(pass, at))),
+            call => {
+                self.record_call(call)?;
+                Ok(None)
+            }
+        }
+    }
+
+    /// Makes a call that is no end.
+    fn record_call(&mut self, call: SpanCall<A>) -> Result<(), OutOfMemory>
+        requires { model.is_end (call_view call) ≡ false }
+        ensures ok { OnOk result (Does (call_view call) self.old self.new) }
+        ensures ignored { IgnoredUnlessRecording self.old self.new }
+        ensures err { OnErr result (self.new ≡ self.old) }
+        ensures refused_only_where_kept { OnErr result
+            (IsRecordingWith (CallTakesMemory (call_view call)) self.old.state) }
+    {
+        let State::Recording(record) = &mut self.state else {
+            return Ok(());
+        };
+        record.call(call)
+    }
+
+    /// Adds an event at a moment, in nanoseconds since 1970, as `SpanRecord::add_event` (Trace API,
+    /// "Add Events"). It is ignored where calls on the span don't count.
+    ///
+    /// # Errors
+    ///
+    /// `OutOfMemory` where an event that is to be kept could not be stored; the span is then
+    /// unchanged.
     pub fn add_event(
         &mut self,
         name: String<A>,
         timestamp: u64,
         attributes: Vec<(String<A>, Value<A>), A>,
     ) -> Result<(), OutOfMemory>
-        ensures ok { let call = model.add_event (string_bytes name) timestamp (attributes_view attributes.items) in
+        ensures ok { let call =
+            model.add_event (string_bytes name) timestamp (attributes_view attributes.items) in
             OnOk result (Does call self.old self.new) }
         ensures ignored { IgnoredUnlessRecording self.old self.new }
         ensures err { OnErr result (self.new ≡ self.old) }
         ensures refused_only_where_kept { OnErr result
-            (IsRecordingWith (λ r. HasRoom r.limits.events r.span.events) self.old.state) }
+            (IsRecordingWith (λ r. KeepsOneMore r.limits.events r.span.events) self.old.state) }
     {
-        let State::Recording(record) = &mut self.state else {
-            return Ok(());
-        };
-        record.add_event(name, timestamp, attributes)
+        self.record_call(SpanCall::AddEvent {
+            name,
+            timestamp,
+            attributes,
+        })
     }
 
-    /// Adds an event for an exception, at a moment in nanoseconds since 1970, as `SpanRecord::record_exception` (Trace API,
-    /// "Record Exception"). It is ignored where calls on the span don't count.
+    /// Adds an event for an exception, at a moment in nanoseconds since 1970, as
+    /// `SpanRecord::record_exception` (Trace API, "Record Exception"). It is ignored where calls on
+    /// the span don't count.
     ///
     /// # Errors
     ///
-    /// `OutOfMemory` where an event that is to be kept could not be stored; the span is then unchanged.
+    /// `OutOfMemory` where an event that is to be kept could not be stored; the span is then
+    /// unchanged.
     pub fn record_exception(
         &mut self,
         exception_type: String<A>,
@@ -186,43 +260,50 @@ impl<A: Allocator + Copy> Span<A> {
         timestamp: u64,
         attributes: Vec<(String<A>, Value<A>), A>,
     ) -> Result<(), OutOfMemory>
-        ensures ok { let call = model.record_exception (string_bytes exception_type) (string_bytes message)
+        ensures ok { let call =
+            model.record_exception (string_bytes exception_type) (string_bytes message)
             (string_bytes stacktrace) timestamp (attributes_view attributes.items) in
             OnOk result (Does call self.old self.new) }
         ensures ignored { IgnoredUnlessRecording self.old self.new }
         ensures err { OnErr result (self.new ≡ self.old) }
         ensures refused_only_where_kept { OnErr result
-            (IsRecordingWith (λ r. HasRoom r.limits.events r.span.events) self.old.state) }
+            (IsRecordingWith (λ r. KeepsOneMore r.limits.events r.span.events) self.old.state) }
     {
-        let State::Recording(record) = &mut self.state else {
-            return Ok(());
-        };
-        record.record_exception(exception_type, message, stacktrace, timestamp, attributes)
+        self.record_call(SpanCall::RecordException {
+            exception_type,
+            message,
+            stacktrace,
+            timestamp,
+            attributes,
+        })
     }
 
-    /// Links the span to another one, as `SpanRecord::add_link` (Trace API, "Add Link"). It is ignored where calls on the
-    /// span don't count.
+    /// Links the span to another one, as `SpanRecord::add_link` (Trace API, "Add Link"). It is
+    /// ignored where calls on the span don't count.
     ///
     /// # Errors
     ///
-    /// `OutOfMemory` where a link that is to be kept could not be stored; the span is then unchanged.
+    /// `OutOfMemory` where a link that is to be kept could not be stored; the span is then
+    /// unchanged.
     pub fn add_link(
         &mut self,
         span_context: SpanContext<A>,
         attributes: Vec<(String<A>, Value<A>), A>,
     ) -> Result<(), OutOfMemory>
-        ensures ok { let call = model.add_link (context_view span_context) (attributes_view attributes.items) in
+        ensures ok { let call =
+            model.add_link (context_view span_context) (attributes_view attributes.items) in
             OnOk result (Does call self.old self.new) }
         ensures ignored { IgnoredUnlessRecording self.old self.new }
         ensures err { OnErr result (self.new ≡ self.old) }
         ensures refused_only_where_kept { OnErr result
-            (IsRecordingWith (λ r. HasRoom r.limits.links r.span.links) self.old.state) }
+            (IsRecordingWith (λ r. KeepsOneMore r.limits.links r.span.links) self.old.state) }
         ensures says_something { OnErr result
-            (model.is_ignored (context_view span_context) (attributes_view attributes.items) ≡ false) }
+            (model.is_ignored (context_view span_context)
+            (attributes_view attributes.items) ≡ false) }
     {
-        let State::Recording(record) = &mut self.state else {
-            return Ok(());
-        };
-        record.add_link(span_context, attributes)
+        self.record_call(SpanCall::AddLink {
+            span_context,
+            attributes,
+        })
     }
 }

@@ -34,7 +34,8 @@ plain_body =
     hex "12 3a 0a 03 0a 01 73" ++  -- scope s
     hex "12 33" ++ plain_span
 
--- a span whose fields stand in falling number, its status and its name twice, with a field that is unknown
+-- a span whose fields stand in falling number, its status and its name twice, with a field that is
+-- unknown
 abbrev pub reversed_body : List ℕ
 unfolding hex
 reversed_body =

@@ -3,8 +3,8 @@ use Rattle.std.specs.Prelude.{ℕ, List, [], ◌∷◌, ◌++◌, replicate, fal
 use Rattle.std.specs.Str.{chars}
 use lib.Utf8.{encode}
 use Prim.Native.String.{String}
-use Rattle.trace_model.specs.Attributes.{Value, Attribute, attributes, Kept}
-use Rattle.trace_model.specs.Spans.{Context, internal, error, Call, SpanLimits, Start, span, Resource, Scope, EndedSpan}
+use Rattle.span_model.specs.Attributes.{Value, Attribute, attributes, Kept}
+use Rattle.span_model.specs.Spans.{Context, internal, error, Call, SpanLimits, default_limits, Start, span, Resource, Scope, EndedSpan}
 use Rattle.trace_examples.specs.Hex.{hex}
 
 -- ---- identifiers and contexts
@@ -24,11 +24,13 @@ child_id = hex "21 22 23 24 25 26 27 28"
 -- in the trace, sampled and local, with a trace state
 abbrev pub context_of : List ℕ → String → Context
 unfolding hex
-context_of id state = record { trace = trace_id; span = id; flags = 1; remote = false; state = codes state }
+context_of id state =
+    record { trace = trace_id; span = id; flags = 1; remote = false; state = codes state }
 
 -- no identifier is valid
 abbrev pub zero_context : Context
-zero_context = record { trace = replicate 16 0; span = replicate 8 0; flags = 0; remote = false; state = [] }
+zero_context =
+    record { trace = replicate 16 0; span = replicate 8 0; flags = 0; remote = false; state = [] }
 
 -- ---- attributes
 
@@ -68,43 +70,52 @@ scope_t = record { name = codes "t"; version = codes "1"; attributes = []; schem
 
 -- ---- spans
 
--- those of the SDK
-abbrev pub default_limits : SpanLimits
-default_limits = record {
-  attributes = 128;
-  events = 128;
-  links = 128;
-  event_attributes = 128;
-  link_attributes = 128;
-  value_length = None;
-}
-
 -- a root named a, started at 1
 abbrev pub start_a : Start
 unfolding hex
-start_a = record { context = context_of span_id ""; parent = None; name = codes "a"; kind = internal; at = 1 }
+start_a =
+    record {
+      context = context_of span_id "";
+      parent = None;
+      name = codes "a";
+      kind = internal;
+      at = 1;
+    }
 
 -- its child named b, with a trace state
 abbrev pub start_b : String → Start
 unfolding hex
-start_b state = record { context = context_of child_id state; parent = Some span_id; name = codes "b"; kind = internal; at = 1 }
+start_b state =
+    record {
+      context = context_of child_id state;
+      parent = Some span_id;
+      name = codes "b";
+      kind = internal;
+      at = 1;
+    }
 
 -- a span on which these calls were made, and then its end at 2
-unfoldable pub ended : Resource → Scope → SpanLimits → Start → List Call → EndedSpan
+unfoldable pub ended_span_of : Resource → Scope → SpanLimits → Start → List Call → EndedSpan
 unfolding span chars encode
-ended resource scope limits start calls = record { resource = resource; scope = scope; span = span limits start (calls ++ Call.end 2 ∷ []) }
+ended_span_of resource scope limits start calls =
+    record {
+      resource = resource;
+      scope = scope;
+      span = span limits start (calls ++ Call.end 2 ∷ []);
+      ticket = 0;
+    }
 
 -- span a of scope s, after some calls
 abbrev pub span_a : List Call → EndedSpan
 unfolding hex
-span_a calls = ended no_resource scope_s default_limits start_a calls
+span_a calls = ended_span_of no_resource scope_s default_limits start_a calls
 
 -- its child, span b
 abbrev pub span_b : String → EndedSpan
 unfolding hex
-span_b state = ended no_resource scope_s default_limits (start_b state) []
+span_b state = ended_span_of no_resource scope_s default_limits (start_b state) []
 
 -- span a, of another scope or another resource
 abbrev pub span_in : Resource → Scope → EndedSpan
 unfolding hex
-span_in resource scope = ended resource scope default_limits start_a []
+span_in resource scope = ended_span_of resource scope default_limits start_a []

@@ -3,14 +3,14 @@ use Rattle.std.specs.Prelude.{ℕ, pos, List, [], ◌∷◌, map, Bool, false, O
 use Rattle.std.specs.Str.{chars}
 use lib.Utf8.{encode}
 use Prim.Native.String.{String}
-use Rattle.trace_model.specs.Attributes.{Attribute, int}
-use Rattle.trace_model.specs.Spans.{Context, server, unset, Call, Resource, Scope, SpanLimits, Span, EndedSpan, span}
-use Rattle.trace_model.specs.Identifiers.{first_valid}
-use Rattle.trace_model.specs.Sampling.{Meaning, Decision, drop, record_and_sample, ByParent, valid_parent, parent_based}
-use Rattle.trace_model.specs.Starts.{Ids, Provider, Started, HeldSpan, SpanState, asked, started, ids_of, ids_words, held, recording}
-use Rattle.trace_model.specs.History.{Parent, Step, Setup, Outcome, start, outcomes, outcomes_behind, ended_spans}
+use Rattle.span_model.specs.Attributes.{Attribute, int}
+use Rattle.span_model.specs.Spans.{default_limits, Context, server, unset, Call, Resource, Scope, SpanLimits, Span, EndedSpan, span}
+use Rattle.span_model.specs.Identifiers.{first_valid}
+use Rattle.span_model.specs.Sampling.{SamplerMeaning, Decision, drop, record_and_sample, ByParent, valid_parent, parent_based}
+use Rattle.span_model.specs.Starts.{Ids, Provider, StartedSpan, HeldSpan, SpanState, start_request, started_span, ids_of, ids_words, held_span, recording}
+use Rattle.history_model.specs.History.{Parent, Step, Setup, StartResult, start, start_results, start_results_behind, ended_spans}
 use Rattle.trace_examples.specs.Hex.{hex}
-use Rattle.trace_examples.specs.Samples.{trace_id, span_id, pair, default_limits, resource_with, scope_s, scope_t}
+use Rattle.trace_examples.specs.Samples.{trace_id, span_id, pair, resource_with, scope_s, scope_t}
 
 -- ---- words and contexts
 
@@ -37,11 +37,20 @@ parent_id = hex "41 42 43 44 45 46 47 48"
 -- a parent, remote or not, with these flags and the trace state k=v
 abbrev pub parent_with : Bool → ℕ → Context
 unfolding hex
-parent_with remote flags = record { trace = parent_trace; span = parent_id; flags = flags; remote = remote; state = codes "k=v" }
+parent_with remote flags =
+    record {
+      trace = parent_trace;
+      span = parent_id;
+      flags = flags;
+      remote = remote;
+      state =
+          codes "k=v";
+    }
 
 -- a context of this process
 abbrev pub local_context : List ℕ → List ℕ → ℕ → String → Context
-local_context trace id flags state = record { trace = trace; span = id; flags = flags; remote = false; state = codes state }
+local_context trace id flags state =
+    record { trace = trace; span = id; flags = flags; remote = false; state = codes state }
 
 -- ---- identifiers
 
@@ -58,7 +67,7 @@ words_drawn parent words = ids_words parent (slice_index words)
 -- ---- samplers
 
 -- samples the spans of one name, and drops the others
-abbrev pub of_name : String → Meaning
+abbrev pub of_name : String → SamplerMeaning
 of_name name span = if bytes_eq span.name (codes name) then record_and_sample else drop
 
 -- five samplers, each of one name
@@ -71,11 +80,20 @@ five = record {
   local_parent_not_sampled = of_name "local";
 }
 
--- What the five decide on a span of each of the names, in their order: the one that is asked samples its own.
+-- What the five decide on a span of each of the names, in their order: the one that is asked
+-- samples its own.
 abbrev pub five_decisions : Option Context → List Decision
 unfolding hex
 five_decisions parent = map
-    (λ name. parent_based five (record { parent = valid_parent parent; trace = trace_id; name = codes name; kind = server }))
+    (λ name.
+    parent_based five
+    (record {
+      parent = valid_parent parent;
+      trace = trace_id;
+      name = codes name;
+      kind =
+          server;
+    }))
     ("root" ∷ "remote sampled" ∷ "remote" ∷ "local sampled" ∷ "local" ∷ [])
 
 -- ---- starts
@@ -87,17 +105,18 @@ one_attribute = record default_limits { attributes = 1 }
 abbrev pub host : Resource
 host = resource_with (pair "host" (int (pos 1)) ∷ [])
 
-abbrev pub provider_with : Meaning → Provider
+abbrev pub provider_with : SamplerMeaning → Provider
 provider_with sampler = record { sampler = sampler; resource = host; limits = one_attribute }
 
 -- the start of a span named a, of kind server, at 5, in scope t, where these words are left
-unfoldable pub started_by : Meaning → Option Context → List ℕ → Option Started
-unfolding started ids_of first_valid
+unfoldable pub started_by : SamplerMeaning → Option Context → List ℕ → Option StartedSpan
+unfolding started_span ids_of first_valid
 started_by sampler parent words =
-    started (record { provider = provider_with sampler; scope = scope_t }) (asked parent (codes "a") server 5) (slice_index words)
+    started_span (record { provider = provider_with sampler; scope = scope_t })
+    (start_request parent (codes "a") server 5) (slice_index words)
 
 -- that span, with this context and parent, and this decision
-abbrev pub begun_in : Scope → String → ℕ → Context → Option (List ℕ) → Decision → Started
+abbrev pub begun_in : Scope → String → ℕ → Context → Option (List ℕ) → Decision → StartedSpan
 begun_in scope name at context parent decision = record {
   resource = host;
   scope = scope;
@@ -106,19 +125,21 @@ begun_in scope name at context parent decision = record {
   decision = decision;
 }
 
-abbrev pub begun : Context → Option (List ℕ) → Decision → Started
-begun context parent decision = begun_in scope_t "a" 5 context parent decision
+abbrev pub begun_span : Context → Option (List ℕ) → Decision → StartedSpan
+begun_span context parent decision = begun_in scope_t "a" 5 context parent decision
 
 -- ---- what a program holds
 
 -- a root, with this decision, after some calls
 unfoldable pub held_after : Decision → List Call → HeldSpan
-unfolding held span chars encode hex
-held_after decision calls = held (begun (local_context trace_id span_id 1 "") None decision) calls
+unfolding held_span span chars encode hex
+held_after decision calls =
+    held_span (begun_span (local_context trace_id span_id 1 "") None decision) calls
 
--- a span with this context and parent, this name, these moments and, but for these attributes, nothing set
-abbrev pub span_named : Context → Option (List ℕ) → String → ℕ → ℕ → List Attribute → ℕ → Span
-span_named context parent name from until pairs dropped = record {
+-- a span with this context and parent, this name, these moments and, but for these attributes,
+-- nothing set
+abbrev pub span_between : Context → Option (List ℕ) → String → ℕ → ℕ → List Attribute → ℕ → Span
+span_between context parent name from until pairs dropped = record {
   context = context;
   parent = parent;
   name = codes name;
@@ -138,7 +159,7 @@ recorded_root pairs dropped = recording (record {
   limits = one_attribute;
   resource = host;
   scope = scope_t;
-  span = span_named (local_context trace_id span_id 1 "") None "a" 5 5 pairs dropped;
+  span = span_between (local_context trace_id span_id 1 "") None "a" 5 5 pairs dropped;
 })
 
 -- ---- steps
@@ -148,25 +169,31 @@ abbrev pub begin : ℕ → Parent → ℕ → String → Step
 begin scope parent at name = start scope parent server at (codes name)
 
 -- the scopes s and t, these words, and this sampler
-abbrev pub setup_with : Meaning → List ℕ → Setup
-setup_with sampler words = record { words = slice_index words; provider = provider_with sampler; scopes = scope_s ∷ scope_t ∷ [] }
+abbrev pub setup_with : SamplerMeaning → List ℕ → Setup
+setup_with sampler words =
+    record {
+      words = slice_index words;
+      provider = provider_with sampler;
+      scopes = scope_s ∷ scope_t ∷ [];
+    }
 
-unfoldable pub outcomes_by : Meaning → List ℕ → List Step → List Outcome
-unfolding outcomes_behind started ids_of ids_words first_valid
-outcomes_by sampler words steps = outcomes (setup_with sampler words) steps
+unfoldable pub outcomes_by : SamplerMeaning → List ℕ → List Step → List StartResult
+unfolding start_results_behind started_span ids_of ids_words first_valid
+outcomes_by sampler words steps = start_results (setup_with sampler words) steps
 
-unfoldable pub ended_by : Meaning → List ℕ → List Step → List EndedSpan
-unfolding outcomes_behind started ids_of ids_words first_valid span chars encode
+unfoldable pub ended_by : SamplerMeaning → List ℕ → List Step → List EndedSpan
+unfolding start_results_behind started_span ids_of ids_words first_valid span chars encode
 ended_by sampler words steps = ended_spans (setup_with sampler words) steps
 
 -- a start that takes so many words and gives this span
-abbrev pub gives : ℕ → Started → Outcome
+abbrev pub gives : ℕ → StartedSpan → StartResult
 gives spent s = record { spent = spent; span = Some s }
 
 -- a start that takes so many words and gives no span
-abbrev pub gives_none : ℕ → Outcome
+abbrev pub gives_none : ℕ → StartResult
 gives_none spent = record { spent = spent; span = None }
 
--- an exported span of a scope
-abbrev pub exported_in : Scope → Span → EndedSpan
-exported_in scope span = record { resource = host; scope = scope; span = span }
+-- an exported span with this ticket, of a scope
+abbrev pub exported_in : ℕ → Scope → Span → EndedSpan
+exported_in ticket scope span =
+    record { resource = host; scope = scope; span = span; ticket = ticket }

@@ -1,14 +1,17 @@
 //! Attributes under limits (OpenTelemetry Common, "Attribute Limits"; Trace SDK, "Span Limits").
 
 ghost use Rattle.std.specs.Prelude.{◌≡◌, [], ◌∷◌, ◌++◌, ◌-◌, ◌^◌, pos, codes, Some, None};
-ghost use Rattle.trace_model.specs.Attributes.{text, int, texts, counted};
+ghost use Rattle.span_model.specs.Attributes.{text, int, texts, capped_count};
 ghost use Rattle.trace_examples.specs.Hex.{hex};
-ghost use Rattle.trace_examples.specs.Samples.{pair, set, kept, default_limits};
+ghost use Rattle.span_model.specs.Spans.{default_limits};
+ghost use Rattle.trace_examples.specs.Samples.{pair, set, kept};
 ghost use Rattle.trace_examples.specs.Bytes.{plain_span};
 ghost use Rattle.trace_examples.specs.Written.{limited_bytes};
 
-/// At most so many keys are kept: the first ones that were set, each with its last value. Later pairs with
-/// other keys are dropped, and each of them is counted. (the order and the count: profile)
+/// At most so many keys are kept: the first ones that were set, each with its last value. Later
+/// pairs with other keys are dropped, and each of them is counted. (the order and the count:
+/// profile)
+#[tactic(auto, unfolding(crate::specs::Samples::kept))]
 pub fn count_limit()
     // Of a=1, b=2, c=3, a=4 and c=5 a limit of 2 keeps a=4 and b=2.
     ensures two_of_three { kept 2 None (
@@ -23,10 +26,11 @@ pub fn count_limit()
     ensures empty_key_without_room { kept 0 None (pair "" (int (pos 1)) ∷ []) ≡
         record { items = []; dropped = 0 } }
     // The count stops at the greatest number of 32 bits.
-    ensures greatest_count { counted (2 ^ 32) ≡ 2 ^ 32 - 1 }
+    ensures greatest_count { capped_count (2 ^ 32) ≡ 2 ^ 32 - 1 }
 {}
 
 /// A text is cut to so many characters (Unicode scalar values), and so is each text of an array.
+#[tactic(auto, unfolding(crate::specs::Hex::hex, crate::specs::Samples::kept))]
 pub fn length_limit()
     // Two of three e with an acute accent, which take two bytes each.
     ensures two_of_three { kept 9 (Some 2) (pair "a" (text (hex "c3 a9 c3 a9 c3 a9")) ∷ []) ≡
@@ -39,6 +43,7 @@ pub fn length_limit()
 {}
 
 /// The attributes in the bytes of a span, and behind them the count of those that were dropped.
+#[tactic(auto, unfolding(crate::specs::Hex::hex, crate::specs::Written::limited_bytes))]
 pub fn in_spans()
     ensures two_of_three { limited_bytes (record default_limits { attributes = 2 }) (
         set "a" (int (pos 1)) ∷ set "b" (int (pos 2)) ∷ set "c" (int (pos 3)) ∷

@@ -1,10 +1,11 @@
-//! Spans as the body of an export request (opentelemetry-proto, trace_service.proto and trace.proto).
+//! Spans as the body of an export request (opentelemetry-proto, trace_service.proto and
+//! trace.proto).
 
 ghost use Rattle.std.specs.Prelude.{◌≡◌, [], ◌∷◌, ◌++◌, map, pos, length, codes};
-ghost use Rattle.trace_model.specs.Attributes.{text, int, texts, ints};
-ghost use Rattle.trace_model.specs.Export.{grouped_triples, triple, kind_number};
-ghost use Rattle.trace_model.specs.Spans.{internal, server, client, producer, consumer};
-ghost use Rattle.trace_model.specs.Tables.{◌▸◌};
+ghost use Rattle.span_model.specs.Attributes.{text, int, texts, ints};
+ghost use Rattle.export_model.specs.Export.{grouped_triples, triple, kind_number};
+ghost use Rattle.span_model.specs.Spans.{internal, server, client, producer, consumer};
+ghost use Rattle.message_model.specs.Tables.{◌▸◌};
 ghost use Rattle.trace_examples.specs.Hex.{hex};
 ghost use Rattle.trace_examples.specs.Samples.{trace_id, span_id, child_id, pair, set, span_a, span_b, span_in};
 ghost use Rattle.trace_examples.specs.Samples.{no_resource, resource_with, scope_s, scope_t};
@@ -13,13 +14,16 @@ ghost use Rattle.trace_examples.specs.Expected.{resource_of, status_of};
 ghost use Rattle.trace_examples.specs.Written.{body, IsReadBack};
 
 /// How bytes are written here: two hexadecimal digits each, and spaces anywhere.
+#[tactic(auto, unfolding(crate::specs::Hex::hex))]
 pub fn hexadecimal()
     ensures digits { hex "00 09 0a 0f 10 7f 80 ff" ≡ 0 ∷ 9 ∷ 10 ∷ 15 ∷ 16 ∷ 127 ∷ 128 ∷ 255 ∷ [] }
     ensures spaces { hex " 0 0ff" ≡ hex "00 ff" }
 {}
 
-/// Spans of one scope. Fields stand in rising number. A number, a text or an identifier that has its default
-/// is left out, and so is a status that is Unset; a resource, a scope and a value never are. (profile)
+/// Spans of one scope. Fields stand in rising number. A number, a text or an identifier that has
+/// its default is left out, and so is a status that is Unset; a resource, a scope and a value never
+/// are. (profile)
+#[tactic(auto, unfolding(crate::specs::Hex::hex, crate::specs::Samples::ended_span_of, crate::specs::Written::body))]
 pub fn one_scope()
     ensures one_span { body (span_a [] ∷ []) ≡
         hex "0a 3e 0a 00 12 3a 0a 03 0a 01 73 12 33" ++ plain_span }
@@ -50,8 +54,9 @@ pub fn one_scope()
     ensures no_spans { body [] ≡ [] }
 {}
 
-/// Spans of several scopes. They are grouped by resource and inside by scope, in the order in which these
-/// come first. Two are the same where all their fields are equal. (profile)
+/// Spans of several scopes. They are grouped by resource and inside by scope, in the order in which
+/// these come first. Two are the same where all their fields are equal. (profile)
+#[tactic(auto, unfolding(crate::specs::Hex::hex, crate::specs::Samples::ended_span_of, crate::specs::Written::body))]
 pub fn several_scopes()
     // The second scope is t of version 1, with the schema URL u.
     ensures two_scopes { body (span_in no_resource scope_s ∷ span_in no_resource scope_t ∷ []) ≡
@@ -64,7 +69,8 @@ pub fn several_scopes()
         hex "0a b5 01 0a 00" ++
         hex "12 6f 0a 03 0a 01 73 12 33" ++ plain_span ++ hex "12 33" ++ plain_span ++
         hex "12 40 0a 06 0a 01 74 12 01 31 12 33" ++ plain_span ++ hex "1a 01 75" }
-    // Two scopes that differ in the version alone, in the schema URL alone, and in the attributes alone.
+    // Two scopes that differ in the version alone, in the schema URL alone, and in the attributes
+    // alone.
     ensures two_versions { body (span_in no_resource scope_s ∷
         span_in no_resource (record scope_s { version = codes "2" }) ∷ []) ≡
         hex "0a 7d 0a 00" ++
@@ -83,6 +89,7 @@ pub fn several_scopes()
 {}
 
 /// Spans of several resources.
+#[tactic(auto, unfolding(crate::specs::Hex::hex, crate::specs::Samples::ended_span_of, crate::specs::Written::body))]
 pub fn several_resources()
     // They differ in the schema URL alone.
     ensures two_schemas { body (span_in no_resource scope_s ∷
@@ -92,7 +99,8 @@ pub fn several_resources()
     // They have the same attributes in another order.
     ensures two_orders { body (
         span_in (resource_with (pair "a" (int (pos 1)) ∷ pair "b" (int (pos 1)) ∷ [])) scope_s ∷
-        span_in (resource_with (pair "b" (int (pos 1)) ∷ pair "a" (int (pos 1)) ∷ [])) scope_s ∷ []) ≡
+        span_in (resource_with (pair "b" (int (pos 1)) ∷
+        pair "a" (int (pos 1)) ∷ [])) scope_s ∷ []) ≡
         hex "0a 50 0a 12 0a 07 0a 01 61 12 02 18 01 0a 07 0a 01 62 12 02 18 01" ++
         hex "12 3a 0a 03 0a 01 73 12 33" ++ plain_span ++
         hex "0a 50 0a 12 0a 07 0a 01 62 12 02 18 01 0a 07 0a 01 61 12 02 18 01" ++
@@ -114,6 +122,7 @@ pub fn kinds()
 {}
 
 /// How long these bodies are.
+#[tactic(auto, unfolding(crate::specs::Hex::hex, crate::specs::Samples::ended_span_of, crate::specs::Written::body))]
 pub fn lengths()
     ensures one_span { length (body (span_a [] ∷ [])) ≡ 64 }
     ensures one_span_with_attribute { length (body (span_a (set "a" (text []) ∷ []) ∷ [])) ≡ 73 }
@@ -131,8 +140,10 @@ pub fn read_back()
     ensures two_equal_spans { IsReadBack (span_a [] ∷ span_a [] ∷ []) }
     ensures parent_and_child { IsReadBack (span_a [] ∷ span_b "" ∷ []) }
     ensures trace_state { IsReadBack (span_b "k=v" ∷ []) }
-    ensures two_scopes { IsReadBack (span_in no_resource scope_s ∷ span_in no_resource scope_t ∷ []) }
-    ensures first_scope_again { IsReadBack (span_in no_resource scope_s ∷ span_in no_resource scope_t ∷
+    ensures two_scopes { IsReadBack (span_in no_resource scope_s ∷
+        span_in no_resource scope_t ∷ []) }
+    ensures first_scope_again { IsReadBack (span_in no_resource scope_s ∷
+        span_in no_resource scope_t ∷
         span_in no_resource scope_s ∷ []) }
     ensures two_resources { IsReadBack (span_in no_resource scope_s ∷
         span_in (record no_resource { schema = codes "r" }) scope_s ∷ []) }
@@ -141,9 +152,11 @@ pub fn read_back()
 {}
 
 /// The spans that a request carries, each with its resource and its scope.
+#[tactic(auto, unfolding(crate::specs::Hex::hex, crate::specs::Samples::ended_span_of, export_model::specs::Export::grouped_triples, export_model::specs::Export::triple))]
 pub fn carried_spans()
     // They come group by group, and in a group in their order.
-    ensures first_scope_again { grouped_triples (span_a [] ∷ span_in no_resource scope_t ∷ span_b "" ∷ []) ≡
+    ensures first_scope_again { grouped_triples (span_a [] ∷ span_in no_resource scope_t ∷
+        span_b "" ∷ []) ≡
         triple (span_a []) ∷ triple (span_b "") ∷ triple (span_in no_resource scope_t) ∷ [] }
     // Each has both schema URLs, the resource's and the scope's.
     ensures schemas { triple (span_in (record no_resource { schema = codes "r" }) scope_t) ≡ record {

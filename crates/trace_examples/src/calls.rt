@@ -1,15 +1,17 @@
 //! Calls on a span, and what they make of its bytes (OpenTelemetry Trace API, "Span operations").
 
 ghost use Rattle.std.specs.Prelude.{◌≡◌, [], ◌∷◌, ◌++◌, pos, codes, Some};
-ghost use Rattle.trace_model.specs.Attributes.{text, int};
-ghost use Rattle.trace_model.specs.Spans.{unset, ok, Call, add_event, record_exception, add_link, set_status, span};
+ghost use Rattle.span_model.specs.Attributes.{text, int};
+ghost use Rattle.span_model.specs.Spans.{default_limits, unset, ok, Call, add_event, record_exception, add_link, set_status, span};
 ghost use Rattle.trace_examples.specs.Hex.{hex};
-ghost use Rattle.trace_examples.specs.Samples.{trace_id, span_id, context_of, zero_context, start_a, default_limits};
+ghost use Rattle.trace_examples.specs.Samples.{trace_id, span_id, context_of, zero_context, start_a};
 ghost use Rattle.trace_examples.specs.Samples.{pair, set, set_error, rename};
 ghost use Rattle.trace_examples.specs.Bytes.{span_ids, kind_and_times, plain_span, zero_ids};
 ghost use Rattle.trace_examples.specs.Written.{span_bytes, limited_bytes};
 
-/// The status: Ok is final, a later Error replaces an earlier one, and Unset is ignored ("Set Status").
+/// The status: Ok is final, a later Error replaces an earlier one, and Unset is ignored ("Set
+/// Status").
+#[tactic(auto, unfolding(crate::specs::Hex::hex, crate::specs::Written::span_bytes))]
 pub fn statuses()
     // Error x, Ok, Error y.
     ensures ok_is_final { span_bytes (set_error "x" ∷ set_status ok ∷ set_error "y" ∷ []) ≡
@@ -26,6 +28,7 @@ pub fn statuses()
 {}
 
 /// The name that was given last ("UpdateName"), and the first end ("End").
+#[tactic(auto, unfolding(crate::specs::Hex::hex, crate::specs::Written::span_bytes, crate::specs::Written::limited_bytes, span_model::specs::Spans::span))]
 pub fn names_and_ends()
     ensures last_name { span_bytes (rename "b" ∷ rename "c" ∷ []) ≡
         span_ids ++ hex "2a 01 63" ++ kind_and_times }
@@ -45,6 +48,7 @@ pub fn names_and_ends()
 {}
 
 /// Events, with their moments, names and attributes ("Add Events").
+#[tactic(auto, unfolding(crate::specs::Hex::hex, crate::specs::Written::span_bytes, crate::specs::Written::limited_bytes))]
 pub fn events()
     // An event at 0 without name and attributes.
     ensures empty_event { span_bytes (add_event [] 0 [] ∷ []) ≡ plain_span ++ hex "5a 00" }
@@ -67,8 +71,9 @@ pub fn events()
         plain_span ++ hex "5a 0a 1a 08 0a 01 61 12 03 0a 01 78" }
 {}
 
-/// A recorded exception: an event with attributes of its own, those left out that are empty, and then the
-/// caller's ("Record Exception").
+/// A recorded exception: an event with attributes of its own, those left out that are empty, and
+/// then the caller's ("Record Exception").
+#[tactic(auto, unfolding(crate::specs::Hex::hex, crate::specs::Written::span_bytes, crate::specs::Written::limited_bytes))]
 pub fn exceptions()
     // Type E and message m at 2, without a stack trace: an event of 69 bytes.
     ensures without_stack_trace { span_bytes (record_exception (codes "E") (codes "m") [] 2 [] ∷ []) ≡
@@ -88,7 +93,8 @@ pub fn exceptions()
         hex "5a 34 09 02 00 00 00 00 00 00 00 12 09" ++ codes "exception" ++
         hex "1a 15 0a 0e" ++ codes "exception.type" ++ hex "12 03 0a 01 46" ++
         hex "1a 07 0a 01 61 12 02 18 00" }
-    // Its own attributes are under the limits of every event: type EE, cut to one character, and message m.
+    // Its own attributes are under the limits of every event: type EE, cut to one character, and
+    // message m.
     ensures limited { limited_bytes (record default_limits { event_attributes = 1; value_length = Some 1 })
         (record_exception (codes "EE") (codes "m") [] 2 [] ∷ []) ≡
         plain_span ++
@@ -96,8 +102,9 @@ pub fn exceptions()
         hex "1a 15 0a 0e" ++ codes "exception.type" ++ hex "12 03 0a 01 45" ++ hex "20 01" }
 {}
 
-/// Links to spans ("Link", "Add Link"). One to an invalid context is kept where it has a trace state or
-/// was given pairs.
+/// Links to spans ("Link", "Add Link"). One to an invalid context is kept where it has a trace
+/// state or was given pairs.
+#[tactic(auto, unfolding(crate::specs::Hex::hex, crate::specs::Written::span_bytes, crate::specs::Written::limited_bytes))]
 pub fn links()
     // To the span itself, without trace state and attributes.
     ensures plain_link { span_bytes (add_link (context_of span_id "") [] ∷ []) ≡

@@ -2,13 +2,13 @@
 
 ghost use Rattle.std.specs.Prelude.{◌≡◌, [], ◌∷◌, ◌++◌, ◌-◌, ◌^◌, pos, negsuc, true, false, Some, None};
 ghost use Rattle.std.specs.Prelude.{codes, replicate};
-ghost use Rattle.trace_model.specs.AnyValue.{AnyValue};
-ghost use Rattle.trace_model.specs.Attributes.{text, bool, int};
-ghost use Rattle.trace_model.specs.Reading.{done, truncated, long_varint, bad_number, bad_utf8, too_deep};
-ghost use Rattle.trace_model.specs.Spans.{unset, ok, add_event, record_exception, add_link, set_status};
-ghost use Rattle.trace_model.specs.Tables.{◌▸◌};
+ghost use Rattle.message_model.specs.AnyValue.{AnyValue};
+ghost use Rattle.span_model.specs.Attributes.{text, bool, int};
+ghost use Rattle.message_model.specs.Reading.{done, truncated, long_varint, bad_number, bad_utf8, too_deep};
+ghost use Rattle.span_model.specs.Spans.{default_limits, unset, ok, add_event, record_exception, add_link, set_status};
+ghost use Rattle.message_model.specs.Tables.{◌▸◌};
 ghost use Rattle.trace_examples.specs.Hex.{hex};
-ghost use Rattle.trace_examples.specs.Samples.{span_id, context_of, pair, kept, set_error, default_limits};
+ghost use Rattle.trace_examples.specs.Samples.{span_id, context_of, pair, kept, set_error};
 ghost use Rattle.trace_examples.specs.Bytes.{plain_span};
 ghost use Rattle.trace_examples.specs.Expected.{key_value, array_of, pairs_of, resource_of, scope_named, status_of};
 ghost use Rattle.trace_examples.specs.Expected.{span_of_kind, request_of, resource_alone, no_spans};
@@ -16,11 +16,13 @@ ghost use Rattle.trace_examples.specs.Read.{read, faults, read_value, read_pair,
 ghost use Rattle.trace_examples.specs.Written.{span_bytes, limited_bytes};
 
 /// Varints, tags and lengths, and what stands beside a fault (Protocol Buffers, "Encoding").
+#[tactic(auto, unfolding(crate::specs::Hex::hex, crate::specs::Read::read, crate::specs::Read::faults))]
 pub fn wire()
     // A bad field number is told before a bad wire type: number 0 with the types 3 and 7. (profile)
     ensures number_before_group { faults (hex "03") ≡ bad_number ∷ [] }
     ensures number_before_wire_type { faults (hex "07") ≡ bad_number ∷ [] }
-    // Ten bytes of 255 are no varint, and nine are one that breaks off, in the place of a tag or of a length.
+    // Ten bytes of 255 are no varint, and nine are one that breaks off, in the place of a tag or of
+    // a length.
     ensures ten_high_bytes { faults (replicate 10 255) ≡ long_varint ∷ [] }
     ensures nine_high_bytes { faults (replicate 9 255) ≡ truncated ∷ [] }
     ensures ten_high_bytes_of_a_length { faults (hex "0a" ++ replicate 10 255) ≡ long_varint ∷ [] }
@@ -29,13 +31,15 @@ pub fn wire()
     ensures greatest_length { faults (hex "0a ff ff ff ff ff ff ff ff ff 01") ≡ truncated ∷ [] }
     // Bits past the 64th are dropped: the tag 2 ^ 64 + 10 is 10, and the length 2 ^ 64 is 0.
     ensures tag_past_64_bits { read (hex "8a 80 80 80 80 80 80 80 80 02 00") ≡ read (hex "0a 00") }
-    ensures length_past_64_bits { read (hex "0a 80 80 80 80 80 80 80 80 80 02") ≡ read (hex "0a 00") }
+    ensures length_past_64_bits { read (hex "0a 80 80 80 80 80 80 80 80 80 02") ≡
+        read (hex "0a 00") }
     // A tag may be longer than it has to be.
     ensures long_tag { read (hex "8a 00 00") ≡ read (hex "0a 00") }
     // A message that breaks off ends where its length says, and the one behind it counts.
     ensures message_behind_a_fault { read (hex "0a 01 80 0a 00") ≡
         record (read (hex "0a 00 0a 00")) { faults = truncated ∷ [] } }
-    // Fields before a fault count: a name that is not UTF-8, and behind it one that breaks off. (profile)
+    // Fields before a fault count: a name that is not UTF-8, and behind it one that breaks off.
+    // (profile)
     ensures name_before_a_fault { faults (hex "0a 0b 12 09 12 07 2a 01 ff 2a 05 61 61") ≡
         truncated ∷ bad_utf8 ∷ [] }
     // An unknown field, 99, is not looked into.
@@ -48,10 +52,13 @@ pub fn wire()
         bad_utf8 ∷ [] }
 {}
 
-/// Conversions of numbers, and members of values (Protocol Buffers, "Encoding", "Updating A Message Type").
+/// Conversions of numbers, and members of values (Protocol Buffers, "Encoding", "Updating A Message
+/// Type").
+#[tactic(auto, unfolding(crate::specs::Hex::hex, crate::specs::Read::read, crate::specs::Read::read_value, crate::specs::Read::read_pair))]
 pub fn readings()
     // A truth value is true where any of its 64 bits is set: here the highest alone.
-    ensures bit_63_is_true { read_value (hex "10 80 80 80 80 80 80 80 80 80 01") ≡ done (AnyValue.bool true) }
+    ensures bit_63_is_true { read_value (hex "10 80 80 80 80 80 80 80 80 80 01") ≡
+        done (AnyValue.bool true) }
     // True, and then false.
     ensures last_truth_value { read_value (hex "10 01 10 00") ≡ done (AnyValue.bool false) }
     // The number 1, true, and the number 5: the last member is of a kind that came before.
@@ -69,14 +76,17 @@ pub fn readings()
     ensures count_past_32_bits { read (hex "0a 08 0a 06 10 80 80 80 80 10") ≡
         done (resource_alone ([] ▸ 0 ▸ tt)) }
     // A count of 5, and then of 0.
-    ensures last_count { read (hex "0a 06 0a 04 10 05 10 00") ≡ done (resource_alone ([] ▸ 0 ▸ tt)) }
+    ensures last_count { read (hex "0a 06 0a 04 10 05 10 00") ≡
+        done (resource_alone ([] ▸ 0 ▸ tt)) }
     // A kind is the low 32 bits, with a sign: 2 ^ 31 is the least number, and 2 ^ 32 + 1 is 1.
     ensures least_kind { read (hex "0a 0a 12 08 12 06 30 80 80 80 80 08") ≡
-        done (request_of (resource_of []) (scope_named "") (span_of_kind (negsuc (2 ^ 31 - 1)) ∷ [])) }
+        done
+        (request_of (resource_of []) (scope_named "") (span_of_kind (negsuc (2 ^ 31 - 1)) ∷ [])) }
     ensures kind_past_32_bits { read (hex "0a 0a 12 08 12 06 30 81 80 80 80 10") ≡
         done (request_of (resource_of []) (scope_named "") (span_of_kind (pos 1) ∷ [])) }
     // A status without fields is as good as none.
-    ensures status_without_fields { read (hex "0a 06 12 04 12 02 7a 00") ≡ read (hex "0a 04 12 02 12 00") }
+    ensures status_without_fields { read (hex "0a 06 12 04 12 02 7a 00") ≡
+        read (hex "0a 04 12 02 12 00") }
     // The reader takes an identifier of any length: a trace id of one byte. (profile)
     ensures short_trace_id { read (hex "0a 07 12 05 12 03 0a 01 ff") ≡
         done (request_of (resource_of []) (scope_named "") ((
@@ -84,8 +94,9 @@ pub fn readings()
         [] ▸ 0 ▸ [] ▸ 0 ▸ [] ▸ 0 ▸ status_of "" 0 ▸ tt) ∷ [])) }
 {}
 
-/// The greatest depth. A value in 63 arrays has depth 64, which is allowed, and its members have 65. What
-/// counts at 65 is a fault and is not looked into. (profile)
+/// The greatest depth. A value in 63 arrays has depth 64, which is allowed, and its members have
+/// 65. What counts at 65 is a fault and is not looked into. (profile)
+#[tactic(auto, unfolding(crate::specs::Hex::hex, crate::specs::Read::faults, crate::specs::Read::in_arrays, crate::specs::Read::attribute_body))]
 pub fn depths()
     ensures empty_array_at_64 { faults (attribute_body (in_arrays 63 (hex "2a 00"))) ≡ [] }
     // A text at depth 64 is looked into: it is not UTF-8.
@@ -107,27 +118,30 @@ pub fn depths()
     ensures array_that_does_not_count { faults (attribute_body (in_arrays 63 (hex "2a 02 0a 00 18 01"))) ≡ [] }
 {}
 
-/// Attributes under limits, and calls on a span (OpenTelemetry Common, "Attribute Limits"; Trace API, "Span
-/// operations").
+/// Attributes under limits, and calls on a span (OpenTelemetry Common, "Attribute Limits"; Trace
+/// API, "Span operations").
+#[tactic(auto, unfolding(crate::specs::Hex::hex, crate::specs::Samples::kept, crate::specs::Written::span_bytes, crate::specs::Written::limited_bytes))]
 pub fn calls()
     // A text of no characters stays as an attribute.
     ensures no_characters { kept 1 (Some 0) (pair "a" (text (hex "c3 a9")) ∷ []) ≡
         record { items = pair "a" (text []) ∷ []; dropped = 0 } }
-    // One character: an emoji of four bytes, without the accent behind it, which is a character of its own.
+    // One character: an emoji of four bytes, without the accent behind it, which is a character of
+    // its own.
     ensures four_byte_character { kept 1 (Some 1) (pair "a" (text (hex "f0 9f 98 80 cc 81")) ∷ []) ≡
         record { items = pair "a" (text (hex "f0 9f 98 80")) ∷ []; dropped = 0 } }
     // A value of another kind replaces the one before it. The keys a and A are two.
     ensures other_kind { kept 1 None (
         pair "a" (text []) ∷ pair "a" (bool true) ∷ pair "A" (bool true) ∷ []) ≡
         record { items = pair "a" (bool true) ∷ []; dropped = 1 } }
-    // A limit of one attribute for each event: of a recorded exception its type is kept, with the value F of
-    // the caller. The message and b=1 are dropped, and the empty key is ignored.
+    // A limit of one attribute for each event: of a recorded exception its type is kept, with the
+    // value F of the caller. The message and b=1 are dropped, and the empty key is ignored.
     ensures exception_at_its_limit { limited_bytes (record default_limits { event_attributes = 1 })
         (record_exception (codes "E") (codes "m") [] 0 (pair "exception.type" (text (codes "F")) ∷
         pair "" (int (pos 1)) ∷ pair "b" (int (pos 1)) ∷ []) ∷ []) ≡
         plain_span ++ hex "5a 24 12 09" ++ codes "exception" ++
         hex "1a 15 0a 0e" ++ codes "exception.type" ++ hex "12 03 0a 01 46" ++ hex "20 02" }
-    // A limit on texts cuts the value of an event's attribute, but neither its key nor the event's name.
+    // A limit on texts cuts the value of an event's attribute, but neither its key nor the event's
+    // name.
     ensures uncut_name_and_key { limited_bytes (record default_limits { value_length = Some 1 })
         (add_event (codes "name") 0 (pair "key" (text (codes "xy")) ∷ []) ∷ []) ≡
         plain_span ++ hex "5a 12 12 04" ++ codes "name" ++

@@ -1,14 +1,15 @@
 //! Bytes that mean nothing, and why (Protocol Buffers, "Encoding").
 
 ghost use Rattle.std.specs.Prelude.{◌≡◌, [], ◌∷◌, map, replicate, length, pos};
-ghost use Rattle.trace_model.specs.AnyValue.{AnyValue};
-ghost use Rattle.trace_model.specs.Reading.{done, truncated, long_varint, bad_number, group, bad_wire_type, bad_utf8, too_deep};
+ghost use Rattle.message_model.specs.AnyValue.{AnyValue};
+ghost use Rattle.message_model.specs.Reading.{done, truncated, long_varint, bad_number, group, bad_wire_type, bad_utf8, too_deep};
 ghost use Rattle.trace_examples.specs.Hex.{hex};
 ghost use Rattle.trace_examples.specs.Bytes.{plain_body, reversed_body};
 ghost use Rattle.trace_examples.specs.Expected.{array_of};
 ghost use Rattle.trace_examples.specs.Read.{faults, beginnings, read_value, nested_arrays, nested_lists, attribute_body};
 
 /// Bodies that break off.
+#[tactic(auto, unfolding(crate::specs::Hex::hex, crate::specs::Read::faults))]
 pub fn truncations()
     // Each of the 63 proper beginnings of the body of one span.
     ensures of_one_span { map faults (beginnings 63 plain_body) ≡ replicate 63 (truncated ∷ []) }
@@ -25,6 +26,7 @@ pub fn truncations()
 {}
 
 /// Varints and tags that no field has.
+#[tactic(auto, unfolding(crate::specs::Hex::hex, crate::specs::Read::faults))]
 pub fn fields()
     // A varint of eleven bytes.
     ensures eleven_bytes { faults (hex "ff ff ff ff ff ff ff ff ff ff 01") ≡ long_varint ∷ [] }
@@ -45,6 +47,7 @@ pub fn fields()
 {}
 
 /// Texts that count and are not UTF-8.
+#[tactic(auto, unfolding(crate::specs::Hex::hex, crate::specs::Read::faults))]
 pub fn texts()
     // A name.
     ensures name { faults (hex "0a 07 12 05 12 03 2a 01 ff") ≡ bad_utf8 ∷ [] }
@@ -54,8 +57,9 @@ pub fn texts()
     ensures overlong { faults (hex "0a 0d 0a 0b 0a 09 0a 01 61 12 04 0a 02 c0 80") ≡ bad_utf8 ∷ [] }
 {}
 
-/// Values in values. An attribute's value has depth 1, a member one more, and the greatest depth is 64.
-/// (profile)
+/// Values in values. An attribute's value has depth 1, a member one more, and the greatest depth is
+/// 64. (profile)
+#[tactic(auto, unfolding(crate::specs::Hex::hex, crate::specs::Read::faults, crate::specs::Read::read_value, crate::specs::Read::nested_arrays, crate::specs::Read::nested_lists, crate::specs::Read::attribute_body))]
 pub fn depths()
     ensures two_arrays { nested_arrays 2 ≡ hex "2a 08 0a 06 2a 04 0a 02 18 01" }
     ensures one_list { nested_lists 1 ≡ hex "32 09 0a 07 0a 01 61 12 02 18 01" }

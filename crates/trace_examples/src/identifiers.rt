@@ -1,12 +1,14 @@
-//! Identifiers that are drawn from random words, and flags (W3C Trace Context, "trace-id", "parent-id", "trace-flags";
-//! Trace SDK, "Id Generators").
+//! Identifiers that are drawn from random words, and flags (W3C Trace Context, "trace-id",
+//! "parent-id", "trace-flags"; Trace SDK, "Id Generators").
 
 ghost use Rattle.std.specs.Prelude.{◌≡◌, [], ◌∷◌, Some, None, true, false, slice_index};
-ghost use Rattle.trace_model.specs.Identifiers as Identifiers;
-ghost use Rattle.trace_model.specs.Identifiers.{has_sampled_flag, words_after, words_spent};
+ghost use Rattle.span_model.specs.Identifiers as Identifiers;
+ghost use Rattle.span_model.specs.Identifiers.{has_sampled_flag, words_after, words_spent};
 ghost use Rattle.trace_examples.specs.Hex.{hex};
 
-/// The first draw, of eight, in which some byte isn't zero. Words have their high byte first. (profile)
+/// The first draw, of eight, in which some byte isn't zero. Words have their high byte first.
+/// (profile)
+#[tactic(auto, unfolding(span_model::specs::Identifiers::first_valid, crate::specs::Hex::hex))]
 pub fn draws()
     // Two zeros, the words of a trace id, and that of a span id.
     ensures zeros_again { Identifiers.trace_id (slice_index (
@@ -24,7 +26,8 @@ pub fn draws()
         Some (hex "00 00 00 00 00 00 00 01 00 00 00 00 00 00 00 00") }
     ensures eighth { Identifiers.span_id (slice_index (0 ∷ 0 ∷ 0 ∷ 0 ∷ 0 ∷ 0 ∷ 0 ∷ 1 ∷ [])) ≡
         Some (hex "00 00 00 00 00 00 00 01") }
-    ensures ninth { Identifiers.span_id (slice_index (0 ∷ 0 ∷ 0 ∷ 0 ∷ 0 ∷ 0 ∷ 0 ∷ 0 ∷ 1 ∷ [])) ≡ None }
+    ensures ninth { Identifiers.span_id (slice_index (0 ∷ 0 ∷ 0 ∷ 0 ∷ 0 ∷ 0 ∷ 0 ∷ 0 ∷ 1 ∷ [])) ≡
+        None }
     ensures zeros { Identifiers.trace_id (λ k. 0) ≡ None }
     ensures sixteen { words_spent 2 (λ k. 0) ≡ 16 }
     ensures eight { words_spent 1 (λ k. 0) ≡ 8 }

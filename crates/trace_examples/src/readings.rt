@@ -1,9 +1,9 @@
 //! What bytes mean, in whatever form they come (Protocol Buffers, "Encoding").
 
 ghost use Rattle.std.specs.Prelude.{◌≡◌, [], ◌∷◌, ◌-◌, ◌^◌, pos, negsuc, true, false, codes};
-ghost use Rattle.trace_model.specs.AnyValue.{AnyValue};
-ghost use Rattle.trace_model.specs.Reading.{done};
-ghost use Rattle.trace_model.specs.Tables.{◌▸◌};
+ghost use Rattle.message_model.specs.AnyValue.{AnyValue};
+ghost use Rattle.message_model.specs.Reading.{done};
+ghost use Rattle.message_model.specs.Tables.{◌▸◌};
 ghost use Rattle.trace_examples.specs.Hex.{hex};
 ghost use Rattle.trace_examples.specs.Samples.{trace_id, span_id};
 ghost use Rattle.trace_examples.specs.Bytes.{plain_body, reversed_body};
@@ -12,6 +12,7 @@ ghost use Rattle.trace_examples.specs.Expected.{request_of, resource_alone, no_s
 ghost use Rattle.trace_examples.specs.Read.{read, read_pair, read_value};
 
 /// Bodies, and what they mean field by field.
+#[tactic(auto, unfolding(crate::specs::Hex::hex, crate::specs::Read::read))]
 pub fn whole_bodies()
     ensures one_span { read plain_body ≡ done (request_of (resource_of []) (scope_named "s") ((
         trace_id ▸ span_id ▸ [] ▸ [] ▸ codes "a" ▸ pos 1 ▸ 1 ▸ 2 ▸
@@ -24,6 +25,7 @@ pub fn whole_bodies()
 {}
 
 /// Fields that are unknown, that come again, or that come in parts.
+#[tactic(auto, unfolding(crate::specs::Hex::hex, crate::specs::Read::read))]
 pub fn fields()
     // A known number with another wire type is skipped.
     ensures other_wire_type { read (hex "08 01") ≡ done no_spans }
@@ -52,6 +54,7 @@ pub fn fields()
 {}
 
 /// Values of one member.
+#[tactic(auto, unfolding(crate::specs::Hex::hex, crate::specs::Read::read_value))]
 pub fn values()
     ensures minus_one { read_value (hex "18 ff ff ff ff ff ff ff ff ff 01") ≡
         done (AnyValue.int (negsuc 0)) }
@@ -68,7 +71,8 @@ pub fn values()
     // Each number but 0 is true.
     ensures two_is_true { read_value (hex "10 02") ≡ done (AnyValue.bool true) }
     // 2 ^ 64, whose bit is dropped, is false.
-    ensures bit_64_is_false { read_value (hex "10 80 80 80 80 80 80 80 80 80 02") ≡ done (AnyValue.bool false) }
+    ensures bit_64_is_false { read_value (hex "10 80 80 80 80 80 80 80 80 80 02") ≡
+        done (AnyValue.bool false) }
     // The double 1.0, of which the bits are kept.
     ensures double { read_value (hex "21 00 00 00 00 00 00 f0 3f") ≡
         done (AnyValue.double 0x3ff0_0000_0000_0000) }
@@ -77,8 +81,9 @@ pub fn values()
     ensures byte_string { read_value (hex "3a 02 00 ff") ≡ done (AnyValue.bytes (hex "00 ff")) }
 {}
 
-/// Values of several members, of which the last counts, or of none. What does not count may be any bytes,
-/// since it is not read. (the latter: profile)
+/// Values of several members, of which the last counts, or of none. What does not count may be any
+/// bytes, since it is not read. (the latter: profile)
+#[tactic(auto, unfolding(crate::specs::Hex::hex, crate::specs::Read::read_value, crate::specs::Read::read_pair))]
 pub fn members()
     ensures no_value { read_pair (hex "0a 01 61") ≡ done (key_value "a" AnyValue.none) }
     ensures no_member { read_value [] ≡ done AnyValue.none }

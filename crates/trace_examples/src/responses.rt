@@ -1,13 +1,15 @@
-//! Responses to export requests (opentelemetry-proto, trace_service.proto; OTLP, "Partial Success").
+//! Responses to export requests (opentelemetry-proto, trace_service.proto; OTLP, "Partial
+//! Success").
 
 ghost use Rattle.std.specs.Prelude.{◌≡◌, [], pos, negsuc};
-ghost use Rattle.trace_model.specs.Reading.{done};
+ghost use Rattle.message_model.specs.Reading.{done};
 ghost use Rattle.trace_examples.specs.Hex.{hex};
 ghost use Rattle.trace_examples.specs.Expected.{response_of};
 ghost use Rattle.trace_examples.specs.Read.{read_response};
 ghost use Rattle.trace_examples.specs.Written.{response_bytes};
 
 /// What the bodies of responses mean.
+#[tactic(auto, unfolding(crate::specs::Hex::hex, crate::specs::Read::read_response))]
 pub fn read_bodies()
     // Two spans were rejected, and the message is x.
     ensures two_rejected { read_response (hex "0a 05 08 02 12 01 78") ≡
@@ -21,6 +23,7 @@ pub fn read_bodies()
 {}
 
 /// How responses are written.
+#[tactic(auto, unfolding(crate::specs::Hex::hex, crate::specs::Written::response_bytes))]
 pub fn written_bodies()
     ensures two_rejected { response_bytes (response_of (pos 2) "x") ≡ hex "0a 05 08 02 12 01 78" }
     ensures empty { response_bytes (response_of (pos 0) "") ≡ [] }

@@ -1,15 +1,16 @@
-//! Values of attributes as they are written (opentelemetry-proto, common.proto, "AnyValue"; Protocol Buffers,
-//! "Encoding").
+//! Values of attributes as they are written (opentelemetry-proto, common.proto, "AnyValue";
+//! Protocol Buffers, "Encoding").
 
 ghost use Rattle.std.specs.Prelude.{◌≡◌, [], ◌∷◌, ◌-◌, ◌^◌, pos, negsuc, true, false, codes};
-ghost use Rattle.trace_model.specs.AnyValue.{AnyValue, no_pairs};
-ghost use Rattle.trace_model.specs.Attributes.{text, bool, int, texts, bools, ints};
+ghost use Rattle.message_model.specs.AnyValue.{AnyValue, no_pairs};
+ghost use Rattle.span_model.specs.Attributes.{text, bool, int, texts, bools, ints};
 ghost use Rattle.trace_examples.specs.Hex.{hex};
 ghost use Rattle.trace_examples.specs.Samples.{pair};
 ghost use Rattle.trace_examples.specs.Expected.{pairs_of, key_value};
 ghost use Rattle.trace_examples.specs.Written.{pair_bytes, value_bytes, any_value_bytes};
 
 /// A text, a truth value or a number, which is written also where it is the default.
+#[tactic(auto, unfolding(crate::specs::Hex::hex, crate::specs::Written::value_bytes))]
 pub fn scalars()
     ensures empty_text { value_bytes (text []) ≡ hex "0a 00" }
     // Texts are UTF-8: an e with an acute accent.
@@ -28,6 +29,7 @@ pub fn scalars()
 {}
 
 /// An array, of which each member is written.
+#[tactic(auto, unfolding(crate::specs::Hex::hex, crate::specs::Written::value_bytes))]
 pub fn arrays()
     // The numbers 1 and -1.
     ensures numbers { value_bytes (ints (pos 1 ∷ negsuc 0 ∷ [])) ≡
@@ -44,6 +46,7 @@ pub fn arrays()
 {}
 
 /// The protocol's other kinds of values, which the attributes of a program do not have. (profile)
+#[tactic(auto, unfolding(crate::specs::Hex::hex, crate::specs::Written::any_value_bytes))]
 pub fn other_kinds()
     ensures none { any_value_bytes AnyValue.none ≡ [] }
     // The double 1.0, by its bits.
@@ -57,6 +60,7 @@ pub fn other_kinds()
 {}
 
 /// A pair of a key and a value. An empty key is left out, and a value never is.
+#[tactic(auto, unfolding(crate::specs::Hex::hex, crate::specs::Written::pair_bytes))]
 pub fn pairs()
     ensures with_key { pair_bytes (pair "a" (text [])) ≡ hex "0a 01 61 12 02 0a 00" }
     ensures without_key { pair_bytes (pair "" (text [])) ≡ hex "12 02 0a 00" }

@@ -1,3 +1,0 @@
-mod Read
-mod Shared
-mod Steps

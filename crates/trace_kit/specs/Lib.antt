@@ -1,6 +1,25 @@
-pub mod Group
-pub mod Program
-pub mod Printed
-pub mod Recorded
-pub mod Recorder
-pub mod Words
+-- The specifications that contracts of this kit cite, from one place.
+pub use Rattle.message_model.specs.Reading
+pub use Rattle.message_model.specs.Messages
+pub use Rattle.message_model.specs.Tables
+pub use Rattle.span_model.specs.Attributes
+pub use Rattle.span_model.specs.Identifiers
+pub use Rattle.span_model.specs.Sampling
+pub use Rattle.span_model.specs.Spans
+pub use Rattle.span_model.specs.Starts
+pub use Rattle.export_model.specs.Export
+pub use Rattle.history_model.specs.History
+pub use Rattle.otlp_ids.specs.SpanContext
+pub use Rattle.otlp_ids.specs.WordStream
+pub use Rattle.otlp_value.specs.AttributeList
+pub use Rattle.otlp_value.specs.Value
+pub use Rattle.otlp_span.specs.Parts
+pub use Rattle.otlp_span.specs.Recording
+pub use Rattle.otlp_sampler.specs.Sampling as SamplerViews
+pub use Rattle.otlp_proto.specs.Group
+pub use Rattle.otlp_proto.specs.Encode
+pub use Rattle.trace_api.specs.Calls
+pub use Rattle.trace_api.specs.Pass
+pub use Rattle.trace_api.specs.Starts as TracerStarts
+pub use Rattle.script_program.specs.Command
+pub use Rattle.script_program.specs.Printed

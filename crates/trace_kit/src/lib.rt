@@ -1,22 +1,16 @@
-//! Spans on their way: grouping, the bodies of OTLP/HTTP trace exports, and the program `trace-script`.
+//! A tracing kit by OpenTelemetry's API: one `use` of this crate gives a program all it needs.
 #![tactic(auto)]
 
-mod body;
-mod failure;
-mod grouping;
-mod program;
-mod recorder;
-mod sampler;
-#[cfg(test)]
-mod script_tests;
-#[cfg(test)]
-mod tests;
-mod words;
-
-pub use body::body_of;
-pub use grouping::group;
-pub use otlp_proto::{EncodeFault, ResourceGroup, ScopeGroup, encode};
-pub use program::script;
-pub use sampler::ScriptSampler;
+pub use otlp_ids::{IdFault, OutOfMemory, SpanContext, SpanId, TraceFlags, TraceId};
+pub use otlp_proto::{
+    DEFAULT_MAX_BODY, EncodeFault, ResourceGroup, ScopeGroup, body_of, encode, group, share_place,
+};
+pub use otlp_sampler::{AlwaysOff, AlwaysOn, Decision, ParentBased, Sampler};
+pub use otlp_span::{
+    Event, Kind, Link, Open, Reason, Resource, Scope, SpanCall, SpanData, SpanLimits, SpanRecord,
+    Status, replay,
+};
+pub use otlp_value::{AttributeList, Limits, Value};
+pub use script_program::{ScriptSampler, script, trace_script};
 pub use trace_api::{BodyPass, EndPass, Ended, Provider, Span, StartFault, Tracer};
-pub use words::ScriptWords;
+pub use words_rng::WordsRng;

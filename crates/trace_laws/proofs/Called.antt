@@ -5,15 +5,15 @@ use Rattle.std.proofs.lemmas.List.{length-take, take-append-drop}
 use Rattle.std.proofs.lemmas.List.Sums.{take_while-cons}
 use Rattle.std.proofs.lemmas.List.Elements.{filter-append, filter_map-append, recursion_from_All}
 use Rattle.std.proofs.lemmas.List.Folds.{list_any-append}
-use Rattle.trace_model.specs.Attributes.{last_or, attributes}
-use Rattle.trace_model.specs.Spans.{Status, unset, ok, error, Call, set_attribute, add_event, record_exception, add_link, set_status, update_name, end, SpanLimits, Start, is_end, live, first, first_or, end_of, event_of, link_of, name_of, status_of, attribute_of, is_ok_status, is_error, final_status, Span, span}
+use Rattle.span_model.specs.Attributes.{last_or, attributes}
+use Rattle.span_model.specs.Spans.{Status, unset, ok, error, Call, set_attribute, add_event, record_exception, add_link, set_status, update_name, end, SpanLimits, Start, is_end, live_calls, first_kept, first_or, end_of, event_of, link_of, name_of, status_of, attribute_of, is_ok_status, is_error, final_status, Span, span}
 use Rattle.trace_laws.specs.Keeping.{KeepsFirst}
 use Rattle.trace_laws.proofs.Lists.{last-append}
 use Rattle.trace_laws.specs.Calls.{NoneEnds, SetsNoStatus, UpdatesNoName}
 
 -- ---- the first are kept
 
-pub first-keeps : {A : Type 0} (limit : ℕ) (all : List A) → KeepsFirst limit all (first limit all)
+pub first-keeps : {A : Type 0} (limit : ℕ) (all : List A) → KeepsFirst limit all (first_kept limit all)
 first-keeps limit all = record {
   front = (drop limit all, sym (take-append-drop limit all));
   size = length-take limit all;
@@ -21,13 +21,13 @@ first-keeps limit all = record {
   sum = λ small. let size = length-take limit all in omega (arith, size, small);
 }
 
-pub events-kept : (limits : SpanLimits) (start : Start) (calls : List Call) → KeepsFirst limits.events (filter_map (event_of limits) (live calls)) (span limits start calls).events
+pub events-kept : (limits : SpanLimits) (start : Start) (calls : List Call) → KeepsFirst limits.events (filter_map (event_of limits) (live_calls calls)) (span limits start calls).events
 unfolding span
-events-kept limits start calls = first-keeps limits.events (filter_map (event_of limits) (live calls))
+events-kept limits start calls = first-keeps limits.events (filter_map (event_of limits) (live_calls calls))
 
-pub links-kept : (limits : SpanLimits) (start : Start) (calls : List Call) → KeepsFirst limits.links (filter_map (link_of limits) (live calls)) (span limits start calls).links
+pub links-kept : (limits : SpanLimits) (start : Start) (calls : List Call) → KeepsFirst limits.links (filter_map (link_of limits) (live_calls calls)) (span limits start calls).links
 unfolding span
-links-kept limits start calls = first-keeps limits.links (filter_map (link_of limits) (live calls))
+links-kept limits start calls = first-keeps limits.links (filter_map (link_of limits) (live_calls calls))
 
 -- ---- the calls before the first end
 
@@ -40,27 +40,27 @@ no-end (set_status s) h = refl
 no-end (update_name name) h = refl
 no-end (end at) h = absurd (h at refl)
 
-live-cons : (c : Call) (calls : List Call) → live (c ∷ calls) ≡ cond (not (is_end c)) (c ∷ live calls) []
+live-cons : (c : Call) (calls : List Call) → live_calls (c ∷ calls) ≡ cond (not (is_end c)) (c ∷ live_calls calls) []
 live-cons c calls = take_while-cons (λ d. not (is_end d)) c calls
 
-live-front : (front back : List Call) → AllByRecursion (λ c. (at : ℕ) → c ≢ end at) front → live (front ++ back) ≡ front ++ live back
+live-front : (front back : List Call) → AllByRecursion (λ c. (at : ℕ) → c ≢ end at) front → live_calls (front ++ back) ≡ front ++ live_calls back
 live-front [] back h = refl
-live-front (c ∷ front) back h = live-cons c (front ++ back) ∙ ap (λ t. cond (not t) (c ∷ live (front ++ back)) []) (no-end c h.0) ∙ ap (λ l. c ∷ l) (live-front front back h.1)
+live-front (c ∷ front) back h = live-cons c (front ++ back) ∙ ap (λ t. cond (not t) (c ∷ live_calls (front ++ back)) []) (no-end c h.0) ∙ ap (λ l. c ∷ l) (live-front front back h.1)
 
 -- what counts of a call that is no end, with no end before it
-live-at : (front back : List Call) (c : Call) → NoneEnds front → is_end c ≡ false → live (front ++ c ∷ back) ≡ front ++ c ∷ live back
+live-at : (front back : List Call) (c : Call) → NoneEnds front → is_end c ≡ false → live_calls (front ++ c ∷ back) ≡ front ++ c ∷ live_calls back
 live-at front back c h e = live-front front (c ∷ back) (recursion_from_All (λ d. (at : ℕ) → d ≢ end at) front h)
-    ∙ ap (λ l. front ++ l) (live-cons c back ∙ ap (λ t. cond (not t) (c ∷ live back) []) e)
+    ∙ ap (λ l. front ++ l) (live-cons c back ∙ ap (λ t. cond (not t) (c ∷ live_calls back) []) e)
 
-live-end : (calls more : List Call) (at : ℕ) → live (calls ++ end at ∷ more) ≡ live calls
+live-end : (calls more : List Call) (at : ℕ) → live_calls (calls ++ end at ∷ more) ≡ live_calls calls
 live-end [] more at = live-cons (end at) more
 live-end (c ∷ calls) more at = live-cons c (calls ++ end at ∷ more) ∙ ap (λ l. cond (not (is_end c)) (c ∷ l) []) (live-end calls more at) ∙ sym (live-cons c calls)
 
 -- ---- the last that counts
 
 -- of a call in the middle
-made-at : {A : Type 0} (h : Call → Option A) (front back : List Call) (c : Call) → NoneEnds front → is_end c ≡ false → filter_map h (live (front ++ c ∷ back)) ≡ filter_map h front ++ cons_option (h c) (filter_map h (live back))
-made-at h front back c none e = ap (filter_map h) (live-at front back c none e) ∙ filter_map-append h front (c ∷ live back)
+made-at : {A : Type 0} (h : Call → Option A) (front back : List Call) (c : Call) → NoneEnds front → is_end c ≡ false → filter_map h (live_calls (front ++ c ∷ back)) ≡ filter_map h front ++ cons_option (h c) (filter_map h (live_calls back))
+made-at h front back c none e = ap (filter_map h) (live-at front back c none e) ∙ filter_map-append h front (c ∷ live_calls back)
 
 made-none : {A : Type 0} (h : Call → Option A) (P : Call → Type 0) → ((c : Call) → P c → h c ≡ None) → (calls : List Call) → AllByRecursion P calls → filter_map h calls ≡ []
 made-none h P none [] p = refl
@@ -78,15 +78,15 @@ no-name (end at) h = refl
 no-names : (calls : List Call) → All UpdatesNoName calls → filter_map name_of calls ≡ []
 no-names calls h = made-none name_of UpdatesNoName no-name calls (recursion_from_All UpdatesNoName calls h)
 
-pub last-name : (limits : SpanLimits) (start : Start) (front back : List Call) (name : List ℕ) → NoneEnds front → All UpdatesNoName (live back) →
+pub last-name : (limits : SpanLimits) (start : Start) (front back : List Call) (name : List ℕ) → NoneEnds front → All UpdatesNoName (live_calls back) →
     (span limits start (front ++ update_name name ∷ back)).name ≡ name
 unfolding span
-last-name limits start front back name none h = ap (last_or start.name) (made-at name_of front back (update_name name) none refl ∙ ap (λ l. filter_map name_of front ++ name ∷ l) (no-names (live back) h))
+last-name limits start front back name none h = ap (last_or start.name) (made-at name_of front back (update_name name) none refl ∙ ap (λ l. filter_map name_of front ++ name ∷ l) (no-names (live_calls back) h))
     ∙ last-append start.name (filter_map name_of front) name
 
-pub first-name : (limits : SpanLimits) (start : Start) (calls : List Call) → All UpdatesNoName (live calls) → (span limits start calls).name ≡ start.name
+pub first-name : (limits : SpanLimits) (start : Start) (calls : List Call) → All UpdatesNoName (live_calls calls) → (span limits start calls).name ≡ start.name
 unfolding span
-first-name limits start calls h = ap (last_or start.name) (no-names (live calls) h)
+first-name limits start calls h = ap (last_or start.name) (no-names (live_calls calls) h)
 
 -- ---- status
 
@@ -147,28 +147,28 @@ error-last before later t none h =
 
 pub ok-is-final : (limits : SpanLimits) (start : Start) (front back : List Call) → NoneEnds front → (span limits start (front ++ set_status ok ∷ back)).status ≡ ok
 unfolding span
-ok-is-final limits start front back none = ap final_status (made-at status_of front back (set_status ok) none refl) ∙ ok-final (filter_map status_of front) (filter_map status_of (live back))
+ok-is-final limits start front back none = ap final_status (made-at status_of front back (set_status ok) none refl) ∙ ok-final (filter_map status_of front) (filter_map status_of (live_calls back))
 
-pub last-error : (limits : SpanLimits) (start : Start) (front back : List Call) (message : List ℕ) → NoneEnds front → All (λ c. c ≢ set_status ok) front → All SetsNoStatus (live back) →
+pub last-error : (limits : SpanLimits) (start : Start) (front back : List Call) (message : List ℕ) → NoneEnds front → All (λ c. c ≢ set_status ok) front → All SetsNoStatus (live_calls back) →
     (span limits start (front ++ set_status (error message) ∷ back)).status ≡ error message
 unfolding span
 last-error limits start front back message none h k = ap final_status (made-at status_of front back (set_status (error message)) none refl)
-    ∙ error-last (filter_map status_of front) (filter_map status_of (live back)) message (no-ok front (recursion_from_All (λ c. c ≢ set_status ok) front h)) (unset-statuses (live back) (recursion_from_All SetsNoStatus (live back) k))
+    ∙ error-last (filter_map status_of front) (filter_map status_of (live_calls back)) message (no-ok front (recursion_from_All (λ c. c ≢ set_status ok) front h)) (unset-statuses (live_calls back) (recursion_from_All SetsNoStatus (live_calls back) k))
 
-pub status-unset : (limits : SpanLimits) (start : Start) (calls : List Call) → All SetsNoStatus (live calls) → (span limits start calls).status ≡ unset
+pub status-unset : (limits : SpanLimits) (start : Start) (calls : List Call) → All SetsNoStatus (live_calls calls) → (span limits start calls).status ≡ unset
 unfolding span
 status-unset limits start calls h =
-    let all = unset-statuses (live calls) (recursion_from_All SetsNoStatus (live calls) h) in
-    ap₂ status_by (none-ok (filter_map status_of (live calls)) all) (none-error (filter_map status_of (live calls)) all)
+    let all = unset-statuses (live_calls calls) (recursion_from_All SetsNoStatus (live_calls calls) h) in
+    ap₂ status_by (none-ok (filter_map status_of (live_calls calls)) all) (none-error (filter_map status_of (live_calls calls)) all)
 
 -- ---- Unset
 
 -- What comes of the calls that count is the same without one in the middle, if it is so of any calls.
-skips : {A : Type 0} (c : Call) → is_end c ≡ false → (front back : List Call) (made : List Call → A) → ((before later : List Call) → made (before ++ c ∷ later) ≡ made (before ++ later)) → made (live (front ++ c ∷ back)) ≡ made (live (front ++ back))
-skips c e [] back made h = ap made (live-cons c back ∙ ap (λ t. cond (not t) (c ∷ live back) []) e) ∙ h [] (live back)
+skips : {A : Type 0} (c : Call) → is_end c ≡ false → (front back : List Call) (made : List Call → A) → ((before later : List Call) → made (before ++ c ∷ later) ≡ made (before ++ later)) → made (live_calls (front ++ c ∷ back)) ≡ made (live_calls (front ++ back))
+skips c e [] back made h = ap made (live-cons c back ∙ ap (λ t. cond (not t) (c ∷ live_calls back) []) e) ∙ h [] (live_calls back)
 skips c e (d ∷ front) back made h = ap made (live-cons d (front ++ c ∷ back)) ∙ go (is_end d) (skips c e front back (λ l. made (d ∷ l)) (λ before later. h (d ∷ before) later)) ∙ ap made (sym (live-cons d (front ++ back)))
   where
-    go : (t : Bool) → made (d ∷ live (front ++ c ∷ back)) ≡ made (d ∷ live (front ++ back)) → made (cond (not t) (d ∷ live (front ++ c ∷ back)) []) ≡ made (cond (not t) (d ∷ live (front ++ back)) [])
+    go : (t : Bool) → made (d ∷ live_calls (front ++ c ∷ back)) ≡ made (d ∷ live_calls (front ++ back)) → made (cond (not t) (d ∷ live_calls (front ++ c ∷ back)) []) ≡ made (cond (not t) (d ∷ live_calls (front ++ back)) [])
     go true ih = refl
     go false ih = ih
 
@@ -188,12 +188,12 @@ span_of limits start at counts = record {
   start = start.at;
   end = at;
   attributes = attributes (record { count = limits.attributes; length = limits.value_length }) (filter_map attribute_of counts);
-  events = first limits.events (filter_map (event_of limits) counts);
-  links = first limits.links (filter_map (link_of limits) counts);
+  events = first_kept limits.events (filter_map (event_of limits) counts);
+  links = first_kept limits.links (filter_map (link_of limits) counts);
   status = final_status (filter_map status_of counts);
 }
 
-span-is : (limits : SpanLimits) (start : Start) (calls : List Call) → span limits start calls ≡ span_of limits start (first_or start.at (filter_map end_of calls)) (live calls)
+span-is : (limits : SpanLimits) (start : Start) (calls : List Call) → span limits start calls ≡ span_of limits start (first_or start.at (filter_map end_of calls)) (live_calls calls)
 unfolding span span_of
 span-is limits start calls = refl
 
@@ -213,8 +213,8 @@ span-without limits start at before later =
       start = start.at;
       end = at;
       attributes = attributes (record { count = limits.attributes; length = limits.value_length }) (pairs i);
-      events = first limits.events (events i);
-      links = first limits.links (links i);
+      events = first_kept limits.events (events i);
+      links = first_kept limits.links (links i);
       status = status i;
     }
 
@@ -222,7 +222,7 @@ pub unset-is-ignored : (limits : SpanLimits) (start : Start) (front back : List 
 unset-is-ignored limits start front back =
     let at : ℕ = first_or start.at (filter_map end_of (front ++ back)) in
     span-is limits start (front ++ set_status unset ∷ back)
-    ∙ ap (λ ends. span_of limits start (first_or start.at ends) (live (front ++ set_status unset ∷ back))) (made-without end_of front back (set_status unset) refl)
+    ∙ ap (λ ends. span_of limits start (first_or start.at ends) (live_calls (front ++ set_status unset ∷ back))) (made-without end_of front back (set_status unset) refl)
     ∙ skips (set_status unset) refl front back (span_of limits start at) (span-without limits start at)
     ∙ sym (span-is limits start (front ++ back))
 

@@ -6,7 +6,7 @@ use Rattle.std.proofs.lemmas.List.{map-append, length-map, length-take, get_or-t
 use Rattle.std.proofs.lemmas.List.Elements.{All-filter, All-weaker, All-take, All-contains_itself, filter_passes, filter-append, recursion_from_All}
 use Rattle.std.proofs.lemmas.List.Sums.{sum_by-cons}
 use Rattle.std.proofs.lemmas.Slice.Eq.{bytes_eq-Decides}
-use Rattle.trace_model.specs.Attributes.{bool, Attribute, Limits, cut, distinct, is_empty, kept_keys, has_key, last_or, last_value, is_dropped, attributes}
+use Rattle.span_model.specs.Attributes.{bool, Attribute, Limits, cut, distinct_of, is_empty, kept_keys, has_key, last_or, last_value, is_dropped, attributes}
 use Rattle.trace_laws.specs.Keeping.{BeginsWith, keys_of, kept_keys_of, first_use, is_named, is_among}
 use Rattle.trace_laws.proofs.Lists.{last-append, contains-filter, contains-map, all-pairs-take, all-pairs-where, begins-take, begins-distinct, all-distinct, distinct-apart, contains-distinct, place, distinct-in_order, place-filter, filter-map}
 
@@ -31,7 +31,7 @@ abbrev used : List Attribute → List (List ℕ)
 used pairs = filter (λ k. not (is_empty k)) (keys_of pairs)
 
 abbrev all_keys : List Attribute → List (List ℕ)
-all_keys pairs = distinct bytes_eq (used pairs)
+all_keys pairs = distinct_of bytes_eq (used pairs)
 
 pub at-most : (limits : Limits) (pairs : List Attribute) → length (attributes limits pairs).items ≤ limits.count
 unfolding attributes
@@ -85,7 +85,7 @@ all-in-order pairs =
     let named : List Attribute = filter is_named pairs in
     all-pairs-where (λ k. k ≢ []) (λ k l. place bytes_eq bytes_eq-Decides (λ p. p.key) named k < place bytes_eq bytes_eq-Decides (λ p. p.key) named l) (λ k l. first_use k pairs < first_use l pairs) earlier (all_keys pairs)
     (all-have-bytes pairs)
-    (subst (λ keys. AllPairs (λ k l. place bytes_eq bytes_eq-Decides (λ p. p.key) named k < place bytes_eq bytes_eq-Decides (λ p. p.key) named l) (distinct bytes_eq keys)) (sym (filter-map (λ k. not (is_empty k)) (λ p. p.key) pairs))
+    (subst (λ keys. AllPairs (λ k l. place bytes_eq bytes_eq-Decides (λ p. p.key) named k < place bytes_eq bytes_eq-Decides (λ p. p.key) named l) (distinct_of bytes_eq keys)) (sym (filter-map (λ k. not (is_empty k)) (λ p. p.key) pairs))
     (distinct-in_order bytes_eq bytes_eq-Decides (λ p. p.key) named))
   where
     earlier : (k l : List ℕ) → k ≢ [] → l ≢ [] → position_or_len (λ p. bytes_eq k p.key) (filter is_named pairs) < position_or_len (λ p. bytes_eq l p.key) (filter is_named pairs) → first_use k pairs < first_use l pairs
@@ -131,8 +131,8 @@ keys-stay limits pairs more =
     let first = begins-take limits.count (all_keys pairs) all.0 in (
       first.0,
       keys-are limits (pairs ++ more)
-          ∙ ap (λ l. take limits.count (distinct bytes_eq (filter (λ k. not (is_empty k)) l))) (map-append (λ p. p.key) pairs more)
-          ∙ ap (λ l. take limits.count (distinct bytes_eq l)) (filter-append (λ k. not (is_empty k)) (keys_of pairs) (keys_of more))
+          ∙ ap (λ l. take limits.count (distinct_of bytes_eq (filter (λ k. not (is_empty k)) l))) (map-append (λ p. p.key) pairs more)
+          ∙ ap (λ l. take limits.count (distinct_of bytes_eq l)) (filter-append (λ k. not (is_empty k)) (keys_of pairs) (keys_of more))
           ∙ ap (take limits.count) all.1 ∙ first.1 ∙ ap (λ l. l ++ first.0) (sym (keys-are limits pairs)),
     )
 

@@ -8,7 +8,7 @@ use Rattle.std.proofs.lemmas.List.Elements.{All-nil, All-cons, All-head, All-tai
 use Rattle.std.proofs.lemmas.List.Kept.{AllPairs-cons, AllPairs-filter}
 use Rattle.std.proofs.lemmas.List.Folds.{list_any-from_Any}
 use Rattle.std.proofs.lemmas.Map.Made.{Contains-tail}
-use Rattle.trace_model.specs.Attributes.{distinct, last_or}
+use Rattle.span_model.specs.Attributes.{distinct_of, last_or}
 use Rattle.trace_laws.specs.Keeping.{BeginsWith}
 
 -- ---- elements
@@ -76,11 +76,11 @@ begins-take zero xs ys = ([], refl)
 begins-take (suc n) [] ys = (take (suc n) ys, refl)
 begins-take (suc n) (x ∷ xs) ys = let ih = begins-take n xs ys in (ih.0, ap (λ l. x ∷ l) ih.1)
 
-pub begins-distinct : {A : Type 0} (same : A → A → Bool) (xs ys : List A) → BeginsWith (distinct same (xs ++ ys)) (distinct same xs)
-begins-distinct same [] ys = (distinct same ys, refl)
+pub begins-distinct : {A : Type 0} (same : A → A → Bool) (xs ys : List A) → BeginsWith (distinct_of same (xs ++ ys)) (distinct_of same xs)
+begins-distinct same [] ys = (distinct_of same ys, refl)
 begins-distinct same (x ∷ xs) ys =
     let ih = begins-distinct same xs ys in
-    (filter (λ z. not (same x z)) ih.0, ap (λ l. x ∷ filter (λ z. not (same x z)) l) ih.1 ∙ ap (λ l. x ∷ l) (filter-append (λ z. not (same x z)) (distinct same xs) ih.0))
+    (filter (λ z. not (same x z)) ih.0, ap (λ l. x ∷ filter (λ z. not (same x z)) l) ih.1 ∙ ap (λ l. x ∷ l) (filter-append (λ z. not (same x z)) (distinct_of same xs) ih.0))
 
 -- ---- distinct keys
 
@@ -92,24 +92,24 @@ module _ {A : Type 0} (same : A → A → Bool) (decides : (x y : A) → Decides
   abbrev pub differs : A → A → Bool
   differs x y = not (same x y)
 
-  pub all-distinct : (P : A → Type 0) (xs : List A) → All P xs → All P (distinct same xs)
+  pub all-distinct : (P : A → Type 0) (xs : List A) → All P xs → All P (distinct_of same xs)
   all-distinct P [] h = All-nil P
-  all-distinct P (x ∷ xs) h = All-cons P x (filter (differs x) (distinct same xs)) (All-head P x xs h) (All-filter (differs x) P (distinct same xs) (all-distinct P xs (All-tail P x xs h)))
+  all-distinct P (x ∷ xs) h = All-cons P x (filter (differs x) (distinct_of same xs)) (All-head P x xs h) (All-filter (differs x) P (distinct_of same xs) (all-distinct P xs (All-tail P x xs h)))
 
-  pub distinct-apart : (xs : List A) → AllPairs (λ x y. x ≢ y) (distinct same xs)
+  pub distinct-apart : (xs : List A) → AllPairs (λ x y. x ≢ y) (distinct_of same xs)
   distinct-apart [] = λ i j d below within. absurd (omega (arith, within))
-  distinct-apart (x ∷ xs) = AllPairs-cons (λ y z. y ≢ z) x (filter (differs x) (distinct same xs))
-      (All-weaker (λ y. differs x y ≡ true) (λ y. x ≢ y) (apart x) (filter (differs x) (distinct same xs)) (filter_passes (differs x) (distinct same xs)))
-      (AllPairs-filter (λ y z. y ≢ z) (differs x) (distinct same xs) (distinct-apart xs))
+  distinct-apart (x ∷ xs) = AllPairs-cons (λ y z. y ≢ z) x (filter (differs x) (distinct_of same xs))
+      (All-weaker (λ y. differs x y ≡ true) (λ y. x ≢ y) (apart x) (filter (differs x) (distinct_of same xs)) (filter_passes (differs x) (distinct_of same xs)))
+      (AllPairs-filter (λ y z. y ≢ z) (differs x) (distinct_of same xs) (distinct-apart xs))
 
-  pub contains-distinct : (xs : List A) (x : A) → Contains xs x → Contains (distinct same xs) x
+  pub contains-distinct : (xs : List A) (x : A) → Contains xs x → Contains (distinct_of same xs) x
   contains-distinct [] x h = h
   contains-distinct (y ∷ xs) x h = go (same y x) refl (contains-distinct xs x)
     where
-      go : (t : Bool) → same y x ≡ t → (Contains xs x → Contains (distinct same xs) x) → Contains (y ∷ filter (differs y) (distinct same xs)) x
-      go true e ih = subst (λ z. Contains (y ∷ filter (differs y) (distinct same xs)) z) ((decides y x).0 e) (contains-here y (filter (differs y) (distinct same xs)))
-      go false e ih = contains-later y (filter (differs y) (distinct same xs)) x
-          (contains-filter (differs y) (distinct same xs) x (ap not e) (ih (Contains-tail y xs x (apart y x (ap not e)) h)))
+      go : (t : Bool) → same y x ≡ t → (Contains xs x → Contains (distinct_of same xs) x) → Contains (y ∷ filter (differs y) (distinct_of same xs)) x
+      go true e ih = subst (λ z. Contains (y ∷ filter (differs y) (distinct_of same xs)) z) ((decides y x).0 e) (contains-here y (filter (differs y) (distinct_of same xs)))
+      go false e ih = contains-later y (filter (differs y) (distinct_of same xs)) x
+          (contains-filter (differs y) (distinct_of same xs) x (ap not e) (ih (Contains-tail y xs x (apart y x (ap not e)) h)))
 
   -- how many stand before the first of a key
   abbrev pub place : {B : Type 0} → (B → A) → List B → A → ℕ
@@ -126,15 +126,15 @@ module _ {A : Type 0} (same : A → A → Bool) (decides : (x y : A) → Decides
       go false e = refl
 
   -- distinct keys stand in the order of their first places
-  pub distinct-in_order : {B : Type 0} (key : B → A) (bs : List B) → AllPairs (λ x y. place key bs x < place key bs y) (distinct same (map key bs))
+  pub distinct-in_order : {B : Type 0} (key : B → A) (bs : List B) → AllPairs (λ x y. place key bs x < place key bs y) (distinct_of same (map key bs))
   distinct-in_order key [] = λ i j d below within. absurd (omega (arith, within))
   distinct-in_order key (b ∷ bs) =
-      let others : List A = filter (differs (key b)) (distinct same (map key bs)) in
-      let differ = filter_passes (differs (key b)) (distinct same (map key bs)) in
+      let others : List A = filter (differs (key b)) (distinct_of same (map key bs)) in
+      let differ = filter_passes (differs (key b)) (distinct_of same (map key bs)) in
       AllPairs-cons (λ x y. place key (b ∷ bs) x < place key (b ∷ bs) y) (key b) others
       (All-weaker (λ y. differs (key b) y ≡ true) (λ y. place key (b ∷ bs) (key b) < place key (b ∷ bs) y) first others differ)
       (all-pairs-where (λ y. differs (key b) y ≡ true) (λ x y. place key bs x < place key bs y) (λ x y. place key (b ∷ bs) x < place key (b ∷ bs) y) later others differ
-      (AllPairs-filter (λ x y. place key bs x < place key bs y) (differs (key b)) (distinct same (map key bs)) (distinct-in_order key bs)))
+      (AllPairs-filter (λ x y. place key bs x < place key bs y) (differs (key b)) (distinct_of same (map key bs)) (distinct-in_order key bs)))
     where
       first : (y : A) → differs (key b) y ≡ true → place key (b ∷ bs) (key b) < place key (b ∷ bs) y
       first y h = let own = place-own key b bs in let other = place-other key b bs y h in omega (arith, own, other)

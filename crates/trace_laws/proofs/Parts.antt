@@ -7,7 +7,7 @@ use Rattle.std.proofs.lemmas.Bool.{true≢false, false≢true}
 use Rattle.std.proofs.lemmas.List.Elements.{All-weaker, All-contains_itself, recursion_from_All}
 use Rattle.std.proofs.lemmas.List.Sorted.{IsPermutation-refl, IsPermutation-trans, IsPermutation-append, IsPermutation-append_right, IsPermutation-filter_both}
 use Rattle.std.proofs.lemmas.Map.Made.{IsDistinct-from_AllPairs}
-use Rattle.trace_model.specs.Attributes.{distinct}
+use Rattle.span_model.specs.Attributes.{distinct_of}
 use Rattle.trace_laws.proofs.Lists.{contains-nil, contains-cases, contains-map, any-contains, all-distinct, distinct-apart, contains-distinct, filter-filter}
 
 pub not-nothing : {A : Type 0} (x : A) (xs : List A) → x ∷ xs ≢ []
@@ -23,7 +23,7 @@ module _ {A K : Type 0} (same : K → K → Bool) (decides : (x y : K) → Decid
   part xs k = filter (λ x. same k (key x)) xs
 
   abbrev pub keys : List A → List K
-  keys xs = distinct same (map key xs)
+  keys xs = distinct_of same (map key xs)
 
   part-of-key : (xs : List A) (k : K) → Contains (map key xs) k → part xs k ≢ []
   part-of-key [] k h = absurd (contains-nil k h)

@@ -5,11 +5,11 @@ use Rattle.std.specs.List.Sorted.{IsPermutation}
 use Rattle.std.proofs.lemmas.List.Elements.{All-map, All-weaker}
 use Rattle.std.proofs.lemmas.List.Folds.{flat_map-map}
 use Rattle.std.proofs.lemmas.List.Sorted.{IsPermutation-trans}
-use Rattle.trace_model.specs.Spans.{Resource, Scope, EndedSpan}
-use Rattle.trace_model.specs.Export.{ScopeGroup, ResourceGroup, resource_eq, scope_eq, grouped, groups}
+use Rattle.span_model.specs.Spans.{Resource, Scope, EndedSpan}
+use Rattle.export_model.specs.Export.{ScopeGroup, ResourceGroup, resource_eq, scope_eq, groups_by, groups}
 use Rattle.trace_laws.specs.Grouping.{spans_of, is_of, first_of_resource, first_of_scope}
 use Rattle.trace_laws.proofs.Lists.{all-pairs-map, distinct-apart, distinct-in_order, place-filter, filter-filter}
-use Rattle.trace_model.proofs.Equalities.{resource_eq-Decides, scope_eq-Decides}
+use Rattle.export_model.proofs.Equalities.{resource_eq-Decides, scope_eq-Decides}
 use Rattle.trace_laws.proofs.Parts.{part, keys, not-nothing, flat_map-permutes, parts-not-empty, keys-not-empty, parts-permute}
 
 -- ---- the groups as maps of keys
@@ -43,7 +43,7 @@ map-map f g [] = refl
 map-map f g (x ∷ xs) = ap (λ l. f (g x) ∷ l) (map-map f g xs)
 
 groups-are : (spans : List EndedSpan) → groups spans ≡ map (resource_group spans) (resources spans)
-unfolding groups grouped
+unfolding groups groups_by
 groups-are spans = map-map _ _ (resources spans)
 
 -- what holds of these holds of the groups

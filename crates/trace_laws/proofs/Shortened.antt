@@ -5,7 +5,7 @@ use Rattle.std.specs.Str.{all_scalars}
 use Rattle.std.proofs.lemmas.List.{map-id}
 use Rattle.std.proofs.lemmas.List.Elements.{recursion_from_All}
 use Rattle.std.proofs.lemmas.Str.{chars-encodes}
-use Rattle.trace_model.specs.Attributes.{Value, text, bool, int, texts, bools, ints, first_chars, cut}
+use Rattle.span_model.specs.Attributes.{Value, text, bool, int, texts, bools, ints, first_chars, cut}
 use Rattle.trace_laws.specs.Keeping.{HasNoText}
 
 first-of : (n : ℕ) (cs : List ℕ) → all_scalars cs ≡ true → first_chars (Some n) (encode_utf8_all cs) ≡ encode_utf8_all (take n cs)

@@ -1,9 +1,9 @@
--- Ended spans, grouped by resource and by scope. (opentelemetry-proto, trace.proto: ResourceSpans, ScopeSpans; that each
--- is there once, the order, and equality by all fields: profile)
+-- Ended spans, grouped by resource and by scope. (opentelemetry-proto, trace.proto: ResourceSpans,
+-- ScopeSpans; that each is there once, the order, and equality by all fields: profile)
 use Rattle.std.specs.Prelude.{◌≡◌, ◌≢◌, ◌↔◌, ℕ, ◌<◌, List, [], filter, flat_map, Bool, ◌&&◌, IsTrue, All, AllPairs, IsPermutation}
 use Rattle.std.specs.List.{position_or_len}
-use Rattle.trace_model.specs.Spans.{Resource, Scope, EndedSpan}
-use Rattle.trace_model.specs.Export.{ResourceGroup, resource_eq, scope_eq, groups}
+use Rattle.span_model.specs.Spans.{Resource, Scope, EndedSpan}
+use Rattle.export_model.specs.Export.{ResourceGroup, resource_eq, scope_eq, groups}
 
 -- the spans of the groups, in order
 abbrev pub spans_of : List ResourceGroup → List EndedSpan
@@ -39,7 +39,9 @@ EachSpanIsGrouped = (spans : List EndedSpan) → IsPermutation spans (spans_of (
 
 -- A group's spans are those with its resource and scope, in their order.
 abbrev pub GroupsAreOfOneScope : Type 0
-GroupsAreOfOneScope = (spans : List EndedSpan) → All (λ g. All (λ h. h.items ≡ filter (is_of g.key h.key) spans) g.items) (groups spans)
+GroupsAreOfOneScope =
+    (spans : List EndedSpan)
+    → All (λ g. All (λ h. h.items ≡ filter (is_of g.key h.key) spans) g.items) (groups spans)
 
 -- No two groups have the same resource.
 abbrev pub EachResourceIsOnce : Type 0
@@ -47,16 +49,25 @@ EachResourceIsOnce = (spans : List EndedSpan) → AllPairs (λ g h. g.key ≢ h.
 
 -- Under a resource each scope is there once.
 abbrev pub EachScopeIsOnce : Type 0
-EachScopeIsOnce = (spans : List EndedSpan) → All (λ g. AllPairs (λ h i. h.key ≢ i.key) g.items) (groups spans)
+EachScopeIsOnce =
+    (spans : List EndedSpan) → All (λ g. AllPairs (λ h i. h.key ≢ i.key) g.items) (groups spans)
 
 -- Each resource has a scope, and each scope a span.
 abbrev pub NoGroupIsEmpty : Type 0
-NoGroupIsEmpty = (spans : List EndedSpan) → All (λ g. (g.items ≢ []) × All (λ h. h.items ≢ []) g.items) (groups spans)
+NoGroupIsEmpty =
+    (spans : List EndedSpan)
+    → All (λ g. (g.items ≢ []) × All (λ h. h.items ≢ []) g.items) (groups spans)
 
 -- Resources stand in the order of their first spans.
 abbrev pub ResourcesAreInOrder : Type 0
-ResourcesAreInOrder = (spans : List EndedSpan) → AllPairs (λ g h. first_of_resource g.key spans < first_of_resource h.key spans) (groups spans)
+ResourcesAreInOrder =
+    (spans : List EndedSpan)
+    → AllPairs (λ g h. first_of_resource g.key spans < first_of_resource h.key spans) (groups spans)
 
 -- So do the scopes under a resource.
 abbrev pub ScopesAreInOrder : Type 0
-ScopesAreInOrder = (spans : List EndedSpan) → All (λ g. AllPairs (λ h i. first_of_scope g.key h.key spans < first_of_scope g.key i.key spans) g.items) (groups spans)
+ScopesAreInOrder =
+    (spans : List EndedSpan)
+    → All (λ g.
+    AllPairs (λ h i. first_of_scope g.key h.key spans < first_of_scope g.key i.key spans) g.items)
+    (groups spans)

@@ -1,4 +1,5 @@
-//! Laws of the model of tracing: what holds of attributes, calls on a span and groups of spans, whatever they are.
+//! Laws of the model of tracing: what holds of attributes, calls on a span and groups of spans,
+//! whatever they are.
 #![tactic(auto)]
 
 ghost use Rattle.trace_laws.specs.Rows.{OneRow};
@@ -6,13 +7,15 @@ ghost use Rattle.trace_laws.specs.Keeping.{FirstKeysAreKept, AtMostTheLimitIsKep
 ghost use Rattle.trace_laws.specs.Calls.{FirstEventsAreKept, FirstLinksAreKept, OkIsFinal, UnsetIsIgnored, LastErrorCounts, StatusBeginsUnset, LastNameCounts, NameBeginsAsGiven, CallsBehindTheEndAreIgnored, FirstEndCounts};
 ghost use Rattle.trace_laws.specs.Grouping.{ResourceEqDecides, ScopeEqDecides, EachSpanIsGrouped, GroupsAreOfOneScope, EachResourceIsOnce, EachScopeIsOnce, NoGroupIsEmpty, ResourcesAreInOrder, ScopesAreInOrder};
 
-/// Some bytes are cut into fields in one way at most. (Protocol Buffers, Encoding: Message Structure)
+/// Some bytes are cut into fields in one way at most. (Protocol Buffers, Encoding: Message
+/// Structure)
 pub fn one_row()
     ensures { OneRow }
 {}
 
-/// Of the keys that are set on a list of attributes, the first are kept, up to the limit, in the order of their first
-/// use. An empty key is not kept. What is set later removes no key and moves none. (Common, Attribute Limits)
+/// Of the keys that are set on a list of attributes, the first are kept, up to the limit, in the
+/// order of their first use. An empty key is not kept. What is set later removes no key and moves
+/// none. (Common, Attribute Limits)
 pub fn keys_are_kept()
     ensures first { FirstKeysAreKept }
     ensures at_most { AtMostTheLimitIsKept }
@@ -24,14 +27,14 @@ pub fn keys_are_kept()
     ensures stay { MorePairsKeepTheKeys }
 {}
 
-/// A key that is kept has the value that was set last, cut to the limit of its texts. (Trace API, Set Attributes;
-/// Common, Attribute Limits)
+/// A key that is kept has the value that was set last, cut to the limit of its texts. (Trace API,
+/// Set Attributes; Common, Attribute Limits)
 pub fn last_value_counts()
     ensures { LastPairCounts }
 {}
 
-/// Where texts have a limit, a value keeps the first characters of each of its texts, and any other value stays.
-/// (Common, Attribute Limits)
+/// Where texts have a limit, a value keeps the first characters of each of its texts, and any other
+/// value stays. (Common, Attribute Limits)
 pub fn texts_are_cut()
     ensures text { TextIsCut }
     ensures each_text { EachTextIsCut }
@@ -39,20 +42,23 @@ pub fn texts_are_cut()
     ensures no_limit { NoLimitCutsNothing }
 {}
 
-/// The pairs whose key is kept and the count of dropped ones add up to the pairs that were set under a key that isn't
-/// empty, and the count stops at the greatest number of 32 bits. (Common, Attribute Limits; the greatest count: profile)
+/// The pairs whose key is kept and the count of dropped ones add up to the pairs that were set
+/// under a key that isn't empty, and the count stops at the greatest number of 32 bits. (Common,
+/// Attribute Limits; the greatest count: profile)
 pub fn dropped_pairs_are_counted()
     ensures capped { OthersAreDropped }
     ensures exact { KeptAndDroppedAddUp }
 {}
 
-/// The first events and links are kept, up to the limit, and the others are counted. (Trace SDK, Span Limits)
+/// The first events and links are kept, up to the limit, and the others are counted. (Trace SDK,
+/// Span Limits)
 pub fn first_events_and_links_are_kept()
     ensures events { FirstEventsAreKept }
     ensures links { FirstLinksAreKept }
 {}
 
-/// Ok is final, Unset changes nothing, and without Ok the last Error counts. (Trace API, Set Status)
+/// Ok is final, Unset changes nothing, and without Ok the last Error counts. (Trace API, Set
+/// Status)
 pub fn status_laws()
     ensures ok { OkIsFinal }
     ensures unset { UnsetIsIgnored }
@@ -78,9 +84,9 @@ pub fn equality_laws()
     ensures scope { ScopeEqDecides }
 {}
 
-/// Each span is in the group of its resource and scope, in order, and in no other; no group is empty; a resource has
-/// one group, and a scope one in it. Groups stand in the order of their first spans. (opentelemetry-proto, trace.proto:
-/// ResourceSpans, ScopeSpans; the order: profile)
+/// Each span is in the group of its resource and scope, in order, and in no other; no group is
+/// empty; a resource has one group, and a scope one in it. Groups stand in the order of their first
+/// spans. (opentelemetry-proto, trace.proto: ResourceSpans, ScopeSpans; the order: profile)
 pub fn groups_are_the_spans()
     ensures all { EachSpanIsGrouped }
     ensures same { GroupsAreOfOneScope }

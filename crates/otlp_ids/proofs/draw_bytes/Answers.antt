@@ -20,11 +20,11 @@ returns-then-is_any_set g c =
     let valid = sym c.is_any_set.ensures ∙ c.if-is_any_set.true in
     let first = drawn-first (g.row.N / 8) c.draws.draw _ _ c.draws.invariant.failed c.draws-test.true now.0 valid in
     let spent = rw (← first.1) at now.1 in
-    record { value = sym first.0; valid = valid; spent = spent; left = rw spent (words_of-after_words _ _) }
+    record { value = sym first.0; valid = valid; spent = record { stream = spent; words = rw spent (words_of-after_words _ _) } }
 
 pub returns : goal.returns
 returns g c =
     let all : c.draws.draw ≡ 8 = omega arith in
     let none = drawn-none (g.row.N / 8) _ (λ k below. c.draws.invariant.failed k (omega arith)) in
     let spent = rw (all, ← none.1) at c.draws.invariant.rest in
-    record { value = sym none.0; valid = tt; spent = spent; left = rw spent (words_of-after_words _ _) }
+    record { value = sym none.0; valid = tt; spent = record { stream = spent; words = rw spent (words_of-after_words _ _) } }

@@ -1,8 +1,8 @@
 //! Fields of messages, appended to a vector (Protocol Buffers, "Encoding").
 ghost use Rattle.std.specs.Prelude.{◌≡◌, ◌++◌, ◌<◌, ◌^◌, OnOk, pos};
-ghost use Rattle.trace_model.specs.Wire;
-ghost use Rattle.trace_model.specs.Tables;
-ghost use Rattle.trace_model.specs.Canon.{field_bytes};
+ghost use Rattle.message_model.specs.Wire;
+ghost use Rattle.message_model.specs.Tables;
+ghost use Rattle.message_model.specs.Canon.{field_bytes};
 ghost use Rattle.otlp_proto.specs.Encode.{Puts};
 
 use otlp_ids::OutOfMemory;

@@ -1,7 +1,8 @@
-//! Events, links and the status of a span (opentelemetry-proto, trace.proto: Span.Event, Span.Link, Status).
+//! Events, links and the status of a span (opentelemetry-proto, trace.proto: Span.Event, Span.Link,
+//! Status).
 ghost use Rattle.std.specs.Prelude.{◌≡◌, ◌<◌, ◌^◌, IfOk, OnOk, map, pos};
-ghost use Rattle.trace_model.specs.Tables;
-ghost use Rattle.trace_model.specs.Export as model;
+ghost use Rattle.message_model.specs.Tables;
+ghost use Rattle.export_model.specs.Export as model;
 ghost use Rattle.otlp_span.specs.Parts.{event_view, link_view, status_view};
 ghost use Rattle.otlp_proto.specs.Encode.{Puts, IsWritten};
 
@@ -13,7 +14,8 @@ use std::alloc::Allocator;
 
 /// The message of an event.
 fn encode_event<A: Allocator + Copy>(alloc: A, event: &Event<A>) -> Result<Vec<u8, A>, OutOfMemory>
-    ensures { IfOk result (λ v. IsWritten Tables.event (model.event_message (event_view event.now)) v.items) }
+    ensures { IfOk result
+        (λ v. IsWritten Tables.event (model.event_message (event_view event.now)) v.items) }
 {
     let mut out = Vec::new(alloc);
     put_fixed64(&mut out, 1, event.timestamp)?;
@@ -24,6 +26,7 @@ fn encode_event<A: Allocator + Copy>(alloc: A, event: &Event<A>) -> Result<Vec<u
 }
 
 /// Appends events, each as a field of this number.
+#[tactic(auto, using(crate::proofs::Writing::none_yet))]
 pub fn put_events<A: Allocator + Copy>(
     alloc: A,
     out: &mut Vec<u8, A>,
@@ -43,7 +46,8 @@ pub fn put_events<A: Allocator + Copy>(
 
 /// The message of a link.
 fn encode_link<A: Allocator + Copy>(alloc: A, link: &Link<A>) -> Result<Vec<u8, A>, OutOfMemory>
-    ensures { IfOk result (λ v. IsWritten Tables.link (model.link_message (link_view link.now)) v.items) }
+    ensures { IfOk result
+        (λ v. IsWritten Tables.link (model.link_message (link_view link.now)) v.items) }
 {
     let mut out = Vec::new(alloc);
     let context = &link.span_context;
@@ -56,6 +60,7 @@ fn encode_link<A: Allocator + Copy>(alloc: A, link: &Link<A>) -> Result<Vec<u8, 
 }
 
 /// Appends links, each as a field of this number.
+#[tactic(auto, using(crate::proofs::Writing::none_yet))]
 pub fn put_links<A: Allocator + Copy>(
     alloc: A,
     out: &mut Vec<u8, A>,
@@ -75,7 +80,8 @@ pub fn put_links<A: Allocator + Copy>(
 
 /// The description of an error; another status has none.
 fn status_message<A: Allocator>(status: &Status<A>) -> &str
-    ensures { let message = model.status_message (status_view status.now) in result.now ≡ message.0 }
+    ensures { let message = model.status_message (status_view status.now) in
+        result.now ≡ message.0 }
 {
     match status {
         Status::Unset | Status::Ok => "",
@@ -85,7 +91,8 @@ fn status_message<A: Allocator>(status: &Status<A>) -> &str
 
 /// The number of a status in the protocol.
 fn status_code<A: Allocator>(status: &Status<A>) -> u8
-    ensures { let message = model.status_message (status_view status.now) in pos result ≡ message.1.0 }
+    ensures { let message = model.status_message (status_view status.now) in
+        pos result ≡ message.1.0 }
 {
     match status {
         Status::Unset => 0,
@@ -99,7 +106,8 @@ fn encode_status<A: Allocator + Copy>(
     alloc: A,
     status: &Status<A>,
 ) -> Result<Vec<u8, A>, OutOfMemory>
-    ensures { IfOk result (λ v. IsWritten Tables.status (model.status_message (status_view status.now)) v.items) }
+    ensures { IfOk result
+        (λ v. IsWritten Tables.status (model.status_message (status_view status.now)) v.items) }
 {
     let mut out = Vec::new(alloc);
     put_text(&mut out, 2, status_message(status))?;
@@ -115,7 +123,7 @@ pub fn put_status<A: Allocator + Copy>(
     status: &Status<A>,
 ) -> Result<(), OutOfMemory>
     requires { number < 2 ^ 29 }
-    ensures { OnOk result (Puts number (Tables.optional Tables.status)
+    ensures { OnOk result (Puts number (Tables.message Tables.status)
         (model.status_message (status_view status.now)) out.old.items out.new.items) }
 {
     let message = encode_status(alloc, status)?;

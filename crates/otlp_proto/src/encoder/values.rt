@@ -1,8 +1,8 @@
 //! Attributes and their values (opentelemetry-proto, common.proto: KeyValue, AnyValue, ArrayValue).
 ghost use Rattle.std.specs.Prelude.{◌<◌, ◌^◌, IfOk, OnOk, map, string_bytes};
-ghost use Rattle.trace_model.specs.AnyValue;
-ghost use Rattle.trace_model.specs.Tables;
-ghost use Rattle.trace_model.specs.Export as model;
+ghost use Rattle.message_model.specs.AnyValue;
+ghost use Rattle.message_model.specs.Tables;
+ghost use Rattle.export_model.specs.Export as model;
 ghost use Rattle.otlp_value.specs.Value.{value_view, attribute_view, attributes_view};
 ghost use Rattle.otlp_proto.specs.Encode.{Puts, IsWritten, PutsMember, IsArray};
 
@@ -74,13 +74,15 @@ fn encode_ints<A: Allocator + Copy>(alloc: A, numbers: &[i64]) -> Result<Vec<u8,
     Ok(out)
 }
 
-/// Appends the one member that a value has, also where that is the default. An empty array is one without values.
+/// Appends the one member that a value has, also where that is the default. An empty array is one
+/// without values.
 fn put_member<A: Allocator + Copy>(
     alloc: A,
     out: &mut Vec<u8, A>,
     value: &Value<A>,
 ) -> Result<(), OutOfMemory>
-    ensures { OnOk result (PutsMember 2 (model.value_message (value_view value.now)) out.old.items out.new.items) }
+    ensures { OnOk result
+        (PutsMember 2 (model.value_message (value_view value.now)) out.old.items out.new.items) }
 {
     match value {
         Value::Text(text) => put_string_value(out, text.as_str()),
@@ -119,6 +121,7 @@ fn encode_key_value<A: Allocator + Copy>(
 }
 
 /// Appends attributes, each as a field of this number.
+#[tactic(auto, using(crate::proofs::Writing::none_yet))]
 pub fn put_attributes<A: Allocator + Copy>(
     alloc: A,
     out: &mut Vec<u8, A>,

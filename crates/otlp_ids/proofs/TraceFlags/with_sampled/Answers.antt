@@ -1,6 +1,5 @@
-use Rattle.std.proofs.Common.{◌≡◌, ◌+◌, ◌-◌, ◌*◌, ◌/◌, ◌%◌, ◌≤◌, ◌<◌, bit_and, bit_or, arith, rules}
+use Rattle.std.proofs.Common.{◌≡◌, ◌+◌, ◌-◌, ◌*◌, ◌/◌, ◌%◌, bit_and, bit_or, arith, rules}
 use Rattle.std.proofs.lemmas.Nat.Bits.{and_high_mask, and_high_mask_twice, or_low_ones}
-use Rattle.trace_model.specs.Identifiers.{with_sampled_flag}
 use Rattle.otlp_ids.proofs.TraceFlags.with_sampled.Goals as goal
 
 pub returns-then-sampled : goal.returns-then-sampled

@@ -1,6 +1,6 @@
 use Rattle.std.proofs.Common.{map, take}
-use Rattle.trace_model.specs.Tables
-use Rattle.trace_model.specs.Export.{span_message}
+use Rattle.message_model.specs.Tables
+use Rattle.export_model.specs.Export.{span_message}
 use Rattle.otlp_proto.specs.Encode.{Puts}
 use Rattle.otlp_proto.proofs.encoder.encode_scope_spans.Given as goal
 

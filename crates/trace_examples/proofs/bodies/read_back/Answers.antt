@@ -1,13 +1,13 @@
 use Rattle.std.proofs.Common.{refl}
 use Rattle.trace_examples.specs.Hex.{hex}
 use Rattle.trace_examples.specs.Read.{read}
-use Rattle.trace_examples.specs.Samples.{ended}
+use Rattle.trace_examples.specs.Samples.{ended_span_of}
 use Rattle.trace_examples.specs.Written.{body, request_with}
-use Rattle.trace_model.specs.Export.{grouped_triples}
+use Rattle.export_model.specs.Export.{grouped_triples}
 use Rattle.trace_examples.proofs.bodies.read_back.Goals as goal
 
 pub returns : goal.returns
-unfolding hex ended body request_with read grouped_triples
+unfolding hex ended_span_of body request_with read grouped_triples
 returns c = record {
   no_spans = record { request = refl; triples = refl };
   one_span = record { request = refl; triples = refl };

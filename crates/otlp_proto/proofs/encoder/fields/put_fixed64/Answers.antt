@@ -1,5 +1,5 @@
 use Rattle.std.proofs.Common.{◌*◌, ◌+◌, refl}
-use Rattle.trace_model.specs.Wire
+use Rattle.message_model.specs.Wire
 use Rattle.otlp_proto.proofs.Writing.{tagged, some-fixed64, no-fixed64}
 use Rattle.otlp_proto.proofs.encoder.fields.put_fixed64.Goals as goal
 

@@ -1,5 +1,5 @@
 use Rattle.std.proofs.Common.{◌*◌, arith}
-use Rattle.trace_model.specs.Wire
+use Rattle.message_model.specs.Wire
 use Rattle.otlp_proto.proofs.Writing.{on-ok, tagged}
 use Rattle.otlp_proto.proofs.encoder.fields.put_varint.Goals as goal
 

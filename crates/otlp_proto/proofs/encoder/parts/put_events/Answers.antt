@@ -1,13 +1,10 @@
-use Rattle.trace_model.specs.Export.{event_message}
+use Rattle.export_model.specs.Export.{event_message}
 use Rattle.otlp_span.specs.Parts.{event_view}
-use Rattle.otlp_proto.proofs.Writing.{none-yet, one-more, put-message, through-index-2}
+use Rattle.otlp_proto.proofs.Writing.{message-more}
 use Rattle.otlp_proto.proofs.encoder.parts.put_events.Goals as goal
-
-pub loop-event-init : goal.loop-event-init
-loop-event-init g c = none-yet _
 
 pub loop-event-preserved : goal.loop-event-preserved
 loop-event-preserved g c =
     let message = rw c.as_slice.ensures.value at c.in_ok-put_len.ensures in
-    rw (through-index-2 event_message event_view c.args.events.now c.loop-event.event-index c.event-item.result c.loop-event-test.true c.event-item.is)
-    (one-more c.loop-event.invariant (put-message c.in_ok-message.ensures message))
+    message-more event_message event_view c.args.events.now c.loop-event.event-index c.event-item.result c.loop-event-test.true c.event-item.is
+    c.loop-event.invariant c.in_ok-message.ensures message

@@ -1,5 +1,5 @@
 use Rattle.std.proofs.Common.{false, take_all}
-use Rattle.trace_model.specs.AnyValue.{AnyValue}
+use Rattle.message_model.specs.AnyValue.{AnyValue}
 use Rattle.otlp_proto.proofs.Writing.{through-item}
 use Rattle.otlp_proto.proofs.Values.{no-values, value-more}
 use Rattle.otlp_proto.proofs.encoder.values.encode_bools.Goals as goal

@@ -1,5 +1,5 @@
 use Rattle.std.proofs.Common.{map, take}
-use Rattle.trace_model.specs.AnyValue.{AnyValue}
+use Rattle.message_model.specs.AnyValue.{AnyValue}
 use Rattle.otlp_proto.specs.Encode.{PutsValues}
 use Rattle.otlp_proto.proofs.encoder.values.encode_bools.Given as goal
 

@@ -1,7 +1,7 @@
 use Rattle.std.proofs.Common.{pos, get_or, to_z-of_z, take_all, rules}
 use Rattle.std.specs.Int.{w64}
 use mir.Val.{SFits}
-use Rattle.trace_model.specs.AnyValue.{AnyValue}
+use Rattle.message_model.specs.AnyValue.{AnyValue}
 use Rattle.otlp_proto.proofs.Writing.{through-item}
 use Rattle.otlp_proto.proofs.Values.{no-values, value-more}
 use Rattle.otlp_proto.proofs.encoder.values.encode_ints.Goals as goal

@@ -1,5 +1,5 @@
 use Rattle.std.proofs.Common.{take_all, string_bytes}
-use Rattle.trace_model.specs.AnyValue.{AnyValue}
+use Rattle.message_model.specs.AnyValue.{AnyValue}
 use Rattle.otlp_proto.proofs.Writing.{through-index-2}
 use Rattle.otlp_proto.proofs.Values.{no-values, value-more}
 use Rattle.otlp_proto.proofs.encoder.values.encode_texts.Goals as goal

@@ -1,6 +1,6 @@
 use Rattle.std.proofs.Common.{take}
-use Rattle.trace_model.specs.Tables
-use Rattle.trace_model.specs.Export.{attribute_messages}
+use Rattle.message_model.specs.Tables
+use Rattle.export_model.specs.Export.{attribute_messages}
 use Rattle.otlp_value.specs.Value.{attributes_view}
 use Rattle.otlp_proto.specs.Encode.{Puts}
 use Rattle.otlp_proto.proofs.encoder.values.put_attributes.Given as goal

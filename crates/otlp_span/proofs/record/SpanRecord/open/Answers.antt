@@ -1,12 +1,14 @@
-use Rattle.std.proofs.Common.{◌≡◌, refl, ap, ◌∙◌, []}
-use Rattle.trace_model.specs.Attributes.{attribute_list}
-use Rattle.trace_model.specs.Spans.{Event, Link, attribute_limits, span}
-use Rattle.trace_model.proofs.Calls.{first-none}
-use Rattle.otlp_span.specs.Parts.{limits_view}
+use Rattle.std.proofs.Common.{◌≡◌, sym, ap, ◌∙◌, []}
+use Rattle.std.specs.Arc.{arc_value}
+use Rattle.span_model.specs.Attributes.{attribute_list}
+use Rattle.span_model.specs.Spans.{Recording, Span, attribute_limits}
+use Rattle.otlp_span.specs.Parts.{limits_view, resource_view, scope_view, start_view}
+use Rattle.otlp_span.proofs.Recorded.{span-none}
 use Rattle.otlp_span.proofs.record.SpanRecord.open.Goals as goal
 
 pub returns : goal.returns
-unfolding span
 returns g c =
-    let list : c.new.result ≡ attribute_list (attribute_limits (limits_view c.args.limits.now)) [] = c.new.ensures ∙ ap (λ l. attribute_list l []) c.of_span.ensures in
-    rw (c.in_ok-body.ensures.ok, list, c.new-2.ensures.items, c.new-3.ensures.items, first-none {A = Event} c.args.limits.now.max_events_per_span, first-none {A = Link} c.args.limits.now.max_links_per_span) refl
+    let limits = limits_view c.args.limits.now in
+    let list : c.new.result ≡ attribute_list (attribute_limits limits) [] = c.new.ensures ∙ ap (λ l. attribute_list l []) c.of_span.ensures in
+    let made : Span → Recording = λ s. record { limits = limits; resource = resource_view (arc_value c.args.opening.resource); scope = scope_view (arc_value c.args.opening.scope); span = s } in
+    rw (c.in_ok-body.ensures.ok, list, c.new-2.ensures, c.new-3.ensures) (ap made (sym (span-none limits (start_view c.args.opening))))

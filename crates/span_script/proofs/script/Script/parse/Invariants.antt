@@ -1,6 +1,6 @@
 use Rattle.std.proofs.Common.{◌≡◌}
-use Rattle.span_script.specs.Scripts.{Script, no_script}
-use Rattle.span_script.specs.Drafts.{Holds}
+use Rattle.span_script.specs.Scripts.{Script}
+use Rattle.span_script.specs.Drafts.{Holds, no_script}
 use Rattle.span_script.proofs.Loop.{rest_read}
 use Rattle.span_script.proofs.script.Script.parse.Given as goal
 

@@ -1,17 +1,8 @@
-use Rattle.std.proofs.Common.{refl}
-use Rattle.otlp_ids.specs.SpanContext.{context_view}
-use Rattle.trace_api.proofs.Read.{on-ok}
-use Rattle.trace_api.proofs.Held.{does-recorded, does-nothing, not-recorded}
+use Rattle.trace_api.proofs.Read.{on-err, recording-with, said-with}
 use Rattle.trace_api.proofs.span.Span.add_link.Goals as goal
 
-pub returns-in_default : goal.returns-in_default
-returns-in_default g c = record {
-  ok = rw (← c.self.view_is) (does-nothing _ (context_view c.self.inside.context) _ refl (not-recorded c.self.inside.state c.in_default.not-Recording));
-  ignored = λ e. c.self.view_is;
-  err = tt;
-  refused_only_where_kept = tt;
-  says_something = tt;
-}
+pub returns-clause-refused_only_where_kept : goal.returns-clause-refused_only_where_kept
+returns-clause-refused_only_where_kept g c = on-err c.record_call.result (recording-with c.args.self.now.state (λ r kept. kept.room)) c.record_call.ensures.refused_only_where_kept
 
-pub returns-clause-ok : goal.returns-clause-ok
-returns-clause-ok g c = rw (← c.self.view_is, c.in-Recording.is) (on-ok c.add_link.result (λ a. does-recorded _ (context_view c.self.inside.context) _ _ refl a) c.add_link.ensures.ok)
+pub returns-clause-says_something : goal.returns-clause-says_something
+returns-clause-says_something g c = on-err c.record_call.result (said-with c.args.self.now.state (λ r kept. kept.counts)) c.record_call.ensures.refused_only_where_kept

@@ -1,0 +1,131 @@
+//! Starts, passes and calls on scarce memory.
+use crate::spans::{
+    ADDING, END, PARENT_TRACE, WORDS, call, context, provider, scope, start, words,
+};
+use linked_list_allocator::LocalHeap;
+use otlp_ids::{OutOfMemory, SpanContext};
+use otlp_sampler::AlwaysOn;
+use otlp_span::SpanData;
+use rand_core::Rng;
+use std::alloc::Allocator;
+use std::process::Abort;
+use std::test::Fail;
+use trace_api::{BodyPass, Ended, Span, StartFault};
+
+/// Starts a child on scarce memory, and answers whether that was refused. Its word is spent in both
+/// cases.
+fn is_start_refused<A: Allocator + Copy>(
+    rt: &impl Abort,
+    ample: A,
+    scarce: A,
+) -> Result<bool, StartFault> {
+    let provider = provider(ample, AlwaysOn)?;
+    let tracer = provider.tracer(scope(ample)?);
+    let parent = context(ample, 2)?;
+    let mut words = words(ample, &[WORDS[2], 6])?;
+    let refused = match start(&tracer, scarce, &mut words, Some(&parent), ample) {
+        Ok(span) => {
+            assert_eq!(rt; span.context().trace, PARENT_TRACE);
+            false
+        }
+        Err(fault) => {
+            assert_eq!(rt; fault, StartFault::OutOfMemory);
+            true
+        }
+    };
+    assert_eq!(rt; words.next_u64(), 6);
+    Ok(refused)
+}
+
+/// That memory which is there is taken is said by no contract: a `start` that always answers
+/// `OutOfMemory` keeps its own. It is refused here, where the largest heaps are ample.
+#[test]
+fn a_refused_start_has_spent_its_words(rt: HostRuntime) -> Result<(), Fail> {
+    let ample = LocalHeap::new(rt.alloc(), 4096)?;
+    let mut refused = 0u32;
+    for size in (0..1_000usize).step_by(4) {
+        let scarce = LocalHeap::new(rt.alloc(), size)?;
+        if is_start_refused(&rt, &ample, &scarce)? {
+            refused = refused.saturating_add(1);
+        }
+        assert_eq!(rt; (ample.used(), scarce.used()), (0, 0), "{size}");
+    }
+    assert!(rt; refused > 25 && refused < 225, "{refused}");
+    Ok(())
+}
+
+/// Whether a pass for so many spans is refused on scarce memory.
+fn is_pass_refused<A: Allocator + Copy>(scarce: A, room: usize) -> bool {
+    BodyPass::new(scarce, room).is_err()
+}
+
+#[test]
+fn a_pass_without_room_takes_no_memory(rt: HostRuntime) -> Result<(), Fail> {
+    let mut refused = 0u32;
+    for size in (0..400usize).step_by(8) {
+        let scarce = LocalHeap::new(rt.alloc(), size)?;
+        if is_pass_refused(&scarce, 4) {
+            refused = refused.saturating_add(1);
+        }
+        assert!(rt; !is_pass_refused(&scarce, 0));
+    }
+    assert!(rt; refused > 2 && refused < 48, "{refused}");
+    Ok(())
+}
+
+/// Makes the calls on a span that lies on scarce memory, and answers how many were kept. `None`
+/// where it didn't start.
+fn count_kept<A: Allocator + Copy>(
+    rt: &impl Abort,
+    ample: A,
+    scarce: A,
+) -> Result<Option<usize>, OutOfMemory> {
+    let mut pass = BodyPass::new(ample, 1)?;
+    let Ok(mut span) = start_scarce(ample, scarce) else {
+        return Ok(None);
+    };
+    let mut kept = 0usize;
+    for number in 0..ADDING {
+        if span.call(&mut pass, call(ample, number)?).is_ok() {
+            kept = kept.saturating_add(1);
+        }
+    }
+    assert_eq!(rt; span.end(&mut pass, END), Ended::Queued(0));
+    let spans = pass.spans();
+    assert_eq!(rt; spans.len(), 1);
+    assert_eq!(rt; count_items(&spans[0]), kept);
+    Ok(Some(kept))
+}
+
+/// Starts a root on scarce memory.
+fn start_scarce<A: Allocator + Copy>(ample: A, scarce: A) -> Result<Span<A>, StartFault> {
+    let provider = provider(ample, AlwaysOn)?;
+    let tracer = provider.tracer(scope(ample)?);
+    let mut words = words(ample, &WORDS)?;
+    let root: Option<SpanContext<A>> = None;
+    start(&tracer, scarce, &mut words, root.as_ref(), ample)
+}
+
+/// How many attributes, events and links a span has.
+fn count_items<A: Allocator>(span: &SpanData<A>) -> usize {
+    let added = span.events().len().saturating_add(span.links().len());
+    span.attributes().len().saturating_add(added)
+}
+
+#[test]
+fn what_is_refused_is_not_kept(rt: HostRuntime) -> Result<(), Fail> {
+    let ample = LocalHeap::new(rt.alloc(), 8192)?;
+    let (mut none, mut some, mut all) = (0u32, 0u32, 0u32);
+    for size in (0..4_000usize).step_by(8) {
+        let scarce = LocalHeap::new(rt.alloc(), size)?;
+        match count_kept(&rt, &ample, &scarce)? {
+            None => {}
+            Some(0) => none = none.saturating_add(1),
+            Some(4) => all = all.saturating_add(1),
+            Some(_) => some = some.saturating_add(1),
+        }
+        assert_eq!(rt; (ample.used(), scarce.used()), (0, 0), "{size}");
+    }
+    assert!(rt; none > 0 && some > 0 && all > 0, "{none} {some} {all}");
+    Ok(())
+}

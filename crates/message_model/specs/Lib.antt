@@ -1,0 +1,9 @@
+pub mod Reading
+pub mod Wire
+pub mod AnyValue
+pub mod Tables
+pub mod Messages
+pub mod Canon
+pub mod Spelling
+pub mod Whole
+pub mod Laws

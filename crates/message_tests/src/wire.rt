@@ -1,0 +1,110 @@
+//! Payloads of fields, with the bytes that Protocol Buffers' documentation writes for them.
+
+use linked_list_allocator::LocalHeap;
+use otlp_ids::OutOfMemory;
+use otlp_wire::{varint_size, write_fixed32, write_fixed64, write_len, write_varint};
+use std::alloc::{Allocator, Global};
+use std::process::Abort;
+use std::test::Fail;
+
+#[test]
+fn counts_varints(rt: HostRuntime) {
+    let sizes: [(u64, usize); 8] = [
+        (0, 1),
+        (127, 1),
+        (128, 2),
+        (16_383, 2),
+        (16_384, 3),
+        (9_223_372_036_854_775_807, 9),
+        (9_223_372_036_854_775_808, 10),
+        (18_446_744_073_709_551_615, 10),
+    ];
+    for (value, size) in sizes {
+        assert_eq!(rt; varint_size(value), size, "of {value}");
+    }
+}
+
+/// A payload that is written.
+#[derive(Clone, Copy, Debug)]
+enum Payload {
+    Varint(u64),
+    Fixed64(u64),
+    Fixed32(u32),
+    Len(&'static [u8]),
+}
+
+fn write<A: Allocator>(payload: Payload, out: &mut Vec<u8, A>) -> Result<(), OutOfMemory> {
+    match payload {
+        Payload::Varint(value) => write_varint(out, value),
+        Payload::Fixed64(value) => write_fixed64(out, value),
+        Payload::Fixed32(value) => write_fixed32(out, value),
+        Payload::Len(bytes) => write_len(out, bytes),
+    }
+}
+
+#[test]
+fn appends_each_payload(rt: HostRuntime) -> Result<(), Fail> {
+    let mut out = Vec::new(rt.alloc());
+    for payload in [
+        Payload::Varint(150),
+        Payload::Varint(0),
+        Payload::Varint(300),
+        Payload::Varint(u64::MAX),
+        Payload::Fixed64(1),
+        Payload::Fixed32(1),
+        Payload::Len(b"testing"),
+        Payload::Len(b""),
+    ] {
+        write(payload, &mut out)?;
+    }
+    let varints = b"\x96\x01\x00\xac\x02\xff\xff\xff\xff\xff\xff\xff\xff\xff\x01";
+    let others = b"\x01\0\0\0\0\0\0\0\x01\0\0\0\x07testing\0";
+    assert!(rt; out.as_slice().starts_with(varints), "{out:?}");
+    assert!(rt; out.as_slice().ends_with(others), "{out:?}");
+    assert_eq!(rt; out.len(), varints.len() + others.len());
+    Ok(())
+}
+
+// Whether the writer got its memory, on a heap of so many bytes, or nothing where not even the
+// bytes before it fit. What stood there stands.
+fn grows(
+    rt: &impl Abort,
+    alloc: Global,
+    payload: Payload,
+    size: usize,
+) -> Result<Option<bool>, OutOfMemory> {
+    let heap = LocalHeap::new(alloc, size)?;
+    let Ok(mut out) = Vec::from_slice(&heap, b"what stood before") else {
+        return Ok(None);
+    };
+    let written = write(payload, &mut out).is_ok();
+    assert!(rt;
+        out.as_slice().starts_with(b"what stood before"),
+        "{payload:?} at {size}"
+    );
+    assert_eq!(rt; out.len() > 17, written, "{payload:?} at {size}");
+    Ok(Some(written))
+}
+
+#[test]
+fn is_unchanged_where_memory_is_refused(rt: HostRuntime) -> Result<(), Fail> {
+    for payload in [
+        Payload::Varint(u64::MAX),
+        Payload::Fixed64(1),
+        Payload::Fixed32(1),
+        Payload::Len(b"testing"),
+    ] {
+        let mut refused = 0u32;
+        let mut written = 0u32;
+        for size in 0..200usize {
+            match grows(&rt, rt.alloc(), payload, size)? {
+                Some(true) => written = written.saturating_add(1),
+                Some(false) => refused = refused.saturating_add(1),
+                None => {}
+            }
+        }
+        assert!(rt; refused > 0, "{payload:?} was never refused");
+        assert!(rt; written > 0, "{payload:?} never wrote");
+    }
+    Ok(())
+}

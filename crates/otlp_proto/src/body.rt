@@ -1,0 +1,38 @@
+//! The bodies of OTLP/HTTP trace exports.
+ghost use Rattle.std.specs.Prelude.{◌≡◌, ◌≢◌, ◌≤◌, ◌<◌, [], IfOk, IsErrOf, OnOk, length};
+ghost use Rattle.message_model.specs.Reading.{Reads};
+ghost use Rattle.message_model.specs.Messages.{body_meaning};
+ghost use Rattle.export_model.specs.Export as model;
+ghost use Rattle.otlp_proto.specs.Group.{SharePlace};
+
+use crate::encoder::{EncodeFault, encode};
+use crate::groups::group;
+use otlp_span::SpanData;
+use std::alloc::Allocator;
+
+/// The body of the request that exports these spans, grouped by resource and scope. It has at most
+/// `max` bytes. Today all spans have to share one resource and one scope: `share_place` tells
+/// whether they do.
+///
+/// # Errors
+///
+/// `OutOfMemory` where memory was refused; without spans none is taken. `TooLarge` where the body
+/// has more than `max` bytes: it is made before it is measured, so want of memory is told first.
+pub fn body_of<A: Allocator + Copy>(
+    alloc: A,
+    spans: &[SpanData<A>],
+    max: usize,
+) -> Result<Vec<u8, A>, EncodeFault>
+    requires { SharePlace spans.now }
+    ensures meaning { IfOk result
+        (λ body. Reads (body_meaning body.items) (model.grouped_triples spans.now)) }
+    ensures length { IfOk result
+        (λ body. length body.items ≡ model.body_length (model.groups spans.now)) }
+    ensures within { OnOk result (model.body_length (model.groups spans.now) ≤ max) }
+    ensures too_large { IsErrOf result EncodeFault.TooLarge
+        → max < model.body_length (model.groups spans.now) }
+    ensures refused { IsErrOf result EncodeFault.OutOfMemory → spans.now ≢ [] }
+{
+    let groups = group(alloc, spans)?;
+    encode(alloc, groups.as_slice(), max)
+}

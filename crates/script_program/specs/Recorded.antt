@@ -1,0 +1,43 @@
+-- The spans that a script ends.
+use Rattle.std.specs.Prelude.{ℕ, List, [], slice_index, unwrap_or}
+use Rattle.span_model.specs.Attributes.{attributes}
+use Rattle.span_model.specs.Spans as model
+use Rattle.span_model.specs.Sampling.{SamplerMeaning, always_on, always_off, as_parent}
+use Rattle.span_model.specs.Identifiers.{Words}
+use Rattle.history_model.specs.History.{Setup, ended_spans}
+use Rattle.span_model.specs.Spans.{default_limits}
+use Rattle.span_script.specs.Scripts.{Script, all_kept}
+use Rattle.span_script.specs.declared.sampler.SamplerName.{SamplerName}
+use Rattle.span_script.specs.declared.sampler.SamplerName.TheVariants.{AlwaysOn, AlwaysOff, ParentBased}
+
+-- what a sampler of this name decides; one by the parent asks the sampler that is always on about
+-- roots (Trace SDK, Built-in samplers)
+abbrev pub meaning_of : SamplerName → SamplerMeaning
+meaning_of AlwaysOn = always_on
+meaning_of AlwaysOff = always_off
+meaning_of ParentBased = as_parent always_on
+
+-- the words of a script, and zeros behind them
+abbrev pub words_of_list : List ℕ → Words
+words_of_list words k = slice_index words k
+
+-- what a script sets on its resource
+abbrev pub resource_of : Script → model.Resource
+resource_of s = record { attributes = (attributes all_kept s.resource).items; schema = [] }
+
+-- What a script has before its first step. Where it names no sampler all spans are sampled, and
+-- where it sets no limits they are the standard's. (Trace SDK, Span Limits)
+abbrev pub setup_of : Script → Setup
+setup_of s = record {
+  words = words_of_list s.words;
+  provider = record {
+    sampler = meaning_of (unwrap_or s.sampler AlwaysOn);
+    resource = resource_of s;
+    limits = unwrap_or s.limits default_limits;
+  };
+  scopes = s.scopes;
+}
+
+-- the spans that a script ends, in the order of their ends
+abbrev pub spans_of : Script → List model.EndedSpan
+spans_of s = ended_spans (setup_of s) s.steps

@@ -1,0 +1,157 @@
+//! The program `trace-script`, over readers and writers.
+ghost use Rattle.std.specs.Prelude.{◌≡◌, ◌≤◌, ◌⊎◌, ◌++◌, ◌∷◌, [], Bool, false, ℕ, IfOk, IfErr, IfSome, IsErrOf, OnErr, OnOk, string_bytes};
+ghost use Rattle.std.specs.Io.KnownBytes.{Appends, IsAtEnd, Keeps};
+ghost use Rattle.hex.specs.Hex.{encode_lower};
+ghost use Rattle.script_program.specs.Command.{AskForBody, AskForHelp};
+ghost use Rattle.script_program.specs.Printed.{AppendsStart, Explains, IsBadAt, IsBodyLine, PrintsBody, PrintsStart, Refuses};
+
+use crate::command::{read_words, tell_words};
+use crate::failure::{Failure, tell};
+use crate::recorder::spans_of_script;
+use otlp_ids::OutOfMemory;
+use otlp_proto::body_of;
+use span_script::Script;
+use std::alloc::{Allocator, Global};
+use std::io;
+use std::io::{ErrorKind, Read, Write};
+
+/// The program `trace-script`, whose words are those of its command line, the program's name first.
+/// Where they ask for the body it runs the script of the input, as `script`; nothing is read
+/// before. Where they ask for help it is printed, with the status 0. A mistake is told on `faults`,
+/// with the status 2, and nothing is printed.
+///
+/// The answer is the program's status: 0, or 1 where a read or a write failed, 2 where the words or
+/// a line of the script are bad, 3 where memory was refused.
+pub fn trace_script<R: Read, W: Write, F: Write>(
+    alloc: Global,
+    words: &[String],
+    input: &mut R,
+    output: &mut W,
+    faults: &mut F,
+) -> u8
+    ensures status { result ≤ 3 }
+    ensures asked { result ≡ 0 → AskForBody words.now ⊎ AskForHelp words.now }
+    ensures printed { AskForBody words.now → result ≡ 0
+        → PrintsBody (R.remaining input.old) (W.contents output.old) (W.contents output.new) }
+    ensures consumed { AskForBody words.now → result ≡ 0 → IsAtEnd (R.remaining input.new) }
+    ensures unread { AskForBody words.now ⊎ (input.new ≡ input.old) }
+    ensures untold { result ≡ 0 → Keeps (F.contents faults.old) (F.contents faults.new) }
+    ensures refused { AskForBody words.now → result ≡ 2
+        → (n : ℕ) × IsBadAt (R.remaining input.old) n }
+    ensures failed { AskForBody words.now → result ≡ 1
+        → PrintsStart (R.remaining input.old) (W.contents output.old) (W.contents output.new) }
+    ensures quiet { 2 ≤ result → Keeps (W.contents output.old) (W.contents output.new) }
+{
+    match read_words(alloc, words) {
+        Ok(()) => script(alloc, input, output, faults, true),
+        Err(error) => tell_words(output, faults, &error),
+    }
+}
+
+/// Runs a script and prints, with `body`, the body of the request that exports the sampled spans
+/// which it ends, in the order of their first ends: a line of hexadecimal digits, which is empty
+/// where there is none. Nothing happens before the whole script is read.
+///
+/// The answer is the program's status: 0, or 1 where a read or a write failed, 2 where a line is
+/// bad (told as `line N: bad script` on `faults`; nothing is printed) or `body` is false (there is
+/// nothing else to print yet), 3 where memory was refused (told as `out of memory`). Nothing is
+/// told where it is 0. Where the fault itself can't be told it is 1.
+pub fn script<A: Allocator + Copy, R: Read, W: Write, F: Write>(
+    alloc: A,
+    input: &mut R,
+    output: &mut W,
+    faults: &mut F,
+    body: bool,
+) -> u8
+    ensures status { result ≤ 3 }
+    ensures printed { result ≡ 0
+        → PrintsBody (R.remaining input.old) (W.contents output.old) (W.contents output.new) }
+    ensures consumed { result ≡ 0 → IsAtEnd (R.remaining input.new) }
+    ensures unasked { body ≡ false → (result ≡ 2) ⊎ (result ≡ 1) }
+    ensures untold { result ≡ 0 → Keeps (F.contents faults.old) (F.contents faults.new) }
+    ensures refused { result ≡ 2 → Refuses body (R.remaining input.old) }
+    ensures failed { result ≡ 1
+        → PrintsStart (R.remaining input.old) (W.contents output.old) (W.contents output.new) }
+    ensures quiet { 2 ≤ result → Keeps (W.contents output.old) (W.contents output.new) }
+{
+    let line = match body_line(alloc, input, body) {
+        Ok(line) => line,
+        Err(failure) => return tell(faults, &failure),
+    };
+    let printed = print(output, line.as_bytes());
+    if printed.is_err() {
+        return tell(faults, &Failure::Write);
+    }
+    0
+}
+
+/// The line that is printed: the body of the script's spans in hexadecimal digits, and the end of
+/// the line.
+fn body_line<A: Allocator + Copy, R: Read>(
+    alloc: A,
+    input: &mut R,
+    body: bool,
+) -> Result<String<A>, Failure>
+    ensures line { IfOk result (λ line. IsBodyLine (R.remaining input.old) (string_bytes line)) }
+    ensures fault { IfErr result (Explains body (R.remaining input.old)) }
+    ensures unasked { body ≡ false → IsErrOf result Failure.NoBody }
+    ensures consumed { OnOk result (IsAtEnd (R.remaining input.new)) }
+{
+    if !body {
+        return Err(Failure::NoBody);
+    }
+    let text = read_all(alloc, input)?;
+    let script = match Script::parse(alloc, text.as_slice()) {
+        Ok(script) => script,
+        Err(error) => return Err(Failure::Script(error)),
+    };
+    let pass = spans_of_script(alloc, script)?;
+    let body = body_of(alloc, pass.spans(), usize::MAX)?;
+    Ok(hex_line(alloc, body.as_slice())?)
+}
+
+/// Bytes in hexadecimal digits, and the end of the line.
+fn hex_line<A: Allocator>(alloc: A, bytes: &[u8]) -> Result<String<A>, OutOfMemory>
+    ensures { IfOk result (λ line. string_bytes line ≡ encode_lower bytes.now ++ 10 ∷ []) }
+{
+    let mut line = hex::encode(alloc, bytes)?;
+    line.push('\n')?;
+    Ok(line)
+}
+
+/// All bytes that the input has left.
+fn read_all<A: Allocator, R: Read>(alloc: A, input: &mut R) -> Result<Vec<u8, A>, Failure>
+    ensures text { IfOk result
+        (λ text. IfSome (R.remaining input.old) (λ bytes. text.items ≡ bytes)) }
+    ensures fault { (asked : Bool) → IfErr result (Explains asked (R.remaining input.old)) }
+    ensures consumed { OnOk result (IsAtEnd (R.remaining input.new)) }
+{
+    let mut text = Vec::new(alloc);
+    match input.read_to_end(&mut text) {
+        Ok(_) => Ok(text),
+        Err(error) if error.kind() == ErrorKind::OutOfMemory => Err(Failure::OutOfMemory),
+        Err(_) => Err(Failure::Read),
+    }
+}
+
+/// Writes a line, and flushes. Where a write fails, a beginning of the line is written.
+fn print<W: Write>(output: &mut W, line: &[u8]) -> io::Result<()>
+    ensures ok { OnOk result
+        (Appends (W.contents output.old) (W.contents output.new) line.now) }
+    ensures err { OnErr result
+        (AppendsStart (W.contents output.old) (W.contents output.new) line.now) }
+{
+    let mut written = 0;
+    'turns: for _ in 0..u64::MAX {
+        if written == line.len() {
+            return output.flush();
+        }
+        match output.write(&line[written..]) {
+            Ok(0) => return Err(io::Error::from(ErrorKind::WriteZero)),
+            Ok(count) => written += count,
+            Err(error) if error.kind() == ErrorKind::Interrupted => {}
+            Err(error) => return Err(error),
+        }
+    }
+    Err(io::Error::from(ErrorKind::Interrupted))
+}

@@ -1,0 +1,12 @@
+//! Tests of the script's language and of its words, over public calls alone. What each line says is
+//! tried by the stored runs of the program, in examples/.
+#![tactic(auto)]
+
+#[cfg(test)]
+mod large;
+#[cfg(test)]
+mod memory;
+#[cfg(test)]
+mod scripts;
+#[cfg(test)]
+mod words;

@@ -1,0 +1,4 @@
+pub mod Each
+pub mod Numbers
+pub mod Texts
+pub mod Spelled

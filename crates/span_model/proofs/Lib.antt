@@ -1,0 +1,4 @@
+pub mod Lists
+pub mod Setting
+pub mod Calls
+pub mod Live

@@ -1,0 +1,7 @@
+//! Tests of the crate `otlp_span`, over its public calls.
+#![tactic(auto)]
+
+#[cfg(test)]
+mod fixture;
+#[cfg(test)]
+mod replays;

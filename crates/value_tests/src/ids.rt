@@ -1,0 +1,149 @@
+use linked_list_allocator::LocalHeap;
+use otlp_ids::{IdFault, OutOfMemory, SpanContext, SpanId, TraceFlags, TraceId, copy_text};
+use std::alloc::Allocator;
+use std::test::Fail;
+use words_rng::WordsRng;
+
+const TRACE: TraceId = TraceId([1, 2, 3, 4, 5, 6, 7, 8, 9, 10, 11, 12, 13, 14, 15, 16]);
+
+const SPAN: SpanId = SpanId([0xab, 0xcd, 0xef, 0, 0, 0, 0, 0x0f]);
+
+#[test]
+fn identifiers_of_zeros_alone_are_not_valid(rt: HostRuntime) {
+    assert!(rt; !TraceId([0; 16]).is_valid());
+    assert!(rt; TRACE.is_valid());
+    assert!(rt; !SpanId([0; 8]).is_valid());
+    assert!(rt; SPAN.is_valid());
+}
+
+#[test]
+fn ids_are_drawn_high_byte_first_and_zeros_again(rt: HostRuntime) -> Result<(), Fail> {
+    let words = [
+        0,
+        0,
+        0x0102030405060708,
+        0x090a0b0c0d0e0f10,
+        0,
+        0xabcdef000000000f,
+    ];
+    let mut rng = WordsRng::new(Vec::from_slice(rt.alloc(), &words)?);
+    assert_eq!(rt; TraceId::draw(&mut rng), Ok(TRACE));
+    assert_eq!(rt; SpanId::draw(&mut rng), Ok(SPAN));
+    assert_eq!(rt; TraceId::draw(&mut rng), Err(IdFault::NoRandomness));
+    assert_eq!(rt; SpanId::draw(&mut rng), Err(IdFault::NoRandomness));
+    Ok(())
+}
+
+#[test]
+fn ids_are_read_in_either_case(rt: HostRuntime) {
+    assert_eq!(rt;
+        TraceId::from_hex("0102030405060708090A0b0C0d0E0f10"),
+        Ok(TRACE)
+    );
+    assert_eq!(rt; SpanId::from_hex("aBcDeF000000000f"), Ok(SPAN));
+}
+
+#[test]
+fn a_length_is_bad_before_a_digit_is(rt: HostRuntime) {
+    let long = "0102030405060708090a0b0c0d0e0f10g";
+    assert_eq!(rt; TraceId::from_hex(long), Err(IdFault::BadLength));
+    assert_eq!(rt; SpanId::from_hex("0g"), Err(IdFault::BadLength));
+    let signed = "0x02030405060708090a0b0c0d0e0f10";
+    assert_eq!(rt; TraceId::from_hex(signed), Err(IdFault::BadDigit));
+    assert_eq!(rt; SpanId::from_hex("11121314151617é"), Err(IdFault::BadDigit));
+}
+
+#[test]
+fn ids_are_written_in_lower_case(rt: HostRuntime) {
+    let mut text = [0; 32];
+    TRACE.write_hex(&mut text);
+    assert_eq!(rt; text, *b"0102030405060708090a0b0c0d0e0f10");
+    let mut text = [0; 16];
+    SPAN.write_hex(&mut text);
+    assert_eq!(rt; text, *b"abcdef000000000f");
+}
+
+#[test]
+fn ids_and_flags_are_displayed_in_lower_case(rt: HostRuntime) -> Result<(), Fail> {
+    let told = format!(in rt.alloc(); "{TRACE}-{SPAN}-{}", TraceFlags(0x0b))?;
+    assert_eq!(rt;
+        told.as_str(),
+        "0102030405060708090a0b0c0d0e0f10-abcdef000000000f-0b"
+    );
+    let padded = format!(in rt.alloc(); "{SPAN:>18}")?;
+    assert_eq!(rt; padded.as_str(), "  abcdef000000000f");
+    Ok(())
+}
+
+#[test]
+fn bit_0_is_the_sampled_flag(rt: HostRuntime) {
+    assert!(rt; TraceFlags(255).sampled());
+    assert!(rt; !TraceFlags(2).sampled());
+    assert_eq!(rt; TraceFlags(2).with_sampled(true), TraceFlags(3));
+    assert_eq!(rt; TraceFlags(255).with_sampled(false), TraceFlags(254));
+}
+
+/// A context from another process, with this trace state.
+fn context<A: Allocator>(alloc: A, state: &str) -> Result<SpanContext<A>, OutOfMemory> {
+    Ok(SpanContext {
+        trace: TRACE,
+        span: SPAN,
+        flags: TraceFlags(3),
+        remote: true,
+        state: String::from_str(alloc, state)?,
+    })
+}
+
+#[test]
+fn copies_a_context(rt: HostRuntime) -> Result<(), Fail> {
+    let alloc = rt.alloc();
+    let whole = context(alloc, "k=v")?;
+    assert!(rt; whole.is_valid());
+    assert_eq!(rt; whole.copy(alloc)?, whole);
+    assert_ne!(rt; whole, context(alloc, "k=w")?);
+    assert_eq!(rt; copy_text(alloc, "café")?.as_str(), "café");
+    Ok(())
+}
+
+/// Whether a copy of a context with this trace state is refused where there is no memory for it.
+fn is_copy_refused<A: Allocator + Copy>(
+    ample: A,
+    scarce: A,
+    state: &str,
+) -> Result<bool, OutOfMemory> {
+    Ok(context(ample, state)?.copy(scarce).is_err())
+}
+
+#[test]
+fn a_context_without_a_state_takes_no_memory(rt: HostRuntime) -> Result<(), Fail> {
+    let ample = LocalHeap::new(rt.alloc(), 1024)?;
+    let none = LocalHeap::new(rt.alloc(), 0)?;
+    let state = "vendor=a state that is longer than the least block";
+    assert!(rt; is_copy_refused(&ample, &none, state)?);
+    assert!(rt; !is_copy_refused(&ample, &none, "")?);
+    Ok(())
+}
+
+#[test]
+fn faults_are_told(rt: HostRuntime) -> Result<(), Fail> {
+    let alloc = rt.alloc();
+    for (fault, text) in [
+        (
+            IdFault::NoRandomness,
+            "no randomness: only zeros were drawn",
+        ),
+        (
+            IdFault::BadLength,
+            "bad length: an identifier has two digits a byte",
+        ),
+        (
+            IdFault::BadDigit,
+            "bad digit: an identifier is written in hexadecimal",
+        ),
+    ] {
+        assert_eq!(rt; format!(in alloc; "{fault}")?.as_str(), text);
+    }
+    let refused = OutOfMemory;
+    assert_eq!(rt; format!(in alloc; "{refused}")?.as_str(), "out of memory");
+    Ok(())
+}

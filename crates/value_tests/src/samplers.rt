@@ -1,0 +1,102 @@
+//! Samplers of the kit.
+ghost use Rattle.std.specs.Prelude.{◌≡◌};
+ghost use Rattle.span_model.specs.Sampling.{valid_parent};
+ghost use Rattle.span_model.specs.Spans.{internal};
+ghost use Rattle.otlp_ids.specs.SpanContext.{parent_view};
+ghost use Rattle.otlp_sampler.specs.Sampling.{decision_view};
+
+use linked_list_allocator::LocalHeap;
+use otlp_ids::{SpanContext, SpanId, TraceFlags, TraceId};
+use otlp_sampler::{AlwaysOff, AlwaysOn, Decision, ParentBased, Sampler};
+use otlp_span::Kind;
+use std::alloc::Allocator;
+use std::test::Fail;
+
+const TRACE: TraceId = TraceId([1; 16]);
+
+/// Asks as whoever starts a span does: an invalid parent counts as none.
+fn ask<S: Sampler, A: Allocator>(
+    sampler: &S,
+    parent: Option<&SpanContext<A>>,
+    name: &str,
+) -> Decision
+    ensures { decision_view result ≡ S.meaning sampler.now (record {
+      parent = valid_parent (parent_view parent.entry);
+      trace = TRACE.0;
+      name = name.now;
+      kind = internal;
+    }) }
+{
+    let valid = parent.filter(|context| context.is_valid());
+    sampler.should_sample(valid, &TRACE, name, Kind::Internal)
+}
+
+fn context<A: Allocator>(alloc: A, span: u8, remote: bool, flags: u8) -> SpanContext<A> {
+    SpanContext {
+        trace: TRACE,
+        span: SpanId([span; 8]),
+        flags: TraceFlags(flags),
+        remote,
+        state: String::new(alloc),
+    }
+}
+
+#[test]
+fn a_decision_is_recording_and_sampled_as_it_says(rt: HostRuntime) {
+    for (decision, recording, sampled) in [
+        (Decision::Drop, false, false),
+        (Decision::RecordOnly, true, false),
+        (Decision::RecordAndSample, true, true),
+    ] {
+        assert_eq!(rt; decision.is_recording(), recording, "{decision:?}");
+        assert_eq!(rt; decision.is_sampled(), sampled, "{decision:?}");
+    }
+}
+
+#[test]
+fn a_child_is_as_its_parent_and_a_root_as_its_sampler_says(rt: HostRuntime) {
+    let sampler = ParentBased::new(AlwaysOff);
+    let parent = context(rt.alloc(), 1, true, 3);
+    assert_eq!(rt;
+        ask(&sampler, Some(&parent), "a"),
+        Decision::RecordAndSample
+    );
+    let invalid = context(rt.alloc(), 0, false, 1);
+    assert_eq!(rt; ask(&sampler, Some(&invalid), "a"), Decision::Drop);
+    let root = ParentBased::new(AlwaysOn);
+    assert_eq!(rt; ask(&root, Some(&invalid), "a"), Decision::RecordAndSample);
+}
+
+#[test]
+fn a_parent_may_stand_in_any_memory(rt: HostRuntime) -> Result<(), Fail> {
+    let heap = LocalHeap::new(rt.alloc(), 0)?;
+    let parent = context(&heap, 1, true, 1);
+    let sampler = ParentBased::new(AlwaysOff);
+    assert_eq!(rt;
+        ask(&sampler, Some(&parent), "a"),
+        Decision::RecordAndSample
+    );
+    Ok(())
+}
+
+#[test]
+fn each_of_the_five_decides_for_its_own_parents(rt: HostRuntime) {
+    let sampler = ParentBased {
+        root: AlwaysOff,
+        remote_parent_sampled: AlwaysOff,
+        remote_parent_not_sampled: AlwaysOn,
+        local_parent_sampled: AlwaysOff,
+        local_parent_not_sampled: AlwaysOn,
+    };
+    for (remote, flags, decision) in [
+        (true, 1, Decision::Drop),
+        (true, 254, Decision::RecordAndSample),
+        (false, 255, Decision::Drop),
+        (false, 0, Decision::RecordAndSample),
+    ] {
+        let parent = context(rt.alloc(), 1, remote, flags);
+        assert_eq!(rt; ask(&sampler, Some(&parent), "a"), decision, "{flags}");
+    }
+    let root: Option<SpanContext> = None;
+    assert_eq!(rt; ask(&sampler, root.as_ref(), "a"), Decision::Drop);
+}
