@@ -39,7 +39,7 @@ meaning s = meaning_of s.0
 abbrev pub tracers_of : {S : Type 0} → ProviderWith S → List Scope → List (TracerWith S)
 tracers_of provider scopes = map (λ scope. record { provider = provider; scope = scope }) scopes
 
--- the span of this outcome after these calls
+-- the span that a start came to, after these calls
 abbrev pub span_after : List Call → StartResult → Option HeldSpan
 span_after calls o = option_map (λ s. held_span s calls) o.span
 
@@ -59,7 +59,7 @@ pub record Stands {A : Type 0} (setup : Setup) (done later : List Step)
   }
   pub bound : start_count (done ++ later) < 2 ^ 64
 
--- the span of an outcome, and the words that are left behind it
+-- the span that a start came to, and the words that are left behind it
 pub record ComesTo (o : StartResult) (before after : List ℕ) (span : Option HeldSpan) : Type 0 where
   pub words : words_of (stream after) ≡ words_after o.spent (words_of (stream before))
   pub span_is : span ≡ span_after [] o

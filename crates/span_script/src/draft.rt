@@ -128,7 +128,8 @@ impl<A: Allocator + Copy> Draft<A> {
     /// Goes on with the limits of spans.
     #[tactic(auto, unfolding(crate::specs::Drafts::with_line))]
     fn set_limits(&mut self, values: SpanLimits) -> Result<(), WordFault>
-        ensures { Follows (λ s. with_line s (limits (limits_view values))) self.old self.new result }
+        ensures { Follows (λ s. with_line s (limits (limits_view values)))
+            self.old self.new result }
     {
         if self.has_steps() || self.has_limits() {
             return Err(WordFault::Bad);

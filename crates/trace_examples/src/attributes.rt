@@ -35,7 +35,8 @@ pub fn length_limit()
     // Two of three e with an acute accent, which take two bytes each.
     ensures two_of_three { kept 9 (Some 2) (pair "a" (text (hex "c3 a9 c3 a9 c3 a9")) ∷ []) ≡
         record { items = pair "a" (text (hex "c3 a9 c3 a9")) ∷ []; dropped = 0 } }
-    ensures each_of_an_array { kept 9 (Some 1) (pair "a" (texts (codes "xy" ∷ codes "z" ∷ [] ∷ [])) ∷ []) ≡
+    ensures each_of_an_array { kept 9 (Some 1)
+        (pair "a" (texts (codes "xy" ∷ codes "z" ∷ [] ∷ [])) ∷ []) ≡
         record { items = pair "a" (texts (codes "x" ∷ codes "z" ∷ [] ∷ [])) ∷ []; dropped = 0 } }
     // Keys and other values stay as they are.
     ensures nothing_else { kept 9 (Some 0) (pair "key" (int (pos 12)) ∷ []) ≡
@@ -50,7 +51,8 @@ pub fn in_spans()
         set "a" (int (pos 4)) ∷ set "c" (int (pos 5)) ∷ []) ≡
         plain_span ++
         hex "4a 07 0a 01 61 12 02 18 04" ++ hex "4a 07 0a 01 62 12 02 18 02" ++ hex "50 02" }
-    ensures no_room { limited_bytes (record default_limits { attributes = 0 }) (set "a" (int (pos 1)) ∷ []) ≡
+    ensures no_room { limited_bytes (record default_limits { attributes = 0 })
+        (set "a" (int (pos 1)) ∷ []) ≡
         plain_span ++ hex "50 01" }
     // The text xy cut to one character.
     ensures cut_text { limited_bytes (record default_limits { value_length = Some 1 })

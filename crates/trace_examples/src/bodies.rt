@@ -128,7 +128,8 @@ pub fn lengths()
     ensures one_span_with_attribute { length (body (span_a (set "a" (text []) ∷ []) ∷ [])) ≡ 73 }
     ensures two_equal_spans { length (body (span_a [] ∷ span_a [] ∷ [])) ≡ 117 }
     ensures parent_and_child { length (body (span_a [] ∷ span_b "" ∷ [])) ≡ 127 }
-    ensures two_scopes { length (body (span_in no_resource scope_s ∷ span_in no_resource scope_t ∷ [])) ≡
+    ensures two_scopes { length
+        (body (span_in no_resource scope_s ∷ span_in no_resource scope_t ∷ [])) ≡
         131 }
 {}
 
@@ -159,12 +160,13 @@ pub fn carried_spans()
         span_b "" ∷ []) ≡
         triple (span_a []) ∷ triple (span_b "") ∷ triple (span_in no_resource scope_t) ∷ [] }
     // Each has both schema URLs, the resource's and the scope's.
-    ensures schemas { triple (span_in (record no_resource { schema = codes "r" }) scope_t) ≡ record {
-      resource = resource_of [];
-      resource_schema = codes "r";
-      scope = codes "t" ▸ codes "1" ▸ [] ▸ 0 ▸ tt;
-      scope_schema = codes "u";
-      span = trace_id ▸ span_id ▸ [] ▸ [] ▸ codes "a" ▸ pos 1 ▸ 1 ▸ 2 ▸
-          [] ▸ 0 ▸ [] ▸ 0 ▸ [] ▸ 0 ▸ status_of "" 0 ▸ tt;
-    } }
+    ensures schemas { triple (span_in (record no_resource { schema = codes "r" }) scope_t) ≡
+        record {
+          resource = resource_of [];
+          resource_schema = codes "r";
+          scope = codes "t" ▸ codes "1" ▸ [] ▸ 0 ▸ tt;
+          scope_schema = codes "u";
+          span = trace_id ▸ span_id ▸ [] ▸ [] ▸ codes "a" ▸ pos 1 ▸ 1 ▸ 2 ▸
+              [] ▸ 0 ▸ [] ▸ 0 ▸ [] ▸ 0 ▸ status_of "" 0 ▸ tt;
+        } }
 {}

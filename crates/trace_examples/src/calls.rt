@@ -76,7 +76,8 @@ pub fn events()
 #[tactic(auto, unfolding(crate::specs::Hex::hex, crate::specs::Written::span_bytes, crate::specs::Written::limited_bytes))]
 pub fn exceptions()
     // Type E and message m at 2, without a stack trace: an event of 69 bytes.
-    ensures without_stack_trace { span_bytes (record_exception (codes "E") (codes "m") [] 2 [] ∷ []) ≡
+    ensures without_stack_trace { span_bytes
+        (record_exception (codes "E") (codes "m") [] 2 [] ∷ []) ≡
         plain_span ++
         hex "5a 45 09 02 00 00 00 00 00 00 00 12 09" ++ codes "exception" ++
         hex "1a 15 0a 0e" ++ codes "exception.type" ++ hex "12 03 0a 01 45" ++
@@ -95,7 +96,8 @@ pub fn exceptions()
         hex "1a 07 0a 01 61 12 02 18 00" }
     // Its own attributes are under the limits of every event: type EE, cut to one character, and
     // message m.
-    ensures limited { limited_bytes (record default_limits { event_attributes = 1; value_length = Some 1 })
+    ensures limited { limited_bytes
+        (record default_limits { event_attributes = 1; value_length = Some 1 })
         (record_exception (codes "EE") (codes "m") [] 2 [] ∷ []) ≡
         plain_span ++
         hex "5a 2d 09 02 00 00 00 00 00 00 00 12 09" ++ codes "exception" ++

@@ -102,20 +102,25 @@ pub fn depths()
     // A text at depth 64 is looked into: it is not UTF-8.
     ensures text_at_64 { faults (attribute_body (in_arrays 63 (hex "0a 01 ff"))) ≡ bad_utf8 ∷ [] }
     // A pair without a value.
-    ensures absent_value_at_65 { faults (attribute_body (in_arrays 63 (hex "32 05 0a 03 0a 01 61"))) ≡ [] }
+    ensures absent_value_at_65 { faults
+        (attribute_body (in_arrays 63 (hex "32 05 0a 03 0a 01 61"))) ≡ [] }
     // A pair with a value that has no member.
-    ensures empty_value_at_65 { faults (attribute_body (in_arrays 63 (hex "32 07 0a 05 0a 01 61 12 00"))) ≡
+    ensures empty_value_at_65 { faults
+        (attribute_body (in_arrays 63 (hex "32 07 0a 05 0a 01 61 12 00"))) ≡
         too_deep ∷ [] }
     // A value that breaks off.
-    ensures value_of_any_bytes_at_65 { faults (attribute_body (in_arrays 63 (hex "2a 03 0a 01 80"))) ≡
+    ensures value_of_any_bytes_at_65 { faults
+        (attribute_body (in_arrays 63 (hex "2a 03 0a 01 80"))) ≡
         too_deep ∷ [] }
     ensures two_values_at_65 { faults (attribute_body (in_arrays 63 (hex "2a 04 0a 00 0a 00"))) ≡
         too_deep ∷ too_deep ∷ [] }
     // The parts of a value are joined, so that it is one fault.
-    ensures value_in_two_parts_at_65 { faults (attribute_body (in_arrays 63 (hex "32 06 0a 04 12 00 12 00"))) ≡
+    ensures value_in_two_parts_at_65 { faults
+        (attribute_body (in_arrays 63 (hex "32 06 0a 04 12 00 12 00"))) ≡
         too_deep ∷ [] }
     // An array of one value, and behind it the number 1: the array does not count.
-    ensures array_that_does_not_count { faults (attribute_body (in_arrays 63 (hex "2a 02 0a 00 18 01"))) ≡ [] }
+    ensures array_that_does_not_count { faults
+        (attribute_body (in_arrays 63 (hex "2a 02 0a 00 18 01"))) ≡ [] }
 {}
 
 /// Attributes under limits, and calls on a span (OpenTelemetry Common, "Attribute Limits"; Trace

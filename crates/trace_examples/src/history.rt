@@ -25,14 +25,16 @@ pub fn outcomes()
         (begun_in scope_t "b" 6 (local_context trace_id child_id 1 "")
         (Some span_id) record_and_sample) ∷ [] }
     // A span is a parent also after its end, and where it was dropped. A call takes no word.
-    ensures child_of_an_ended_span { outcomes_by (as_parent always_off) (root_words ++ child_word ∷ [])
+    ensures child_of_an_ended_span { outcomes_by (as_parent always_off)
+        (root_words ++ child_word ∷ [])
         (begin 0 root 5 "a" ∷ call 0 (Call.end 6) ∷ begin 0 (numbered 0) 7 "b" ∷ []) ≡
         gives 3 (begun_in scope_s "a" 5 (local_context trace_id span_id 0 "") None sampling.drop) ∷
         gives 1
         (begun_in scope_s "b" 7 (local_context trace_id child_id 0 "")
         (Some span_id) sampling.drop) ∷ [] }
     // A parent of elsewhere, and one that is invalid.
-    ensures given_parent { outcomes_by always_on (span_word ∷ []) (begin 0 (given (parent_with true 2)) 5 "a" ∷ []) ≡
+    ensures given_parent { outcomes_by always_on (span_word ∷ [])
+        (begin 0 (given (parent_with true 2)) 5 "a" ∷ []) ≡
         gives 1
         (begun_in scope_s "a" 5 (local_context parent_trace span_id 3 "k=v")
         (Some parent_id) record_and_sample) ∷ [] }

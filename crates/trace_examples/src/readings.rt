@@ -32,7 +32,8 @@ pub fn fields()
     // The greatest number that a field may have.
     ensures greatest_number { read (hex "f8 ff ff ff 0f 00") ≡ done no_spans }
     // The parts of a message are joined: a resource in two, and between them a span without fields.
-    ensures resource_in_two_parts { read (hex "0a 12 0a 05 0a 03 0a 01 61 12 02 12 00 0a 05 0a 03 0a 01 62") ≡
+    ensures resource_in_two_parts { read
+        (hex "0a 12 0a 05 0a 03 0a 01 61 12 02 12 00 0a 05 0a 03 0a 01 62") ≡
         done (request_of
         (resource_of (key_value "a" AnyValue.none ∷ key_value "b" AnyValue.none ∷ []))
         (scope_named "") (span_named "" ∷ [])) }

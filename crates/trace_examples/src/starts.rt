@@ -83,7 +83,8 @@ pub fn starts()
         Some
         (begun_span (local_context parent_trace span_id 2 "k=v") (Some parent_id) sampling.drop) }
     // A span that is only recorded isn't sampled.
-    ensures recorded_child { started_by (λ _. record_only) (Some (parent_with true 1)) (span_word ∷ []) ≡
+    ensures recorded_child { started_by (λ _. record_only) (Some (parent_with true 1))
+        (span_word ∷ []) ≡
         Some
         (begun_span (local_context parent_trace span_id 0 "k=v") (Some parent_id) record_only) }
     // A parent of which one identifier is all zeros counts as none.
@@ -118,18 +119,22 @@ pub fn samplers()
 /// By default a child is sampled exactly where its parent is. Here a root is dropped.
 #[tactic(auto, unfolding(crate::specs::Hex::hex, crate::specs::Steps::started_by))]
 pub fn default_samplers()
-    ensures remote { started_by (as_parent always_off) (Some (parent_with true 0)) (span_word ∷ []) ≡
+    ensures remote { started_by (as_parent always_off) (Some (parent_with true 0))
+        (span_word ∷ []) ≡
         Some
         (begun_span (local_context parent_trace span_id 0 "k=v") (Some parent_id) sampling.drop) }
-    ensures remote_sampled { started_by (as_parent always_off) (Some (parent_with true 3)) (span_word ∷ []) ≡
+    ensures remote_sampled { started_by (as_parent always_off) (Some (parent_with true 3))
+        (span_word ∷ []) ≡
         Some
         (begun_span (local_context parent_trace span_id 3 "k=v")
         (Some parent_id) record_and_sample) }
-    ensures local_sampled { started_by (as_parent always_off) (Some (parent_with false 1)) (span_word ∷ []) ≡
+    ensures local_sampled { started_by (as_parent always_off) (Some (parent_with false 1))
+        (span_word ∷ []) ≡
         Some
         (begun_span (local_context parent_trace span_id 1 "k=v")
         (Some parent_id) record_and_sample) }
-    ensures local { started_by (as_parent always_off) (Some (parent_with false 2)) (span_word ∷ []) ≡
+    ensures local { started_by (as_parent always_off) (Some (parent_with false 2))
+        (span_word ∷ []) ≡
         Some
         (begun_span (local_context parent_trace span_id 2 "k=v") (Some parent_id) sampling.drop) }
     // An invalid parent: a root, with a new trace and no flag.
@@ -143,7 +148,8 @@ pub fn default_samplers()
 #[tactic(auto, unfolding(crate::specs::Hex::hex, crate::specs::Steps::held_after))]
 pub fn states()
     ensures no_call { (held_after record_and_sample []).state ≡ recorded_root [] 0 }
-    ensures attribute { (held_after record_and_sample (set "a" (int (pos 1)) ∷ set "b" (int (pos 2)) ∷ [])).state ≡
+    ensures attribute { (held_after record_and_sample
+        (set "a" (int (pos 1)) ∷ set "b" (int (pos 2)) ∷ [])).state ≡
         recorded_root (pair "a" (int (pos 1)) ∷ []) 1 }
     ensures only_recorded { (held_after record_only (set "a" (int (pos 1)) ∷ [])).state ≡
         recorded_root (pair "a" (int (pos 1)) ∷ []) 0 }

@@ -54,7 +54,8 @@ pub fn other_kinds()
         hex "21 00 00 00 00 00 00 f0 3f" }
     ensures empty_list { any_value_bytes (AnyValue.pairs no_pairs) ≡ hex "32 00" }
     // The value of a pair is written also where it is none.
-    ensures list_of_pairs { any_value_bytes (AnyValue.pairs (pairs_of (key_value "a" AnyValue.none ∷ []))) ≡
+    ensures list_of_pairs { any_value_bytes
+        (AnyValue.pairs (pairs_of (key_value "a" AnyValue.none ∷ []))) ≡
         hex "32 07 0a 05 0a 01 61 12 00" }
     ensures byte_string { any_value_bytes (AnyValue.bytes (hex "00 ff")) ≡ hex "3a 02 00 ff" }
 {}
