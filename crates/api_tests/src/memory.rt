@@ -1,58 +1,13 @@
 //! Starts, passes and calls on scarce memory.
-use crate::spans::{
-    ADDING, END, PARENT_TRACE, WORDS, call, context, provider, scope, start, words,
-};
+use crate::spans::{ADDING, END, WORDS, call, provider, scope, start, words};
 use linked_list_allocator::LocalHeap;
 use otlp_ids::{OutOfMemory, SpanContext};
 use otlp_sampler::AlwaysOn;
 use otlp_span::SpanData;
-use rand_core::Rng;
 use std::alloc::Allocator;
 use std::process::Abort;
 use std::test::Fail;
 use trace_api::{BodyPass, Ended, Span, StartFault};
-
-/// Starts a child on scarce memory, and answers whether that was refused. Its word is spent in both
-/// cases.
-fn is_start_refused<A: Allocator + Copy>(
-    rt: &impl Abort,
-    ample: A,
-    scarce: A,
-) -> Result<bool, StartFault> {
-    let provider = provider(ample, AlwaysOn)?;
-    let tracer = provider.tracer(scope(ample)?);
-    let parent = context(ample, 2)?;
-    let mut words = words(ample, &[WORDS[2], 6])?;
-    let refused = match start(&tracer, scarce, &mut words, Some(&parent), ample) {
-        Ok(span) => {
-            assert_eq!(rt; span.context().trace, PARENT_TRACE);
-            false
-        }
-        Err(fault) => {
-            assert_eq!(rt; fault, StartFault::OutOfMemory);
-            true
-        }
-    };
-    assert_eq!(rt; words.next_u64(), 6);
-    Ok(refused)
-}
-
-/// That memory which is there is taken is said by no contract: a `start` that always answers
-/// `OutOfMemory` keeps its own. It is refused here, where the largest heaps are ample.
-#[test]
-fn a_refused_start_has_spent_its_words(rt: HostRuntime) -> Result<(), Fail> {
-    let ample = LocalHeap::new(rt.alloc(), 4096)?;
-    let mut refused = 0u32;
-    for size in (0..1_000usize).step_by(4) {
-        let scarce = LocalHeap::new(rt.alloc(), size)?;
-        if is_start_refused(&rt, &ample, &scarce)? {
-            refused = refused.saturating_add(1);
-        }
-        assert_eq!(rt; (ample.used(), scarce.used()), (0, 0), "{size}");
-    }
-    assert!(rt; refused > 25 && refused < 225, "{refused}");
-    Ok(())
-}
 
 /// Whether a pass for so many spans is refused on scarce memory.
 fn is_pass_refused<A: Allocator + Copy>(scarce: A, room: usize) -> bool {
@@ -97,7 +52,8 @@ fn count_kept<A: Allocator + Copy>(
     Ok(Some(kept))
 }
 
-/// Starts a root on scarce memory.
+/// Starts a root on scarce memory. That memory which is there is taken is said by no contract: a
+/// `start` that always answers `OutOfMemory` keeps its own, and would show here.
 fn start_scarce<A: Allocator + Copy>(ample: A, scarce: A) -> Result<Span<A>, StartFault> {
     let provider = provider(ample, AlwaysOn)?;
     let tracer = provider.tracer(scope(ample)?);
