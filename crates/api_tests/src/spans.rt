@@ -1,9 +1,10 @@
 //! What the tests start spans with.
-use otlp_ids::{OutOfMemory, SpanContext, SpanId, TraceFlags, TraceId};
+use otlp_ids::{SpanContext, SpanId, TraceFlags, TraceId};
 use otlp_sampler::Sampler;
 use otlp_span::{Kind, Resource, Scope, SpanCall, SpanLimits, Status};
 use otlp_value::Value;
 use std::alloc::Allocator;
+use std::process::Abort;
 use std::sync::Arc;
 use trace_api::{Provider, Span, StartFault, Tracer};
 use words_rng::WordsRng;
@@ -23,79 +24,83 @@ pub const START: u64 = 1_000;
 
 pub const END: u64 = 2_000;
 
-pub fn text<A: Allocator>(alloc: A, text: &str) -> Result<String<A>, OutOfMemory> {
-    Ok(String::from_str(alloc, text)?)
+pub fn text<A: Allocator>(rt: &impl Abort, alloc: A, text: &str) -> String<A> {
+    String::from_str(alloc, text).expect(rt, "memory")
 }
 
-pub fn words<A: Allocator>(alloc: A, words: &[u64]) -> Result<WordsRng<A>, OutOfMemory> {
-    Ok(WordsRng::new(Vec::from_slice(alloc, words)?))
+pub fn words<A: Allocator>(rt: &impl Abort, alloc: A, words: &[u64]) -> WordsRng<A> {
+    WordsRng::new(Vec::from_slice(alloc, words).expect(rt, "memory"))
 }
 
 /// A resource without attributes.
-fn resource<A: Allocator + Copy>(alloc: A) -> Result<Arc<Resource<A>, A>, OutOfMemory> {
+fn resource<A: Allocator + Copy>(rt: &impl Abort, alloc: A) -> Arc<Resource<A>, A> {
     let resource = Resource {
         attributes: Vec::new(alloc),
-        schema_url: text(alloc, "urn:resource")?,
+        schema_url: text(rt, alloc, "urn:resource"),
     };
-    Ok(Arc::new(alloc, resource)?)
+    Arc::new(alloc, resource).expect(rt, "memory")
 }
 
 /// A scope of the name `library`.
-pub fn scope<A: Allocator + Copy>(alloc: A) -> Result<Arc<Scope<A>, A>, OutOfMemory> {
+pub fn scope<A: Allocator + Copy>(rt: &impl Abort, alloc: A) -> Arc<Scope<A>, A> {
     let scope = Scope {
-        name: text(alloc, "library")?,
+        name: text(rt, alloc, "library"),
         version: String::new(alloc),
         attributes: Vec::new(alloc),
         schema_url: String::new(alloc),
     };
-    Ok(Arc::new(alloc, scope)?)
+    Arc::new(alloc, scope).expect(rt, "memory")
 }
 
 /// A provider whose spans keep one attribute.
 pub fn provider<S: Sampler + Drop, A: Allocator + Copy>(
+    rt: &impl Abort,
     alloc: A,
     sampler: S,
-) -> Result<Provider<S, A>, OutOfMemory> {
+) -> Provider<S, A> {
     let limits = SpanLimits {
         max_attributes_per_span: 1,
         ..SpanLimits::default()
     };
-    Ok(Provider::new(sampler, resource(alloc)?, limits))
+    Provider::new(sampler, resource(rt, alloc), limits)
 }
 
 /// The context of a remote parent, with these flags and the trace state `k=v`.
-pub fn context<A: Allocator>(alloc: A, flags: u8) -> Result<SpanContext<A>, OutOfMemory> {
-    Ok(SpanContext {
+pub fn context<A: Allocator>(rt: &impl Abort, alloc: A, flags: u8) -> SpanContext<A> {
+    SpanContext {
         trace: PARENT_TRACE,
         span: PARENT,
         flags: TraceFlags(flags),
         remote: true,
-        state: text(alloc, "k=v")?,
-    })
+        state: text(rt, alloc, "k=v"),
+    }
 }
 
 /// Starts a span of a tracer, on memory from elsewhere than its name.
 pub fn start<S: Sampler, A: Allocator + Copy>(
+    rt: &impl Abort,
     tracer: &Tracer<'_, S, A>,
     alloc: A,
     words: &mut WordsRng<A>,
     parent: Option<&SpanContext<A>>,
     ample: A,
 ) -> Result<Span<A>, StartFault> {
-    let name = text(ample, "GET /")?;
+    let name = text(rt, ample, "GET /");
     tracer.start(alloc, words, parent, name, Kind::Server, START)
 }
 
 /// Starts a root with the identifiers `TRACE` and `SPAN`, which this sampler decides on.
 pub fn start_root<S: Sampler + Drop, A: Allocator + Copy>(
+    rt: &impl Abort,
     alloc: A,
     sampler: S,
-) -> Result<Span<A>, StartFault> {
-    let provider = provider(alloc, sampler)?;
-    let tracer = provider.tracer(scope(alloc)?);
-    let mut words = words(alloc, &WORDS)?;
+) -> Span<A> {
+    let provider = provider(rt, alloc, sampler);
+    let tracer = provider.tracer(scope(rt, alloc));
+    let mut words = words(rt, alloc, &WORDS);
     let root: Option<SpanContext<A>> = None;
-    start(&tracer, alloc, &mut words, root.as_ref(), alloc)
+    let started = start(rt, &tracer, alloc, &mut words, root.as_ref(), alloc);
+    started.expect(rt, "a root starts")
 }
 
 /// How many calls `call` gives that take memory on a span.
@@ -106,32 +111,32 @@ pub const CALLS: u32 = 7;
 
 /// A call by its number: an attribute, an event, an exception and a link, and then an attribute
 /// beyond the limit, a status and a name.
-pub fn call<A: Allocator + Copy>(alloc: A, number: u32) -> Result<SpanCall<A>, OutOfMemory> {
+pub fn call<A: Allocator + Copy>(rt: &impl Abort, alloc: A, number: u32) -> SpanCall<A> {
     match number {
-        0 => Ok(SpanCall::SetAttribute(text(alloc, "a")?, Value::Int(1))),
-        1 => Ok(SpanCall::AddEvent {
-            name: text(alloc, "x")?,
+        0 => SpanCall::SetAttribute(text(rt, alloc, "a"), Value::Int(1)),
+        1 => SpanCall::AddEvent {
+            name: text(rt, alloc, "x"),
             timestamp: 5,
             attributes: Vec::new(alloc),
-        }),
-        2 => exception(alloc),
-        3 => Ok(SpanCall::AddLink {
-            span_context: context(alloc, 1)?,
+        },
+        2 => exception(rt, alloc),
+        3 => SpanCall::AddLink {
+            span_context: context(rt, alloc, 1),
             attributes: Vec::new(alloc),
-        }),
-        4 => Ok(SpanCall::SetAttribute(text(alloc, "b")?, Value::Int(2))),
-        5 => Ok(SpanCall::SetStatus(Status::Error(text(alloc, "x")?))),
-        _ => Ok(SpanCall::UpdateName(text(alloc, "x")?)),
+        },
+        4 => SpanCall::SetAttribute(text(rt, alloc, "b"), Value::Int(2)),
+        5 => SpanCall::SetStatus(Status::Error(text(rt, alloc, "x"))),
+        _ => SpanCall::UpdateName(text(rt, alloc, "x")),
     }
 }
 
 /// An exception of the type `E`.
-fn exception<A: Allocator + Copy>(alloc: A) -> Result<SpanCall<A>, OutOfMemory> {
-    Ok(SpanCall::RecordException {
-        exception_type: text(alloc, "E")?,
-        message: text(alloc, "x")?,
+fn exception<A: Allocator + Copy>(rt: &impl Abort, alloc: A) -> SpanCall<A> {
+    SpanCall::RecordException {
+        exception_type: text(rt, alloc, "E"),
+        message: text(rt, alloc, "x"),
         stacktrace: String::new(alloc),
         timestamp: 6,
         attributes: Vec::new(alloc),
-    })
+    }
 }

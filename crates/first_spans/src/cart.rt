@@ -9,7 +9,8 @@ use std::alloc::Global;
 use std::sync::Arc;
 use trace_kit::{
     AlwaysOn, BodyPass, DEFAULT_MAX_BODY, EncodeFault, Kind, OutOfMemory, ParentBased, Provider,
-    Resource, Scope, SpanLimits, StartFault, Status, Value, WordsRng, body_of, share_place,
+    Resource, Sampler, Scope, Span, SpanLimits, StartFault, Status, Tracer, Value, WordsRng,
+    body_of, share_place,
 };
 
 /// Why there is no body.
@@ -49,6 +50,39 @@ fn text(alloc: Global, text: &str) -> Result<String, OutOfMemory> {
     Ok(String::from_str(alloc, text)?)
 }
 
+/// Records the query that a request for a cart makes.
+fn record_query<S: Sampler>(
+    alloc: Global,
+    tracer: &Tracer<'_, S>,
+    rng: &mut WordsRng,
+    request: &Span,
+    pass: &mut BodyPass,
+) -> Result<(), Fault> {
+    let name = text(alloc, "SELECT")?;
+    let parent = Some(request.context());
+    let mut query = tracer.start(alloc, rng, parent, name, Kind::Client, START + 1_000_000)?;
+    query.set_attribute(text(alloc, "db.rows")?, Value::Int(3))?;
+    query.end(pass, START + 4_000_000);
+    Ok(())
+}
+
+/// Records a request for a cart, and the query that it makes.
+fn record_request<S: Sampler>(
+    alloc: Global,
+    tracer: &Tracer<'_, S>,
+    rng: &mut WordsRng,
+    pass: &mut BodyPass,
+) -> Result<(), Fault> {
+    let name = text(alloc, "GET /cart")?;
+    let mut request = tracer.start(alloc, rng, None, name, Kind::Server, START)?;
+    let method = Value::Text(text(alloc, "GET")?);
+    request.set_attribute(text(alloc, "http.request.method")?, method)?;
+    record_query(alloc, tracer, rng, &request, pass)?;
+    request.set_status(Status::Ok);
+    request.end(pass, START + 5_000_000);
+    Ok(())
+}
+
 /// The body of the request that exports the spans of a request for a cart, and of the query that it
 /// makes.
 fn cart_body(
@@ -63,21 +97,7 @@ fn cart_body(
     let provider = Provider::new(ParentBased::new(AlwaysOn), resource, SpanLimits::default());
     let tracer = provider.tracer(scope);
     let mut pass = BodyPass::new(alloc, 2)?;
-
-    let name = text(alloc, "GET /cart")?;
-    let mut request = tracer.start(alloc, rng, None, name, Kind::Server, START)?;
-    let method = Value::Text(text(alloc, "GET")?);
-    request.set_attribute(text(alloc, "http.request.method")?, method)?;
-
-    let name = text(alloc, "SELECT")?;
-    let parent = Some(request.context());
-    let mut query = tracer.start(alloc, rng, parent, name, Kind::Client, START + 1_000_000)?;
-    query.set_attribute(text(alloc, "db.rows")?, Value::Int(3))?;
-    query.end(&mut pass, START + 4_000_000);
-
-    request.set_status(Status::Ok);
-    request.end(&mut pass, START + 5_000_000);
-
+    record_request(alloc, &tracer, rng, &mut pass)?;
     if !share_place(pass.spans()) {
         return Err(Fault::Places);
     }

@@ -8,11 +8,27 @@ use otlp_span::{Resource, Scope, SpanData, SpanLimits};
 use otlp_value::Value;
 use std::alloc::{Allocator, Global};
 use std::process::Abort;
-use std::test::Fail;
 
 /// A span named `a` in the scope `s`, from the moment 1 to the moment 2.
-fn plain_span<A: Allocator + Copy>(alloc: A) -> Result<SpanData<A>, OutOfMemory> {
-    Ok(open(alloc, &SpanLimits::default())?.close(2))
+fn plain_span<A: Allocator + Copy>(rt: &impl Abort, alloc: A) -> SpanData<A> {
+    open(rt, alloc, &SpanLimits::default()).close(2)
+}
+
+/// Asserts that a body is this one, in hexadecimal digits.
+fn assert_body<A: Allocator + Copy>(
+    rt: &impl Abort,
+    alloc: A,
+    body: Result<Vec<u8, A>, EncodeFault>,
+    digits: &str,
+) {
+    let body = body.expect(rt, "a body");
+    let written = hex::encode(alloc, body.as_slice()).expect(rt, "memory");
+    assert_eq!(rt; written.as_str(), digits);
+}
+
+/// Asserts that a body is refused, since it is too large.
+fn assert_too_large<A: Allocator>(rt: &impl Abort, body: Result<Vec<u8, A>, EncodeFault>) {
+    assert_eq!(rt; body.err(), Some(EncodeFault::TooLarge));
 }
 
 const TWO_SPANS: &str = concat!(
@@ -26,44 +42,42 @@ const TWO_SPANS: &str = concat!(
 );
 
 #[test]
-fn exports_two_spans_of_one_scope(rt: HostRuntime) -> Result<(), Fail> {
+fn exports_two_spans_of_one_scope(rt: HostRuntime) {
     let alloc = rt.alloc();
-    let spans = [plain_span(alloc)?, plain_span(alloc)?];
+    let spans = [plain_span(&rt, alloc), plain_span(&rt, alloc)];
     assert!(rt; share_place(&spans));
-    let body = body_of(alloc, &spans, 117)?;
-    assert_eq!(rt; hex::encode(alloc, body.as_slice())?.as_str(), TWO_SPANS);
-    assert_eq!(rt;
-        body_of(alloc, &spans, 116).err(),
-        Some(EncodeFault::TooLarge)
-    );
-    Ok(())
+    assert_body(&rt, alloc, body_of(alloc, &spans, 117), TWO_SPANS);
+    assert_too_large(&rt, body_of(alloc, &spans, 116));
 }
 
 #[test]
-fn tells_spans_of_two_scopes(rt: HostRuntime) -> Result<(), Fail> {
-    let spans = [plain_span(rt.alloc())?, full_span(rt.alloc())?];
+fn tells_spans_of_two_scopes(rt: HostRuntime) {
+    let full = full_span(rt.alloc()).expect(&rt, "memory");
+    let spans = [plain_span(&rt, rt.alloc()), full];
     assert!(rt; !share_place(&spans));
-    Ok(())
+}
+
+/// Asserts how a group with one scope is written for a programmer.
+fn assert_debug(rt: &impl Abort, alloc: Global, group: &ResourceGroup<'_>) {
+    let written = format!(in alloc; "{group:?}").expect(rt, "memory");
+    assert!(rt;
+        written.starts_with("ResourceGroup { resource: Resource {"),
+        "{written}"
+    );
+    assert!(rt; written.ends_with(" }, scopes: 1 }"), "{written}");
 }
 
 #[test]
-fn groups_two_spans_of_one_scope(rt: HostRuntime) -> Result<(), Fail> {
+fn groups_two_spans_of_one_scope(rt: HostRuntime) {
     let alloc = rt.alloc();
-    let spans = [plain_span(alloc)?, plain_span(alloc)?];
+    let spans = [plain_span(&rt, alloc), plain_span(&rt, alloc)];
     assert!(rt; share_place(&spans));
-    let groups = group(alloc, &spans)?;
+    let groups = group(alloc, &spans).expect(&rt, "memory");
     assert_eq!(rt; groups.len(), 1);
-    let body = encode(alloc, groups.as_slice(), 117)?;
-    assert_eq!(rt; hex::encode(alloc, body.as_slice())?.as_str(), TWO_SPANS);
+    assert_body(&rt, alloc, encode(alloc, groups.as_slice(), 117), TWO_SPANS);
     for group in &groups {
-        let written = format!(in alloc; "{group:?}")?;
-        assert!(rt;
-            written.starts_with("ResourceGroup { resource: Resource {"),
-            "{written}"
-        );
-        assert!(rt; written.ends_with(" }, scopes: 1 }"), "{written}");
+        assert_debug(&rt, alloc, group);
     }
-    Ok(())
 }
 
 const FULL_BODY: &str = concat!(
@@ -109,36 +123,33 @@ fn full_body<A: Allocator + Copy>(alloc: A, max: usize) -> Result<Vec<u8, A>, En
 }
 
 #[test]
-fn exports_every_field(rt: HostRuntime) -> Result<(), Fail> {
-    let alloc = rt.alloc();
-    let body = full_body(alloc, 219)?;
-    assert_eq!(rt; hex::encode(alloc, body.as_slice())?.as_str(), FULL_BODY);
-    assert_eq!(rt; full_body(alloc, 218).err(), Some(EncodeFault::TooLarge));
-    Ok(())
+fn exports_every_field(rt: HostRuntime) {
+    assert_body(&rt, rt.alloc(), full_body(rt.alloc(), 219), FULL_BODY);
+    assert_too_large(&rt, full_body(rt.alloc(), 218));
 }
 
 /// Whether the full span's body was made, on a heap of so many bytes.
-fn is_made(rt: &impl Abort, alloc: Global, size: usize) -> Result<bool, OutOfMemory> {
-    let heap = LocalHeap::new(alloc, size)?;
+fn is_made(rt: &impl Abort, alloc: Global, size: usize) -> bool {
+    let heap = LocalHeap::new(alloc, size).expect(rt, "memory");
     match full_body(&heap, 219) {
         Ok(body) => {
-            let written = hex::encode(alloc, body.as_slice())?;
+            let written = hex::encode(alloc, body.as_slice()).expect(rt, "memory");
             assert_eq!(rt; written.as_str(), FULL_BODY, "at {size}");
-            Ok(true)
+            true
         }
         Err(fault) => {
             assert_eq!(rt; fault, EncodeFault::OutOfMemory, "at {size}");
-            Ok(false)
+            false
         }
     }
 }
 
 #[test]
-fn tells_refused_memory(rt: HostRuntime) -> Result<(), Fail> {
+fn tells_refused_memory(rt: HostRuntime) {
     let mut refused = 0u64;
     let mut made = 0u64;
     for size in (0..8000usize).step_by(8) {
-        if is_made(&rt, rt.alloc(), size)? {
+        if is_made(&rt, rt.alloc(), size) {
             made = made.saturating_add(1);
         } else {
             refused = refused.saturating_add(1);
@@ -146,107 +157,112 @@ fn tells_refused_memory(rt: HostRuntime) -> Result<(), Fail> {
     }
     assert!(rt; refused > 50, "{refused} refused");
     assert!(rt; made > 50, "{made} made");
-    Ok(())
+}
+
+/// A text of 70,000 bytes.
+fn long_text(rt: &impl Abort, alloc: Global) -> String {
+    let mut long = String::new(alloc);
+    for _ in 0..7_000u16 {
+        long.push_str("0123456789").expect(rt, "memory");
+    }
+    long
 }
 
 /// A span with a text of 70,000 bytes, whose body has 70,085.
-fn large_span(alloc: Global) -> Result<SpanData, OutOfMemory> {
-    let mut long = String::new(alloc);
-    for _ in 0..7_000u16 {
-        long.push_str("0123456789")?;
-    }
-    let mut record = open(alloc, &SpanLimits::default())?;
-    record.set_attribute(text(alloc, "a")?, Value::Text(long))?;
-    Ok(record.close(2))
+fn large_span(rt: &impl Abort, alloc: Global) -> SpanData {
+    let key = text(alloc, "a").expect(rt, "memory");
+    let mut record = open(rt, alloc, &SpanLimits::default());
+    let set = record.set_attribute(key, Value::Text(long_text(rt, alloc)));
+    set.expect(rt, "memory");
+    record.close(2)
+}
+
+/// Asserts that a body has 70,085 bytes.
+fn assert_large(rt: &impl Abort, body: Result<Vec<u8>, EncodeFault>) {
+    assert_eq!(rt; body.expect(rt, "a body").len(), 70_085);
 }
 
 #[test]
-fn exports_a_large_body(rt: HostRuntime) -> Result<(), Fail> {
-    let spans = [large_span(rt.alloc())?];
-    assert_eq!(rt; body_of(rt.alloc(), &spans, 70_085)?.len(), 70_085);
-    let groups = group(rt.alloc(), &spans)?;
-    assert_eq!(rt;
-        encode(rt.alloc(), groups.as_slice(), 70_085)?.len(),
-        70_085
-    );
-    Ok(())
+fn exports_a_large_body(rt: HostRuntime) {
+    let spans = [large_span(&rt, rt.alloc())];
+    assert_large(&rt, body_of(rt.alloc(), &spans, 70_085));
+    let groups = group(rt.alloc(), &spans).expect(&rt, "memory");
+    assert_large(&rt, encode(rt.alloc(), groups.as_slice(), 70_085));
 }
 
 #[test]
-fn tells_a_large_body_above_the_greatest(rt: HostRuntime) -> Result<(), Fail> {
-    let spans = [large_span(rt.alloc())?];
-    let groups = group(rt.alloc(), &spans)?;
+fn tells_a_large_body_above_the_greatest(rt: HostRuntime) {
+    let spans = [large_span(&rt, rt.alloc())];
+    let groups = group(rt.alloc(), &spans).expect(&rt, "memory");
     for max in [70_084usize, 65_536, 0] {
-        let fault = body_of(rt.alloc(), &spans, max).err();
-        assert_eq!(rt; fault, Some(EncodeFault::TooLarge), "of {max}");
-        let fault = encode(rt.alloc(), groups.as_slice(), max).err();
-        assert_eq!(rt; fault, Some(EncodeFault::TooLarge), "of {max}");
+        assert_too_large(&rt, body_of(rt.alloc(), &spans, max));
+        assert_too_large(&rt, encode(rt.alloc(), groups.as_slice(), max));
     }
-    Ok(())
 }
 
 #[test]
-fn writes_no_group_as_no_byte(rt: HostRuntime) -> Result<(), Fail> {
+fn writes_no_group_as_no_byte(rt: HostRuntime) {
     let groups: Vec<ResourceGroup> = Vec::new(rt.alloc());
-    assert_eq!(rt; encode(rt.alloc(), groups.as_slice(), 0)?.len(), 0);
-    Ok(())
+    assert_body(
+        &rt,
+        rt.alloc(),
+        encode(rt.alloc(), groups.as_slice(), 0),
+        "",
+    );
+}
+
+/// A scope with a name alone.
+fn named_scope(rt: &impl Abort, alloc: Global, name: &str) -> Scope {
+    Scope {
+        name: text(alloc, name).expect(rt, "memory"),
+        version: String::new(alloc),
+        attributes: Vec::new(alloc),
+        schema_url: String::new(alloc),
+    }
+}
+
+/// A resource with these attributes alone.
+fn resource(alloc: Global, attributes: Vec<(String, Value)>) -> Resource {
+    Resource {
+        attributes,
+        schema_url: String::new(alloc),
+    }
 }
 
 #[test]
-fn writes_groups_in_their_order(rt: HostRuntime) -> Result<(), Fail> {
+fn writes_groups_in_their_order(rt: HostRuntime) {
     let alloc = rt.alloc();
-    let names = ["s", "t"];
-    let mut scopes = Vec::new(alloc);
-    for name in names {
-        scopes.push(Scope {
-            name: text(alloc, name)?,
-            version: text(alloc, "")?,
-            attributes: Vec::new(alloc),
-            schema_url: text(alloc, "")?,
-        })?;
-    }
-    let first = Resource {
-        attributes: Vec::new(alloc),
-        schema_url: text(alloc, "")?,
-    };
-    let second = Resource {
-        attributes: pair(alloc, "k", Value::Text(text(alloc, "v")?))?,
-        schema_url: text(alloc, "")?,
-    };
+    let scopes = [named_scope(&rt, alloc, "s"), named_scope(&rt, alloc, "t")];
     let mut without_spans = Vec::new(alloc);
     for scope in &scopes {
-        without_spans.push(ScopeGroup {
-            scope,
-            spans: Vec::new(alloc),
-        })?;
+        let spans = Vec::new(alloc);
+        let group = ScopeGroup { scope, spans };
+        without_spans.push(group).expect(&rt, "memory");
     }
-    let mut groups = Vec::new(alloc);
-    groups.push(ResourceGroup {
-        resource: &first,
-        scopes: without_spans,
-    })?;
-    groups.push(ResourceGroup {
-        resource: &second,
-        scopes: Vec::new(alloc),
-    })?;
-    let body = encode(alloc, groups.as_slice(), 32)?;
-    assert_eq!(rt;
-        hex::encode(alloc, body.as_slice())?.as_str(),
-        "0a100a0012050a030a017312050a030a01740a0c0a0a0a080a016b12030a0176"
-    );
-    Ok(())
+    let value = Value::Text(text(alloc, "v").expect(&rt, "memory"));
+    let attributes = pair(alloc, "k", value).expect(&rt, "memory");
+    let groups = [
+        ResourceGroup {
+            resource: &resource(alloc, Vec::new(alloc)),
+            scopes: without_spans,
+        },
+        ResourceGroup {
+            resource: &resource(alloc, attributes),
+            scopes: Vec::new(alloc),
+        },
+    ];
+    let digits = "0a100a0012050a030a017312050a030a01740a0c0a0a0a080a016b12030a0176";
+    assert_body(&rt, alloc, encode(alloc, &groups, 32), digits);
+}
+
+/// Asserts how a fault is told.
+fn assert_told(rt: &impl Abort, alloc: Global, fault: EncodeFault, text: &str) {
+    let told = format!(in alloc; "{fault}").expect(rt, "memory");
+    assert_eq!(rt; told.as_str(), text);
 }
 
 #[test]
-fn tells_each_fault(rt: HostRuntime) -> Result<(), Fail> {
-    let alloc = rt.alloc();
-    assert_eq!(rt;
-        format!(in alloc; "{}", EncodeFault::OutOfMemory)?.as_str(),
-        "out of memory"
-    );
-    assert_eq!(rt;
-        format!(in alloc; "{}", EncodeFault::TooLarge)?.as_str(),
-        "too large"
-    );
-    Ok(())
+fn tells_each_fault(rt: HostRuntime) {
+    assert_told(&rt, rt.alloc(), EncodeFault::OutOfMemory, "out of memory");
+    assert_told(&rt, rt.alloc(), EncodeFault::TooLarge, "too large");
 }

@@ -4,6 +4,7 @@ use otlp_ids::{OutOfMemory, SpanContext, SpanId, TraceFlags, TraceId};
 use otlp_span::{Kind, Open, Resource, Scope, SpanData, SpanLimits, SpanRecord, Status};
 use otlp_value::Value;
 use std::alloc::Allocator;
+use std::process::Abort;
 use std::sync::Arc;
 
 pub fn text<A: Allocator>(alloc: A, text: &str) -> Result<String<A>, OutOfMemory> {
@@ -61,56 +62,93 @@ const TRACE: [u8; 16] = [1, 2, 3, 4, 5, 6, 7, 8, 9, 10, 11, 12, 13, 14, 15, 16];
 const SPAN: [u8; 8] = [17, 18, 19, 20, 21, 22, 23, 24];
 
 /// The start of a span named `a` in the scope `s`, at the moment 1.
-fn opening<A: Allocator + Copy>(alloc: A) -> Result<Open<A>, OutOfMemory> {
+fn opening<A: Allocator + Copy>(rt: &impl Abort, alloc: A) -> Open<A> {
     let resource = Resource {
         attributes: Vec::new(alloc),
-        schema_url: text(alloc, "")?,
+        schema_url: String::new(alloc),
     };
     let scope = Scope {
-        name: text(alloc, "s")?,
-        version: text(alloc, "")?,
+        name: text(alloc, "s").expect(rt, "memory"),
+        version: String::new(alloc),
         attributes: Vec::new(alloc),
-        schema_url: text(alloc, "")?,
+        schema_url: String::new(alloc),
     };
-    Ok(Open {
-        context: context(alloc, TRACE, SPAN, "")?,
+    Open {
+        context: context(alloc, TRACE, SPAN, "").expect(rt, "memory"),
         parent: None,
-        resource: Arc::new(alloc, resource)?,
-        scope: Arc::new(alloc, scope)?,
-        name: text(alloc, "a")?,
+        resource: Arc::new(alloc, resource).expect(rt, "memory"),
+        scope: Arc::new(alloc, scope).expect(rt, "memory"),
+        name: text(alloc, "a").expect(rt, "memory"),
         kind: Kind::Internal,
         start: 1,
-    })
+    }
 }
 
-pub fn open<A: Allocator + Copy>(
-    alloc: A,
-    limits: &SpanLimits,
-) -> Result<SpanRecord<A>, OutOfMemory> {
-    SpanRecord::open(alloc, opening(alloc)?, limits)
+pub fn open<A: Allocator + Copy>(rt: &impl Abort, alloc: A, limits: &SpanLimits) -> SpanRecord<A> {
+    SpanRecord::open(alloc, opening(rt, alloc), limits).expect(rt, "memory")
 }
 
-/// The start of a span whose resource, scope and context have everything.
-fn full_opening<A: Allocator + Copy>(alloc: A) -> Result<Open<A>, OutOfMemory> {
+fn full_resource<A: Allocator + Copy>(alloc: A) -> Result<Arc<Resource<A>, A>, OutOfMemory> {
     let resource = Resource {
         attributes: pair(alloc, "k", Value::Text(text(alloc, "v")?))?,
         schema_url: text(alloc, "r")?,
     };
+    Ok(Arc::new(alloc, resource)?)
+}
+
+fn full_scope<A: Allocator + Copy>(alloc: A) -> Result<Arc<Scope<A>, A>, OutOfMemory> {
     let scope = Scope {
         name: text(alloc, "s")?,
         version: text(alloc, "1")?,
         attributes: pair(alloc, "n", Value::Int(5))?,
         schema_url: text(alloc, "u")?,
     };
+    Ok(Arc::new(alloc, scope)?)
+}
+
+/// The start of a span whose resource, scope and context have everything.
+fn full_opening<A: Allocator + Copy>(alloc: A) -> Result<Open<A>, OutOfMemory> {
     Ok(Open {
         context: context(alloc, TRACE, SPAN, "k=v")?,
         parent: Some(SpanId([33, 34, 35, 36, 37, 38, 39, 40])),
-        resource: Arc::new(alloc, resource)?,
-        scope: Arc::new(alloc, scope)?,
+        resource: full_resource(alloc)?,
+        scope: full_scope(alloc)?,
         name: text(alloc, "a")?,
         kind: Kind::Server,
         start: 1,
     })
+}
+
+/// Sets three attributes, of which the span keeps two.
+fn set_attributes<A: Allocator + Copy>(
+    record: &mut SpanRecord<A>,
+    alloc: A,
+) -> Result<(), OutOfMemory> {
+    record.set_attribute(text(alloc, "a")?, texts(alloc, &["x", ""])?)?;
+    record.set_attribute(text(alloc, "f")?, Value::Bool(false))?;
+    record.set_attribute(text(alloc, "b")?, Value::Int(2))
+}
+
+/// Adds four events, of which the span keeps one, with one of its three attributes.
+fn add_events<A: Allocator + Copy>(
+    record: &mut SpanRecord<A>,
+    alloc: A,
+) -> Result<(), OutOfMemory> {
+    record.add_event(text(alloc, "e")?, 3, pairs(alloc, &["x", "y", "z"])?)?;
+    for _ in 0..3u8 {
+        record.add_event(text(alloc, "f")?, 4, Vec::new(alloc))?;
+    }
+    Ok(())
+}
+
+/// Adds six links, of which the span keeps one, with one of its five attributes.
+fn add_links<A: Allocator + Copy>(record: &mut SpanRecord<A>, alloc: A) -> Result<(), OutOfMemory> {
+    let linked = context(alloc, [9; 16], [8; 8], "l")?;
+    record.add_link(linked, pairs(alloc, &["y", "z", "w", "v", "u"])?)?;
+    for _ in 0..5u8 {
+        record.add_link(context(alloc, TRACE, SPAN, "")?, Vec::new(alloc))?;
+    }
+    Ok(())
 }
 
 /// A span in which every field is filled.
@@ -124,18 +162,9 @@ pub fn full_span<A: Allocator + Copy>(alloc: A) -> Result<SpanData<A>, OutOfMemo
         max_attribute_value_length: None,
     };
     let mut record = SpanRecord::open(alloc, full_opening(alloc)?, &limits)?;
-    record.set_attribute(text(alloc, "a")?, texts(alloc, &["x", ""])?)?;
-    record.set_attribute(text(alloc, "f")?, Value::Bool(false))?;
-    record.set_attribute(text(alloc, "b")?, Value::Int(2))?;
-    record.add_event(text(alloc, "e")?, 3, pairs(alloc, &["x", "y", "z"])?)?;
-    for _ in 0..3u8 {
-        record.add_event(text(alloc, "f")?, 4, Vec::new(alloc))?;
-    }
-    let linked = context(alloc, [9; 16], [8; 8], "l")?;
-    record.add_link(linked, pairs(alloc, &["y", "z", "w", "v", "u"])?)?;
-    for _ in 0..5u8 {
-        record.add_link(context(alloc, TRACE, SPAN, "")?, Vec::new(alloc))?;
-    }
+    set_attributes(&mut record, alloc)?;
+    add_events(&mut record, alloc)?;
+    add_links(&mut record, alloc)?;
     record.set_status(Status::Error(text(alloc, "x")?));
     Ok(record.close(2))
 }

@@ -5,7 +5,6 @@ use otlp_ids::OutOfMemory;
 use otlp_wire::{varint_size, write_fixed32, write_fixed64, write_len, write_varint};
 use std::alloc::{Allocator, Global};
 use std::process::Abort;
-use std::test::Fail;
 
 #[test]
 fn counts_varints(rt: HostRuntime) {
@@ -43,7 +42,7 @@ fn write<A: Allocator>(payload: Payload, out: &mut Vec<u8, A>) -> Result<(), Out
 }
 
 #[test]
-fn appends_each_payload(rt: HostRuntime) -> Result<(), Fail> {
+fn appends_each_payload(rt: HostRuntime) {
     let mut out = Vec::new(rt.alloc());
     for payload in [
         Payload::Varint(150),
@@ -55,56 +54,52 @@ fn appends_each_payload(rt: HostRuntime) -> Result<(), Fail> {
         Payload::Len(b"testing"),
         Payload::Len(b""),
     ] {
-        write(payload, &mut out)?;
+        write(payload, &mut out).expect(&rt, "memory");
     }
     let varints = b"\x96\x01\x00\xac\x02\xff\xff\xff\xff\xff\xff\xff\xff\xff\x01";
     let others = b"\x01\0\0\0\0\0\0\0\x01\0\0\0\x07testing\0";
     assert!(rt; out.as_slice().starts_with(varints), "{out:?}");
     assert!(rt; out.as_slice().ends_with(others), "{out:?}");
     assert_eq!(rt; out.len(), varints.len() + others.len());
-    Ok(())
 }
 
 // Whether the writer got its memory, on a heap of so many bytes, or nothing where not even the
 // bytes before it fit. What stood there stands.
-fn grows(
-    rt: &impl Abort,
-    alloc: Global,
-    payload: Payload,
-    size: usize,
-) -> Result<Option<bool>, OutOfMemory> {
-    let heap = LocalHeap::new(alloc, size)?;
-    let Ok(mut out) = Vec::from_slice(&heap, b"what stood before") else {
-        return Ok(None);
-    };
+fn grows(rt: &impl Abort, alloc: Global, payload: Payload, size: usize) -> Option<bool> {
+    let heap = LocalHeap::new(alloc, size).expect(rt, "memory");
+    let mut out = Vec::from_slice(&heap, b"what stood before").ok()?;
     let written = write(payload, &mut out).is_ok();
     assert!(rt;
         out.as_slice().starts_with(b"what stood before"),
         "{payload:?} at {size}"
     );
     assert_eq!(rt; out.len() > 17, written, "{payload:?} at {size}");
-    Ok(Some(written))
+    Some(written)
+}
+
+/// Asserts that the writer was refused memory on some heaps, and wrote on others.
+fn assert_grows(rt: &impl Abort, alloc: Global, payload: Payload) {
+    let mut refused = 0u32;
+    let mut written = 0u32;
+    for size in 0..200usize {
+        match grows(rt, alloc, payload, size) {
+            Some(true) => written = written.saturating_add(1),
+            Some(false) => refused = refused.saturating_add(1),
+            None => {}
+        }
+    }
+    assert!(rt; refused > 0, "{payload:?} was never refused");
+    assert!(rt; written > 0, "{payload:?} never wrote");
 }
 
 #[test]
-fn is_unchanged_where_memory_is_refused(rt: HostRuntime) -> Result<(), Fail> {
+fn is_unchanged_where_memory_is_refused(rt: HostRuntime) {
     for payload in [
         Payload::Varint(u64::MAX),
         Payload::Fixed64(1),
         Payload::Fixed32(1),
         Payload::Len(b"testing"),
     ] {
-        let mut refused = 0u32;
-        let mut written = 0u32;
-        for size in 0..200usize {
-            match grows(&rt, rt.alloc(), payload, size)? {
-                Some(true) => written = written.saturating_add(1),
-                Some(false) => refused = refused.saturating_add(1),
-                None => {}
-            }
-        }
-        assert!(rt; refused > 0, "{payload:?} was never refused");
-        assert!(rt; written > 0, "{payload:?} never wrote");
+        assert_grows(&rt, rt.alloc(), payload);
     }
-    Ok(())
 }

@@ -1,5 +1,5 @@
 -- A value is written by its one member, and an array by its values, one behind the other.
-use Rattle.std.proofs.Common.{◌≡◌, refl, sym, ap, ◌∙◌, ℕ, ℤ, zero, suc, ◌≤◌, List, [], ◌∷◌, ◌++◌, append_assoc, Bool, true, false, arith}
+use Rattle.std.proofs.Common.{◌≡◌, map, refl, sym, ap, ◌∙◌, ℕ, ℤ, zero, suc, ◌≤◌, List, [], ◌∷◌, ◌++◌, append_assoc, Bool, true, false, arith}
 use Rattle.std.proofs.lemmas.List.{append-nil}
 use Rattle.std.specs.Int.{w64, cast_unsigned}
 use mir.Val.{SFits, bool_byte}
@@ -10,7 +10,7 @@ use Rattle.message_model.specs.Messages.{max_depth}
 use Rattle.message_model.specs.Canon.{field_bytes, bytes_field, row_bytes, shape_fields, value_fields, values_fields}
 use Rattle.message_model.specs.Whole.{IsText, EachValue, EachPair, IsMember, IsValue}
 use Rattle.message_model.proofs.Composed.{row_bytes-append}
-use Rattle.otlp_proto.specs.Encode.{Puts, PutsMember, PutsValues, IsArray}
+use Rattle.otlp_proto.specs.Encode.{Puts, PutsMember}
 use Rattle.otlp_proto.proofs.Writing.{one-field}
 
 -- ---- levels
@@ -47,6 +47,11 @@ put-value {n} {v} {bs} {old} w e = record {
   whole = more-levels 2 max_depth (omega arith) v w.whole;
 }
 
+-- values of one level, put behind what stands as those of an array
+pub record PutsValues (vs : List AnyValue) (old new : List ℕ) : Type 0 where
+  pub bytes : new ≡ old ++ row_bytes (values_fields (as_values vs))
+  pub whole : EachValue (IsValue 1) (as_values vs)
+
 -- ---- members
 
 member : {levels : ℕ} {v : AnyValue} {old new : List ℕ} (f : Field) → value_fields v ≡ f ∷ [] → IsValue levels v → new ≡ old ++ field_bytes f → PutsMember levels v old new
@@ -65,7 +70,7 @@ pub int-member : {i : ℤ} {old new : List ℕ} → SFits w64 i → new ≡ old 
 unfolding IsValue value_fields
 int-member {i} w q = member (record { number = 3; payload = varint (cast_unsigned w64 i) }) refl w q
 
-pub array-member : {vs : List AnyValue} {bs old new : List ℕ} → IsArray vs bs → new ≡ old ++ field_bytes (bytes_field 5 bs) → PutsMember 2 (AnyValue.array (as_values vs)) old new
+pub array-member : {vs : List AnyValue} {bs old new : List ℕ} → PutsValues vs [] bs → new ≡ old ++ field_bytes (bytes_field 5 bs) → PutsMember 2 (AnyValue.array (as_values vs)) old new
 unfolding IsValue value_fields
 array-member {vs} {bs} {old} w q = member (bytes_field 5 (row_bytes (values_fields (as_values vs)))) refl w.whole (q ∙ ap (λ b. old ++ field_bytes (bytes_field 5 b)) w.bytes)
 
@@ -97,3 +102,7 @@ value-more {vs} {v} {bs} {old} {mid} p w q =
       bytes = q ∙ ap (λ b. mid ++ field_bytes (bytes_field 1 b)) w.bytes ∙ ap (λ b. b ++ field_bytes own) p.bytes ∙ append_assoc old (row_bytes before) (field_bytes own) ∙ ap (λ b. old ++ b) (sym all);
       whole = whole-more (IsValue 1) vs v p.whole w.whole;
     }
+
+pub map-map : {A B C : Type 0} (f : B → C) (g : A → B) (xs : List A) → map f (map g xs) ≡ map (λ x. f (g x)) xs
+map-map f g [] = refl
+map-map f g (x ∷ xs) = ap (λ ys. f (g x) ∷ ys) (map-map f g xs)

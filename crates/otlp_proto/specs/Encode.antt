@@ -1,9 +1,9 @@
 -- What is written of a message: its bytes, and that it is one that can be read.
 use Rattle.std.specs.Prelude.{◌≡◌, ℕ, List, [], ◌++◌}
-use Rattle.message_model.specs.AnyValue.{AnyValue, as_values}
+use Rattle.message_model.specs.AnyValue.{AnyValue}
 use Rattle.message_model.specs.Tables.{Shape, Table, ValueOf, Message}
-use Rattle.message_model.specs.Canon.{canon, shape_bytes, value_fields, values_fields, row_bytes}
-use Rattle.message_model.specs.Whole.{EachValue, IsValue, IsWhole, IsMessage}
+use Rattle.message_model.specs.Canon.{canon, shape_bytes, value_fields, row_bytes}
+use Rattle.message_model.specs.Whole.{IsValue, IsWhole, IsMessage}
 
 -- a field of a table, put behind what stands
 pub record Puts (n : ℕ) (s : Shape) (x : ValueOf s) (old new : List ℕ) : Type 0 where
@@ -23,12 +23,3 @@ IsWritten t r bs = PutsAll t r [] bs
 pub record PutsMember (levels : ℕ) (v : AnyValue) (old new : List ℕ) : Type 0 where
   pub bytes : new ≡ old ++ row_bytes (value_fields v)
   pub whole : IsValue levels v
-
--- values of one level, put behind what stands as those of an array
-pub record PutsValues (vs : List AnyValue) (old new : List ℕ) : Type 0 where
-  pub bytes : new ≡ old ++ row_bytes (values_fields (as_values vs))
-  pub whole : EachValue (IsValue 1) (as_values vs)
-
--- an array, all of it
-abbrev pub IsArray : List AnyValue → List ℕ → Type 0
-IsArray vs bs = PutsValues vs [] bs

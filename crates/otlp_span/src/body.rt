@@ -1,9 +1,20 @@
+ghost use Rattle.std.specs.Prelude.{◌≡◌, []};
+
 use crate::kept::Kept;
 use crate::parts::{Event, Kind, Link, Resource, Scope, SpanLimits, Status};
+use crate::slip::Slip;
 use otlp_ids::{SpanContext, SpanId};
 use otlp_value::AttributeList;
 use std::alloc::Allocator;
 use std::sync::Arc;
+
+/// The slip of a span: it names nothing.
+#[derive(Drop)]
+#[derive_where(Debug)]
+pub(crate) struct BlankSlip<A: Allocator> {
+    pub(crate) slip: Slip<A>,
+    ghost blank: { slip ≡ [] },
+}
 
 /// What a span is made of, in a box of its own from its start on.
 #[derive(Drop)]
@@ -22,4 +33,5 @@ pub(crate) struct SpanBody<A: Allocator> {
     pub(crate) events: Kept<Event<A>, A>,
     pub(crate) links: Kept<Link<A>, A>,
     pub(crate) status: Status<A>,
+    pub(crate) slip: BlankSlip<A>,
 }

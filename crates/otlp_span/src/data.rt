@@ -1,11 +1,15 @@
-ghost use Rattle.std.specs.Prelude.{◌≡◌, map};
+ghost use Rattle.std.specs.Prelude.{◌≡◌, [], map};
+ghost use Rattle.span_model.specs.Dropped.{entry_of};
 ghost use Rattle.span_model.specs.Spans.{with_ticket};
 ghost use Rattle.otlp_ids.specs.SpanContext.{context_view};
 ghost use Rattle.otlp_value.specs.Value.{attributes_view};
+ghost use Rattle.otlp_span.specs.Dropped.{entry_view, reason_view};
 ghost use Rattle.otlp_span.specs.Parts.{event_view, kind_view, link_view, parent_id_view, resource_view, scope_view, status_view};
 
 use crate::body::SpanBody;
 use crate::parts::{Event, Kind, Link, Resource, Scope, Status};
+use crate::reason::Reason;
+use crate::slip::{Entry, Slip};
 use otlp_ids::{SpanContext, SpanId};
 use otlp_value::Value;
 use std::alloc::{Allocator, Global};
@@ -147,6 +151,28 @@ impl<A: Allocator> SpanData<A> {
         ensures { self.new ≡ with_ticket ticket self.old }
     {
         self.ticket = ticket;
+    }
+
+    /// The span's name, should it be dropped for this reason (profile).
+    pub fn entry(&self, reason: Reason) -> Entry
+        ensures { entry_view result ≡ entry_of (reason_view reason) self.now }
+    {
+        let context = &self.body.context;
+        Entry {
+            trace: context.trace,
+            span: context.span,
+            ticket: self.ticket,
+            reason,
+        }
+    }
+
+    /// The memory in which the span is named once it is dropped: it names nothing yet. All else
+    /// that the span has is dropped (profile).
+    pub fn into_slip(self) -> Slip<A>
+        ensures { result ≡ [] }
+    {
+        let body = Box::into_inner(self.body);
+        body.slip.slip
     }
 
     /// What came of the operation (Trace API, "Set Status").

@@ -10,9 +10,11 @@ mod pairs;
 mod parts;
 mod reason;
 mod record;
+mod slip;
 
 pub use calls::replay;
 pub use data::SpanData;
 pub use parts::{Event, Kind, Link, Open, Resource, Scope, SpanCall, SpanLimits, Status};
 pub use reason::Reason;
 pub use record::SpanRecord;
+pub use slip::{Entries, Entry, Slip};

@@ -7,11 +7,12 @@ ghost use Rattle.otlp_value.specs.Value.{attribute_view, attributes_view};
 ghost use Rattle.otlp_span.specs.Parts.{attributes_of, opened_recording, status_view};
 ghost use Rattle.otlp_span.specs.Recording.{KeepsOneMore};
 
-use crate::body::SpanBody;
+use crate::body::{BlankSlip, SpanBody};
 use crate::data::SpanData;
 use crate::kept::Kept;
 use crate::pairs::{exception_attributes, kept_attributes};
 use crate::parts::{Event, Link, Open, SpanLimits, Status};
+use crate::slip::Slip;
 use otlp_ids::{OutOfMemory, SpanContext};
 use otlp_value::{AttributeList, Value};
 use std::alloc::{Allocator, Global};
@@ -40,7 +41,8 @@ impl<A: Allocator> Model for SpanRecord<A> {
 
 impl<A: Allocator + Copy> SpanRecord<A> {
     /// Starts a record that keeps as much as the limits allow (Trace API, "Span Creation"). No
-    /// attribute is set yet.
+    /// attribute is set yet. The memory in which the span is named, should it be dropped, is taken
+    /// too.
     ///
     /// # Errors
     ///
@@ -62,6 +64,9 @@ impl<A: Allocator + Copy> SpanRecord<A> {
             kind,
             start,
         } = opening;
+        let slip = BlankSlip {
+            slip: Slip::blank(alloc)?,
+        };
         let body = Box::new(
             alloc,
             SpanBody {
@@ -78,6 +83,7 @@ impl<A: Allocator + Copy> SpanRecord<A> {
                 events: Kept::new(alloc),
                 links: Kept::new(alloc),
                 status: Status::Unset,
+                slip,
             },
         )?;
         Ok(SpanRecord { body })

@@ -2,7 +2,7 @@
 //! Limits").
 #![tactic(auto)]
 
-ghost use Rattle.std.specs.Prelude.{◌≡◌, ◌<◌, IfOk, OnErr, OnOk, Some, [], length, map, position, string_bytes};
+ghost use Rattle.std.specs.Prelude.{◌≡◌, ◌<◌, ◌∷◌, ◌++◌, IfOk, OnErr, OnOk, Some, [], length, map, position, string_bytes};
 ghost use Rattle.span_model.specs.Attributes.{SetsPair, attribute_list, cut, first_chars, has_key};
 ghost use Rattle.otlp_value.specs.AttributeList.{TakesPlace};
 ghost use Rattle.otlp_value.specs.Value.{CopyTakesMemory, attribute_view, attributes_view, limits_view, value_view};
@@ -136,7 +136,9 @@ impl<A: Allocator> AttributeList<A> {
         let value = value.cut(self.limits.value_length);
         match position_of(&self.pairs, &key) {
             Some(index) => self.pairs[index].1 = value,
-            None if self.pairs.len() < self.limits.count as usize => self.pairs.push((key, value))?,
+            None if self.pairs.len() < self.limits.count as usize => {
+                append(&mut self.pairs, self.limits.count, (key, value))?
+            }
             None => self.dropped = self.dropped.saturating_add(1),
         }
         Ok(())
@@ -162,6 +164,30 @@ impl<A: Allocator> AttributeList<A> {
     {
         self.pairs
     }
+}
+
+/// For how many pairs a list has room from its first one on.
+const FIRST_ROOM: usize = 8;
+
+/// Appends an item to fewer than the limit allows. Where it is the first one, room is taken for as
+/// many as a list mostly has, or as the limit allows.
+///
+/// # Errors
+///
+/// `OutOfMemory` where it could not be stored; it is then dropped.
+fn append<T: Drop, A: Allocator>(
+    items: &mut Vec<T, A>,
+    limit: u32,
+    item: T,
+) -> Result<(), OutOfMemory>
+    ensures ok { OnOk result (items.new.items ≡ items.old.items ++ item ∷ []) }
+    ensures err { OnErr result (items.new.items ≡ items.old.items) }
+{
+    if items.is_empty() {
+        items.reserve_exact(FIRST_ROOM.min(limit as usize))?;
+    }
+    items.push(item)?;
+    Ok(())
 }
 
 /// Cuts a text to so many Unicode scalar values. It takes no memory.

@@ -1,5 +1,6 @@
 pub mod Attributes
 pub mod Spans
+pub mod Dropped
 pub mod Identifiers
 pub mod Sampling
 pub mod Starts

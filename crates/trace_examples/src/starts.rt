@@ -158,7 +158,8 @@ pub fn states()
         not_recording }
     ensures end { (held_after record_and_sample (set "a" (int (pos 1)) ∷ Call.end 6 ∷ [])).state ≡
         ended }
-    ensures call_after_end { (held_after record_and_sample (Call.end 6 ∷ set "a" (int (pos 1)) ∷ [])).state ≡ ended }
+    ensures call_after_end { (held_after record_and_sample
+        (Call.end 6 ∷ set "a" (int (pos 1)) ∷ [])).state ≡ ended }
     ensures end_of_dropped { (held_after sampling.drop (Call.end 6 ∷ [])).state ≡ ended }
     // The context stays, also after the end.
     ensures context { (held_after record_and_sample (Call.end 6 ∷ Call.end 7 ∷ [])).context ≡

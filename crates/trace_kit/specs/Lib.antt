@@ -7,6 +7,10 @@ pub use Rattle.span_model.specs.Identifiers
 pub use Rattle.span_model.specs.Sampling
 pub use Rattle.span_model.specs.Spans
 pub use Rattle.span_model.specs.Starts
+pub use Rattle.span_model.specs.Dropped
+pub use Rattle.desk_model.specs.Desks
+pub use Rattle.desk_model.specs.Queue
+pub use Rattle.desk_model.specs.Retries
 pub use Rattle.export_model.specs.Export
 pub use Rattle.history_model.specs.History
 pub use Rattle.otlp_ids.specs.SpanContext

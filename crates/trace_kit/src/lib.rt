@@ -1,16 +1,22 @@
 //! A tracing kit by OpenTelemetry's API: one `use` of this crate gives a program all it needs.
 #![tactic(auto)]
 
+pub use batch_desk::{
+    Admitted, Batch, Desk, DeskConfig, DropCounts, Fate, FateCounts, Mark, Totals,
+};
+pub use drop_ledger::Ledger;
 pub use otlp_ids::{IdFault, OutOfMemory, SpanContext, SpanId, TraceFlags, TraceId};
 pub use otlp_proto::{
     DEFAULT_MAX_BODY, EncodeFault, ResourceGroup, ScopeGroup, body_of, encode, group, share_place,
 };
 pub use otlp_sampler::{AlwaysOff, AlwaysOn, Decision, ParentBased, Sampler};
 pub use otlp_span::{
-    Event, Kind, Link, Open, Reason, Resource, Scope, SpanCall, SpanData, SpanLimits, SpanRecord,
-    Status, replay,
+    Entries, Entry, Event, Kind, Link, Open, Reason, Resource, Scope, Slip, SpanCall, SpanData,
+    SpanLimits, SpanRecord, Status, replay,
 };
 pub use otlp_value::{AttributeList, Limits, Value};
+pub use retry_core::{Cause, Next, Outcome, RetryAfter, decide};
 pub use script_program::{ScriptSampler, script, trace_script};
+pub use span_ring::RingFault;
 pub use trace_api::{BodyPass, EndPass, Ended, Provider, Span, StartFault, Tracer};
 pub use words_rng::WordsRng;

@@ -1,7 +1,7 @@
 use linked_list_allocator::LocalHeap;
 use otlp_ids::{IdFault, OutOfMemory, SpanContext, SpanId, TraceFlags, TraceId, copy_text};
-use std::alloc::Allocator;
-use std::test::Fail;
+use std::alloc::{Allocator, Global};
+use std::process::Abort;
 use words_rng::WordsRng;
 
 const TRACE: TraceId = TraceId([1, 2, 3, 4, 5, 6, 7, 8, 9, 10, 11, 12, 13, 14, 15, 16]);
@@ -17,7 +17,7 @@ fn identifiers_of_zeros_alone_are_not_valid(rt: HostRuntime) {
 }
 
 #[test]
-fn ids_are_drawn_high_byte_first_and_zeros_again(rt: HostRuntime) -> Result<(), Fail> {
+fn ids_are_drawn_high_byte_first_and_zeros_again(rt: HostRuntime) {
     let words = [
         0,
         0,
@@ -26,12 +26,12 @@ fn ids_are_drawn_high_byte_first_and_zeros_again(rt: HostRuntime) -> Result<(), 
         0,
         0xabcdef000000000f,
     ];
-    let mut rng = WordsRng::new(Vec::from_slice(rt.alloc(), &words)?);
+    let words = Vec::from_slice(rt.alloc(), &words).expect(&rt, "memory");
+    let mut rng = WordsRng::new(words);
     assert_eq!(rt; TraceId::draw(&mut rng), Ok(TRACE));
     assert_eq!(rt; SpanId::draw(&mut rng), Ok(SPAN));
     assert_eq!(rt; TraceId::draw(&mut rng), Err(IdFault::NoRandomness));
     assert_eq!(rt; SpanId::draw(&mut rng), Err(IdFault::NoRandomness));
-    Ok(())
 }
 
 #[test]
@@ -64,15 +64,14 @@ fn ids_are_written_in_lower_case(rt: HostRuntime) {
 }
 
 #[test]
-fn ids_and_flags_are_displayed_in_lower_case(rt: HostRuntime) -> Result<(), Fail> {
-    let told = format!(in rt.alloc(); "{TRACE}-{SPAN}-{}", TraceFlags(0x0b))?;
+fn ids_and_flags_are_displayed_in_lower_case(rt: HostRuntime) {
+    let told = format!(in rt.alloc(); "{TRACE}-{SPAN}-{}", TraceFlags(0x0b)).expect(&rt, "memory");
     assert_eq!(rt;
         told.as_str(),
         "0102030405060708090a0b0c0d0e0f10-abcdef000000000f-0b"
     );
-    let padded = format!(in rt.alloc(); "{SPAN:>18}")?;
+    let padded = format!(in rt.alloc(); "{SPAN:>18}").expect(&rt, "memory");
     assert_eq!(rt; padded.as_str(), "  abcdef000000000f");
-    Ok(())
 }
 
 #[test]
@@ -84,66 +83,57 @@ fn bit_0_is_the_sampled_flag(rt: HostRuntime) {
 }
 
 /// A context from another process, with this trace state.
-fn context<A: Allocator>(alloc: A, state: &str) -> Result<SpanContext<A>, OutOfMemory> {
-    Ok(SpanContext {
+fn context<A: Allocator>(rt: &impl Abort, alloc: A, state: &str) -> SpanContext<A> {
+    SpanContext {
         trace: TRACE,
         span: SPAN,
         flags: TraceFlags(3),
         remote: true,
-        state: String::from_str(alloc, state)?,
-    })
+        state: String::from_str(alloc, state).expect(rt, "memory"),
+    }
 }
 
 #[test]
-fn copies_a_context(rt: HostRuntime) -> Result<(), Fail> {
+fn copies_a_context(rt: HostRuntime) {
     let alloc = rt.alloc();
-    let whole = context(alloc, "k=v")?;
+    let whole = context(&rt, alloc, "k=v");
     assert!(rt; whole.is_valid());
-    assert_eq!(rt; whole.copy(alloc)?, whole);
-    assert_ne!(rt; whole, context(alloc, "k=w")?);
-    assert_eq!(rt; copy_text(alloc, "café")?.as_str(), "café");
-    Ok(())
+    assert_eq!(rt; whole.copy(alloc).expect(&rt, "memory"), whole);
+    assert_ne!(rt; whole, context(&rt, alloc, "k=w"));
+    let copied = copy_text(alloc, "café").expect(&rt, "memory");
+    assert_eq!(rt; copied.as_str(), "café");
 }
 
 /// Whether a copy of a context with this trace state is refused where there is no memory for it.
-fn is_copy_refused<A: Allocator + Copy>(
-    ample: A,
-    scarce: A,
-    state: &str,
-) -> Result<bool, OutOfMemory> {
-    Ok(context(ample, state)?.copy(scarce).is_err())
+fn is_copy_refused<A: Allocator + Copy>(rt: &impl Abort, ample: A, scarce: A, state: &str) -> bool {
+    context(rt, ample, state).copy(scarce).is_err()
 }
 
 #[test]
-fn a_context_without_a_state_takes_no_memory(rt: HostRuntime) -> Result<(), Fail> {
-    let ample = LocalHeap::new(rt.alloc(), 1024)?;
-    let none = LocalHeap::new(rt.alloc(), 0)?;
+fn a_context_without_a_state_takes_no_memory(rt: HostRuntime) {
+    let ample = LocalHeap::new(rt.alloc(), 1024).expect(&rt, "memory");
+    let none = LocalHeap::new(rt.alloc(), 0).expect(&rt, "memory");
     let state = "vendor=a state that is longer than the least block";
-    assert!(rt; is_copy_refused(&ample, &none, state)?);
-    assert!(rt; !is_copy_refused(&ample, &none, "")?);
-    Ok(())
+    assert!(rt; is_copy_refused(&rt, &ample, &none, state));
+    assert!(rt; !is_copy_refused(&rt, &ample, &none, ""));
+}
+
+/// Asserts how a fault is told.
+fn assert_told(rt: &impl Abort, alloc: Global, fault: IdFault, text: &str) {
+    let told = format!(in alloc; "{fault}").expect(rt, "memory");
+    assert_eq!(rt; told.as_str(), text);
 }
 
 #[test]
-fn faults_are_told(rt: HostRuntime) -> Result<(), Fail> {
+fn faults_are_told(rt: HostRuntime) {
     let alloc = rt.alloc();
-    for (fault, text) in [
-        (
-            IdFault::NoRandomness,
-            "no randomness: only zeros were drawn",
-        ),
-        (
-            IdFault::BadLength,
-            "bad length: an identifier has two digits a byte",
-        ),
-        (
-            IdFault::BadDigit,
-            "bad digit: an identifier is written in hexadecimal",
-        ),
-    ] {
-        assert_eq!(rt; format!(in alloc; "{fault}")?.as_str(), text);
-    }
+    let text = "no randomness: only zeros were drawn";
+    assert_told(&rt, alloc, IdFault::NoRandomness, text);
+    let text = "bad length: an identifier has two digits a byte";
+    assert_told(&rt, alloc, IdFault::BadLength, text);
+    let text = "bad digit: an identifier is written in hexadecimal";
+    assert_told(&rt, alloc, IdFault::BadDigit, text);
     let refused = OutOfMemory;
-    assert_eq!(rt; format!(in alloc; "{refused}")?.as_str(), "out of memory");
-    Ok(())
+    let told = format!(in alloc; "{refused}").expect(&rt, "memory");
+    assert_eq!(rt; told.as_str(), "out of memory");
 }

@@ -10,7 +10,6 @@ use otlp_ids::{SpanContext, SpanId, TraceFlags, TraceId};
 use otlp_sampler::{AlwaysOff, AlwaysOn, Decision, ParentBased, Sampler};
 use otlp_span::Kind;
 use std::alloc::Allocator;
-use std::test::Fail;
 
 const TRACE: TraceId = TraceId([1; 16]);
 
@@ -68,15 +67,14 @@ fn a_child_is_as_its_parent_and_a_root_as_its_sampler_says(rt: HostRuntime) {
 }
 
 #[test]
-fn a_parent_may_stand_in_any_memory(rt: HostRuntime) -> Result<(), Fail> {
-    let heap = LocalHeap::new(rt.alloc(), 0)?;
+fn a_parent_may_stand_in_any_memory(rt: HostRuntime) {
+    let heap = LocalHeap::new(rt.alloc(), 0).expect(&rt, "memory");
     let parent = context(&heap, 1, true, 1);
     let sampler = ParentBased::new(AlwaysOff);
     assert_eq!(rt;
         ask(&sampler, Some(&parent), "a"),
         Decision::RecordAndSample
     );
-    Ok(())
 }
 
 #[test]

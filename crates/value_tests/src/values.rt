@@ -3,40 +3,55 @@ use otlp_ids::OutOfMemory;
 use otlp_value::{AttributeList, Limits, Value};
 use std::alloc::Allocator;
 use std::process::Abort;
-use std::test::Fail;
 
-fn text<A: Allocator>(alloc: A, text: &str) -> Result<Value<A>, OutOfMemory> {
-    Ok(Value::Text(String::from_str(alloc, text)?))
+fn string<A: Allocator>(rt: &impl Abort, alloc: A, text: &str) -> String<A> {
+    String::from_str(alloc, text).expect(rt, "memory")
 }
 
-fn texts<A: Allocator + Copy>(alloc: A, all: &[&str]) -> Result<Value<A>, OutOfMemory> {
+fn text<A: Allocator>(rt: &impl Abort, alloc: A, text: &str) -> Value<A> {
+    Value::Text(string(rt, alloc, text))
+}
+
+fn texts<A: Allocator + Copy>(rt: &impl Abort, alloc: A, all: &[&str]) -> Value<A> {
     let mut texts = Vec::new(alloc);
     for text in all {
-        texts.push(String::from_str(alloc, text)?)?;
+        texts.push(string(rt, alloc, text)).expect(rt, "memory");
     }
-    Ok(Value::Texts(texts))
+    Value::Texts(texts)
 }
 
 /// A value of each kind whose copy takes memory.
-fn stored<A: Allocator + Copy>(alloc: A) -> Result<Vec<Value<A>, A>, OutOfMemory> {
+fn stored<A: Allocator + Copy>(rt: &impl Abort, alloc: A) -> Vec<Value<A>, A> {
+    let text = text(rt, alloc, "a text of some length, as café");
+    let texts = texts(rt, alloc, &["one text", "", "and another text"]);
+    let bools = Vec::from_slice(alloc, &[true; 24]).expect(rt, "memory");
+    let ints = Vec::from_slice(alloc, &[i64::MIN, -1, 7]).expect(rt, "memory");
     let mut values = Vec::new(alloc);
-    values.push(text(alloc, "a text of some length, as café")?)?;
-    values.push(texts(alloc, &["one text", "", "and another text"])?)?;
-    values.push(Value::Bools(Vec::from_slice(alloc, &[true; 24])?))?;
-    values.push(Value::Ints(Vec::from_slice(alloc, &[i64::MIN, -1, 7])?))?;
-    Ok(values)
+    values.push(text).expect(rt, "memory");
+    values.push(texts).expect(rt, "memory");
+    values.push(Value::Bools(bools)).expect(rt, "memory");
+    values.push(Value::Ints(ints)).expect(rt, "memory");
+    values
 }
 
 /// A value of each kind whose copy takes none.
-fn unstored<A: Allocator + Copy>(alloc: A) -> Result<Vec<Value<A>, A>, OutOfMemory> {
+fn unstored<A: Allocator + Copy>(rt: &impl Abort, alloc: A) -> Vec<Value<A>, A> {
     let mut values = Vec::new(alloc);
-    values.push(Value::Bool(true))?;
-    values.push(Value::Int(-7))?;
-    values.push(Value::Text(String::new(alloc)))?;
-    values.push(Value::Texts(Vec::new(alloc)))?;
-    values.push(Value::Bools(Vec::new(alloc)))?;
-    values.push(Value::Ints(Vec::new(alloc)))?;
-    Ok(values)
+    values.push(Value::Bool(true)).expect(rt, "memory");
+    values.push(Value::Int(-7)).expect(rt, "memory");
+    values
+        .push(Value::Text(String::new(alloc)))
+        .expect(rt, "memory");
+    values
+        .push(Value::Texts(Vec::new(alloc)))
+        .expect(rt, "memory");
+    values
+        .push(Value::Bools(Vec::new(alloc)))
+        .expect(rt, "memory");
+    values
+        .push(Value::Ints(Vec::new(alloc)))
+        .expect(rt, "memory");
+    values
 }
 
 /// Copies the values into some memory, and answers how many were refused.
@@ -53,30 +68,25 @@ fn refused_copies<A: Allocator + Copy>(rt: &impl Abort, values: &[Value<A>], all
 }
 
 /// Copies a value of each kind into some memory, and answers how many were refused.
-fn refused_kinds<A: Allocator + Copy>(
-    rt: &impl Abort,
-    ample: A,
-    alloc: A,
-) -> Result<usize, OutOfMemory> {
-    let unstored = unstored(ample)?;
-    assert_eq!(rt; refused_copies(rt, &unstored, alloc), 0);
-    let stored = stored(ample)?;
-    Ok(refused_copies(rt, &stored, alloc))
+fn refused_kinds<A: Allocator + Copy>(rt: &impl Abort, ample: A, alloc: A) -> usize {
+    let unstored = unstored(rt, ample);
+    assert_eq!(rt; refused_copies(rt, unstored.as_slice(), alloc), 0);
+    let stored = stored(rt, ample);
+    refused_copies(rt, stored.as_slice(), alloc)
 }
 
 #[test]
-fn copies_each_kind(rt: HostRuntime) -> Result<(), Fail> {
-    assert_eq!(rt; refused_kinds(&rt, rt.alloc(), rt.alloc())?, 0);
-    Ok(())
+fn copies_each_kind(rt: HostRuntime) {
+    assert_eq!(rt; refused_kinds(&rt, rt.alloc(), rt.alloc()), 0);
 }
 
 #[test]
-fn a_value_is_not_copied_where_memory_is_refused(rt: HostRuntime) -> Result<(), Fail> {
-    let ample = LocalHeap::new(rt.alloc(), 4096)?;
+fn a_value_is_not_copied_where_memory_is_refused(rt: HostRuntime) {
+    let ample = LocalHeap::new(rt.alloc(), 4096).expect(&rt, "memory");
     let mut counts = [0u32; 5];
     for size in 0..400usize {
-        let scarce = LocalHeap::new(rt.alloc(), size)?;
-        let refused = refused_kinds(&rt, &ample, &scarce)?;
+        let scarce = LocalHeap::new(rt.alloc(), size).expect(&rt, "memory");
+        let refused = refused_kinds(&rt, &ample, &scarce);
         assert!(rt; refused < 5);
         counts[refused] = counts[refused].saturating_add(1);
     }
@@ -86,7 +96,6 @@ fn a_value_is_not_copied_where_memory_is_refused(rt: HostRuntime) -> Result<(), 
         counts[4] > 0 && counts[1] > 0 && counts[0] > 0,
         "{counts:?}"
     );
-    Ok(())
 }
 
 /// Limits on the number of keys alone.
@@ -97,68 +106,68 @@ fn keys(count: u32) -> Limits {
     }
 }
 
-fn set<A: Allocator + Copy>(
-    list: &mut AttributeList<A>,
+/// The attributes with these keys and numbers.
+fn numbers<A: Allocator + Copy>(
+    rt: &impl Abort,
     alloc: A,
+    pairs: &[(&str, i64)],
+) -> Vec<(String<A>, Value<A>), A> {
+    let mut all = Vec::new(alloc);
+    for (key, number) in pairs {
+        let pair = (string(rt, alloc, key), Value::Int(*number));
+        all.push(pair).expect(rt, "memory");
+    }
+    all
+}
+
+/// Sets a number whose key is put into ample memory.
+fn set<A: Allocator + Copy>(
+    rt: &impl Abort,
+    list: &mut AttributeList<A>,
+    ample: A,
     key: &str,
     number: i64,
 ) -> Result<(), OutOfMemory> {
-    list.set(String::from_str(alloc, key)?, Value::Int(number))
-}
-
-/// The attributes with these keys and numbers.
-fn numbers<A: Allocator + Copy>(
-    alloc: A,
-    pairs: &[(&str, i64)],
-) -> Result<Vec<(String<A>, Value<A>), A>, OutOfMemory> {
-    let mut all = Vec::new(alloc);
-    for (key, number) in pairs {
-        all.push((String::from_str(alloc, key)?, Value::Int(*number)))?;
-    }
-    Ok(all)
+    list.set(string(rt, ample, key), Value::Int(number))
 }
 
 #[test]
-fn keeps_the_first_keys_with_their_last_values(rt: HostRuntime) -> Result<(), Fail> {
+fn keeps_the_first_keys_with_their_last_values(rt: HostRuntime) {
     let alloc = rt.alloc();
     let mut list = AttributeList::new(alloc, keys(2));
     for (key, number) in [("", 0), ("a", 1), ("b", 2), ("c", 3), ("a", 4), ("c", 5)] {
-        set(&mut list, alloc, key, number)?;
+        set(&rt, &mut list, alloc, key, number).expect(&rt, "memory");
     }
-    let kept = numbers(alloc, &[("a", 4), ("b", 2)])?;
+    let kept = numbers(&rt, alloc, &[("a", 4), ("b", 2)]);
     assert_eq!(rt; list.pairs(), kept.as_slice());
     assert_eq!(rt; list.dropped(), 2);
     assert_eq!(rt; list.into_pairs(), kept);
-    Ok(())
 }
 
-/// What is kept of a value, in a list with this limit on lengths.
-fn kept<A: Allocator + Copy>(
+/// Asserts what is kept of a value, in a list with this limit on lengths.
+fn assert_kept<A: Allocator + Copy>(
+    rt: &impl Abort,
     alloc: A,
     value_length: Option<u32>,
-    value: Value<A>,
-) -> Result<Vec<(String<A>, Value<A>), A>, OutOfMemory> {
+    whole: Value<A>,
+    cut: Value<A>,
+) {
     let limits = Limits {
         count: 1,
         value_length,
     };
     let mut list = AttributeList::new(alloc, limits);
-    list.set(String::from_str(alloc, "key")?, value)?;
-    Ok(list.into_pairs())
-}
-
-/// A value under the same key.
-fn under_key<A: Allocator + Copy>(
-    alloc: A,
-    value: Value<A>,
-) -> Result<Vec<(String<A>, Value<A>), A>, OutOfMemory> {
-    let mut pairs = Vec::new(alloc);
-    pairs.push((String::from_str(alloc, "key")?, value))?;
-    Ok(pairs)
+    list.set(string(rt, alloc, "key"), whole)
+        .expect(rt, "memory");
+    let mut wanted = Vec::new(alloc);
+    wanted
+        .push((string(rt, alloc, "key"), cut))
+        .expect(rt, "memory");
+    assert_eq!(rt; list.into_pairs(), wanted);
 }
 
 #[test]
-fn a_text_is_cut_to_its_first_characters(rt: HostRuntime) -> Result<(), Fail> {
+fn a_text_is_cut_to_its_first_characters(rt: HostRuntime) {
     let alloc = rt.alloc();
     for (length, whole, cut) in [
         (Some(2), "ééé", "éé"),
@@ -168,57 +177,70 @@ fn a_text_is_cut_to_its_first_characters(rt: HostRuntime) -> Result<(), Fail> {
         (Some(1), "e\u{301}", "e"),
         (None, "ééé", "ééé"),
     ] {
-        let kept = kept(alloc, length, text(alloc, whole)?)?;
-        let wanted = under_key(alloc, text(alloc, cut)?)?;
-        assert_eq!(rt; kept, wanted);
+        let (whole, cut) = (text(&rt, alloc, whole), text(&rt, alloc, cut));
+        assert_kept(&rt, alloc, length, whole, cut);
     }
     assert_eq!(rt; "éé".as_bytes(), [0xc3u8, 0xa9, 0xc3, 0xa9].as_slice());
-    Ok(())
 }
 
 #[test]
-fn each_text_of_an_array_is_cut_by_itself(rt: HostRuntime) -> Result<(), Fail> {
+fn each_text_of_an_array_is_cut_by_itself(rt: HostRuntime) {
     let alloc = rt.alloc();
-    let whole = texts(alloc, &["ééé", "", "a", "abcd"])?;
-    let wanted = under_key(alloc, texts(alloc, &["éé", "", "a", "ab"])?)?;
-    assert_eq!(rt; kept(alloc, Some(2), whole)?, wanted);
-    Ok(())
+    let whole = texts(&rt, alloc, &["ééé", "", "a", "abcd"]);
+    let cut = texts(&rt, alloc, &["éé", "", "a", "ab"]);
+    assert_kept(&rt, alloc, Some(2), whole, cut);
 }
 
-/// Sets six numbers in a list on scarce memory, and answers how many there are in front of the
-/// first that is refused.
-fn count_set<A: Allocator + Copy>(
+/// Asserts that a list has these attributes.
+fn assert_pairs<A: Allocator + Copy>(
     rt: &impl Abort,
     ample: A,
-    scarce: A,
-) -> Result<usize, OutOfMemory> {
-    let pairs = [("a", 1), ("b", 2), ("c", 3), ("d", 4), ("e", 5), ("f", 6)];
-    let mut list = AttributeList::new(scarce, keys(6));
+    list: &AttributeList<A>,
+    pairs: &[(&str, i64)],
+) {
+    assert_eq!(rt; list.pairs(), numbers(rt, ample, pairs).as_slice());
+}
+
+/// Sets ten numbers in a list on scarce memory, and answers how many there are in front of the
+/// first that is refused.
+fn count_set<A: Allocator + Copy>(rt: &impl Abort, ample: A, scarce: A) -> usize {
+    let pairs = [
+        ("a", 1),
+        ("b", 2),
+        ("c", 3),
+        ("d", 4),
+        ("e", 5),
+        ("f", 6),
+        ("g", 7),
+        ("h", 8),
+        ("i", 9),
+        ("j", 10),
+    ];
+    let mut list = AttributeList::new(scarce, keys(10));
     for (place, (key, number)) in pairs.iter().enumerate() {
-        if set(&mut list, ample, key, *number).is_err() {
-            assert_eq!(rt; list.pairs(), numbers(ample, &pairs[..place])?.as_slice());
+        if set(rt, &mut list, ample, key, *number).is_err() {
+            assert_pairs(rt, ample, &list, &pairs[..place]);
             assert_eq!(rt; list.dropped(), 0);
-            return Ok(place);
+            return place;
         }
     }
-    assert_eq!(rt; list.pairs(), numbers(ample, &pairs)?.as_slice());
-    Ok(pairs.len())
+    assert_pairs(rt, ample, &list, &pairs);
+    pairs.len()
 }
 
 #[test]
-fn a_list_is_unchanged_where_memory_is_refused(rt: HostRuntime) -> Result<(), Fail> {
-    let ample = LocalHeap::new(rt.alloc(), 4096)?;
-    let mut counts = [0u32; 7];
-    for size in 0..1500usize {
-        let scarce = LocalHeap::new(rt.alloc(), size)?;
-        let count = count_set(&rt, &ample, &scarce)?;
-        assert!(rt; count < 7);
+fn a_list_is_unchanged_where_memory_is_refused(rt: HostRuntime) {
+    let ample = LocalHeap::new(rt.alloc(), 4096).expect(&rt, "memory");
+    let mut counts = [0u32; 11];
+    for size in 0..2_500usize {
+        let scarce = LocalHeap::new(rt.alloc(), size).expect(&rt, "memory");
+        let count = count_set(&rt, &ample, &scarce);
+        assert!(rt; count < 11);
         counts[count] = counts[count].saturating_add(1);
     }
     // The first place was refused and a later one, where the list grows, and in the end none.
     assert!(rt;
-        counts[0] > 0 && counts[4] > 0 && counts[6] > 0,
+        counts[0] > 0 && counts[8] > 0 && counts[10] > 0,
         "{counts:?}"
     );
-    Ok(())
 }

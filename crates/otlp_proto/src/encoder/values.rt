@@ -1,77 +1,67 @@
 //! Attributes and their values (opentelemetry-proto, common.proto: KeyValue, AnyValue, ArrayValue).
 ghost use Rattle.std.specs.Prelude.{◌<◌, ◌^◌, IfOk, OnOk, map, string_bytes};
-ghost use Rattle.message_model.specs.AnyValue;
+ghost use Rattle.message_model.specs.AnyValue.{AnyValue, as_values};
 ghost use Rattle.message_model.specs.Tables;
 ghost use Rattle.export_model.specs.Export as model;
 ghost use Rattle.otlp_value.specs.Value.{value_view, attribute_view, attributes_view};
-ghost use Rattle.otlp_proto.specs.Encode.{Puts, IsWritten, PutsMember, IsArray};
+ghost use Rattle.otlp_proto.specs.Encode.{Puts, IsWritten, PutsMember};
 
 use crate::encoder::fields::{put_len, put_text, put_varint};
 use otlp_ids::OutOfMemory;
 use otlp_value::Value;
 use std::alloc::Allocator;
 
-/// Appends a text as a value's member.
-fn put_string_value<A: Allocator>(out: &mut Vec<u8, A>, text: &str) -> Result<(), OutOfMemory>
-    ensures { OnOk result (PutsMember 1 (AnyValue.text text.now) out.old.items out.new.items) }
-{
-    put_len(out, 1, text.as_bytes())
+/// What an AnyValue holds by itself, and an ArrayValue holds any number of.
+trait Scalar {
+    ghost value: { Self → AnyValue };
+
+    /// Appends it as a value's member, also where it is the default.
+    fn put<A: Allocator>(&self, out: &mut Vec<u8, A>) -> Result<(), OutOfMemory>
+        ensures { OnOk result (PutsMember 1 (value self.now) out.old.items out.new.items) };
 }
 
-/// Appends a truth value as a value's member.
-fn put_bool_value<A: Allocator>(out: &mut Vec<u8, A>, truth: bool) -> Result<(), OutOfMemory>
-    ensures { OnOk result (PutsMember 1 (AnyValue.bool truth) out.old.items out.new.items) }
-{
-    put_varint(out, 2, truth as u64)
+impl<B: Allocator> Scalar for String<B> {
+    ghost value = { λ text. AnyValue.text (string_bytes text) };
+
+    fn put<A: Allocator>(&self, out: &mut Vec<u8, A>) -> Result<(), OutOfMemory> {
+        put_len(out, 1, self.as_str().as_bytes())
+    }
 }
 
-/// Appends a whole number as a value's member, in two's complement of 64 bits.
-fn put_int_value<A: Allocator>(out: &mut Vec<u8, A>, number: i64) -> Result<(), OutOfMemory>
-    ensures { OnOk result (PutsMember 1 (AnyValue.int number) out.old.items out.new.items) }
-{
-    put_varint(out, 3, number.cast_unsigned())
+impl Scalar for bool {
+    ghost value = { AnyValue.bool };
+
+    fn put<A: Allocator>(&self, out: &mut Vec<u8, A>) -> Result<(), OutOfMemory> {
+        put_varint(out, 2, *self as u64)
+    }
 }
 
-/// An ArrayValue of texts, each with its member, also where that is the default.
-fn encode_texts<A: Allocator + Copy>(
+impl Scalar for i64 {
+    ghost value = { AnyValue.int };
+
+    /// In two's complement of 64 bits.
+    fn put<A: Allocator>(&self, out: &mut Vec<u8, A>) -> Result<(), OutOfMemory> {
+        let number = *self;
+        put_varint(out, 3, number.cast_unsigned())
+    }
+}
+
+/// Appends an ArrayValue as a value's member, each of its values with its own member.
+fn put_array<T: Scalar, A: Allocator + Copy>(
     alloc: A,
-    texts: &[String<A>],
-) -> Result<Vec<u8, A>, OutOfMemory>
-    ensures { IfOk result (λ v. IsArray (map AnyValue.text (map string_bytes texts.now)) v.items) }
+    out: &mut Vec<u8, A>,
+    items: &[T],
+) -> Result<(), OutOfMemory>
+    ensures { OnOk result (PutsMember 2
+        (AnyValue.array (as_values (map T.value items.now))) out.old.items out.new.items) }
 {
-    let mut out = Vec::new(alloc);
-    for text in texts {
+    let mut array = Vec::new(alloc);
+    for item in items {
         let mut member = Vec::new(alloc);
-        put_string_value(&mut member, text.as_str())?;
-        put_len(&mut out, 1, member.as_slice())?;
+        item.put(&mut member)?;
+        put_len(&mut array, 1, member.as_slice())?;
     }
-    Ok(out)
-}
-
-/// An ArrayValue of truth values, each with its member, also where that is the default.
-fn encode_bools<A: Allocator + Copy>(alloc: A, truths: &[bool]) -> Result<Vec<u8, A>, OutOfMemory>
-    ensures { IfOk result (λ v. IsArray (map AnyValue.bool truths.now) v.items) }
-{
-    let mut out = Vec::new(alloc);
-    for truth in truths {
-        let mut member = Vec::new(alloc);
-        put_bool_value(&mut member, *truth)?;
-        put_len(&mut out, 1, member.as_slice())?;
-    }
-    Ok(out)
-}
-
-/// An ArrayValue of whole numbers, each with its member, also where that is the default.
-fn encode_ints<A: Allocator + Copy>(alloc: A, numbers: &[i64]) -> Result<Vec<u8, A>, OutOfMemory>
-    ensures { IfOk result (λ v. IsArray (map AnyValue.int numbers.now) v.items) }
-{
-    let mut out = Vec::new(alloc);
-    for number in numbers {
-        let mut member = Vec::new(alloc);
-        put_int_value(&mut member, *number)?;
-        put_len(&mut out, 1, member.as_slice())?;
-    }
-    Ok(out)
+    put_len(out, 5, array.as_slice())
 }
 
 /// Appends the one member that a value has, also where that is the default. An empty array is one
@@ -85,21 +75,12 @@ fn put_member<A: Allocator + Copy>(
         (PutsMember 2 (model.value_message (value_view value.now)) out.old.items out.new.items) }
 {
     match value {
-        Value::Text(text) => put_string_value(out, text.as_str()),
-        Value::Bool(truth) => put_bool_value(out, *truth),
-        Value::Int(number) => put_int_value(out, *number),
-        Value::Texts(texts) => {
-            let array = encode_texts(alloc, texts.as_slice())?;
-            put_len(out, 5, array.as_slice())
-        }
-        Value::Bools(truths) => {
-            let array = encode_bools(alloc, truths.as_slice())?;
-            put_len(out, 5, array.as_slice())
-        }
-        Value::Ints(numbers) => {
-            let array = encode_ints(alloc, numbers.as_slice())?;
-            put_len(out, 5, array.as_slice())
-        }
+        Value::Text(text) => text.put(out),
+        Value::Bool(truth) => truth.put(out),
+        Value::Int(number) => number.put(out),
+        Value::Texts(texts) => put_array(alloc, out, texts.as_slice()),
+        Value::Bools(truths) => put_array(alloc, out, truths.as_slice()),
+        Value::Ints(numbers) => put_array(alloc, out, numbers.as_slice()),
     }
 }
 

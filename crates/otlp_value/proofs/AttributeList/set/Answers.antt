@@ -34,18 +34,18 @@ returns-in-Some-clause-ok g c =
     (sets-there attribute_view (limits_view l.limits) l.pairs.items l.dropped (attribute_view (c.args.key, c.args.value)) named
     c.in-Some.index c.index_mut.result.now (c.index_mut.result.now.0, c.cut-value.result) at c.index_mut.ensures.value (with_value _ _ _ c.cut-value.ensures))
 
-pub returns-in_ok-push-in-None-clause-ok : goal.returns-in_ok-push-in-None-clause-ok
-returns-in_ok-push-in-None-clause-ok g c =
+pub returns-in_ok-append-in-None-clause-ok : goal.returns-in_ok-append-in-None-clause-ok
+returns-in_ok-append-in-None-clause-ok g c =
     let l = c.self.inside in
     let named = emptiness c.args.key _ false c.is_empty.ensures c.if-is_empty.false in
     let absent = place c.args.key _ _ _ _ _ c.deref-2.ensures c.deref.ensures.value c.position_of.ensures c.in-None.is in
     let counted = l.pairs.ok.0 in
-    rw (← c.self.view_is, c.in_ok-push-in-None.ensures.items)
+    rw (← c.self.view_is, c.in_ok-append-in-None.ensures.ok)
     (sets-new attribute_view (limits_view l.limits) l.pairs.items l.dropped (attribute_view (c.args.key, c.args.value)) named absent
     (c.args.key, c.cut-value.result) (omega arith) (with_value _ _ _ c.cut-value.ensures))
 
-pub returns-in_err-push-in-None-clause-refused_only_where_kept : goal.returns-in_err-push-in-None-clause-refused_only_where_kept
-returns-in_err-push-in-None-clause-refused_only_where_kept g c =
+pub returns-in_err-append-in-None-clause-refused_only_where_kept : goal.returns-in_err-append-in-None-clause-refused_only_where_kept
+returns-in_err-append-in-None-clause-refused_only_where_kept g c =
     let l = c.self.inside in
     let named = emptiness c.args.key _ false c.is_empty.ensures c.if-is_empty.false in
     let absent = place c.args.key _ _ _ _ _ c.deref-2.ensures c.deref.ensures.value c.position_of.ensures c.in-None.is in

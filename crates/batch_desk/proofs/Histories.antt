@@ -1,0 +1,62 @@
+-- What each call of a desk makes of a history, by what it leaves of the desk.
+use Rattle.std.proofs.Common.{◌≡◌, refl, sym, ap, ◌∙◌, subst, ℕ, ◌+◌, ◌<◌, min, Bool, true, false, not, List, [], ◌∷◌, ◌++◌, length, take, drop, Option, Some, None}
+use Rattle.std.specs.Prelude.{option_map}
+use Rattle.std.proofs.lemmas.List.{take_min, drop_min}
+use Rattle.span_model.specs.Spans.{EndedSpan}
+use Rattle.span_model.specs.Dropped.{Reason, queue_full, entry_of, is_reason}
+use Rattle.desk_model.specs.Retries.{Fate}
+use Rattle.desk_model.specs.Queue.{queued, full, late, flush, shutdown, handed, settled, popped}
+use Rattle.desk_model.specs.Desks.{DeskConfig, Desk, OutBatch, Does, DropsSpans, IsDesk, TakesSpans, accepted_count, capped, handed_out, is_due, is_in_hand, is_with_exporter, new_desk, out_size, with_drops, with_fate}
+use Rattle.desk_model.proofs.Events.{new_desk_is, queued_does, full_does, late_does, flush_does, shutdown_does, taken_does, handed_does, dropped_does, settled_does, popped_does}
+use Rattle.batch_desk.specs.Desk.{after_drop, after_take, with_next_ticket}
+
+pub new_follows : (config : DeskConfig) (made : ℕ) (new : Desk) → new ≡ new_desk config made → IsDesk made [] new
+new_follows config made new e = subst (IsDesk made []) (sym e) (new_desk_is config made)
+
+module _ (old new : Desk) where
+  pub queued_follows : (s : EndedSpan) → old.closed ≡ false → length old.waiting < old.config.queue → s.ticket ≡ old.next_ticket → new ≡ record (with_next_ticket old) { waiting = old.waiting ++ s ∷ [] } → Does (queued s) old new
+  queued_follows s a b t e = subst (λ d. Does (queued s) old d) (sym e) (queued_does old s (a, b, t))
+
+  pub full_follows : (s : EndedSpan) → old.closed ≡ false → length old.waiting ≡ old.config.queue → s.ticket ≡ old.next_ticket → new ≡ record (with_next_ticket old) { ledger = entry_of queue_full s ∷ old.ledger; dropped = with_drops queue_full 1 old.dropped } → Does (full s) old new
+  full_follows s a b t e = subst (λ d. Does (full s) old d) (sym e) (full_does old s (a, b, t))
+
+  pub late_follows : old.closed ≡ true → new ≡ record old { late = capped (old.late + 1) } → Does late old new
+  late_follows a e = subst (λ d. Does late old d) (sym e) (late_does old a)
+
+  pub flush_follows : new ≡ record old { asked = accepted_count old } → Does flush old new
+  flush_follows e = subst (λ d. Does flush old d) (sym e) (flush_does old)
+
+  pub shutdown_follows : new ≡ record old { asked = accepted_count old; closed = true } → Does shutdown old new
+  shutdown_follows e = subst (λ d. Does shutdown old d) (sym e) (shutdown_does old)
+
+  pub taken_follows : (now : ℕ) (spans : List EndedSpan) → is_due old now ≡ true → old.out ≡ None → spans ≡ take old.config.batch old.waiting → new ≡ after_take now old → TakesSpans now spans old new
+  taken_follows now spans due out s e =
+      let size = min old.config.batch (length old.waiting) in
+      let same : spans ≡ take size old.waiting = s ∙ sym (take_min old.config.batch old.waiting) in
+      let left : new ≡ record (after_take now old) { waiting = drop size old.waiting } = e ∙ ap (λ w. record (after_take now old) { waiting = w }) (sym (drop_min old.config.batch old.waiting)) in
+      subst (λ d. TakesSpans now spans old d) (sym left)
+      (subst (λ ss. TakesSpans now ss old (record (after_take now old) { waiting = drop size old.waiting })) (sym same) (taken_does old now size (due, out, refl)))
+
+  pub handed_follows : is_in_hand old.out ≡ true → new ≡ record old { out = handed_out old.out; handed = old.handed + out_size old.out } → Does handed old new
+  handed_follows a e = subst (λ d. Does handed old d) (sym e) (handed_does old a)
+
+  pub dropped_follows : (reason : Reason) (spans : List EndedSpan) → is_in_hand old.out ≡ true → is_reason queue_full reason ≡ false → new ≡ after_drop reason spans old → DropsSpans reason spans old new
+  dropped_follows reason spans a r e = subst (λ d. DropsSpans reason spans old d) (sym e) (dropped_does old reason spans (a, r))
+
+  pub settled_follows : (fate : Fate) → is_with_exporter old.out ≡ true → new ≡ record old { out = None; fates = with_fate fate old.fates } → Does (settled fate) old new
+  settled_follows fate a e = subst (λ d. Does (settled fate) old d) (sym e) (settled_does old fate a)
+
+  pub popped_follows : new ≡ record old { ledger = drop 1 old.ledger } → Does popped old new
+  popped_follows e = subst (λ d. Does popped old d) (sym e) (popped_does old)
+
+-- ---- the batch that is out
+
+-- one that is out with this number, and was not handed, is in hand
+pub is_in_hand-state : (o : Option OutBatch) (n : ℕ) → option_map {U = ℕ × Bool} (λ (b : OutBatch). (b.number, b.is_handed)) o ≡ Some (n, false) → is_in_hand o ≡ true
+is_in_hand-state None n e = cc
+is_in_hand-state (Some b) n e = let p : (b.number, b.is_handed) ≡ (n, false) = cc in ap (λ (q : ℕ × Bool). not q.1) p
+
+-- what it is once it is handed
+pub handed_out-state : (o : Option OutBatch) (n : ℕ) → option_map {U = ℕ × Bool} (λ (b : OutBatch). (b.number, b.is_handed)) o ≡ Some (n, false) → Some (record { number = n; size = out_size o; is_handed = true }) ≡ handed_out o
+handed_out-state None n e = cc
+handed_out-state (Some b) n e = let p : (n, false) ≡ (b.number, b.is_handed) = cc in ap (λ (q : ℕ × Bool). Some (record b { number = q.0; is_handed = true })) p

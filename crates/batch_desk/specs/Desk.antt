@@ -1,0 +1,87 @@
+-- What the calls of a desk answer, and what they leave of it.
+use Rattle.std.specs.Prelude.{◌≡◌, ℕ, ◌+◌, ◌-◌, ◌^◌, ◌==◌, Bool, false, if◌then◌else◌, List, [], ◌∷◌, ◌++◌, length, take, drop, map, reverse, min, Option, None, Some, option_map}
+use Rattle.span_model.specs.Spans.{EndedSpan, with_ticket}
+use Rattle.span_model.specs.Dropped.{Reason, queue_full, entry_of}
+use Rattle.desk_model.specs.Queue.{DeskEvent, queued, full, late}
+use Rattle.desk_model.specs.Desks.{DeskConfig, Desk, with_drops, capped}
+use Rattle.batch_desk.specs.Batch.{BatchView}
+use Rattle.batch_desk.specs.declared.admitted.Admitted.{Admitted}
+use Rattle.batch_desk.specs.declared.admitted.Admitted.TheVariants as admitted
+
+-- the standard's numbers (Trace SDK, Batching processor)
+abbrev pub default_config : DeskConfig
+default_config = record { queue = 2048; batch = 512; delay_ms = 5000 }
+
+-- ---- spans that end
+
+-- what comes of the next span
+abbrev pub admission : Desk → Admitted
+admission desk =
+    if desk.closed then admitted.Late
+    else if length desk.waiting == desk.config.queue then admitted.Full desk.next_ticket
+    else admitted.Queued desk.next_ticket
+
+-- a span that came, and what came of it
+abbrev pub admission_event : Admitted → EndedSpan → DeskEvent
+admission_event (admitted.Queued ticket) span = queued (with_ticket ticket span)
+admission_event (admitted.Full ticket) span = full (with_ticket ticket span)
+admission_event admitted.Late span = late
+
+-- One more ticket is given; where the next one would be the greatest number of 64 bits, the desk
+-- closes. (profile)
+abbrev pub with_next_ticket : Desk → Desk
+with_next_ticket desk = record desk {
+  next_ticket = desk.next_ticket + 1;
+  closed = desk.next_ticket + 1 == 2 ^ 64 - 1;
+}
+
+-- the desk behind a span to which this came
+abbrev pub after_admission : Admitted → EndedSpan → Desk → Desk
+after_admission (admitted.Queued ticket) span desk = record (with_next_ticket desk) {
+  waiting = desk.waiting ++ with_ticket ticket span ∷ [];
+}
+after_admission (admitted.Full ticket) span desk = record (with_next_ticket desk) {
+  ledger = entry_of queue_full (with_ticket ticket span) ∷ desk.ledger;
+  dropped = with_drops queue_full 1 desk.dropped;
+}
+after_admission admitted.Late span desk = record desk { late = capped (desk.late + 1) }
+
+-- ---- batches
+
+-- the batch that is taken next
+abbrev pub next_batch : Desk → BatchView
+next_batch desk = record {
+  number = desk.batches + 1;
+  spans = take desk.config.batch desk.waiting;
+  room = desk.config.batch;
+}
+
+-- the number of the batch that is out, if one is, and whether it was handed
+abbrev pub out_state : Desk → Option (ℕ × Bool)
+out_state desk = option_map (λ b. (b.number, b.is_handed)) desk.out
+
+-- this batch is out, and was handed to an exporter or not
+pub record IsOut (is_handed : Bool) (desk : Desk) (batch : BatchView) : Type 0 where
+  pub out : desk.out
+      ≡ Some (record { number = batch.number; size = length batch.spans; is_handed = is_handed })
+  pub room : batch.room ≡ desk.config.batch
+
+-- the desk behind this take
+abbrev pub after_take : ℕ → Desk → Desk
+after_take now desk =
+    let size = min desk.config.batch (length desk.waiting) in
+    record desk {
+      waiting = drop desk.config.batch desk.waiting;
+      out = Some (record { number = desk.batches + 1; size = size; is_handed = false });
+      taken = desk.taken + size;
+      batches = desk.batches + 1;
+      last_moment = now;
+    }
+
+-- the desk behind the drop of the batch that is out, of these spans
+abbrev pub after_drop : Reason → List EndedSpan → Desk → Desk
+after_drop reason spans desk = record desk {
+  out = None;
+  ledger = reverse (map (entry_of reason) spans) ++ desk.ledger;
+  dropped = with_drops reason (length spans) desk.dropped;
+}

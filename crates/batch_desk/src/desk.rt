@@ -1,0 +1,386 @@
+ghost use Rattle.std.specs.Prelude.{◌≡◌, ◌≢◌, ◌+◌, ◌-◌, ◌^◌, ◌<◌, ◌≤◌, ◌↔◌, ◌⊎◌, ◌&&◌, ◌++◌, ◌∷◌, [], length, drop, map, reverse, true, false, is_some, is_none, option_map, slice_get, if◌then◌else◌, nat_le, ◌*◌, Some, None, IfNone, IfOk, IfSome, IsErrOf, IsTrue};
+ghost use Rattle.span_ring.specs.SpanRing.{IsRingSize};
+ghost use Rattle.span_ring.specs.declared.ring.TheConstants.{MAX_QUEUE};
+ghost use Rattle.span_model.specs.Dropped.{entry_of};
+ghost use Rattle.desk_model.specs.Queue as events;
+ghost use Rattle.desk_model.specs.Desks.{Does, DropsSpans, IsDesk, TakesSpans, accepted_count, handed_out, in_hand_size, is_due, is_flushed, new_desk, out_size, with_fate, worker_drops};
+ghost use Rattle.otlp_span.specs.Dropped.{entry_view, reason_view};
+ghost use Rattle.batch_desk.specs.Desk.{IsOut, admission, admission_event, after_admission, after_drop, after_take, next_batch, out_state};
+ghost use Rattle.batch_desk.specs.Views.{config_view, drop_counts_view, fate_counts_view, fate_view, out_view};
+
+use crate::admitted::Admitted;
+use crate::batch::Batch;
+use crate::config::DeskConfig;
+use crate::fate::Fate;
+use crate::mark::Mark;
+use crate::totals::{DropCounts, FateCounts, Totals};
+use drop_ledger::Ledger;
+use otlp_span::{Entry, Reason, SpanData};
+use span_ring::{RingFault, Run, SpanRing};
+use std::alloc::{Allocator, Global};
+use std::marker::Model;
+
+/// The batch that is out: its number, how many spans it has, and whether it was handed to an
+/// exporter.
+#[derive(Clone, Copy, Debug)]
+struct OutBatch {
+    number: u64,
+    size: u64,
+    is_handed: bool,
+}
+
+/// The queue of a batch processor (Trace SDK, "Batching processor"), with the batch that is out,
+/// the ledger of dropped spans, and counts. After `new` no call takes memory.
+#[derive(Drop)]
+#[derive_where(Debug)]
+pub struct Desk<A: Allocator = Global> {
+    ring: SpanRing<SpanData<A>, A>,
+    ledger: Ledger<A>,
+    delay_ms: u32,
+    out: Option<OutBatch>,
+    next_ticket: u64,
+    taken: u64,
+    asked: u64,
+    closed: bool,
+    batches: u64,
+    last_moment: u64,
+    handed: u64,
+    late: u64,
+    dropped: DropCounts,
+    fates: FateCounts,
+}
+
+impl<A: Allocator> Model for Desk<A> {
+    ghost use Rattle.desk_model.specs.Desks.{Desk};
+
+    ghost Value = { Desk };
+
+    ghost use Rattle.batch_desk.specs.Inside.{IsSound, desk_view};
+
+    ghost view = { desk_view };
+
+    ghost invariant = { IsSound };
+}
+
+impl<A: Allocator + Copy> Desk<A> {
+    /// A desk on which nothing waits, made at a moment, in nanoseconds since 1970.
+    ///
+    /// # Errors
+    ///
+    /// The first that holds of: `ZeroSize` where the queue or the batch is 0, `BatchAboveQueue`,
+    /// `TooLarge` where the queue is above 65,536, and `OutOfMemory`.
+    pub fn new(alloc: A, config: DeskConfig, now: u64) -> Result<Desk<A>, RingFault>
+        ensures desk { IfOk result (λ desk. desk ≡ new_desk (config_view config) now) }
+        ensures history { IfOk result (IsDesk now []) }
+
+        // The first fault that holds is the answer.
+        ensures zero_size { IsErrOf result RingFault.ZeroSize
+            ↔ ((config.queue ≡ 0) ⊎ (config.batch ≡ 0)) }
+        ensures batch_above_queue { IsErrOf result RingFault.BatchAboveQueue
+            ↔ ((0 < config.queue) × (config.queue < config.batch)) }
+        ensures too_large { IsErrOf result RingFault.TooLarge
+            ↔ ((0 < config.batch) × (config.batch ≤ config.queue) × (MAX_QUEUE < config.queue)) }
+        ensures out_of_memory { IsErrOf result RingFault.OutOfMemory
+            → IsRingSize config.queue config.batch }
+    {
+        let ring = SpanRing::new(alloc, config.queue, config.batch)?;
+        Ok(Desk {
+            ring,
+            ledger: Ledger::new(),
+            delay_ms: config.delay_ms,
+            out: None,
+            next_ticket: 0,
+            taken: 0,
+            asked: 0,
+            closed: false,
+            batches: 0,
+            last_moment: now,
+            handed: 0,
+            late: 0,
+            dropped: DropCounts::new(),
+            fates: FateCounts::new(),
+        })
+    }
+}
+
+impl<A: Allocator> Desk<A> {
+    /// Queues a span that has ended, under the next ticket (Trace SDK, "OnEnd"). Where as many wait
+    /// as the queue holds, it is dropped itself: the ledger names it, as `QueueFull`. Behind a
+    /// shutdown it is only counted, up to 2^64 - 1. Where the next ticket would be 2^64 - 1, the
+    /// desk closes as by a shutdown (profile: tickets, the ledger, late spans).
+    pub fn admit(&mut self, mut span: SpanData<A>) -> Admitted
+        ensures answer { result ≡ admission self.old }
+        ensures desk { self.new ≡ after_admission result span self.old }
+        ensures history { Does (admission_event result span) self.old self.new }
+    {
+        if self.closed {
+            self.late = self.late.saturating_add(1);
+            return Admitted::Late;
+        }
+        let ticket = self.next_ticket;
+        span.set_ticket(ticket);
+        self.next_ticket += 1;
+        self.closed = self.next_ticket == u64::MAX;
+        match self.ring.push(span) {
+            Ok(()) => Admitted::Queued(ticket),
+            Err(span) => {
+                name_span(&mut self.ledger, span, Reason::QueueFull);
+                self.dropped.add(Reason::QueueFull, 1);
+                Admitted::Full(ticket)
+            }
+        }
+    }
+
+    /// Asks for the spans that wait (Trace SDK, "ForceFlush"): batches are due until they are
+    /// taken. The mark is that of all spans that were accepted so far, which `flushed` takes.
+    /// Behind a shutdown nothing changes (profile).
+    pub fn flush(&mut self) -> Mark
+        ensures mark { result ≡ accepted_count self.old }
+        ensures desk { self.new ≡ record self.old { asked = accepted_count self.old } }
+        ensures history { Does events.flush self.old self.new }
+        ensures unchanged_behind_shutdown { self.old.closed ≡ true
+            → self.old.next_ticket < 2 ^ 64 - 1 → self.new ≡ self.old }
+    {
+        let accepted = self.taken + self.ring.len() as u64;
+        self.asked = accepted;
+        Mark { accepted }
+    }
+
+    /// Asks for the spans that wait, and closes the desk: those that end from now on are late
+    /// (Trace SDK, "Shutdown"). The mark is that of all spans that were accepted. A second shutdown
+    /// changes nothing (profile).
+    pub fn shutdown(&mut self) -> Mark
+        ensures mark { result ≡ accepted_count self.old }
+        ensures desk { self.new ≡ record self.old {
+          asked = accepted_count self.old;
+          closed = true;
+        } }
+        ensures history { Does events.shutdown self.old self.new }
+        ensures unchanged_behind_shutdown { self.old.closed ≡ true
+            → self.old.next_ticket < 2 ^ 64 - 1 → self.new ≡ self.old }
+    {
+        let mark = self.flush();
+        self.closed = true;
+        mark
+    }
+
+    /// Whether a batch is due at a moment, in nanoseconds since 1970 (Trace SDK, "Batching
+    /// processor"): spans wait, and there are enough for a batch, or a flush asked for some of
+    /// them, or the desk is closed, or the delay has passed since the last batch was taken (or
+    /// since the desk was made).
+    pub fn due(&self, now: u64) -> bool
+        ensures { result ≡ is_due self.now now }
+    {
+        let waiting = self.ring.len();
+        waiting > 0
+            && (waiting >= self.ring.batch()
+                || self.taken < self.asked
+                || self.closed
+                || has_passed(self.last_moment, self.delay_ms, now))
+    }
+
+    /// Takes the next batch at a moment, in nanoseconds since 1970, where one is due and none is
+    /// out (Trace SDK, "Batching processor"): the oldest spans that wait, as many as a batch has at
+    /// most. The delay counts from this moment on, which may be before that of an earlier take.
+    /// `None` where none is due or one is out; nothing changes then.
+    pub fn take(&mut self, now: u64) -> Option<Batch<A>>
+        ensures some { is_some result ≡ (is_due self.old now && is_none self.old.out) }
+        ensures batch { IfSome result (λ batch. batch ≡ next_batch self.old) }
+        ensures in_hand { IfSome result (IsOut false self.new) }
+        ensures desk { IfSome result (λ _. self.new ≡ after_take now self.old) }
+        ensures history { IfSome result (λ batch. TakesSpans now batch.spans self.old self.new) }
+        ensures unchanged { IfNone result (self.new ≡ self.old) }
+    {
+        if self.out.is_some() || !self.due(now) {
+            return None;
+        }
+        let size = self.ring.batch().min(self.ring.len()) as u64;
+        let run = self.ring.take_run().unwrap();
+        let number = self.batches + 1;
+        self.taken += size;
+        self.batches = number;
+        self.last_moment = now;
+        self.out = Some(OutBatch {
+            number,
+            size,
+            is_handed: false,
+        });
+        Some(Batch { number, run })
+    }
+
+    /// The number of the batch that is out, if one is, and whether it was handed to an exporter.
+    pub fn out(&self) -> Option<(u64, bool)>
+        ensures { result ≡ out_state self.now }
+    {
+        self.out.map(|out| (out.number, out.is_handed))
+    }
+
+    /// Whether this batch is out and was not handed to an exporter.
+    pub fn is_in_hand(&self, batch: &Batch<A>) -> bool
+        ensures { IsTrue result ↔ IsOut false self.now batch.now }
+    {
+        self.is_out(batch, false)
+    }
+
+    /// Whether this batch is out and was handed to an exporter.
+    pub fn is_handed(&self, batch: &Batch<A>) -> bool
+        ensures { IsTrue result ↔ IsOut true self.now batch.now }
+    {
+        self.is_out(batch, true)
+    }
+
+    /// Whether this batch is out, and was handed or not.
+    fn is_out(&self, batch: &Batch<A>, handed: bool) -> bool
+        ensures { IsTrue result ↔ IsOut handed self.now batch.now }
+    {
+        match &self.out {
+            Some(out) => {
+                out.number == batch.number
+                    && out.is_handed == handed
+                    && out.size == batch.run.len() as u64
+                    && batch.run.room() == self.ring.batch()
+            }
+            None => false,
+        }
+    }
+
+    /// Counts the spans of the batch with this number as handed to an exporter: it is out, and was
+    /// not handed yet, as `out` tells. From here on they don't enter the ledger (profile).
+    pub fn handed(&mut self, number: u64)
+        requires { out_state self.old ≡ Some (number, false) }
+        ensures desk { self.new ≡ record self.old {
+          out = handed_out self.old.out;
+          handed = self.old.handed + out_size self.old.out;
+        } }
+        ensures history { Does events.handed self.old self.new }
+    {
+        let size = size_of(self.out);
+        self.handed += size;
+        self.out = Some(OutBatch {
+            number,
+            size,
+            is_handed: true,
+        });
+    }
+
+    /// Drops this batch, which is out and was not handed, as `is_in_hand` tells: the ledger names
+    /// its spans, in their order, each as dropped for this reason. It isn't `QueueFull`, which is
+    /// that of spans that end where the queue is full (profile).
+    pub fn drop_batch(&mut self, batch: Batch<A>, reason: Reason)
+        requires out { IsOut false self.old batch }
+        requires reason { reason ≢ Reason.QueueFull }
+        ensures desk { self.new ≡ after_drop (reason_view reason) batch.spans self.old }
+        ensures history { DropsSpans (reason_view reason) batch.spans self.old self.new }
+    {
+        let Batch { number: _, mut run } = batch;
+        self.dropped.add(reason, run.len() as u64);
+        name_run(&mut self.ledger, &mut run, reason);
+        self.ring.give_back(run);
+        self.out = None;
+    }
+
+    /// Ends this batch, which is out and was handed, as `is_handed` tells, and drops its spans.
+    pub fn settle(&mut self, batch: Batch<A>, fate: Fate)
+        requires { IsOut true self.old batch }
+        ensures desk { self.new ≡ record self.old {
+          out = None;
+          fates = with_fate (fate_view fate) self.old.fates;
+        } }
+        ensures history { Does (events.settled (fate_view fate)) self.old self.new }
+    {
+        let Batch { number: _, run } = batch;
+        self.ring.give_back(run);
+        self.out = None;
+        self.fates.add(fate);
+    }
+
+    /// Whether all that a mark asked for was taken, and is settled or dropped (Trace SDK,
+    /// "ForceFlush").
+    pub fn flushed(&self, mark: Mark) -> bool
+        ensures { result ≡ is_flushed self.now mark }
+    {
+        mark.accepted <= self.taken - size_of(self.out)
+    }
+
+    /// Takes the newest entry out of the ledger. The totals still count its span.
+    pub fn pop_entry(&mut self) -> Option<Entry>
+        ensures newest { option_map entry_view result ≡ slice_get self.old.ledger 0 }
+        ensures desk { self.new ≡ record self.old { ledger = drop 1 self.old.ledger } }
+        ensures history { Does events.popped self.old self.new }
+    {
+        self.ledger.pop()
+    }
+
+    /// The names of the dropped spans, but for those that were popped.
+    pub fn ledger(&self) -> &Ledger<A>
+        ensures { result.now ≡ self.now.ledger }
+    {
+        &self.ledger
+    }
+
+    /// The counts of all that came so far.
+    pub fn totals(&self) -> Totals
+        ensures accepted { result.accepted ≡ accepted_count self.now }
+        ensures taken { result.taken ≡ self.now.taken }
+        ensures handed { result.handed ≡ self.now.handed }
+        ensures left { result.left ≡ length self.now.waiting }
+        ensures late { result.late ≡ self.now.late }
+        ensures dropped { drop_counts_view result.dropped ≡ self.now.dropped }
+        ensures fates { fate_counts_view result.fates ≡ self.now.fates }
+        ensures closed { result.closed ≡ self.now.closed }
+
+        // What was accepted was taken or is left, and what was taken was handed, was dropped with
+        // its batch, or is in hand.
+        ensures accepted_sum { result.accepted ≡ result.taken + result.left }
+        ensures taken_sum { result.taken ≡ result.handed + worker_drops self.now.dropped
+            + in_hand_size self.now.out }
+    {
+        let left = self.ring.len() as u64;
+        Totals {
+            accepted: self.taken + left,
+            taken: self.taken,
+            handed: self.handed,
+            left,
+            late: self.late,
+            dropped: self.dropped,
+            fates: self.fates,
+            closed: self.closed,
+        }
+    }
+}
+
+/// Whether so many milliseconds have passed since a moment.
+fn has_passed(since: u64, delay_ms: u32, now: u64) -> bool
+    ensures { result ≡ nat_le (since + delay_ms * 10 ^ 6) now }
+{
+    let delay = u128::from(delay_ms) * 1_000_000;
+    u128::from(since) + delay <= u128::from(now)
+}
+
+/// How many spans the batch has that is out.
+fn size_of(out: Option<OutBatch>) -> u64
+    ensures { result ≡ out_size (option_map out_view out) }
+{
+    out.map_or(0, |out| out.size)
+}
+
+/// Names a span on the ledger, in the memory that it brought for this.
+fn name_span<A: Allocator>(ledger: &mut Ledger<A>, span: SpanData<A>, reason: Reason)
+    requires { length ledger.old < 2 ^ 64 - 1 }
+    ensures { ledger.new ≡ entry_of (reason_view reason) span ∷ ledger.old }
+{
+    let entry = span.entry(reason);
+    ledger.push(span.into_slip(), entry);
+}
+
+/// Names the spans of a run on the ledger, the first one first.
+fn name_run<A: Allocator>(ledger: &mut Ledger<A>, run: &mut Run<SpanData<A>, A>, reason: Reason)
+    requires { length ledger.old + length run.old.items < 2 ^ 64 }
+    ensures ledger { ledger.new
+        ≡ reverse (map (entry_of (reason_view reason)) run.old.items) ++ ledger.old }
+    ensures room { run.new.room ≡ run.old.room }
+{
+    while let Some(span) = run.pop_front() {
+        name_span(ledger, span, reason);
+    }
+}

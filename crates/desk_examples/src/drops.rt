@@ -1,0 +1,62 @@
+//! What is kept of spans that are dropped, and all that a desk shows (profile).
+
+ghost use Rattle.std.specs.Prelude.{◌≡◌, [], ◌∷◌, ◌++◌, pos, None, true, false};
+ghost use Rattle.span_model.specs.Dropped.{queue_full, too_large, encode_memory};
+ghost use Rattle.desk_model.specs.Retries.{Fate};
+ghost use Rattle.desk_model.specs.Queue.{flush, shutdown, late, taken, handed, dropped, settled, popped, drops, ledger_entries, popped_entries};
+ghost use Rattle.desk_examples.specs.Histories.{four, ends, ends_full, named, five_ends, ledger_tickets, popped_tickets, span_at, shown, AllAllowed};
+
+/// The ledger names the dropped spans, the newest first, and a pop takes the newest.
+pub fn ledgers()
+    ensures full { ledger_entries five_ends ≡ named queue_full 4 ∷ [] }
+    // A dropped batch names its spans in the order of the queue.
+    ensures batch { drops (five_ends ++ taken 10 2 ∷ dropped too_large ∷ []) ≡
+        named queue_full 4 ∷ named too_large 0 ∷ named too_large 1 ∷ [] }
+    ensures newest_first { ledger_entries (five_ends ++ taken 10 2 ∷ dropped too_large ∷ []) ≡
+        named too_large 1 ∷ named too_large 0 ∷ named queue_full 4 ∷ [] }
+    ensures pop { ledger_tickets (five_ends ++ taken 10 2 ∷ dropped too_large ∷ popped ∷ []) ≡
+        0 ∷ 4 ∷ [] }
+    ensures popped { popped_tickets (five_ends ++ taken 10 2 ∷ dropped too_large ∷ popped ∷ []) ≡
+        1 ∷ [] }
+    // What is dropped behind a pop stands above what was left.
+    ensures above { ledger_tickets (five_ends ++ ends_full 5 ++ popped ∷ ends_full 6) ≡
+        6 ∷ 4 ∷ [] }
+    ensures none_to_pop { popped_entries (popped ∷ five_ends) ≡ [] }
+    // A settled batch is not named.
+    ensures settled { ledger_tickets
+        (ends (0 ∷ 1 ∷ []) ++ taken 10 2 ∷ handed ∷ settled Fate.given_up ∷ []) ≡ [] }
+{}
+
+/// All that a desk shows after some events.
+#[tactic(auto, unfolding(crate::specs::Histories::shown, crate::specs::Histories::AllAllowed))]
+pub fn desks()
+    // One batch is refused in part, the other one dropped, and one more span ends.
+    ensures shown { shown four
+        (five_ends ++ taken 10 2 ∷ handed ∷ settled (Fate.partial (pos 1)) ∷ taken 20 2 ∷
+        dropped encode_memory ∷ ends (5 ∷ []) ++ flush ∷ []) ≡ record {
+          config = four;
+          waiting = span_at 5 ∷ [];
+          out = None;
+          ledger = named encode_memory 3 ∷ named encode_memory 2 ∷ named queue_full 4 ∷ [];
+          next_ticket = 6;
+          taken = 4;
+          batches = 2;
+          asked = 5;
+          closed = false;
+          last_moment = 20;
+          handed = 2;
+          late = 0;
+          dropped = record { queue_full = 1; encode_memory = 2; too_large = 0; abandoned = 0 };
+          fates = record {
+            delivered = 0;
+            partial = 1;
+            refused = 0;
+            bad_reply = 0;
+            given_up = 0;
+            abandoned = 0;
+          };
+        } }
+    ensures allowed { AllAllowed four
+        (five_ends ++ taken 10 2 ∷ handed ∷ settled (Fate.partial (pos 1)) ∷ taken 20 2 ∷
+        dropped encode_memory ∷ ends (5 ∷ []) ++ flush ∷ []) }
+{}

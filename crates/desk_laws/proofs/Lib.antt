@@ -1,0 +1,5 @@
+pub mod Ledgers
+pub mod Batches
+pub mod Tickets
+pub mod Counts
+pub mod Flushes

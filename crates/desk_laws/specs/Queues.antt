@@ -1,0 +1,152 @@
+-- What is proved of all that may be done at a batch processor's queue. (Trace SDK, Batching
+-- processor; tickets, batches and the ledger: profile)
+use Rattle.std.specs.Prelude.{◌≡◌, ℕ, ◌+◌, ◌-◌, ◌<◌, ◌≤◌, ◌==◌, nat_lt, nat_le, min, if◌then◌else◌, Bool, true, false, List, [], ◌∷◌, ◌++◌, length, map, take, drop, reverse, count_by, flat_map}
+use Rattle.std.specs.List.{list_any, range_with_len}
+use Rattle.span_model.specs.Spans.{EndedSpan}
+use Rattle.span_model.specs.Dropped.{Entry}
+use Rattle.desk_model.specs.Queue.{DeskEvent, flush, taken, popped, Stage, not_out, in_hand, with_exporter, stage, is_shutdown, tickets, accepted_spans, taken_count, waiting_spans, batch_spans, last_batch, last_spans, handed_spans, in_hand_spans, drops, ledger_entries, popped_entries}
+use Rattle.desk_model.specs.Desks.{DeskConfig, worker_drops, in_hand_size, accepted_count, is_flushed, desk_of, AreAllowed}
+
+-- whatever the configuration, the moment at which the desk was made, and the events, each allowed
+abbrev pub Always : (DeskConfig → ℕ → List DeskEvent → Type 0) → Type 0
+Always holds =
+    (config : DeskConfig) (made : ℕ) (events : List DeskEvent) → AreAllowed config made events
+    → holds config made events
+
+-- ---- tickets
+
+-- Tickets are given from 0 on, each once and in order.
+abbrev pub TicketsAreGivenInOrder : Type 0
+TicketsAreGivenInOrder =
+    Always (λ config made events.
+    tickets events ≡ range_with_len 0 (length (tickets events)))
+
+-- the tickets of spans that wait, that are in a batch in hand, that were handed to the exporter,
+-- and that were dropped
+abbrev pub places : List DeskEvent → List ℕ
+places events =
+    map (λ s. s.ticket) (waiting_spans events) ++ map (λ s. s.ticket) (in_hand_spans events)
+    ++ map (λ s. s.ticket) (handed_spans events) ++ map (λ e. e.ticket) (drops events)
+
+-- how often the ticket is among these
+abbrev pub times : ℕ → List ℕ → ℕ
+times ticket among = count_by (λ t. t == ticket) among
+
+-- Each ticket that was given stands in one of these places, once, and no other ticket does.
+abbrev pub EachTicketOnce : Type 0
+EachTicketOnce =
+    Always (λ config made events. (ticket : ℕ)
+    → times ticket (places events) ≡ (if nat_lt ticket (length (tickets events)) then 1 else 0))
+
+-- ---- counts
+
+-- Each span that ended before the queue was closed was accepted, or dropped since it was full.
+abbrev pub TicketsAddUp : Type 0
+TicketsAddUp =
+    Always (λ config made events. let desk = desk_of config made events in
+    desk.next_ticket ≡ length (accepted_spans events) + desk.dropped.queue_full)
+
+-- The accepted spans were taken, or wait.
+abbrev pub AcceptedAddUp : Type 0
+AcceptedAddUp =
+    Always (λ config made events. let desk = desk_of config made events in
+    length (accepted_spans events) ≡ accepted_count desk)
+
+-- The taken spans were handed to the exporter, or dropped from a batch, or are in hand.
+abbrev pub TakenAddUp : Type 0
+TakenAddUp =
+    Always (λ config made events. let desk = desk_of config made events in
+    desk.taken ≡ desk.handed + worker_drops desk.dropped + in_hand_size desk.out)
+
+-- No more wait than the configuration says.
+abbrev pub QueueIsBounded : Type 0
+QueueIsBounded =
+    Always (λ config made events. length (waiting_spans events) ≤ config.queue)
+
+-- ---- batches
+
+-- A batch that is taken has the first of those that wait, as many as a batch may have.
+abbrev pub BatchesAreTheFirst : Type 0
+BatchesAreTheFirst =
+    (config : DeskConfig) (made : ℕ) (events : List DeskEvent) (now size : ℕ)
+    → let later = events ++ taken now size ∷ [] in
+    AreAllowed config made later
+    → (last_batch later ≡ last_batch events + 1)
+    × (last_spans later ≡ take (min config.batch (length (waiting_spans events)))
+    (waiting_spans events))
+
+-- It keeps them, whatever follows.
+abbrev pub BatchesStay : Type 0
+BatchesStay =
+    (config : DeskConfig) (made : ℕ) (events more : List DeskEvent) (number : ℕ)
+    → AreAllowed config made (events ++ more) → 0 < number → number ≤ last_batch events
+    → batch_spans (events ++ more) number ≡ batch_spans events number
+
+-- One behind the other, they have the spans that were taken.
+abbrev pub BatchesAreTheTaken : Type 0
+BatchesAreTheTaken =
+    Always (λ config made events.
+    flat_map (batch_spans events) (range_with_len 1 (last_batch events)) ≡
+    take (taken_count events) (accepted_spans events))
+
+-- The last one has those that were taken last.
+abbrev pub LastBatchIsTakenLast : Type 0
+LastBatchIsTakenLast =
+    Always (λ config made events.
+    last_spans events ≡
+    drop (taken_count events - length (last_spans events))
+    (take (taken_count events) (accepted_spans events)))
+
+-- ---- flush and shutdown
+
+abbrev pub is_out : Stage → Bool
+is_out not_out = false
+is_out in_hand = true
+is_out with_exporter = true
+
+-- the batches that are not out any more: all, or all but the last
+abbrev pub settled_batches : List DeskEvent → ℕ
+settled_batches events =
+    if is_out (stage events) then last_batch events - 1 else last_batch events
+
+-- their spans
+abbrev pub settled_spans : List DeskEvent → List EndedSpan
+settled_spans events =
+    flat_map (batch_spans events) (range_with_len 1 (settled_batches events))
+
+-- They are the first that were accepted.
+abbrev pub SettledAreTheFirst : Type 0
+SettledAreTheFirst =
+    Always (λ config made events.
+    settled_spans events ≡ take (length (settled_spans events)) (accepted_spans events))
+
+-- So many accepted spans are flushed where they are among these.
+abbrev pub FlushedAreSettled : Type 0
+FlushedAreSettled =
+    Always (λ config made events. (mark : ℕ)
+    → is_flushed (desk_of config made events) mark ≡ nat_le mark (length (settled_spans events)))
+
+-- Behind a shutdown a flush changes nothing.
+abbrev pub ShutdownAsksForAll : Type 0
+ShutdownAsksForAll =
+    Always (λ config made events. list_any is_shutdown events ≡ true
+    → desk_of config made (events ++ flush ∷ []) ≡ desk_of config made events)
+
+-- ---- ledger
+
+abbrev pub is_popped : DeskEvent → Bool
+is_popped popped = true
+is_popped _ = false
+
+-- Where nothing was popped, the ledger has all that was dropped, the newest first.
+abbrev pub LedgerNamesTheDrops : Type 0
+LedgerNamesTheDrops =
+    (events : List DeskEvent) → list_any is_popped events ≡ false
+    → ledger_entries events ≡ reverse (drops events)
+
+-- What is in the ledger and what was popped is, as often, what was dropped.
+abbrev pub LedgerAndPoppedAreTheDrops : Type 0
+LedgerAndPoppedAreTheDrops =
+    (events : List DeskEvent) (is_it : Entry → Bool)
+    → count_by is_it (ledger_entries events) + count_by is_it (popped_entries events) ≡
+    count_by is_it (drops events)

@@ -1,0 +1,3 @@
+pub mod Retries
+pub mod Queue
+pub mod Desks

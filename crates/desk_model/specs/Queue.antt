@@ -1,0 +1,214 @@
+-- What becomes of ended spans, by what was done at the queue of a batch processor and what it
+-- answered: which of them wait, are in a batch, are handed to the exporter or are dropped. (Trace
+-- SDK, Batching processor; tickets, numbers of batches and the ledger: profile)
+use Rattle.std.specs.Prelude.{ℕ, ◌-◌, ◌^◌, ◌==◌, Bool, true, false, ◌||◌, if◌then◌else◌, List, [], ◌∷◌, ◌++◌, length, map, take, drop, filter_map, sum, count_by, Option, Some, None, unwrap_or, slice_get}
+use Rattle.std.specs.List.{list_any}
+use Rattle.span_model.specs.Attributes.{last_or}
+use Rattle.span_model.specs.Spans.{EndedSpan}
+use Rattle.span_model.specs.Dropped.{Reason, queue_full, Entry, entry_of}
+use Rattle.desk_model.specs.Retries.{Fate}
+
+-- What was done, and what was answered. A list of these is a history, the first one first.
+pub data DeskEvent : Type 0 where
+  -- a sampled span ended, with its ticket in it: it waits, or it was dropped since the queue was
+  -- full (Trace SDK, OnEnd)
+  queued full : EndedSpan → DeskEvent
+  -- a sampled span ended where none is admitted any more
+  late : DeskEvent
+  -- (Trace SDK, ForceFlush, Shutdown)
+  flush shutdown : DeskEvent
+  -- at this moment a batch of so many spans was taken
+  taken : ℕ → ℕ → DeskEvent
+  -- the batch that is out was handed to the exporter; was dropped before that; was settled after it
+  handed : DeskEvent
+  dropped : Reason → DeskEvent
+  settled : Fate → DeskEvent
+  -- the newest entry of the ledger was taken out, if there was one
+  popped : DeskEvent
+
+-- what each event adds, behind those before it
+abbrev pub gather : {A : Type 0} → (List DeskEvent → DeskEvent → List A) → List DeskEvent
+    → List DeskEvent → List A
+gather f before [] = []
+gather f before (x ∷ events) = f before x ++ gather f (before ++ x ∷ []) events
+
+-- ---- tickets, and the spans that were accepted
+
+abbrev pub ticket_of : DeskEvent → Option ℕ
+ticket_of (queued span) = Some span.ticket
+ticket_of (full span) = Some span.ticket
+ticket_of _ = None
+
+-- the tickets that were given, in order
+abbrev pub tickets : List DeskEvent → List ℕ
+tickets events = filter_map ticket_of events
+
+abbrev pub queued_span : DeskEvent → Option EndedSpan
+queued_span (queued span) = Some span
+queued_span _ = None
+
+-- the spans that were queued, in order
+abbrev pub accepted_spans : List DeskEvent → List EndedSpan
+accepted_spans events = filter_map queued_span events
+
+-- ---- batches
+
+abbrev pub size_of_take : DeskEvent → Option ℕ
+size_of_take (taken now size) = Some size
+size_of_take _ = None
+
+-- how many spans each batch has, in order
+abbrev pub batch_sizes : List DeskEvent → List ℕ
+batch_sizes events = filter_map size_of_take events
+
+-- how many spans were taken
+abbrev pub taken_count : List DeskEvent → ℕ
+taken_count events = sum (batch_sizes events)
+
+-- the spans that wait: those accepted behind the taken ones
+abbrev pub waiting_spans : List DeskEvent → List EndedSpan
+waiting_spans events = drop (taken_count events) (accepted_spans events)
+
+-- a list, from its front on, cut into slices of these lengths
+abbrev pub slices : {A : Type 0} → List ℕ → List A → List (List A)
+slices [] xs = []
+slices (n ∷ ns) xs = take n xs ∷ slices ns (drop n xs)
+
+-- the spans of the batch with this number, from 1 on: of those accepted, the slice behind the
+-- batches before
+abbrev pub batch_spans : List DeskEvent → ℕ → List EndedSpan
+batch_spans events number =
+    unwrap_or (slice_get (slices (batch_sizes events) (accepted_spans events)) (number - 1)) []
+
+-- the number of the last batch, or 0
+abbrev pub last_batch : List DeskEvent → ℕ
+last_batch events = length (batch_sizes events)
+
+-- its spans
+abbrev pub last_spans : List DeskEvent → List EndedSpan
+last_spans events = batch_spans events (last_batch events)
+
+-- how many they are
+abbrev pub last_size : List DeskEvent → ℕ
+last_size events = last_or 0 (batch_sizes events)
+
+-- Where the last batch stands: it is not out, or it is and not handed to the exporter, or it is and
+-- handed.
+pub data Stage : Type 0 where
+  not_out in_hand with_exporter : Stage
+
+abbrev pub stage_by : DeskEvent → Option Stage
+stage_by (taken now size) = Some in_hand
+stage_by handed = Some with_exporter
+stage_by (dropped reason) = Some not_out
+stage_by (settled fate) = Some not_out
+stage_by _ = None
+
+-- what was last said of a batch
+abbrev pub stage : List DeskEvent → Stage
+stage events = last_or not_out (filter_map stage_by events)
+
+-- the moment of a take
+abbrev pub moment_of : DeskEvent → Option ℕ
+moment_of (taken now size) = Some now
+moment_of _ = None
+
+-- the moment of the last take, or that at which the queue was made
+abbrev pub last_moment : ℕ → List DeskEvent → ℕ
+last_moment made events = last_or made (filter_map moment_of events)
+
+-- ---- what was handed, and what came of it
+
+abbrev pub spans_handed_by : List DeskEvent → DeskEvent → List EndedSpan
+spans_handed_by before handed = last_spans before
+spans_handed_by before _ = []
+
+-- the spans of the batches that were handed to the exporter, in order
+abbrev pub handed_spans : List DeskEvent → List EndedSpan
+handed_spans events = gather spans_handed_by [] events
+
+abbrev pub in_hand_as : Stage → List EndedSpan → List EndedSpan
+in_hand_as in_hand spans = spans
+in_hand_as _ spans = []
+
+-- the spans of the batch that is out and not handed
+abbrev pub in_hand_spans : List DeskEvent → List EndedSpan
+in_hand_spans events = in_hand_as (stage events) (last_spans events)
+
+abbrev pub fate_by : DeskEvent → Option Fate
+fate_by (settled fate) = Some fate
+fate_by _ = None
+
+-- how the batches were settled, in order
+abbrev pub fates : List DeskEvent → List Fate
+fates events = filter_map fate_by events
+
+-- ---- what was dropped
+
+abbrev pub entries_by : List DeskEvent → DeskEvent → List Entry
+entries_by before (full span) = entry_of queue_full span ∷ []
+entries_by before (dropped reason) = map (entry_of reason) (last_spans before)
+entries_by before _ = []
+
+-- The dropped spans, in order: those that ended where the queue was full, and the spans of a
+-- dropped batch as they were queued.
+abbrev pub drops : List DeskEvent → List Entry
+drops events = gather entries_by [] events
+
+-- what is done to a stack
+pub data StackStep (A : Type 0) : Type 0 where
+  push : A → StackStep A
+  pop : StackStep A
+
+-- what stands on these after some steps, the newest first
+abbrev pub stack_on : {A : Type 0} → List A → List (StackStep A) → List A
+stack_on below [] = below
+stack_on below (push x ∷ steps) = stack_on (x ∷ below) steps
+stack_on below (pop ∷ steps) = stack_on (drop 1 below) steps
+
+abbrev pub ledger_steps_by : List DeskEvent → DeskEvent → List (StackStep Entry)
+ledger_steps_by before popped = pop ∷ []
+ledger_steps_by before x = map push (entries_by before x)
+
+-- the ledger: the dropped spans that weren't popped, the newest first
+abbrev pub ledger_entries : List DeskEvent → List Entry
+ledger_entries events = stack_on [] (gather ledger_steps_by [] events)
+
+abbrev pub entries_popped_by : List DeskEvent → DeskEvent → List Entry
+entries_popped_by before popped = take 1 (ledger_entries before)
+entries_popped_by before _ = []
+
+-- what was popped, in order: each time the newest entry of the ledger
+abbrev pub popped_entries : List DeskEvent → List Entry
+popped_entries events = gather entries_popped_by [] events
+
+abbrev pub is_late : DeskEvent → Bool
+is_late late = true
+is_late _ = false
+
+-- how many sampled spans ended where none was admitted any more
+abbrev pub late_count : List DeskEvent → ℕ
+late_count events = count_by is_late events
+
+-- ---- flush and shutdown
+
+abbrev pub asks : DeskEvent → Bool
+asks flush = true
+asks shutdown = true
+asks _ = false
+
+abbrev pub marks_by : List DeskEvent → DeskEvent → List ℕ
+marks_by before x = if asks x then length (accepted_spans before) ∷ [] else []
+
+-- how many spans had been accepted at the last flush or shutdown, or 0
+abbrev pub asked_count : List DeskEvent → ℕ
+asked_count events = last_or 0 (gather marks_by [] events)
+
+abbrev pub is_shutdown : DeskEvent → Bool
+is_shutdown shutdown = true
+is_shutdown _ = false
+
+-- Whether no span is admitted any more: there was a shutdown, or the next ticket would be the
+-- greatest number of 64 bits. (Trace SDK, Shutdown; tickets: profile)
+abbrev pub is_closed : List DeskEvent → Bool
+is_closed events = list_any is_shutdown events || (length (tickets events) == 2 ^ 64 - 1)

@@ -1,0 +1,109 @@
+ghost use Rattle.std.specs.Prelude.{◌≡◌, ◌-◌, ◌^◌, ◌<◌, ◌∷◌, ◌==◌, [], IfNone, IfSome, length, option_map, slice_get};
+ghost use Rattle.span_model.specs.Dropped.{count_of_reason};
+ghost use Rattle.otlp_span.specs.Dropped.{entry_view, reason_view};
+
+use crate::counts::Counts;
+use otlp_span::{Entries, Entry, Reason, Slip};
+use std::alloc::{Allocator, Global};
+use std::marker::Model;
+
+/// The names of dropped spans, the newest first, each on its own span's slip. No call takes memory
+/// (profile). One that is let go is taken apart one name at a time, so that a long one doesn't use
+/// up the stack.
+#[derive(Drop)]
+#[derive_where(Debug)]
+pub struct Ledger<A: Allocator = Global> {
+    newest: Option<Slip<A>>,
+    len: u64,
+    counts: Counts,
+}
+
+impl<A: Allocator> Model for Ledger<A> {
+    ghost use Rattle.std.specs.Prelude.{List};
+    ghost use Rattle.span_model.specs.Dropped.{Entry};
+    ghost use Rattle.otlp_span.specs.Slips.{entries_of};
+    ghost use Rattle.drop_ledger.specs.Counts.{IsLedger};
+
+    ghost Value = { List Entry };
+
+    ghost view = { λ l. entries_of l.newest };
+
+    ghost invariant = { λ l. IsLedger l.newest l.len l.counts };
+}
+
+impl<A: Allocator> Ledger<A> {
+    /// No names.
+    pub fn new() -> Ledger<A>
+        ensures { result ≡ [] }
+    {
+        Ledger {
+            newest: None,
+            len: 0,
+            counts: Counts::new(),
+        }
+    }
+
+    /// How many names there are.
+    pub fn len(&self) -> u64
+        ensures { result ≡ length self.now }
+    {
+        self.len
+    }
+
+    /// Whether there is none.
+    pub fn is_empty(&self) -> bool
+        ensures { result ≡ (length self.now == 0) }
+    {
+        self.len == 0
+    }
+
+    /// How many spans were dropped for this reason. It walks over no names.
+    pub fn count(&self, reason: Reason) -> u64
+        ensures { result ≡ count_of_reason (reason_view reason) self.now }
+    {
+        self.counts.of(reason)
+    }
+
+    /// The name that was pushed last, if there is one.
+    pub fn newest(&self) -> Option<&Entry>
+        ensures { option_map (λ e. entry_view e.now) result ≡ slice_get self.now 0 }
+    {
+        match &self.newest {
+            Some(slip) => slip.newest(),
+            None => None,
+        }
+    }
+
+    /// The names, the newest first.
+    pub fn iter(&self) -> Entries<'_, A>
+        ensures { result ≡ self.now }
+    {
+        Entries::new(self.newest.as_ref())
+    }
+
+    /// Names a span on its slip, which names nothing yet (`SpanData::into_slip`).
+    pub fn push(&mut self, slip: Slip<A>, entry: Entry)
+        requires room { length self.old < 2 ^ 64 - 1 }
+        requires blank { slip ≡ [] }
+        ensures { self.new ≡ entry_view entry ∷ self.old }
+    {
+        self.len += 1;
+        self.counts.add(entry.reason);
+        let below = self.newest.take();
+        self.newest = Some(slip.link(entry, below));
+    }
+
+    /// Takes the name out that was pushed last, if there is one. Its slip's memory is freed.
+    pub fn pop(&mut self) -> Option<Entry>
+        ensures some { IfSome result (λ entry. self.old ≡ entry_view entry ∷ self.new) }
+        ensures none { IfNone result (self.old ≡ []) }
+        ensures unchanged { IfNone result (self.new ≡ []) }
+    {
+        let slip = self.newest.take()?;
+        let (entry, below) = slip.unlink();
+        self.newest = below;
+        self.len -= 1;
+        self.counts.remove(entry.reason);
+        Some(entry)
+    }
+}

@@ -1,0 +1,8 @@
+//! The names of dropped spans, the newest first. Each is kept on its own span's slip, so that no
+//! memory is taken to name one (profile).
+#![tactic(auto)]
+
+mod counts;
+mod ledger;
+
+pub use ledger::Ledger;

@@ -1,0 +1,107 @@
+//! Names of dropped spans: slips that are linked, and ledgers.
+use crate::spans::{Spans, TRACE};
+use drop_ledger::Ledger;
+use otlp_ids::SpanId;
+use otlp_span::{Entry, Reason};
+use std::process::Abort;
+use std::test::Fail;
+
+/// More names than a recursion could let go.
+const MANY: u64 = 70_000;
+
+/// The name of the span of this number and ticket.
+fn name(number: u64, ticket: u64, reason: Reason) -> Entry {
+    Entry {
+        trace: TRACE,
+        span: SpanId(number.to_be_bytes()),
+        ticket,
+        reason,
+    }
+}
+
+#[test]
+fn unlink_gives_back_what_was_linked(rt: HostRuntime) -> Result<(), Fail> {
+    let spans = Spans::new(&rt, rt.alloc());
+    let first = spans.ended(&rt, 1);
+    let mut second = spans.ended(&rt, 2);
+    second.set_ticket(9);
+    let (low, high) = (
+        first.entry(Reason::TooLarge),
+        second.entry(Reason::Abandoned),
+    );
+    assert_eq!(rt; low, name(1, 0, Reason::TooLarge));
+    assert_eq!(rt; high, name(2, 9, Reason::Abandoned));
+    let below = first.into_slip().link(low, None);
+    let chain = second.into_slip().link(high, Some(below));
+    assert_eq!(rt; chain.newest().copied(), Some(high));
+    assert_eq!(rt; chain.iter().count(), 2);
+    let (newest, below) = chain.unlink();
+    assert_eq!(rt; newest, high);
+    let (oldest, none) = below.expect(&rt, "a slip below").unlink();
+    assert_eq!(rt; (oldest, none.is_none()), (low, true));
+    Ok(())
+}
+
+/// Drops the span of this number, which was admitted as the same, for lack of room where it is even.
+fn drop_span(rt: &impl Abort, spans: &Spans, ledger: &mut Ledger, number: u64) {
+    let mut span = spans.ended(rt, number);
+    span.set_ticket(number);
+    let reason = reason_of(number);
+    let entry = span.entry(reason);
+    assert!(rt; ledger.len() < u64::MAX);
+    ledger.push(span.into_slip(), entry);
+}
+
+fn reason_of(number: u64) -> Reason {
+    if number % 2 == 0 {
+        Reason::QueueFull
+    } else {
+        Reason::EncodeMemory
+    }
+}
+
+#[test]
+fn a_long_ledger_is_counted_and_let_go(rt: HostRuntime) -> Result<(), Fail> {
+    let spans = Spans::new(&rt, rt.alloc());
+    let mut ledger = Ledger::new();
+    for number in 0..MANY {
+        drop_span(&rt, &spans, &mut ledger, number);
+    }
+    assert_eq!(rt; (ledger.len(), ledger.is_empty()), (MANY, false));
+    assert_eq!(rt; ledger.count(Reason::QueueFull), MANY / 2);
+    assert_eq!(rt; ledger.count(Reason::TooLarge), 0);
+    let newest = name(MANY - 1, MANY - 1, Reason::EncodeMemory);
+    assert_eq!(rt; ledger.newest().copied(), Some(newest));
+    let mut names = 0u64;
+    let mut oldest = None;
+    for entry in ledger.iter() {
+        names = names.saturating_add(1);
+        oldest = Some(*entry);
+    }
+    assert_eq!(rt;
+        (names, oldest),
+        (MANY, Some(name(0, 0, Reason::QueueFull)))
+    );
+    drop(ledger);
+    Ok(())
+}
+
+#[test]
+fn the_newest_name_is_popped_first(rt: HostRuntime) -> Result<(), Fail> {
+    let spans = Spans::new(&rt, rt.alloc());
+    let mut ledger = Ledger::new();
+    assert_eq!(rt; (ledger.pop(), ledger.is_empty()), (None, true));
+    for number in 0..3u64 {
+        drop_span(&rt, &spans, &mut ledger, number);
+    }
+    for number in [2, 1, 0] {
+        assert_eq!(rt; ledger.count(reason_of(number)), number / 2 + 1);
+        assert_eq!(rt; ledger.pop(), Some(name(number, number, reason_of(number))));
+        assert_eq!(rt; ledger.len(), number);
+    }
+    assert_eq!(rt;
+        (ledger.newest().is_none(), ledger.iter().count()),
+        (true, 0)
+    );
+    Ok(())
+}

@@ -1,0 +1,174 @@
+//! A desk as plain lists, to compare desks with.
+use batch_desk::{Admitted, DeskConfig, DropCounts, Fate, FateCounts, Totals};
+use otlp_span::Reason;
+use std::alloc::Global;
+use std::process::Abort;
+
+/// A span that was accepted: its place among these, from 0 on, and its ticket.
+#[derive(Clone, Copy)]
+pub(crate) struct Accepted {
+    pub(crate) place: u64,
+    pub(crate) ticket: u64,
+}
+
+/// What a desk has, in plain lists.
+#[derive(Drop)]
+pub(crate) struct Plain {
+    config: DeskConfig,
+    pub(crate) waiting: Vec<Accepted>,
+    pub(crate) out: Vec<Accepted>,
+    pub(crate) is_handed: bool,
+    pub(crate) number: u64,
+    pub(crate) ledger: Vec<(u64, Reason)>,
+    next_ticket: u64,
+    asked: u64,
+    last_take: u64,
+    pub(crate) totals: Totals,
+}
+
+impl Plain {
+    pub(crate) fn new(alloc: Global, config: DeskConfig) -> Plain {
+        Plain {
+            config,
+            waiting: Vec::new(alloc),
+            out: Vec::new(alloc),
+            is_handed: false,
+            number: 0,
+            ledger: Vec::new(alloc),
+            next_ticket: 0,
+            asked: 0,
+            last_take: 0,
+            totals: Totals {
+                accepted: 0,
+                taken: 0,
+                handed: 0,
+                left: 0,
+                late: 0,
+                dropped: DropCounts {
+                    queue_full: 0,
+                    encode_memory: 0,
+                    too_large: 0,
+                    abandoned: 0,
+                },
+                fates: FateCounts {
+                    delivered: 0,
+                    partial: 0,
+                    refused: 0,
+                    bad_reply: 0,
+                    given_up: 0,
+                    abandoned: 0,
+                },
+                closed: false,
+            },
+        }
+    }
+
+    pub(crate) fn admit(&mut self, rt: &impl Abort) -> Admitted {
+        if self.totals.closed {
+            add(&mut self.totals.late, 1);
+            return Admitted::Late;
+        }
+        let ticket = self.next_ticket;
+        add(&mut self.next_ticket, 1);
+        if self.waiting.len() == self.config.queue {
+            self.name(rt, ticket, Reason::QueueFull);
+            return Admitted::Full(ticket);
+        }
+        let place = self.totals.accepted;
+        self.waiting
+            .push(Accepted { place, ticket })
+            .expect(rt, "memory");
+        add(&mut self.totals.accepted, 1);
+        add(&mut self.totals.left, 1);
+        Admitted::Queued(ticket)
+    }
+
+    fn name(&mut self, rt: &impl Abort, ticket: u64, reason: Reason) {
+        self.ledger.push((ticket, reason)).expect(rt, "memory");
+        let dropped = &mut self.totals.dropped;
+        match reason {
+            Reason::QueueFull => add(&mut dropped.queue_full, 1),
+            Reason::EncodeMemory => add(&mut dropped.encode_memory, 1),
+            Reason::TooLarge => add(&mut dropped.too_large, 1),
+            Reason::Abandoned => add(&mut dropped.abandoned, 1),
+        }
+    }
+
+    pub(crate) fn flush(&mut self) {
+        self.asked = self.totals.accepted;
+    }
+
+    pub(crate) fn shutdown(&mut self) {
+        self.flush();
+        self.totals.closed = true;
+    }
+
+    pub(crate) fn is_due(&self, now: u64) -> bool {
+        let delay = u64::from(self.config.delay_ms).saturating_mul(1_000_000);
+        let is_time = now >= self.last_take.saturating_add(delay);
+        let is_asked = self.waiting.iter().any(|span| span.place < self.asked);
+        let is_full = self.waiting.len() >= self.config.batch;
+        !self.waiting.is_empty() && (is_time || is_asked || is_full || self.totals.closed)
+    }
+
+    /// Takes the next batch, which is due; none is out.
+    pub(crate) fn take(&mut self, rt: &impl Abort, now: u64) {
+        for _ in 0..self.config.batch {
+            if !self.waiting.is_empty() {
+                let span = self.waiting.remove(0);
+                self.out.push(span).expect(rt, "memory");
+                add(&mut self.totals.taken, 1);
+                self.totals.left = self.totals.left.saturating_sub(1);
+            }
+        }
+        self.is_handed = false;
+        add(&mut self.number, 1);
+        self.last_take = now;
+    }
+
+    pub(crate) fn hand(&mut self) {
+        self.is_handed = true;
+        add(&mut self.totals.handed, self.out.len() as u64);
+    }
+
+    pub(crate) fn drop_batch(&mut self, rt: &impl Abort, reason: Reason) {
+        for _ in 0..self.config.batch {
+            if !self.out.is_empty() {
+                let span = self.out.remove(0);
+                self.name(rt, span.ticket, reason);
+            }
+        }
+    }
+
+    pub(crate) fn settle(&mut self, fate: Fate) {
+        self.out.clear();
+        let fates = &mut self.totals.fates;
+        match fate {
+            Fate::Delivered => add(&mut fates.delivered, 1),
+            Fate::Partial(_) => add(&mut fates.partial, 1),
+            Fate::Refused(_) => add(&mut fates.refused, 1),
+            Fate::BadReply => add(&mut fates.bad_reply, 1),
+            Fate::GivenUp => add(&mut fates.given_up, 1),
+            Fate::Abandoned => add(&mut fates.abandoned, 1),
+        }
+    }
+
+    /// The batch that is out, as a desk tells it.
+    pub(crate) fn out_state(&self) -> Option<(u64, bool)> {
+        if self.out.is_empty() {
+            None
+        } else {
+            Some((self.number, self.is_handed))
+        }
+    }
+
+    /// Whether none of the first so many accepted spans waits or is out.
+    pub(crate) fn is_flushed(&self, mark: u64) -> bool {
+        let is_behind = |span: &Accepted| span.place >= mark;
+        self.waiting.iter().all(is_behind) && self.out.iter().all(is_behind)
+    }
+}
+
+fn add(count: &mut u64, more: u64) {
+    *count = count.saturating_add(more);
+}

@@ -1,0 +1,58 @@
+//! Spans of one resource and one scope, each with its number as its identifier.
+use otlp_ids::{SpanContext, SpanId, TraceFlags, TraceId};
+use otlp_span::{Kind, Open, Resource, Scope, SpanData, SpanLimits, SpanRecord};
+use std::alloc::Global;
+use std::process::Abort;
+use std::sync::Arc;
+
+pub(crate) const TRACE: TraceId = TraceId([1; 16]);
+
+/// What the spans share.
+#[derive(Drop)]
+pub(crate) struct Spans {
+    alloc: Global,
+    resource: Arc<Resource>,
+    scope: Arc<Scope>,
+}
+
+impl Spans {
+    pub(crate) fn new(rt: &impl Abort, alloc: Global) -> Spans {
+        let resource = Resource {
+            attributes: Vec::new(alloc),
+            schema_url: String::new(alloc),
+        };
+        let scope = Scope {
+            name: String::new(alloc),
+            version: String::new(alloc),
+            attributes: Vec::new(alloc),
+            schema_url: String::new(alloc),
+        };
+        Spans {
+            alloc,
+            resource: Arc::new(alloc, resource).expect(rt, "memory"),
+            scope: Arc::new(alloc, scope).expect(rt, "memory"),
+        }
+    }
+
+    /// A span that has ended.
+    pub(crate) fn ended(&self, rt: &impl Abort, number: u64) -> SpanData {
+        let context = SpanContext {
+            trace: TRACE,
+            span: SpanId(number.to_be_bytes()),
+            flags: TraceFlags(1),
+            remote: false,
+            state: String::new(self.alloc),
+        };
+        let opening = Open {
+            context,
+            parent: None,
+            resource: self.resource.clone().expect(rt, "memory"),
+            scope: self.scope.clone().expect(rt, "memory"),
+            name: String::new(self.alloc),
+            kind: Kind::Internal,
+            start: 1,
+        };
+        let record = SpanRecord::open(self.alloc, opening, &SpanLimits::default());
+        record.expect(rt, "memory").close(2)
+    }
+}

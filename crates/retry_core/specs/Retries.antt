@@ -1,0 +1,34 @@
+-- What outcomes of attempts, and what follows from them, are in the model.
+use Rattle.std.specs.Prelude.{option_map}
+use Rattle.desk_model.specs.Retries as model
+use Rattle.retry_core.specs.declared.outcome.Outcome.{Outcome}
+use Rattle.retry_core.specs.declared.outcome.Outcome.TheVariants as outcomes
+use Rattle.retry_core.specs.declared.outcome.RetryAfter.{RetryAfter}
+use Rattle.retry_core.specs.declared.outcome.RetryAfter.TheVariants as waits
+use Rattle.retry_core.specs.declared.next.Next.{Next}
+use Rattle.retry_core.specs.declared.next.Next.TheVariants as nexts
+use Rattle.retry_core.specs.declared.next.Cause.{Cause}
+use Rattle.retry_core.specs.declared.next.Cause.TheVariants as causes
+
+abbrev pub retry_after_view : RetryAfter → model.RetryAfter
+retry_after_view (waits.Seconds seconds) = model.seconds seconds
+retry_after_view (waits.Date date) = model.date date
+
+abbrev pub outcome_view : Outcome → model.Outcome
+outcome_view outcomes.Delivered = model.Outcome.delivered
+outcome_view (outcomes.Partial rejected) = model.Outcome.partial rejected
+outcome_view (outcomes.Later status after) = model.later status (option_map retry_after_view after)
+outcome_view (outcomes.Refused status) = model.Outcome.refused status
+outcome_view outcomes.NoReply = model.no_reply
+outcome_view outcomes.Bad = model.bad
+
+abbrev pub cause_view : Cause → model.Cause
+cause_view (causes.Refused status) = model.Cause.refused status
+cause_view causes.BadReply = model.Cause.bad_reply
+cause_view causes.Attempts = model.attempts
+
+abbrev pub next_view : Next → model.Next
+next_view nexts.Done = model.done
+next_view (nexts.Partial rejected) = model.Next.partial rejected
+next_view (nexts.Again moment) = model.again moment
+next_view (nexts.GiveUp cause) = model.give_up (cause_view cause)

@@ -1,0 +1,32 @@
+//! What comes of an attempt to send a batch.
+
+/// When a collector asks to be tried again. (RFC 9110, "Retry-After")
+#[derive(Clone, Copy, Debug, PartialEq, Eq)]
+pub enum RetryAfter {
+    /// In so many seconds.
+    Seconds(u64),
+    /// At this moment, in seconds since 1970.
+    Date(u64),
+}
+
+/// What came of an attempt. (OTLP Specification, "OTLP/HTTP Response")
+#[derive(Clone, Copy, Debug, PartialEq, Eq)]
+pub enum Outcome {
+    /// The collector took the whole batch.
+    Delivered,
+    /// It took the batch, but rejected so many spans. ("Partial Success")
+    Partial(i64),
+    /// A status after which the batch is to be sent again. ("Retryable Response Codes")
+    Later {
+        /// The HTTP status.
+        status: u16,
+        /// When it asked to be tried again, if it did.
+        after: Option<RetryAfter>,
+    },
+    /// Any other status, after which the batch isn't sent again. ("All Other Responses")
+    Refused(u16),
+    /// No reply, or only the beginning of one.
+    NoReply,
+    /// A reply that isn't HTTP, or is too large, or has a body that isn't an OTLP response.
+    Bad,
+}

@@ -1,0 +1,5 @@
+pub mod Crosses
+pub mod Memory
+pub mod Places
+pub mod Runs
+pub mod Sharing
