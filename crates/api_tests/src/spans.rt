@@ -9,26 +9,26 @@ use std::sync::Arc;
 use trace_api::{Provider, Span, StartFault, Tracer};
 use words_rng::WordsRng;
 
-pub const TRACE: TraceId = TraceId([1, 2, 3, 4, 5, 6, 7, 8, 9, 10, 11, 12, 13, 14, 15, 16]);
+pub(crate) const TRACE: TraceId = TraceId([1, 2, 3, 4, 5, 6, 7, 8, 9, 10, 11, 12, 13, 14, 15, 16]);
 
-pub const SPAN: SpanId = SpanId([17, 18, 19, 20, 21, 22, 23, 24]);
+pub(crate) const SPAN: SpanId = SpanId([17, 18, 19, 20, 21, 22, 23, 24]);
 
 /// The words of `TRACE`, and behind them the word of `SPAN`.
-pub const WORDS: [u64; 3] = [0x0102030405060708, 0x090a0b0c0d0e0f10, 0x1112131415161718];
+pub(crate) const WORDS: [u64; 3] = [0x0102030405060708, 0x090a0b0c0d0e0f10, 0x1112131415161718];
 
-pub const PARENT_TRACE: TraceId = TraceId([7; 16]);
+pub(crate) const PARENT_TRACE: TraceId = TraceId([7; 16]);
 
-pub const PARENT: SpanId = SpanId([25, 26, 27, 28, 29, 30, 31, 32]);
+pub(crate) const PARENT: SpanId = SpanId([25, 26, 27, 28, 29, 30, 31, 32]);
 
-pub const START: u64 = 1_000;
+pub(crate) const START: u64 = 1_000;
 
-pub const END: u64 = 2_000;
+pub(crate) const END: u64 = 2_000;
 
-pub fn text<A: Allocator>(rt: &impl Abort, alloc: A, text: &str) -> String<A> {
+pub(crate) fn text<A: Allocator>(rt: &impl Abort, alloc: A, text: &str) -> String<A> {
     String::from_str(alloc, text).expect(rt, "memory")
 }
 
-pub fn words<A: Allocator>(rt: &impl Abort, alloc: A, words: &[u64]) -> WordsRng<A> {
+pub(crate) fn words<A: Allocator>(rt: &impl Abort, alloc: A, words: &[u64]) -> WordsRng<A> {
     WordsRng::new(Vec::from_slice(alloc, words).expect(rt, "memory"))
 }
 
@@ -42,7 +42,7 @@ fn resource<A: Allocator + Copy>(rt: &impl Abort, alloc: A) -> Arc<Resource<A>, 
 }
 
 /// A scope of the name `library`.
-pub fn scope<A: Allocator + Copy>(rt: &impl Abort, alloc: A) -> Arc<Scope<A>, A> {
+pub(crate) fn scope<A: Allocator + Copy>(rt: &impl Abort, alloc: A) -> Arc<Scope<A>, A> {
     let scope = Scope {
         name: text(rt, alloc, "library"),
         version: String::new(alloc),
@@ -53,7 +53,7 @@ pub fn scope<A: Allocator + Copy>(rt: &impl Abort, alloc: A) -> Arc<Scope<A>, A>
 }
 
 /// A provider whose spans keep one attribute.
-pub fn provider<S: Sampler + Drop, A: Allocator + Copy>(
+pub(crate) fn provider<S: Sampler + Drop, A: Allocator + Copy>(
     rt: &impl Abort,
     alloc: A,
     sampler: S,
@@ -66,7 +66,7 @@ pub fn provider<S: Sampler + Drop, A: Allocator + Copy>(
 }
 
 /// The context of a remote parent, with these flags and the trace state `k=v`.
-pub fn context<A: Allocator>(rt: &impl Abort, alloc: A, flags: u8) -> SpanContext<A> {
+pub(crate) fn context<A: Allocator>(rt: &impl Abort, alloc: A, flags: u8) -> SpanContext<A> {
     SpanContext {
         trace: PARENT_TRACE,
         span: PARENT,
@@ -77,7 +77,7 @@ pub fn context<A: Allocator>(rt: &impl Abort, alloc: A, flags: u8) -> SpanContex
 }
 
 /// Starts a span of a tracer, on memory from elsewhere than its name.
-pub fn start<S: Sampler, A: Allocator + Copy>(
+pub(crate) fn start<S: Sampler, A: Allocator + Copy>(
     rt: &impl Abort,
     tracer: &Tracer<'_, S, A>,
     alloc: A,
@@ -90,7 +90,7 @@ pub fn start<S: Sampler, A: Allocator + Copy>(
 }
 
 /// Starts a root with the identifiers `TRACE` and `SPAN`, which this sampler decides on.
-pub fn start_root<S: Sampler + Drop, A: Allocator + Copy>(
+pub(crate) fn start_root<S: Sampler + Drop, A: Allocator + Copy>(
     rt: &impl Abort,
     alloc: A,
     sampler: S,
@@ -104,14 +104,14 @@ pub fn start_root<S: Sampler + Drop, A: Allocator + Copy>(
 }
 
 /// How many calls `call` gives that take memory on a span.
-pub const ADDING: u32 = 4;
+pub(crate) const ADDING: u32 = 4;
 
 /// How many calls `call` gives.
-pub const CALLS: u32 = 7;
+pub(crate) const CALLS: u32 = 7;
 
 /// A call by its number: an attribute, an event, an exception and a link, and then an attribute
 /// beyond the limit, a status and a name.
-pub fn call<A: Allocator + Copy>(rt: &impl Abort, alloc: A, number: u32) -> SpanCall<A> {
+pub(crate) fn call<A: Allocator + Copy>(rt: &impl Abort, alloc: A, number: u32) -> SpanCall<A> {
     match number {
         0 => SpanCall::SetAttribute(text(rt, alloc, "a"), Value::Int(1)),
         1 => SpanCall::AddEvent {

@@ -7,12 +7,12 @@ use std::alloc::Allocator;
 use std::process::Abort;
 use std::sync::Arc;
 
-pub fn text<A: Allocator>(alloc: A, text: &str) -> Result<String<A>, OutOfMemory> {
+pub(crate) fn text<A: Allocator>(alloc: A, text: &str) -> Result<String<A>, OutOfMemory> {
     Ok(String::from_str(alloc, text)?)
 }
 
 /// One pair of a key and a value.
-pub fn pair<A: Allocator + Copy>(
+pub(crate) fn pair<A: Allocator + Copy>(
     alloc: A,
     key: &str,
     value: Value<A>,
@@ -84,7 +84,11 @@ fn opening<A: Allocator + Copy>(rt: &impl Abort, alloc: A) -> Open<A> {
     }
 }
 
-pub fn open<A: Allocator + Copy>(rt: &impl Abort, alloc: A, limits: &SpanLimits) -> SpanRecord<A> {
+pub(crate) fn open<A: Allocator + Copy>(
+    rt: &impl Abort,
+    alloc: A,
+    limits: &SpanLimits,
+) -> SpanRecord<A> {
     SpanRecord::open(alloc, opening(rt, alloc), limits).expect(rt, "memory")
 }
 
@@ -152,7 +156,7 @@ fn add_links<A: Allocator + Copy>(record: &mut SpanRecord<A>, alloc: A) -> Resul
 }
 
 /// A span in which every field is filled.
-pub fn full_span<A: Allocator + Copy>(alloc: A) -> Result<SpanData<A>, OutOfMemory> {
+pub(crate) fn full_span<A: Allocator + Copy>(alloc: A) -> Result<SpanData<A>, OutOfMemory> {
     let limits = SpanLimits {
         max_attributes_per_span: 2,
         max_events_per_span: 1,

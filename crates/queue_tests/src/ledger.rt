@@ -42,7 +42,7 @@ fn unlink_gives_back_what_was_linked(rt: HostRuntime) -> Result<(), Fail> {
     Ok(())
 }
 
-/// Drops the span of this number, which was admitted as the same, for lack of room where it is even.
+/// Drops the span of this number, which is its ticket: for lack of room where it is even.
 fn drop_span(rt: &impl Abort, spans: &Spans, ledger: &mut Ledger, number: u64) {
     let mut span = spans.ended(rt, number);
     span.set_ticket(number);
