@@ -6,9 +6,9 @@ PREFIX ?= $(HOME)/.local
 help: ## List the targets
 	@grep -E '^[a-z]+:.*##' Makefile | sed -E 's/:.*## /: /'
 
-run: ## Build trace-script without its proofs and print the bodies of the examples
-	@echo '# trace-script --body, built before it is proved (make test proves), on each of examples/*.script' >&2
-	@cd crates/trace_script && rt try --cases ../../examples -- --body
+run: ## Build trace-script without its proofs and print what the examples' steps answer
+	@echo '# trace-script, built before it is proved (make test proves), on each of examples/*.script' >&2
+	@cd crates/trace_script && rt try --cases ../../examples
 
 test: docs ## The gate: documents, every proof from nothing, must-fail edits, tests, programs and stored runs (tens of minutes)
 	rt ci

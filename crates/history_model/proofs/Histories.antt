@@ -13,76 +13,77 @@ use Rattle.span_model.specs.Spans.{Call, set_attribute, end, Kind, Context, Scop
 use Rattle.span_model.specs.Sampling.{is_sampled}
 use Rattle.span_model.specs.Identifiers.{Words, has_sampled_flag, with_sampled_flag}
 use Rattle.span_model.specs.Starts.{StartRequest, Ids, StartedSpan, Tracer, start_request, decision_of, exported_span, flags_of, ids_of, started_span, started_span_as}
-use Rattle.history_model.specs.History.{Parent, Step, Setup, StartResult, start, call, start_count, start_result, start_result_in, parent_among, words_left, start_results_behind, start_results, behind_start, call_on, calls_on, ends_behind, ended_numbers, exported_of, exported_if_sampled, exported_spans, with_tickets, ended_spans}
+use Rattle.history_model.specs.Steps.{Parent}
+use Rattle.history_model.specs.History.{SpanStep, Setup, StartResult, start, call, start_count, unless_refused, start_result, start_result_in, parent_among, words_left, start_results_behind, start_results, behind_start, call_on, calls_on, ends_behind, ended_numbers, exported_of, exported_if_sampled, exported_spans, with_tickets, ended_spans}
 pub use Rattle.span_model.proofs.Live.{all-live}
 use Rattle.span_model.proofs.Lists.{distinct-more, distinct-all, filter-keeps}
 
-pub starts-append : (xs ys : List Step) → start_count (xs ++ ys) ≡ start_count xs + start_count ys
+pub starts-append : (xs ys : List SpanStep) → start_count (xs ++ ys) ≡ start_count xs + start_count ys
 starts-append [] ys = sym (zero-add (start_count ys))
-starts-append (start sc p k at name ∷ xs) ys = let rest = starts-append xs ys in omega (arith, rest)
+starts-append (start r sc p k at name ∷ xs) ys = let rest = starts-append xs ys in omega (arith, rest)
 starts-append (call n c ∷ xs) ys = starts-append xs ys
 
 -- ---- outcomes
 
-outcomes-append : (setup : Setup) (earlier : List StartResult) (xs ys : List Step) → start_results_behind setup earlier (xs ++ ys) ≡ start_results_behind setup (start_results_behind setup earlier xs) ys
+outcomes-append : (setup : Setup) (earlier : List StartResult) (xs ys : List SpanStep) → start_results_behind setup earlier (xs ++ ys) ≡ start_results_behind setup (start_results_behind setup earlier xs) ys
 unfolding start_results_behind
 outcomes-append setup earlier [] ys = refl
-outcomes-append setup earlier (start sc p k at name ∷ xs) ys = outcomes-append setup (earlier ++ start_result setup earlier sc p k at name ∷ []) xs ys
+outcomes-append setup earlier (start r sc p k at name ∷ xs) ys = outcomes-append setup (earlier ++ start_result setup earlier r sc p k at name ∷ []) xs ys
 outcomes-append setup earlier (call n c ∷ xs) ys = outcomes-append setup earlier xs ys
 
-pub outcomes-call : (setup : Setup) (done : List Step) (n : ℕ) (c : Call) → start_results setup (done ++ call n c ∷ []) ≡ start_results setup done
+pub outcomes-call : (setup : Setup) (done : List SpanStep) (n : ℕ) (c : Call) → start_results setup (done ++ call n c ∷ []) ≡ start_results setup done
 unfolding start_results_behind
 outcomes-call setup done n c = outcomes-append setup [] done (call n c ∷ [])
 
-pub outcomes-start : (setup : Setup) (done : List Step) (scope : ℕ) (p : Parent) (k : Kind) (at : ℕ) (name : List ℕ) →
-    start_results setup (done ++ start scope p k at name ∷ []) ≡ start_results setup done ++ start_result setup (start_results setup done) scope p k at name ∷ []
+pub outcomes-start : (setup : Setup) (done : List SpanStep) (r : Bool) (scope : ℕ) (p : Parent) (k : Kind) (at : ℕ) (name : List ℕ) →
+    start_results setup (done ++ start r scope p k at name ∷ []) ≡ start_results setup done ++ start_result setup (start_results setup done) r scope p k at name ∷ []
 unfolding start_results_behind
-outcomes-start setup done scope p k at name = outcomes-append setup [] done (start scope p k at name ∷ [])
+outcomes-start setup done r scope p k at name = outcomes-append setup [] done (start r scope p k at name ∷ [])
 
-outcomes-length : (setup : Setup) (earlier : List StartResult) (steps : List Step) → length (start_results_behind setup earlier steps) ≡ length earlier + start_count steps
+outcomes-length : (setup : Setup) (earlier : List StartResult) (steps : List SpanStep) → length (start_results_behind setup earlier steps) ≡ length earlier + start_count steps
 unfolding start_results_behind
 outcomes-length setup earlier [] = sym (add-zero (length earlier))
-outcomes-length setup earlier (start sc p k at name ∷ steps) =
-    outcomes-length setup (earlier ++ start_result setup earlier sc p k at name ∷ []) steps
-    ∙ ap (λ n. n + start_count steps) (length_push earlier (start_result setup earlier sc p k at name)) ∙ (let e : length earlier + 1 + start_count steps ≡ length earlier + suc (start_count steps) = omega arith in e)
+outcomes-length setup earlier (start r sc p k at name ∷ steps) =
+    outcomes-length setup (earlier ++ start_result setup earlier r sc p k at name ∷ []) steps
+    ∙ ap (λ n. n + start_count steps) (length_push earlier (start_result setup earlier r sc p k at name)) ∙ (let e : length earlier + 1 + start_count steps ≡ length earlier + suc (start_count steps) = omega arith in e)
 outcomes-length setup earlier (call n c ∷ steps) = outcomes-length setup earlier steps
 
-pub outcomes-many : (setup : Setup) (steps : List Step) → length (start_results setup steps) ≡ start_count steps
+pub outcomes-many : (setup : Setup) (steps : List SpanStep) → length (start_results setup steps) ≡ start_count steps
 outcomes-many setup steps = outcomes-length setup [] steps ∙ zero-add (start_count steps)
 
 -- ---- calls
 
-behind-within : (n : ℕ) (xs ys : List Step) → n < start_count xs → behind_start n (xs ++ ys) ≡ behind_start n xs ++ ys
+behind-within : (n : ℕ) (xs ys : List SpanStep) → n < start_count xs → behind_start n (xs ++ ys) ≡ behind_start n xs ++ ys
 behind-within n [] ys h = absurd (omega (arith, h))
-behind-within zero (start sc p k at name ∷ xs) ys h = refl
-behind-within (suc n) (start sc p k at name ∷ xs) ys h = behind-within n xs ys (omega (arith, h))
+behind-within zero (start r sc p k at name ∷ xs) ys h = refl
+behind-within (suc n) (start r sc p k at name ∷ xs) ys h = behind-within n xs ys (omega (arith, h))
 behind-within n (call m c ∷ xs) ys h = behind-within n xs ys h
 
-behind-past : (n : ℕ) (xs : List Step) → start_count xs ≤ n → behind_start n xs ≡ []
+behind-past : (n : ℕ) (xs : List SpanStep) → start_count xs ≤ n → behind_start n xs ≡ []
 behind-past n [] h = refl
-behind-past zero (start sc p k at name ∷ xs) h = absurd (omega (arith, h))
-behind-past (suc n) (start sc p k at name ∷ xs) h = behind-past n xs (omega (arith, h))
+behind-past zero (start r sc p k at name ∷ xs) h = absurd (omega (arith, h))
+behind-past (suc n) (start r sc p k at name ∷ xs) h = behind-past n xs (omega (arith, h))
 behind-past n (call m c ∷ xs) h = behind-past n xs h
 
-behind-last : (xs : List Step) (sc : ℕ) (p : Parent) (k : Kind) (at : ℕ) (name : List ℕ) → behind_start (start_count xs) (xs ++ start sc p k at name ∷ []) ≡ []
-behind-last [] sc p k at name = refl
-behind-last (start sc' p' k' at' name' ∷ xs) sc p k at name = behind-last xs sc p k at name
-behind-last (call m c ∷ xs) sc p k at name = behind-last xs sc p k at name
+behind-last : (xs : List SpanStep) (r : Bool) (sc : ℕ) (p : Parent) (k : Kind) (at : ℕ) (name : List ℕ) → behind_start (start_count xs) (xs ++ start r sc p k at name ∷ []) ≡ []
+behind-last [] r sc p k at name = refl
+behind-last (start r' sc' p' k' at' name' ∷ xs) r sc p k at name = behind-last xs r sc p k at name
+behind-last (call m c ∷ xs) r sc p k at name = behind-last xs r sc p k at name
 
-pub calls-more : (n : ℕ) (done : List Step) (x : Step) → n < start_count done → calls_on n (done ++ x ∷ []) ≡ calls_on n done ++ filter_map (call_on n) (x ∷ [])
+pub calls-more : (n : ℕ) (done : List SpanStep) (x : SpanStep) → n < start_count done → calls_on n (done ++ x ∷ []) ≡ calls_on n done ++ filter_map (call_on n) (x ∷ [])
 calls-more n done x h = ap (filter_map (call_on n)) (behind-within n done (x ∷ []) h) ∙ filter_map-append (call_on n) (behind_start n done) (x ∷ [])
 
-pub calls-past : (n : ℕ) (done : List Step) → start_count done ≤ n → calls_on n done ≡ []
+pub calls-past : (n : ℕ) (done : List SpanStep) → start_count done ≤ n → calls_on n done ≡ []
 calls-past n done h = ap (filter_map (call_on n)) (behind-past n done h)
 
-pub calls-first : (done : List Step) (sc : ℕ) (p : Parent) (k : Kind) (at : ℕ) (name : List ℕ) → calls_on (start_count done) (done ++ start sc p k at name ∷ []) ≡ []
-calls-first done sc p k at name = ap (filter_map (call_on (start_count done))) (behind-last done sc p k at name)
+pub calls-first : (done : List SpanStep) (r : Bool) (sc : ℕ) (p : Parent) (k : Kind) (at : ℕ) (name : List ℕ) → calls_on (start_count done) (done ++ start r sc p k at name ∷ []) ≡ []
+calls-first done r sc p k at name = ap (filter_map (call_on (start_count done))) (behind-last done r sc p k at name)
 
 -- ---- ends
 
-ends-append : (k : ℕ) (xs ys : List Step) → ends_behind k (xs ++ ys) ≡ ends_behind k xs ++ ends_behind (k + start_count xs) ys
+ends-append : (k : ℕ) (xs ys : List SpanStep) → ends_behind k (xs ++ ys) ≡ ends_behind k xs ++ ends_behind (k + start_count xs) ys
 ends-append k [] ys = ap (λ n. ends_behind n ys) (sym (add-zero k))
-ends-append k (start sc p kind at name ∷ xs) ys = ends-append (k + 1) xs ys ∙ ap (λ n. ends_behind (k + 1) xs ++ ends_behind n ys) (let e : k + 1 + start_count xs ≡ k + suc (start_count xs) = omega arith in e)
+ends-append k (start r sc p kind at name ∷ xs) ys = ends-append (k + 1) xs ys ∙ ap (λ n. ends_behind (k + 1) xs ++ ends_behind n ys) (let e : k + 1 + start_count xs ≡ k + suc (start_count xs) = omega arith in e)
 ends-append k (call n c ∷ xs) ys = by (is_end c && nat_lt n k) (ends-append k xs ys)
   where
     by : (b : Bool) → ends_behind k (xs ++ ys) ≡ ends_behind k xs ++ ends_behind (k + start_count xs) ys →
@@ -95,9 +96,9 @@ abbrev among : ℕ → List ℕ → Bool
 among n ns = list_any (λ m. m == n) ns
 
 -- of a span that has started before
-ends-during : (n k : ℕ) (steps : List Step) → n < k → among n (ends_behind k steps) ≡ list_any is_end (filter_map (call_on n) steps)
+ends-during : (n k : ℕ) (steps : List SpanStep) → n < k → among n (ends_behind k steps) ≡ list_any is_end (filter_map (call_on n) steps)
 ends-during n k [] h = refl
-ends-during n k (start sc p kind at name ∷ steps) h = ends-during n (k + 1) steps (omega (arith, h))
+ends-during n k (start r sc p kind at name ∷ steps) h = ends-during n (k + 1) steps (omega (arith, h))
 ends-during n k (call m c ∷ steps) h = by (is_end c) refl (m == n) refl (nat_lt m k) refl (ends-during n k steps h)
   where
     by : (e : Bool) → is_end c ≡ e → (s : Bool) → (m == n) ≡ s → (l : Bool) → nat_lt m k ≡ l → among n (ends_behind k steps) ≡ list_any is_end (filter_map (call_on n) steps) →
@@ -110,10 +111,10 @@ ends-during n k (call m c ∷ steps) h = by (is_end c) refl (m == n) refl (nat_l
     by false d false t l u rest = rw (t, d) rest
 
 -- of a span whose start is still to come, behind so many others
-ends-from : (n k i : ℕ) (steps : List Step) → n ≡ k + i → among n (ends_behind k steps) ≡ list_any is_end (filter_map (call_on n) (behind_start i steps))
+ends-from : (n k i : ℕ) (steps : List SpanStep) → n ≡ k + i → among n (ends_behind k steps) ≡ list_any is_end (filter_map (call_on n) (behind_start i steps))
 ends-from n k i [] h = refl
-ends-from n k zero (start sc p kind at name ∷ steps) h = ends-during n (k + 1) steps (omega (arith, h))
-ends-from n k (suc i) (start sc p kind at name ∷ steps) h = ends-from n (k + 1) i steps (omega (arith, h))
+ends-from n k zero (start r sc p kind at name ∷ steps) h = ends-during n (k + 1) steps (omega (arith, h))
+ends-from n k (suc i) (start r sc p kind at name ∷ steps) h = ends-from n (k + 1) i steps (omega (arith, h))
 ends-from n k i (call m c ∷ steps) h = by (is_end c) refl (nat_lt m k) refl (m == n) refl (ends-from n k i steps h)
   where
     by : (e : Bool) → is_end c ≡ e → (l : Bool) → nat_lt m k ≡ l → (s : Bool) → (m == n) ≡ s → among n (ends_behind k steps) ≡ list_any is_end (filter_map (call_on n) (behind_start i steps)) →
@@ -124,7 +125,7 @@ ends-from n k i (call m c ∷ steps) h = by (is_end c) refl (nat_lt m k) refl (m
     by false d l u s t rest = rw d rest
 
 -- a span has ended where one of its calls is an end
-pub ends-are : (n : ℕ) (steps : List Step) → among n (ends_behind 0 steps) ≡ list_any is_end (calls_on n steps)
+pub ends-are : (n : ℕ) (steps : List SpanStep) → among n (ends_behind 0 steps) ≡ list_any is_end (calls_on n steps)
 ends-are n steps = ends-from n 0 n steps (sym (zero-add n))
 
 -- ---- the numbers of those that have ended
@@ -185,7 +186,7 @@ any-distinct p (n ∷ ns) h = by (any-distinct p ns) (p n) refl h
     by rest false e k = rw e (rest (any-filter p (λ m. not (same n m)) (distinct_of same ns) (rw e at k)))
 
 -- only what has started has ended
-ended-started : (n : ℕ) (steps : List Step) → among n (ends_behind 0 steps) ≡ true → n < start_count steps
+ended-started : (n : ℕ) (steps : List SpanStep) → among n (ends_behind 0 steps) ≡ true → n < start_count steps
 ended-started n steps h = by (nat_lt n (start_count steps)) refl
   where
     by : (b : Bool) → nat_lt n (start_count steps) ≡ b → n < start_count steps
@@ -193,7 +194,7 @@ ended-started n steps h = by (nat_lt n (start_count steps)) refl
     by false e = absurd (true≢false (sym h ∙ ends-are n steps ∙ ap (list_any is_end) (calls-past n steps (ltb-false n (start_count steps) e))))
 
 -- no more spans end than have started
-pub ended-few : (steps : List Step) → length (ended_numbers steps) ≤ start_count steps
+pub ended-few : (steps : List SpanStep) → length (ended_numbers steps) ≤ start_count steps
 ended-few steps = length-le_from_distinct_below (ended_numbers steps) (start_count steps) (all-distinct (ends_behind 0 steps))
     (λ q h. ended-started q steps (any-distinct (same-to q) (ends_behind 0 steps) (sym (among-turned q (ended_numbers steps)) ∙ h)))
   where
@@ -242,16 +243,16 @@ get-first [] y n h = absurd (omega (arith, h))
 get-first (x ∷ xs) y zero h = refl
 get-first (x ∷ xs) y (suc n) h = get-first xs y n (omega (arith, h))
 
-outcome-stays : (setup : Setup) (done : List Step) (x : Step) (n : ℕ) → n < start_count done → slice_get (start_results setup (done ++ x ∷ [])) n ≡ slice_get (start_results setup done) n
-outcome-stays setup done (start sc p k at name) n h =
-    ap (λ os. slice_get os n) (outcomes-start setup done sc p k at name) ∙ get-first (start_results setup done) (start_result setup (start_results setup done) sc p k at name) n (rw (outcomes-many setup done) h)
+outcome-stays : (setup : Setup) (done : List SpanStep) (x : SpanStep) (n : ℕ) → n < start_count done → slice_get (start_results setup (done ++ x ∷ [])) n ≡ slice_get (start_results setup done) n
+outcome-stays setup done (start r sc p k at name) n h =
+    ap (λ os. slice_get os n) (outcomes-start setup done r sc p k at name) ∙ get-first (start_results setup done) (start_result setup (start_results setup done) r sc p k at name) n (rw (outcomes-many setup done) h)
 outcome-stays setup done (call m c) n h = ap (λ os. slice_get os n) (outcomes-call setup done m c)
 
 -- what is exported of a span after some steps, by its number
-abbrev exported_at : Setup → List Step → ℕ → Option EndedSpan
+abbrev exported_at : Setup → List SpanStep → ℕ → Option EndedSpan
 exported_at setup steps n = exported_of (calls_on n steps) (slice_get (start_results setup steps) n)
 
-exported-stays : (setup : Setup) (done : List Step) (x : Step) (n : ℕ) → among n (ends_behind 0 done) ≡ true → exported_at setup (done ++ x ∷ []) n ≡ exported_at setup done n
+exported-stays : (setup : Setup) (done : List SpanStep) (x : SpanStep) (n : ℕ) → among n (ends_behind 0 done) ≡ true → exported_at setup (done ++ x ∷ []) n ≡ exported_at setup done n
 exported-stays setup done x n h =
     let l : n < start_count done = ended-started n done h in
     ap (exported_of (calls_on n (done ++ x ∷ []))) (outcome-stays setup done x n l)
@@ -271,17 +272,17 @@ filter_map-same f g [] h = refl
 filter_map-same f g (n ∷ ns) h = rw (h.0, filter_map-same f g ns h.1) refl
 
 -- those that had ended before
-ended-before : (setup : Setup) (done : List Step) (x : Step) → filter_map (exported_at setup (done ++ x ∷ [])) (ended_numbers done) ≡ exported_spans setup done
+ended-before : (setup : Setup) (done : List SpanStep) (x : SpanStep) → filter_map (exported_at setup (done ++ x ∷ [])) (ended_numbers done) ≡ exported_spans setup done
 ended-before setup done x = filter_map-same (exported_at setup (done ++ x ∷ [])) (exported_at setup done) (ended_numbers done)
     (distinct-all (λ n. exported_at setup (done ++ x ∷ []) n ≡ exported_at setup done n) same (ends_behind 0 done) (each-among _ (ends_behind 0 done) (exported-stays setup done x)))
 
-exported-start : (setup : Setup) (done : List Step) (sc : ℕ) (p : Parent) (k : Kind) (at : ℕ) (name : List ℕ) → exported_spans setup (done ++ start sc p k at name ∷ []) ≡ exported_spans setup done
-exported-start setup done sc p k at name =
-    let x : Step = start sc p k at name in
+exported-start : (setup : Setup) (done : List SpanStep) (r : Bool) (sc : ℕ) (p : Parent) (k : Kind) (at : ℕ) (name : List ℕ) → exported_spans setup (done ++ start r sc p k at name ∷ []) ≡ exported_spans setup done
+exported-start setup done r sc p k at name =
+    let x : SpanStep = start r sc p k at name in
     ap (filter_map (exported_at setup (done ++ x ∷ []))) (ap (distinct_of same) (ends-append 0 done (x ∷ []) ∙ append-nil (ends_behind 0 done))) ∙ ended-before setup done x
 
 -- a call that isn't the first end of a span that has started
-exported-no-more : (setup : Setup) (done : List Step) (n : ℕ) (c : Call) → (is_end c && nat_lt n (start_count done) && not (list_any is_end (calls_on n done))) ≡ false →
+exported-no-more : (setup : Setup) (done : List SpanStep) (n : ℕ) (c : Call) → (is_end c && nat_lt n (start_count done) && not (list_any is_end (calls_on n done))) ≡ false →
     exported_spans setup (done ++ call n c ∷ []) ≡ exported_spans setup done
 exported-no-more setup done n c h = ap (filter_map (exported_at setup (done ++ call n c ∷ []))) (ap (distinct_of same) (ends-append 0 done (call n c ∷ [])) ∙ by (is_end c) (nat_lt n (start_count done)) refl (list_any is_end (calls_on n done)) refl h) ∙ ended-before setup done (call n c)
   where
@@ -293,7 +294,7 @@ exported-no-more setup done n c h = ap (filter_map (exported_at setup (done ++ c
     by true true u false v k = absurd (true≢false k)
 
 -- the first end of a span that has started
-numbers-more : (done : List Step) (n : ℕ) (c : Call) → is_end c ≡ true → n < start_count done → list_any is_end (calls_on n done) ≡ false → ended_numbers (done ++ call n c ∷ []) ≡ ended_numbers done ++ n ∷ []
+numbers-more : (done : List SpanStep) (n : ℕ) (c : Call) → is_end c ≡ true → n < start_count done → list_any is_end (calls_on n done) ≡ false → ended_numbers (done ++ call n c ∷ []) ≡ ended_numbers done ++ n ∷ []
 numbers-more done n c e l b =
     let u : nat_lt n (start_count done) ≡ true = lt-ltb n (start_count done) l in
     ap (distinct_of same) (ends-append 0 done (call n c ∷ [])) ∙ rw (e, zero-add, u) (distinct-more same (ends_behind 0 done) n ∙ rw (ends-are n done, b) refl)
@@ -310,11 +311,11 @@ one-of : {B : Type 0} (o : Option B) → cons_option o [] ≡ option_to_list o
 one-of None = refl
 one-of (Some x) = refl
 
-exported-more : (setup : Setup) (done : List Step) (n : ℕ) (c : Call) → is_end c ≡ true → n < start_count done → list_any is_end (calls_on n done) ≡ false →
+exported-more : (setup : Setup) (done : List SpanStep) (n : ℕ) (c : Call) → is_end c ≡ true → n < start_count done → list_any is_end (calls_on n done) ≡ false →
     (exported_spans setup (done ++ call n c ∷ []) ≡ exported_spans setup done ++ option_to_list (exported_of (calls_on n done ++ c ∷ []) (slice_get (start_results setup done) n)))
     × (length (exported_spans setup done) < start_count done)
 exported-more setup done n c e l b =
-    let x : Step = call n c in
+    let x : SpanStep = call n c in
     let f : ℕ → Option EndedSpan = exported_at setup (done ++ x ∷ []) in
     let numbers : ended_numbers (done ++ x ∷ []) ≡ ended_numbers done ++ n ∷ [] = numbers-more done n c e l b in
     let own : filter_map (call_on n) (x ∷ []) ≡ c ∷ [] = rw (eq-eqb n n refl) refl in
@@ -341,16 +342,16 @@ tickets-length : (n : ℕ) (xs : List EndedSpan) → length (with_tickets n xs) 
 tickets-length n [] = refl
 tickets-length n (x ∷ xs) = ap suc (tickets-length (n + 1) xs)
 
-pub ended-start : (setup : Setup) (done : List Step) (sc : ℕ) (p : Parent) (k : Kind) (at : ℕ) (name : List ℕ) → ended_spans setup (done ++ start sc p k at name ∷ []) ≡ ended_spans setup done
-ended-start setup done sc p k at name = ap (with_tickets 0) (exported-start setup done sc p k at name)
+pub ended-start : (setup : Setup) (done : List SpanStep) (r : Bool) (sc : ℕ) (p : Parent) (k : Kind) (at : ℕ) (name : List ℕ) → ended_spans setup (done ++ start r sc p k at name ∷ []) ≡ ended_spans setup done
+ended-start setup done r sc p k at name = ap (with_tickets 0) (exported-start setup done r sc p k at name)
 
 -- a call that isn't the first end of a span that has started
-pub ended-no-more : (setup : Setup) (done : List Step) (n : ℕ) (c : Call) → (is_end c && nat_lt n (start_count done) && not (list_any is_end (calls_on n done))) ≡ false →
+pub ended-no-more : (setup : Setup) (done : List SpanStep) (n : ℕ) (c : Call) → (is_end c && nat_lt n (start_count done) && not (list_any is_end (calls_on n done))) ≡ false →
     ended_spans setup (done ++ call n c ∷ []) ≡ ended_spans setup done
 ended-no-more setup done n c h = ap (with_tickets 0) (exported-no-more setup done n c h)
 
 -- the first end of a span that has started: its ticket is the number of those before it
-pub ended-more : (setup : Setup) (done : List Step) (n : ℕ) (c : Call) → is_end c ≡ true → n < start_count done → list_any is_end (calls_on n done) ≡ false →
+pub ended-more : (setup : Setup) (done : List SpanStep) (n : ℕ) (c : Call) → is_end c ≡ true → n < start_count done → list_any is_end (calls_on n done) ≡ false →
     (ended_spans setup (done ++ call n c ∷ []) ≡ ended_spans setup done ++ with_tickets (length (ended_spans setup done)) (option_to_list (exported_of (calls_on n done ++ c ∷ []) (slice_get (start_results setup done) n))))
     × (length (ended_spans setup done) < start_count done)
 ended-more setup done n c e l b =
@@ -391,15 +392,15 @@ outcome-flagged setup words (Some scope) None k at name = tt
 outcome-flagged setup words (Some scope) (Some parent) k at name = started-flagged (record { provider = setup.provider; scope = scope }) (start_request parent name k at) words
 
 -- what is true of each outcome
-module _ (P : Option StartedSpan → Type 0) (setup : Setup) (each : (earlier : List StartResult) (sc : ℕ) (p : Parent) (k : Kind) (at : ℕ) (name : List ℕ) → P (start_result setup earlier sc p k at name).span) where
-  each-push : (os earlier : List StartResult) (sc : ℕ) (p : Parent) (k : Kind) (at : ℕ) (name : List ℕ) → AllByRecursion (λ o. P o.span) os → AllByRecursion (λ o. P o.span) (os ++ start_result setup earlier sc p k at name ∷ [])
-  each-push [] earlier sc p k at name h = (each earlier sc p k at name, tt)
-  each-push (o ∷ os) earlier sc p k at name h = (h.0, each-push os earlier sc p k at name h.1)
+module _ (P : Option StartedSpan → Type 0) (setup : Setup) (each : (earlier : List StartResult) (r : Bool) (sc : ℕ) (p : Parent) (k : Kind) (at : ℕ) (name : List ℕ) → P (start_result setup earlier r sc p k at name).span) where
+  each-push : (os earlier : List StartResult) (r : Bool) (sc : ℕ) (p : Parent) (k : Kind) (at : ℕ) (name : List ℕ) → AllByRecursion (λ o. P o.span) os → AllByRecursion (λ o. P o.span) (os ++ start_result setup earlier r sc p k at name ∷ [])
+  each-push [] earlier r sc p k at name h = (each earlier r sc p k at name, tt)
+  each-push (o ∷ os) earlier r sc p k at name h = (h.0, each-push os earlier r sc p k at name h.1)
 
-  each-behind : (earlier : List StartResult) (steps : List Step) → AllByRecursion (λ o. P o.span) earlier → AllByRecursion (λ o. P o.span) (start_results_behind setup earlier steps)
+  each-behind : (earlier : List StartResult) (steps : List SpanStep) → AllByRecursion (λ o. P o.span) earlier → AllByRecursion (λ o. P o.span) (start_results_behind setup earlier steps)
   unfolding start_results_behind
   each-behind earlier [] h = h
-  each-behind earlier (start sc p k at name ∷ steps) h = each-behind (earlier ++ start_result setup earlier sc p k at name ∷ []) steps (each-push earlier earlier sc p k at name h)
+  each-behind earlier (start r sc p k at name ∷ steps) h = each-behind (earlier ++ start_result setup earlier r sc p k at name ∷ []) steps (each-push earlier earlier r sc p k at name h)
   each-behind earlier (call n c ∷ steps) h = each-behind earlier steps h
 
   each-at : (os : List StartResult) → AllByRecursion (λ o. P o.span) os → (n : ℕ) (o : StartResult) → slice_get os n ≡ Some o → P o.span
@@ -407,12 +408,16 @@ module _ (P : Option StartedSpan → Type 0) (setup : Setup) (each : (earlier : 
   each-at (q ∷ os) h zero o e = let same : q ≡ o = cc in rw same at h.0
   each-at (q ∷ os) h (suc n) o e = each-at os h.1 n o e
 
-  pub each-outcome : (steps : List Step) (n : ℕ) (o : StartResult) → slice_get (start_results setup steps) n ≡ Some o → P o.span
+  pub each-outcome : (steps : List SpanStep) (n : ℕ) (o : StartResult) → slice_get (start_results setup steps) n ≡ Some o → P o.span
   each-outcome steps n o e = each-at (start_results setup steps) (each-behind [] steps tt) n o e
 
-pub outcome-has-flag : (setup : Setup) (steps : List Step) (n : ℕ) (o : StartResult) (s : StartedSpan) → slice_get (start_results setup steps) n ≡ Some o → o.span ≡ Some s →
+refused-flagged : (refused : Bool) (o : StartResult) → Flagged o.span → Flagged (unless_refused refused o).span
+refused-flagged true o h = tt
+refused-flagged false o h = h
+
+pub outcome-has-flag : (setup : Setup) (steps : List SpanStep) (n : ℕ) (o : StartResult) (s : StartedSpan) → slice_get (start_results setup steps) n ≡ Some o → o.span ≡ Some s →
     has_sampled_flag s.start.context.flags ≡ is_sampled s.decision
-outcome-has-flag setup steps n o s e f = rw f at (each-outcome Flagged setup (λ earlier sc p k at name. outcome-flagged setup (words_left setup earlier) (slice_get setup.scopes sc) (parent_among earlier p) k at name) steps n o e)
+outcome-has-flag setup steps n o s e f = rw f at (each-outcome Flagged setup (λ earlier r sc p k at name. refused-flagged r _ (outcome-flagged setup (words_left setup earlier) (slice_get setup.scopes sc) (parent_among earlier p) k at name)) steps n o e)
 
 -- ---- where the spans that end come from
 
@@ -434,6 +439,10 @@ outcome-placed setup words n None parent k at name e = tt
 outcome-placed setup words n (Some scope) None k at name e = tt
 outcome-placed setup words n (Some scope) (Some parent) k at name e = started-placed setup scope n (start_request parent name k at) words e
 
+refused-placed : (setup : Setup) (refused : Bool) (o : StartResult) → Placed setup o.span → Placed setup (unless_refused refused o).span
+refused-placed setup true o h = tt
+refused-placed setup false o h = h
+
 all-of : {B : Type 0} (P : B → Type 0) (f : ℕ → Option B) (ns : List ℕ) → ((n : ℕ) (x : B) → f n ≡ Some x → P x) → AllByRecursion P (filter_map f ns)
 all-of P f [] h = tt
 all-of {B = B} P f (n ∷ ns) h = by (f n) refl (all-of P f ns h)
@@ -446,7 +455,7 @@ all-of {B = B} P f (n ∷ ns) h = by (f n) refl (all-of P f ns h)
 abbrev pub IsPlaced : Setup → EndedSpan → Type 0
 IsPlaced setup e = (e.resource ≡ setup.provider.resource) × (n : ℕ) × (slice_get setup.scopes n ≡ Some e.scope)
 
-exported-placed-all : (setup : Setup) (steps : List Step) → AllByRecursion (IsPlaced setup) (exported_spans setup steps)
+exported-placed-all : (setup : Setup) (steps : List SpanStep) → AllByRecursion (IsPlaced setup) (exported_spans setup steps)
 exported-placed-all setup steps = all-of (IsPlaced setup) (exported_at setup steps) (ended_numbers steps) (λ n x e. by n x (slice_get (start_results setup steps) n) refl e)
   where
     exported-placed : (calls : List Call) (s : StartedSpan) (x : EndedSpan) → Placed setup (Some s) → exported_if_sampled calls s ≡ Some x → IsPlaced setup x
@@ -466,12 +475,12 @@ exported-placed-all setup steps = all-of (IsPlaced setup) (exported_at setup ste
     by : (n : ℕ) (x : EndedSpan) (o : Option StartResult) → slice_get (start_results setup steps) n ≡ o → exported_of (calls_on n steps) o ≡ Some x → IsPlaced setup x
     by n x None f e = cc
     by n x (Some o) f e = within (calls_on n steps) o.span x
-        (each-outcome (Placed setup) setup (λ earlier sc p k at name. outcome-placed setup (words_left setup earlier) sc (slice_get setup.scopes sc) (parent_among earlier p) k at name refl) steps n o f) e
+        (each-outcome (Placed setup) setup (λ earlier r sc p k at name. refused-placed setup r _ (outcome-placed setup (words_left setup earlier) sc (slice_get setup.scopes sc) (parent_among earlier p) k at name refl)) steps n o f) e
 
 -- the ticket is no part of the place
 tickets-placed : (setup : Setup) (n : ℕ) (xs : List EndedSpan) → AllByRecursion (IsPlaced setup) xs → AllByRecursion (IsPlaced setup) (with_tickets n xs)
 tickets-placed setup n [] h = tt
 tickets-placed setup n (x ∷ xs) h = (h.0, tickets-placed setup (n + 1) xs h.1)
 
-pub ended-placed : (setup : Setup) (steps : List Step) → AllByRecursion (IsPlaced setup) (ended_spans setup steps)
+pub ended-placed : (setup : Setup) (steps : List SpanStep) → AllByRecursion (IsPlaced setup) (ended_spans setup steps)
 ended-placed setup steps = tickets-placed setup 0 (exported_spans setup steps) (exported-placed-all setup steps)

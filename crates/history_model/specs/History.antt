@@ -1,29 +1,30 @@
 -- What a program does with spans, and which of them it ends. (Trace API, Span Creation, Span
 -- operations)
-use Rattle.std.specs.Prelude.{ℕ, zero, suc, ◌+◌, ◌==◌, nat_lt, ◌&&◌, List, [], ◌∷◌, ◌++◌, filter_map, if◌then◌else◌, Option, Some, None, option_map}
+use Rattle.std.specs.Prelude.{ℕ, zero, suc, ◌+◌, ◌==◌, nat_lt, Bool, false, not, ◌&&◌, List, [], ◌∷◌, ◌++◌, filter_map, take_while, if◌then◌else◌, Option, Some, None, option_map}
 use Rattle.std.specs.Option.{option_and_then}
 use Rattle.std.specs.List.{slice_get, sum_by}
 use Rattle.span_model.specs.Attributes.{distinct_of}
 use Rattle.span_model.specs.Spans.{Context, Kind, Scope, Call, EndedSpan, is_end, with_ticket}
+use Rattle.history_model.specs.Steps.{Parent, root, numbered, given, Step, is_shutdown}
 use Rattle.span_model.specs.Identifiers.{Words, words_after}
 use Rattle.span_model.specs.Sampling.{is_sampled}
 use Rattle.span_model.specs.Starts.{StartedSpan, Provider, Tracer, StartRequest, start_request, started_span, ids_words, exported_span}
 
--- the parent that a start names
-pub data Parent : Type 0 where
-  -- none
-  root : Parent
-  -- the span with this number
-  numbered : ℕ → Parent
-  -- a span of elsewhere
-  given : Context → Parent
-
--- Spans are numbered from 0 on by their starts, those too that give no span.
-pub data Step : Type 0 where
-  -- the number of the scope, the parent, the kind, the moment and the name
-  start : ℕ → Parent → Kind → ℕ → List ℕ → Step
+-- A step that counts for the spans. A start to which memory was refused does: it has its number and
+-- has spent its words, but it gives no span. (profile)
+pub data SpanStep : Type 0 where
+  -- whether memory was refused; the number of the scope, the parent, the kind, the moment, the name
+  start : Bool → ℕ → Parent → Kind → ℕ → List ℕ → SpanStep
   -- the number of the span, and the call, which may be its end
-  call : ℕ → Call → Step
+  call : ℕ → Call → SpanStep
+
+-- What a step is for the spans, where memory was refused to it or not. A refused call is nothing.
+-- (profile)
+abbrev pub span_step : Bool → Step → Option SpanStep
+span_step refused (Step.start scope parent kind at name) =
+    Some (start refused scope parent kind at name)
+span_step refused (Step.call n c) = if refused then None else Some (call n c)
+span_step refused _ = None
 
 -- what a program has before its first step
 pub record Setup : Type 0 where
@@ -68,62 +69,69 @@ start_result_in setup words (Some scope) (Some parent) kind at name =
     (start_request parent name kind at) words
 start_result_in setup words _ _ kind at name = no_span
 
+-- the same, or, where memory was refused, no span (profile)
+abbrev pub unless_refused : Bool → StartResult → StartResult
+unless_refused refused o = if refused then record o { span = None } else o
+
 -- what a start comes to, behind starts that came to these
-abbrev pub start_result : Setup → List StartResult → ℕ → Parent → Kind → ℕ → List ℕ → StartResult
-start_result setup earlier scope parent kind at name =
-    start_result_in setup (words_left setup earlier) (slice_get setup.scopes scope)
-    (parent_among earlier parent) kind at name
+abbrev pub start_result : Setup → List StartResult → Bool → ℕ → Parent → Kind → ℕ → List ℕ
+    → StartResult
+start_result setup earlier refused scope parent kind at name =
+    unless_refused refused
+    (start_result_in setup (words_left setup earlier) (slice_get setup.scopes scope)
+    (parent_among earlier parent) kind at name)
 
 -- what the starts among some steps come to, in order, each behind those before it
-unfoldable pub start_results_behind : Setup → List StartResult → List Step → List StartResult
+unfoldable pub start_results_behind : Setup → List StartResult → List SpanStep → List StartResult
 start_results_behind setup earlier [] = earlier
-start_results_behind setup earlier (start scope parent kind at name ∷ steps) =
+start_results_behind setup earlier (start refused scope parent kind at name ∷ steps) =
     start_results_behind setup
-    (earlier ++ start_result setup earlier scope parent kind at name ∷ []) steps
+    (earlier ++ start_result setup earlier refused scope parent kind at name ∷ []) steps
 start_results_behind setup earlier (call n c ∷ steps) = start_results_behind setup earlier steps
 
 -- what the starts come to
-abbrev pub start_results : Setup → List Step → List StartResult
+abbrev pub start_results : Setup → List SpanStep → List StartResult
 start_results setup steps = start_results_behind setup [] steps
 
 -- how many starts there are
-abbrev pub start_count : List Step → ℕ
+abbrev pub start_count : List SpanStep → ℕ
 start_count [] = 0
-start_count (start scope parent kind at name ∷ steps) = suc (start_count steps)
+start_count (start refused scope parent kind at name ∷ steps) = suc (start_count steps)
 start_count (call n c ∷ steps) = start_count steps
 
 -- ---- calls
 
 -- the steps behind the start with this number
-abbrev pub behind_start : ℕ → List Step → List Step
+abbrev pub behind_start : ℕ → List SpanStep → List SpanStep
 behind_start n [] = []
-behind_start zero (start scope parent kind at name ∷ steps) = steps
-behind_start (suc n) (start scope parent kind at name ∷ steps) = behind_start n steps
+behind_start zero (start refused scope parent kind at name ∷ steps) = steps
+behind_start (suc n) (start refused scope parent kind at name ∷ steps) = behind_start n steps
 behind_start n (call m c ∷ steps) = behind_start n steps
 
 -- the call that a step makes on the span with this number, if it makes one
-abbrev pub call_on : ℕ → Step → Option Call
-call_on n (start scope parent kind at name) = None
+abbrev pub call_on : ℕ → SpanStep → Option Call
+call_on n (start refused scope parent kind at name) = None
 call_on n (call m c) = if m == n then Some c else None
 
 -- the calls on the span with this number: those behind its start
-abbrev pub calls_on : ℕ → List Step → List Call
+abbrev pub calls_on : ℕ → List SpanStep → List Call
 calls_on n steps = filter_map (call_on n) (behind_start n steps)
 
 -- ---- ends
 
 -- Whose ends there are, in order: for each the number of its span, where a start of this number
 -- stands before, also one that gave no span. The steps stand behind so many starts.
-abbrev pub ends_behind : ℕ → List Step → List ℕ
+abbrev pub ends_behind : ℕ → List SpanStep → List ℕ
 ends_behind started [] = []
-ends_behind started (start scope parent kind at name ∷ steps) = ends_behind (started + 1) steps
+ends_behind started (start refused scope parent kind at name ∷ steps) =
+    ends_behind (started + 1) steps
 ends_behind started (call n c ∷ steps) =
     if is_end c && nat_lt n started then n ∷ ends_behind started steps
     else ends_behind started steps
 
 -- The numbers whose ends count, in the order of their first ends; those too whose start gave no
 -- span. (Trace API, End)
-abbrev pub ended_numbers : List Step → List ℕ
+abbrev pub ended_numbers : List SpanStep → List ℕ
 ended_numbers steps = distinct_of (λ n m. n == m) (ends_behind 0 steps)
 
 -- what is exported of a span that has started, if it is sampled (Trace SDK, Sampling)
@@ -137,7 +145,7 @@ exported_of calls (Some o) = option_and_then (exported_if_sampled calls) o.span
 
 -- The sampled spans that the steps end, in the order of their first ends, each with what its calls
 -- made of it. (Trace API, End; Trace SDK, Sampling)
-abbrev pub exported_spans : Setup → List Step → List EndedSpan
+abbrev pub exported_spans : Setup → List SpanStep → List EndedSpan
 exported_spans setup steps =
     filter_map (λ n. exported_of (calls_on n steps) (slice_get (start_results setup steps) n))
     (ended_numbers steps)
@@ -148,5 +156,9 @@ with_tickets n [] = []
 with_tickets n (x ∷ xs) = with_ticket n x ∷ with_tickets (n + 1) xs
 
 -- the same spans, each with its place among them as its ticket (profile: tickets from 0 on)
-abbrev pub ended_spans : Setup → List Step → List EndedSpan
+abbrev pub ended_spans : Setup → List SpanStep → List EndedSpan
 ended_spans setup steps = with_tickets 0 (exported_spans setup steps)
+
+-- what the steps before the first shutdown are for the spans, where memory is refused to none
+abbrev pub granted_steps : List Step → List SpanStep
+granted_steps steps = filter_map (span_step false) (take_while (λ x. not (is_shutdown x)) steps)

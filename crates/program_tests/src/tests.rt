@@ -18,6 +18,14 @@ end 1 2
 const TWO_SPANS_BODY: &str =
     "0a7d0a0012790a030a017312330a100102030405060708090a0b0c0d0e0f10120811121314151617182a01613001390100000000000000410200000000000000123d0a100102030405060708090a0b0c0d0e0f1012082122232425262728220811121314151617182a01623001390100000000000000410200000000000000\n";
 
+const TWO_SPANS_RUN: &str = "start 0 0102030405060708090a0b0c0d0e0f10 1112131415161718
+start 1 0102030405060708090a0b0c0d0e0f10 2122232425262728
+end 0 queued 0
+end 1 queued 1
+queued 2
+late 0
+";
+
 /// What the program answers and prints.
 #[derive(Drop)]
 struct Printed {
@@ -45,9 +53,9 @@ fn assert_run(rt: &impl Abort, run: &Printed, status: u8, output: &str, faults: 
 }
 
 #[test]
-fn wants_to_be_asked_for_a_body(rt: HostRuntime) {
+fn prints_the_lines_of_a_run(rt: HostRuntime) {
     let answer = run(rt.alloc(), rt.alloc(), TWO_SPANS, false);
-    assert_run(&rt, &answer, 2, "", "--body must be given\n");
+    assert_run(&rt, &answer, 0, TWO_SPANS_RUN, "");
 }
 
 #[test]
@@ -70,6 +78,26 @@ fn tells_refused_memory(rt: HostRuntime) -> Result<(), Fail> {
     Ok(())
 }
 
+#[test]
+fn tells_memory_that_is_refused_to_a_run(rt: HostRuntime) -> Result<(), Fail> {
+    let mut refused = 0u64;
+    let mut printed = 0u64;
+    for size in (0..90_000usize).step_by(200) {
+        let heap = LocalHeap::new(rt.alloc(), size)?;
+        let answer = run(rt.alloc(), &heap, TWO_SPANS, false);
+        if answer.status == 0 {
+            assert!(rt; answer.output.as_slice().starts_with(b"start 0 "));
+            printed = printed.saturating_add(1);
+        } else {
+            assert_run(&rt, &answer, 3, "", "out of memory\n");
+            refused = refused.saturating_add(1);
+        }
+    }
+    assert!(rt; refused > 0, "{refused} refused");
+    assert!(rt; printed > 0, "{printed} printed");
+    Ok(())
+}
+
 // ---- the command line
 
 /// The words of a command line, the program's name first.
@@ -86,8 +114,8 @@ fn command_line(alloc: Global, words: &str) -> Result<Vec<String>, AllocError> {
 fn reads_the_command_line(rt: HostRuntime) -> Result<(), Fail> {
     let cases = [
         ("--body", 0, TWO_SPANS_BODY, ""),
-        ("--help", 0, "Reads a script of spans", ""),
-        ("", 2, "", "error: the following required"),
+        ("", 0, TWO_SPANS_RUN, ""),
+        ("--help", 0, "Runs a script of spans", ""),
         ("--bodies", 2, "", "error: unexpected argument"),
         ("--body more", 2, "", "error: unexpected argument"),
     ];
@@ -229,7 +257,7 @@ fn tells_a_flush_that_fails(rt: HostRuntime) {
 
 #[test]
 fn tells_that_faults_cannot_be_told(rt: HostRuntime) {
-    let mut input = "flush\n".as_bytes();
+    let mut input = "flush now\n".as_bytes();
     let mut output = Vec::new(rt.alloc());
     let mut faults = FailingWriter {
         taken: Vec::new(rt.alloc()),

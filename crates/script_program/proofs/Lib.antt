@@ -1,3 +1,4 @@
 mod Output
 mod Read
+mod Runs
 mod Steps

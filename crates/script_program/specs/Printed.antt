@@ -1,64 +1,104 @@
--- The line that the program prints.
-use Rattle.std.specs.Prelude.{◌≡◌, ◌⊎◌, ℕ, List, [], ◌∷◌, ◌++◌, length, take, Bool, false, Option, Ok, Err, IfSome}
+-- What the program prints.
+use Rattle.std.specs.Prelude.{◌≡◌, ◌⊎◌, ℕ, ◌+◌, List, [], ◌∷◌, ◌++◌, length, map, take, Bool, true, false, Option, Ok, Err, IfSome, unwrap_or}
 use Rattle.std.specs.Io.KnownBytes.{Appends, Keeps}
 use Rattle.hex.specs.Hex.{encode_lower}
 use Rattle.message_model.specs.Reading.{Reads}
 use Rattle.message_model.specs.Messages.{body_meaning}
 use Rattle.export_model.specs.Export.{grouped_triples, groups, body_length}
+use Rattle.desk_model.specs.Desks.{Desk, in_hand_size}
+use Rattle.run_model.specs.Runs.{Answered}
+use Rattle.run_model.specs.Answers.{AreAnswers, desk_after}
+use Rattle.run_model.specs.Headline.{EachOnce, attempts}
+use Rattle.span_exporter.specs.Handed.{Handed}
+use Rattle.trace_run.specs.State.{attempt_of}
+use Rattle.run_text.specs.Lines.{answers_text, report_text}
 use Rattle.span_script.specs.Scripts.{Script, script_read}
 use Rattle.span_script.specs.declared.script.ScriptError.TheVariants as scripts
-use Rattle.script_program.specs.Recorded.{spans_of}
+use Rattle.script_program.specs.Recorded.{run_of, setup_of, spans_of}
 use Rattle.script_program.specs.declared.failure.Failure.{Failure}
 use Rattle.script_program.specs.declared.failure.Failure.TheVariants as failures
 
--- The input's text is a script, and the line is the body that exports the spans which it ends, in
--- hexadecimal digits, and the end of the line (10). Of an input that doesn't tell its bytes, some
--- text is.
-pub record IsBodyLine (input : Option (List ℕ)) (line : List ℕ) : Type 0 where
-  pub text : List ℕ
-  pub given : IfSome input (λ bytes. text ≡ bytes)
-  pub script : Script
-  pub read : script_read text ≡ Ok script
+-- ---- the body
+
+-- The line is the body that exports the spans which the script ends, in hexadecimal digits, and the
+-- end of the line (10).
+pub record IsBodyLine (script : Script) (line : List ℕ) : Type 0 where
   pub body : List ℕ
   pub meaning : Reads (body_meaning body) (grouped_triples (spans_of script))
   pub size : length body ≡ body_length (groups (spans_of script))
   pub digits : line ≡ encode_lower body ++ 10 ∷ []
 
--- what was known of the output has gained such a line
-pub record PrintsBody (input old new : Option (List ℕ)) : Type 0 where
-  pub line : List ℕ
-  pub is : IsBodyLine input line
-  pub gained : Appends old new line
+-- ---- the run
+
+-- how many spans wait, or are in a batch that was not handed over
+abbrev pub queued_count : Desk → ℕ
+queued_count desk = length desk.waiting + in_hand_size desk.out
+
+-- the lines of the answers, and the report, where the exporter was handed these
+abbrev pub run_text : List Handed → List Answered → Desk → List ℕ
+run_text handed history desk =
+    answers_text handed history ++ report_text (queued_count desk) desk.ledger desk.late
+
+-- The text is that of a run: each step of the script has its answer, no span is unaccounted for,
+-- the exporter was handed the attempts that the answers speak of, and the report is of what the
+-- queue then shows.
+pub record IsRunText (script : Script) (text : List ℕ) : Type 0 where
+  pub history : List Answered
+  pub steps : map (λ x. x.step) history ≡ script.steps
+  pub answered : AreAnswers (run_of script) history
+  pub each_once : EachOnce (setup_of script) history
+  pub handed : List Handed
+  pub told : map attempt_of handed ≡ attempts history
+  pub lines : text ≡ run_text handed history (desk_after (run_of script) history)
+
+-- ---- either
+
+-- by whether the body was asked for
+abbrev pub IsTextOf : Bool → Script → List ℕ → Type 0
+IsTextOf true script text = IsBodyLine script text
+IsTextOf false script text = IsRunText script text
+
+-- The input's bytes are a script, and this is printed for it. Of an input that doesn't tell its
+-- bytes, some are.
+pub record IsPrinted (body : Bool) (input : Option (List ℕ)) (text : List ℕ) : Type 0 where
+  pub bytes : List ℕ
+  pub given : IfSome input (λ known. bytes ≡ known)
+  pub script : Script
+  pub read : script_read bytes ≡ Ok script
+  pub is : IsTextOf body script text
+
+-- what was known of the output has gained such a text
+pub record Prints (body : Bool) (input old new : Option (List ℕ)) : Type 0 where
+  pub text : List ℕ
+  pub is : IsPrinted body input text
+  pub gained : Appends old new text
 
 -- what is known has gained a beginning of this text, which may be nothing or all of it
 pub record AppendsStart (old new : Option (List ℕ)) (text : List ℕ) : Type 0 where
   pub count : ℕ
   pub gained : Appends old new (take count text)
 
--- the same of such a line
-pub record PrintsLineStart (input old new : Option (List ℕ)) : Type 0 where
-  pub line : List ℕ
-  pub is : IsBodyLine input line
-  pub start : AppendsStart old new line
+-- the same of such a text
+pub record PrintsTextStart (body : Bool) (input old new : Option (List ℕ)) : Type 0 where
+  pub text : List ℕ
+  pub is : IsPrinted body input text
+  pub start : AppendsStart old new text
 
--- what was known of the output stays, or has gained a beginning of such a line
-abbrev pub PrintsStart : Option (List ℕ) → Option (List ℕ) → Option (List ℕ) → Type 0
-PrintsStart input old new = Keeps old new ⊎ PrintsLineStart input old new
+-- what was known of the output stays, or has gained a beginning of such a text
+abbrev pub PrintsStart : Bool → Option (List ℕ) → Option (List ℕ) → Option (List ℕ) → Type 0
+PrintsStart body input old new = Keeps old new ⊎ PrintsTextStart body input old new
+
+-- ---- failures
 
 -- the line with this number is the first bad one of the input's text
 pub record IsBadAt (input : Option (List ℕ)) (n : ℕ) : Type 0 where
   pub bad : IfSome input (λ bytes. script_read bytes ≡ Err n)
 
--- why there is no line: the body was not asked for, or the line that is told is the first bad one
-abbrev pub Explains : Bool → Option (List ℕ) → Failure → Type 0
-Explains asked input failures.NoBody = asked ≡ false
-Explains asked input (failures.Script (scripts.BadLine n)) = IsBadAt input n
-Explains asked input (failures.Script scripts.OutOfMemory) = Unit {0}
-Explains asked input failures.Read = Unit {0}
-Explains asked input failures.Write = ⊥
-Explains asked input failures.OutOfMemory = Unit {0}
-Explains asked input failures.TooLarge = Unit {0}
-
--- why the program refuses: the body was not asked for, or the input has a bad line
-abbrev pub Refuses : Bool → Option (List ℕ) → Type 0
-Refuses asked input = (asked ≡ false) ⊎ ((n : ℕ) × IsBadAt input n)
+-- why there is no text: the line that is told is the first bad one
+abbrev pub Explains : Option (List ℕ) → Failure → Type 0
+Explains input (failures.Script (scripts.BadLine n)) = IsBadAt input n
+Explains input (failures.Script scripts.OutOfMemory) = Unit {0}
+Explains input failures.Read = Unit {0}
+Explains input failures.Write = ⊥
+Explains input failures.OutOfMemory = Unit {0}
+Explains input failures.TooLarge = Unit {0}

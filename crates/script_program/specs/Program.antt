@@ -7,7 +7,6 @@ use Rattle.script_program.specs.declared.failure.Failure.{Failure}
 use Rattle.script_program.specs.declared.failure.Failure.TheVariants as failures
 
 abbrev pub status_of : Failure → ℕ
-status_of failures.NoBody = 2
 status_of failures.Read = 1
 status_of failures.Write = 1
 status_of (failures.Script (scripts.BadLine n)) = 2

@@ -1,11 +1,13 @@
--- The spans that a script ends.
+-- What a script runs on, and the spans that it ends.
 use Rattle.std.specs.Prelude.{ℕ, List, [], slice_index, unwrap_or}
 use Rattle.span_model.specs.Attributes.{attributes}
 use Rattle.span_model.specs.Spans as model
 use Rattle.span_model.specs.Sampling.{SamplerMeaning, always_on, always_off, as_parent}
 use Rattle.span_model.specs.Identifiers.{Words}
-use Rattle.history_model.specs.History.{Setup, ended_spans}
 use Rattle.span_model.specs.Spans.{default_limits}
+use Rattle.history_model.specs.History.{Setup, ended_spans, granted_steps}
+use Rattle.run_model.specs.Answers.{RunConfig}
+use Rattle.batch_desk.specs.Desk.{default_config}
 use Rattle.span_script.specs.Scripts.{Script, all_kept}
 use Rattle.span_script.specs.declared.sampler.SamplerName.{SamplerName}
 use Rattle.span_script.specs.declared.sampler.SamplerName.TheVariants.{AlwaysOn, AlwaysOff, ParentBased}
@@ -38,6 +40,11 @@ setup_of s = record {
   scopes = s.scopes;
 }
 
--- the spans that a script ends, in the order of their ends
+-- The same, with the batch processor. Where the script sets no sizes they are the standard's.
+-- (Trace SDK, Batching processor)
+abbrev pub run_of : Script → RunConfig
+run_of s = record { setup = setup_of s; desk = unwrap_or s.desk default_config }
+
+-- the spans that a script ends before its first shutdown, in the order of their ends
 abbrev pub spans_of : Script → List model.EndedSpan
-spans_of s = ended_spans (setup_of s) s.steps
+spans_of s = ended_spans (setup_of s) (granted_steps s.steps)

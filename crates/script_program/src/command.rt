@@ -1,8 +1,8 @@
 //! The command line of `trace-script`.
-ghost use Rattle.std.specs.Prelude.{◌≡◌, ◌≤◌, ◌⊎◌};
+ghost use Rattle.std.specs.Prelude.{◌≡◌, ◌≤◌, ◌⊎◌, IfOk, true, false};
 ghost use Rattle.std.specs.Io.KnownBytes.{Keeps};
 ghost use Rattle.clap.specs.Words.{FailsBy, kind_of};
-ghost use Rattle.script_program.specs.Command.{word_faults};
+ghost use Rattle.script_program.specs.Command.{AskForBody, AskForRun, word_faults};
 
 use crate::failure::{Failure, tell};
 use clap::error::ErrorKind;
@@ -11,23 +11,24 @@ use std::alloc::Global;
 use std::io;
 use std::io::Write;
 
-/// Reads the words of the command line, of which the first is the program's name. Today they have
-/// to ask for the body. The error is a mistake, a request for help, or refused memory.
-pub fn read_words(alloc: Global, words: &[String]) -> Result<(), Error>
-    ensures { FailsBy (word_faults words.now) result }
+/// Reads the words of the command line, of which the first is the program's name. The answer is
+/// whether they ask for the body. The error is a mistake, a request for help, or refused memory.
+pub fn read_words(alloc: Global, words: &[String]) -> Result<bool, Error>
+    ensures taken { FailsBy (word_faults words.now) result }
+    ensures set { AskForBody words.now → IfOk result (λ body. body ≡ true) }
+    ensures unset { AskForRun words.now → IfOk result (λ body. body ≡ false) }
 {
     let body = Arg::new(alloc, "body")
         .long("body")
         .action(ArgAction::SetTrue)
-        .required(true)
         .help("Print, in hexadecimal, the body that exports the spans which the script ends");
     let command = Command::new(alloc, "trace-script")
-        .about("Reads a script of spans on standard input")
+        .about("Runs a script of spans on standard input")
         .bin_name("trace-script")?
         .arg(body)?;
     let parsed = command.try_get_matches_from(words);
     match parsed {
-        Ok(_) => Ok(()),
+        Ok(matches) => Ok(matches.get_flag("body")),
         Err(error) => Err(error),
     }
 }

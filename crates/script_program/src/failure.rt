@@ -11,9 +11,6 @@ use thiserror::Error;
 /// Why a script has no answer.
 #[derive(Debug, Drop, Error)]
 pub enum Failure {
-    /// There is nothing to print but the body, and it was not asked for.
-    #[error("--body must be given")]
-    NoBody,
     /// The script cannot be read.
     #[error("cannot read the script")]
     Read,
@@ -38,7 +35,7 @@ impl Failure {
     {
         match self {
             Failure::Read | Failure::Write => 1,
-            Failure::NoBody | Failure::Script(ScriptError::BadLine(_)) => 2,
+            Failure::Script(ScriptError::BadLine(_)) => 2,
             Failure::Script(ScriptError::OutOfMemory) | Failure::OutOfMemory | Failure::TooLarge =>
                 3,
         }

@@ -1,49 +1,45 @@
 //! The spans that a script starts, calls and ends.
-ghost use Rattle.std.specs.Prelude.{◌≡◌, ◌≤◌, List, ◌∷◌, ◌++◌, [], IfOk, OnOk, option_map, length, map, string_bytes};
-ghost use Rattle.history_model.specs.History as history;
-ghost use Rattle.history_model.specs.History.{Setup, Step as ModelStep, ended_spans};
-ghost use Rattle.otlp_ids.specs.SpanContext.{parent_view};
-ghost use Rattle.otlp_span.specs.Parts.{call_view, kind_view, scope_view};
-ghost use Rattle.trace_history.specs.Steps.{parent_name_view, step_view};
+ghost use Rattle.std.specs.Prelude.{◌≡◌, ◌+◌, ◌≤◌, ◌∷◌, [], IfOk, OnOk, false, length, map};
+ghost use Rattle.history_model.specs.History.{ended_spans, granted_steps};
+ghost use Rattle.history_model.specs.Steps.{is_shutdown as closes};
 ghost use Rattle.otlp_proto.specs.Group.{SharePlace};
-ghost use Rattle.script_program.specs.Recorder.{Stands, StartsAmong, begins, parent_in, setup_view, tracers_of};
+ghost use Rattle.run_model.specs.Runs.{is_refused};
+ghost use Rattle.trace_history.specs.Answers.{answer_view};
+ghost use Rattle.trace_history.specs.Steps.{step_view};
+ghost use Rattle.script_program.specs.Recorder.{Records, begins, granted, setup_view, start_steps};
 
 use crate::sampler::ScriptSampler;
-use otlp_ids::{OutOfMemory, SpanContext};
-use otlp_span::{Kind, Resource, Scope, SpanCall};
+use otlp_ids::OutOfMemory;
+use otlp_span::Resource;
 use span_script::Script;
+use span_table::SpanTable;
 use std::alloc::Allocator;
 use std::sync::Arc;
-use trace_api::{BodyPass, Provider, Span, StartFault, Tracer};
-use trace_history::{Parent, Step};
+use trace_api::{BodyPass, Provider};
+use trace_history::{Answer, Step};
 use words_rng::WordsRng;
 
-/// Runs the steps of a script.
-#[derive(Drop)]
-pub struct Recorder<'a, A: Allocator + Copy> {
-    alloc: A,
-    tracers: Vec<Tracer<'a, ScriptSampler, A>, A>,
-    words: WordsRng<A>,
-    spans: Vec<Option<Span<A>>, A>,
-    pass: BodyPass<A>,
-}
+/// The spans of a script.
+type ScriptSpans<'a, A> = SpanTable<'a, ScriptSampler, WordsRng<A>, A>;
 
-/// The sampled spans that the script ends, in the order of their ends.
+/// The sampled spans that the script ends before its first shutdown, in the order of their ends.
 pub fn spans_of_script<A: Allocator + Copy>(
     alloc: A,
     script: Script<A>,
 ) -> Result<BodyPass<A>, OutOfMemory>
     requires { length script.scopes.items ≤ 1 }
-    ensures exact { IfOk result (λ pass.
-        pass.spans ≡ ended_spans (setup_view script) (map step_view script.steps.items)) }
+    ensures exact { IfOk result (λ pass. pass.spans ≡
+        ended_spans (setup_view script) (granted_steps (map step_view script.steps.items))) }
     ensures shared { IfOk result (λ pass. SharePlace pass.spans) }
 {
     let Script {
         words,
         sampler,
         limits,
+        desk: _,
         resource,
         scopes,
+        answers: _,
         steps,
     } = script;
     let resource = Resource {
@@ -52,17 +48,10 @@ pub fn spans_of_script<A: Allocator + Copy>(
     };
     let resource = Arc::new(alloc, resource)?;
     let provider = Provider::new(ScriptSampler(sampler), resource, limits);
-    let mut recorder = Recorder {
-        alloc,
-        tracers: tracers(alloc, &provider, scopes)?,
-        words: WordsRng::new(words),
-        spans: Vec::new(alloc),
-        pass: BodyPass::new(alloc, count_starts(steps.as_slice()))?,
-    };
-    for step in steps {
-        recorder.take_step(step)?;
-    }
-    let Recorder { pass, .. } = recorder;
+    let room = count_starts(steps.as_slice());
+    let mut spans = SpanTable::new(alloc, &provider, scopes, WordsRng::new(words), room)?;
+    let mut pass = BodyPass::new(alloc, room)?;
+    take_steps(&mut spans, &mut pass, steps.as_slice())?;
     Ok(pass)
 }
 
@@ -73,112 +62,71 @@ fn is_start<A: Allocator>(step: &Step<A>) -> bool
     matches!(step, Step::Start { .. })
 }
 
+/// Whether the step is a shutdown.
+fn is_shutdown<A: Allocator>(step: &Step<A>) -> bool
+    ensures { result ≡ closes (step_view step.now) }
+{
+    matches!(step, Step::Shutdown)
+}
+
 /// How many spans the steps start.
 fn count_starts<A: Allocator>(steps: &[Step<A>]) -> usize
-    ensures { result ≡ history.start_count (map step_view steps.now) }
+    ensures { result ≡ start_steps (map step_view steps.now) }
 {
     steps.iter().filter(|step| is_start(step)).count()
 }
 
-/// A tracer for each scope.
-fn tracers<'a, A: Allocator + Copy>(
-    alloc: A,
-    provider: &'a Provider<ScriptSampler, A>,
-    scopes: Vec<Scope<A>, A>,
-) -> Result<Vec<Tracer<'a, ScriptSampler, A>, A>, OutOfMemory>
-    ensures { IfOk result
-        (λ tracers. tracers.items ≡ tracers_of provider.now (map scope_view scopes.items)) }
+/// Takes the steps before the first shutdown.
+fn take_steps<A: Allocator + Copy>(
+    spans: &mut ScriptSpans<'_, A>,
+    pass: &mut BodyPass<A>,
+    steps: &[Step<A>],
+) -> Result<(), OutOfMemory>
+    requires { length spans.old.spans + start_steps (map step_view steps.now) ≤ spans.old.room }
+    ensures { OnOk result (Records (granted_steps (map step_view steps.now))
+        spans.old pass.old spans.new pass.new) }
 {
-    let mut tracers = Vec::with_capacity(alloc, scopes.len())?;
-    for scope in scopes {
-        tracers.push(provider.tracer(Arc::new(alloc, scope)?))?;
+    for step in steps {
+        if is_shutdown(step) {
+            return Ok(());
+        }
+        take_step(spans, pass, step)?;
     }
-    Ok(tracers)
+    Ok(())
 }
 
-/// The context of the parent that a start names, if there is such a parent: of a span by its
-/// number, of elsewhere as it is given.
-fn parent_context<'s, A: Allocator>(
-    spans: &'s [Option<Span<A>>],
-    parent: &'s Parent<A>,
-) -> Option<Option<&'s SpanContext<A>>>
-    ensures { option_map parent_view result ≡ parent_in spans.now
-        (parent_name_view parent.now) }
+/// Takes a step that is no shutdown. One that isn't for the spans does nothing.
+fn take_step<A: Allocator + Copy>(
+    spans: &mut ScriptSpans<'_, A>,
+    pass: &mut BodyPass<A>,
+    step: &Step<A>,
+) -> Result<(), OutOfMemory>
+    requires { length spans.old.spans + start_steps (step_view step.now ∷ []) ≤ spans.old.room }
+    ensures taken { OnOk result (Records (granted (step_view step.now))
+        spans.old pass.old spans.new pass.new) }
+    ensures many { length spans.new.spans
+        ≡ length spans.old.spans + start_steps (step_view step.now ∷ []) }
+    ensures room { spans.new.room ≡ spans.old.room }
 {
-    match parent {
-        Parent::Root => Some(None),
-        Parent::Span(number) => match spans.get(*number as usize) {
-            Some(Some(span)) => Some(Some(span.context())),
-            _ => None,
-        },
-        Parent::Given(context) => Some(Some(context)),
+    match step {
+        Step::Start {
+            scope,
+            parent,
+            kind,
+            at,
+            name,
+        } => unless_refused(spans.start(*scope, parent, *kind, *at, name.as_str())),
+        Step::Call { span, call } => unless_refused(spans.call(pass, *span, call)),
+        _ => Ok(()),
     }
 }
 
-impl<'a, A: Allocator + Copy> Recorder<'a, A> {
-    /// Takes the next step: a start, a call on a span, or an end, which is a call too.
-    fn take_step(&mut self, step: Step<A>) -> Result<(), OutOfMemory>
-        ensures { OnOk result ((setup : Setup) (done later : List ModelStep) →
-            Stands setup done (step_view step ∷ later) self.old →
-            Stands setup (done ++ step_view step ∷ []) later self.new) }
-    {
-        match step {
-            Step::Start {
-                scope,
-                parent,
-                kind,
-                at,
-                name,
-            } => {
-                let span = self.start(scope, &parent, kind, at, name)?;
-                self.spans.push(span)?;
-                Ok(())
-            }
-            Step::Call { span, call } => self.call(span, call),
-        }
-    }
-
-    /// The span that starts, unless the scope or the parent isn't there or the words give no
-    /// identifier.
-    fn start(
-        &mut self,
-        scope: u32,
-        parent: &Parent<A>,
-        kind: Kind,
-        at: u64,
-        name: String<A>,
-    ) -> Result<Option<Span<A>>, OutOfMemory>
-        ensures { IfOk result
-            (StartsAmong scope (parent_name_view parent.now) (kind_view kind) at
-            (string_bytes name) self.old self.new) }
-    {
-        let Some(tracer) = self.tracers.get(scope as usize) else {
-            return Ok(None);
-        };
-        let Some(parent) = parent_context(self.spans.as_slice(), parent) else {
-            return Ok(None);
-        };
-        match tracer.start(self.alloc, &mut self.words, parent, name, kind, at) {
-            Ok(span) => Ok(Some(span)),
-            Err(StartFault::NoRandomness) => Ok(None),
-            Err(StartFault::OutOfMemory) => Err(OutOfMemory),
-        }
-    }
-
-    /// Makes a call on the span with this number, if there is one.
-    fn call(&mut self, number: u32, call: SpanCall<A>) -> Result<(), OutOfMemory>
-        ensures { OnOk result ((setup : Setup) (done later : List ModelStep) →
-            let step = history.call number (call_view call) in
-            Stands setup done (step ∷ later) self.old
-            → Stands setup (done ++ step ∷ []) later self.new) }
-    {
-        let Some(slot) = self.spans.get_mut(number as usize) else {
-            return Ok(());
-        };
-        let Some(span) = slot else {
-            return Ok(());
-        };
-        span.call(&mut self.pass, call)?;
-        Ok(())
+/// The answer is want of memory, or not.
+fn unless_refused(answer: Answer) -> Result<(), OutOfMemory>
+    ensures { OnOk result (is_refused (answer_view answer) ≡ false) }
+{
+    match answer {
+        Answer::OutOfMemory => Err(OutOfMemory),
+        _ => Ok(()),
     }
 }

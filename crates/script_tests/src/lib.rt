@@ -7,6 +7,8 @@ mod large;
 #[cfg(test)]
 mod memory;
 #[cfg(test)]
+mod queue;
+#[cfg(test)]
 mod scripts;
 #[cfg(test)]
 mod words;

@@ -19,6 +19,8 @@ const LINES: &str = concat!(
     "status 0 error x\n",
     "name 0 b\n",
     "end 0 2\n",
+    "answer delivered\n",
+    "flush\n",
 );
 
 /// Parses the text on heaps of growing size: it has so many steps, or memory is refused.
@@ -43,6 +45,6 @@ fn is_refused(rt: &impl Abort, alloc: Global, text: &str, steps: usize) -> Resul
 
 #[test]
 fn is_refused_memory(rt: HostRuntime) -> Result<(), Fail> {
-    is_refused(&rt, rt.alloc(), LINES, 7)?;
+    is_refused(&rt, rt.alloc(), LINES, 8)?;
     is_refused(&rt, rt.alloc(), REMOTE, 2)
 }

@@ -1,8 +1,10 @@
 pub mod Pairs
 pub mod Contexts
+pub mod Steps
 pub mod Lines
 pub mod Drafts
 pub mod Orders
 pub mod Together
 pub mod Loop
+pub mod Sizes
 pub mod Kept

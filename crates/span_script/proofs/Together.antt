@@ -1,8 +1,8 @@
 -- What a draft comes to, line after line, is what the lines are together.
-use Rattle.std.proofs.Common.{◌≡◌, ℕ, suc, ◌+◌, ◌<◌, ◌≤◌, Bool, true, false, not, List, [], ◌∷◌, ◌++◌, length, get_or, take, drop, Option, Some, None, Result, Ok, Err, inl, inr, refl, sym, ap, ◌∙◌, subst, arith, append-nil, append_assoc, length-append, take-append-drop}
+use Rattle.std.proofs.Common.{◌≡◌, ℕ, ◌+◌, ◌<◌, Bool, true, not, List, [], ◌∷◌, ◌++◌, length, get_or, take, drop, Option, Some, None, Result, Ok, Err, inl, inr, refl, sym, ap, ◌∙◌, arith, append-nil, append_assoc, length-append, take-append-drop}
 use lib.Seq.{take-append-le, take-append-add}
 use Rattle.std.specs.Prelude.{is_some, ok_or, filter}
-use Rattle.std.specs.List.{position_or_len, range_with_len}
+use Rattle.std.specs.List.{range_with_len}
 use Rattle.std.proofs.lemmas.Bool.{cases_Bool}
 use Rattle.std.proofs.lemmas.List.Elements.{filter-append}
 use Rattle.std.proofs.lemmas.List.Sums.{position_or_len_is}
@@ -10,7 +10,7 @@ use Rattle.std.proofs.lemmas.List.FromFn.{length-range_with_len, get_or-range_wi
 use Rattle.script_words.specs.Words.{◌>>=◌, each_of, in_front}
 use Rattle.span_script.specs.Lines.{Line, line_of}
 use Rattle.span_script.specs.Scripts.{Script, is_script, contents_of, some_bytes, script_if, script_of, first_bad_line, lines_of, script_read}
-use Rattle.span_script.specs.Drafts.{no_script, fits, extended_script, with_line, line_read}
+use Rattle.span_script.specs.Drafts.{no_script, fits, with_line, line_read}
 use Rattle.span_script.proofs.Orders.{is_last, contents_last}
 
 -- ---- the lines one after the other

@@ -1,7 +1,7 @@
 -- How the context of a span, and the parent of one that starts, are spelled.
 use Rattle.std.specs.Prelude.{ℕ, ◌^◌, Bool, true, false, List, if◌then◌else◌, Option, Some, None, option_map, bytes_eq, codes}
 use Rattle.span_model.specs.Spans.{Context}
-use Rattle.history_model.specs.History.{Parent, root, numbered, given}
+use Rattle.history_model.specs.Steps.{Parent, root, numbered, given}
 use Rattle.script_words.specs.Words.{◌>>=◌, number_below, hex_bytes, byte_of, text_of, around_colon_of}
 
 -- ---- what words spell

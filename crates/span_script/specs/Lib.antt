@@ -1,6 +1,8 @@
 pub mod Values
 pub mod Contexts
 pub mod Calls
+pub mod Steps
+pub mod Outcomes
 pub mod Lines
 pub mod Scripts
 pub mod Drafts

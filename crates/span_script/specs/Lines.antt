@@ -1,19 +1,22 @@
 -- What a line of a script says: words with one space (32) between them, the first of which is its
 -- name.
-use Rattle.std.specs.Prelude.{ℕ, ◌^◌, ◌==◌, List, [], ◌∷◌, if◌then◌else◌, Option, Some, None, option_map, bytes_eq, codes, string_bytes}
+use Rattle.std.specs.Prelude.{ℕ, ◌^◌, ◌==◌, nat_le, ◌&&◌, List, [], ◌∷◌, if◌then◌else◌, Option, Some, None, option_map, bytes_eq, codes, string_bytes}
 use Rattle.std.specs.List.{slice_split}
 use Rattle.span_model.specs.Attributes as attributes
 use Rattle.span_model.specs.Spans as spans
-use Rattle.history_model.specs.History.{Step, start, call}
+use Rattle.desk_model.specs.Desks.{DeskConfig}
+use Rattle.desk_model.specs.Retries.{Outcome}
+use Rattle.history_model.specs.Steps.{Step}
 use Rattle.otlp_value.specs.Value.{attribute_view}
-use Rattle.otlp_span.specs.declared.parts.Kind.{Kind}
-use Rattle.otlp_span.specs.declared.parts.Kind.TheVariants as kinds
-use Rattle.otlp_span.specs.Parts.{kind_view, limits_view, call_view}
+use Rattle.otlp_span.specs.Parts.{limits_view}
+use Rattle.span_ring.specs.declared.ring.TheConstants.{MAX_QUEUE}
+use Rattle.batch_desk.specs.Views.{config_view}
+use Rattle.retry_core.specs.Retries.{outcome_view}
+use Rattle.trace_history.specs.Steps.{step_view}
 use Rattle.script_words.specs.Words.{◌>>=◌, each_of, number_below, hex_word, text_of}
 use Rattle.span_script.specs.Values.{pair_of}
-use Rattle.span_script.specs.Calls.{call_of}
-use Rattle.trace_history.specs.Steps.{step_view}
-use Rattle.span_script.specs.Contexts.{parent_of}
+use Rattle.span_script.specs.Outcomes.{outcome_of}
+use Rattle.span_script.specs.Steps.{step_of}
 use Rattle.span_script.specs.declared.sampler.SamplerName.{SamplerName}
 use Rattle.span_script.specs.declared.sampler.SamplerName.TheVariants as samplers
 use Rattle.span_script.specs.declared.line.Line.{Line as CodeLine}
@@ -23,8 +26,10 @@ pub data Line : Type 0 where
   words : List ℕ → Line
   sampler : SamplerName → Line
   limits : spans.SpanLimits → Line
+  desk : DeskConfig → Line
   resource : attributes.Attribute → Line
   scope : ℕ → spans.Scope → Line
+  answer : Outcome → Line
   step : Step → Line
 
 -- ---- the types of the code
@@ -33,6 +38,7 @@ abbrev pub line_view : {A : Type 0} → CodeLine A → Line
 line_view (lines.Words ws) = words ws.items
 line_view (lines.Sampler name) = sampler name
 line_view (lines.Limits l) = limits (limits_view l)
+line_view (lines.Desk c) = desk (config_view c)
 line_view (lines.Resource key value) = resource (attribute_view (key, value))
 line_view (lines.Scope number name version schema) =
     scope number (record {
@@ -41,19 +47,10 @@ line_view (lines.Scope number name version schema) =
       attributes = [];
       schema = string_bytes schema;
     })
+line_view (lines.Answer o) = answer (outcome_view o)
 line_view (lines.Step s) = step (step_view s)
 
 -- ---- what the words of a line spell
-
--- (Trace API, SpanKind)
-unfoldable pub kind_of : List ℕ → Option Kind
-kind_of word =
-    if bytes_eq word (codes "internal") then Some kinds.Internal
-    else if bytes_eq word (codes "server") then Some kinds.Server
-    else if bytes_eq word (codes "client") then Some kinds.Client
-    else if bytes_eq word (codes "producer") then Some kinds.Producer
-    else if bytes_eq word (codes "consumer") then Some kinds.Consumer
-    else None
 
 -- (Trace SDK, Built-in samplers)
 unfoldable pub sampler_of : List ℕ → Option SamplerName
@@ -119,32 +116,24 @@ scope_line (number ∷ name ∷ version ∷ schema ∷ []) = do
   Some (scope n (record { name = t; version = v; attributes = []; schema = s }))
 scope_line _ = None
 
--- `start SCOPE PARENT KIND AT NAME`
-unfoldable pub start_line : List (List ℕ) → Option Line
-start_line (number ∷ parent ∷ kind ∷ at ∷ name ∷ []) = do
-  n ← number_below (2 ^ 32) number
-  p ← parent_of parent
-  k ← kind_of kind
-  a ← number_below (2 ^ 64) at
-  t ← text_of name
-  Some (step (start n p (kind_view k) a t))
-start_line _ = None
+-- a number from 1 on, up to the greatest that may stand there
+unfoldable pub size_to : ℕ → List ℕ → Option ℕ
+size_to greatest word =
+    number_below (2 ^ 32) word >>= λ n. if nat_le 1 n && nat_le n greatest then Some n else None
 
--- `end N AT`
-unfoldable pub end_line : List (List ℕ) → Option Line
-end_line (span ∷ at ∷ []) = do
-  n ← number_below (2 ^ 32) span
-  a ← number_below (2 ^ 64) at
-  Some (step (call n (spans.end a)))
-end_line _ = None
+-- How many spans may wait, how many a batch may have, and the delay in milliseconds. (Trace SDK,
+-- Batching processor; the greatest queue: profile)
+unfoldable pub desk_of : List ℕ → List ℕ → List ℕ → Option DeskConfig
+desk_of queue batch delay = do
+  q ← size_to MAX_QUEUE queue
+  b ← size_to q batch
+  d ← number_below (2 ^ 32) delay
+  Some (record { queue = q; batch = b; delay_ms = d })
 
--- any other call on a span: the span's number stands behind the name
-unfoldable pub call_line : List ℕ → List (List ℕ) → Option Line
-call_line name [] = None
-call_line name (span ∷ others) = do
-  n ← number_below (2 ^ 32) span
-  c ← call_of name others
-  Some (step (call n c))
+-- `desk Q B D`
+unfoldable pub desk_line : List (List ℕ) → Option Line
+desk_line (queue ∷ batch ∷ delay ∷ []) = option_map desk (desk_of queue batch delay)
+desk_line _ = None
 
 -- a line of this name and these words behind it
 unfoldable pub entry : List ℕ → List (List ℕ) → Option Line
@@ -152,11 +141,11 @@ entry name arguments =
     if bytes_eq name (codes "words") then words_line arguments
     else if bytes_eq name (codes "sampler") then sampler_line arguments
     else if bytes_eq name (codes "limits") then limits_line arguments
+    else if bytes_eq name (codes "desk") then desk_line arguments
     else if bytes_eq name (codes "resource") then resource_line arguments
     else if bytes_eq name (codes "scope") then scope_line arguments
-    else if bytes_eq name (codes "start") then start_line arguments
-    else if bytes_eq name (codes "end") then end_line arguments
-    else call_line name arguments
+    else if bytes_eq name (codes "answer") then option_map answer (outcome_of arguments)
+    else option_map step (step_of name arguments)
 
 abbrev pub entry_of : List (List ℕ) → Option Line
 entry_of [] = None

@@ -1,11 +1,13 @@
 -- What the lines of a script say together.
-use Rattle.std.specs.Prelude.{ℕ, ◌+◌, ◌-◌, ◌^◌, ◌<◌, ◌≤◌, ◌==◌, Bool, true, false, not, ◌&&◌, List, [], ◌∷◌, ◌++◌, length, map, take, filter, filter_map, flat_map, slice_index_or, if◌then◌else◌, Option, Some, None, is_some, ok_or, Result, Ok, Err}
+use Rattle.std.specs.Prelude.{ℕ, ◌+◌, ◌-◌, ◌^◌, ◌<◌, ◌≤◌, ◌==◌, Bool, true, false, not, ◌&&◌, List, [], ◌∷◌, length, map, take, filter, filter_map, flat_map, slice_index_or, if◌then◌else◌, Option, Some, None, is_some, ok_or, Result}
 use Rattle.std.specs.List.{slice_split, list_all, position_or_len, range_with_len}
 use Rattle.span_model.specs.Attributes as attributes
 use Rattle.span_model.specs.Spans as spans
-use Rattle.history_model.specs.History.{Step}
+use Rattle.desk_model.specs.Desks.{DeskConfig}
+use Rattle.desk_model.specs.Retries.{Outcome}
+use Rattle.history_model.specs.Steps.{Step}
 use Rattle.script_words.specs.Words.{◌>>=◌, each_of}
-use Rattle.span_script.specs.Lines.{Line, words, sampler, limits, resource, scope, step, line_of}
+use Rattle.span_script.specs.Lines.{Line, words, sampler, limits, desk, resource, scope, answer, step, line_of}
 use Rattle.span_script.specs.declared.sampler.SamplerName.{SamplerName}
 
 pub record Script : Type 0 where
@@ -15,9 +17,13 @@ pub record Script : Type 0 where
   pub sampler : Option SamplerName
   -- the limits of spans, if they are set
   pub limits : Option spans.SpanLimits
+  -- the sizes and the delay of the batch processor, if they are set
+  pub desk : Option DeskConfig
   -- the attributes that are set on the resource, in order
   pub resource : List attributes.Attribute
   pub scopes : List spans.Scope
+  -- what comes of the attempts to send a batch, in order
+  pub answers : List Outcome
   pub steps : List Step
 
 -- a resource keeps the first 2^32 - 1 of its keys, and texts of any length (profile)
@@ -29,6 +35,12 @@ all_kept = record { count = 2 ^ 32 - 1; length = None }
 abbrev pub is_step : Line → Bool
 is_step (step x) = true
 is_step _ = false
+
+-- Settings say what there is before the first step. (profile)
+abbrev pub is_setting : Line → Bool
+is_setting (answer o) = false
+is_setting (step x) = false
+is_setting _ = true
 
 abbrev pub words_in : Line → List ℕ
 words_in (words ws) = ws
@@ -42,6 +54,10 @@ abbrev pub limits_in : Line → Option spans.SpanLimits
 limits_in (limits l) = Some l
 limits_in _ = None
 
+abbrev pub desk_in : Line → Option DeskConfig
+desk_in (desk c) = Some c
+desk_in _ = None
+
 abbrev pub attribute_in : Line → Option attributes.Attribute
 attribute_in (resource p) = Some p
 attribute_in _ = None
@@ -50,15 +66,19 @@ abbrev pub scope_in : Line → Option (ℕ × spans.Scope)
 scope_in (scope number x) = Some (number, x)
 scope_in _ = None
 
+abbrev pub answer_in : Line → Option Outcome
+answer_in (answer o) = Some o
+answer_in _ = None
+
 abbrev pub step_in : Line → Option Step
 step_in (step x) = Some x
 step_in _ = None
 
--- settings stand before steps: behind the first step there are steps alone
+-- settings stand before steps: none stands behind the first step
 abbrev pub settings_first : List Line → Bool
 settings_first [] = true
 settings_first (line ∷ lines) =
-    if is_step line then list_all is_step lines else settings_first lines
+    if is_step line then list_all (λ l. not (is_setting l)) lines else settings_first lines
 
 abbrev pub at_most_one : {A : Type 0} → List A → Bool
 at_most_one [] = true
@@ -71,14 +91,15 @@ scopes_in_order [] = true
 scopes_in_order ((number, x) ∷ []) = number == 0
 scopes_in_order _ = false
 
--- Settings stand before steps, the sampler and the limits are set once at most, and the one scope
--- has the number 0.
+-- Settings stand before steps, the sampler, the limits and the desk are set once at most, and the
+-- one scope has the number 0.
 abbrev pub is_script : List Line → Bool
 is_script lines =
     settings_first lines
     && (at_most_one (filter_map sampler_in lines)
     && (at_most_one (filter_map limits_in lines)
-    && scopes_in_order (filter_map scope_in lines)))
+    && (at_most_one (filter_map desk_in lines)
+    && scopes_in_order (filter_map scope_in lines))))
 
 abbrev pub first_of : {A : Type 0} → List A → Option A
 first_of [] = None
@@ -90,8 +111,10 @@ contents_of lines = record {
   words = flat_map words_in lines;
   sampler = first_of (filter_map sampler_in lines);
   limits = first_of (filter_map limits_in lines);
+  desk = first_of (filter_map desk_in lines);
   resource = filter_map attribute_in lines;
   scopes = map (λ p. p.1) (filter_map scope_in lines);
+  answers = filter_map answer_in lines;
   steps = filter_map step_in lines;
 }
 

@@ -3,15 +3,19 @@
 ghost use Rattle.std.specs.Prelude.{◌≡◌, is_some, not};
 ghost use Rattle.otlp_value.specs.Value.{attribute_view};
 ghost use Rattle.otlp_span.specs.Parts.{limits_view, scope_view};
+ghost use Rattle.batch_desk.specs.Views.{config_view};
+ghost use Rattle.retry_core.specs.Retries.{outcome_view};
 ghost use Rattle.trace_history.specs.Steps.{step_view};
-ghost use Rattle.span_script.specs.Lines.{line_view, words, sampler, limits, resource, scope, step};
+ghost use Rattle.span_script.specs.Lines.{line_view, words, sampler, limits, desk, resource, scope, answer, step};
 ghost use Rattle.span_script.specs.Scripts.{Script};
 ghost use Rattle.span_script.specs.Drafts.{Holds, Follows, no_items, no_script, with_line, line_read};
 
 use crate::line::{Line, parse_line};
 use crate::sampler::SamplerName;
+use batch_desk::DeskConfig;
 use otlp_span::{Scope, SpanLimits};
 use otlp_value::{AttributeList, Limits, Value};
+use retry_core::Outcome;
 use script_words::WordFault;
 use std::alloc::Allocator;
 use trace_history::Step;
@@ -25,10 +29,14 @@ pub(crate) struct Draft<A: Allocator> {
     pub(crate) sampler: Option<SamplerName>,
     /// The limits of spans, if they are set.
     pub(crate) limits: Option<SpanLimits>,
+    /// The sizes and the delay of the batch processor, if they are set.
+    pub(crate) desk: Option<DeskConfig>,
     /// The attributes of the resource.
     pub(crate) resource: AttributeList<A>,
     /// The scopes.
     pub(crate) scopes: Vec<Scope<A>, A>,
+    /// What comes of the attempts to send a batch.
+    pub(crate) answers: Vec<Outcome, A>,
     /// The steps.
     pub(crate) steps: Vec<Step<A>, A>,
 }
@@ -42,6 +50,7 @@ impl<A: Allocator + Copy> Draft<A> {
             words: Vec::new(alloc),
             sampler: None,
             limits: None,
+            desk: None,
             resource: AttributeList::new(
                 alloc,
                 Limits {
@@ -50,6 +59,7 @@ impl<A: Allocator + Copy> Draft<A> {
                 },
             ),
             scopes: Vec::new(alloc),
+            answers: Vec::new(alloc),
             steps: Vec::new(alloc),
         }
     }
@@ -79,6 +89,7 @@ impl<A: Allocator + Copy> Draft<A> {
             Line::Words(words) => self.add_words(words),
             Line::Sampler(name) => self.set_sampler(name),
             Line::Limits(limits) => self.set_limits(limits),
+            Line::Desk(config) => self.set_desk(config),
             Line::Resource(key, value) => self.add_attribute(key, value),
             Line::Scope {
                 number,
@@ -97,6 +108,7 @@ impl<A: Allocator + Copy> Draft<A> {
                     },
                 )
             }
+            Line::Answer(outcome) => self.add_answer(outcome),
             Line::Step(step) => self.add_step(step),
         }
     }
@@ -138,6 +150,18 @@ impl<A: Allocator + Copy> Draft<A> {
         Ok(())
     }
 
+    /// Goes on with the sizes and the delay of the batch processor.
+    #[tactic(auto, unfolding(crate::specs::Drafts::with_line))]
+    fn set_desk(&mut self, config: DeskConfig) -> Result<(), WordFault>
+        ensures { Follows (λ s. with_line s (desk (config_view config))) self.old self.new result }
+    {
+        if self.has_steps() || self.has_desk() {
+            return Err(WordFault::Bad);
+        }
+        self.desk = Some(config);
+        Ok(())
+    }
+
     /// Goes on with an attribute of the resource.
     #[tactic(auto, unfolding(crate::specs::Drafts::with_line))]
     fn add_attribute(&mut self, key: String<A>, value: Value<A>) -> Result<(), WordFault>
@@ -161,6 +185,15 @@ impl<A: Allocator + Copy> Draft<A> {
             return Err(WordFault::Bad);
         }
         self.scopes.push(more)?;
+        Ok(())
+    }
+
+    /// Goes on with what comes of a further attempt.
+    #[tactic(auto, unfolding(crate::specs::Drafts::with_line))]
+    fn add_answer(&mut self, more: Outcome) -> Result<(), WordFault>
+        ensures { Follows (λ s. with_line s (answer (outcome_view more))) self.old self.new result }
+    {
+        self.answers.push(more)?;
         Ok(())
     }
 
@@ -192,6 +225,13 @@ impl<A: Allocator + Copy> Draft<A> {
         ensures { (s : Script) → Holds self.now s → result ≡ is_some s.limits }
     {
         self.limits.is_some()
+    }
+
+    /// Whether the sizes and the delay of the batch processor are set.
+    fn has_desk(&self) -> bool
+        ensures { (s : Script) → Holds self.now s → result ≡ is_some s.desk }
+    {
+        self.desk.is_some()
     }
 
     /// Whether a scope is there.

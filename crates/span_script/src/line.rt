@@ -2,17 +2,21 @@
 
 ghost use Rattle.std.specs.Prelude.{◌≡◌, map, ok_or};
 ghost use Rattle.otlp_span.specs.Parts.{limits_view};
+ghost use Rattle.batch_desk.specs.Views.{config_view};
 ghost use Rattle.script_words.specs.Words.{Gives};
-ghost use Rattle.span_script.specs.Lines.{line_view, kind_of, sampler_of, length_of, limits_of, words_line, sampler_line, limits_line, resource_line, scope_line, start_line, end_line, call_line, entry, line_of};
+ghost use Rattle.span_script.specs.Lines.{line_view, sampler_of, length_of, limits_of, words_line, sampler_line, limits_line, resource_line, scope_line, size_to, desk_of, desk_line, entry, line_of};
 ghost use Rattle.script_words.specs.declared.WordFault.TheVariants.{Bad};
 
-use crate::call::parse_call;
-use crate::context::parse_parent;
+use crate::outcome::parse_outcome;
 use crate::sampler::SamplerName;
+use crate::step::parse_step;
 use crate::value::parse_pair;
-use otlp_span::{Kind, SpanCall, SpanLimits};
+use batch_desk::DeskConfig;
+use otlp_span::SpanLimits;
 use otlp_value::Value;
-use script_words::{WordFault, generator_words, number, parts_of, small_number, text};
+use retry_core::Outcome;
+use script_words::{WordFault, generator_words, parts_of, small_number, text};
+use span_ring::MAX_QUEUE;
 use std::alloc::Allocator;
 use std::str;
 use trace_history::Step;
@@ -26,6 +30,8 @@ pub(crate) enum Line<A: Allocator> {
     Sampler(SamplerName),
     /// The limits of spans.
     Limits(SpanLimits),
+    /// The sizes and the delay of the batch processor.
+    Desk(DeskConfig),
     /// An attribute of the resource.
     Resource(String<A>, Value<A>),
     /// A scope without attributes.
@@ -39,6 +45,8 @@ pub(crate) enum Line<A: Allocator> {
         /// The schema that its telemetry follows, or an empty text.
         schema_url: String<A>,
     },
+    /// What comes of an attempt to send a batch.
+    Answer(Outcome),
     /// A step.
     Step(Step<A>),
 }
@@ -71,11 +79,11 @@ fn parse_entry<A: Allocator + Copy>(
         "words" => parse_words(alloc, arguments),
         "sampler" => parse_sampler(arguments),
         "limits" => parse_limits(arguments),
+        "desk" => parse_desk(arguments),
         "resource" => parse_resource(alloc, arguments),
         "scope" => parse_scope(alloc, arguments),
-        "start" => parse_start(alloc, arguments),
-        "end" => parse_end(arguments),
-        _ => parse_call_line(alloc, name, arguments),
+        "answer" => Ok(Line::Answer(parse_outcome(arguments)?)),
+        _ => Ok(Line::Step(parse_step(alloc, name, arguments)?)),
     }
 }
 
@@ -195,74 +203,42 @@ fn parse_scope<A: Allocator + Copy>(alloc: A, arguments: &[&[u8]]) -> Result<Lin
     })
 }
 
-/// `start SCOPE PARENT KIND AT NAME`
-#[tactic(auto, unfolding(crate::specs::Lines::start_line))]
-fn parse_start<A: Allocator + Copy>(alloc: A, arguments: &[&[u8]]) -> Result<Line<A>, WordFault>
-    ensures { Gives line_view result (start_line (map (λ w. w.now) arguments.now)) }
+/// `desk Q B D`
+#[tactic(auto, unfolding(crate::specs::Lines::desk_line))]
+fn parse_desk<A: Allocator>(arguments: &[&[u8]]) -> Result<Line<A>, WordFault>
+    ensures { Gives line_view result (desk_line (map (λ w. w.now) arguments.now)) }
 {
-    let [scope, parent, kind, at, name] = arguments else {
+    let [queue, batch, delay] = arguments else {
         return Err(WordFault::Bad);
     };
-    let scope = small_number(scope)?;
-    let parent = parse_parent(alloc, parent)?;
-    let kind = parse_kind(kind)?;
-    let at = number(at)?;
-    let name = text(alloc, name)?;
-    Ok(Line::Step(Step::Start {
-        scope,
-        parent,
-        kind,
-        at,
-        name,
-    }))
+    Ok(Line::Desk(parse_desk_config(queue, batch, delay)?))
 }
 
-/// `end N AT`
-#[tactic(auto, unfolding(crate::specs::Lines::end_line))]
-fn parse_end<A: Allocator>(arguments: &[&[u8]]) -> Result<Line<A>, WordFault>
-    ensures { Gives line_view result (end_line (map (λ w. w.now) arguments.now)) }
+/// The sizes and the delay of the batch processor, a word for each.
+#[tactic(auto, unfolding(crate::specs::Lines::desk_of))]
+fn parse_desk_config(queue: &[u8], batch: &[u8], delay: &[u8]) -> Result<DeskConfig, WordFault>
+    ensures { Gives config_view result (desk_of queue.now batch.now delay.now) }
 {
-    let [span, at] = arguments else {
+    let queue = parse_size(queue, MAX_QUEUE)?;
+    let batch = parse_size(batch, queue)?;
+    let delay_ms = small_number(delay)?;
+    Ok(DeskConfig {
+        queue,
+        batch,
+        delay_ms,
+    })
+}
+
+/// A number from 1 to `greatest`.
+#[tactic(auto, unfolding(crate::specs::Lines::size_to))]
+fn parse_size(word: &[u8], greatest: usize) -> Result<usize, WordFault>
+    ensures { result ≡ ok_or (size_to greatest word.now) Bad }
+{
+    let size = small_number(word)? as usize;
+    if size == 0 || size > greatest {
         return Err(WordFault::Bad);
-    };
-    let span = small_number(span)?;
-    let at = number(at)?;
-    Ok(Line::Step(Step::Call {
-        span,
-        call: SpanCall::End(at),
-    }))
-}
-
-/// A call that isn't an end: `NAME N`, and the words of the call.
-#[tactic(auto, unfolding(crate::specs::Lines::call_line))]
-fn parse_call_line<A: Allocator + Copy>(
-    alloc: A,
-    name: &str,
-    arguments: &[&[u8]],
-) -> Result<Line<A>, WordFault>
-    ensures { Gives line_view result (call_line name.now (map (λ w. w.now) arguments.now)) }
-{
-    let [span, words @ ..] = arguments else {
-        return Err(WordFault::Bad);
-    };
-    let span = small_number(span)?;
-    let call = parse_call(alloc, name, words)?;
-    Ok(Line::Step(Step::Call { span, call }))
-}
-
-/// `internal`, `server`, `client`, `producer` or `consumer`
-#[tactic(auto, unfolding(crate::specs::Lines::kind_of))]
-fn parse_kind(word: &[u8]) -> Result<Kind, WordFault>
-    ensures { result ≡ ok_or (kind_of word.now) Bad }
-{
-    match word {
-        b"internal" => Ok(Kind::Internal),
-        b"server" => Ok(Kind::Server),
-        b"client" => Ok(Kind::Client),
-        b"producer" => Ok(Kind::Producer),
-        b"consumer" => Ok(Kind::Consumer),
-        _ => Err(WordFault::Bad),
     }
+    Ok(size)
 }
 
 /// `on`, `off` or `parent`

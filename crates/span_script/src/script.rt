@@ -1,20 +1,23 @@
 //! A whole script.
 
 ghost use Rattle.std.specs.Prelude.{◌≤◌, IfErr, IfOk, length};
+ghost use Rattle.span_ring.specs.SpanRing.{IsRingSize};
 ghost use Rattle.span_script.specs.Scripts.{Script as ScriptRead, script_read};
 ghost use Rattle.span_script.specs.Drafts.{Holds};
 ghost use Rattle.span_script.specs.Parsed.{Means, Parses, TellsLine};
 
 use crate::draft::Draft;
 use crate::sampler::SamplerName;
+use batch_desk::DeskConfig;
 use otlp_span::{Scope, SpanLimits};
 use otlp_value::Value;
+use retry_core::Outcome;
 use script_words::{WordFault, parts_of};
 use std::alloc::{Allocator, Global};
 use thiserror::Error;
 use trace_history::Step;
 
-/// What to record, as a text says it.
+/// What to do, as a text says it.
 #[derive(Debug, Drop)]
 pub struct Script<A: Allocator = Global> {
     /// The words of the generator of identifiers, in order. After the last one all are 0.
@@ -23,11 +26,16 @@ pub struct Script<A: Allocator = Global> {
     pub sampler: SamplerName,
     /// The limits of all spans: the standard's where none are set.
     pub limits: SpanLimits,
+    /// How much waits, and when a batch is taken: the standard's numbers where none are set. The
+    /// queue has 1 to 65,536 places, and a batch at most as many (profile).
+    pub desk: DeskConfig,
     /// The attributes of the resource, with distinct keys, in the order in which these were first
     /// set.
     pub resource: Vec<(String<A>, Value<A>), A>,
     /// The scopes, under their numbers.
     pub scopes: Vec<Scope<A>, A>,
+    /// What comes of the attempts to send a batch, in order.
+    pub answers: Vec<Outcome, A>,
     /// The steps, in order.
     pub steps: Vec<Step<A>, A>,
 }
@@ -60,7 +68,8 @@ impl<A: Allocator + Copy> Script<A> {
     /// # Errors
     ///
     /// `BadLine` where a line is bad by itself or may not stand where it does: a setting behind a
-    /// step, a second sampler, second limits, a second scope or one with another number than 0.
+    /// step, a second sampler, second limits, a second desk, a second scope or one with another
+    /// number than 0.
     /// `OutOfMemory` where memory was refused.
     pub fn parse(alloc: A, text: &[u8]) -> Result<Script<A>, ScriptError>
         // What the lines say, or the first bad one.
@@ -68,6 +77,7 @@ impl<A: Allocator + Copy> Script<A> {
         ensures numbered { IfErr result (TellsLine text.now) }
         // What a runner may count on.
         ensures one_scope { IfOk result (λ script. length script.scopes.items ≤ 1) }
+        ensures sizes { IfOk result (λ script. IsRingSize script.desk.queue script.desk.batch) }
     {
         let Ok(lines) = parts_of(alloc, text, b'\n') else {
             return Err(ScriptError::OutOfMemory);
@@ -91,16 +101,20 @@ impl<A: Allocator + Copy> Script<A> {
             words,
             sampler,
             limits,
+            desk,
             resource,
             scopes,
+            answers,
             steps,
         } = draft;
         Script {
             words,
             sampler: sampler.unwrap_or(SamplerName::AlwaysOn),
             limits: limits.unwrap_or_default(),
+            desk: desk.unwrap_or_default(),
             resource: resource.into_pairs(),
             scopes,
+            answers,
             steps,
         }
     }

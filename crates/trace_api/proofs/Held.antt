@@ -1,14 +1,14 @@
 -- One more call on a span in the hands of a program.
-use Rattle.std.proofs.Common.{◌≡◌, refl, sym, ap, ◌∙◌, ℕ, List, [], ◌∷◌, ◌++◌, Bool, true, false, ◌||◌}
+use Rattle.std.proofs.Common.{◌≡◌, refl, sym, ap, ◌∙◌, ℕ, List, [], ◌∷◌, ◌++◌, Bool, true, false, ◌||◌, Option}
 use Rattle.std.specs.List.{list_any}
 use Rattle.std.proofs.lemmas.List.Folds.{list_any-append}
-use Rattle.span_model.specs.Spans.{Call, Context, Recording, SpanLimits, Resource, Scope, Span, Start, Adds, end, is_end, span}
+use Rattle.span_model.specs.Spans.{Call, Context, Kind, Recording, SpanLimits, Resource, Scope, Span, Start, Adds, end, is_end, span}
 use Rattle.span_model.proofs.Live.{all-live}
-use Rattle.span_model.specs.Sampling.{is_recording}
+use Rattle.span_model.specs.Sampling.{Decision, is_recording}
 use Rattle.trace_api.specs.State.{state_view}
 use Rattle.trace_api.specs.declared.span.State.{State}
 use Rattle.trace_api.specs.declared.span.State.TheVariants as states
-use Rattle.span_model.specs.Starts.{StartedSpan, SpanState, HeldSpan, Does, recording, not_recording, ended, held_span, state_after, is_recording_state}
+use Rattle.span_model.specs.Starts.{StartedSpan, SpanState, HeldSpan, Tracer, Ids, Does, started_span_as, recording, not_recording, ended, held_span, state_after, is_recording_state}
 
 -- what is recorded of a span after some calls
 abbrev recorded : StartedSpan → List Call → Recording
@@ -96,6 +96,20 @@ held-dropped s e = rw e refl
 pub held-recorded : (s : StartedSpan) → is_recording s.decision ≡ true → record { context = s.start.context; state = recording (recorded s []) } ≡ held_span s []
 unfolding held_span
 held-recorded s e = rw e refl
+
+-- a name counts only where the span is recorded
+pub held-as-named : (tracer : Tracer) (parent : Option Context) (kept name : List ℕ) (kind : Kind) (at : ℕ) (ids : Ids) (d : Decision) → (is_recording d ≡ true → kept ≡ name) →
+    held_span (started_span_as tracer (record { parent = parent; name = kept; kind = kind; at = at }) ids d) []
+    ≡ held_span (started_span_as tracer (record { parent = parent; name = name; kind = kind; at = at }) ids d) []
+unfolding held_span
+held-as-named tracer parent kept name kind at ids d h = by (is_recording d) refl
+  where
+    named : List ℕ → StartedSpan
+    named n = started_span_as tracer (record { parent = parent; name = n; kind = kind; at = at }) ids d
+
+    by : (b : Bool) → is_recording d ≡ b → held_span (named kept) [] ≡ held_span (named name) []
+    by true e = ap (λ n. held_span (named n) []) (h e)
+    by false e = sym (held-dropped (named kept) e) ∙ held-dropped (named name) e
 
 pub recorded-is : (limits : SpanLimits) (resource : Resource) (scope : Scope) (start : Start) (s : StartedSpan) → limits ≡ s.limits → resource ≡ s.resource → scope ≡ s.scope → start ≡ s.start →
     record { limits = limits; resource = resource; scope = scope; span = span limits start [] } ≡ recorded s []

@@ -1,6 +1,6 @@
 -- How a tracer starts spans.
-use Rattle.std.specs.Prelude.{◌≡◌, ◌⊎◌, [], true, false, Option, Some, None, string_bytes, Result, Ok, Err}
-use Rattle.span_model.specs.Spans.{Resource, Scope, SpanLimits}
+use Rattle.std.specs.Prelude.{◌≡◌, ℕ, ◌⊎◌, List, [], true, false, Option, Some, None, string_bytes, Result, Ok, Err}
+use Rattle.span_model.specs.Spans.{Context, Kind, Resource, Scope, SpanLimits}
 use Rattle.span_model.specs.Attributes.{is_empty}
 use Rattle.span_model.specs.Sampling.{SamplerMeaning, is_recording}
 use Rattle.span_model.specs.Starts.{Ids as ModelIds, StartRequest, StartedSpan, Tracer, HeldSpan, held_span, started_span_as}
@@ -8,6 +8,7 @@ use Rattle.otlp_ids.specs.SpanContext.{parent_view}
 use Rattle.otlp_span.specs.Parts.{kind_view}
 use Rattle.otlp_sampler.specs.Sampling.{decision_view}
 use Rattle.trace_api.specs.declared.provider.Ids.{Ids}
+use Rattle.trace_api.specs.declared.provider.Decided.{Decided}
 use Rattle.trace_api.specs.declared.provider.Opening.{Opening}
 use Rattle.trace_api.specs.declared.provider.StartFault.{StartFault}
 use Rattle.trace_api.specs.declared.provider.StartFault.TheVariants.{NoRandomness, OutOfMemory}
@@ -40,15 +41,26 @@ abbrev pub ids_view : Ids → ModelIds
 ids_view ids = record { trace = ids.trace.0; span = ids.span.0 }
 
 -- the span that opens so, of this tracer
+-- A sampler that was asked so decided this, of the parent that counts.
+pub record IsDecided {A : Type 0} (sampler : SamplerMeaning) (parent : Option Context)
+    (name : List ℕ) (kind : Kind) (d : Decided A) : Type 0 where
+  pub parent_is : parent_view d.parent ≡ parent
+  pub decision_is : decision_view d.decision ≡ sampler (record {
+    parent = parent;
+    trace = d.ids.trace.0;
+    name = name;
+    kind = kind;
+  })
+
 abbrev pub opening_view : {A : Type 0} → Tracer → Opening A → StartedSpan
 opening_view tracer o =
     let a : StartRequest = record {
-      parent = parent_view o.parent;
+      parent = parent_view o.decided.parent;
       name = string_bytes o.name;
       kind = kind_view o.kind;
       at = o.at;
     } in
-    started_span_as tracer a (ids_view o.ids) (decision_view o.decision)
+    started_span_as tracer a (ids_view o.decided.ids) (decision_view o.decided.decision)
 
 -- Starting it takes memory: it is recorded, or has a trace state to copy.
 abbrev pub StartTakesMemory : StartedSpan → Type 0

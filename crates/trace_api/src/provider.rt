@@ -1,20 +1,21 @@
 //! What starts spans.
-ghost use Rattle.std.specs.Prelude.{◌≡◌, IfOk, IsTrue, OnErr, false, option_map, string_bytes};
+ghost use Rattle.std.specs.Prelude.{◌≡◌, IfOk, IfSome, IsTrue, OnErr, false, option_map, string_bytes, true};
 ghost use Rattle.std.specs.Arc.{arc_value};
 ghost use Rattle.std.specs.Option.{ForSome};
 ghost use Rattle.span_model.specs.Attributes.{is_empty};
 ghost use Rattle.span_model.specs.Identifiers.{span_id, words_spent};
-ghost use Rattle.span_model.specs.Sampling.{valid_parent};
+ghost use Rattle.span_model.specs.Sampling.{is_recording, valid_parent};
 ghost use Rattle.span_model.specs.Spans.{is_valid};
 ghost use Rattle.span_model.specs.Starts as model;
 ghost use Rattle.span_model.specs.Starts.{start_request};
 ghost use Rattle.otlp_ids.specs.SpanContext.{context_view, parent_view};
 ghost use Rattle.otlp_ids.specs.WordStream.{Spends, words_of};
 ghost use Rattle.otlp_span.specs.Parts.{kind_view, limits_view, resource_view, scope_view};
-ghost use Rattle.trace_api.specs.Starts.{OpensAs, StartsAs, ids_view, opening_view, tracer_view};
+ghost use Rattle.otlp_sampler.specs.Sampling.{decision_view};
+ghost use Rattle.trace_api.specs.Starts.{IsDecided, OpensAs, StartsAs, ids_view, opening_view, tracer_view};
 
 use crate::span::Span;
-use otlp_ids::{OutOfMemory, SpanContext, SpanId, TraceFlags, TraceId};
+use otlp_ids::{OutOfMemory, SpanContext, SpanId, TraceFlags, TraceId, copy_text};
 use otlp_sampler::{Decision, Sampler};
 use otlp_span::{Kind, Open, Resource, Scope, SpanLimits, SpanRecord};
 use rand_core::Rng;
@@ -167,13 +168,19 @@ fn draw_ids<R: Rng, A: Allocator>(rng: &mut R, parent: Option<&SpanContext<A>>) 
     Some(Ids { trace, span })
 }
 
-/// How a span opens that has been decided on.
+/// What is decided on a span before memory is taken for it.
 #[derive(Drop)]
-struct Opening<'a, A: Allocator> {
+struct Decided<'a, A: Allocator> {
     ids: Ids,
     /// The parent that counts: it is valid.
     parent: Option<&'a SpanContext<A>>,
     decision: Decision,
+}
+
+/// How a span opens that has been decided on.
+#[derive(Drop)]
+struct Opening<'a, A: Allocator> {
+    decided: Decided<'a, A>,
     name: String<A>,
     kind: Kind,
     /// In nanoseconds since 1970.
@@ -219,6 +226,23 @@ fn parent_id<A: Allocator>(parent: Option<&SpanContext<A>>) -> Option<SpanId>
     parent.map(|context| context.span)
 }
 
+/// What a span keeps of its name that was decided on so: a copy, where it is recorded.
+fn kept_name<A: Allocator>(
+    alloc: A,
+    decision: Decision,
+    name: &str,
+) -> Result<String<A>, OutOfMemory>
+    ensures recorded { is_recording (decision_view decision) ≡ true
+        → IfOk result (λ kept. string_bytes kept ≡ name.now) }
+    ensures refused { OnErr result (is_recording (decision_view decision) ≡ true) }
+{
+    if decision.is_recording() {
+        copy_text(alloc, name)
+    } else {
+        Ok(String::new(alloc))
+    }
+}
+
 impl<'a, S: Sampler, A: Allocator + Copy> Tracer<'a, S, A> {
     /// Starts a span (Trace API, "Span Creation"; Trace SDK, "SDK Span creation") at a moment, in
     /// nanoseconds since 1970. With a valid parent it belongs to the parent's trace, and has its
@@ -247,18 +271,11 @@ impl<'a, S: Sampler, A: Allocator + Copy> Tracer<'a, S, A> {
         ensures spent { let parent = valid_parent (parent_view parent.entry) in
             Spends (model.ids_words parent) (R.stream rng.old) (R.stream rng.new) }
     {
-        let parent = valid(parent);
-        let Some(ids) = draw_ids(rng, parent) else {
+        let Some(decided) = self.decide(rng, parent, name.as_str(), kind) else {
             return Err(StartFault::NoRandomness);
         };
-        let provider = self.provider;
-        let decision = provider
-            .sampler
-            .should_sample(parent, &ids.trace, name.as_str(), kind);
         let opening = Opening {
-            ids,
-            parent,
-            decision,
+            decided,
             name,
             kind,
             at,
@@ -266,24 +283,90 @@ impl<'a, S: Sampler, A: Allocator + Copy> Tracer<'a, S, A> {
         Ok(self.open(alloc, opening)?)
     }
 
+    /// Starts a span as `start`, with a copy of a name. It is copied only where the span is
+    /// recorded, after the words were drawn.
+    ///
+    /// # Errors
+    ///
+    /// Those of `start`: `OutOfMemory` also where there is no room for the copy.
+    pub fn start_copied<R: Rng>(
+        &self,
+        alloc: A,
+        rng: &mut R,
+        parent: Option<&SpanContext<A>>,
+        name: &str,
+        kind: Kind,
+        at: u64,
+    ) -> Result<Span<A>, StartFault>
+        ensures started { let tracer = tracer_view S.meaning self.now in
+            let a = start_request (parent_view parent.entry) name.now (kind_view kind) at
+            in StartsAs (model.started_span tracer a (words_of (R.stream rng.old))) result }
+        ensures spent { let parent = valid_parent (parent_view parent.entry) in
+            Spends (model.ids_words parent) (R.stream rng.old) (R.stream rng.new) }
+    {
+        let Some(decided) = self.decide(rng, parent, name, kind) else {
+            return Err(StartFault::NoRandomness);
+        };
+        let opening = Opening {
+            name: kept_name(alloc, decided.decision, name)?,
+            decided,
+            kind,
+            at,
+        };
+        Ok(self.open(alloc, opening)?)
+    }
+
+    /// Draws the identifiers of a span, unless the generator gives only zeros, and asks the sampler
+    /// about it.
+    fn decide<'p, R: Rng>(
+        &self,
+        rng: &mut R,
+        parent: Option<&'p SpanContext<A>>,
+        name: &str,
+        kind: Kind,
+    ) -> Option<Decided<'p, A>>
+        ensures ids { option_map (λ decided. ids_view decided.ids) result ≡
+            model.ids_of (valid_parent (parent_view parent.entry)) (words_of (R.stream rng.old)) }
+        ensures spent { let parent = valid_parent (parent_view parent.entry) in
+            Spends (model.ids_words parent) (R.stream rng.old) (R.stream rng.new) }
+        ensures decided { let parent = valid_parent (parent_view parent.entry) in
+            let sampler = S.meaning self.now.provider.sampler in
+            IfSome result (IsDecided sampler parent name.now (kind_view kind)) }
+    {
+        let parent = valid(parent);
+        let ids = draw_ids(rng, parent)?;
+        let provider = self.provider;
+        let decision = provider
+            .sampler
+            .should_sample(parent, &ids.trace, name, kind);
+        Some(Decided {
+            ids,
+            parent,
+            decision,
+        })
+    }
+
     /// The span that opens so.
     fn open(&self, alloc: A, opening: Opening<'_, A>) -> Result<Span<A>, OutOfMemory>
         ensures { OpensAs (opening_view (tracer_view S.meaning self.now) opening.entry) result }
     {
         let context = SpanContext {
-            trace: opening.ids.trace,
-            span: opening.ids.span,
-            flags: child_flags(opening.parent, opening.decision.is_sampled()),
+            trace: opening.decided.ids.trace,
+            span: opening.decided.ids.span,
+            flags: child_flags(
+                opening.decided.parent,
+                opening.decided.decision.is_sampled(),
+            ),
             remote: false,
-            state: child_state(alloc, opening.parent)?,
+            state: child_state(alloc, opening.decided.parent)?,
         };
-        if !opening.decision.is_recording() {
+        if !opening.decided.decision.is_recording() {
             return Ok(Span::not_recording(context));
         }
         let provider = self.provider;
         let opening = Open {
             context: context.copy(alloc)?,
-            parent: parent_id(opening.parent),
+            parent: parent_id(opening.decided.parent),
             resource: Arc::try_clone(&provider.resource)?,
             scope: Arc::try_clone(&self.scope)?,
             name: opening.name,

@@ -1,5 +1,5 @@
 -- The starts and the steps of the examples, and what is expected of them.
-use Rattle.std.specs.Prelude.{ℕ, pos, List, [], ◌∷◌, map, Bool, false, Option, None, Some, codes, bytes_eq, slice_index, if◌then◌else◌}
+use Rattle.std.specs.Prelude.{ℕ, pos, List, [], ◌∷◌, map, Bool, true, false, Option, None, Some, codes, bytes_eq, slice_index, if◌then◌else◌}
 use Rattle.std.specs.Str.{chars}
 use lib.Utf8.{encode}
 use Prim.Native.String.{String}
@@ -8,7 +8,8 @@ use Rattle.span_model.specs.Spans.{default_limits, Context, server, unset, Call,
 use Rattle.span_model.specs.Identifiers.{first_valid}
 use Rattle.span_model.specs.Sampling.{SamplerMeaning, Decision, drop, record_and_sample, ByParent, valid_parent, parent_based}
 use Rattle.span_model.specs.Starts.{Ids, Provider, StartedSpan, HeldSpan, SpanState, start_request, started_span, ids_of, ids_words, held_span, recording}
-use Rattle.history_model.specs.History.{Parent, Step, Setup, StartResult, start, start_results, start_results_behind, ended_spans}
+use Rattle.history_model.specs.Steps.{Parent}
+use Rattle.history_model.specs.History.{SpanStep, Setup, StartResult, start, start_results, start_results_behind, ended_spans}
 use Rattle.trace_examples.specs.Hex.{hex}
 use Rattle.trace_examples.specs.Samples.{trace_id, span_id, pair, resource_with, scope_s, scope_t}
 
@@ -165,8 +166,12 @@ recorded_root pairs dropped = recording (record {
 -- ---- steps
 
 -- a start of a span of kind server
-abbrev pub begin : ℕ → Parent → ℕ → String → Step
-begin scope parent at name = start scope parent server at (codes name)
+abbrev pub begin : ℕ → Parent → ℕ → String → SpanStep
+begin scope parent at name = start false scope parent server at (codes name)
+
+-- the same, where memory is refused
+abbrev pub begin_refused : ℕ → Parent → ℕ → String → SpanStep
+begin_refused scope parent at name = start true scope parent server at (codes name)
 
 -- the scopes s and t, these words, and this sampler
 abbrev pub setup_with : SamplerMeaning → List ℕ → Setup
@@ -177,11 +182,11 @@ setup_with sampler words =
       scopes = scope_s ∷ scope_t ∷ [];
     }
 
-unfoldable pub outcomes_by : SamplerMeaning → List ℕ → List Step → List StartResult
+unfoldable pub outcomes_by : SamplerMeaning → List ℕ → List SpanStep → List StartResult
 unfolding start_results_behind started_span ids_of ids_words first_valid
 outcomes_by sampler words steps = start_results (setup_with sampler words) steps
 
-unfoldable pub ended_by : SamplerMeaning → List ℕ → List Step → List EndedSpan
+unfoldable pub ended_by : SamplerMeaning → List ℕ → List SpanStep → List EndedSpan
 unfolding start_results_behind started_span ids_of ids_words first_valid span chars encode
 ended_by sampler words steps = ended_spans (setup_with sampler words) steps
 

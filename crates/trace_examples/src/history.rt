@@ -7,11 +7,12 @@ ghost use Rattle.span_model.specs.Attributes.{int};
 ghost use Rattle.span_model.specs.Spans.{Call};
 ghost use Rattle.span_model.specs.Sampling as sampling;
 ghost use Rattle.span_model.specs.Sampling.{always_on, always_off, as_parent, record_only, record_and_sample};
-ghost use Rattle.history_model.specs.History.{root, numbered, given, call, calls_on, ended_numbers};
+ghost use Rattle.history_model.specs.Steps.{root, numbered, given};
+ghost use Rattle.history_model.specs.History.{call, calls_on, ended_numbers};
 ghost use Rattle.trace_examples.specs.Hex.{hex};
 ghost use Rattle.trace_examples.specs.Samples.{trace_id, span_id, child_id, pair, set, rename, scope_s, scope_t};
 ghost use Rattle.trace_examples.specs.Steps.{root_words, span_word, child_word, parent_trace, parent_id, parent_with, local_context};
-ghost use Rattle.trace_examples.specs.Steps.{begun_in, span_between, begin, outcomes_by, ended_by, gives, gives_none, exported_in};
+ghost use Rattle.trace_examples.specs.Steps.{begun_in, span_between, begin, begin_refused, outcomes_by, ended_by, gives, gives_none, exported_in};
 
 /// What starts come to, each behind the ones before it: the words that it takes, and its span.
 #[tactic(auto, unfolding(crate::specs::Hex::hex, crate::specs::Steps::outcomes_by))]
@@ -59,6 +60,12 @@ pub fn outcomes()
     ensures no_randomness { outcomes_by always_on (replicate 16 0 ++ root_words)
         (begin 0 root 5 "a" ∷ begin 0 (numbered 0) 5 "a" ∷ begin 0 root 6 "b" ∷ []) ≡
         gives_none 16 ∷ gives_none 0 ∷
+        gives 3
+        (begun_in scope_s "b" 6 (local_context trace_id span_id 1 "") None record_and_sample) ∷ [] }
+    // Memory is refused: the words are taken, and there is no span. Such a start is no parent.
+    ensures refused { outcomes_by always_on (root_words ++ root_words)
+        (begin_refused 0 root 5 "a" ∷ begin 0 (numbered 0) 5 "a" ∷ begin 0 root 6 "b" ∷ []) ≡
+        gives_none 3 ∷ gives_none 0 ∷
         gives 3
         (begun_in scope_s "b" 6 (local_context trace_id span_id 1 "") None record_and_sample) ∷ [] }
 {}
@@ -141,6 +148,12 @@ pub fn exports()
         exported_in 0 scope_s
         (span_between (local_context parent_trace child_id 1 "k=v")
         (Some parent_id) "b" 6 8 [] 0) ∷ [] }
+    // A start to which memory was refused has its number, and gives no span, which can't end.
+    ensures refused { ended_by always_on (root_words ++ root_words)
+        (begin_refused 0 root 5 "a" ∷ begin 0 root 6 "b" ∷ call 0 (Call.end 7) ∷
+        call 1 (Call.end 8) ∷ []) ≡
+        exported_in 0 scope_s
+        (span_between (local_context trace_id span_id 1 "") None "b" 6 8 [] 0) ∷ [] }
     // Starts without a scope and without a parent give no span, which can't end.
     ensures no_scope { ended_by always_on root_words
         (begin 2 root 5 "a" ∷ begin 0 root 6 "b" ∷ call 0 (Call.end 7) ∷ call 1 (Call.end 8) ∷ []) ≡

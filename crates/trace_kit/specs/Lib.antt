@@ -12,7 +12,11 @@ pub use Rattle.desk_model.specs.Desks
 pub use Rattle.desk_model.specs.Queue
 pub use Rattle.desk_model.specs.Retries
 pub use Rattle.export_model.specs.Export
+pub use Rattle.history_model.specs.Steps
 pub use Rattle.history_model.specs.History
+pub use Rattle.run_model.specs.Runs
+pub use Rattle.run_model.specs.Answers
+pub use Rattle.run_model.specs.Headline
 pub use Rattle.otlp_ids.specs.SpanContext
 pub use Rattle.otlp_ids.specs.WordStream
 pub use Rattle.otlp_value.specs.AttributeList
@@ -25,5 +29,13 @@ pub use Rattle.otlp_proto.specs.Encode
 pub use Rattle.trace_api.specs.Calls
 pub use Rattle.trace_api.specs.Pass
 pub use Rattle.trace_api.specs.Starts as TracerStarts
+pub use Rattle.trace_history.specs.Answers as AnswerViews
+pub use Rattle.trace_history.specs.Steps as StepViews
+pub use Rattle.span_exporter.specs.Handed
+pub use Rattle.run_text.specs.Lines
+pub use Rattle.trace_run.specs.Out
+pub use Rattle.trace_run.specs.Run
+pub use Rattle.trace_run.specs.Report
+pub use Rattle.trace_run.specs.State
 pub use Rattle.script_program.specs.Command
 pub use Rattle.script_program.specs.Printed

@@ -16,7 +16,11 @@ pub use otlp_span::{
 };
 pub use otlp_value::{AttributeList, Limits, Value};
 pub use retry_core::{Cause, Next, Outcome, RetryAfter, decide};
+pub use run_text::{write_answers, write_report};
 pub use script_program::{ScriptSampler, script, trace_script};
+pub use span_exporter::{Exporter, Handed, MemoryExporter};
 pub use span_ring::RingFault;
 pub use trace_api::{BodyPass, EndPass, Ended, Provider, Span, StartFault, Tracer};
+pub use trace_history::{Answer, Parent, Step};
+pub use trace_run::{RunConfig, RunReport, run};
 pub use words_rng::WordsRng;

@@ -1,5 +1,6 @@
-//! `trace-script` reads a script of spans on standard input and prints the body of the request that
-//! exports the sampled ones that it ends.
+//! `trace-script` reads a script of spans on standard input, runs it, and prints what each step was
+//! answered and what is left; or the body of the request that exports the sampled spans that it
+//! ends.
 #![tactic(auto)]
 
 use std::io::{BufReader, BufWriter};

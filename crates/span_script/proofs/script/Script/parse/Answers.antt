@@ -1,7 +1,7 @@
 use Rattle.std.proofs.Common.{sym, ap, ◌∙◌, rules}
 use Rattle.script_words.proofs.Each.{words_at}
 use Rattle.span_script.proofs.Loop.{one_more_line, bad_line, no_more_lines, whole_text}
-use Rattle.span_script.proofs.Kept.{one_scope, bad_line_is}
+use Rattle.span_script.proofs.Kept.{one_scope, sizes, bad_line_is}
 use Rattle.span_script.proofs.script.Script.parse.Goals as goal
 
 pub returns-in-Err-Bad-clause-exact : goal.returns-in-Err-Bad-clause-exact
@@ -28,3 +28,6 @@ returns-clause-exact g c =
 
 pub returns-clause-one_scope : goal.returns-clause-one_scope
 returns-clause-one_scope g c = let s = returns-clause-exact g c in one_scope c.from_draft.result s.0 c.args.text.now s.2 s.1
+
+pub returns-clause-sizes : goal.returns-clause-sizes
+returns-clause-sizes g c = let s = returns-clause-exact g c in sizes c.from_draft.result s.0 c.args.text.now s.2 s.1

@@ -13,13 +13,13 @@ use Rattle.trace_api.proofs.provider.Tracer.open.Goals as goal
 pub returns-then-not-is_recording : goal.returns-then-not-is_recording
 returns-then-not-is_recording g c =
     let s : StartedSpan = opening_view (tracer_view g.S.Sampler.meaning c.args.self.now) c.args.opening in
-    let e : is_recording (decision_view c.args.opening.decision) ≡ false = sym c.is_recording.ensures ∙ c.if-not-is_recording.true in
+    let e : is_recording (decision_view c.args.opening.decided.decision) ≡ false = sym c.is_recording.ensures ∙ c.if-not-is_recording.true in
     c.not_recording.ensures ∙ rw (c.child_flags.ensures, c.is_sampled.ensures, c.in_ok-child_state.ensures.value) (held-dropped s e)
 
 pub returns : goal.returns
 returns g c =
     let s : StartedSpan = opening_view (tracer_view g.S.Sampler.meaning c.args.self.now) c.args.opening in
-    let e : is_recording (decision_view c.args.opening.decision) ≡ true = sym c.is_recording.ensures ∙ c.if-not-is_recording.false in
+    let e : is_recording (decision_view c.args.opening.decided.decision) ≡ true = sym c.is_recording.ensures ∙ c.if-not-is_recording.false in
     let limits : limits_view c.provider.inside.limits ≡ s.limits = ap (λ t. t.limits) c.provider.view_is ∙ ap (λ t. t.provider.limits) c.self.view_is in
     let resource = ap resource_view c.in_ok-try_clone.ensures ∙ ap (λ t. t.resource) c.provider.view_is ∙ ap (λ t. t.provider.resource) c.self.view_is in
     let scope = ap scope_view c.in_ok-try_clone-2.ensures ∙ ap (λ t. t.scope) c.self.view_is in

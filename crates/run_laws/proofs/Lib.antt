@@ -1,0 +1,7 @@
+pub mod Histories
+pub mod Answered
+pub mod Ends
+pub mod Accounts
+pub mod Steps
+pub mod Batches
+pub mod Values

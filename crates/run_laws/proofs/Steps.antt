@@ -1,0 +1,271 @@
+-- Each right answer keeps the account.
+use Rattle.std.proofs.Common.{◌≡◌, refl, sym, ap, subst, ◌∙◌, ℕ, ◌+◌, ◌-◌, ◌*◌, ◌^◌, ◌<◌, ◌≤◌, ◌==◌, nat_lt, nat_le, min, arith, map, List, [], ◌∷◌, ◌++◌, length, Bool, true, false, true≢false, not, ◌&&◌, ◌||◌, ◌⊎◌, inl, inr, Option, Some, None, option_map}
+use Rattle.std.specs.Prelude.{is_none, if◌then◌else◌}
+use Rattle.std.specs.List.{list_any}
+use Rattle.std.proofs.lemmas.Bool.{eqb-true, eq-eqb, cases_order}
+use Rattle.span_model.specs.Dropped.{queue_full}
+use Rattle.span_model.specs.Sampling.{is_sampled}
+use Rattle.span_model.specs.Spans.{EndedSpan, Kind, Call, is_end}
+use Rattle.span_model.specs.Starts.{StartedSpan}
+use Rattle.desk_model.specs.Retries.{Outcome, Fate, next_of, fate_of}
+use Rattle.desk_model.specs.Queue.{DeskEvent, tickets, waiting_spans, in_hand_spans, handed_spans, drops, last_batch, last_size, Stage, in_hand, with_exporter, stage, is_closed}
+use Rattle.desk_model.specs.Queue as desk
+use Rattle.desk_model.specs.Desks.{Desk, out_as, is_due, is_in_hand, is_with_exporter, desk_of, AreAllowed}
+use Rattle.desk_model.proofs.Lists.{get-at}
+use Rattle.desk_model.proofs.Steps.{stage-kept, stage-told}
+use Rattle.desk_laws.specs.Queues.{times, places}
+use Rattle.desk_laws.proofs.Counts.{queue-bounded}
+use Rattle.desk_laws.proofs.Tickets.{in-places, each-once}
+use Rattle.history_model.specs.Steps.{Step, Parent, is_shutdown}
+use Rattle.run_model.specs.Runs.{Ended, queued, late, not_sampled, already_ended, Answer, started, no_randomness, no_span, out_of_memory, done, ended, taken, not_taken, sent, replied, nothing, Answered, ended_by, event_by, desk_events}
+use Rattle.run_model.specs.Answers.{RunConfig, Given, Progress, not_out, to_encode, to_send, to_judge, progress_by, progress, span_at, calls_so_far, takes_memory, is_live, start_answer, end_answer, call_answer, take_answer, encode_answer, attempt_answer, reply_answer, desk_after, answer_to, IsAnswer, AreAnswers}
+use Rattle.run_model.proofs.More.{is_shut, ended-shut, ended-none, IsBelow, progress-none, progress-some}
+use Rattle.run_laws.specs.Laws.{HandedAreNotDropped, TakenBehindShutdown, was_shut, may_take, EventsAreAllowed, NoneUnaccountedFor}
+use Rattle.run_laws.proofs.Histories.{by-steps, front}
+use Rattle.run_laws.proofs.Answered.{taken-where-due}
+use Rattle.run_laws.proofs.Ends.{told, start-ends-none, missing-ends-none, later-ends-none, unsampled-ends-none, exported_next, first-end-ends}
+use Rattle.run_laws.proofs.Accounts.{Account, stage_of, quiet, tells, ends}
+
+and-left : (a b : Bool) → (a && b) ≡ true → a ≡ true
+and-left true b e = refl
+and-left false b e = e
+
+and-right : (a b : Bool) → (a && b) ≡ true → b ≡ true
+and-right true b e = e
+and-right false b e = absurd (true≢false (sym e))
+
+none-is : {A : Type 0} (o : Option A) → is_none o ≡ true → o ≡ None
+none-is None e = refl
+none-is (Some x) e = absurd (true≢false (sym e))
+
+module _ (run : RunConfig) (h : List Answered) (a : Account run h) where
+  abbrev events : List DeskEvent
+  events = desk_events run.setup h
+
+  abbrev After : Step → Answer → Type 0
+  After step answer = Account run (h ++ told step answer ∷ [])
+
+  -- ---- flush and shutdown
+
+  after-flush : After Step.flush Answer.flush
+  after-flush = tells run h (told Step.flush Answer.flush) desk.flush (ended-none run.setup h (told Step.flush Answer.flush) refl) refl refl
+      (stage-kept events desk.flush refl ∙ a.stands ∙ ap stage_of (sym (progress-none h (told Step.flush Answer.flush) refl))) refl tt tt a
+
+  after-shutdown : After Step.shutdown Answer.shutdown
+  after-shutdown = tells run h (told Step.shutdown Answer.shutdown) desk.shutdown (ended-none run.setup h (told Step.shutdown Answer.shutdown) refl) refl refl
+      (stage-kept events desk.shutdown refl ∙ a.stands ∙ ap stage_of (sym (progress-none h (told Step.shutdown Answer.shutdown) refl))) refl tt tt a
+
+  -- ---- batches
+
+  abbrev size : ℕ
+  size = min run.desk.batch (length (waiting_spans events))
+
+  after-take : (now : ℕ) → After (Step.take now) (take_answer (desk_of run.desk 0 events) now)
+  unfolding desk_of
+  after-take now = by (is_due (desk_of run.desk 0 events) now && is_none (desk_of run.desk 0 events).out) refl
+    where
+      by : (b : Bool) → (is_due (desk_of run.desk 0 events) now && is_none (desk_of run.desk 0 events).out) ≡ b → After (Step.take now) (if b then taken (last_batch events + 1) size else not_taken)
+      by true e = tells run h (told (Step.take now) (taken (last_batch events + 1) size)) (desk.taken now size) (ended-none run.setup h (told (Step.take now) (taken (last_batch events + 1) size)) refl) refl refl
+          (stage-told events (desk.taken now size) in_hand refl ∙ ap stage_of (sym (progress-some h (told (Step.take now) (taken (last_batch events + 1) size)) to_encode refl))) refl tt
+          (and-left (is_due (desk_of run.desk 0 events) now) _ e, none-is (desk_of run.desk 0 events).out (and-right (is_due (desk_of run.desk 0 events) now) _ e), refl) a
+      by false e = quiet run h (told (Step.take now) not_taken) (ended-none run.setup h (told (Step.take now) not_taken) refl) refl (ap stage_of (progress-none h (told (Step.take now) not_taken) refl)) refl tt a
+
+  after-nothing : (step : Step) → ended_by run.setup (h ++ told step nothing ∷ []) ≡ ended_by run.setup h → is_shutdown step ≡ false → After step nothing
+  after-nothing step e s = quiet run h (told step nothing) e refl (ap stage_of (progress-none h (told step nothing) refl)) s tt a
+
+  after-encode : (desk_now : Desk) (refused : Bool) (p : Progress) → progress h ≡ p → After Step.encode (encode_answer h desk_now run.setup refused p)
+  after-encode d true to_encode e = quiet run h (told Step.encode out_of_memory) (ended-none run.setup h (told Step.encode out_of_memory) refl) refl (ap stage_of (progress-none h (told Step.encode out_of_memory) refl)) refl tt a
+  after-encode d false to_encode e = quiet run h (told Step.encode (encode_answer h d run.setup false to_encode)) (ended-none run.setup h (told Step.encode (encode_answer h d run.setup false to_encode)) refl) refl
+      (ap stage_of (progress-some h (told Step.encode (encode_answer h d run.setup false to_encode)) to_send refl) ∙ ap stage_of (sym e)) refl tt a
+  after-encode d refused not_out e = after-nothing Step.encode (ended-none run.setup h (told Step.encode nothing) refl) refl
+  after-encode d refused to_send e = after-nothing Step.encode (ended-none run.setup h (told Step.encode nothing) refl) refl
+  after-encode d refused (to_judge outcome) e = after-nothing Step.encode (ended-none run.setup h (told Step.encode nothing) refl) refl
+
+  in-hand : stage events ≡ in_hand → is_in_hand (desk_of run.desk 0 events).out ≡ true
+  unfolding desk_of
+  in-hand e = ap (λ s. is_in_hand (out_as s (last_batch events) (last_size events))) e
+
+  with-exporter : stage events ≡ with_exporter → is_with_exporter (desk_of run.desk 0 events).out ≡ true
+  unfolding desk_of
+  with-exporter e = ap (λ s. is_with_exporter (out_as s (last_batch events) (last_size events))) e
+
+  after-attempt : (desk_now : Desk) (outcome : Outcome) (now : ℕ) (p : Progress) → progress h ≡ p → After (Step.attempt now) (attempt_answer desk_now outcome p)
+  after-attempt d outcome now to_send e = tells run h (told (Step.attempt now) (sent d.batches 1 outcome)) desk.handed (ended-none run.setup h (told (Step.attempt now) (sent d.batches 1 outcome)) refl) refl refl
+      (stage-told events desk.handed with_exporter refl ∙ ap stage_of (sym (progress-some h (told (Step.attempt now) (sent d.batches 1 outcome)) (to_judge outcome) refl))) refl tt
+      (in-hand (a.stands ∙ ap stage_of e)) a
+  after-attempt d outcome now not_out e = after-nothing (Step.attempt now) (ended-none run.setup h (told (Step.attempt now) nothing) refl) refl
+  after-attempt d outcome now to_encode e = after-nothing (Step.attempt now) (ended-none run.setup h (told (Step.attempt now) nothing) refl) refl
+  after-attempt d outcome now (to_judge o) e = after-nothing (Step.attempt now) (ended-none run.setup h (told (Step.attempt now) nothing) refl) refl
+
+  -- one attempt always settles the batch
+  settles : (outcome : Outcome) → (fate : Fate) × (fate_of (next_of outcome) ≡ Some fate)
+  settles Outcome.delivered = (Fate.delivered, refl)
+  settles (Outcome.partial rejected) = (Fate.partial rejected, refl)
+  settles (Outcome.later status after) = (Fate.given_up, refl)
+  settles (Outcome.refused status) = (Fate.refused status, refl)
+  settles Outcome.no_reply = (Fate.given_up, refl)
+  settles Outcome.bad = (Fate.bad_reply, refl)
+
+  after-reply : (desk_now : Desk) (now word : ℕ) (p : Progress) → progress h ≡ p → After (Step.reply now word) (reply_answer desk_now p)
+  after-reply d now word (to_judge outcome) e =
+      let s = settles outcome in
+      tells run h (told (Step.reply now word) (replied d.batches (next_of outcome))) (desk.settled s.0) (ended-none run.setup h (told (Step.reply now word) (replied d.batches (next_of outcome))) refl) (ap (option_map desk.settled) s.1) refl
+      (stage-told events (desk.settled s.0) desk.not_out refl ∙ ap stage_of (sym (progress-some h (told (Step.reply now word) (replied d.batches (next_of outcome))) not_out refl))) refl tt
+      (with-exporter (a.stands ∙ ap stage_of e)) a
+  after-reply d now word not_out e = after-nothing (Step.reply now word) (ended-none run.setup h (told (Step.reply now word) nothing) refl) refl
+  after-reply d now word to_encode e = after-nothing (Step.reply now word) (ended-none run.setup h (told (Step.reply now word) nothing) refl) refl
+  after-reply d now word to_send e = after-nothing (Step.reply now word) (ended-none run.setup h (told (Step.reply now word) nothing) refl) refl
+
+  -- ---- starts
+
+  module _ (scope : ℕ) (parent : Parent) (kind : Kind) (at : ℕ) (name : List ℕ) where
+    abbrev step : Step
+    step = Step.start scope parent kind at name
+
+    after-one : (answer : Answer) → event_by (ended_by run.setup h) answer step ≡ None → progress_by answer ≡ None → IsBelow (length (ended_by run.setup h)) answer → After step answer
+    after-one answer e p i = quiet run h (told step answer) (start-ends-none run.setup h scope parent kind at name answer) e (ap stage_of (progress-none h (told step answer) p)) refl i a
+
+    refused-or-not : (s : StartedSpan) (b : Bool) → After step (if b then out_of_memory else started (record { trace = s.start.context.trace; span = s.start.context.span }))
+    refused-or-not s true = after-one out_of_memory refl refl tt
+    refused-or-not s false = after-one (started (record { trace = s.start.context.trace; span = s.start.context.span })) refl refl tt
+
+    after-start : (there refused : Bool) (s : Option StartedSpan) → After step (start_answer there refused s)
+    after-start true refused None = after-one no_randomness refl refl tt
+    after-start false refused None = after-one no_span refl refl tt
+    after-start there refused (Some s) = refused-or-not s (refused && takes_memory s)
+
+  -- ---- ends
+
+  -- admission is open
+  open-now : is_shut h ≡ false → length (ended_by run.setup h) + 1 < 2 ^ 64 - 1 → is_closed events ≡ false
+  open-now e l = rw (a.shut, e) (by (length (tickets events) == 2 ^ 64 - 1) refl)
+    where
+      by : (b : Bool) → (length (tickets events) == 2 ^ 64 - 1) ≡ b → b ≡ false
+      by false f = refl
+      by true f = let n : length (tickets events) ≡ 2 ^ 64 - 1 = eqb-true (length (tickets events)) (2 ^ 64 - 1) f in let m = a.given in absurd (omega (arith, n, m, l))
+
+  -- behind a shutdown it is not
+  closed-now : is_shut h ≡ true → is_closed events ≡ true
+  closed-now e = rw (a.shut, e) refl
+
+  module _ (n : ℕ) (c : Call) (s : StartedSpan) (started_at : span_at run.setup h n ≡ Some s) (is_one : is_end c ≡ true) where
+    abbrev ticket : ℕ
+    ticket = length (ended_by run.setup h)
+
+    abbrev next : EndedSpan
+    next = exported_next run.setup h n c s
+
+    abbrev still : (answer : Answer) → Type 0
+    still answer = ended_by run.setup (h ++ told (Step.call n c) answer ∷ []) ≡ ended_by run.setup h
+
+    after-full : is_shut h ≡ false → list_any is_end (calls_so_far h n) ≡ false → is_sampled s.decision ≡ true → length (waiting_spans events) ≡ run.desk.queue → After (Step.call n c) (ended (Ended.dropped ticket queue_full))
+    unfolding desk_of
+    after-full shut over sampled full =
+        let e = first-end-ends run.setup h n c (ended (Ended.dropped ticket queue_full)) s refl shut is_one over started_at sampled in
+        ends run h (told (Step.call n c) (ended (Ended.dropped ticket queue_full))) next (desk.full next) e
+        (ap (option_map desk.full) (get-at (ended_by run.setup h) next ticket refl)) refl refl refl refl refl (omega arith)
+        (λ l. (open-now shut l, full, sym a.given)) a
+
+    after-queued : is_shut h ≡ false → list_any is_end (calls_so_far h n) ≡ false → is_sampled s.decision ≡ true → (length (waiting_spans events) ≡ run.desk.queue → ⊥) → After (Step.call n c) (ended (queued ticket))
+    unfolding desk_of
+    after-queued shut over sampled room =
+        let e = first-end-ends run.setup h n c (ended (queued ticket)) s refl shut is_one over started_at sampled in
+        ends run h (told (Step.call n c) (ended (queued ticket))) next (desk.queued next) e
+        (ap (option_map desk.queued) (get-at (ended_by run.setup h) next ticket refl)) refl refl refl refl refl (omega arith)
+        (λ l. (open-now shut l, has-room (queue-bounded run.desk 0 events (a.allowed (omega (arith, l)))), sym a.given)) a
+      where
+        has-room : length (waiting_spans events) ≤ run.desk.queue → length (waiting_spans events) < run.desk.queue
+        has-room l = by (cases_order (length (waiting_spans events)) run.desk.queue)
+          where
+            by : (length (waiting_spans events) ≡ run.desk.queue) ⊎ ((length (waiting_spans events) < run.desk.queue) ⊎ (run.desk.queue < length (waiting_spans events))) → length (waiting_spans events) < run.desk.queue
+            by (inl e) = absurd (room e)
+            by (inr (inl e)) = e
+            by (inr (inr e)) = absurd (omega (arith, l, e))
+
+    after-end : After (Step.call n c) (ended (end_answer run h (desk_of run.desk 0 events) n s))
+    unfolding desk_of
+    after-end = by (list_any is_end (calls_so_far h n)) refl (is_sampled s.decision) refl (is_shut h) refl (length (waiting_spans events) == run.desk.queue) refl
+      where
+        silent : (answer : Answer) → still answer → event_by (ended_by run.setup h) answer (Step.call n c) ≡ None → progress_by answer ≡ None → IsBelow (length (ended_by run.setup h)) answer → After (Step.call n c) answer
+        silent answer e f p i = quiet run h (told (Step.call n c) answer) e f (ap stage_of (progress-none h (told (Step.call n c) answer) p)) refl i a
+
+        by : (over : Bool) → list_any is_end (calls_so_far h n) ≡ over → (sampled : Bool) → is_sampled s.decision ≡ sampled → (shut : Bool) → is_shut h ≡ shut → (full : Bool) → (length (waiting_spans events) == run.desk.queue) ≡ full
+            → After (Step.call n c) (ended (if over then already_ended else if not sampled then not_sampled else if shut then late else if full then Ended.dropped ticket queue_full else queued ticket))
+        by true o sampled d shut u full f = silent (ended already_ended) (later-ends-none run.setup h n c (ended already_ended) refl (rw (is_one, o) refl)) refl refl tt
+        by false o false d shut u full f = silent (ended not_sampled) (unsampled-ends-none run.setup h n c (ended not_sampled) s refl started_at d) refl refl tt
+        by false o true d true u full f = tells run h (told (Step.call n c) (ended late)) desk.late (ended-shut run.setup h (told (Step.call n c) (ended late)) u) refl refl
+            (stage-kept events desk.late refl ∙ a.stands ∙ ap stage_of (sym (progress-none h (told (Step.call n c) (ended late)) refl))) refl tt (closed-now u) a
+        by false o true d false u true f = after-full u o d (eqb-true (length (waiting_spans events)) run.desk.queue f)
+        by false o true d false u false f = after-queued u o d (λ e. true≢false (sym (eq-eqb (length (waiting_spans events)) run.desk.queue e) ∙ f))
+
+  after-call : (n : ℕ) (c : Call) (refused : Bool) (o : Option StartedSpan) → span_at run.setup h n ≡ o → After (Step.call n c) (call_answer run h (desk_of run.desk 0 events) refused n c o)
+  after-call n c refused None e = quiet run h (told (Step.call n c) no_span) (missing-ends-none run.setup h n c no_span refl e) refl (ap stage_of (progress-none h (told (Step.call n c) no_span) refl)) refl tt a
+  after-call n c refused (Some s) e = by (is_end c) refl (refused && is_live s (calls_so_far h n))
+    where
+      by : (b : Bool) → is_end c ≡ b → (r : Bool) → After (Step.call n c) (if b then ended (end_answer run h (desk_of run.desk 0 events) n s) else if r then out_of_memory else done)
+      by true f r = after-end n c s e f
+      by false f true = quiet run h (told (Step.call n c) out_of_memory) (ended-none run.setup h (told (Step.call n c) out_of_memory) refl) refl (ap stage_of (progress-none h (told (Step.call n c) out_of_memory) refl)) refl tt a
+      by false f false = quiet run h (told (Step.call n c) done) (later-ends-none run.setup h n c done refl (rw f refl)) refl (ap stage_of (progress-none h (told (Step.call n c) done) refl)) refl tt a
+
+  -- ---- all
+
+  after-step : (given : Given) (step : Step) → After step (answer_to run h given step)
+  unfolding desk_after
+  after-step given (Step.start scope parent kind at name) = after-start scope parent kind at name _ given.refused _
+  after-step given (Step.call n c) = after-call n c given.refused (span_at run.setup h n) refl
+  after-step given Step.flush = after-flush
+  after-step given Step.shutdown = after-shutdown
+  after-step given (Step.take now) = after-take now
+  after-step given Step.encode = after-encode (desk_of run.desk 0 events) given.refused (progress h) refl
+  after-step given (Step.attempt now) = after-attempt (desk_of run.desk 0 events) given.outcome now (progress h) refl
+  after-step given (Step.reply now word) = after-reply (desk_of run.desk 0 events) now word (progress h) refl
+
+account-step : (run : RunConfig) (h : List Answered) (x : Answered) → Account run h → IsAnswer run h x → Account run (h ++ x ∷ [])
+account-step run h x a i = subst (λ answer. Account run (h ++ told x.step answer ∷ [])) (sym i.is) (after-step run h a i.given x.step)
+
+account-none : (run : RunConfig) → Account run []
+unfolding ended_by desk_events progress AreAllowed
+account-none run = record { below = tt; given = refl; stands = refl; shut = refl; allowed = λ l. tt }
+
+pub account : (run : RunConfig) (h : List Answered) → AreAnswers run h → Account run h
+account run h w = by-steps run (Account run) (account-step run) h (account-none run) w
+
+pub events-are-allowed : EventsAreAllowed
+events-are-allowed run h w l = (account run h w).allowed l
+
+pub none-unaccounted-for : NoneUnaccountedFor
+none-unaccounted-for run h w l ticket =
+    let a : Account run h = account run h w in
+    each-once run.desk 0 (desk_events run.setup h) (a.allowed l) ticket ∙ ap (λ (n : ℕ). if nat_lt ticket n then 1 else 0) a.given
+
+pub handed-are-not-dropped : HandedAreNotDropped
+handed-are-not-dropped run h w l ticket =
+    let events : List DeskEvent = desk_events run.setup h in
+    let once : times ticket (places events) ≡ (if nat_lt ticket (length (ended_by run.setup h)) then 1 else 0) = none-unaccounted-for run h w l ticket in
+    let sum = in-places (λ t. t == ticket) events in
+    by (nat_lt ticket (length (ended_by run.setup h))) (sym sum ∙ once)
+  where
+    by : (b : Bool) → times ticket (map (λ s. s.ticket) (waiting_spans (desk_events run.setup h))) + times ticket (map (λ s. s.ticket) (in_hand_spans (desk_events run.setup h))) + times ticket (map (λ s. s.ticket) (handed_spans (desk_events run.setup h))) + times ticket (map (λ e. e.ticket) (drops (desk_events run.setup h))) ≡ (if b then 1 else 0)
+        → times ticket (map (λ s. s.ticket) (handed_spans (desk_events run.setup h))) + times ticket (map (λ e. e.ticket) (drops (desk_events run.setup h))) ≤ 1
+    by true e = omega (arith, e)
+    by false e = omega (arith, e)
+
+-- ---- behind a shutdown
+
+closed-after : (run : RunConfig) (h : List Answered) → AreAnswers run h → was_shut h ≡ true → (desk_after run h).closed ≡ true
+unfolding desk_after desk_of
+closed-after run h w e = closed-now run h (account run h w) e
+
+due-closed : (a b c d e : Bool) → c ≡ true → (a && (b || e || c || d)) ≡ a
+due-closed true true c d e k = refl
+due-closed true false c d true k = refl
+due-closed true false c d false k = rw k refl
+due-closed false b c d e k = refl
+
+pub taken-behind-shutdown : TakenBehindShutdown
+taken-behind-shutdown run before later x w now shut e =
+    taken-where-due run before later x w ∙ ap (may_take run before) e
+    ∙ ap (λ b. b && is_none (desk_after run before).out)
+    (due-closed (nat_lt 0 (length (desk_after run before).waiting)) (nat_le (desk_after run before).config.batch (length (desk_after run before).waiting)) (desk_after run before).closed
+    (nat_le ((desk_after run before).last_moment + (desk_after run before).config.delay_ms * 10 ^ 6) now) (nat_lt (desk_after run before).taken (desk_after run before).asked)
+    (closed-after run before (front run before (x ∷ later) w) shut))

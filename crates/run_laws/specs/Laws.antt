@@ -1,0 +1,211 @@
+-- What is proved of every run whose answers are right. (Trace API, End; Trace SDK, Batching
+-- processor; tickets and batches: profile)
+use Rattle.std.specs.Prelude.{◌≡◌, ℕ, ◌+◌, ◌-◌, ◌^◌, ◌<◌, ◌≤◌, ◌==◌, nat_lt, min, Bool, true, false, not, ◌&&◌, List, ◌∷◌, ◌++◌, length, map, reverse, slice_get, Some, is_none}
+use Rattle.std.specs.List.{list_any, AllByRecursion}
+use Rattle.std.specs.Option.{option_map_or}
+use Rattle.span_model.specs.Dropped.{queue_full, Entry, entry_of}
+use Rattle.span_model.specs.Sampling.{is_sampled}
+use Rattle.span_model.specs.Spans.{EndedSpan, is_end}
+use Rattle.desk_model.specs.Queue.{waiting_spans, batch_spans, handed_spans, drops}
+use Rattle.desk_model.specs.Desks.{is_due, AreAllowed}
+use Rattle.desk_laws.specs.Queues.{times}
+use Rattle.history_model.specs.Steps.{Step, is_shutdown}
+use Rattle.history_model.specs.History.{Setup, ended_spans, granted_steps}
+use Rattle.run_model.specs.Runs.{Ended, Answer, ended, taken, sent, replied, Answered, is_refused, ended_by, desk_events}
+use Rattle.run_model.specs.Runs as runs
+use Rattle.run_model.specs.Answers.{RunConfig, span_at, calls_so_far, desk_after, AreAnswers}
+use Rattle.run_model.specs.Headline.{EachOnce}
+
+-- whatever run, and whatever step of it, behind those before it
+abbrev pub OfEachStep : (RunConfig → List Answered → Answered → Type 0) → Type 0
+OfEachStep holds =
+    (run : RunConfig) (before later : List Answered) (x : Answered)
+    → AreAnswers run (before ++ x ∷ later) → holds run before x
+
+-- ---- ends
+
+-- The step is the first end of a sampled span. (Trace API, End; Trace SDK, Sampling)
+abbrev pub is_first_end : RunConfig → List Answered → Step → Bool
+is_first_end run before (Step.call n c) =
+    is_end c && not (list_any is_end (calls_so_far before n))
+    && option_map_or (λ s. is_sampled s.decision) (span_at run.setup before n) false
+is_first_end run before _ = false
+
+-- there was a shutdown
+abbrev pub was_shut : List Answered → Bool
+was_shut before = list_any (λ x. is_shutdown x.step) before
+
+-- as many spans wait as the queue holds
+abbrev pub is_full : RunConfig → List Answered → Bool
+is_full run before = length (desk_after run before).waiting == run.desk.queue
+
+abbrev pub says_late : Answer → Bool
+says_late (ended runs.late) = true
+says_late _ = false
+
+abbrev pub says_full : Answer → Bool
+says_full (ended (Ended.dropped ticket queue_full)) = true
+says_full _ = false
+
+abbrev pub says_queued : Answer → Bool
+says_queued (ended (runs.queued ticket)) = true
+says_queued _ = false
+
+-- A span is late exactly where its first end stands behind a shutdown. (Trace SDK, Shutdown)
+abbrev pub LateBehindShutdown : Type 0
+LateBehindShutdown = OfEachStep (λ run before x.
+    says_late x.answer ≡ (is_first_end run before x.step && was_shut before))
+
+-- It is dropped at its end exactly where the queue is full and there was no shutdown. (Trace SDK,
+-- Batching processor: maxQueueSize)
+abbrev pub DroppedWhereFull : Type 0
+DroppedWhereFull = OfEachStep (λ run before x.
+    says_full x.answer ≡
+    (is_first_end run before x.step && not (was_shut before) && is_full run before))
+
+-- It waits exactly where there is room and there was no shutdown.
+abbrev pub QueuedWhereRoom : Type 0
+QueuedWhereRoom = OfEachStep (λ run before x.
+    says_queued x.answer ≡
+    (is_first_end run before x.step && not (was_shut before) && not (is_full run before)))
+
+-- ---- batches
+
+-- The step takes, a batch is due at its moment, and none is out.
+abbrev pub may_take : RunConfig → List Answered → Step → Bool
+may_take run before (Step.take now) =
+    is_due (desk_after run before) now && is_none (desk_after run before).out
+may_take run before _ = false
+
+abbrev pub says_taken : Answer → Bool
+says_taken (taken number size) = true
+says_taken _ = false
+
+abbrev pub says_replied : Answer → Bool
+says_replied (replied number next) = true
+says_replied _ = false
+
+-- A take gives a batch exactly where one is due and none is out. (Trace SDK, Batching processor; at
+-- most one batch is out: profile)
+abbrev pub TakenWhereDue : Type 0
+TakenWhereDue = OfEachStep (λ run before x. says_taken x.answer ≡ may_take run before x.step)
+
+-- It has the next number, and as many of the spans that wait as a batch may have. (Trace SDK,
+-- Batching processor: maxExportBatchSize)
+abbrev pub TakesTheFirst : Type 0
+TakesTheFirst = OfEachStep (λ run before x.
+    (number size : ℕ) → x.answer ≡ taken number size
+    → let desk = desk_after run before in
+    (number ≡ desk.batches + 1) × (size ≡ min run.desk.batch (length desk.waiting)))
+
+-- Behind a shutdown each take with none out gives what waits. (Trace SDK, Shutdown)
+abbrev pub TakenBehindShutdown : Type 0
+TakenBehindShutdown = OfEachStep (λ run before x.
+    (now : ℕ) → was_shut before ≡ true → x.step ≡ Step.take now
+    → let desk = desk_after run before in
+    says_taken x.answer ≡ (nat_lt 0 (length desk.waiting) && is_none desk.out))
+
+-- At most one batch is out: before a next one is taken, what came of the last one was judged.
+-- (profile)
+abbrev pub OneBatchIsOut : Type 0
+OneBatchIsOut =
+    (run : RunConfig) (before between later : List Answered) (x y : Answered)
+    → AreAnswers run (before ++ x ∷ between ++ y ∷ later)
+    → says_taken x.answer ≡ true → says_taken y.answer ≡ true
+    → list_any (λ z. says_replied z.answer) between ≡ true
+
+abbrev pub says_sent : Answer → Bool
+says_sent (sent number attempt outcome) = true
+says_sent _ = false
+
+-- A batch has one attempt: before another one, a next batch is taken. (profile)
+abbrev pub OneAttemptEach : Type 0
+OneAttemptEach =
+    (run : RunConfig) (before between later : List Answered) (x y : Answered)
+    → AreAnswers run (before ++ x ∷ between ++ y ∷ later)
+    → says_sent x.answer ≡ true → says_sent y.answer ≡ true
+    → list_any (λ z. says_taken z.answer) between ≡ true
+
+-- ---- no span is unaccounted for
+
+-- A span that has ended keeps its ticket and its value, whatever is done and answered. (Trace API,
+-- End)
+abbrev pub EndedSpansStay : Type 0
+EndedSpansStay =
+    (setup : Setup) (history more : List Answered) → (new : List EndedSpan)
+    × (ended_by setup (history ++ more) ≡ ended_by setup history ++ new)
+
+-- there are tickets for all spans that end (profile)
+abbrev pub HasTickets : Setup → List Answered → Type 0
+HasTickets setup history = length (ended_by setup history) < 2 ^ 64 - 1
+
+-- No more spans end than there are steps.
+abbrev pub EndedAreFew : Type 0
+EndedAreFew =
+    (setup : Setup) (history : List Answered)
+    → length (ended_by setup history) ≤ length history
+
+-- What is done at the queue is allowed there. (Trace SDK, Batching processor)
+abbrev pub EventsAreAllowed : Type 0
+EventsAreAllowed =
+    (run : RunConfig) (history : List Answered) → AreAnswers run history
+    → HasTickets run.setup history → AreAllowed run.desk 0 (desk_events run.setup history)
+
+-- Each span that ended before the shutdown is handed, still queued, or dropped, once. (profile)
+abbrev pub NoneUnaccountedFor : Type 0
+NoneUnaccountedFor =
+    (run : RunConfig) (history : List Answered) → AreAnswers run history
+    → HasTickets run.setup history → EachOnce run.setup history
+
+-- A span that was handed to the exporter is not named as dropped, and neither is done twice.
+-- (profile)
+abbrev pub HandedAreNotDropped : Type 0
+HandedAreNotDropped =
+    (run : RunConfig) (history : List Answered) → AreAnswers run history
+    → HasTickets run.setup history → (ticket : ℕ)
+    → let events = desk_events run.setup history in
+    times ticket (map (λ s. s.ticket) (handed_spans events))
+    + times ticket (map (λ e. e.ticket) (drops events)) ≤ 1
+
+-- The ledger names the spans that were dropped, the newest first. (profile)
+abbrev pub LedgerNamesTheDropped : Type 0
+LedgerNamesTheDropped =
+    (run : RunConfig) (history : List Answered)
+    → (desk_after run history).ledger ≡ reverse (drops (desk_events run.setup history))
+
+-- ---- values
+
+-- The span has the value and the ticket with which it ended.
+abbrev pub IsEndedSpan : Setup → List Answered → EndedSpan → Type 0
+IsEndedSpan setup history s = slice_get (ended_by setup history) s.ticket ≡ Some s
+
+-- The entry is that of the span that ended with its ticket.
+abbrev pub NamesEndedSpan : Setup → List Answered → Entry → Type 0
+NamesEndedSpan setup history e =
+    (s : EndedSpan) × (slice_get (ended_by setup history) e.ticket ≡ Some s)
+    × (e ≡ entry_of e.reason s)
+
+-- So it is with the spans that wait, with those of each batch, and with those that were dropped.
+-- (Trace API, End)
+abbrev pub WaitingAreEnded : Type 0
+WaitingAreEnded =
+    (setup : Setup) (history : List Answered)
+    → AllByRecursion (IsEndedSpan setup history) (waiting_spans (desk_events setup history))
+
+abbrev pub BatchesAreEnded : Type 0
+BatchesAreEnded =
+    (setup : Setup) (history : List Answered) (number : ℕ)
+    → AllByRecursion (IsEndedSpan setup history)
+    (batch_spans (desk_events setup history) number)
+
+abbrev pub DropsNameEnded : Type 0
+DropsNameEnded =
+    (setup : Setup) (history : List Answered)
+    → AllByRecursion (NamesEndedSpan setup history) (drops (desk_events setup history))
+
+-- Where no memory was refused, the spans that end are those that the steps end. (Trace API, End)
+abbrev pub EndedByTheSteps : Type 0
+EndedByTheSteps =
+    (setup : Setup) (history : List Answered)
+    → list_any (λ x. is_refused x.answer) history ≡ false
+    → ended_by setup history ≡ ended_spans setup (granted_steps (map (λ x. x.step) history))

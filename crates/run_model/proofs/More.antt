@@ -1,0 +1,199 @@
+-- One more step of a run.
+use Rattle.std.proofs.Common.{◌≡◌, refl, sym, ap, ◌∙◌, ℕ, zero, suc, ◌<◌, ◌≤◌, ◌+◌, arith, List, [], ◌∷◌, ◌++◌, length, append_assoc, Bool, true, false, true≢false, not, cond, ◌||◌, Option, Some, None, IfSome, slice_get, filter_map, option_map}
+use Rattle.std.specs.List.{list_any, take_while, AllByRecursion, cons_option}
+use Rattle.std.specs.Option.{option_to_list}
+use Rattle.std.proofs.lemmas.List.{append-nil}
+use Rattle.std.proofs.lemmas.List.Elements.{filter_map-append}
+use Rattle.std.proofs.lemmas.List.Sums.{take_while-cons}
+use Rattle.span_model.specs.Spans.{EndedSpan}
+use Rattle.span_model.specs.Dropped.{Reason, queue_full, encode_memory, too_large, abandoned}
+use Rattle.desk_model.specs.Queue.{DeskEvent}
+use Rattle.desk_model.specs.Queue as desk
+use Rattle.desk_model.proofs.Lists.{none-more, some-more, last-more, any-more}
+use Rattle.history_model.specs.Steps.{Step, is_shutdown}
+use Rattle.history_model.specs.History.{Setup, SpanStep, span_step, ended_spans}
+use Rattle.run_model.specs.Runs.{Ended, queued, handed, late, not_sampled, already_ended, Answer, started, no_randomness, no_span, out_of_memory, done, ended, taken, not_taken, encoded, sent, replied, nothing, Answered, is_refused, span_steps, before_shutdown, ended_by, event_by, events_among, desk_events}
+use Rattle.run_model.specs.Answers.{RunConfig, Progress, progress_by, progress, IsAnswer, AreAnswers, AreAnswersBehind}
+use Rattle.run_model.specs.Headline.{Attempt, attempt_by, attempts}
+
+-- ---- the steps that count for the spans
+
+abbrev counted : Answered → Option SpanStep
+counted x = span_step (is_refused x.answer) x.step
+
+pub steps-none : (h : List Answered) (x : Answered) → counted x ≡ None → span_steps (h ++ x ∷ []) ≡ span_steps h
+steps-none h x e = none-more counted h x e
+
+pub steps-some : (h : List Answered) (x : Answered) (s : SpanStep) → counted x ≡ Some s → span_steps (h ++ x ∷ []) ≡ span_steps h ++ s ∷ []
+steps-some h x s e = some-more counted h x s e
+
+-- ---- before the shutdown
+
+-- there was a shutdown
+abbrev pub is_shut : List Answered → Bool
+is_shut h = list_any (λ x. is_shutdown x.step) h
+
+before-open : (h : List Answered) → is_shut h ≡ false → before_shutdown h ≡ h
+before-open [] e = refl
+before-open (x ∷ h) e = take_while-cons (λ x. not (is_shutdown x.step)) x h ∙ by (is_shutdown x.step) (before-open h) e
+  where
+    by : (b : Bool) → (is_shut h ≡ false → before_shutdown h ≡ h) → (b || is_shut h) ≡ false → cond (not b) (x ∷ before_shutdown h) [] ≡ x ∷ h
+    by true rest k = absurd (true≢false k)
+    by false rest k = ap (λ l. x ∷ l) (rest k)
+
+before-shut : (h more : List Answered) → is_shut h ≡ true → before_shutdown (h ++ more) ≡ before_shutdown h
+before-shut [] more e = absurd (true≢false (sym e))
+before-shut (x ∷ h) more e = take_while-cons (λ x. not (is_shutdown x.step)) x (h ++ more) ∙ by (is_shutdown x.step) (before-shut h more) e ∙ sym (take_while-cons (λ x. not (is_shutdown x.step)) x h)
+  where
+    by : (b : Bool) → (is_shut h ≡ true → before_shutdown (h ++ more) ≡ before_shutdown h) → (b || is_shut h) ≡ true → cond (not b) (x ∷ before_shutdown (h ++ more)) [] ≡ cond (not b) (x ∷ before_shutdown h) []
+    by true rest k = refl
+    by false rest k = ap (λ l. x ∷ l) (rest k)
+
+-- a first shutdown
+before-last : (h : List Answered) (x : Answered) → is_shut h ≡ false → is_shutdown x.step ≡ true → before_shutdown (h ++ x ∷ []) ≡ h
+before-last [] x e f = take_while-cons (λ x. not (is_shutdown x.step)) x [] ∙ rw f refl
+before-last (y ∷ h) x e f = take_while-cons (λ x. not (is_shutdown x.step)) y (h ++ x ∷ []) ∙ by (is_shutdown y.step) (λ k. before-last h x k f) e
+  where
+    by : (b : Bool) → (is_shut h ≡ false → before_shutdown (h ++ x ∷ []) ≡ h) → (b || is_shut h) ≡ false → cond (not b) (y ∷ before_shutdown (h ++ x ∷ [])) [] ≡ y ∷ h
+    by true rest k = absurd (true≢false k)
+    by false rest k = ap (λ l. y ∷ l) (rest k)
+
+pub shut-more : (h : List Answered) (x : Answered) → is_shut (h ++ x ∷ []) ≡ (is_shut h || is_shutdown x.step)
+shut-more h x = any-more (λ x. is_shutdown x.step) h x
+
+shut-still : (h : List Answered) (x : Answered) → is_shut h ≡ false → is_shutdown x.step ≡ false → is_shut (h ++ x ∷ []) ≡ false
+shut-still h x e f = shut-more h x ∙ rw (e, f) refl
+
+-- ---- the spans that end
+
+pub ended-open : (setup : Setup) (h : List Answered) → is_shut h ≡ false → ended_by setup h ≡ ended_spans setup (span_steps h)
+unfolding ended_by
+ended-open setup h e = ap (λ l. ended_spans setup (span_steps l)) (before-open h e)
+
+pub ended-shut : (setup : Setup) (h : List Answered) (x : Answered) → is_shut h ≡ true → ended_by setup (h ++ x ∷ []) ≡ ended_by setup h
+unfolding ended_by
+ended-shut setup h x e = ap (λ l. ended_spans setup (span_steps l)) (before-shut h (x ∷ []) e)
+
+-- a step that is nothing for the spans
+pub ended-none : (setup : Setup) (h : List Answered) (x : Answered) → counted x ≡ None → ended_by setup (h ++ x ∷ []) ≡ ended_by setup h
+unfolding ended_by
+ended-none setup h x e = by (is_shut h) refl (is_shutdown x.step) refl
+  where
+    by : (b : Bool) → is_shut h ≡ b → (c : Bool) → is_shutdown x.step ≡ c → ended_spans setup (span_steps (before_shutdown (h ++ x ∷ []))) ≡ ended_spans setup (span_steps (before_shutdown h))
+    by true f c k = ap (λ l. ended_spans setup (span_steps l)) (before-shut h (x ∷ []) f)
+    by false f true k = ap (λ l. ended_spans setup (span_steps l)) (before-last h x f k ∙ sym (before-open h f))
+    by false f false k = ap (λ l. ended_spans setup (span_steps l)) (before-open (h ++ x ∷ []) (shut-still h x f k)) ∙ ap (ended_spans setup) (steps-none h x e) ∙ ap (λ l. ended_spans setup (span_steps l)) (sym (before-open h f))
+
+-- a step that is something for them, while there was no shutdown
+pub ended-some : (setup : Setup) (h : List Answered) (x : Answered) (s : SpanStep) → is_shut h ≡ false → is_shutdown x.step ≡ false → counted x ≡ Some s → ended_by setup (h ++ x ∷ []) ≡ ended_spans setup (span_steps h ++ s ∷ [])
+ended-some setup h x s f k e = ended-open setup (h ++ x ∷ []) (shut-still h x f k) ∙ ap (ended_spans setup) (steps-some h x s e)
+
+-- ---- what is done at the queue
+
+abbrev pub ticket_of : Answer → Option ℕ
+ticket_of (ended (queued ticket)) = Some ticket
+ticket_of (ended (Ended.dropped ticket reason)) = Some ticket
+ticket_of _ = None
+
+-- its ticket, if it gives one, is below a number
+abbrev pub IsBelow : ℕ → Answer → Type 0
+IsBelow n a = IfSome (ticket_of a) (λ ticket. ticket < n)
+
+abbrev pub AreBelow : ℕ → List Answered → Type 0
+AreBelow n h = AllByRecursion (λ x. IsBelow n x.answer) h
+
+pub below-more : (n m : ℕ) (h : List Answered) (x : Answered) → n ≤ m → AreBelow n h → IsBelow m x.answer → AreBelow m (h ++ x ∷ [])
+below-more n m [] x e b c = (c, tt)
+below-more n m (y ∷ h) x e b c = (by (ticket_of y.answer) b.0, below-more n m h x e b.1 c)
+  where
+    by : (o : Option ℕ) → IfSome o (λ ticket. ticket < n) → IfSome o (λ ticket. ticket < m)
+    by None k = k
+    by (Some t) k = omega (arith, k, e)
+
+get-before : {A : Type 0} (xs ys : List A) (n : ℕ) → n < length xs → slice_get (xs ++ ys) n ≡ slice_get xs n
+get-before [] ys n h = absurd (omega (arith, h))
+get-before (x ∷ xs) ys zero h = refl
+get-before (x ∷ xs) ys (suc n) h = get-before xs ys n (omega (arith, h))
+
+event-stays : (spans more : List EndedSpan) (a : Answer) (step : Step) → IsBelow (length spans) a → event_by (spans ++ more) a step ≡ event_by spans a step
+event-stays spans more (ended (queued ticket)) step h = ap (option_map desk.queued) (get-before spans more ticket h)
+event-stays spans more (ended (Ended.dropped ticket queue_full)) step h = ap (option_map desk.full) (get-before spans more ticket h)
+event-stays spans more (ended (Ended.dropped ticket encode_memory)) step h = refl
+event-stays spans more (ended (Ended.dropped ticket too_large)) step h = refl
+event-stays spans more (ended (Ended.dropped ticket abandoned)) step h = refl
+event-stays spans more (ended (handed ticket)) step h = refl
+event-stays spans more (ended late) step h = refl
+event-stays spans more (ended not_sampled) step h = refl
+event-stays spans more (ended already_ended) step h = refl
+event-stays spans more (started ids) step h = refl
+event-stays spans more no_randomness step h = refl
+event-stays spans more no_span step h = refl
+event-stays spans more out_of_memory step h = refl
+event-stays spans more done step h = refl
+event-stays spans more Answer.flush step h = refl
+event-stays spans more Answer.shutdown step h = refl
+event-stays spans more (taken number size) step h = refl
+event-stays spans more not_taken step h = refl
+event-stays spans more (encoded number size) step h = refl
+event-stays spans more (sent number attempt outcome) step h = refl
+event-stays spans more (replied number next) step h = refl
+event-stays spans more nothing step h = refl
+
+events-stay : (spans more : List EndedSpan) (h : List Answered) → AreBelow (length spans) h → events_among (spans ++ more) h ≡ events_among spans h
+events-stay spans more [] b = refl
+events-stay spans more (x ∷ h) b = rw (event-stays spans more x.answer x.step b.0, events-stay spans more h b.1) refl
+
+one-of : {B : Type 0} (o : Option B) → cons_option o [] ≡ option_to_list o
+one-of None = refl
+one-of (Some x) = refl
+
+-- where so many more spans end
+pub events-more : (setup : Setup) (h : List Answered) (x : Answered) (more : List EndedSpan) (o : Option DeskEvent) → ended_by setup (h ++ x ∷ []) ≡ ended_by setup h ++ more → AreBelow (length (ended_by setup h)) h
+    → event_by (ended_by setup h ++ more) x.answer x.step ≡ o → desk_events setup (h ++ x ∷ []) ≡ desk_events setup h ++ option_to_list o
+unfolding desk_events
+events-more setup h x more o e b f =
+    ap (λ spans. events_among spans (h ++ x ∷ [])) e
+    ∙ filter_map-append (λ y. event_by (ended_by setup h ++ more) y.answer y.step) h (x ∷ [])
+    ∙ ap (λ l. l ++ cons_option (event_by (ended_by setup h ++ more) x.answer x.step) []) (events-stay (ended_by setup h) more h b)
+    ∙ ap (λ l. events_among (ended_by setup h) h ++ l) (one-of (event_by (ended_by setup h ++ more) x.answer x.step) ∙ ap option_to_list f)
+
+-- where none does
+pub events-same : (setup : Setup) (h : List Answered) (x : Answered) (o : Option DeskEvent) → ended_by setup (h ++ x ∷ []) ≡ ended_by setup h
+    → event_by (ended_by setup h) x.answer x.step ≡ o → desk_events setup (h ++ x ∷ []) ≡ desk_events setup h ++ option_to_list o
+unfolding desk_events
+events-same setup h x o e f =
+    ap (λ spans. events_among spans (h ++ x ∷ [])) e
+    ∙ filter_map-append (λ y. event_by (ended_by setup h) y.answer y.step) h (x ∷ [])
+    ∙ ap (λ l. events_among (ended_by setup h) h ++ l) (one-of (event_by (ended_by setup h) x.answer x.step) ∙ ap option_to_list f)
+
+-- ---- the last batch and the attempts
+
+pub progress-none : (h : List Answered) (x : Answered) → progress_by x.answer ≡ None → progress (h ++ x ∷ []) ≡ progress h
+unfolding progress
+progress-none h x e = ap (last-of) (none-more (λ x. progress_by x.answer) h x e)
+  where
+    last-of : List Progress → Progress
+    last-of ps = Rattle.span_model.specs.Attributes.last_or Progress.not_out ps
+
+pub progress-some : (h : List Answered) (x : Answered) (p : Progress) → progress_by x.answer ≡ Some p → progress (h ++ x ∷ []) ≡ p
+unfolding progress
+progress-some h x p e = ap (last-of) (some-more (λ x. progress_by x.answer) h x p e) ∙ last-more Progress.not_out (filter_map (λ x. progress_by x.answer) h) p
+  where
+    last-of : List Progress → Progress
+    last-of ps = Rattle.span_model.specs.Attributes.last_or Progress.not_out ps
+
+pub attempts-none : (h : List Answered) (x : Answered) → attempt_by x.answer ≡ None → attempts (h ++ x ∷ []) ≡ attempts h
+attempts-none h x e = none-more (λ x. attempt_by x.answer) h x e
+
+pub attempts-some : (h : List Answered) (x : Answered) (a : Attempt) → attempt_by x.answer ≡ Some a → attempts (h ++ x ∷ []) ≡ attempts h ++ a ∷ []
+attempts-some h x a e = some-more (λ x. attempt_by x.answer) h x a e
+
+-- ---- answers
+
+answers-behind : (run : RunConfig) (before h : List Answered) (x : Answered) → AreAnswersBehind run before h → IsAnswer run (before ++ h) x → AreAnswersBehind run before (h ++ x ∷ [])
+answers-behind run before [] x a i = (rw (append-nil before) at i, tt)
+answers-behind run before (y ∷ h) x a i = (a.0, answers-behind run (before ++ y ∷ []) h x a.1 (rw (append_assoc before (y ∷ []) h) i))
+
+pub answers-more : (run : RunConfig) (h : List Answered) (x : Answered) → AreAnswers run h → IsAnswer run h x → AreAnswers run (h ++ x ∷ [])
+unfolding AreAnswers
+answers-more run h x a i = answers-behind run [] h x a i

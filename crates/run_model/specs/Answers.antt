@@ -1,0 +1,160 @@
+-- The answer to each step of a run. (Trace API; Trace SDK, Batching processor; OTLP Specification,
+-- OTLP/HTTP)
+use Rattle.std.specs.Prelude.{◌≡◌, ℕ, ◌+◌, ◌==◌, min, Bool, true, false, not, ◌&&◌, ◌||◌, if◌then◌else◌, List, [], ◌∷◌, ◌++◌, length, filter_map, Option, Some, None, is_some, is_none, slice_get}
+use Rattle.std.specs.List.{list_any}
+use Rattle.std.specs.Option.{option_and_then}
+use Rattle.span_model.specs.Attributes.{is_empty, last_or}
+use Rattle.span_model.specs.Dropped.{queue_full}
+use Rattle.span_model.specs.Sampling.{is_sampled, is_recording}
+use Rattle.span_model.specs.Spans.{Kind, Call, is_end}
+use Rattle.span_model.specs.Starts.{StartedSpan}
+use Rattle.export_model.specs.Export.{groups, body_length}
+use Rattle.desk_model.specs.Retries.{Outcome, next_of}
+use Rattle.desk_model.specs.Queue.{last_batch, last_spans}
+use Rattle.desk_model.specs.Desks.{DeskConfig, Desk, desk_of, is_due}
+use Rattle.history_model.specs.Steps.{Parent, Step, is_shutdown}
+use Rattle.history_model.specs.History.{Setup, StartResult, calls_on, parent_among, start_result, start_results}
+use Rattle.run_model.specs.Runs.{Ended, queued, late, not_sampled, already_ended, Answer, started, no_randomness, no_span, out_of_memory, done, ended, taken, not_taken, encoded, sent, replied, nothing, Answered, span_steps, ended_by, desk_events}
+
+-- What a run has before its first step, at moment 0.
+pub record RunConfig : Type 0 where
+  pub setup : Setup
+  pub desk : DeskConfig
+
+-- ---- spans
+
+-- what the starts so far came to
+abbrev pub starts_so_far : Setup → List Answered → List StartResult
+starts_so_far setup before = start_results setup (span_steps before)
+
+-- the span with this number, where its start gave one
+abbrev pub span_at : Setup → List Answered → ℕ → Option StartedSpan
+span_at setup before n = option_and_then (λ o. o.span) (slice_get (starts_so_far setup before) n)
+
+-- the calls on it that count
+abbrev pub calls_so_far : List Answered → ℕ → List Call
+calls_so_far before n = calls_on n (span_steps before)
+
+-- there are the scope and the parent that a start names
+abbrev pub is_there : Setup → List Answered → ℕ → Parent → Bool
+is_there setup before scope parent =
+    is_some (slice_get setup.scopes scope)
+    && is_some (parent_among (starts_so_far setup before) parent)
+
+-- Starting it takes memory: it is recorded, or has a trace state to copy.
+abbrev pub takes_memory : StartedSpan → Bool
+takes_memory s = is_recording s.decision || not (is_empty s.start.context.state)
+
+-- (Trace API, Span Creation)
+abbrev pub start_answer : Bool → Bool → Option StartedSpan → Answer
+start_answer there refused None = if there then no_randomness else no_span
+start_answer there refused (Some s) =
+    if refused && takes_memory s then out_of_memory
+    else started (record { trace = s.start.context.trace; span = s.start.context.span })
+
+-- The first end of a sampled span gives it the next ticket, unless there was a shutdown, and it is
+-- dropped where as many wait as the queue holds. (Trace API, End; Trace SDK, OnEnd, Shutdown)
+abbrev pub end_answer : RunConfig → List Answered → Desk → ℕ → StartedSpan → Ended
+end_answer run before desk n s =
+    let ticket = length (ended_by run.setup before) in
+    if list_any is_end (calls_so_far before n) then already_ended
+    else if not (is_sampled s.decision) then not_sampled
+    else if list_any (λ x. is_shutdown x.step) before then late
+    else if length desk.waiting == run.desk.queue then Ended.dropped ticket queue_full
+    else queued ticket
+
+-- Calls on it count. (Trace API, IsRecording)
+abbrev pub is_live : StartedSpan → List Call → Bool
+is_live s calls = is_recording s.decision && not (list_any is_end calls)
+
+-- A call that is ignored takes no memory, and no end does. (Trace API, Span operations)
+abbrev pub call_answer : RunConfig → List Answered → Desk → Bool → ℕ → Call → Option StartedSpan
+    → Answer
+call_answer run before desk refused n c None = no_span
+call_answer run before desk refused n c (Some s) =
+    if is_end c then ended (end_answer run before desk n s)
+    else if refused && is_live s (calls_so_far before n) then out_of_memory else done
+
+-- ---- batches
+
+-- (Trace SDK, Batching processor; at most one batch is out: profile)
+abbrev pub take_answer : Desk → ℕ → Answer
+take_answer desk now =
+    if is_due desk now && is_none desk.out
+    then taken (desk.batches + 1) (min desk.config.batch (length desk.waiting)) else not_taken
+
+-- Where the last batch stands: it is out no more, or it is to be encoded, or to be sent, or it was
+-- sent and what came of that is to be judged.
+pub data Progress : Type 0 where
+  not_out to_encode to_send : Progress
+  to_judge : Outcome → Progress
+
+abbrev pub progress_by : Answer → Option Progress
+progress_by (taken number size) = Some to_encode
+progress_by (encoded number size) = Some to_send
+progress_by (sent number attempt outcome) = Some (to_judge outcome)
+progress_by (replied number next) = Some not_out
+progress_by _ = None
+
+-- what was last said of a batch
+unfoldable pub progress : List Answered → Progress
+progress history = last_or not_out (filter_map (λ x. progress_by x.answer) history)
+
+-- The length is that of the request that exports its spans. Where memory is refused, the batch can
+-- be encoded later. (OTLP Specification; profile)
+abbrev pub encode_answer : List Answered → Desk → Setup → Bool → Progress → Answer
+encode_answer before desk setup refused to_encode =
+    if refused then out_of_memory
+    else encoded desk.batches (body_length (groups (last_spans (desk_events setup before))))
+encode_answer before desk setup refused _ = nothing
+
+-- A batch has one attempt. (profile)
+abbrev pub attempt_answer : Desk → Outcome → Progress → Answer
+attempt_answer desk outcome to_send = sent desk.batches 1 outcome
+attempt_answer desk outcome _ = nothing
+
+abbrev pub reply_answer : Desk → Progress → Answer
+reply_answer desk (to_judge outcome) = replied desk.batches (next_of outcome)
+reply_answer desk _ = nothing
+
+-- ---- all steps
+
+-- what a step can't know beforehand: whether memory is refused to it, and what the exporter answers
+pub record Given : Type 0 where
+  pub refused : Bool
+  pub outcome : Outcome
+
+-- what the desk shows behind these steps, which was made at moment 0
+unfoldable pub desk_after : RunConfig → List Answered → Desk
+desk_after run history = desk_of run.desk 0 (desk_events run.setup history)
+
+-- the answer to a step behind these
+abbrev pub answer_to : RunConfig → List Answered → Given → Step → Answer
+answer_to run before given (Step.start scope parent kind at name) =
+    start_answer (is_there run.setup before scope parent) given.refused
+    (start_result run.setup (starts_so_far run.setup before) false scope parent kind at name).span
+answer_to run before given (Step.call n c) =
+    call_answer run before (desk_after run before) given.refused n c (span_at run.setup before n)
+answer_to run before given Step.flush = Answer.flush
+answer_to run before given Step.shutdown = Answer.shutdown
+answer_to run before given (Step.take now) = take_answer (desk_after run before) now
+answer_to run before given Step.encode =
+    encode_answer before (desk_after run before) run.setup given.refused (progress before)
+answer_to run before given (Step.attempt now) =
+    attempt_answer (desk_after run before) given.outcome (progress before)
+answer_to run before given (Step.reply now word) =
+    reply_answer (desk_after run before) (progress before)
+
+-- it is right, whatever is given
+pub record IsAnswer (run : RunConfig) (before : List Answered) (x : Answered) : Type 0 where
+  pub given : Given
+  pub is : x.answer ≡ answer_to run before given x.step
+
+abbrev pub AreAnswersBehind : RunConfig → List Answered → List Answered → Type 0
+AreAnswersBehind run before [] = Unit {0}
+AreAnswersBehind run before (x ∷ history) =
+    IsAnswer run before x × AreAnswersBehind run (before ++ x ∷ []) history
+
+-- Each answer is right behind the steps before it.
+unfoldable pub AreAnswers : RunConfig → List Answered → Type 0
+AreAnswers run history = AreAnswersBehind run [] history

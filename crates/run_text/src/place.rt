@@ -1,0 +1,74 @@
+//! Where a step stands among those of a run.
+ghost use Rattle.std.specs.Prelude.{◌≡◌, ◌-◌, ◌^◌, ◌<◌, List, ◌∷◌, ◌++◌, [], is_some};
+ghost use Rattle.run_model.specs.Headline.{attempt_by};
+ghost use Rattle.run_model.specs.Runs.{Answered};
+ghost use Rattle.trace_history.specs.Answers.{answer_view};
+ghost use Rattle.trace_history.specs.Steps.{step_view};
+ghost use Rattle.run_text.specs.Lines.{batch_by, is_start as begins};
+ghost use Rattle.run_text.specs.Places.{IsBehind};
+
+use std::alloc::Allocator;
+use trace_history::{Answer, Step};
+
+/// What the steps before the next one are for its line.
+#[derive(Clone, Copy)]
+pub(crate) struct Place {
+    /// How many of them are starts, which is the number of the next one.
+    pub(crate) starts: usize,
+    /// How many attempts were made.
+    pub(crate) sent: usize,
+    /// The number of the batch that was taken last, or 0.
+    pub(crate) batch: u64,
+}
+
+impl Place {
+    /// The place of the first step.
+    pub(crate) fn first() -> Place
+        ensures { IsBehind [] result }
+    {
+        Place {
+            starts: 0,
+            sent: 0,
+            batch: 0,
+        }
+    }
+
+    /// The place behind a step in this one.
+    pub(crate) fn behind<A: Allocator>(self, step: &Step<A>, answer: &Answer) -> Place
+        requires starts { self.starts < 2 ^ 64 - 1 }
+        requires sent { self.sent < 2 ^ 64 - 1 }
+        ensures { (before : List Answered) → IsBehind before self → IsBehind
+            (before ++ record { step = step_view step.now; answer = answer_view answer.now } ∷ [])
+            result }
+    {
+        Place {
+            starts: self.starts + usize::from(is_start(step)),
+            sent: self.sent + usize::from(is_sent(answer)),
+            batch: batch_taken(answer).unwrap_or(self.batch),
+        }
+    }
+}
+
+/// Whether the step starts a span.
+fn is_start<A: Allocator>(step: &Step<A>) -> bool
+    ensures { result ≡ begins (step_view step.now) }
+{
+    matches!(step, Step::Start { .. })
+}
+
+/// Whether an attempt was made.
+fn is_sent(answer: &Answer) -> bool
+    ensures { result ≡ is_some (attempt_by (answer_view answer.now)) }
+{
+    matches!(answer, Answer::Sent { .. })
+}
+
+/// The number of the batch that was taken, if one was.
+fn batch_taken(answer: &Answer) -> Option<u64>
+    ensures { result ≡ batch_by (answer_view answer.now) }
+{
+    match answer {
+        Answer::Taken { batch, .. } => Some(*batch),
+        _ => None,
+    }
+}

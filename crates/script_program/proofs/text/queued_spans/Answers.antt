@@ -1,0 +1,1 @@
+use Rattle.script_program.proofs.text.queued_spans.Goals as goal

@@ -1,0 +1,1 @@
+use Rattle.script_program.proofs.text.text_of_run.Goals as goal

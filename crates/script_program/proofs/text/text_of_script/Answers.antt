@@ -1,0 +1,18 @@
+use Rattle.std.proofs.Common.{◌≡◌, map, string_bytes}
+use Rattle.script_program.proofs.Read.{if-ok}
+use Rattle.script_program.proofs.Runs.{run-is}
+use Rattle.script_program.proofs.Steps.{words-are}
+use Rattle.script_program.proofs.text.text_of_script.Goals as goal
+
+pub returns : goal.returns
+returns g c = λ read means.
+    let report = c.in_ok-report.report in
+    let said = c.in_ok-report.ensures in
+    let words = words-are c.args.script.words.items in
+    if-ok c.text_of_run-text.result (λ text lines. run-is c.args.script read report.answers report.desk c.run.new.exporter.handed (string_bytes text) means
+    (rw c.as_slice.ensures.value at said.count)
+    (rw (c.as_slice.ensures.value, c.new-2.ensures, words, c.new.ensures.bytes) at said.answered)
+    (rw (c.as_slice.ensures.value, c.new-2.ensures, words, c.new.ensures.bytes) at said.each_once)
+    (rw (c.as_slice.ensures.value, c.new-2.ensures, words, c.new.ensures.bytes) at said.desk)
+    (rw (c.as_slice.ensures.value, c.new-exporter.ensures) at said.handed)
+    (rw (c.as_slice-2.ensures.value, c.handed.ensures) at lines)) c.text_of_run-text.ensures

@@ -1,0 +1,140 @@
+//! The lines of a script that drive the batch processor.
+
+use batch_desk::DeskConfig;
+use retry_core::Outcome;
+use span_script::{Script, ScriptError};
+use std::test::Fail;
+use trace_history::Step;
+
+#[test]
+fn reads_steps(rt: HostRuntime) -> Result<(), Fail> {
+    let text = concat!(
+        "flush\n",
+        "shutdown\n",
+        "take 18446744073709551615\n",
+        "encode\n",
+        "attempt 0\n",
+        "reply 01 18446744073709551615\n",
+    );
+    let script = Script::parse(rt.alloc(), text.as_bytes())?;
+    let steps = [
+        Step::Flush,
+        Step::Shutdown,
+        Step::Take { at: u64::MAX },
+        Step::Encode,
+        Step::Attempt { at: 0 },
+        Step::Reply {
+            at: 1,
+            word: u64::MAX,
+        },
+    ];
+    assert_eq!(rt; script.steps.as_slice(), steps.as_slice());
+    Ok(())
+}
+
+#[test]
+fn reads_sizes_and_a_delay(rt: HostRuntime) -> Result<(), Fail> {
+    let script = Script::parse(rt.alloc(), b"desk 65536 65536 4294967295")?;
+    assert_eq!(rt;
+        script.desk,
+        DeskConfig {
+            queue: 65536,
+            batch: 65536,
+            delay_ms: u32::MAX,
+        }
+    );
+    let script = Script::parse(rt.alloc(), b"desk 1 1 0\nflush\n")?;
+    assert_eq!(rt;
+        script.desk,
+        DeskConfig {
+            queue: 1,
+            batch: 1,
+            delay_ms: 0,
+        }
+    );
+    let script = Script::parse(rt.alloc(), b"")?;
+    assert_eq!(rt; script.desk, DeskConfig::default());
+    Ok(())
+}
+
+#[test]
+fn reads_outcomes_in_order(rt: HostRuntime) -> Result<(), Fail> {
+    let text = concat!(
+        "answer delivered\n",
+        "desk 2 1 0\n",
+        "answer partial -9223372036854775808\n",
+        "take 1\n",
+        "answer partial 0\n",
+        "\n",
+        "answer refused 65535\n",
+        "flush\n",
+        "answer bad",
+    );
+    let script = Script::parse(rt.alloc(), text.as_bytes())?;
+    let outcomes = [
+        Outcome::Delivered,
+        Outcome::Partial(i64::MIN),
+        Outcome::Partial(0),
+        Outcome::Refused(u16::MAX),
+        Outcome::Bad,
+    ];
+    assert_eq!(rt; script.answers.as_slice(), outcomes.as_slice());
+    assert_eq!(rt; script.steps.len(), 2);
+    Ok(())
+}
+
+#[test]
+fn tells_bad_lines(rt: HostRuntime) {
+    for line in [
+        "flush 1",
+        "shutdown ",
+        "encode 0",
+        "take",
+        "take 1 2",
+        "take 18446744073709551616",
+        "attempt",
+        "attempt -1",
+        "attempt 1 2",
+        "reply 1",
+        "reply 1 2 3",
+        "reply 1 00x1",
+        "Flush",
+        "desk 1 1",
+        "desk 1 1 1 1",
+        "desk 0 1 1",
+        "desk 65537 1 1",
+        "desk 2 0 1",
+        "desk 2 3 1",
+        "desk 1 1 4294967296",
+        "answer",
+        "answer Delivered",
+        "answer delivered 1",
+        "answer partial",
+        "answer partial 9223372036854775808",
+        "answer refused",
+        "answer refused 65536",
+        "answer refused -1",
+        "answer bad 1",
+        "answer later 503 1",
+        "answer later 503 none",
+        "answer none",
+        "max 1",
+        "sattr 0 k i:1",
+    ] {
+        let script = Script::parse(rt.alloc(), line.as_bytes());
+        assert_eq!(rt; script.err(), Some(ScriptError::BadLine(1)), "{line}");
+    }
+}
+
+#[test]
+fn tells_lines_that_may_not_follow(rt: HostRuntime) {
+    for text in [
+        "desk 1 1 1\ndesk 1 1 1",
+        "flush\ndesk 1 1 1",
+        "reply 1 2\nsampler on",
+        "answer bad\nanswer good",
+    ] {
+        let script = Script::parse(rt.alloc(), text.as_bytes());
+        assert_eq!(rt; script.err(), Some(ScriptError::BadLine(2)), "{text}");
+    }
+}

@@ -1,0 +1,21 @@
+-- What an exporter was handed. (Trace SDK, Span Exporter; numbers of batches and attempts: profile)
+use Rattle.std.specs.Prelude.{◌≡◌, ℕ, List, [], ◌∷◌, ◌++◌, Option, option_map}
+use Rattle.desk_model.specs.Retries.{Outcome}
+
+-- An attempt to send a batch: the batch's number, which attempt of it this is, from 1 on, the body,
+-- and what came of it. (Trace SDK, Export)
+pub record Handed : Type 0 where
+  pub number : ℕ
+  pub attempt : ℕ
+  pub body : List ℕ
+  pub outcome : Outcome
+
+-- just this attempt
+abbrev pub handing : ℕ → ℕ → List ℕ → Outcome → List Handed
+handing number attempt body outcome =
+    record { number = number; attempt = attempt; body = body; outcome = outcome } ∷ []
+
+-- An exporter that tells what it was handed has, behind what it had, exactly these. Another tells
+-- nothing. (profile)
+abbrev pub Gains : List Handed → Option (List Handed) → Option (List Handed) → Type 0
+Gains more old new = new ≡ option_map (λ had. had ++ more) old

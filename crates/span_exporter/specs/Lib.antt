@@ -1,0 +1,5 @@
+pub mod Handed
+pub mod Room
+pub mod Buffers
+pub mod Views
+pub mod Memory

@@ -1,0 +1,16 @@
+-- What an exporter over memory shows. (profile)
+use Rattle.std.specs.Prelude.{List, [], ◌∷◌}
+use Rattle.desk_model.specs.Retries.{Outcome}
+use Rattle.span_exporter.specs.Handed.{Handed}
+use Rattle.span_exporter.specs.Room.{Room}
+
+-- what it was handed, what it answers next, and its room
+pub record Memory : Type 0 where
+  pub handed : List Handed
+  pub outcomes : List Outcome
+  pub room : Room
+
+-- the first of the listed outcomes, and behind the last always that the batch was taken
+abbrev pub next_outcome : List Outcome → Outcome
+next_outcome [] = Outcome.delivered
+next_outcome (outcome ∷ outcomes) = outcome

@@ -1,0 +1,4 @@
+pub mod Table
+pub mod Ends
+pub mod Opens
+pub mod Calls

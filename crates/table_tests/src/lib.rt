@@ -1,0 +1,9 @@
+//! Tests of `span_table` over its public calls.
+#![tactic(auto)]
+
+#[cfg(test)]
+mod memory;
+#[cfg(test)]
+mod parts;
+#[cfg(test)]
+mod steps;

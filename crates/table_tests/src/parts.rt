@@ -1,0 +1,64 @@
+//! What the tests make tables of.
+use otlp_ids::{SpanId, TraceId};
+use otlp_sampler::Sampler;
+use otlp_span::{Resource, Scope, SpanCall, SpanLimits};
+use otlp_value::Value;
+use std::alloc::Allocator;
+use std::process::Abort;
+use std::sync::Arc;
+use trace_api::Provider;
+use words_rng::WordsRng;
+
+pub(crate) const TRACE: TraceId = TraceId([1, 2, 3, 4, 5, 6, 7, 8, 9, 10, 11, 12, 13, 14, 15, 16]);
+
+pub(crate) const SPAN: SpanId = SpanId([17, 18, 19, 20, 21, 22, 23, 24]);
+
+pub(crate) const CHILD: SpanId = SpanId([25, 26, 27, 28, 29, 30, 31, 32]);
+
+/// The words of `TRACE`, of `SPAN` and of `CHILD`; behind them are zeros.
+const WORDS: [u64; 4] = [
+    0x0102030405060708,
+    0x090a0b0c0d0e0f10,
+    0x1112131415161718,
+    0x191a1b1c1d1e1f20,
+];
+
+pub(crate) fn text<A: Allocator>(rt: &impl Abort, alloc: A, text: &str) -> String<A> {
+    String::from_str(alloc, text).expect(rt, "memory")
+}
+
+pub(crate) fn words<A: Allocator>(rt: &impl Abort, alloc: A) -> WordsRng<A> {
+    WordsRng::new(Vec::from_slice(alloc, &WORDS).expect(rt, "memory"))
+}
+
+/// A provider of a resource without attributes.
+pub(crate) fn provider<S: Sampler + Drop, A: Allocator + Copy>(
+    rt: &impl Abort,
+    alloc: A,
+    sampler: S,
+) -> Provider<S, A> {
+    let resource = Resource {
+        attributes: Vec::new(alloc),
+        schema_url: String::new(alloc),
+    };
+    let resource = Arc::new(alloc, resource).expect(rt, "memory");
+    Provider::new(sampler, resource, SpanLimits::default())
+}
+
+/// One scope.
+pub(crate) fn scopes<A: Allocator + Copy>(rt: &impl Abort, alloc: A) -> Vec<Scope<A>, A> {
+    let mut scopes = Vec::new(alloc);
+    let scope = Scope {
+        name: text(rt, alloc, "library"),
+        version: String::new(alloc),
+        attributes: Vec::new(alloc),
+        schema_url: String::new(alloc),
+    };
+    scopes.push(scope).expect(rt, "memory");
+    scopes
+}
+
+/// A call that sets an attribute.
+pub(crate) fn attribute<A: Allocator>(rt: &impl Abort, alloc: A, key: &str) -> SpanCall<A> {
+    SpanCall::SetAttribute(text(rt, alloc, key), Value::Int(1))
+}

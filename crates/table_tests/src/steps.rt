@@ -1,0 +1,129 @@
+//! What starts, calls and ends are answered.
+ghost use Rattle.std.specs.Prelude.{◌≡◌, ◌+◌, ◌<◌, length};
+
+use crate::parts::{CHILD, SPAN, TRACE, attribute, provider, scopes, text, words};
+use otlp_sampler::{AlwaysOff, AlwaysOn, Sampler};
+use otlp_span::{Kind, SpanCall};
+use rand_core::Rng;
+use span_table::SpanTable;
+use std::alloc::Allocator;
+use std::process::Abort;
+use trace_api::{BodyPass, Ended};
+use trace_history::{Answer, Parent};
+
+/// Asserts what a start is answered.
+fn assert_start<S: Sampler, R: Rng, A: Allocator + Copy>(
+    rt: &impl Abort,
+    table: &mut SpanTable<'_, S, R, A>,
+    scope: u32,
+    parent: Parent<A>,
+    answer: Answer,
+)
+    requires { length table.old.spans < table.old.room }
+    ensures one_more { length table.new.spans ≡ length table.old.spans + 1 }
+    ensures room { table.new.room ≡ table.old.room }
+{
+    let started = table.start(scope, &parent, Kind::Server, 1_000, "GET /");
+    assert_eq!(rt; started, answer);
+}
+
+/// Asserts what a call is answered.
+fn assert_call<S: Sampler, R: Rng, A: Allocator + Copy>(
+    rt: &impl Abort,
+    table: &mut SpanTable<'_, S, R, A>,
+    pass: &mut BodyPass<A>,
+    number: u32,
+    call: SpanCall<A>,
+    answer: Answer,
+) {
+    assert_eq!(rt; table.call(pass, number, &call), answer);
+}
+
+#[test]
+fn starts_are_numbered_and_answered(rt: HostRuntime) {
+    let alloc = rt.alloc();
+    let provider = provider(&rt, alloc, AlwaysOn);
+    let table = SpanTable::new(alloc, &provider, scopes(&rt, alloc), words(&rt, alloc), 5);
+    let mut table = table.expect(&rt, "memory");
+    let (trace, span) = (TRACE, SPAN);
+    assert_start(
+        &rt,
+        &mut table,
+        0,
+        Parent::Root,
+        Answer::Started { trace, span },
+    );
+    assert_start(&rt, &mut table, 1, Parent::Root, Answer::NoSpan);
+    assert_start(&rt, &mut table, 0, Parent::Span(1), Answer::NoSpan);
+    let child = Answer::Started { trace, span: CHILD };
+    assert_start(&rt, &mut table, 0, Parent::Span(0), child);
+    assert_start(&rt, &mut table, 0, Parent::Root, Answer::NoRandomness);
+}
+
+#[test]
+fn calls_count_until_the_first_end(rt: HostRuntime) {
+    let alloc = rt.alloc();
+    let provider = provider(&rt, alloc, AlwaysOn);
+    let table = SpanTable::new(alloc, &provider, scopes(&rt, alloc), words(&rt, alloc), 2);
+    let mut table = table.expect(&rt, "memory");
+    let mut pass = BodyPass::new(alloc, 1).expect(&rt, "memory");
+    let (trace, span) = (TRACE, SPAN);
+    assert_start(
+        &rt,
+        &mut table,
+        0,
+        Parent::Root,
+        Answer::Started { trace, span },
+    );
+    assert_start(&rt, &mut table, 1, Parent::Root, Answer::NoSpan);
+    let call = attribute(&rt, alloc, "a");
+    assert_call(&rt, &mut table, &mut pass, 0, call, Answer::Done);
+    let end = Answer::Ended(Ended::Queued(0));
+    assert_call(&rt, &mut table, &mut pass, 0, SpanCall::End(5), end);
+    let again = Answer::Ended(Ended::AlreadyEnded);
+    assert_call(&rt, &mut table, &mut pass, 0, SpanCall::End(6), again);
+    let late = attribute(&rt, alloc, "b");
+    assert_call(&rt, &mut table, &mut pass, 0, late, Answer::Done);
+    assert_call(
+        &rt,
+        &mut table,
+        &mut pass,
+        1,
+        SpanCall::End(5),
+        Answer::NoSpan,
+    );
+    assert_call(
+        &rt,
+        &mut table,
+        &mut pass,
+        2,
+        SpanCall::End(5),
+        Answer::NoSpan,
+    );
+    let spans = pass.spans();
+    assert_eq!(rt; spans.len(), 1);
+    assert_eq!(rt; (spans[0].name(), spans[0].end_time()), ("GET /", 5));
+    assert_eq!(rt; spans[0].attributes().len(), 1);
+}
+
+#[test]
+fn a_dropped_span_goes_to_no_pass(rt: HostRuntime) {
+    let alloc = rt.alloc();
+    let provider = provider(&rt, alloc, AlwaysOff);
+    let table = SpanTable::new(alloc, &provider, scopes(&rt, alloc), words(&rt, alloc), 1);
+    let mut table = table.expect(&rt, "memory");
+    let mut pass = BodyPass::new(alloc, 1).expect(&rt, "memory");
+    let (trace, span) = (TRACE, SPAN);
+    assert_start(
+        &rt,
+        &mut table,
+        0,
+        Parent::Root,
+        Answer::Started { trace, span },
+    );
+    let named = SpanCall::UpdateName(text(&rt, alloc, "x"));
+    assert_call(&rt, &mut table, &mut pass, 0, named, Answer::Done);
+    let end = Answer::Ended(Ended::NotSampled);
+    assert_call(&rt, &mut table, &mut pass, 0, SpanCall::End(5), end);
+    assert_eq!(rt; pass.spans().len(), 0);
+}

@@ -1,0 +1,83 @@
+//! The report.
+use crate::runs::{SPAN, TRACE};
+use drop_ledger::Ledger;
+use otlp_ids::{SpanContext, SpanId, TraceFlags};
+use otlp_span::{Kind, Open, Reason, Resource, Scope, SpanData, SpanLimits, SpanRecord};
+use run_text::write_report;
+use std::alloc::Global;
+use std::process::Abort;
+use std::sync::Arc;
+use std::test::Fail;
+
+/// A span that has ended.
+fn ended(rt: &impl Abort, alloc: Global, span: SpanId) -> SpanData {
+    let resource = Resource {
+        attributes: Vec::new(alloc),
+        schema_url: String::new(alloc),
+    };
+    let scope = Scope {
+        name: String::new(alloc),
+        version: String::new(alloc),
+        attributes: Vec::new(alloc),
+        schema_url: String::new(alloc),
+    };
+    let context = SpanContext {
+        trace: TRACE,
+        span,
+        flags: TraceFlags(1),
+        remote: false,
+        state: String::new(alloc),
+    };
+    let opening = Open {
+        context,
+        parent: None,
+        resource: Arc::new(alloc, resource).expect(rt, "memory"),
+        scope: Arc::new(alloc, scope).expect(rt, "memory"),
+        name: String::new(alloc),
+        kind: Kind::Internal,
+        start: 1,
+    };
+    let record = SpanRecord::open(alloc, opening, &SpanLimits::default());
+    record.expect(rt, "memory").close(2)
+}
+
+/// Names a dropped span.
+fn name(rt: &impl Abort, alloc: Global, ledger: &mut Ledger, ticket: u64, reason: Reason) {
+    let mut span = ended(rt, alloc, SPAN);
+    span.set_ticket(ticket);
+    let entry = span.entry(reason);
+    assert!(rt; ledger.len() < u64::MAX);
+    ledger.push(span.into_slip(), entry);
+}
+
+/// The newest name is told first.
+const NAMES: &str = concat!(
+    "queued 2\n",
+    "named 8 abababababababababababababababab 000102030405067f abandoned\n",
+    "named 7 abababababababababababababababab 000102030405067f too-large\n",
+    "named 6 abababababababababababababababab 000102030405067f encode-memory\n",
+    "named 10 abababababababababababababababab 000102030405067f queue-full\n",
+    "late 18446744073709551615\n",
+);
+
+#[test]
+fn a_report_names_the_newest_first(rt: HostRuntime) -> Result<(), Fail> {
+    let alloc = rt.alloc();
+    let mut ledger = Ledger::new();
+    name(&rt, alloc, &mut ledger, 10, Reason::QueueFull);
+    name(&rt, alloc, &mut ledger, 6, Reason::EncodeMemory);
+    name(&rt, alloc, &mut ledger, 7, Reason::TooLarge);
+    name(&rt, alloc, &mut ledger, 8, Reason::Abandoned);
+    let mut out = String::new(alloc);
+    write_report(&mut out, 2, &ledger, u64::MAX).expect(&rt, "memory");
+    assert_eq!(rt; out.as_str(), NAMES);
+    Ok(())
+}
+
+#[test]
+fn a_report_without_names(rt: HostRuntime) -> Result<(), Fail> {
+    let mut out = String::new(rt.alloc());
+    write_report(&mut out, 0, &Ledger::new(), 0).expect(&rt, "memory");
+    assert_eq!(rt; out.as_str(), "queued 0\nlate 0\n");
+    Ok(())
+}

@@ -1,0 +1,67 @@
+//! What is answered to a step.
+
+use otlp_ids::{SpanId, TraceId};
+use retry_core::{Next, Outcome};
+use trace_api::Ended;
+
+/// The answer to a step.
+#[derive(Debug, Clone, Copy, PartialEq, Eq)]
+pub enum Answer {
+    /// To a start: the span has started, with these identifiers.
+    Started {
+        /// That of its trace.
+        trace: TraceId,
+        /// Its own.
+        span: SpanId,
+    },
+    /// To a start: the generator gave only zeros, in eight draws of an identifier.
+    NoRandomness,
+    /// To a start, a call that is no end, or an encoding: memory was refused. Nothing has changed,
+    /// but a start has its number and has spent the words that it drew.
+    OutOfMemory,
+    /// To a call: there is no span of this number. To a start: the scope or the parent isn't there.
+    /// Nothing has changed, but a start has its number.
+    NoSpan,
+    /// To a call that is no end: it was made, or it was ignored.
+    Done,
+    /// To an end.
+    Ended(Ended),
+    /// To a flush.
+    Flush,
+    /// To a shutdown.
+    Shutdown,
+    /// To a take: a batch is out.
+    Taken {
+        /// Its number, from 1 on.
+        batch: u64,
+        /// How many spans it has.
+        spans: usize,
+    },
+    /// To a take: no batch is due, or one is out.
+    NotTaken,
+    /// To an encoding: the batch has a body.
+    Encoded {
+        /// The number of the batch.
+        batch: u64,
+        /// The length of its body, in bytes.
+        length: usize,
+    },
+    /// To an attempt: the batch was handed to the exporter.
+    Sent {
+        /// The number of the batch.
+        batch: u64,
+        /// Which attempt of the batch it was, from 1 on.
+        attempt: u32,
+        /// What came of it.
+        outcome: Outcome,
+    },
+    /// To a reply: what follows for the batch.
+    Replied {
+        /// The number of the batch.
+        batch: u64,
+        /// What follows.
+        next: Next,
+    },
+    /// To an encoding, an attempt or a reply: no batch is out that this step is for.
+    Nothing,
+}

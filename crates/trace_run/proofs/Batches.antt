@@ -1,0 +1,323 @@
+-- One more step of a run at its queue: where it stands behind it.
+use Rattle.std.proofs.Common.{◌≡◌, refl, sym, ap, subst, ◌∙◌, ℕ, ◌+◌, ◌^◌, ◌<◌, ◌≤◌, arith, List, [], ◌∷◌, ◌++◌, length, Bool, true, false, cond, ◌||◌, Option, Some, None, inl, inr}
+use Rattle.std.specs.Option.{option_to_list}
+use Rattle.rand_core.specs.Stream.{Stream}
+use Rattle.span_model.specs.Sampling.{SamplerMeaning}
+use Rattle.span_model.specs.Spans.{EndedSpan}
+use Rattle.export_model.specs.Export.{groups, body_length}
+use Rattle.desk_model.specs.Retries as retries
+use Rattle.desk_model.specs.Retries.{delivered, fate_of, next_of}
+use Rattle.desk_model.specs.Queue as queue
+use Rattle.desk_model.specs.Queue.{DeskEvent, last_spans, last_batch, stage, not_out, in_hand, with_exporter}
+use Rattle.desk_model.specs.Desks as desks
+use Rattle.desk_model.specs.Desks.{Desk, OutBatch, IsDesk, Does, desk_of, accepted_count}
+use Rattle.desk_model.proofs.Steps.{last-kept, sizes-kept}
+use Rattle.history_model.specs.Steps.{Step, is_shutdown, flush, shutdown, take, encode, attempt, reply}
+use Rattle.run_model.specs.Runs as runs
+use Rattle.run_model.specs.Runs.{Answer, Answered, is_refused, span_steps, ended_by, event_by, desk_events}
+use Rattle.run_model.specs.Answers as model
+use Rattle.run_model.specs.Answers.{RunConfig, Progress, progress, progress_by, desk_after, Given, IsAnswer, take_answer, encode_answer, attempt_answer, reply_answer}
+use Rattle.run_model.specs.Headline as headline
+use Rattle.run_model.specs.Headline.{out_as, out_after}
+use Rattle.run_model.proofs.More.{is_shut, steps-none, ended-none, events-same, progress-some}
+use Rattle.batch_desk.specs.Batch.{BatchView}
+use Rattle.batch_desk.specs.Desk.{IsOut}
+use Rattle.retry_core.specs.Retries.{outcome_view, next_view}
+use Rattle.trace_history.specs.Answers.{answer_view}
+use Rattle.trace_history.specs.declared.answer.Answer.{Answer as CodeAnswer}
+use Rattle.trace_history.specs.declared.answer.Answer.TheVariants as answers
+use Rattle.span_exporter.specs.Handed.{Handed}
+use Rattle.span_table.specs.Table.{IsTable, TableWith}
+use Rattle.trace_run.specs.Out.{Stage, to_encode, to_send, to_judge, Out, progress_of, is_sent, shown, IsTied, IsIdle, Takes, TakesBatch, TakesNone, Encodes, EncodesAt, EncodesBatch, HasBody, Sends, SendsAt, SendsBody, SendsNone, Replies, SettlesAt, Settles, SettlesNone}
+use Rattle.trace_run.specs.State.{Stands}
+use Rattle.trace_run.proofs.Standing.{IsQuiet, or-false, tied-kept, desk-is, stands-on, out-stays, quiet-on}
+
+-- ---- what is shown of the batch that is out
+
+abbrev pub progress_in : Option headline.OutBatch → Progress
+progress_in None = model.not_out
+progress_in (Some b) = b.progress
+
+abbrev pub number_in : Option headline.OutBatch → ℕ
+number_in None = 0
+number_in (Some b) = b.number
+
+abbrev pub spans_in : Option headline.OutBatch → List EndedSpan
+spans_in None = []
+spans_in (Some b) = b.spans
+
+pub progress-is : (p : Progress) (spans : List EndedSpan) (number : ℕ) (o : Option headline.OutBatch) → o ≡ out_as p spans number → progress_in o ≡ p
+progress-is model.not_out spans number o e = ap progress_in e
+progress-is model.to_encode spans number o e = ap progress_in e
+progress-is model.to_send spans number o e = ap progress_in e
+progress-is (model.to_judge outcome) spans number o e = ap progress_in e
+
+pub record Shows (b : headline.OutBatch) (p : Progress) (es : List EndedSpan) (n : ℕ) : Type 0 where
+  pub stage : b.progress ≡ p
+  pub number : b.number ≡ n
+  pub spans : b.spans ≡ es
+
+pub shows : (b : headline.OutBatch) (p : Progress) (spans : List EndedSpan) (number : ℕ) → Some b ≡ out_as p spans number → Shows b p spans number
+shows b model.not_out spans number e = cc
+shows b model.to_encode spans number e = record { stage = ap progress_in e; number = ap number_in e; spans = ap spans_in e }
+shows b model.to_send spans number e = record { stage = ap progress_in e; number = ap number_in e; spans = ap spans_in e }
+shows b (model.to_judge outcome) spans number e = record { stage = ap progress_in e; number = ap number_in e; spans = ap spans_in e }
+
+-- the number that the desk knows
+abbrev number_out : Option OutBatch → ℕ
+number_out None = 0
+number_out (Some b) = b.number
+
+number-known : (s : queue.Stage) (number size : ℕ) (b : OutBatch) → desks.out_as s number size ≡ Some b → number ≡ b.number
+number-known not_out number size b e = cc
+number-known in_hand number size b e = ap number_out e
+number-known with_exporter number size b e = ap number_out e
+
+out-known : (events : List DeskEvent) (desk : Desk) (sent : Bool) (batch : BatchView) → IsDesk 0 events desk → IsOut sent desk batch → last_batch events ≡ batch.number
+unfolding desk_of
+out-known events desk sent batch d o = number-known (stage events) (last_batch events) _ _ (sym (ap (λ k. k.out) d.is) ∙ o.out)
+
+module _ {S R : Type 0} (meaning : S → SamplerMeaning) (stream : R → Stream) (run : RunConfig) (h : List Answered) (table : TableWith S R) (desk : Desk) (out : Option Out)
+    (at : Stands meaning stream run h table desk out) where
+  abbrev events : List DeskEvent
+  events = desk_events run.setup h
+
+  same-spans : (x : Answered) → Rattle.history_model.specs.History.span_step (is_refused x.answer) x.step ≡ None → IsTable meaning stream run.setup (span_steps (h ++ x ∷ [])) table
+  same-spans x e = subst (λ steps. IsTable meaning stream run.setup steps table) (sym (steps-none h x e)) at.spans
+
+  no-more : length table.spans ≤ length table.spans + 1
+  no-more = omega arith
+
+  number-is : desk.batches ≡ last_batch events
+  unfolding desk_of
+  number-is = ap (λ d. d.batches) at.history.is
+
+  -- a step that changes nothing
+  idle-on : (x : Answered) → IsQuiet x.answer x.step → Rattle.history_model.specs.History.span_step (is_refused x.answer) x.step ≡ None → is_shutdown x.step ≡ false → IsAnswer run h x → Stands meaning stream run (h ++ x ∷ []) table desk out
+  idle-on x q e f right = quiet-on meaning stream run h table desk out at x table q (same-spans x e) (ended-none run.setup h x e) f no-more right
+
+  -- ---- flush and shutdown
+
+  pub flush-on : (desk2 : Desk) → desk2 ≡ record desk { asked = accepted_count desk } → Does queue.flush desk desk2 → Stands meaning stream run (h ++ record { step = flush; answer = runs.Answer.flush } ∷ []) table desk2 out
+  flush-on desk2 is does =
+      let x : Answered = record { step = flush; answer = runs.Answer.flush } in
+      let same = ended-none run.setup h x refl in
+      stands-on meaning stream run h table desk out at x table desk2 out (Some queue.flush) (same-spans x refl) same (inl refl) refl (does 0 events at.history)
+      (ap (λ d. d.config) is) (ap (λ d. d.next_ticket) is) (ap (λ d. d.closed) is ∙ at.closed ∙ sym (or-false (is_shut h))) no-more (tied-kept desk desk2 out (ap (λ d. d.out) is) (ap (λ d. d.config) is) at.tied)
+      (out-stays meaning stream run h table desk out at x (events ++ queue.flush ∷ []) refl (events-same run.setup h x (Some queue.flush) same refl) (last-kept events queue.flush refl refl) (ap length (sizes-kept events queue.flush refl)))
+      (record { given = record { refused = false; outcome = delivered }; is = refl })
+
+  pub shutdown-on : (desk2 : Desk) → desk2 ≡ record desk { asked = accepted_count desk; closed = true } → Does queue.shutdown desk desk2 → Stands meaning stream run (h ++ record { step = shutdown; answer = runs.Answer.shutdown } ∷ []) table desk2 out
+  shutdown-on desk2 is does =
+      let x : Answered = record { step = shutdown; answer = runs.Answer.shutdown } in
+      let same = ended-none run.setup h x refl in
+      stands-on meaning stream run h table desk out at x table desk2 out (Some queue.shutdown) (same-spans x refl) same (inl refl) refl (does 0 events at.history)
+      (ap (λ d. d.config) is) (ap (λ d. d.next_ticket) is) (ap (λ d. d.closed) is ∙ sym (or-true (is_shut h))) no-more (tied-kept desk desk2 out (ap (λ d. d.out) is) (ap (λ d. d.config) is) at.tied)
+      (out-stays meaning stream run h table desk out at x (events ++ queue.shutdown ∷ []) refl (events-same run.setup h x (Some queue.shutdown) same refl) (last-kept events queue.shutdown refl refl) (ap length (sizes-kept events queue.shutdown refl)))
+      (record { given = record { refused = false; outcome = delivered }; is = refl })
+    where
+      or-true : (b : Bool) → (b || true) ≡ true
+      or-true true = refl
+      or-true false = refl
+
+  -- ---- takes
+
+  taken-on : (now number count : ℕ) (desk2 : Desk) (out2 : Option Out) → runs.taken number count ≡ take_answer desk now → TakesBatch now number count desk desk2 out2
+      → Stands meaning stream run (h ++ record { step = take now; answer = runs.taken number count } ∷ []) table desk2 out2
+  taken-on now number count desk2 out2 right t =
+      let x : Answered = record { step = take now; answer = runs.taken number count } in
+      let event : DeskEvent = queue.taken now count in
+      let same = ended-none run.setup h x refl in
+      let grown : desk_events run.setup (h ++ x ∷ []) ≡ events ++ event ∷ [] = events-same run.setup h x (Some event) same refl in
+      let took = t.takes 0 events at.history in
+      let does : IsDesk 0 (events ++ event ∷ []) desk2 = subst (λ n. IsDesk 0 (events ++ queue.taken now n ∷ []) desk2) t.counted took.0 in
+      let spans : t.batch.spans ≡ last_spans (events ++ event ∷ []) = took.1 ∙ ap (λ n. last_spans (events ++ queue.taken now n ∷ [])) t.counted in
+      let known : last_batch (events ++ event ∷ []) ≡ t.batch.number = out-known (events ++ event ∷ []) desk2 false t.batch does t.in_hand in
+      stands-on meaning stream run h table desk out at x table desk2 out2 (Some event) (same-spans x refl) same (inl refl) refl does
+      t.keeps.config t.keeps.next_ticket (t.keeps.closed ∙ at.closed ∙ sym (or-false (is_shut h))) no-more (subst (IsTied desk2) (sym t.out) t.in_hand)
+      (ap shown t.out ∙ (λ i. out_as (sym (progress-some h x model.to_encode refl) i) ((spans ∙ ap last_spans (sym grown)) i) ((sym known ∙ ap last_batch (sym grown)) i)))
+      (record { given = record { refused = false; outcome = delivered }; is = right ∙ ap (λ d. take_answer d now) (desk-is meaning stream run h table desk out at) })
+
+  not-taken-on : (now : ℕ) → runs.not_taken ≡ take_answer desk now → Stands meaning stream run (h ++ record { step = take now; answer = runs.not_taken } ∷ []) table desk out
+  not-taken-on now right =
+      idle-on (record { step = take now; answer = runs.not_taken }) (record { ticket = refl; event = λ spans. refl; stage = refl; attempt = refl }) refl refl
+      (record { given = record { refused = false; outcome = delivered }; is = right ∙ ap (λ d. take_answer d now) (desk-is meaning stream run h table desk out at) })
+
+  pub take-on : (now : ℕ) (answer : CodeAnswer) (desk2 : Desk) (out2 : Option Out) → answer_view answer ≡ take_answer desk now → Takes now answer desk out desk2 out2
+      → Stands meaning stream run (h ++ record { step = take now; answer = answer_view answer } ∷ []) table desk2 out2
+  take-on now (answers.Taken number count) desk2 out2 right t = taken-on now number count desk2 out2 right t
+  take-on now answers.NotTaken desk2 out2 right t =
+      subst (λ d. Stands meaning stream run (h ++ record { step = take now; answer = runs.not_taken } ∷ []) table d out2) (sym t.desk_same)
+      (subst (λ o. Stands meaning stream run (h ++ record { step = take now; answer = runs.not_taken } ∷ []) table desk o) (sym t.same) (not-taken-on now right))
+  take-on now (answers.Started trace span) desk2 out2 right t = absurd t
+  take-on now answers.NoRandomness desk2 out2 right t = absurd t
+  take-on now answers.OutOfMemory desk2 out2 right t = absurd t
+  take-on now answers.NoSpan desk2 out2 right t = absurd t
+  take-on now answers.Done desk2 out2 right t = absurd t
+  take-on now (answers.Ended e) desk2 out2 right t = absurd t
+  take-on now answers.Flush desk2 out2 right t = absurd t
+  take-on now answers.Shutdown desk2 out2 right t = absurd t
+  take-on now (answers.Encoded number size) desk2 out2 right t = absurd t
+  take-on now (answers.Sent number k outcome) desk2 out2 right t = absurd t
+  take-on now (answers.Replied number next) desk2 out2 right t = absurd t
+  take-on now answers.Nothing desk2 out2 right t = absurd t
+
+  -- ---- the batch that is out
+
+  out-shows : (o : Out) → out ≡ Some o → Shows (record { number = o.batch.number; spans = o.batch.spans; progress = progress_of o.stage }) (progress h) (last_spans events) (last_batch events)
+  out-shows o e = shows _ (progress h) (last_spans events) (last_batch events) (sym (ap shown e) ∙ at.out_is)
+
+  out-none : out ≡ None → progress h ≡ model.not_out
+  out-none e = sym (progress-is (progress h) (last_spans events) (last_batch events) None (sym (ap shown e) ∙ at.out_is))
+
+  -- nothing is done where the batch stands elsewhere, or none is out
+  nothing-on : (step : Step) (answer : CodeAnswer) (desk2 : Desk) (out2 : Option Out) → IsIdle out answer out2 → desk2 ≡ desk → is_shutdown step ≡ false
+      → ((refused : Bool) → Rattle.history_model.specs.History.span_step refused step ≡ None) → IsAnswer run h (record { step = step; answer = runs.nothing })
+      → Stands meaning stream run (h ++ record { step = step; answer = answer_view answer } ∷ []) table desk2 out2
+  nothing-on step answer desk2 out2 idle same f none right =
+      let Goal : CodeAnswer → Desk → Option Out → Type 0 = λ a d o. Stands meaning stream run (h ++ record { step = step; answer = answer_view a } ∷ []) table d o in
+      subst (λ d. Goal answer d out2) (sym same) (subst (λ o. Goal answer desk o) (sym idle.same) (subst (λ a. Goal a desk out) (sym idle.answered)
+      (idle-on (record { step = step; answer = runs.nothing }) (record { ticket = refl; event = λ spans. refl; stage = refl; attempt = refl }) (none false) f right)))
+
+  -- the batch that is out goes on, and the queue knows nothing of it
+  encoded-on : (o : Out) → out ≡ Some o → o.stage ≡ to_encode → (number size : ℕ) (out2 : Option Out) → HasBody o.batch number size out2
+      → Stands meaning stream run (h ++ record { step = encode; answer = runs.encoded number size } ∷ []) table desk out2
+  encoded-on o e s number size out2 b =
+      let x : Answered = record { step = encode; answer = runs.encoded number size } in
+      let same = ended-none run.setup h x refl in
+      let sh = out-shows o e in
+      let grown : desk_events run.setup (h ++ x ∷ []) ≡ events = events-same run.setup h x None same refl ∙ Rattle.std.proofs.lemmas.List.append-nil events in
+      let tied : IsOut (is_sent o.stage) desk o.batch = subst (IsTied desk) e at.tied in
+      stands-on meaning stream run h table desk out at x table desk out2 None (same-spans x refl) same (inl refl) refl (subst (λ es. IsDesk 0 es desk) (sym (Rattle.std.proofs.lemmas.List.append-nil events)) at.history)
+      refl refl (at.closed ∙ sym (or-false (is_shut h))) no-more (subst (IsTied desk) (sym b.out) (subst (λ g. IsOut (is_sent g) desk o.batch) s tied))
+      (ap shown b.out ∙ (λ i. out_as (sym (progress-some h x model.to_send refl) i) ((sh.spans ∙ ap last_spans (sym grown)) i) ((sh.number ∙ ap last_batch (sym grown)) i)))
+      (record {
+        given = record { refused = false; outcome = delivered };
+        is =
+            let d = desk-is meaning stream run h table desk out at in
+            let p : progress h ≡ model.to_encode = sym sh.stage ∙ ap progress_of s in
+            let n : number ≡ (desk_after run h).batches = b.numbered ∙ sh.number ∙ sym number-is ∙ ap (λ k. k.batches) d in
+            let l : size ≡ body_length (groups (last_spans events)) = b.measured ∙ b.length ∙ ap (λ ss. body_length (groups ss)) sh.spans in
+            (λ i. runs.encoded (n i) (l i)) ∙ ap (encode_answer h (desk_after run h) run.setup false) (sym p);
+      })
+
+  refused-on : (o : Out) → out ≡ Some o → o.stage ≡ to_encode → Stands meaning stream run (h ++ record { step = encode; answer = runs.out_of_memory } ∷ []) table desk out
+  refused-on o e s =
+      let sh = out-shows o e in
+      idle-on (record { step = encode; answer = runs.out_of_memory }) (record { ticket = refl; event = λ spans. refl; stage = refl; attempt = refl }) refl refl
+      (record { given = record { refused = true; outcome = delivered }; is = ap (encode_answer h (desk_after run h) run.setup true) (sym (sym sh.stage ∙ ap progress_of s)) })
+
+  encodes-batch : (o : Out) → out ≡ Some o → o.stage ≡ to_encode → (answer : CodeAnswer) (out2 : Option Out) → EncodesBatch o.batch answer out2
+      → Stands meaning stream run (h ++ record { step = encode; answer = answer_view answer } ∷ []) table desk out2
+  encodes-batch o e s (answers.Encoded number size) out2 t = encoded-on o e s number size out2 t
+  encodes-batch o e s answers.OutOfMemory out2 t =
+      let back : out2 ≡ out = t ∙ sym (e ∙ ap (λ g. Some (record { batch = o.batch; stage = g })) s) in
+      subst (λ b. Stands meaning stream run (h ++ record { step = encode; answer = runs.out_of_memory } ∷ []) table desk b) (sym back) (refused-on o e s)
+  encodes-batch o e s (answers.Taken number count) out2 t = absurd t
+  encodes-batch o e s answers.NotTaken out2 t = absurd t
+  encodes-batch o e s (answers.Started trace span) out2 t = absurd t
+  encodes-batch o e s answers.NoRandomness out2 t = absurd t
+  encodes-batch o e s answers.NoSpan out2 t = absurd t
+  encodes-batch o e s answers.Done out2 t = absurd t
+  encodes-batch o e s (answers.Ended x) out2 t = absurd t
+  encodes-batch o e s answers.Flush out2 t = absurd t
+  encodes-batch o e s answers.Shutdown out2 t = absurd t
+  encodes-batch o e s (answers.Sent number k outcome) out2 t = absurd t
+  encodes-batch o e s (answers.Replied number next) out2 t = absurd t
+  encodes-batch o e s answers.Nothing out2 t = absurd t
+
+  -- where the batch stands elsewhere
+  idle-encode : (p : Progress) → progress h ≡ p → ((d : Desk) → encode_answer h d run.setup false p ≡ runs.nothing) → IsAnswer run h (record { step = encode; answer = runs.nothing })
+  idle-encode p e f = record { given = record { refused = false; outcome = delivered }; is = sym (ap (encode_answer h (desk_after run h) run.setup false) e ∙ f (desk_after run h)) }
+
+  pub encode-on : (answer : CodeAnswer) (out2 : Option Out) → Encodes out answer out2 → Stands meaning stream run (h ++ record { step = encode; answer = answer_view answer } ∷ []) table desk out2
+  encode-on answer out2 t = by out refl t
+    where
+      idle : (o : Option Out) → out ≡ o → (p : Progress) → progress h ≡ p → ((d : Desk) → encode_answer h d run.setup false p ≡ runs.nothing) → IsIdle o answer out2 → Stands meaning stream run (h ++ record { step = encode; answer = answer_view answer } ∷ []) table desk out2
+      idle o e p q f i = nothing-on encode answer desk out2 (subst (λ b. IsIdle b answer out2) (sym e) i) refl refl (λ refused. refl) (idle-encode p q f)
+
+      staged : (o : Out) → out ≡ Some o → (s : Stage) → o.stage ≡ s → EncodesAt s o answer out2 → Stands meaning stream run (h ++ record { step = encode; answer = answer_view answer } ∷ []) table desk out2
+      staged o e to_encode s t = encodes-batch o e s answer out2 t
+      staged o e (to_send body) s t = let sh = out-shows o e in idle (Some o) e model.to_send (sym sh.stage ∙ ap progress_of s) (λ d. refl) t
+      staged o e (to_judge outcome) s t = let sh = out-shows o e in idle (Some o) e (model.to_judge outcome) (sym sh.stage ∙ ap progress_of s) (λ d. refl) t
+
+      by : (o : Option Out) → out ≡ o → Encodes o answer out2 → Stands meaning stream run (h ++ record { step = encode; answer = answer_view answer } ∷ []) table desk out2
+      by None e t = idle None e model.not_out (out-none e) (λ d. refl) t
+      by (Some o) e t = staged o e o.stage refl t
+
+  -- ---- attempts
+
+  sent-on : (now : ℕ) (o : Out) → out ≡ Some o → (body : List ℕ) → o.stage ≡ to_send body → (answer : CodeAnswer) (desk2 : Desk) (out2 : Option Out) (before after : Option (List Handed)) → SendsBody body o.batch answer desk desk2 out2 before after
+      → Stands meaning stream run (h ++ record { step = attempt now; answer = answer_view answer } ∷ []) table desk2 out2
+  sent-on now o e body s answer desk2 out2 before after t =
+      let told = outcome_view t.outcome in
+      let x : Answered = record { step = attempt now; answer = runs.sent o.batch.number 1 told } in
+      let same = ended-none run.setup h x refl in
+      let sh = out-shows o e in
+      let grown : desk_events run.setup (h ++ x ∷ []) ≡ events ++ queue.handed ∷ [] = events-same run.setup h x (Some queue.handed) same refl in
+      subst (λ a. Stands meaning stream run (h ++ record { step = attempt now; answer = answer_view a } ∷ []) table desk2 out2) (sym t.answered)
+      (stands-on meaning stream run h table desk out at x table desk2 out2 (Some queue.handed) (same-spans x refl) same (inl refl) refl (t.does 0 events at.history)
+      t.keeps.config t.keeps.next_ticket (t.keeps.closed ∙ at.closed ∙ sym (or-false (is_shut h))) no-more (subst (IsTied desk2) (sym t.out) t.with_exporter)
+      (ap shown t.out ∙ (λ i. out_as (sym (progress-some h x (model.to_judge told) refl) i) ((sh.spans ∙ sym (last-kept events queue.handed refl refl) ∙ ap last_spans (sym grown)) i)
+      ((sh.number ∙ sym (ap length (sizes-kept events queue.handed refl)) ∙ ap last_batch (sym grown)) i)))
+      (record {
+        given = record { refused = false; outcome = told };
+        is =
+            let n : o.batch.number ≡ (desk_after run h).batches = sh.number ∙ sym number-is ∙ ap (λ k. k.batches) (desk-is meaning stream run h table desk out at) in
+            ap (λ k. runs.sent k 1 told) n ∙ ap (attempt_answer (desk_after run h) told) (sym (sym sh.stage ∙ ap progress_of s));
+      }))
+
+  pub attempt-on : (now : ℕ) (answer : CodeAnswer) (desk2 : Desk) (out2 : Option Out) (before after : Option (List Handed)) → Sends out answer desk desk2 out2 before after
+      → Stands meaning stream run (h ++ record { step = attempt now; answer = answer_view answer } ∷ []) table desk2 out2
+  attempt-on now answer desk2 out2 before after t = by out refl t
+    where
+      idle : (o : Option Out) → out ≡ o → (p : Progress) → progress h ≡ p → ((d : Desk) → attempt_answer d delivered p ≡ runs.nothing) → SendsNone o answer desk desk2 out2 before after → Stands meaning stream run (h ++ record { step = attempt now; answer = answer_view answer } ∷ []) table desk2 out2
+      idle o e p q f i = nothing-on (attempt now) answer desk2 out2 (subst (λ b. IsIdle b answer out2) (sym e) i.idle) i.desk_same refl (λ refused. refl)
+          (record { given = record { refused = false; outcome = delivered }; is = sym (ap (attempt_answer (desk_after run h) delivered) q ∙ f (desk_after run h)) })
+
+      staged : (o : Out) → out ≡ Some o → (s : Stage) → o.stage ≡ s → SendsAt s o answer desk desk2 out2 before after → Stands meaning stream run (h ++ record { step = attempt now; answer = answer_view answer } ∷ []) table desk2 out2
+      staged o e to_encode s t = let sh = out-shows o e in idle (Some o) e model.to_encode (sym sh.stage ∙ ap progress_of s) (λ d. refl) t
+      staged o e (to_send body) s t = sent-on now o e body s answer desk2 out2 before after t
+      staged o e (to_judge outcome) s t = let sh = out-shows o e in idle (Some o) e (model.to_judge outcome) (sym sh.stage ∙ ap progress_of s) (λ d. refl) t
+
+      by : (o : Option Out) → out ≡ o → Sends o answer desk desk2 out2 before after → Stands meaning stream run (h ++ record { step = attempt now; answer = answer_view answer } ∷ []) table desk2 out2
+      by None e t = idle None e model.not_out (out-none e) (λ d. refl) t
+      by (Some o) e t = staged o e o.stage refl t
+
+  -- ---- replies
+
+  settled-on : (now word : ℕ) (o : Out) → out ≡ Some o → (outcome : retries.Outcome) → o.stage ≡ to_judge outcome → (answer : CodeAnswer) (desk2 : Desk) (out2 : Option Out) → Settles outcome o.batch answer desk desk2 out2
+      → Stands meaning stream run (h ++ record { step = reply now word; answer = answer_view answer } ∷ []) table desk2 out2
+  settled-on now word o e outcome s answer desk2 out2 t =
+      let x : Answered = record { step = reply now word; answer = runs.replied o.batch.number (next_view t.next) } in
+      let event : DeskEvent = queue.settled t.fate in
+      let same = ended-none run.setup h x refl in
+      let sh = out-shows o e in
+      let is_event : event_by (ended_by run.setup h) x.answer x.step ≡ Some event = ap (Rattle.std.specs.Prelude.option_map queue.settled) (ap fate_of t.decided ∙ t.ends) in
+      subst (λ a. Stands meaning stream run (h ++ record { step = reply now word; answer = answer_view a } ∷ []) table desk2 out2) (sym t.answered)
+      (stands-on meaning stream run h table desk out at x table desk2 out2 (Some event) (same-spans x refl) same (inl refl) is_event (t.does 0 events at.history)
+      t.keeps.config t.keeps.next_ticket (t.keeps.closed ∙ at.closed ∙ sym (or-false (is_shut h))) no-more (subst (IsTied desk2) (sym t.out) t.gone)
+      (ap shown t.out ∙ ap (λ p. out_as p (last_spans (desk_events run.setup (h ++ x ∷ []))) (last_batch (desk_events run.setup (h ++ x ∷ [])))) (sym (progress-some h x model.not_out refl)))
+      (record {
+        given = record { refused = false; outcome = delivered };
+        is =
+            let n : o.batch.number ≡ (desk_after run h).batches = sh.number ∙ sym number-is ∙ ap (λ k. k.batches) (desk-is meaning stream run h table desk out at) in
+            (λ i. runs.replied (n i) (t.decided i)) ∙ ap (reply_answer (desk_after run h)) (sym (sym sh.stage ∙ ap progress_of s));
+      }))
+
+  pub reply-on : (now word : ℕ) (answer : CodeAnswer) (desk2 : Desk) (out2 : Option Out) → Replies out answer desk desk2 out2
+      → Stands meaning stream run (h ++ record { step = reply now word; answer = answer_view answer } ∷ []) table desk2 out2
+  reply-on now word answer desk2 out2 t = by out refl t
+    where
+      idle : (o : Option Out) → out ≡ o → (p : Progress) → progress h ≡ p → ((d : Desk) → reply_answer d p ≡ runs.nothing) → SettlesNone o answer desk desk2 out2 → Stands meaning stream run (h ++ record { step = reply now word; answer = answer_view answer } ∷ []) table desk2 out2
+      idle o e p q f i = nothing-on (reply now word) answer desk2 out2 (subst (λ b. IsIdle b answer out2) (sym e) i.idle) i.desk_same refl (λ refused. refl)
+          (record { given = record { refused = false; outcome = delivered }; is = sym (ap (reply_answer (desk_after run h)) q ∙ f (desk_after run h)) })
+
+      staged : (o : Out) → out ≡ Some o → (s : Stage) → o.stage ≡ s → SettlesAt s o answer desk desk2 out2 → Stands meaning stream run (h ++ record { step = reply now word; answer = answer_view answer } ∷ []) table desk2 out2
+      staged o e to_encode s t = let sh = out-shows o e in idle (Some o) e model.to_encode (sym sh.stage ∙ ap progress_of s) (λ d. refl) t
+      staged o e (to_send body) s t = let sh = out-shows o e in idle (Some o) e model.to_send (sym sh.stage ∙ ap progress_of s) (λ d. refl) t
+      staged o e (to_judge outcome) s t = settled-on now word o e outcome s answer desk2 out2 t
+
+      by : (o : Option Out) → out ≡ o → Replies o answer desk desk2 out2 → Stands meaning stream run (h ++ record { step = reply now word; answer = answer_view answer } ∷ []) table desk2 out2
+      by None e t = idle None e model.not_out (out-none e) (λ d. refl) t
+      by (Some o) e t = staged o e o.stage refl t

@@ -1,0 +1,104 @@
+-- A whole run: where it stands behind its first steps, and behind all.
+use Rattle.std.proofs.Common.{◌≡◌, refl, sym, ap, subst, ◌∙◌, ℕ, zero, suc, ◌+◌, ◌^◌, ◌-◌, ◌<◌, ◌≤◌, arith, List, [], ◌∷◌, ◌++◌, length, take, map, append_assoc, Option, Some, None, slice_get, option_map, nat_lt, if◌then◌else◌, get_or}
+use Rattle.std.proofs.Math.Seq.{take-suc}
+use Rattle.std.specs.Option.{option_to_list}
+use Rattle.std.proofs.lemmas.List.{append-nil, map-append, length-take-le}
+use Rattle.std.proofs.lemmas.List.Elements.{filter_map-append}
+use Rattle.rand_core.specs.Stream.{Stream}
+use Rattle.span_model.specs.Sampling.{SamplerMeaning}
+use Rattle.desk_model.specs.Queue.{tickets}
+use Rattle.desk_model.specs.Desks.{Desk, IsDesk, desk_of, new_desk}
+use Rattle.desk_laws.specs.Queues.{EachTicketOnce}
+use Rattle.history_model.specs.History.{Setup}
+use Rattle.run_model.specs.Runs.{Answer, Answered, ended_by, desk_events}
+use Rattle.run_model.specs.Answers.{RunConfig, AreAnswers, desk_after}
+use Rattle.run_model.specs.Headline.{EachOnce, Attempt, attempt_by, attempts}
+use Rattle.span_exporter.specs.Handed.{Handed, Gains}
+use Rattle.span_table.specs.Table.{IsTable, TableWith}
+use Rattle.trace_history.specs.Answers.{answer_view, history_view}
+use Rattle.trace_history.specs.Steps.{step_view}
+use Rattle.trace_history.specs.declared.answer.Answer.{Answer as CodeAnswer}
+use Rattle.trace_history.specs.declared.step.Step.{Step as CodeStep}
+use Rattle.trace_run.specs.Out.{Out}
+use Rattle.trace_run.specs.State.{Stands, TellsAll, Tells, attempt_of}
+use Rattle.trace_run.proofs.Standing.{desk-is}
+
+-- ---- histories
+
+pub view-push : {A : Type 0} (steps : List (CodeStep A)) (answers : List CodeAnswer) (step : CodeStep A) (answer : CodeAnswer) → length answers ≡ length steps
+    → history_view (steps ++ step ∷ []) (answers ++ answer ∷ []) ≡ history_view steps answers ++ record { step = step_view step; answer = answer_view answer } ∷ []
+view-push [] [] step answer e = refl
+view-push [] (a ∷ answers) step answer e = absurd (omega (arith, e))
+view-push (s ∷ steps) [] step answer e = absurd (omega (arith, e))
+view-push (s ∷ steps) (a ∷ answers) step answer e = ap (λ l. record { step = step_view s; answer = answer_view a } ∷ l) (view-push steps answers step answer (omega (arith, e)))
+
+pub view-length : {A : Type 0} (steps : List (CodeStep A)) (answers : List CodeAnswer) → length answers ≡ length steps → length (history_view steps answers) ≡ length steps
+view-length [] [] e = refl
+view-length [] (a ∷ answers) e = refl
+view-length (s ∷ steps) [] e = absurd (omega (arith, e))
+view-length (s ∷ steps) (a ∷ answers) e = ap suc (view-length steps answers (omega (arith, e)))
+
+-- ---- what the exporter tells
+
+pub tells-none : (at : Option (List Handed)) → TellsAll [] at at
+tells-none at = record { more = []; gains = by at; are = refl }
+  where
+    by : (o : Option (List Handed)) → o ≡ option_map (λ had. had ++ []) o
+    by None = refl
+    by (Some had) = ap Some (sym (append-nil had))
+
+pub tells-more : (told more : List Attempt) (first second third : Option (List Handed)) → TellsAll told first second → TellsAll more second third → TellsAll (told ++ more) first third
+tells-more told more first second third a b = record {
+  more = a.more ++ b.more;
+  gains = b.gains ∙ ap (option_map (λ had. had ++ b.more)) a.gains ∙ by first;
+  are = map-append attempt_of a.more b.more ∙ (λ i. a.are i ++ b.are i);
+}
+  where
+    by : (o : Option (List Handed)) → option_map (λ had. had ++ b.more) (option_map (λ had. had ++ a.more) o) ≡ option_map (λ had. had ++ (a.more ++ b.more)) o
+    by None = refl
+    by (Some had) = ap Some (append_assoc had a.more b.more)
+
+one-of : {B : Type 0} (o : Option B) → Rattle.std.specs.List.cons_option o [] ≡ option_to_list o
+one-of None = refl
+one-of (Some x) = refl
+
+pub attempts-push : (h : List Answered) (x : Answered) → attempts (h ++ x ∷ []) ≡ attempts h ++ option_to_list (attempt_by x.answer)
+attempts-push h x = filter_map-append (λ y. attempt_by y.answer) h (x ∷ []) ∙ ap (λ l. attempts h ++ l) (one-of (attempt_by x.answer))
+
+-- ---- before the first step and behind the last one
+
+module _ {S R : Type 0} (meaning : S → SamplerMeaning) (stream : R → Stream) (run : RunConfig) where
+  pub stands-first : (table : TableWith S R) (desk : Desk) → IsTable meaning stream run.setup [] table → table.spans ≡ [] → desk ≡ new_desk run.desk 0 → IsDesk 0 [] desk → Stands meaning stream run [] table desk None
+  unfolding desk_events ended_by AreAnswers Rattle.run_model.specs.Answers.progress
+  stands-first table desk spans none is history = record {
+    spans = spans;
+    history = history;
+    config = ap (λ d. d.config) is;
+    tickets = ap (λ d. d.next_ticket) is;
+    below = tt;
+    bound = let z = ap (λ d. d.next_ticket) is in let y = ap length none in omega (arith, z, y);
+    closed = ap (λ d. d.closed) is;
+    tied = ap (λ d. d.out) is;
+    out_is = refl;
+    answers = tt;
+  }
+
+  pub each-once : (h : List Answered) (table : TableWith S R) (desk : Desk) (out : Option Out) → Stands meaning stream run h table desk out → EachTicketOnce → EachOnce run.setup h
+  unfolding desk_of
+  each-once h table desk out at law ticket =
+      law desk.config 0 (desk_events run.setup h) at.history.allowed ticket
+      ∙ ap (λ n. if nat_lt ticket n then 1 else 0) (sym (ap (λ d. d.next_ticket) at.history.is) ∙ at.tickets)
+
+-- ---- the first steps of a list
+
+pub behind-length : {A : Type 0} (steps : List (CodeStep A)) (answers : List CodeAnswer) (i : ℕ) → length answers ≡ i → i < length steps → length (history_view (take i steps) answers) ≡ i
+behind-length steps answers i e l =
+    let m : length (take i steps) ≡ i = length-take-le i steps (omega (arith, l)) in
+    view-length (take i steps) answers (e ∙ sym m) ∙ m
+
+pub behind-push : {A : Type 0} (steps : List (CodeStep A)) (answers : List CodeAnswer) (i : ℕ) (step : CodeStep A) (answer : CodeAnswer) → length answers ≡ i → i < length steps → step ≡ get_or steps i step
+    → history_view (take (i + 1) steps) (answers ++ answer ∷ []) ≡ history_view (take i steps) answers ++ record { step = step_view step; answer = answer_view answer } ∷ []
+behind-push steps answers i step answer e l s =
+    let m : length (take i steps) ≡ i = length-take-le i steps (omega (arith, l)) in
+    let next : take (i + 1) steps ≡ take i steps ++ step ∷ [] = ap (λ k. take k steps) (let one : i + 1 ≡ suc i = omega arith in one) ∙ take-suc steps i step l ∙ ap (λ y. take i steps ++ y ∷ []) (sym s) in
+    ap (λ xs. history_view xs (answers ++ answer ∷ [])) next ∙ view-push (take i steps) answers step answer (e ∙ sym m)

@@ -1,0 +1,57 @@
+-- Where a run stands behind some steps.
+use Rattle.std.specs.Prelude.{◌≡◌, ℕ, ◌+◌, ◌-◌, ◌^◌, ◌<◌, ◌≤◌, List, [], ◌∷◌, ◌++◌, length, map, Option}
+use Rattle.std.specs.Option.{option_to_list}
+use Rattle.std.specs.List.{list_any}
+use Rattle.rand_core.specs.Stream.{Stream}
+use Rattle.span_model.specs.Sampling.{SamplerMeaning}
+use Rattle.desk_model.specs.Desks.{Desk, IsDesk}
+use Rattle.history_model.specs.Steps.{is_shutdown}
+use Rattle.run_model.specs.Runs.{Answer, Answered, span_steps, ended_by, desk_events}
+use Rattle.run_model.specs.Answers.{RunConfig, AreAnswers}
+use Rattle.run_model.specs.Headline.{Attempt, attempt_by, attempts, out_after}
+use Rattle.run_model.proofs.More.{AreBelow}
+use Rattle.span_exporter.specs.Handed.{Handed, Gains}
+use Rattle.span_table.specs.Table.{IsTable, TableWith}
+use Rattle.trace_run.specs.Out.{Out, shown, IsTied}
+
+-- Behind these steps, the spans, the queue and the batch that is out are what the steps mean.
+pub record Stands {S R : Type 0} (meaning : S → SamplerMeaning) (stream : R → Stream)
+    (run : RunConfig) (h : List Answered) (table : TableWith S R) (desk : Desk)
+    (out : Option Out) : Type 0 where
+  pub spans : IsTable meaning stream run.setup (span_steps h) table
+  pub history : IsDesk 0 (desk_events run.setup h) desk
+  pub config : desk.config ≡ run.desk
+  pub tickets : desk.next_ticket ≡ length (ended_by run.setup h)
+  pub below : AreBelow (length (ended_by run.setup h)) h
+  pub bound : desk.next_ticket + length table.spans ≤ length h
+  pub closed : desk.closed ≡ list_any (λ x. is_shutdown x.step) h
+  pub tied : IsTied desk out
+  pub out_is : shown out ≡ out_after run.setup h
+  pub answers : AreAnswers run h
+
+-- One more step: whatever steps were before, it stands behind these and this one.
+abbrev pub GoesOn : {S R : Type 0} → (S → SamplerMeaning) → (R → Stream) → Answered
+    → TableWith S R → Desk → Option Out → TableWith S R → Desk → Option Out → Type 0
+GoesOn meaning stream x table desk out table2 desk2 out2 =
+    (run : RunConfig) (h : List Answered) → length h < 2 ^ 64 - 1
+    → Stands meaning stream run h table desk out
+    → Stands meaning stream run (h ++ x ∷ []) table2 desk2 out2
+
+-- ---- what the exporter tells
+
+abbrev pub attempt_of : Handed → Attempt
+attempt_of handed = record {
+  number = handed.number;
+  attempt = handed.attempt;
+  outcome = handed.outcome;
+}
+
+-- an exporter that tells has gained these attempts
+pub record TellsAll (told : List Attempt) (old new : Option (List Handed)) : Type 0 where
+  pub more : List Handed
+  pub gains : Gains more old new
+  pub are : map attempt_of more ≡ told
+
+-- the attempt that this answer speaks of, if it does
+abbrev pub Tells : Answer → Option (List Handed) → Option (List Handed) → Type 0
+Tells answer old new = TellsAll (option_to_list (attempt_by answer)) old new

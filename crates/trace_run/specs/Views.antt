@@ -1,0 +1,10 @@
+-- What the batch that is out is in contracts.
+use Rattle.retry_core.specs.Retries.{outcome_view}
+use Rattle.trace_run.specs.Out as model
+use Rattle.trace_run.specs.declared.sending.Stage.{Stage}
+use Rattle.trace_run.specs.declared.sending.Stage.TheVariants as stages
+
+abbrev pub stage_view : {A : Type 0} → Stage A → model.Stage
+stage_view stages.ToEncode = model.to_encode
+stage_view (stages.ToSend body) = model.to_send body.items
+stage_view (stages.ToJudge outcome) = model.to_judge (outcome_view outcome)

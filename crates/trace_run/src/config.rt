@@ -1,0 +1,23 @@
+//! What a run begins with.
+use batch_desk::DeskConfig;
+use otlp_sampler::Sampler;
+use otlp_span::{Resource, Scope, SpanLimits};
+use rand_core::Rng;
+use std::alloc::{Allocator, Global};
+
+/// What a run has before its first step (Trace SDK, "Tracer Provider", "Batching processor").
+#[derive(Drop)]
+pub struct RunConfig<S: Sampler, R: Rng, A: Allocator = Global> {
+    /// What decides on the spans.
+    pub sampler: S,
+    /// How much they keep.
+    pub limits: SpanLimits,
+    /// What makes them.
+    pub resource: Resource<A>,
+    /// The scopes whose tracers start them, numbered from 0 on: at most one, until grouping comes.
+    pub scopes: Vec<Scope<A>, A>,
+    /// How much the queue and a batch hold, and the delay. It is one that `Desk::new` takes.
+    pub desk: DeskConfig,
+    /// Where identifiers are drawn from.
+    pub rng: R,
+}

@@ -1,0 +1,14 @@
+//! Runs: a program's steps, from the start of a span to what came of its batch, over a queue and an
+//! exporter (OpenTelemetry Trace API; Trace SDK, "Batching processor").
+#![tactic(auto)]
+
+mod config;
+mod queue;
+mod report;
+mod running;
+mod sending;
+mod whole;
+
+pub use config::RunConfig;
+pub use report::RunReport;
+pub use whole::run;

@@ -1,0 +1,76 @@
+//! What a run leaves.
+ghost use Rattle.std.specs.Prelude.{◌≡◌, option_map};
+ghost use Rattle.trace_run.specs.Report.{after_close};
+
+use crate::sending::{OutBatch, Stage};
+use batch_desk::{Batch, Desk, Fate};
+use otlp_span::Reason;
+use std::alloc::{Allocator, Global};
+use std::marker::Model;
+use trace_history::Answer;
+
+/// What a run leaves: its answers, its queue with the ledger, and the batch that is out, if one is.
+/// It isn't let go: `close` ends that batch.
+#[derive_where(Debug)]
+pub struct RunReport<A: Allocator = Global> {
+    pub(crate) answers: Vec<Answer, A>,
+    pub(crate) desk: Desk<A>,
+    pub(crate) out: Option<OutBatch<A>>,
+}
+
+impl<A: Allocator> Model for RunReport<A> {
+    ghost use Rattle.trace_run.specs.Report.{Report};
+
+    ghost Value = { Report };
+
+    ghost view = { λ r. record { answers = r.answers.items; desk = r.desk; out = r.out } };
+
+    ghost use Rattle.trace_run.specs.Out.{IsTied};
+
+    ghost invariant = { λ r. IsTied r.desk r.out };
+}
+
+impl<A: Allocator> RunReport<A> {
+    /// The answer to each step, in order.
+    pub fn answers(&self) -> &[Answer]
+        ensures { result.now ≡ self.now.answers }
+    {
+        self.answers.as_slice()
+    }
+
+    /// The queue, with the ledger of dropped spans and the counts.
+    pub fn desk(&self) -> &Desk<A>
+        ensures { result.now ≡ self.now.desk }
+    {
+        &self.desk
+    }
+
+    /// The batch that is out, if one is. Whether it was handed to the exporter, `Desk::out` tells.
+    pub fn out(&self) -> Option<&Batch<A>>
+        ensures { option_map (λ batch. batch.now) result ≡ option_map (λ o. o.batch) self.now.out }
+    {
+        self.out.as_ref().map(|out| &out.batch)
+    }
+
+    /// Ends the batch that is out, if one is, since nobody hands it on any more: it is settled as
+    /// `Abandoned` where it was handed to the exporter, and else dropped, and the ledger names its
+    /// spans as `Abandoned`. Nothing else changes. (profile)
+    pub fn close(self) -> Desk<A>
+        ensures { result ≡ after_close self }
+    {
+        let RunReport {
+            answers: _,
+            mut desk,
+            out,
+        } = self;
+        let Some(out) = out else {
+            return desk;
+        };
+        let OutBatch { batch, stage } = out;
+        match stage {
+            Stage::ToJudge(_) => desk.settle(batch, Fate::Abandoned),
+            _ => desk.drop_batch(batch, Reason::Abandoned),
+        }
+        desk
+    }
+}

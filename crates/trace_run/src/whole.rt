@@ -1,0 +1,104 @@
+//! Runs of whole programs.
+ghost use Rattle.std.specs.Prelude.{◌≡◌, ◌≤◌, IfOk, OnErr, length, map};
+ghost use Rattle.span_ring.specs.SpanRing.{IsRingSize};
+ghost use Rattle.run_model.specs.Answers.{AreAnswers, desk_after};
+ghost use Rattle.run_model.specs.Headline.{EachOnce, attempts, out_after};
+ghost use Rattle.trace_history.specs.Answers.{history_view};
+ghost use Rattle.trace_run.specs.Out.{shown};
+ghost use Rattle.trace_run.specs.Run.{run_config};
+ghost use Rattle.trace_run.specs.State.{TellsAll};
+
+use crate::config::RunConfig;
+use crate::queue::SpanQueue;
+use crate::report::RunReport;
+use crate::running::Running;
+use crate::sending::OutBatch;
+use batch_desk::Desk;
+use desk_laws::no_ticket_is_lost;
+use otlp_ids::OutOfMemory;
+use otlp_sampler::Sampler;
+use rand_core::Rng;
+use span_exporter::Exporter;
+use span_table::SpanTable;
+use std::alloc::Allocator;
+use std::sync::Arc;
+use trace_api::Provider;
+use trace_history::Step;
+
+/// Takes the steps of a program in order, over a queue that is made at moment 0, and hands the
+/// batches to the exporter (Trace API; Trace SDK, "Batching processor"). Each step has an answer.
+/// Each sampled span that ends before the shutdown is waiting, or in the batch that is out, or was
+/// handed to the exporter, or is named by the ledger as dropped: once, and as its calls made it.
+///
+/// The scopes of `config` are at most one, and its desk is of sizes that `Desk::new` takes.
+///
+/// # Errors
+///
+/// `OutOfMemory` where there is no room for the answers, the spans or the queue. Nothing was done
+/// then. Memory that is refused later is the answer to its step alone.
+pub fn run<S: Sampler + Drop, R: Rng + Drop, E: Exporter, A: Allocator + Copy>(
+    alloc: A,
+    config: RunConfig<S, R, A>,
+    steps: &[Step<A>],
+    exporter: &mut E,
+) -> Result<RunReport<A>, OutOfMemory>
+    requires sizes { IsRingSize config.desk.queue config.desk.batch }
+    requires one_scope { length config.scopes.items ≤ 1 }
+
+    // Each step is answered, as the steps before it and the exporter decide.
+    ensures count { IfOk result (λ report. length report.answers ≡ length steps.now) }
+    ensures answered { let run = run_config S.meaning R.stream config in
+        IfOk result (λ report. AreAnswers run (history_view steps.now report.answers)) }
+
+    // No span is unaccounted for.
+    ensures each_once { let run = run_config S.meaning R.stream config in
+        IfOk result (λ report. EachOnce run.setup (history_view steps.now report.answers)) }
+
+    // The queue, its ledger and the batch that is out have the spans that the steps mean.
+    ensures desk { let run = run_config S.meaning R.stream config in
+        IfOk result (λ report.
+        report.desk ≡ desk_after run (history_view steps.now report.answers)) }
+    ensures out { let run = run_config S.meaning R.stream config in
+        IfOk result (λ report.
+        shown report.out ≡ out_after run.setup (history_view steps.now report.answers)) }
+
+    // An exporter that tells was handed the attempts that the answers speak of.
+    ensures handed { IfOk result (λ report.
+        TellsAll (attempts (history_view steps.now report.answers))
+        (E.handed exporter.old) (E.handed exporter.new)) }
+
+    // Refused, nothing was done.
+    ensures refused { OnErr result (exporter.new ≡ exporter.old) }
+{
+    let RunConfig {
+        sampler,
+        limits,
+        resource,
+        scopes,
+        desk,
+        rng,
+    } = config;
+    let mut answers = Vec::with_capacity(alloc, steps.len())?;
+    let resource = Arc::new(alloc, resource)?;
+    let provider = Provider::new(sampler, resource, limits);
+    let table = SpanTable::new(alloc, &provider, scopes, rng, steps.len())?;
+    let Ok(desk) = Desk::new(alloc, desk, 0) else {
+        return Err(OutOfMemory);
+    };
+    let queue = SpanQueue { desk };
+    let mut running = Running {
+        alloc,
+        table,
+        queue,
+    };
+    let mut out: Option<OutBatch<A>> = None;
+    for step in steps {
+        let (answer, later) = running.take_step(out, step, exporter);
+        out = later;
+        answers.push_reserved(answer);
+    }
+    no_ticket_is_lost();
+    let Running { queue, .. } = running;
+    let SpanQueue { desk } = queue;
+    Ok(RunReport { answers, desk, out })
+}
