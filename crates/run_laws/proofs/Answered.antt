@@ -13,7 +13,7 @@ use Rattle.history_model.specs.Steps.{Step}
 use Rattle.history_model.specs.History.{Setup}
 use Rattle.run_model.specs.Runs.{Ended, queued, late, not_sampled, already_ended, Answer, started, no_randomness, no_span, out_of_memory, done, ended, taken, not_taken, encoded, sent, replied, nothing, Answered}
 use Rattle.run_model.specs.Answers.{RunConfig, Given, Progress, not_out, to_encode, to_send, to_judge, span_at, calls_so_far, takes_memory, is_live, start_answer, end_answer, call_answer, take_answer, encode_answer, attempt_answer, reply_answer, desk_after, answer_to, progress, IsAnswer}
-use Rattle.run_laws.specs.Laws.{is_first_end, was_shut, is_full, says_late, says_full, says_queued, may_take, says_taken, says_sent, LateBehindShutdown, DroppedWhereFull, QueuedWhereRoom, TakenWhereDue, TakesTheFirst}
+use Rattle.run_laws.specs.Laws.{is_first_end, was_shut, is_full, says_late, says_full, says_queued, may_take, says_taken, says_sent, LateBehindShutdown, DroppedWhereFull, QueuedWhereRoom, TakenWhereDue, TakesTheFirst, OfRuns}
 use Rattle.run_laws.proofs.Histories.{answer-at}
 
 -- ---- a test that fails at every answer but ends, takes, encodings and attempts
@@ -180,17 +180,17 @@ and-three : (a b c : Bool) → (a && (b && c)) ≡ (a && b && c)
 and-three true b c = refl
 and-three false b c = refl
 
-pub late-behind-shutdown : LateBehindShutdown
-late-behind-shutdown run before later x w = ends-are says_late (λ shut full. shut) tells-late run before x (answer-at run before later x w)
+pub late-behind-shutdown : OfRuns LateBehindShutdown
+late-behind-shutdown run h w before later x e = ends-are says_late (λ shut full. shut) tells-late run before x (answer-at run h w before later x e)
 
-pub dropped-where-full : DroppedWhereFull
-dropped-where-full run before later x w =
-    ends-are says_full (λ shut full. not shut && full) tells-full run before x (answer-at run before later x w)
+pub dropped-where-full : OfRuns DroppedWhereFull
+dropped-where-full run h w before later x e =
+    ends-are says_full (λ shut full. not shut && full) tells-full run before x (answer-at run h w before later x e)
     ∙ and-three (is_first_end run before x.step) (not (was_shut before)) (is_full run before)
 
-pub queued-where-room : QueuedWhereRoom
-queued-where-room run before later x w =
-    ends-are says_queued (λ shut full. not shut && not full) tells-queued run before x (answer-at run before later x w)
+pub queued-where-room : OfRuns QueuedWhereRoom
+queued-where-room run h w before later x e =
+    ends-are says_queued (λ shut full. not shut && not full) tells-queued run before x (answer-at run h w before later x e)
     ∙ and-three (is_first_end run before x.step) (not (was_shut before)) (not (is_full run before))
 
 -- ---- takes
@@ -212,8 +212,8 @@ take-told run before given Step.encode = quiet-encode says_taken quiet-taken (λ
 take-told run before given (Step.attempt now) = quiet-attempt says_taken quiet-taken (λ n a o. refl) (desk_after run before) given.outcome (progress before)
 take-told run before given (Step.reply now word) = quiet-reply says_taken quiet-taken (desk_after run before) (progress before)
 
-pub taken-where-due : TakenWhereDue
-taken-where-due run before later x w = let i = answer-at run before later x w in ap says_taken i.is ∙ take-told run before i.given x.step
+pub taken-where-due : OfRuns TakenWhereDue
+taken-where-due run h w before later x e = let i = answer-at run h w before later x e in ap says_taken i.is ∙ take-told run before i.given x.step
 
 same-config : (run : RunConfig) (before : List Answered) → (desk_after run before).config ≡ run.desk
 unfolding desk_after desk_of
@@ -237,10 +237,10 @@ first-taken run before given number size Step.encode k m = absurd (true≢false 
 first-taken run before given number size (Step.attempt now) k m = absurd (true≢false m)
 first-taken run before given number size (Step.reply now word) k m = absurd (true≢false m)
 
-pub takes-the-first : TakesTheFirst
-takes-the-first run before later x w number size e =
-    let i = answer-at run before later x w in
-    first-taken run before i.given number size x.step (sym e ∙ i.is) (ap says_taken (sym e ∙ i.is) ∙ take-told run before i.given x.step)
+pub takes-the-first : OfRuns TakesTheFirst
+takes-the-first run h w before later x e number size k =
+    let i = answer-at run h w before later x e in
+    first-taken run before i.given number size x.step (sym k ∙ i.is) (ap says_taken (sym k ∙ i.is) ∙ take-told run before i.given x.step)
 
 -- ---- encodings and attempts
 

@@ -1,5 +1,5 @@
 -- At most one batch is out.
-use Rattle.std.proofs.Common.{◌≡◌, refl, sym, ap, ◌∙◌, ℕ, List, [], ◌∷◌, ◌++◌, append_assoc, Bool, true, false, true≢false, ◌&&◌, ◌||◌, Option, Some, None, filter_map}
+use Rattle.std.proofs.Common.{◌≡◌, refl, sym, ap, subst, ◌∙◌, ℕ, List, [], ◌∷◌, ◌++◌, append_assoc, Bool, true, false, true≢false, ◌&&◌, ◌||◌, Option, Some, None, filter_map}
 use Rattle.std.specs.Prelude.{is_none}
 use Rattle.std.specs.List.{list_any, cons_option}
 use Rattle.std.proofs.lemmas.List.{append-nil}
@@ -12,7 +12,7 @@ use Rattle.history_model.specs.Steps.{Step}
 use Rattle.run_model.specs.Runs.{Answer, started, no_randomness, no_span, out_of_memory, done, ended, taken, not_taken, encoded, sent, replied, nothing, Answered, desk_events}
 use Rattle.run_model.specs.Answers.{RunConfig, Progress, not_out, to_encode, to_send, to_judge, progress_by, progress, desk_after, IsAnswer, AreAnswersBehind, AreAnswers}
 use Rattle.run_model.proofs.More.{progress-none, progress-some}
-use Rattle.run_laws.specs.Laws.{may_take, says_taken, says_replied, says_sent, OneBatchIsOut, OneAttemptEach}
+use Rattle.run_laws.specs.Laws.{may_take, says_taken, says_replied, says_sent, OfRuns, OneBatchIsOut, OneAttemptEach}
 use Rattle.run_laws.proofs.Histories.{front, behind, answer-at}
 use Rattle.run_laws.proofs.Answered.{taken-where-due, is_done, says_encoded, none-encoded, none-sent}
 use Rattle.run_laws.proofs.Accounts.{Account, stage_of}
@@ -116,16 +116,16 @@ not-out : (run : RunConfig) (h : List Answered) → Account run h → is_none (d
 unfolding desk_after desk_of
 not-out run h a e = stage-none (progress h) (last_batch (desk_events run.setup h)) (last_size (desk_events run.setup h)) (ap (λ s. is_none (out_as s (last_batch (desk_events run.setup h)) (last_size (desk_events run.setup h)))) (sym a.stands) ∙ e)
 
-pub one-batch-is-out : OneBatchIsOut
-one-batch-is-out run before between later x y w t u = by (list_any (λ z. says_replied z.answer) between) refl
+pub one-batch-is-out : OfRuns (λ run. OneBatchIsOut)
+one-batch-is-out run h all before between later x y e t u = by (list_any (λ z. says_replied z.answer) between) refl
   where
     by : (b : Bool) → list_any (λ z. says_replied z.answer) between ≡ b → b ≡ true
-    by true e = refl
-    by false e =
-        let may : may_take run (before ++ x ∷ between) y.step ≡ true = sym (taken-where-due run (before ++ x ∷ between) later y w) ∙ u in
-        let a : Account run (before ++ x ∷ between) = account run (before ++ x ∷ between) (front run (before ++ x ∷ between) (y ∷ later) w) in
+    by true k = refl
+    by false k =
+        let may : may_take run (before ++ x ∷ between) y.step ≡ true = sym (taken-where-due run h all (before ++ x ∷ between) later y e) ∙ u in
+        let a : Account run (before ++ x ∷ between) = account run (before ++ x ∷ between) (front run (before ++ x ∷ between) (y ∷ later) (subst (AreAnswers run) (sym e) all)) in
         let none : is_out (progress (before ++ x ∷ between)) ≡ false = not-out run (before ++ x ∷ between) a (none-out run (before ++ x ∷ between) y.step may) in
-        absurd (true≢false (sym (taken-out before between x (says-taken x.answer t) e) ∙ none))
+        absurd (true≢false (sym (taken-out before between x (says-taken x.answer t) k) ∙ none))
 
 -- ---- one attempt each
 
@@ -177,18 +177,18 @@ says-sent Answer.shutdown e = absurd (true≢false (sym e))
 says-sent not_taken e = absurd (true≢false (sym e))
 says-sent nothing e = absurd (true≢false (sym e))
 
-pub one-attempt-each : OneAttemptEach
-one-attempt-each run before between later x y w t u = by (list_any (λ z. says_taken z.answer) between) refl
+pub one-attempt-each : OfRuns (λ run. OneAttemptEach)
+one-attempt-each run h right before between later x y e t u = by (list_any (λ z. says_taken z.answer) between) refl
   where
     same : before ++ x ∷ between ≡ (before ++ x ∷ []) ++ between
     same = sym (append_assoc before (x ∷ []) between)
 
     by : (b : Bool) → list_any (λ z. says_taken z.answer) between ≡ b → b ≡ true
-    by true e = refl
-    by false e =
+    by true k = refl
+    by false k =
         let told = says-sent x.answer t in
         let first : is_done (progress (before ++ x ∷ [])) ≡ true = ap is_done (progress-some before x (to_judge told.0) told.1) in
-        let all : AreAnswers run ((before ++ x ∷ []) ++ between) = rw same at (front run (before ++ x ∷ between) (y ∷ later) w) in
-        let still : is_done (progress ((before ++ x ∷ []) ++ between)) ≡ true = stays-done run (before ++ x ∷ []) between first e (behind run (before ++ x ∷ []) between all) in
-        let i = answer-at run (before ++ x ∷ between) later y w in
+        let all : AreAnswers run ((before ++ x ∷ []) ++ between) = rw same at (front run (before ++ x ∷ between) (y ∷ later) (subst (AreAnswers run) (sym e) right)) in
+        let still : is_done (progress ((before ++ x ∷ []) ++ between)) ≡ true = stays-done run (before ++ x ∷ []) between first k (behind run (before ++ x ∷ []) between all) in
+        let i = answer-at run h right (before ++ x ∷ between) later y e in
         absurd (true≢false (sym u ∙ ap says_sent i.is ∙ none-sent run (before ++ x ∷ between) i.given y.step (ap (λ l. is_done (progress l)) same ∙ still)))

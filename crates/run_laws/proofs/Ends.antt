@@ -14,7 +14,7 @@ use Rattle.history_model.proofs.Histories.{outcomes-many, ended-start, ended-no-
 use Rattle.run_model.specs.Runs.{Answer, Answered, is_refused, span_steps, ended_by}
 use Rattle.run_model.specs.Answers.{span_at, calls_so_far}
 use Rattle.run_model.proofs.More.{is_shut, ended-open, ended-shut, ended-none, ended-some}
-use Rattle.run_laws.specs.Laws.{EndedSpansStay, EndedAreFew}
+use Rattle.run_laws.specs.Laws.{OfHistories, EndedSpansStay, EndedAreFew}
 
 abbrev pub told : Step → Answer → Answered
 told step answer = record { step = step; answer = answer }
@@ -146,7 +146,7 @@ one-more setup h Step.encode answer = same-ended setup h Step.encode answer (end
 one-more setup h (Step.attempt now) answer = same-ended setup h (Step.attempt now) answer (ended-none setup h (told (Step.attempt now) answer) refl)
 one-more setup h (Step.reply now word) answer = same-ended setup h (Step.reply now word) answer (ended-none setup h (told (Step.reply now word) answer) refl)
 
-pub ended-stay : EndedSpansStay
+pub ended-stay : OfHistories EndedSpansStay
 ended-stay setup h [] = ([], ap (ended_by setup) (append-nil h) ∙ sym (append-nil (ended_by setup h)))
 ended-stay setup h (x ∷ more) =
     let first : OneMore setup h x.step x.answer = one-more setup h x.step x.answer in
@@ -196,5 +196,5 @@ none-ended : (setup : Setup) → length (ended_by setup []) ≤ 0
 unfolding ended_by
 none-ended setup = omega arith
 
-pub ended-are-few : EndedAreFew
+pub ended-are-few : OfHistories EndedAreFew
 ended-are-few setup h = few-behind setup [] h (none-ended setup)

@@ -1,5 +1,5 @@
 -- Right histories, step by step.
-use Rattle.std.proofs.Common.{sym, subst, List, [], ◌∷◌, ◌++◌, append_assoc}
+use Rattle.std.proofs.Common.{◌≡◌, sym, subst, List, [], ◌∷◌, ◌++◌, append_assoc}
 use Rattle.std.proofs.lemmas.List.{append-nil}
 use Rattle.run_model.specs.Runs.{Answered}
 use Rattle.run_model.specs.Answers.{RunConfig, IsAnswer, AreAnswersBehind, AreAnswers}
@@ -37,6 +37,6 @@ answer-behind run first [] later x w = subst (λ b. IsAnswer run b x) (sym (appe
 answer-behind run first (y ∷ before) later x w = subst (λ b. IsAnswer run b x) (append_assoc first (y ∷ []) before) (answer-behind run (first ++ y ∷ []) before later x w.1)
 
 -- each step is, behind those before it
-pub answer-at : (run : RunConfig) (before later : List Answered) (x : Answered) → AreAnswers run (before ++ x ∷ later) → IsAnswer run before x
+pub answer-at : (run : RunConfig) (h : List Answered) → AreAnswers run h → (before later : List Answered) (x : Answered) → before ++ x ∷ later ≡ h → IsAnswer run before x
 unfolding AreAnswers
-answer-at run before later x w = answer-behind run [] before later x w
+answer-at run h w before later x e = answer-behind run [] before later x (subst (AreAnswers run) (sym e) w)

@@ -13,14 +13,15 @@ use Rattle.desk_model.specs.Queue as desk
 use Rattle.desk_model.specs.Desks.{Desk, out_as, is_due, is_in_hand, is_with_exporter, desk_of, AreAllowed}
 use Rattle.desk_model.proofs.Lists.{get-at}
 use Rattle.desk_model.proofs.Steps.{stage-kept, stage-told}
-use Rattle.desk_laws.specs.Queues.{times, places}
+use Rattle.desk_laws.specs.Queues.{times}
 use Rattle.desk_laws.proofs.Counts.{queue-bounded}
 use Rattle.desk_laws.proofs.Tickets.{in-places, each-once}
 use Rattle.history_model.specs.Steps.{Step, Parent, is_shutdown}
 use Rattle.run_model.specs.Runs.{Ended, queued, late, not_sampled, already_ended, Answer, started, no_randomness, no_span, out_of_memory, done, ended, taken, not_taken, sent, replied, nothing, Answered, ended_by, event_by, desk_events}
 use Rattle.run_model.specs.Answers.{RunConfig, Given, Progress, not_out, to_encode, to_send, to_judge, progress_by, progress, span_at, calls_so_far, takes_memory, is_live, start_answer, end_answer, call_answer, take_answer, encode_answer, attempt_answer, reply_answer, desk_after, answer_to, IsAnswer, AreAnswers}
 use Rattle.run_model.proofs.More.{is_shut, ended-shut, ended-none, IsBelow, progress-none, progress-some}
-use Rattle.run_laws.specs.Laws.{HandedAreNotDropped, TakenBehindShutdown, was_shut, may_take, EventsAreAllowed, NoneUnaccountedFor}
+use Rattle.run_model.specs.Headline.{EachOnce}
+use Rattle.run_laws.specs.Laws.{OfHistories, OfRuns, HandedAreNotDropped, TakenBehindShutdown, was_shut, may_take, EventsAreAllowed, NoneUnaccountedFor}
 use Rattle.run_laws.proofs.Histories.{by-steps, front}
 use Rattle.run_laws.proofs.Answered.{taken-where-due}
 use Rattle.run_laws.proofs.Ends.{told, start-ends-none, missing-ends-none, later-ends-none, unsampled-ends-none, exported_next, first-end-ends}
@@ -230,23 +231,21 @@ account-none run = record { below = tt; given = refl; stands = refl; shut = refl
 pub account : (run : RunConfig) (h : List Answered) → AreAnswers run h → Account run h
 account run h w = by-steps run (Account run) (account-step run) h (account-none run) w
 
-pub events-are-allowed : EventsAreAllowed
+pub events-are-allowed : OfRuns EventsAreAllowed
 events-are-allowed run h w l = (account run h w).allowed l
 
-pub none-unaccounted-for : NoneUnaccountedFor
+pub none-unaccounted-for : OfRuns NoneUnaccountedFor
 none-unaccounted-for run h w l ticket =
     let a : Account run h = account run h w in
     each-once run.desk 0 (desk_events run.setup h) (a.allowed l) ticket ∙ ap (λ (n : ℕ). if nat_lt ticket n then 1 else 0) a.given
 
-pub handed-are-not-dropped : HandedAreNotDropped
-handed-are-not-dropped run h w l ticket =
-    let events : List DeskEvent = desk_events run.setup h in
-    let once : times ticket (places events) ≡ (if nat_lt ticket (length (ended_by run.setup h)) then 1 else 0) = none-unaccounted-for run h w l ticket in
-    let sum = in-places (λ t. t == ticket) events in
-    by (nat_lt ticket (length (ended_by run.setup h))) (sym sum ∙ once)
+pub handed-are-not-dropped : OfHistories (λ setup h. EachOnce setup h → HandedAreNotDropped setup h)
+handed-are-not-dropped setup h once ticket =
+    let sum = in-places (λ t. t == ticket) (desk_events setup h) in
+    by (nat_lt ticket (length (ended_by setup h))) (sym sum ∙ once ticket)
   where
-    by : (b : Bool) → times ticket (map (λ s. s.ticket) (waiting_spans (desk_events run.setup h))) + times ticket (map (λ s. s.ticket) (in_hand_spans (desk_events run.setup h))) + times ticket (map (λ s. s.ticket) (handed_spans (desk_events run.setup h))) + times ticket (map (λ e. e.ticket) (drops (desk_events run.setup h))) ≡ (if b then 1 else 0)
-        → times ticket (map (λ s. s.ticket) (handed_spans (desk_events run.setup h))) + times ticket (map (λ e. e.ticket) (drops (desk_events run.setup h))) ≤ 1
+    by : (b : Bool) → times ticket (map (λ s. s.ticket) (waiting_spans (desk_events setup h))) + times ticket (map (λ s. s.ticket) (in_hand_spans (desk_events setup h))) + times ticket (map (λ s. s.ticket) (handed_spans (desk_events setup h))) + times ticket (map (λ e. e.ticket) (drops (desk_events setup h))) ≡ (if b then 1 else 0)
+        → times ticket (map (λ s. s.ticket) (handed_spans (desk_events setup h))) + times ticket (map (λ e. e.ticket) (drops (desk_events setup h))) ≤ 1
     by true e = omega (arith, e)
     by false e = omega (arith, e)
 
@@ -262,10 +261,10 @@ due-closed true false c d true k = refl
 due-closed true false c d false k = rw k refl
 due-closed false b c d e k = refl
 
-pub taken-behind-shutdown : TakenBehindShutdown
-taken-behind-shutdown run before later x w now shut e =
-    taken-where-due run before later x w ∙ ap (may_take run before) e
+pub taken-behind-shutdown : OfRuns TakenBehindShutdown
+taken-behind-shutdown run h w before later x e now shut k =
+    taken-where-due run h w before later x e ∙ ap (may_take run before) k
     ∙ ap (λ b. b && is_none (desk_after run before).out)
     (due-closed (nat_lt 0 (length (desk_after run before).waiting)) (nat_le (desk_after run before).config.batch (length (desk_after run before).waiting)) (desk_after run before).closed
     (nat_le ((desk_after run before).last_moment + (desk_after run before).config.delay_ms * 10 ^ 6) now) (nat_lt (desk_after run before).taken (desk_after run before).asked)
-    (closed-after run before (front run before (x ∷ later) w) shut))
+    (closed-after run before (front run before (x ∷ later) (subst (AreAnswers run) (sym e) w)) shut))

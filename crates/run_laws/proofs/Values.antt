@@ -13,9 +13,9 @@ use Rattle.desk_laws.proofs.Ledgers.{ledger-names}
 use Rattle.history_model.specs.Steps.{Step, is_shutdown}
 use Rattle.history_model.specs.History.{Setup, span_step, with_tickets, ended_spans, granted_steps}
 use Rattle.run_model.specs.Runs.{Ended, queued, handed, late, not_sampled, already_ended, Answer, started, no_randomness, no_span, out_of_memory, done, ended, taken, not_taken, encoded, sent, replied, nothing, Answered, is_refused, span_steps, before_shutdown, ended_by, event_by, events_among, desk_events}
-use Rattle.run_model.specs.Answers.{desk_after}
+use Rattle.run_model.specs.Answers.{RunConfig, desk_after}
 use Rattle.desk_model.specs.Retries.{Fate, fate_of}
-use Rattle.run_laws.specs.Laws.{IsEndedSpan, NamesEndedSpan, WaitingAreEnded, BatchesAreEnded, DropsNameEnded, EndedByTheSteps, LedgerNamesTheDropped}
+use Rattle.run_laws.specs.Laws.{OfHistories, IsEndedSpan, NamesEndedSpan, WaitingAreEnded, BatchesAreEnded, DropsNameEnded, EndedByTheSteps, LedgerNamesTheDropped}
 
 -- ---- lists of which all have a property
 
@@ -163,13 +163,13 @@ run-has : (setup : Setup) (h : List Answered) → AllByRecursion (Has (IsEndedSp
 unfolding desk_events
 run-has setup h = events-one (ended_by setup h) (ended-placed setup h) h
 
-pub waiting-are-ended : WaitingAreEnded
+pub waiting-are-ended : OfHistories WaitingAreEnded
 waiting-are-ended setup h = waiting-have (IsEndedSpan setup h) (desk_events setup h) (run-has setup h)
 
-pub batches-are-ended : BatchesAreEnded
+pub batches-are-ended : OfHistories BatchesAreEnded
 batches-are-ended setup h number = batch-has (IsEndedSpan setup h) (desk_events setup h) number (run-has setup h)
 
-pub drops-name-ended : DropsNameEnded
+pub drops-name-ended : OfHistories DropsNameEnded
 drops-name-ended setup h = gather-names (IsEndedSpan setup h) (NamesEndedSpan setup h) (λ r s e. (s, e, refl)) [] (desk_events setup h) tt (run-has setup h)
 
 -- ---- the ledger
@@ -222,7 +222,7 @@ events-pop-none spans (x ∷ h) = by (event_by spans x.answer x.step) (event-of 
     by None p rest = rest
     by (Some y) p rest = rw (p, rest) refl
 
-pub ledger-names-the-dropped : LedgerNamesTheDropped
+pub ledger-names-the-dropped : (run : RunConfig) (h : List Answered) → LedgerNamesTheDropped run h
 unfolding desk_after desk_of desk_events
 ledger-names-the-dropped run h = ledger-names (events_among (ended_by run.setup h) h) (events-pop-none (ended_by run.setup h) h)
 
@@ -241,6 +241,6 @@ granted (x ∷ h) e =
     by true false q rest k = refl
     by false false q rest k = (λ i. cons_option (span_step (q i) x.step) (rest k i))
 
-pub ended-by-the-steps : EndedByTheSteps
+pub ended-by-the-steps : OfHistories EndedByTheSteps
 unfolding ended_by
 ended-by-the-steps setup h e = ap (ended_spans setup) (granted h e)

@@ -16,11 +16,20 @@ use Rattle.run_model.specs.Runs as runs
 use Rattle.run_model.specs.Answers.{RunConfig, span_at, calls_so_far, desk_after, AreAnswers}
 use Rattle.run_model.specs.Headline.{EachOnce}
 
--- whatever run, and whatever step of it, behind those before it
-abbrev pub OfEachStep : (RunConfig → List Answered → Answered → Type 0) → Type 0
-OfEachStep holds =
-    (run : RunConfig) (before later : List Answered) (x : Answered)
-    → AreAnswers run (before ++ x ∷ later) → holds run before x
+-- whatever is done, and whatever of it ends
+abbrev pub OfHistories : (Setup → List Answered → Type 0) → Type 0
+OfHistories holds = (setup : Setup) (history : List Answered) → holds setup history
+
+-- where each answer is right
+abbrev pub OfRuns : (RunConfig → List Answered → Type 0) → Type 0
+OfRuns holds =
+    (run : RunConfig) (history : List Answered) → AreAnswers run history → holds run history
+
+-- whatever step of a history, behind those before it
+abbrev pub AtEachStep : (List Answered → Answered → Type 0) → List Answered → Type 0
+AtEachStep holds history =
+    (before later : List Answered) (x : Answered) → before ++ x ∷ later ≡ history
+    → holds before x
 
 -- ---- ends
 
@@ -52,20 +61,20 @@ says_queued (ended (runs.queued ticket)) = true
 says_queued _ = false
 
 -- A span is late exactly where its first end stands behind a shutdown. (Trace SDK, Shutdown)
-abbrev pub LateBehindShutdown : Type 0
-LateBehindShutdown = OfEachStep (λ run before x.
+abbrev pub LateBehindShutdown : RunConfig → List Answered → Type 0
+LateBehindShutdown run = AtEachStep (λ before x.
     says_late x.answer ≡ (is_first_end run before x.step && was_shut before))
 
 -- It is dropped at its end exactly where the queue is full and there was no shutdown. (Trace SDK,
 -- Batching processor: maxQueueSize)
-abbrev pub DroppedWhereFull : Type 0
-DroppedWhereFull = OfEachStep (λ run before x.
+abbrev pub DroppedWhereFull : RunConfig → List Answered → Type 0
+DroppedWhereFull run = AtEachStep (λ before x.
     says_full x.answer ≡
     (is_first_end run before x.step && not (was_shut before) && is_full run before))
 
 -- It waits exactly where there is room and there was no shutdown.
-abbrev pub QueuedWhereRoom : Type 0
-QueuedWhereRoom = OfEachStep (λ run before x.
+abbrev pub QueuedWhereRoom : RunConfig → List Answered → Type 0
+QueuedWhereRoom run = AtEachStep (λ before x.
     says_queued x.answer ≡
     (is_first_end run before x.step && not (was_shut before) && not (is_full run before)))
 
@@ -87,30 +96,30 @@ says_replied _ = false
 
 -- A take gives a batch exactly where one is due and none is out. (Trace SDK, Batching processor; at
 -- most one batch is out: profile)
-abbrev pub TakenWhereDue : Type 0
-TakenWhereDue = OfEachStep (λ run before x. says_taken x.answer ≡ may_take run before x.step)
+abbrev pub TakenWhereDue : RunConfig → List Answered → Type 0
+TakenWhereDue run = AtEachStep (λ before x. says_taken x.answer ≡ may_take run before x.step)
 
 -- It has the next number, and as many of the spans that wait as a batch may have. (Trace SDK,
 -- Batching processor: maxExportBatchSize)
-abbrev pub TakesTheFirst : Type 0
-TakesTheFirst = OfEachStep (λ run before x.
+abbrev pub TakesTheFirst : RunConfig → List Answered → Type 0
+TakesTheFirst run = AtEachStep (λ before x.
     (number size : ℕ) → x.answer ≡ taken number size
     → let desk = desk_after run before in
     (number ≡ desk.batches + 1) × (size ≡ min run.desk.batch (length desk.waiting)))
 
 -- Behind a shutdown each take with none out gives what waits. (Trace SDK, Shutdown)
-abbrev pub TakenBehindShutdown : Type 0
-TakenBehindShutdown = OfEachStep (λ run before x.
+abbrev pub TakenBehindShutdown : RunConfig → List Answered → Type 0
+TakenBehindShutdown run = AtEachStep (λ before x.
     (now : ℕ) → was_shut before ≡ true → x.step ≡ Step.take now
     → let desk = desk_after run before in
     says_taken x.answer ≡ (nat_lt 0 (length desk.waiting) && is_none desk.out))
 
 -- At most one batch is out: before a next one is taken, what came of the last one was judged.
 -- (profile)
-abbrev pub OneBatchIsOut : Type 0
-OneBatchIsOut =
-    (run : RunConfig) (before between later : List Answered) (x y : Answered)
-    → AreAnswers run (before ++ x ∷ between ++ y ∷ later)
+abbrev pub OneBatchIsOut : List Answered → Type 0
+OneBatchIsOut history =
+    (before between later : List Answered) (x y : Answered)
+    → before ++ x ∷ between ++ y ∷ later ≡ history
     → says_taken x.answer ≡ true → says_taken y.answer ≡ true
     → list_any (λ z. says_replied z.answer) between ≡ true
 
@@ -119,10 +128,10 @@ says_sent (sent number attempt outcome) = true
 says_sent _ = false
 
 -- A batch has one attempt: before another one, a next batch is taken. (profile)
-abbrev pub OneAttemptEach : Type 0
-OneAttemptEach =
-    (run : RunConfig) (before between later : List Answered) (x y : Answered)
-    → AreAnswers run (before ++ x ∷ between ++ y ∷ later)
+abbrev pub OneAttemptEach : List Answered → Type 0
+OneAttemptEach history =
+    (before between later : List Answered) (x y : Answered)
+    → before ++ x ∷ between ++ y ∷ later ≡ history
     → says_sent x.answer ≡ true → says_sent y.answer ≡ true
     → list_any (λ z. says_taken z.answer) between ≡ true
 
@@ -130,9 +139,9 @@ OneAttemptEach =
 
 -- A span that has ended keeps its ticket and its value, whatever is done and answered. (Trace API,
 -- End)
-abbrev pub EndedSpansStay : Type 0
-EndedSpansStay =
-    (setup : Setup) (history more : List Answered) → (new : List EndedSpan)
+abbrev pub EndedSpansStay : Setup → List Answered → Type 0
+EndedSpansStay setup history =
+    (more : List Answered) → (new : List EndedSpan)
     × (ended_by setup (history ++ more) ≡ ended_by setup history ++ new)
 
 -- there are tickets for all spans that end (profile)
@@ -140,38 +149,31 @@ abbrev pub HasTickets : Setup → List Answered → Type 0
 HasTickets setup history = length (ended_by setup history) < 2 ^ 64 - 1
 
 -- No more spans end than there are steps.
-abbrev pub EndedAreFew : Type 0
-EndedAreFew =
-    (setup : Setup) (history : List Answered)
-    → length (ended_by setup history) ≤ length history
+abbrev pub EndedAreFew : Setup → List Answered → Type 0
+EndedAreFew setup history = length (ended_by setup history) ≤ length history
 
 -- What is done at the queue is allowed there. (Trace SDK, Batching processor)
-abbrev pub EventsAreAllowed : Type 0
-EventsAreAllowed =
-    (run : RunConfig) (history : List Answered) → AreAnswers run history
-    → HasTickets run.setup history → AreAllowed run.desk 0 (desk_events run.setup history)
+abbrev pub EventsAreAllowed : RunConfig → List Answered → Type 0
+EventsAreAllowed run history =
+    HasTickets run.setup history → AreAllowed run.desk 0 (desk_events run.setup history)
 
 -- Each span that ended before the shutdown is handed, still queued, or dropped, once. (profile)
-abbrev pub NoneUnaccountedFor : Type 0
-NoneUnaccountedFor =
-    (run : RunConfig) (history : List Answered) → AreAnswers run history
-    → HasTickets run.setup history → EachOnce run.setup history
+abbrev pub NoneUnaccountedFor : RunConfig → List Answered → Type 0
+NoneUnaccountedFor run history =
+    HasTickets run.setup history → EachOnce run.setup history
 
 -- A span that was handed to the exporter is not named as dropped, and neither is done twice.
 -- (profile)
-abbrev pub HandedAreNotDropped : Type 0
-HandedAreNotDropped =
-    (run : RunConfig) (history : List Answered) → AreAnswers run history
-    → HasTickets run.setup history → (ticket : ℕ)
-    → let events = desk_events run.setup history in
+abbrev pub HandedAreNotDropped : Setup → List Answered → Type 0
+HandedAreNotDropped setup history =
+    (ticket : ℕ) → let events = desk_events setup history in
     times ticket (map (λ s. s.ticket) (handed_spans events))
     + times ticket (map (λ e. e.ticket) (drops events)) ≤ 1
 
 -- The ledger names the spans that were dropped, the newest first. (profile)
-abbrev pub LedgerNamesTheDropped : Type 0
-LedgerNamesTheDropped =
-    (run : RunConfig) (history : List Answered)
-    → (desk_after run history).ledger ≡ reverse (drops (desk_events run.setup history))
+abbrev pub LedgerNamesTheDropped : RunConfig → List Answered → Type 0
+LedgerNamesTheDropped run history =
+    (desk_after run history).ledger ≡ reverse (drops (desk_events run.setup history))
 
 -- ---- values
 
@@ -187,25 +189,21 @@ NamesEndedSpan setup history e =
 
 -- So it is with the spans that wait, with those of each batch, and with those that were dropped.
 -- (Trace API, End)
-abbrev pub WaitingAreEnded : Type 0
-WaitingAreEnded =
-    (setup : Setup) (history : List Answered)
-    → AllByRecursion (IsEndedSpan setup history) (waiting_spans (desk_events setup history))
+abbrev pub WaitingAreEnded : Setup → List Answered → Type 0
+WaitingAreEnded setup history =
+    AllByRecursion (IsEndedSpan setup history) (waiting_spans (desk_events setup history))
 
-abbrev pub BatchesAreEnded : Type 0
-BatchesAreEnded =
-    (setup : Setup) (history : List Answered) (number : ℕ)
-    → AllByRecursion (IsEndedSpan setup history)
+abbrev pub BatchesAreEnded : Setup → List Answered → Type 0
+BatchesAreEnded setup history =
+    (number : ℕ) → AllByRecursion (IsEndedSpan setup history)
     (batch_spans (desk_events setup history) number)
 
-abbrev pub DropsNameEnded : Type 0
-DropsNameEnded =
-    (setup : Setup) (history : List Answered)
-    → AllByRecursion (NamesEndedSpan setup history) (drops (desk_events setup history))
+abbrev pub DropsNameEnded : Setup → List Answered → Type 0
+DropsNameEnded setup history =
+    AllByRecursion (NamesEndedSpan setup history) (drops (desk_events setup history))
 
 -- Where no memory was refused, the spans that end are those that the steps end. (Trace API, End)
-abbrev pub EndedByTheSteps : Type 0
-EndedByTheSteps =
-    (setup : Setup) (history : List Answered)
-    → list_any (λ x. is_refused x.answer) history ≡ false
+abbrev pub EndedByTheSteps : Setup → List Answered → Type 0
+EndedByTheSteps setup history =
+    list_any (λ x. is_refused x.answer) history ≡ false
     → ended_by setup history ≡ ended_spans setup (granted_steps (map (λ x. x.step) history))

@@ -2,50 +2,56 @@
 //! of every run whose answers are right.
 #![tactic(auto)]
 
-ghost use Rattle.run_laws.specs.Laws.{LateBehindShutdown, DroppedWhereFull, QueuedWhereRoom, TakenWhereDue, TakesTheFirst, TakenBehindShutdown, OneBatchIsOut, OneAttemptEach, EndedSpansStay, EndedAreFew, EventsAreAllowed, NoneUnaccountedFor, HandedAreNotDropped, LedgerNamesTheDropped, WaitingAreEnded, BatchesAreEnded, DropsNameEnded, EndedByTheSteps};
+ghost use Rattle.std.specs.Prelude.{List};
+ghost use Rattle.run_model.specs.Runs.{Answered};
+ghost use Rattle.run_model.specs.Answers.{RunConfig};
+ghost use Rattle.run_model.specs.Headline.{EachOnce};
+ghost use Rattle.run_laws.specs.Laws.{OfHistories, OfRuns, LateBehindShutdown, DroppedWhereFull, QueuedWhereRoom, TakenWhereDue, TakesTheFirst, TakenBehindShutdown, OneBatchIsOut, OneAttemptEach, EndedSpansStay, EndedAreFew, EventsAreAllowed, NoneUnaccountedFor, HandedAreNotDropped, LedgerNamesTheDropped, WaitingAreEnded, BatchesAreEnded, DropsNameEnded, EndedByTheSteps};
 
 /// The first end of a sampled span: behind a shutdown it is late; else it is dropped where the
 /// queue is full, and waits where it isn't. Nothing else is late, dropped there or queued. (Trace
 /// SDK, OnEnd, Shutdown, Batching processor: maxQueueSize)
 pub fn ends_are_answered()
-    ensures late { LateBehindShutdown }
-    ensures full { DroppedWhereFull }
-    ensures queued { QueuedWhereRoom }
+    ensures late { OfRuns LateBehindShutdown }
+    ensures full { OfRuns DroppedWhereFull }
+    ensures queued { OfRuns QueuedWhereRoom }
 {}
 
 /// A take gives the first of the spans that wait, exactly where a batch is due and none is out.
 /// Behind a shutdown one is due where spans wait. (Trace SDK, Batching processor:
 /// maxExportBatchSize, scheduledDelayMillis; Shutdown)
 pub fn takes_are_answered()
-    ensures due { TakenWhereDue }
-    ensures first { TakesTheFirst }
-    ensures shutdown { TakenBehindShutdown }
+    ensures due { OfRuns TakenWhereDue }
+    ensures first { OfRuns TakesTheFirst }
+    ensures shutdown { OfRuns TakenBehindShutdown }
 {}
 
 /// At most one batch is out, and it is sent once at most. (profile)
 pub fn one_batch_is_out()
-    ensures one { OneBatchIsOut }
-    ensures attempt { OneAttemptEach }
+    ensures one { OfRuns (λ run. OneBatchIsOut) }
+    ensures attempt { OfRuns (λ run. OneAttemptEach) }
 {}
 
 /// No span is unaccounted for: each that ended before the shutdown is handed to the exporter, still
 /// queued, or dropped, once, and the ledger names those that were dropped. What is done at the
 /// queue is allowed there. Premise: fewer than 2^64 - 1 spans ended. (profile)
 pub fn none_is_unaccounted_for()
-    ensures allowed { EventsAreAllowed }
-    ensures once { NoneUnaccountedFor }
-    ensures handed { HandedAreNotDropped }
-    ensures named { LedgerNamesTheDropped }
+    ensures allowed { OfRuns EventsAreAllowed }
+    ensures once { OfRuns NoneUnaccountedFor }
+    ensures handed { OfHistories (λ setup history.
+        EachOnce setup history → HandedAreNotDropped setup history) }
+    ensures named { (run : RunConfig) (history : List Answered) →
+        LedgerNamesTheDropped run history }
 {}
 
 /// A span that has ended keeps its ticket and its value, whatever follows. With these it waits, is
 /// in its batch, or is named. Where no memory was refused, it is one that the steps end. No more
 /// spans end than there are steps. (Trace API, End)
 pub fn ended_spans_stay()
-    ensures stay { EndedSpansStay }
-    ensures few { EndedAreFew }
-    ensures waiting { WaitingAreEnded }
-    ensures batches { BatchesAreEnded }
-    ensures drops { DropsNameEnded }
-    ensures steps { EndedByTheSteps }
+    ensures stay { OfHistories EndedSpansStay }
+    ensures few { OfHistories EndedAreFew }
+    ensures waiting { OfHistories WaitingAreEnded }
+    ensures batches { OfHistories BatchesAreEnded }
+    ensures drops { OfHistories DropsNameEnded }
+    ensures steps { OfHistories EndedByTheSteps }
 {}

@@ -1,5 +1,6 @@
 -- What a run of a script is, in the model.
-use Rattle.std.proofs.Common.{◌≡◌, refl, sym, ap, ◌∙◌, ℕ, suc, List, [], ◌∷◌, ◌++◌, length, map, Option, Some, None}
+use Rattle.std.proofs.Common.{◌≡◌, refl, sym, ap, subst, ◌∙◌, ℕ, suc, List, [], ◌∷◌, ◌++◌, length, map, Option, Some, None}
+use Rattle.std.specs.List.{AllByRecursion}
 use Rattle.run_model.specs.Answers.{RunConfig, AreAnswers, desk_after}
 use Rattle.run_model.specs.Headline.{EachOnce, Attempt, attempts}
 use Rattle.run_model.specs.Runs.{Answered}
@@ -9,7 +10,7 @@ use Rattle.trace_history.specs.Answers.{answer_view, history_view}
 use Rattle.trace_history.specs.Steps.{step_view}
 use Rattle.trace_history.specs.declared.answer.Answer.{Answer}
 use Rattle.trace_history.specs.declared.step.Step.{Step as CodeStep}
-use Rattle.trace_run.specs.State.{TellsAll, attempt_of}
+use Rattle.trace_run.specs.State.{MeansItsBatch, TellsAll, attempt_of}
 use Rattle.span_script.specs.Scripts.{Script}
 use Rattle.span_script.specs.Parsed.{Means}
 use Rattle.span_script.specs.declared.script.Script.{Script as CodeScript}
@@ -33,18 +34,21 @@ steps-of (x ∷ steps) [] h = cc
 steps-of (x ∷ steps) (y ∷ answers) h = ap (λ xs. step_view x ∷ xs) (steps-of steps answers (cc))
 
 -- what was handed to an exporter that was handed nothing before
-pub handed-told : (told : List Attempt) (handed : List Handed) → TellsAll told (Some []) (Some handed) → map attempt_of handed ≡ told
-handed-told told handed t = let same : Some handed ≡ Some t.more = t.gains in let e : handed ≡ t.more = cc in ap (map attempt_of) e ∙ t.are
+handed-are : (told : List Attempt) (means : Handed → Type 0) (handed : List Handed) (t : TellsAll told means (Some []) (Some handed)) → handed ≡ t.more
+handed-are told means handed t = let same : Some handed ≡ Some t.more = t.gains in let e : handed ≡ t.more = cc in e
 
 pub run-is : {A : Type 0} (c : CodeScript A) (read : Script) (answers : List Answer) (desk : Desk) (handed : List Handed) (text : List ℕ) → Means c read → length answers ≡ length c.steps.items
     → AreAnswers (run_view c) (history_view c.steps.items answers) → EachOnce (setup_view c) (history_view c.steps.items answers) → desk ≡ desk_after (run_view c) (history_view c.steps.items answers)
-    → TellsAll (attempts (history_view c.steps.items answers)) (Some []) (Some handed) → text ≡ run_text handed (history_view c.steps.items answers) desk → IsRunText read text
+    → TellsAll (attempts (history_view c.steps.items answers)) (MeansItsBatch (setup_view c) (history_view c.steps.items answers)) (Some []) (Some handed) → text ≡ run_text handed (history_view c.steps.items answers) desk → IsRunText read text
 run-is c read answers desk handed text means many answered once is told lines = record {
   history = history_view c.steps.items answers;
   steps = steps-of c.steps.items answers many ∙ means.steps;
   answered = rw (sym (same-run c read means)) answered;
   each_once = rw (ap (λ (r : RunConfig). r.setup) (sym (same-run c read means))) once;
   handed = handed;
-  told = handed-told (attempts (history_view c.steps.items answers)) handed told;
+  told = ap (map attempt_of) (handed-are (attempts (history_view c.steps.items answers)) (MeansItsBatch (setup_view c) (history_view c.steps.items answers)) handed told) ∙ told.are;
+  bodies =
+      rw (ap (λ (r : RunConfig). r.setup) (sym (same-run c read means)))
+      (subst (AllByRecursion (MeansItsBatch (setup_view c) (history_view c.steps.items answers))) (sym (handed-are (attempts (history_view c.steps.items answers)) (MeansItsBatch (setup_view c) (history_view c.steps.items answers)) handed told)) told.bodies);
   lines = lines ∙ ap (run_text handed (history_view c.steps.items answers)) (is ∙ ap (λ (r : RunConfig). desk_after r (history_view c.steps.items answers)) (same-run c read means));
 }

@@ -1,5 +1,6 @@
 -- What the program prints.
 use Rattle.std.specs.Prelude.{◌≡◌, ◌⊎◌, ℕ, ◌+◌, List, [], ◌∷◌, ◌++◌, length, map, take, Bool, true, false, Option, Ok, Err, IfSome, unwrap_or}
+use Rattle.std.specs.List.{AllByRecursion}
 use Rattle.std.specs.Io.KnownBytes.{Appends, Keeps}
 use Rattle.hex.specs.Hex.{encode_lower}
 use Rattle.message_model.specs.Reading.{Reads}
@@ -10,7 +11,7 @@ use Rattle.run_model.specs.Runs.{Answered}
 use Rattle.run_model.specs.Answers.{AreAnswers, desk_after}
 use Rattle.run_model.specs.Headline.{EachOnce, attempts}
 use Rattle.span_exporter.specs.Handed.{Handed}
-use Rattle.trace_run.specs.State.{attempt_of}
+use Rattle.trace_run.specs.State.{MeansItsBatch, attempt_of}
 use Rattle.run_text.specs.Lines.{answers_text, report_text}
 use Rattle.span_script.specs.Scripts.{Script, script_read}
 use Rattle.span_script.specs.declared.script.ScriptError.TheVariants as scripts
@@ -40,8 +41,8 @@ run_text handed history desk =
     answers_text handed history ++ report_text (queued_count desk) desk.ledger desk.late
 
 -- The text is that of a run: each step of the script has its answer, no span is unaccounted for,
--- the exporter was handed the attempts that the answers speak of, and the report is of what the
--- queue then shows.
+-- the exporter was handed the attempts that the answers speak of, each with a body that means the
+-- spans of its batch, and the report is of what the queue then shows.
 pub record IsRunText (script : Script) (text : List ℕ) : Type 0 where
   pub history : List Answered
   pub steps : map (λ x. x.step) history ≡ script.steps
@@ -49,6 +50,7 @@ pub record IsRunText (script : Script) (text : List ℕ) : Type 0 where
   pub each_once : EachOnce (setup_of script) history
   pub handed : List Handed
   pub told : map attempt_of handed ≡ attempts history
+  pub bodies : AllByRecursion (MeansItsBatch (setup_of script) history) handed
   pub lines : text ≡ run_text handed history (desk_after (run_of script) history)
 
 -- ---- either

@@ -1,8 +1,11 @@
 //! Starts and calls on scarce memory.
+ghost use Rattle.std.specs.Prelude.{◌<◌, length};
+
 use crate::parts::{attribute, provider, scopes, words};
 use linked_list_allocator::LocalHeap;
 use otlp_sampler::{AlwaysOff, AlwaysOn, Sampler};
 use otlp_span::{Kind, SpanCall};
+use rand_core::Rng;
 use span_table::SpanTable;
 use std::alloc::Allocator;
 use std::process::Abort;
@@ -17,7 +20,23 @@ struct Answers {
     end: Answer,
 }
 
-/// Starts a span and calls it, on scarce memory. `None` where there was none for the table.
+/// Starts a span in an empty table, calls it and ends it.
+fn start_and_end<S: Sampler, R: Rng, A: Allocator + Copy>(
+    rt: &impl Abort,
+    ample: A,
+    table: &mut SpanTable<'_, S, R, A>,
+) -> Answers
+    requires { length table.old.spans < table.old.room }
+{
+    let mut pass = BodyPass::new(ample, 1).expect(rt, "memory");
+    let call = attribute(rt, ample, "a");
+    let start = table.start(0, &Parent::Root, Kind::Server, 1, "GET /");
+    let call = table.call(&mut pass, 0, &call);
+    let end = table.call(&mut pass, 0, &SpanCall::End(5));
+    Answers { start, call, end }
+}
+
+/// What a table on scarce memory answers to them. `None` where there was none for the table.
 fn make_answers<S: Sampler + Drop, A: Allocator + Copy>(
     rt: &impl Abort,
     ample: A,
@@ -25,14 +44,11 @@ fn make_answers<S: Sampler + Drop, A: Allocator + Copy>(
     sampler: S,
 ) -> Option<Answers> {
     let provider = provider(rt, ample, sampler);
-    let mut pass = BodyPass::new(ample, 1).expect(rt, "memory");
-    let call = attribute(rt, ample, "a");
     let table = SpanTable::new(scarce, &provider, scopes(rt, ample), words(rt, ample), 1);
-    let mut table = table.ok()?;
-    let start = table.start(0, &Parent::Root, Kind::Server, 1, "GET /");
-    let call = table.call(&mut pass, 0, &call);
-    let end = table.call(&mut pass, 0, &SpanCall::End(5));
-    Some(Answers { start, call, end })
+    let Ok(mut table) = table else {
+        return None;
+    };
+    Some(start_and_end(rt, ample, &mut table))
 }
 
 /// Asserts that a span that was refused isn't there, and that one that started ends.

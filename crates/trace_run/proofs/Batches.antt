@@ -1,5 +1,5 @@
 -- One more step of a run at its queue: where it stands behind it.
-use Rattle.std.proofs.Common.{◌≡◌, refl, sym, ap, subst, ◌∙◌, ℕ, ◌+◌, ◌^◌, ◌<◌, ◌≤◌, arith, List, [], ◌∷◌, ◌++◌, length, Bool, true, false, cond, ◌||◌, Option, Some, None, inl, inr}
+use Rattle.std.proofs.Common.{◌≡◌, refl, sym, ap, subst, ◌∙◌, ℕ, ◌+◌, ◌≤◌, arith, List, [], ◌∷◌, ◌++◌, length, Bool, true, false, ◌||◌, Option, Some, None, inl}
 use Rattle.std.specs.Option.{option_to_list}
 use Rattle.rand_core.specs.Stream.{Stream}
 use Rattle.span_model.specs.Sampling.{SamplerMeaning}
@@ -28,7 +28,7 @@ use Rattle.trace_history.specs.declared.answer.Answer.{Answer as CodeAnswer}
 use Rattle.trace_history.specs.declared.answer.Answer.TheVariants as answers
 use Rattle.span_exporter.specs.Handed.{Handed}
 use Rattle.span_table.specs.Table.{IsTable, TableWith}
-use Rattle.trace_run.specs.Out.{Stage, to_encode, to_send, to_judge, Out, progress_of, is_sent, shown, IsTied, IsIdle, Takes, TakesBatch, TakesNone, Encodes, EncodesAt, EncodesBatch, HasBody, Sends, SendsAt, SendsBody, SendsNone, Replies, SettlesAt, Settles, SettlesNone}
+use Rattle.trace_run.specs.Out.{Stage, to_encode, to_send, to_judge, Out, progress_of, is_sent, shown, IsTied, IsIdle, Takes, TakesBatch, Encodes, EncodesAt, EncodesBatch, HasBody, Sends, SendsAt, SendsBody, SendsNone, Replies, SettlesAt, Settles, SettlesNone}
 use Rattle.trace_run.specs.State.{Stands}
 use Rattle.trace_run.proofs.Standing.{IsQuiet, or-false, tied-kept, desk-is, stands-on, out-stays, quiet-on}
 

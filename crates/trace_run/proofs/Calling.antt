@@ -1,5 +1,5 @@
 -- One more step of a run that is a call on a span: where it stands behind it.
-use Rattle.std.proofs.Common.{◌≡◌, refl, sym, ap, subst, ◌∙◌, ℕ, ◌-◌, ◌^◌, ◌<◌, List, [], ◌∷◌, ◌++◌, length, Bool, true, false, Option, Some, None, IfSome}
+use Rattle.std.proofs.Common.{◌≡◌, refl, sym, ap, subst, ◌∙◌, ℕ, ◌-◌, ◌^◌, ◌<◌, List, [], ◌∷◌, ◌++◌, length, false, Option, None, IfSome}
 use Rattle.rand_core.specs.Stream.{Stream}
 use Rattle.span_model.specs.Sampling.{SamplerMeaning}
 use Rattle.span_model.specs.Spans.{Call, set_attribute, end, end_of, is_end}

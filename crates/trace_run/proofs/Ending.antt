@@ -1,9 +1,9 @@
 -- One more step of a run that is an end: where it stands behind it.
-use Rattle.std.proofs.Common.{◌≡◌, refl, sym, ap, subst, ◌∙◌, ℕ, zero, suc, ◌+◌, ◌-◌, ◌^◌, ◌<◌, ◌≤◌, ◌==◌, nat_lt, arith, List, [], ◌∷◌, ◌++◌, length, Bool, true, false, true≢false, cond, ◌||◌, ◌&&◌, not, Option, Some, None, IfSome, slice_get, option_map, inl, inr, ◌⊎◌}
+use Rattle.std.proofs.Common.{◌≡◌, refl, sym, ap, subst, ◌∙◌, ℕ, ◌+◌, ◌-◌, ◌^◌, ◌<◌, ◌==◌, nat_lt, arith, List, [], ◌∷◌, ◌++◌, length, Bool, true, false, cond, ◌&&◌, not, Option, Some, None, slice_get, option_map, inl, inr, ◌⊎◌}
 use Rattle.std.specs.List.{list_any}
 use Rattle.std.specs.Option.{option_to_list, option_and_then}
 use Rattle.std.proofs.lemmas.List.{append-nil, length_push}
-use Rattle.std.proofs.lemmas.Bool.{lt-ltb, ltb-true, ltb-false, eqb-true, eq-eqb}
+use Rattle.std.proofs.lemmas.Bool.{ltb-true, eqb-true}
 use Rattle.std.proofs.lemmas.Option.{slice_get_within}
 use Rattle.rand_core.specs.Stream.{Stream}
 use Rattle.span_model.specs.Sampling.{SamplerMeaning, is_sampled}
@@ -13,29 +13,27 @@ use Rattle.span_model.specs.Dropped.{queue_full}
 use Rattle.desk_model.specs.Retries.{delivered}
 use Rattle.desk_model.specs.Queue as queue
 use Rattle.desk_model.specs.Queue.{DeskEvent, last_spans, last_batch, size_of_take}
-use Rattle.desk_model.specs.Desks.{Desk, IsDesk, desk_of}
+use Rattle.desk_model.specs.Desks.{Desk, IsDesk}
 use Rattle.desk_model.proofs.Steps.{IsWithin, last-kept, last-queued, sizes-kept, allowed-within}
-use Rattle.history_model.specs.Steps.{Step, is_shutdown}
-use Rattle.history_model.specs.History.{SpanStep, Setup, StartResult, calls_on, start_count, start_results, exported_of, exported_if_sampled, ended_spans, with_tickets}
+use Rattle.history_model.specs.Steps.{Step}
+use Rattle.history_model.specs.History.{SpanStep, StartResult, calls_on, start_count, start_results, exported_of, exported_if_sampled, ended_spans, with_tickets}
 use Rattle.history_model.proofs.Histories.{ended-no-more, ended-more, outcomes-many}
 use Rattle.run_model.specs.Runs as runs
 use Rattle.run_model.specs.Runs.{Answer, Answered, is_refused, span_steps, ended_by, event_by, desk_events}
-use Rattle.run_model.specs.Answers.{RunConfig, call_answer, end_answer, progress_by, desk_after, Given, IsAnswer}
-use Rattle.run_model.specs.Headline.{out_after}
-use Rattle.run_model.proofs.More.{is_shut, shut-more, ended-open, ended-shut, ended-some, ticket_of, IsBelow, AreBelow, below-more, events-same, events-more, answers-more}
-use Rattle.otlp_span.specs.declared.reason.Reason.TheVariants.{QueueFull}
+use Rattle.run_model.specs.Answers.{RunConfig, call_answer, end_answer, progress_by, desk_after, IsAnswer}
+use Rattle.run_model.proofs.More.{is_shut, shut-more, ended-open, ended-shut, ended-some, ticket_of, AreBelow, below-more, events-same, events-more, answers-more}
 use Rattle.batch_desk.specs.Desk.{admission, admission_event, after_admission}
 use Rattle.batch_desk.specs.declared.admitted.Admitted.{Admitted}
 use Rattle.batch_desk.specs.declared.admitted.Admitted.TheVariants as admitted
 use Rattle.trace_api.specs.declared.pass.Ended.{Ended}
 use Rattle.trace_api.specs.declared.pass.Ended.TheVariants as ends
-use Rattle.trace_history.specs.Answers.{answer_view, ended_view}
+use Rattle.trace_history.specs.Answers.{answer_view}
 use Rattle.trace_history.specs.declared.answer.Answer.{Answer as CodeAnswer}
 use Rattle.trace_history.specs.declared.answer.Answer.TheVariants as answers
-use Rattle.span_table.specs.Table.{IsTable, TableWith, TakesStep, span_numbered}
-use Rattle.span_table.specs.Ends.{EndsAs, EndsBy, AnswersAlone, AnswersPass}
+use Rattle.span_table.specs.Table.{TableWith, TakesStep, span_numbered}
+use Rattle.span_table.specs.Ends.{EndsAs, EndsBy, AnswersAlone}
 use Rattle.trace_run.specs.Queue.{Admits, ended_as}
-use Rattle.trace_run.specs.Out.{Out, shown, IsTied}
+use Rattle.trace_run.specs.Out.{Out}
 use Rattle.trace_run.specs.State.{Stands}
 use Rattle.trace_run.proofs.Standing.{IsQuiet, or-false, tied-kept, desk-is, stands-on, out-stays, quiet-on, spans-on}
 

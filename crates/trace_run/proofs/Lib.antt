@@ -5,3 +5,4 @@ pub mod Places
 pub mod Runs
 pub mod Telling
 pub mod Calling
+pub mod Bodies

@@ -1,5 +1,5 @@
 -- The spans of a run with one scope share one place, and so do those of each batch.
-use Rattle.std.proofs.Common.{◌≡◌, refl, sym, ap, subst, ◌∙◌, ℕ, zero, suc, ◌<◌, ◌≤◌, ◌-◌, arith, List, [], ◌∷◌, ◌++◌, length, take, drop, Option, Some, None, slice_get, option_map, filter_map}
+use Rattle.std.proofs.Common.{◌≡◌, refl, sym, subst, ◌∙◌, ℕ, zero, suc, ◌<◌, ◌≤◌, ◌-◌, arith, List, [], ◌∷◌, length, take, drop, Option, Some, None, slice_get, option_map}
 use Rattle.std.specs.Prelude.{unwrap_or}
 use Rattle.std.specs.List.{AllByRecursion, cons_option}
 use Rattle.std.proofs.lemmas.Option.{slice_get_within}
@@ -10,9 +10,9 @@ use Rattle.history_model.specs.History.{Setup}
 use Rattle.history_model.proofs.Histories.{IsPlaced as IsPlacedIn, ended-placed}
 use Rattle.run_model.specs.Runs as runs
 use Rattle.run_model.specs.Runs.{Answer, Answered, ended_by, event_by, events_among, desk_events, before_shutdown, span_steps}
-use Rattle.run_model.specs.Headline.{out_as, out_after}
+use Rattle.run_model.specs.Headline.{out_after}
 use Rattle.otlp_proto.specs.Group.{SharePlace}
-use Rattle.trace_run.specs.Out.{Out, shown, IsPlaced, progress_of}
+use Rattle.trace_run.specs.Out.{Out, shown, IsPlaced}
 use Rattle.trace_run.proofs.Batches.{shows}
 
 -- ---- of parts of a list

@@ -1,27 +1,25 @@
 -- A whole run: where it stands behind its first steps, and behind all.
-use Rattle.std.proofs.Common.{◌≡◌, refl, sym, ap, subst, ◌∙◌, ℕ, zero, suc, ◌+◌, ◌^◌, ◌-◌, ◌<◌, ◌≤◌, arith, List, [], ◌∷◌, ◌++◌, length, take, map, append_assoc, Option, Some, None, slice_get, option_map, nat_lt, if◌then◌else◌, get_or}
+use Rattle.std.proofs.Common.{◌≡◌, refl, sym, ap, ◌∙◌, ℕ, suc, ◌+◌, ◌<◌, arith, List, [], ◌∷◌, ◌++◌, length, take, append_assoc, Option, Some, None, option_map, nat_lt, if◌then◌else◌, get_or}
 use Rattle.std.proofs.Math.Seq.{take-suc}
 use Rattle.std.specs.Option.{option_to_list}
+use Rattle.std.specs.List.{AllByRecursion}
 use Rattle.std.proofs.lemmas.List.{append-nil, map-append, length-take-le}
 use Rattle.std.proofs.lemmas.List.Elements.{filter_map-append}
 use Rattle.rand_core.specs.Stream.{Stream}
 use Rattle.span_model.specs.Sampling.{SamplerMeaning}
-use Rattle.desk_model.specs.Queue.{tickets}
 use Rattle.desk_model.specs.Desks.{Desk, IsDesk, desk_of, new_desk}
 use Rattle.desk_laws.specs.Queues.{EachTicketOnce}
-use Rattle.history_model.specs.History.{Setup}
-use Rattle.run_model.specs.Runs.{Answer, Answered, ended_by, desk_events}
+use Rattle.run_model.specs.Runs.{Answered, ended_by, desk_events}
 use Rattle.run_model.specs.Answers.{RunConfig, AreAnswers, desk_after}
 use Rattle.run_model.specs.Headline.{EachOnce, Attempt, attempt_by, attempts}
-use Rattle.span_exporter.specs.Handed.{Handed, Gains}
+use Rattle.span_exporter.specs.Handed.{Handed}
 use Rattle.span_table.specs.Table.{IsTable, TableWith}
 use Rattle.trace_history.specs.Answers.{answer_view, history_view}
 use Rattle.trace_history.specs.Steps.{step_view}
 use Rattle.trace_history.specs.declared.answer.Answer.{Answer as CodeAnswer}
 use Rattle.trace_history.specs.declared.step.Step.{Step as CodeStep}
 use Rattle.trace_run.specs.Out.{Out}
-use Rattle.trace_run.specs.State.{Stands, TellsAll, Tells, attempt_of}
-use Rattle.trace_run.proofs.Standing.{desk-is}
+use Rattle.trace_run.specs.State.{Stands, TellsAll, attempt_of}
 
 -- ---- histories
 
@@ -40,18 +38,31 @@ view-length (s ∷ steps) (a ∷ answers) e = ap suc (view-length steps answers 
 
 -- ---- what the exporter tells
 
-pub tells-none : (at : Option (List Handed)) → TellsAll [] at at
-tells-none at = record { more = []; gains = by at; are = refl }
+all-append : (P : Handed → Type 0) (xs ys : List Handed) → AllByRecursion P xs → AllByRecursion P ys → AllByRecursion P (xs ++ ys)
+all-append P [] ys a b = b
+all-append P (x ∷ xs) ys a b = (a.0, all-append P xs ys a.1 b)
+
+-- where what bodies mean goes on to hold
+pub tells-still : (told : List Attempt) (means still : Handed → Type 0) (first second : Option (List Handed)) → ((handed : Handed) → means handed → still handed) → TellsAll told means first second → TellsAll told still first second
+tells-still told means still first second go a = record { more = a.more; gains = a.gains; are = a.are; bodies = all a.more a.bodies }
+  where
+    all : (xs : List Handed) → AllByRecursion means xs → AllByRecursion still xs
+    all [] h = tt
+    all (x ∷ xs) h = (go x h.0, all xs h.1)
+
+pub tells-none : (means : Handed → Type 0) (at : Option (List Handed)) → TellsAll [] means at at
+tells-none means at = record { more = []; gains = by at; are = refl; bodies = tt }
   where
     by : (o : Option (List Handed)) → o ≡ option_map (λ had. had ++ []) o
     by None = refl
     by (Some had) = ap Some (sym (append-nil had))
 
-pub tells-more : (told more : List Attempt) (first second third : Option (List Handed)) → TellsAll told first second → TellsAll more second third → TellsAll (told ++ more) first third
-tells-more told more first second third a b = record {
+pub tells-more : (told more : List Attempt) (means : Handed → Type 0) (first second third : Option (List Handed)) → TellsAll told means first second → TellsAll more means second third → TellsAll (told ++ more) means first third
+tells-more told more means first second third a b = record {
   more = a.more ++ b.more;
   gains = b.gains ∙ ap (option_map (λ had. had ++ b.more)) a.gains ∙ by first;
   are = map-append attempt_of a.more b.more ∙ (λ i. a.are i ++ b.are i);
+  bodies = all-append means a.more b.more a.bodies b.bodies;
 }
   where
     by : (o : Option (List Handed)) → option_map (λ had. had ++ b.more) (option_map (λ had. had ++ a.more) o) ≡ option_map (λ had. had ++ (a.more ++ b.more)) o

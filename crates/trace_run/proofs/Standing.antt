@@ -1,11 +1,10 @@
 -- One more step of a run: where it stands behind it.
-use Rattle.std.proofs.Common.{◌≡◌, refl, sym, ap, subst, ◌∙◌, ℕ, ◌+◌, ◌-◌, ◌^◌, ◌<◌, ◌≤◌, ◌==◌, arith, List, [], ◌∷◌, ◌++◌, length, Bool, true, false, true≢false, cond, ◌||◌, ◌&&◌, not, Option, Some, None, IfSome, slice_get, option_map, inl, inr, ◌⊎◌}
-use Rattle.std.specs.List.{list_any}
-use Rattle.std.specs.Option.{option_to_list, option_and_then}
+use Rattle.std.proofs.Common.{◌≡◌, refl, sym, ap, subst, ◌∙◌, ℕ, ◌+◌, ◌≤◌, arith, List, [], ◌∷◌, ◌++◌, length, Bool, true, false, cond, ◌||◌, ◌&&◌, Option, Some, None, inl, inr, ◌⊎◌}
+use Rattle.std.specs.Option.{option_to_list}
 use Rattle.std.proofs.lemmas.List.{append-nil, length_push}
 use Rattle.std.proofs.lemmas.List.Elements.{filter_map-append}
 use Rattle.rand_core.specs.Stream.{Stream}
-use Rattle.span_model.specs.Sampling.{SamplerMeaning, is_sampled}
+use Rattle.span_model.specs.Sampling.{SamplerMeaning}
 use Rattle.span_model.specs.Spans.{Kind, Call, EndedSpan, is_end}
 use Rattle.span_model.specs.Starts.{StartedSpan}
 use Rattle.desk_model.specs.Queue.{DeskEvent, last_spans, last_batch}
@@ -13,14 +12,13 @@ use Rattle.desk_model.specs.Desks.{Desk, IsDesk, desk_of}
 use Rattle.history_model.specs.Steps.{Parent, Step, is_shutdown}
 use Rattle.history_model.specs.History.{SpanStep, Setup, calls_on}
 use Rattle.history_model.proofs.Histories.{ended-start, ended-no-more}
-use Rattle.run_model.specs.Runs.{Answer, started, no_randomness, no_span, out_of_memory, done, Answered, is_refused, span_steps, ended_by, event_by, desk_events}
-use Rattle.run_model.specs.Answers.{RunConfig, start_answer, call_answer, takes_memory, is_live, progress, progress_by, desk_after, Given, IsAnswer}
+use Rattle.run_model.specs.Runs.{Answer, started, out_of_memory, done, Answered, is_refused, span_steps, ended_by, event_by, desk_events}
+use Rattle.run_model.specs.Answers.{RunConfig, start_answer, call_answer, takes_memory, is_live, progress_by, desk_after, IsAnswer}
 use Rattle.run_model.specs.Headline.{out_as, out_after, attempt_by}
 use Rattle.run_model.proofs.More.{is_shut, shut-more, ended-open, ended-shut, ended-none, ended-some, ticket_of, IsBelow, AreBelow, below-more, events-same, progress-none, answers-more}
-use Rattle.desk_model.specs.Retries.{Outcome, delivered}
+use Rattle.desk_model.specs.Retries.{delivered}
 use Rattle.span_table.specs.Table.{IsTable, TableWith, TakesStep, answer_to_start, answer_to_call, span_numbered}
-use Rattle.batch_desk.specs.Desk.{IsOut}
-use Rattle.trace_run.specs.Out.{Out, shown, IsTied, is_sent}
+use Rattle.trace_run.specs.Out.{Out, shown, IsTied}
 use Rattle.trace_run.specs.State.{Stands}
 
 pub or-false : (b : Bool) → (b || false) ≡ b

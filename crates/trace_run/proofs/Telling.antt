@@ -1,18 +1,19 @@
 -- What an exporter tells of a step of a run.
-use Rattle.std.proofs.Common.{◌≡◌, refl, sym, ap, subst, ◌∙◌, ℕ, ◌+◌, List, [], ◌∷◌, ◌++◌, Bool, true, false, cond, ◌&&◌, Option, Some, None}
+use Rattle.std.proofs.Common.{◌≡◌, refl, sym, ap, subst, ◌∙◌, ℕ, ◌+◌, ◌<◌, arith, List, [], ◌∷◌, ◌++◌, Bool, true, false, cond, ◌&&◌, Option, Some, None}
 use Rattle.std.specs.Prelude.{is_none}
 use Rattle.std.specs.Option.{option_to_list}
 use Rattle.std.specs.List.{list_any}
 use Rattle.rand_core.specs.Stream.{Stream}
 use Rattle.span_model.specs.Sampling.{SamplerMeaning, is_sampled}
-use Rattle.span_model.specs.Spans.{Call, EndedSpan, end, is_end}
+use Rattle.span_model.specs.Spans.{Call, end, is_end}
 use Rattle.span_model.specs.Starts.{StartedSpan, exported_span}
+use Rattle.desk_model.specs.Retries.{Outcome}
+use Rattle.desk_model.specs.Queue.{DeskEvent, batch_spans, last_batch, last_spans}
 use Rattle.desk_model.specs.Desks.{Desk, is_due}
-use Rattle.run_model.specs.Runs.{Answer, Answered}
+use Rattle.run_model.specs.Runs.{Answer, Answered, desk_events}
 use Rattle.run_model.specs.Answers.{RunConfig, take_answer}
 use Rattle.run_model.specs.Headline.{attempt_by}
 use Rattle.batch_desk.specs.Batch.{BatchView}
-use Rattle.trace_api.specs.declared.pass.Ended.{Ended}
 use Rattle.trace_history.specs.Answers.{answer_view}
 use Rattle.trace_history.specs.declared.answer.Answer.{Answer as CodeAnswer}
 use Rattle.trace_history.specs.declared.answer.Answer.TheVariants as answers
@@ -20,13 +21,14 @@ use Rattle.span_exporter.specs.Handed.{Handed}
 use Rattle.span_table.specs.Table.{TableWith}
 use Rattle.span_table.specs.Ends.{EndsAs, EndsBy}
 use Rattle.trace_run.specs.Queue.{Admits}
-use Rattle.trace_run.specs.Out.{Stage, to_encode, to_send, to_judge, Out, IsIdle, Encodes, EncodesAt, EncodesBatch, Sends, SendsAt, SendsBody, SendsNone, Replies, SettlesAt, Settles, SettlesNone}
-use Rattle.trace_run.specs.State.{Stands, TellsAll, Tells}
+use Rattle.trace_run.specs.Out.{Stage, to_encode, to_send, to_judge, Out, Encodes, EncodesAt, EncodesBatch, Sends, SendsAt, SendsNone, MeansSpans, Replies, SettlesAt}
+use Rattle.trace_run.specs.State.{Stands, MeansItsBatch, TellsAll, Tells}
+use Rattle.trace_run.proofs.Batches.{shows}
 use Rattle.trace_run.proofs.Runs.{tells-none}
 
 -- an answer that speaks of no attempt, and an exporter that is as it was
-pub tells-nothing : (answer : Answer) (before after : Option (List Handed)) → attempt_by answer ≡ None → after ≡ before → Tells answer before after
-tells-nothing answer before after e f = subst (λ o. TellsAll (option_to_list o) before after) (sym e) (subst (λ o. TellsAll [] before o) (sym f) (tells-none before))
+pub tells-nothing : (answer : Answer) (means : Handed → Type 0) (before after : Option (List Handed)) → attempt_by answer ≡ None → after ≡ before → Tells answer means before after
+tells-nothing answer means before after e f = subst (λ o. TellsAll (option_to_list o) means before after) (sym e) (subst (λ o. TellsAll [] means before o) (sym f) (tells-none means before))
 
 told-by : (said answer : CodeAnswer) → attempt_by (answer_view said) ≡ None → answer ≡ said → attempt_by (answer_view answer) ≡ None
 told-by said answer e f = ap (λ a. attempt_by (answer_view a)) f ∙ e
@@ -77,17 +79,32 @@ encode-tells (Some o) later answer t = by o.stage t
     by (to_send body) u = told-by answers.Nothing answer refl u.answered
     by (to_judge outcome) u = told-by answers.Nothing answer refl u.answered
 
-pub send-tells : (out later : Option Out) (answer : CodeAnswer) (old new : Desk) (before after : Option (List Handed)) → Sends out answer old new later before after → Tells (answer_view answer) before after
-send-tells None later answer old new before after t = tells-nothing (answer_view answer) before after (told-by answers.Nothing answer refl t.idle.answered) t.told
-send-tells (Some o) later answer old new before after t = by o.stage t
-  where
-    none : SendsNone (Some o) answer old new later before after → Tells (answer_view answer) before after
-    none u = tells-nothing (answer_view answer) before after (told-by answers.Nothing answer refl u.idle.answered) u.told
+-- The batch that is out is the last one.
+body-of-last : {S R : Type 0} {meaning : S → SamplerMeaning} {stream : R → Stream} (run : RunConfig) (h : List Answered) {table : TableWith S R} {desk : Desk} (o : Out) → Stands meaning stream run h table desk (Some o)
+    → (body : List ℕ) (outcome : Outcome) → 0 < o.batch.number → MeansSpans o.batch.spans body
+    → MeansItsBatch run.setup h (record { number = o.batch.number; attempt = 1; body = body; outcome = outcome })
+body-of-last run h o at body outcome numbered means =
+    let events : List DeskEvent = desk_events run.setup h in
+    let sh = shows _ _ (last_spans events) (last_batch events) at.out_is in
+    record {
+      numbered = numbered;
+      taken = let n = sh.number in omega (arith, n);
+      means = subst (λ spans. MeansSpans spans body) (sh.spans ∙ ap (batch_spans events) (sym sh.number)) means;
+    }
 
-    by : (s : Stage) → SendsAt s o answer old new later before after → Tells (answer_view answer) before after
+pub send-tells : {S R : Type 0} {meaning : S → SamplerMeaning} {stream : R → Stream} (run : RunConfig) (h : List Answered) {table : TableWith S R} (out later : Option Out) (answer : CodeAnswer) (old new : Desk) (before after : Option (List Handed))
+    → Stands meaning stream run h table old out → Sends out answer old new later before after → Tells (answer_view answer) (MeansItsBatch run.setup h) before after
+send-tells run h None later answer old new before after at t = tells-nothing (answer_view answer) (MeansItsBatch run.setup h) before after (told-by answers.Nothing answer refl t.idle.answered) t.told
+send-tells run h (Some o) later answer old new before after at t = by o.stage t
+  where
+    none : SendsNone (Some o) answer old new later before after → Tells (answer_view answer) (MeansItsBatch run.setup h) before after
+    none u = tells-nothing (answer_view answer) (MeansItsBatch run.setup h) before after (told-by answers.Nothing answer refl u.idle.answered) u.told
+
+    by : (s : Stage) → SendsAt s o answer old new later before after → Tells (answer_view answer) (MeansItsBatch run.setup h) before after
     by to_encode u = none u
     by (to_judge outcome) u = none u
-    by (to_send body) u = subst (λ a. Tells (answer_view a) before after) (sym u.answered) (record { more = _; gains = u.told; are = refl })
+    by (to_send body) u = subst (λ a. Tells (answer_view a) (MeansItsBatch run.setup h) before after) (sym u.answered)
+        (record { more = _; gains = u.told; are = refl; bodies = (body-of-last run h o at body _ u.numbered u.means, tt) })
 
 pub reply-tells : (out later : Option Out) (answer : CodeAnswer) (old new : Desk) → Replies out answer old new later → attempt_by (answer_view answer) ≡ None
 reply-tells None later answer old new t = told-by answers.Nothing answer refl t.idle.answered

@@ -1,6 +1,9 @@
 -- The batch that is out in a run, and what is done to it.
-use Rattle.std.specs.Prelude.{◌≡◌, ℕ, ◌+◌, ◌<◌, Bool, true, false, List, length, Option, Some, None}
-use Rattle.export_model.specs.Export.{groups, body_length}
+use Rattle.std.specs.Prelude.{◌≡◌, ℕ, ◌<◌, Bool, true, false, List, length, Option, Some, None}
+use Rattle.message_model.specs.Reading.{Reads}
+use Rattle.message_model.specs.Messages.{body_meaning}
+use Rattle.span_model.specs.Spans.{EndedSpan}
+use Rattle.export_model.specs.Export.{groups, body_length, grouped_triples}
 use Rattle.desk_model.specs.Retries as retries
 use Rattle.desk_model.specs.Retries.{Fate, next_of, fate_of}
 use Rattle.desk_model.specs.Queue as desk
@@ -60,14 +63,20 @@ abbrev pub IsPlaced : Option Out → Type 0
 IsPlaced None = Unit {0}
 IsPlaced (Some o) = SharePlace o.batch.spans
 
--- there is room for a body that is to be sent
-abbrev pub HasRoom : (ℕ → ℕ) → Stage → Type 0
-HasRoom room (to_send body) = 0 < room (length body)
-HasRoom room _ = Unit {0}
+-- The body, read as a request, is these spans under their resources and scopes. (OTLP
+-- Specification, OTLP/HTTP)
+abbrev pub MeansSpans : List EndedSpan → List ℕ → Type 0
+MeansSpans spans body = Reads (body_meaning body) (grouped_triples spans)
 
+-- a body that is to be sent is that of the batch, and there is room for it
+abbrev pub IsReadyAt : (ℕ → ℕ) → List EndedSpan → Stage → Type 0
+IsReadyAt room spans (to_send body) = 0 < room (length body) × MeansSpans spans body
+IsReadyAt room spans _ = Unit {0}
+
+-- batches are numbered from 1 on
 abbrev pub IsReady : (ℕ → ℕ) → Option Out → Type 0
 IsReady room None = Unit {0}
-IsReady room (Some o) = HasRoom room o.stage
+IsReady room (Some o) = 0 < o.batch.number × IsReadyAt room o.batch.spans o.stage
 
 -- ---- turns
 
@@ -138,6 +147,8 @@ pub record SendsBody (body : List ℕ) (batch : BatchView) (answer : Answer) (ol
   pub with_exporter : IsOut true new batch
   pub keeps : Keeps old new
   pub told : Gains (handing batch.number 1 body (outcome_view outcome)) before after
+  pub numbered : 0 < batch.number
+  pub means : MeansSpans batch.spans body
 
 -- nothing was
 pub record SendsNone (out : Option Out) (answer : Answer) (old new : Desk) (later : Option Out)

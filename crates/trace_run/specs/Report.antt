@@ -4,13 +4,27 @@ use Rattle.span_model.specs.Dropped as dropped
 use Rattle.desk_model.specs.Retries as retries
 use Rattle.desk_model.specs.Desks.{Desk, with_fate}
 use Rattle.batch_desk.specs.Desk.{after_drop}
+use Rattle.rand_core.specs.Stream.{Stream}
+use Rattle.span_model.specs.Sampling.{SamplerMeaning}
+use Rattle.run_model.specs.Runs.{Answered}
+use Rattle.run_model.specs.Answers as model
+use Rattle.trace_history.specs.Answers.{history_view}
 use Rattle.trace_history.specs.declared.answer.Answer.{Answer}
+use Rattle.trace_history.specs.declared.step.Step.{Step}
+use Rattle.trace_run.specs.declared.config.RunConfig.{RunConfig}
+use Rattle.trace_run.specs.Run.{run_config}
 use Rattle.trace_run.specs.Out.{Out, is_sent}
 
 pub record Report : Type 0 where
   pub answers : List Answer
   pub desk : Desk
   pub out : Option Out
+
+-- It holds of the run of these steps that left this.
+abbrev pub OfRun : {S R A : Type 0} → (S → SamplerMeaning) → (R → Stream) → RunConfig S R A
+    → List (Step A) → (model.RunConfig → List Answered → Type 0) → Report → Type 0
+OfRun meaning stream config steps holds report =
+    holds (run_config meaning stream config) (history_view steps report.answers)
 
 -- A batch that was handed to the exporter is settled, and another one is dropped.
 abbrev pub closed_with : Out → Desk → Desk

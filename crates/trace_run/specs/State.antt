@@ -1,18 +1,20 @@
 -- Where a run stands behind some steps.
-use Rattle.std.specs.Prelude.{◌≡◌, ℕ, ◌+◌, ◌-◌, ◌^◌, ◌<◌, ◌≤◌, List, [], ◌∷◌, ◌++◌, length, map, Option}
+use Rattle.std.specs.Prelude.{◌≡◌, ◌+◌, ◌-◌, ◌^◌, ◌<◌, ◌≤◌, List, [], ◌∷◌, ◌++◌, length, map, Option}
 use Rattle.std.specs.Option.{option_to_list}
-use Rattle.std.specs.List.{list_any}
+use Rattle.std.specs.List.{list_any, AllByRecursion}
 use Rattle.rand_core.specs.Stream.{Stream}
 use Rattle.span_model.specs.Sampling.{SamplerMeaning}
+use Rattle.desk_model.specs.Queue.{batch_spans, last_batch}
 use Rattle.desk_model.specs.Desks.{Desk, IsDesk}
+use Rattle.history_model.specs.History.{Setup}
 use Rattle.history_model.specs.Steps.{is_shutdown}
 use Rattle.run_model.specs.Runs.{Answer, Answered, span_steps, ended_by, desk_events}
 use Rattle.run_model.specs.Answers.{RunConfig, AreAnswers}
-use Rattle.run_model.specs.Headline.{Attempt, attempt_by, attempts, out_after}
+use Rattle.run_model.specs.Headline.{Attempt, attempt_by, out_after}
 use Rattle.run_model.proofs.More.{AreBelow}
 use Rattle.span_exporter.specs.Handed.{Handed, Gains}
 use Rattle.span_table.specs.Table.{IsTable, TableWith}
-use Rattle.trace_run.specs.Out.{Out, shown, IsTied}
+use Rattle.trace_run.specs.Out.{Out, shown, IsTied, MeansSpans}
 
 -- Behind these steps, the spans, the queue and the batch that is out are what the steps mean.
 pub record Stands {S R : Type 0} (meaning : S → SamplerMeaning) (stream : R → Stream)
@@ -46,12 +48,22 @@ attempt_of handed = record {
   outcome = handed.outcome;
 }
 
--- an exporter that tells has gained these attempts
-pub record TellsAll (told : List Attempt) (old new : Option (List Handed)) : Type 0 where
+-- Its body, read as a request, is the spans of its batch under their resources and scopes. (OTLP
+-- Specification, OTLP/HTTP; batches are numbered from 1 on: profile)
+pub record MeansItsBatch (setup : Setup) (h : List Answered) (handed : Handed) : Type 0 where
+  pub numbered : 0 < handed.number
+  pub taken : handed.number ≤ last_batch (desk_events setup h)
+  pub means : MeansSpans (batch_spans (desk_events setup h) handed.number) handed.body
+
+-- an exporter that tells has gained these attempts, each with a body that means this
+pub record TellsAll (told : List Attempt) (means : Handed → Type 0)
+    (old new : Option (List Handed)) : Type 0 where
   pub more : List Handed
   pub gains : Gains more old new
   pub are : map attempt_of more ≡ told
+  pub bodies : AllByRecursion means more
 
 -- the attempt that this answer speaks of, if it does
-abbrev pub Tells : Answer → Option (List Handed) → Option (List Handed) → Type 0
-Tells answer old new = TellsAll (option_to_list (attempt_by answer)) old new
+abbrev pub Tells : Answer → (Handed → Type 0) → Option (List Handed) → Option (List Handed)
+    → Type 0
+Tells answer means old new = TellsAll (option_to_list (attempt_by answer)) means old new

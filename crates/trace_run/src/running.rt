@@ -5,7 +5,7 @@ ghost use Rattle.run_model.specs.Runs.{Answered};
 ghost use Rattle.trace_history.specs.Answers.{answer_view};
 ghost use Rattle.trace_history.specs.Steps.{step_view};
 ghost use Rattle.trace_run.specs.Out.{IsPlaced, IsReady, IsTied};
-ghost use Rattle.trace_run.specs.State.{GoesOn, Stands, Tells};
+ghost use Rattle.trace_run.specs.State.{GoesOn, MeansItsBatch, Stands, Tells};
 
 use crate::queue::SpanQueue;
 use crate::sending::{OutBatch, encode_batch, judge_batch, send_batch, take_batch};
@@ -42,7 +42,8 @@ impl<'a, S: Sampler, R: Rng, A: Allocator + Copy> Running<'a, S, R, A> {
             self.new.table self.new.queue result.1 }
         ensures told { (run : model.RunConfig) (h : List Answered) →
             Stands S.meaning R.stream run h self.old.table self.old.queue out
-            → Tells (answer_view result.0) (E.handed exporter.old) (E.handed exporter.new) }
+            → Tells (answer_view result.0) (MeansItsBatch run.setup h)
+            (E.handed exporter.old) (E.handed exporter.new) }
         ensures ready { IsReady (E.room exporter.new) result.1 }
         ensures room { self.new.table.room ≡ self.old.table.room }
     {

@@ -1,5 +1,5 @@
 //! The batch that is out: it is taken, encoded, sent, and judged by what came of that.
-ghost use Rattle.std.specs.Prelude.{◌≡◌, ◌<◌, Some, IfOk, length, is_some, true};
+ghost use Rattle.std.specs.Prelude.{◌≡◌, ◌<◌, ℕ, Some, IfOk, length, is_some, true};
 ghost use Rattle.export_model.specs.Export.{groups, body_length};
 ghost use Rattle.desk_model.specs.Retries as model;
 ghost use Rattle.otlp_proto.specs.Group.{SharePlace};
@@ -7,7 +7,7 @@ ghost use Rattle.retry_core.specs.Retries.{next_view, outcome_view};
 ghost use Rattle.batch_desk.specs.Views.{fate_view};
 ghost use Rattle.run_model.specs.Answers.{take_answer};
 ghost use Rattle.trace_history.specs.Answers.{answer_view};
-ghost use Rattle.trace_run.specs.Out.{Encodes, EncodesBatch, IsPlaced, IsReady, IsTied, Replies, Sends, Takes};
+ghost use Rattle.trace_run.specs.Out.{Encodes, EncodesBatch, IsPlaced, IsReady, IsTied, MeansSpans, Replies, Sends, Takes};
 
 use batch_desk::{Batch, Desk, Fate};
 use otlp_ids::OutOfMemory;
@@ -55,6 +55,7 @@ pub(crate) fn take_batch<A: Allocator>(
     requires { IsTied desk.old out }
     ensures answered { answer_view result.0 ≡ take_answer desk.old at }
     ensures takes { Takes at result.0 desk.old out desk.new result.1 }
+    ensures ready { (room : ℕ → ℕ) → IsReady room out → IsReady room result.1 }
 {
     if let Some(out) = out {
         return (Answer::NotTaken, Some(out));
@@ -102,7 +103,8 @@ fn encode_spans<E: Exporter, A: Allocator + Copy>(
     batch: Batch<A>,
     exporter: &mut E,
 ) -> (Answer, Option<OutBatch<A>>)
-    requires { SharePlace batch.spans }
+    requires placed { SharePlace batch.spans }
+    requires numbered { 0 < batch.number }
     ensures encodes { EncodesBatch batch result.0 result.1 }
     ensures ready { IsReady (E.room exporter.new) result.1 }
     ensures nothing_is_sent { E.handed exporter.new ≡ E.handed exporter.old }
@@ -132,6 +134,7 @@ fn prepare_body<E: Exporter, A: Allocator + Copy>(
     requires { SharePlace batch.now.spans }
     ensures length { IfOk result
         (λ body. length body.items ≡ body_length (groups batch.now.spans)) }
+    ensures means { IfOk result (λ body. MeansSpans batch.now.spans body.items) }
     ensures room { IfOk result (λ body. 0 < E.room exporter.new (length body.items)) }
     ensures nothing_is_sent { E.handed exporter.new ≡ E.handed exporter.old }
 {
@@ -182,7 +185,8 @@ pub(crate) fn judge_batch<A: Allocator>(
     out: Option<OutBatch<A>>,
 ) -> (Answer, Option<OutBatch<A>>)
     requires { IsTied desk.old out }
-    ensures { Replies out result.0 desk.old desk.new result.1 }
+    ensures replies { Replies out result.0 desk.old desk.new result.1 }
+    ensures ready { (room : ℕ → ℕ) → IsReady room out → IsReady room result.1 }
 {
     let Some(out) = out else {
         return (Answer::Nothing, None);

@@ -5,8 +5,10 @@ ghost use Rattle.run_model.specs.Answers.{AreAnswers, desk_after};
 ghost use Rattle.run_model.specs.Headline.{EachOnce, attempts, out_after};
 ghost use Rattle.trace_history.specs.Answers.{history_view};
 ghost use Rattle.trace_run.specs.Out.{shown};
+ghost use Rattle.run_laws.specs.Laws.{LateBehindShutdown, DroppedWhereFull, QueuedWhereRoom, TakenWhereDue, TakesTheFirst, TakenBehindShutdown, OneBatchIsOut, HandedAreNotDropped, WaitingAreEnded, BatchesAreEnded, DropsNameEnded, LedgerNamesTheDropped};
+ghost use Rattle.trace_run.specs.Report.{OfRun};
 ghost use Rattle.trace_run.specs.Run.{run_config};
-ghost use Rattle.trace_run.specs.State.{TellsAll};
+ghost use Rattle.trace_run.specs.State.{MeansItsBatch, TellsAll};
 
 use crate::config::RunConfig;
 use crate::queue::SpanQueue;
@@ -14,10 +16,14 @@ use crate::report::RunReport;
 use crate::running::Running;
 use crate::sending::OutBatch;
 use batch_desk::Desk;
-use desk_laws::no_ticket_is_lost;
+use desk_laws::{batches_are_slices, no_ticket_is_lost};
 use otlp_ids::OutOfMemory;
 use otlp_sampler::Sampler;
 use rand_core::Rng;
+use run_laws::{
+    ended_spans_stay, ends_are_answered, none_is_unaccounted_for, one_batch_is_out,
+    takes_are_answered,
+};
 use span_exporter::Exporter;
 use span_table::SpanTable;
 use std::alloc::Allocator;
@@ -47,12 +53,41 @@ pub fn run<S: Sampler + Drop, R: Rng + Drop, E: Exporter, A: Allocator + Copy>(
 
     // Each step is answered, as the steps before it and the exporter decide.
     ensures count { IfOk result (λ report. length report.answers ≡ length steps.now) }
-    ensures answered { let run = run_config S.meaning R.stream config in
-        IfOk result (λ report. AreAnswers run (history_view steps.now report.answers)) }
+    ensures answered { IfOk result (OfRun S.meaning R.stream config steps.now AreAnswers) }
+
+    // The first end of a sampled span: behind a shutdown it is late; else the span is dropped where
+    // the queue is full, and waits where it isn't.
+    ensures late { IfOk result
+        (OfRun S.meaning R.stream config steps.now LateBehindShutdown) }
+    ensures full { IfOk result
+        (OfRun S.meaning R.stream config steps.now DroppedWhereFull) }
+    ensures queued { IfOk result
+        (OfRun S.meaning R.stream config steps.now QueuedWhereRoom) }
+
+    // A take gives a batch exactly where one is due and none is out: the first spans that wait.
+    ensures due { IfOk result (OfRun S.meaning R.stream config steps.now TakenWhereDue) }
+    ensures first { IfOk result (OfRun S.meaning R.stream config steps.now TakesTheFirst) }
+    ensures shutdown { IfOk result
+        (OfRun S.meaning R.stream config steps.now TakenBehindShutdown) }
+    ensures one_out { IfOk result
+        (OfRun S.meaning R.stream config steps.now (λ run. OneBatchIsOut)) }
 
     // No span is unaccounted for.
-    ensures each_once { let run = run_config S.meaning R.stream config in
-        IfOk result (λ report. EachOnce run.setup (history_view steps.now report.answers)) }
+    ensures each_once { IfOk result
+        (OfRun S.meaning R.stream config steps.now (λ run. EachOnce run.setup)) }
+
+    ensures not_named { IfOk result (OfRun S.meaning R.stream config steps.now
+        (λ run. HandedAreNotDropped run.setup)) }
+
+    // Each has the value that the history means, and so has each entry of the ledger.
+    ensures waiting { IfOk result (OfRun S.meaning R.stream config steps.now
+        (λ run. WaitingAreEnded run.setup)) }
+    ensures batches { IfOk result (OfRun S.meaning R.stream config steps.now
+        (λ run. BatchesAreEnded run.setup)) }
+    ensures named { IfOk result (OfRun S.meaning R.stream config steps.now
+        (λ run. DropsNameEnded run.setup)) }
+    ensures ledger { IfOk result
+        (OfRun S.meaning R.stream config steps.now LedgerNamesTheDropped) }
 
     // The queue, its ledger and the batch that is out have the spans that the steps mean.
     ensures desk { let run = run_config S.meaning R.stream config in
@@ -62,10 +97,11 @@ pub fn run<S: Sampler + Drop, R: Rng + Drop, E: Exporter, A: Allocator + Copy>(
         IfOk result (λ report.
         shown report.out ≡ out_after run.setup (history_view steps.now report.answers)) }
 
-    // An exporter that tells was handed the attempts that the answers speak of.
-    ensures handed { IfOk result (λ report.
-        TellsAll (attempts (history_view steps.now report.answers))
-        (E.handed exporter.old) (E.handed exporter.new)) }
+    // An exporter that tells was handed the attempts that the answers speak of. The body of each
+    // means the spans of its batch.
+    ensures handed { IfOk result (OfRun S.meaning R.stream config steps.now (λ run history.
+        TellsAll (attempts history) (MeansItsBatch run.setup history)
+        (E.handed exporter.old) (E.handed exporter.new))) }
 
     // Refused, nothing was done.
     ensures refused { OnErr result (exporter.new ≡ exporter.old) }
@@ -92,12 +128,18 @@ pub fn run<S: Sampler + Drop, R: Rng + Drop, E: Exporter, A: Allocator + Copy>(
         queue,
     };
     let mut out: Option<OutBatch<A>> = None;
+    batches_are_slices();
+    ended_spans_stay();
     for step in steps {
         let (answer, later) = running.take_step(out, step, exporter);
         out = later;
         answers.push_reserved(answer);
     }
     no_ticket_is_lost();
+    ends_are_answered();
+    takes_are_answered();
+    one_batch_is_out();
+    none_is_unaccounted_for();
     let Running { queue, .. } = running;
     let SpanQueue { desk } = queue;
     Ok(RunReport { answers, desk, out })

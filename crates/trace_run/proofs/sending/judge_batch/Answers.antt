@@ -1,11 +1,11 @@
-use Rattle.std.proofs.Common.{◌≡◌, refl, sym, ap, ◌∙◌}
+use Rattle.std.proofs.Common.{refl, sym, ap, ◌∙◌}
 use Rattle.desk_model.specs.Retries.{fate_of}
 use Rattle.batch_desk.specs.Views.{fate_view}
 use Rattle.trace_history.specs.declared.answer.Answer.TheVariants.{Replied}
 use Rattle.trace_run.proofs.sending.judge_batch.Goals as goal
 
-pub returns-in-ToJudge : goal.returns-in-ToJudge
-returns-in-ToJudge g c =
+pub returns-in-ToJudge-clause-replies : goal.returns-in-ToJudge-clause-replies
+returns-in-ToJudge-clause-replies g c =
     let decided = c.decide-next.ensures.next in
     rw (c.in-Some.is, ← c.out.view_is, c.in-ToJudge.is) (record {
       next = c.decide-next.result;

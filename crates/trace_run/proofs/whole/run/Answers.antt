@@ -1,21 +1,21 @@
-use Rattle.std.proofs.Common.{◌≡◌, ◌<◌, ◌≤◌, ◌+◌, ◌-◌, ◌^◌, refl, sym, ap, subst, ◌∙◌, arith, length, take, map, suc, take_all, get_or}
+use Rattle.std.proofs.Common.{◌<◌, ◌+◌, ◌-◌, ◌^◌, ap, ◌∙◌, arith, length, take, take_all}
 use Rattle.std.proofs.lemmas.List.{length-map, length_push}
-use Rattle.run_model.specs.Headline.{attempts}
+use Rattle.run_model.specs.Runs.{Answered}
 use Rattle.otlp_span.specs.Parts.{scope_view}
 use Rattle.trace_history.specs.Answers.{answer_view, history_view}
 use Rattle.trace_history.specs.Steps.{step_view}
 use Rattle.trace_run.specs.Run.{run_config}
-use Rattle.trace_run.specs.State.{Stands, TellsAll}
 use Rattle.trace_run.proofs.Standing.{desk-is}
 use Rattle.trace_run.proofs.Places.{placed}
-use Rattle.trace_run.proofs.Runs.{stands-first, tells-none, tells-more, attempts-push, each-once, behind-length, behind-push}
+use Rattle.trace_run.proofs.Bodies.{body-stays}
+use Rattle.trace_run.proofs.Runs.{stands-first, tells-none, tells-more, tells-still, attempts-push, each-once, behind-length, behind-push}
 use Rattle.trace_run.proofs.whole.run.Goals as goal
 
 pub loop-step-init : goal.loop-step-init
 loop-step-init g c = record {
   stands = stands-first g.S.Sampler.meaning g.R.Rng.stream (run_config g.S.Sampler.meaning g.R.Rng.stream c.args.config) _ _
       (rw (c.new-provider.ensures, c.in_ok-resource.ensures.ok) at c.in_ok-table.ensures.table) c.in_ok-table.ensures.empty c.in-Ok.ensures.desk c.in-Ok.ensures.history;
-  told = tells-none (g.E.Exporter.handed c.args.exporter.now);
+  told = tells-none _ (g.E.Exporter.handed c.args.exporter.now);
   ready = tt;
   count = ap length c.in_ok-answers.ensures.items;
   answers_room = c.in_ok-answers.ensures.exact;
@@ -41,10 +41,13 @@ loop-step-preserved g c =
     let h = history_view (take c.loop-step.step-index c.args.steps.now) c.loop-step.answers.items in
     let small : length h < 2 ^ 64 - 1 = omega (arith, behind-length c.args.steps.now c.loop-step.answers.items c.loop-step.step-index i.count c.loop-step-test.true, c.loop-step-test.true) in
     let pushed = behind-push c.args.steps.now c.loop-step.answers.items c.loop-step.step-index c.step-item.result c.take_step-answer.result.0 i.count c.loop-step-test.true c.step-item.is in
+    let x : Answered = record { step = step_view c.step-item.result; answer = answer_view c.take_step-answer.result.0 } in
+    let stands = c.take_step-answer.ensures.goes_on run h small i.stands in
+    let still = body-stays c.batches_are_slices.ensures.stay c.ended_spans_stay.ensures.stay run.setup h x _ i.stands.below stands.history in
     record {
-      stands = rw (c.push_reserved.ensures.items, pushed) (c.take_step-answer.ensures.goes_on run h small i.stands);
-      told = rw (c.push_reserved.ensures.items, pushed, attempts-push h (record { step = step_view c.step-item.result; answer = answer_view c.take_step-answer.result.0 }))
-          (tells-more _ _ _ _ _ i.told (c.take_step-answer.ensures.told run h i.stands));
+      stands = rw (c.push_reserved.ensures.items, pushed) stands;
+      told = rw (c.push_reserved.ensures.items, pushed, attempts-push h x)
+          (tells-more _ _ _ _ _ _ (tells-still _ _ _ _ _ still i.told) (tells-still _ _ _ _ _ still (c.take_step-answer.ensures.told run h i.stands)));
       ready = c.take_step-answer.ensures.ready;
       count = ap length c.push_reserved.ensures.items ∙ length_push c.loop-step.answers.items c.take_step-answer.result.0 ∙ ap (λ n. n + 1) i.count;
       answers_room = c.push_reserved.ensures.capacity ∙ i.answers_room;
@@ -68,3 +71,63 @@ returns-clause-out g c = rw (take_all c.loop-step.step-index c.args.steps.now c.
 
 pub returns-clause-handed : goal.returns-clause-handed
 returns-clause-handed g c = rw (take_all c.loop-step.step-index c.args.steps.now c.loop-step-test.false) at c.loop-step.invariant.told
+
+pub returns-clause-late : goal.returns-clause-late
+returns-clause-late g c =
+    let run = run_config g.S.Sampler.meaning g.R.Rng.stream c.args.config in
+    rw (take_all c.loop-step.step-index c.args.steps.now c.loop-step-test.false) at (c.ends_are_answered.ensures.late run _ c.loop-step.invariant.stands.answers)
+
+pub returns-clause-full : goal.returns-clause-full
+returns-clause-full g c =
+    let run = run_config g.S.Sampler.meaning g.R.Rng.stream c.args.config in
+    rw (take_all c.loop-step.step-index c.args.steps.now c.loop-step-test.false) at (c.ends_are_answered.ensures.full run _ c.loop-step.invariant.stands.answers)
+
+pub returns-clause-queued : goal.returns-clause-queued
+returns-clause-queued g c =
+    let run = run_config g.S.Sampler.meaning g.R.Rng.stream c.args.config in
+    rw (take_all c.loop-step.step-index c.args.steps.now c.loop-step-test.false) at (c.ends_are_answered.ensures.queued run _ c.loop-step.invariant.stands.answers)
+
+pub returns-clause-due : goal.returns-clause-due
+returns-clause-due g c =
+    let run = run_config g.S.Sampler.meaning g.R.Rng.stream c.args.config in
+    rw (take_all c.loop-step.step-index c.args.steps.now c.loop-step-test.false) at (c.takes_are_answered.ensures.due run _ c.loop-step.invariant.stands.answers)
+
+pub returns-clause-first : goal.returns-clause-first
+returns-clause-first g c =
+    let run = run_config g.S.Sampler.meaning g.R.Rng.stream c.args.config in
+    rw (take_all c.loop-step.step-index c.args.steps.now c.loop-step-test.false) at (c.takes_are_answered.ensures.first run _ c.loop-step.invariant.stands.answers)
+
+pub returns-clause-shutdown : goal.returns-clause-shutdown
+returns-clause-shutdown g c =
+    let run = run_config g.S.Sampler.meaning g.R.Rng.stream c.args.config in
+    rw (take_all c.loop-step.step-index c.args.steps.now c.loop-step-test.false) at (c.takes_are_answered.ensures.shutdown run _ c.loop-step.invariant.stands.answers)
+
+pub returns-clause-one_out : goal.returns-clause-one_out
+returns-clause-one_out g c =
+    let run = run_config g.S.Sampler.meaning g.R.Rng.stream c.args.config in
+    rw (take_all c.loop-step.step-index c.args.steps.now c.loop-step-test.false) at (c.one_batch_is_out.ensures.one run _ c.loop-step.invariant.stands.answers)
+
+pub returns-clause-not_named : goal.returns-clause-not_named
+returns-clause-not_named g c =
+    let run = run_config g.S.Sampler.meaning g.R.Rng.stream c.args.config in
+    c.none_is_unaccounted_for.ensures.handed run.setup (history_view c.args.steps.now c.loop-step.answers.items) (returns-clause-each_once g c)
+
+pub returns-clause-waiting : goal.returns-clause-waiting
+returns-clause-waiting g c =
+    let run = run_config g.S.Sampler.meaning g.R.Rng.stream c.args.config in
+    c.ended_spans_stay.ensures.waiting run.setup (history_view c.args.steps.now c.loop-step.answers.items)
+
+pub returns-clause-batches : goal.returns-clause-batches
+returns-clause-batches g c =
+    let run = run_config g.S.Sampler.meaning g.R.Rng.stream c.args.config in
+    c.ended_spans_stay.ensures.batches run.setup (history_view c.args.steps.now c.loop-step.answers.items)
+
+pub returns-clause-named : goal.returns-clause-named
+returns-clause-named g c =
+    let run = run_config g.S.Sampler.meaning g.R.Rng.stream c.args.config in
+    c.ended_spans_stay.ensures.drops run.setup (history_view c.args.steps.now c.loop-step.answers.items)
+
+pub returns-clause-ledger : goal.returns-clause-ledger
+returns-clause-ledger g c =
+    let run = run_config g.S.Sampler.meaning g.R.Rng.stream c.args.config in
+    c.none_is_unaccounted_for.ensures.named run (history_view c.args.steps.now c.loop-step.answers.items)
