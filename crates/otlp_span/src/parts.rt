@@ -112,7 +112,7 @@ impl Default for SpanLimits {
 
 /// What makes telemetry, as a service or a host (Resource SDK).
 #[derive(Drop)]
-#[derive_where(Debug, PartialEq, Eq)]
+#[derive_where(Debug, PartialEq, Eq, Hash)]
 pub struct Resource<A: Allocator = Global> {
     /// Its attributes, with distinct keys. They stand as they are: no limit holds for them.
     pub attributes: Vec<(String<A>, Value<A>), A>,
@@ -122,7 +122,7 @@ pub struct Resource<A: Allocator = Global> {
 
 /// The part of a program that makes spans (Common, "Instrumentation Scope").
 #[derive(Drop)]
-#[derive_where(Debug, PartialEq, Eq)]
+#[derive_where(Debug, PartialEq, Eq, Hash)]
 pub struct Scope<A: Allocator = Global> {
     /// Its name.
     pub name: String<A>,

@@ -13,7 +13,7 @@ use std::marker::Model;
 
 /// A value of an attribute (OpenTelemetry Common, "Attribute").
 #[derive(Drop)]
-#[derive_where(Debug, PartialEq, Eq)]
+#[derive_where(Debug, PartialEq, Eq, Hash)]
 pub enum Value<A: Allocator = Global> {
     /// A text.
     Text(String<A>),
