@@ -1,10 +1,10 @@
 -- What is written is read: a body means the spans of the groups that it carries. And facts of answers.
-use Rattle.std.proofs.Common.{refl, ap, ◌∙◌, ℕ, List, Result, Ok, Err, IfOk}
+use Rattle.std.proofs.Common.{◌≡◌, ◌≢◌, refl, ap, ◌∙◌, ℕ, ◌<◌, List, [], ◌∷◌, map, length, Result, Ok, Err, IfOk, arith}
 use Rattle.message_model.specs.Reading.{Reads}
 use Rattle.message_model.specs.Tables
 use Rattle.message_model.specs.Messages.{meaning, body_meaning, triples}
 use Rattle.span_model.specs.Spans.{EndedSpan}
-use Rattle.export_model.specs.Export.{groups, grouped_triples, request_message}
+use Rattle.export_model.specs.Export.{ResourceGroup, groups_by, groups, grouped_triples, request_message}
 use Rattle.export_model.proofs.Grouped.{request-triples}
 
 -- the body of the groups of some spans means these spans
@@ -15,3 +15,19 @@ body-means spans bs h = (rw h.0 refl, ap triples h.1 ∙ request-triples spans)
 pub if-ok : {T E : Type 0} {P Q : T → Type 0} (r : Result T E) → ((x : T) → P x → Q x) → IfOk r P → IfOk r Q
 if-ok (Ok x) f h = f x h
 if-ok (Err e) f h = tt
+
+-- ---- what takes memory
+
+-- a list that has an item has items
+pub some_items : {A : Type 0} (xs : List A) (i : ℕ) → i < length xs → xs ≢ []
+some_items xs i l e = let none : length xs ≡ 0 = ap length e in omega (arith, l, none)
+
+no-groups : groups [] ≡ []
+unfolding groups groups_by
+no-groups = refl
+
+-- groups stand only where spans do
+pub spans_grouped : {A : Type 0} (spans : List EndedSpan) (gs : List A) (view : A → ResourceGroup) → map view gs ≡ groups spans → gs ≢ [] → spans ≢ []
+spans_grouped spans [] view e h = absurd (h refl)
+spans_grouped [] (g ∷ gs) view e h = let none : view g ∷ map view gs ≡ [] = e ∙ no-groups in cc
+spans_grouped (x ∷ xs) (g ∷ gs) view e h = λ i. cc

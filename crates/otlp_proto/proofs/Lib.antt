@@ -1,6 +1,4 @@
 mod Read
 mod Values
 mod Writing
-mod Shared
 mod Carried
-mod Equal

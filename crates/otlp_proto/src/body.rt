@@ -3,16 +3,14 @@ ghost use Rattle.std.specs.Prelude.{◌≡◌, ◌≢◌, ◌≤◌, ◌<◌, []
 ghost use Rattle.message_model.specs.Reading.{Reads};
 ghost use Rattle.message_model.specs.Messages.{body_meaning};
 ghost use Rattle.export_model.specs.Export as model;
-ghost use Rattle.otlp_proto.specs.Group.{SharePlace};
 
 use crate::encoder::{EncodeFault, encode};
-use crate::groups::group;
 use otlp_span::SpanData;
+use scope_group::group;
 use std::alloc::Allocator;
 
 /// The body of the request that exports these spans, grouped by resource and scope. It has at most
-/// `max` bytes. Today all spans have to share one resource and one scope: `share_place` tells
-/// whether they do.
+/// `max` bytes.
 ///
 /// # Errors
 ///
@@ -23,7 +21,6 @@ pub fn body_of<A: Allocator + Copy>(
     spans: &[SpanData<A>],
     max: usize,
 ) -> Result<Vec<u8, A>, EncodeFault>
-    requires { SharePlace spans.now }
     ensures meaning { IfOk result
         (λ body. Reads (body_meaning body.items) (model.grouped_triples spans.now)) }
     ensures length { IfOk result

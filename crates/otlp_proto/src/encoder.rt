@@ -6,18 +6,18 @@ ghost use Rattle.message_model.specs.Tables;
 ghost use Rattle.message_model.specs.Messages.{meaning, body_meaning};
 ghost use Rattle.export_model.specs.Export as model;
 ghost use Rattle.otlp_span.specs.Parts.{kind_view, parent_id_view, resource_view, scope_view};
-ghost use Rattle.otlp_proto.specs.Group.{scope_group_view, resource_group_view, groups_view};
+ghost use Rattle.scope_group.specs.Group.{scope_group_view, resource_group_view, groups_view};
 ghost use Rattle.otlp_proto.specs.Encode.{Puts, IsWritten};
 
 mod fields;
 mod parts;
 mod values;
 
-use crate::groups::{ResourceGroup, ScopeGroup};
 use fields::{put_bytes, put_enum, put_fixed64, put_len, put_text, put_uint32};
 use otlp_ids::{OutOfMemory, SpanId};
 use otlp_span::{Kind, Resource, Scope, SpanData};
 use parts::{put_events, put_links, put_status};
+use scope_group::{ResourceGroup, ScopeGroup};
 use std::alloc::Allocator;
 use thiserror::Error;
 use values::put_attributes;
@@ -141,7 +141,7 @@ fn encode_resource_spans<A: Allocator + Copy>(
 }
 
 /// The message of a request, whatever its length. Without a group it takes no memory.
-#[tactic(auto, using(crate::proofs::Shared::some_items, crate::proofs::Writing::none_yet))]
+#[tactic(auto, using(crate::proofs::Carried::some_items, crate::proofs::Writing::none_yet))]
 fn encode_request<A: Allocator + Copy>(
     alloc: A,
     groups: &[ResourceGroup<'_, A>],

@@ -4,10 +4,6 @@
 
 mod body;
 mod encoder;
-mod groups;
-mod place;
 
 pub use body::body_of;
 pub use encoder::{DEFAULT_MAX_BODY, EncodeFault, encode};
-pub use groups::{ResourceGroup, ScopeGroup, group};
-pub use place::share_place;

@@ -1,6 +1,5 @@
-use Rattle.otlp_proto.specs.Group.{resource_group_view}
-use Rattle.otlp_proto.proofs.Carried.{body-means, if-ok}
-use Rattle.otlp_proto.proofs.Shared.{spans_grouped}
+use Rattle.scope_group.specs.Group.{resource_group_view}
+use Rattle.otlp_proto.proofs.Carried.{body-means, if-ok, spans_grouped}
 use Rattle.otlp_proto.proofs.body.body_of.Goals as goal
 
 pub returns-clause-meaning : goal.returns-clause-meaning

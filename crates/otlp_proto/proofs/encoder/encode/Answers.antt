@@ -1,6 +1,6 @@
 use Rattle.std.proofs.Common.{arith}
 use Rattle.export_model.specs.Export.{request_message}
-use Rattle.otlp_proto.specs.Group.{groups_view}
+use Rattle.scope_group.specs.Group.{groups_view}
 use Rattle.otlp_proto.proofs.Read.{reads-written, spans-written, length-written}
 use Rattle.otlp_proto.proofs.encoder.encode.Goals as goal
 

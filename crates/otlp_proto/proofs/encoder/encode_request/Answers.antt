@@ -1,6 +1,6 @@
 use Rattle.std.proofs.Common.{take_all}
 use Rattle.export_model.specs.Export.{resource_spans_message, request_message}
-use Rattle.otlp_proto.specs.Group.{resource_group_view}
+use Rattle.scope_group.specs.Group.{resource_group_view}
 use Rattle.otlp_proto.proofs.Writing.{no-field, and-field, message-more}
 use Rattle.otlp_proto.proofs.encoder.encode_request.Goals as goal
 

@@ -1,7 +1,7 @@
 use Rattle.std.proofs.Common.{map, take}
 use Rattle.message_model.specs.Tables
 use Rattle.export_model.specs.Export.{resource_spans_message}
-use Rattle.otlp_proto.specs.Group.{resource_group_view}
+use Rattle.scope_group.specs.Group.{resource_group_view}
 use Rattle.otlp_proto.specs.Encode.{Puts}
 use Rattle.otlp_proto.proofs.encoder.encode_request.Given as goal
 

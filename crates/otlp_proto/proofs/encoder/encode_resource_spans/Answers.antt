@@ -1,6 +1,6 @@
 use Rattle.std.proofs.Common.{refl, take_all}
 use Rattle.export_model.specs.Export.{scope_spans_message}
-use Rattle.otlp_proto.specs.Group.{scope_group_view}
+use Rattle.scope_group.specs.Group.{scope_group_view}
 use Rattle.otlp_proto.proofs.Writing.{no-field, and-field, message-more, put-message}
 use Rattle.otlp_proto.proofs.encoder.encode_resource_spans.Goals as goal
 
