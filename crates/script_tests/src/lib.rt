@@ -9,6 +9,8 @@ mod memory;
 #[cfg(test)]
 mod queue;
 #[cfg(test)]
+mod scopes;
+#[cfg(test)]
 mod scripts;
 #[cfg(test)]
 mod words;

@@ -1,6 +1,7 @@
-//! Scripts that are read on heaps of growing size.
+//! Scripts for which each call for memory is refused once.
 
 use crate::scripts::REMOTE;
+use failing_allocator::FailingAllocator;
 use linked_list_allocator::LocalHeap;
 use span_script::{Script, ScriptError};
 use std::alloc::Global;
@@ -12,6 +13,9 @@ const LINES: &str = concat!(
     "words 0102030405060708 090a0b0c0d0e0f10\n",
     "resource k T:a,b\n",
     "scope 0 s v u\n",
+    "sattr 0 k t:v\n",
+    "scope 1 t v u\n",
+    "sattr 1 l I:1,2\n",
     "attr 0 k I:1,2\n",
     "event 0 1 e k B:true l I:1,2\n",
     "exception 0 1 T M S k t:x\n",
@@ -23,21 +27,28 @@ const LINES: &str = concat!(
     "flush\n",
 );
 
-/// Parses the text on heaps of growing size: it has so many steps, or memory is refused.
+/// More calls for memory than a script here takes.
+const MOST: u64 = 100;
+
+/// Parses the text, each time with another call for memory refused. It is refused, or the script has
+/// so many steps: room that is only asked for ahead may be refused without a word. All memory is
+/// given back.
 fn is_refused(rt: &impl Abort, alloc: Global, text: &str, steps: usize) -> Result<(), Fail> {
+    let heap = LocalHeap::new(alloc, 65_536)?;
     let (mut refused, mut read) = (0u64, 0u64);
-    for place in 0..150usize {
-        let heap = LocalHeap::new(alloc, place * 40)?;
-        match Script::parse(&heap, text.as_bytes()) {
+    for fail_index in 0..MOST {
+        let scarce = FailingAllocator::new(&heap, fail_index);
+        match Script::parse(&scarce, text.as_bytes()) {
             Ok(script) => {
-                assert_eq!(rt; script.steps.len(), steps, "{place}");
+                assert_eq!(rt; script.steps.len(), steps, "{fail_index}");
                 read = read.saturating_add(1);
             }
             Err(error) => {
-                assert_eq!(rt; error, ScriptError::OutOfMemory, "{place}");
+                assert_eq!(rt; error, ScriptError::OutOfMemory, "{fail_index}");
                 refused = refused.saturating_add(1);
             }
         }
+        assert_eq!(rt; heap.used(), 0, "{fail_index}");
     }
     assert!(rt; refused > 2 && read > 2, "{refused} {read}");
     Ok(())

@@ -119,7 +119,6 @@ fn tells_bad_lines(rt: HostRuntime) {
         "answer later 503 none",
         "answer none",
         "max 1",
-        "sattr 0 k i:1",
     ] {
         let script = Script::parse(rt.alloc(), line.as_bytes());
         assert_eq!(rt; script.err(), Some(ScriptError::BadLine(1)), "{line}");

@@ -1,12 +1,15 @@
 -- How a draft goes on as the script does.
-use Rattle.std.proofs.Common.{◌≡◌, ℕ, true, false, List, [], ◌∷◌, ◌++◌, map, Some, Vec, refl, ap, ◌∙◌}
+use Rattle.std.proofs.Common.{◌≡◌, ℕ, zero, suc, ◌<◌, true, false, List, [], ◌∷◌, ◌++◌, length, map, Some, Vec, slice_get, refl, sym, ap, ◌∙◌, subst}
 use Rattle.std.specs.Prelude.{is_some}
-use Rattle.std.proofs.lemmas.List.{map_push}
+use Rattle.std.specs.List.{slice_set}
+use Rattle.std.proofs.lemmas.Bool.{eq-eqb, lt-ltb}
+use Rattle.std.proofs.lemmas.List.{map_push, length-map}
+use Rattle.std.proofs.lemmas.Option.{slice_get_within}
 use Rattle.span_model.specs.Attributes as attributes
 use Rattle.span_model.specs.Attributes.{AttributeList, SetsPair}
-use Rattle.otlp_span.specs.declared.Scope.{Scope}
+use Rattle.span_model.specs.Spans as spans
 use Rattle.otlp_span.specs.declared.parts.SpanLimits.{SpanLimits}
-use Rattle.otlp_span.specs.Parts.{limits_view, scope_view}
+use Rattle.otlp_span.specs.Parts.{limits_view}
 use Rattle.batch_desk.specs.declared.config.DeskConfig.{DeskConfig}
 use Rattle.batch_desk.specs.Views.{config_view}
 use Rattle.retry_core.specs.declared.outcome.Outcome.{Outcome}
@@ -15,9 +18,10 @@ use Rattle.span_script.specs.declared.sampler.SamplerName.{SamplerName}
 use Rattle.trace_history.specs.declared.step.Step.{Step as CodeStep}
 use Rattle.span_script.specs.declared.draft.Draft.{Draft}
 use Rattle.trace_history.specs.Steps.{step_view}
-use Rattle.span_script.specs.Lines.{words, sampler, limits, desk, resource, scope, answer, step}
-use Rattle.span_script.specs.Scripts.{Script}
-use Rattle.span_script.specs.Drafts.{Holds, no_items, with_line}
+use Rattle.span_script.specs.Lines.{words, sampler, limits, desk, resource, scope, scope_attribute, answer, step}
+use Rattle.span_script.specs.declared.scope.ScopeDraft.{ScopeDraft}
+use Rattle.span_script.specs.Scripts.{Script, all_kept, with_attributes}
+use Rattle.span_script.specs.Drafts.{Holds, scope_draft_view, scope_draft, no_items, set_on, with_line}
 
 pub add_words : {A : Type 0} (d : Draft A) (after : Vec ℕ A) (s : Script) (more : List ℕ) → no_items s.steps ≡ true → after.items ≡ d.words.items ++ more → Holds d s
     → (t : Script) × (with_line s (words more) ≡ Some t) × Holds (record d { words = after }) t
@@ -62,13 +66,17 @@ add_attribute d after s p first set h = (
   },
 )
 
-pub add_scope : {A : Type 0} (d : Draft A) (after : Vec (Scope A) A) (s : Script) (more : Scope A) → no_items s.steps ≡ true → no_items s.scopes ≡ true
+pub same_count : {A : Type 0} (ds : List (ScopeDraft A)) (xs : List spans.Scope) → map scope_draft_view ds ≡ map scope_draft xs → length ds ≡ length xs
+same_count ds xs e = sym (length-map ds scope_draft_view) ∙ ap length e ∙ length-map xs scope_draft
+
+pub add_scope : {A : Type 0} (d : Draft A) (after : Vec (ScopeDraft A) A) (s : Script) (number : ℕ) (x : spans.Scope) (more : ScopeDraft A)
+    → no_items s.steps ≡ true → number ≡ length d.scopes.items → scope_draft_view more ≡ scope_draft (with_attributes [] x)
     → after.items ≡ d.scopes.items ++ more ∷ [] → Holds d s
-    → (t : Script) × (with_line s (scope 0 (scope_view more)) ≡ Some t) × Holds (record d { scopes = after }) t
+    → (t : Script) × (with_line s (scope number x) ≡ Some t) × Holds (record d { scopes = after }) t
 unfolding with_line
-add_scope d after s more first only e h = (
-  record s { scopes = s.scopes ++ scope_view more ∷ [] },
-  rw (first, only) refl,
+add_scope d after s number x more first next is e h = (
+  record s { scopes = s.scopes ++ with_attributes [] x ∷ [] },
+  rw (first, eq-eqb number (length s.scopes) (next ∙ same_count d.scopes.items s.scopes h.scopes)) refl,
   record {
     words = h.words;
     sampler = h.sampler;
@@ -76,11 +84,69 @@ add_scope d after s more first only e h = (
     desk = h.desk;
     resource_limits = h.resource_limits;
     resource = h.resource;
-    scopes = ap (map scope_view) e ∙ map_push scope_view d.scopes.items more ∙ ap (λ l. l ++ scope_view more ∷ []) h.scopes;
+    scopes =
+        ap (map scope_draft_view) e ∙ map_push scope_draft_view d.scopes.items more ∙ ap (λ y. map scope_draft_view d.scopes.items ++ y ∷ []) is
+        ∙ ap (λ l. l ++ scope_draft (with_attributes [] x) ∷ []) h.scopes
+        ∙ sym (map_push scope_draft s.scopes (with_attributes [] x));
     answers = h.answers;
     steps = h.steps;
   },
 )
+
+-- ---- an attribute of a scope
+
+parts_same : {X : Type 0} (x y : X) (xs ys : List X) → (x ∷ xs) ≡ (y ∷ ys) → (x ≡ y) × (xs ≡ ys)
+parts_same x y xs ys e = (cc, cc)
+
+-- one more attribute on a scope
+one_set : {A : Type 0} (c : ScopeDraft A) (x : spans.Scope) (after : AttributeList) (p : attributes.Attribute)
+    → scope_draft_view c ≡ scope_draft x → SetsPair p c.attributes after
+    → scope_draft_view (record c { attributes = after }) ≡ scope_draft (with_attributes (x.attributes ++ p ∷ []) x)
+one_set c x after p e set =
+    let limits : c.attributes.limits ≡ all_kept = ap (λ y. y.1.limits) e in
+    let kept : c.attributes.kept ≡ attributes.attributes all_kept x.attributes = ap (λ y. y.1.kept) e in
+    let more : after.kept ≡ attributes.attributes all_kept (x.attributes ++ p ∷ []) = rw limits at (set.value x.attributes (rw limits kept)) in
+    ap (λ y. (y.0, after)) e
+    ∙ ap (λ l. (with_attributes [] x, record { limits = l; kept = after.kept })) (set.limits ∙ limits)
+    ∙ ap (λ k. (with_attributes [] x, record { limits = all_kept; kept = k })) more
+
+-- on that of this number
+set_there : {A : Type 0} (ds : List (ScopeDraft A)) (xs : List spans.Scope) (n : ℕ) (c : ScopeDraft A) (after : AttributeList) (p : attributes.Attribute)
+    → slice_get ds n ≡ Some c → map scope_draft_view ds ≡ map scope_draft xs → SetsPair p c.attributes after
+    → map scope_draft_view (slice_set ds n (record c { attributes = after })) ≡ map scope_draft (set_on n p xs)
+set_there [] xs n c after p found e set = cc
+set_there (d ∷ ds) [] n c after p found e set = cc
+set_there (d ∷ ds) (x ∷ xs) zero c after p found e set =
+    let both = parts_same (scope_draft_view d) (scope_draft x) (map scope_draft_view ds) (map scope_draft xs) e in
+    let it : d ≡ c = cc in
+    ap (λ y. y ∷ map scope_draft_view ds) (one_set c x after p (ap scope_draft_view (sym it) ∙ both.0) set)
+    ∙ ap (λ ys. scope_draft (with_attributes (x.attributes ++ p ∷ []) x) ∷ ys) both.1
+set_there (d ∷ ds) (x ∷ xs) (suc n) c after p found e set =
+    let both = parts_same (scope_draft_view d) (scope_draft x) (map scope_draft_view ds) (map scope_draft xs) e in
+    ap (λ y. y ∷ map scope_draft_view (slice_set ds n (record c { attributes = after }))) both.0
+    ∙ ap (λ ys. scope_draft x ∷ ys) (set_there ds xs n c after p found both.1 set)
+
+pub add_scope_attribute : {A : Type 0} (d : Draft A) (after : Vec (ScopeDraft A) A) (s : Script) (n : ℕ) (c : ScopeDraft A) (list : AttributeList) (p : attributes.Attribute)
+    → no_items s.steps ≡ true → slice_get d.scopes.items n ≡ Some c → SetsPair p c.attributes list
+    → after.items ≡ slice_set d.scopes.items n (record c { attributes = list }) → Holds d s
+    → (t : Script) × (with_line s (scope_attribute n p) ≡ Some t) × Holds (record d { scopes = after }) t
+unfolding with_line
+add_scope_attribute d after s n c list p first found set e h =
+    let within : n < length s.scopes = subst (λ k. n < k) (same_count d.scopes.items s.scopes h.scopes) (slice_get_within d.scopes.items n c found) in (
+      record s { scopes = set_on n p s.scopes },
+      rw (first, lt-ltb n (length s.scopes) within) refl,
+      record {
+        words = h.words;
+        sampler = h.sampler;
+        limits = h.limits;
+        desk = h.desk;
+        resource_limits = h.resource_limits;
+        resource = h.resource;
+        scopes = ap (map scope_draft_view) e ∙ set_there d.scopes.items s.scopes n c list p found h.scopes set;
+        answers = h.answers;
+        steps = h.steps;
+      },
+    )
 
 pub add_answer : {A : Type 0} (d : Draft A) (after : Vec Outcome A) (s : Script) (more : Outcome)
     → after.items ≡ d.answers.items ++ more ∷ [] → Holds d s

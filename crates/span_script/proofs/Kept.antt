@@ -1,18 +1,15 @@
 -- What holds of every script that is read.
-use Rattle.std.proofs.Common.{◌≡◌, ℕ, suc, ◌+◌, ◌-◌, ◌<◌, ◌≤◌, true, eqb, List, [], ◌∷◌, length, get_or, Option, Some, None, Result, Ok, Err, ◌⊎◌, inl, inr, refl, sym, ap, ◌∙◌, subst, arith}
-use Rattle.std.specs.Prelude.{◌&&◌, unwrap_or}
+use Rattle.std.proofs.Common.{◌≡◌, ℕ, suc, ◌+◌, ◌-◌, ◌<◌, List, [], ◌∷◌, length, get_or, Option, Some, None, Result, Ok, Err, ◌⊎◌, inl, inr, refl, sym, ◌∙◌, subst, arith}
+use Rattle.std.specs.Prelude.{unwrap_or}
 use Rattle.std.specs.Option.{IfSome}
-use Rattle.std.proofs.lemmas.Bool.{and_parts}
-use Rattle.std.proofs.lemmas.List.{length-map}
 use Rattle.std.proofs.lemmas.Option.{cond_some}
 use Rattle.desk_model.specs.Desks.{DeskConfig}
-use Rattle.otlp_span.specs.Parts.{scope_view}
 use Rattle.span_ring.specs.SpanRing.{IsRingSize}
 use Rattle.batch_desk.specs.Desk.{default_config}
 use Rattle.script_words.specs.Words.{◌>>=◌}
-use Rattle.span_script.specs.Lines.{Line, words, sampler, limits, desk, resource, scope, answer, step, line_of}
+use Rattle.span_script.specs.Lines.{Line, words, sampler, limits, desk, resource, scope, scope_attribute, answer, step, line_of}
 use Rattle.span_script.specs.Scripts.{Script, lines_of, script_read, IsLine}
-use Rattle.span_script.specs.Drafts.{no_script, no_items, fits, extended_script, with_line, line_read}
+use Rattle.span_script.specs.Drafts.{no_script, fits, extended_script, with_line, line_read}
 use Rattle.span_script.proofs.Sizes.{IsSized, IsSizedLine, sized_line}
 use Rattle.span_script.proofs.Together.{lines_read, numbered, text_read}
 use Rattle.span_script.specs.Parsed.{Means}
@@ -20,31 +17,24 @@ use Rattle.span_script.specs.declared.script.Script.{Script as CodeScript}
 
 -- ---- one line
 
-nothing : {X : Type 0} (xs : List X) → no_items xs ≡ true → xs ≡ []
-nothing [] e = refl
-nothing (x ∷ xs) e = cc
+-- the sizes are some that a queue may have, where any are set
+abbrev IsKept : Script → Type 0
+IsKept s = IfSome s.desk IsSized
 
--- one scope at most, and sizes that a queue may have, where any are set
-record IsKept (s : Script) : Type 0 where
-  one : length s.scopes ≤ 1
-  sizes : IfSome s.desk IsSized
-
-fitting : (s : Script) (line : Line) → IsKept s → IsSizedLine line → fits s line ≡ true → IsKept (extended_script s line)
-fitting s (words ws) kept sized e = record { one = kept.one; sizes = kept.sizes }
-fitting s (sampler name) kept sized e = record { one = kept.one; sizes = kept.sizes }
-fitting s (limits l) kept sized e = record { one = kept.one; sizes = kept.sizes }
-fitting s (desk c) kept sized e = record { one = kept.one; sizes = sized }
-fitting s (resource x) kept sized e = record { one = kept.one; sizes = kept.sizes }
-fitting s (scope number x) kept sized e =
-    let p = and_parts (no_items s.steps) (no_items s.scopes && eqb number 0) e in
-    let q = and_parts (no_items s.scopes) (eqb number 0) p.1 in
-    record { one = rw (nothing s.scopes q.0) (omega arith); sizes = kept.sizes }
-fitting s (answer o) kept sized e = record { one = kept.one; sizes = kept.sizes }
-fitting s (step x) kept sized e = record { one = kept.one; sizes = kept.sizes }
+fitting : (s : Script) (line : Line) → IsKept s → IsSizedLine line → IsKept (extended_script s line)
+fitting s (words ws) kept sized = kept
+fitting s (sampler name) kept sized = kept
+fitting s (limits l) kept sized = kept
+fitting s (desk c) kept sized = sized
+fitting s (resource x) kept sized = kept
+fitting s (scope number x) kept sized = kept
+fitting s (scope_attribute number p) kept sized = kept
+fitting s (answer o) kept sized = kept
+fitting s (step x) kept sized = kept
 
 with_line_kept : (s t : Script) (line : Line) → IsKept s → IsSizedLine line → with_line s line ≡ Some t → IsKept t
 unfolding with_line
-with_line_kept s t line kept sized e = let p = cond_some (fits s line) (extended_script s line) t e in subst IsKept p.1 (fitting s line kept sized p.0)
+with_line_kept s t line kept sized e = let p = cond_some (fits s line) (extended_script s line) t e in subst IsKept p.1 (fitting s line kept sized)
 
 line_kept : (s t : Script) (o : Option Line) → IsKept s → IfSome o IsSizedLine → (o >>= λ line. with_line s line) ≡ Some t → IsKept t
 line_kept s t None kept sized e = cc
@@ -69,19 +59,15 @@ lines_kept n s t (line ∷ lines) kept e =
     lines_kept (n + 1) p.0 t lines (read_kept s p.0 line kept p.1) p.2
 
 text_kept : (s : Script) (text : List ℕ) → script_read text ≡ Ok s → IsKept s
-text_kept s text e = lines_kept 1 no_script s (lines_of text) (record { one = omega arith; sizes = tt }) (text_read text ∙ e)
-
--- the script in the code has one scope at most
-pub one_scope : {A : Type 0} (c : CodeScript A) (s : Script) (text : List ℕ) → Means c s → script_read text ≡ Ok s → length c.scopes.items ≤ 1
-one_scope c s text means e = rw (sym (length-map c.scopes.items scope_view) ∙ ap length means.scopes) (text_kept s text e).one
+text_kept s text e = lines_kept 1 no_script s (lines_of text) tt (text_read text ∙ e)
 
 or_standard : (o : Option DeskConfig) → IfSome o IsSized → IsSized (unwrap_or o default_config)
 or_standard None sized = record { positive = omega arith; fits = omega arith; limited = omega arith }
 or_standard (Some c) sized = sized
 
--- and sizes that a queue may have
+-- the script in the code has sizes that a queue may have
 pub sizes : {A : Type 0} (c : CodeScript A) (s : Script) (text : List ℕ) → Means c s → script_read text ≡ Ok s → IsRingSize c.desk.queue c.desk.batch
-sizes c s text means e = subst IsSized (sym means.desk) (or_standard s.desk (text_kept s text e).sizes)
+sizes c s text means e = subst IsSized (sym means.desk) (or_standard s.desk (text_kept s text e))
 
 numbered_err : (n m : ℕ) (o : Option Script) (next : Script → Result Script ℕ) → numbered n o next ≡ Err m
     → ((o ≡ None) × (n ≡ m)) ⊎ ((s : Script) × (next s ≡ Err m))

@@ -26,6 +26,7 @@ no_name name arguments h =
       other_than name (codes "desk") h refl,
       other_than name (codes "resource") h refl,
       other_than name (codes "scope") h refl,
+      other_than name (codes "sattr") h refl,
       other_than name (codes "answer") h refl,
     )
     (ap (option_map step) (no_step name arguments h))

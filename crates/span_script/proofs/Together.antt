@@ -48,7 +48,7 @@ if_last ls l = elim (cases_Bool (is_script ls)) [
   | inr no_script ↦ rw (is_last ls l, no_script) refl
   | inl a_script ↦ elim (cases_Bool (fits (contents_of ls) l)) [
     | inr no_fit ↦ rw (is_last ls l, a_script, no_fit) refl
-    | inl fit ↦ rw (is_last ls l, a_script, fit) (ap Some (contents_last ls l fit))
+    | inl fit ↦ rw (is_last ls l, a_script, fit) (ap Some (contents_last ls l a_script fit))
   ]
 ]
 

@@ -1,16 +1,38 @@
 -- What the code has of the lines so far, and how it goes on.
-use Rattle.std.specs.Prelude.{◌≡◌, ℕ, ◌==◌, Bool, true, false, not, ◌&&◌, List, [], ◌∷◌, ◌++◌, map, if◌then◌else◌, option_map, is_some, Option, Some, None, Result, Ok, Err}
-use Rattle.span_model.specs.Attributes.{attributes}
-use Rattle.otlp_span.specs.Parts.{limits_view, scope_view}
+use Rattle.std.specs.Prelude.{◌≡◌, ℕ, zero, suc, ◌==◌, nat_lt, Bool, true, false, not, ◌&&◌, List, [], ◌∷◌, ◌++◌, length, map, if◌then◌else◌, option_map, is_some, Option, Some, None, Result, Ok, Err, string_bytes}
+use Rattle.span_model.specs.Attributes.{Attribute, AttributeList, attributes, attribute_list}
+use Rattle.span_model.specs.Spans as spans
+use Rattle.otlp_span.specs.Parts.{limits_view}
 use Rattle.batch_desk.specs.Views.{config_view}
 use Rattle.retry_core.specs.Retries.{outcome_view}
 use Rattle.trace_history.specs.Steps.{step_view}
 use Rattle.script_words.specs.Words.{◌>>=◌}
-use Rattle.span_script.specs.Lines.{Line, words, sampler, limits, desk, resource, scope, answer, step, line_of}
-use Rattle.span_script.specs.Scripts.{Script, all_kept}
+use Rattle.span_script.specs.Lines.{Line, words, sampler, limits, desk, resource, scope, scope_attribute, answer, step, line_of}
+use Rattle.span_script.specs.Scripts.{Script, all_kept, with_attributes}
 use Rattle.span_script.specs.declared.draft.Draft.{Draft}
+use Rattle.span_script.specs.declared.scope.ScopeDraft.{ScopeDraft}
 use Rattle.script_words.specs.declared.WordFault.{WordFault}
 use Rattle.script_words.specs.declared.WordFault.TheVariants.{Bad, OutOfMemory}
+
+-- a scope of a draft, without its attributes, and the list that these are set in
+abbrev pub scope_draft_view : {A : Type 0} → ScopeDraft A → spans.Scope × AttributeList
+scope_draft_view d = (
+  record {
+    name = string_bytes d.name;
+    version = string_bytes d.version;
+    attributes = [];
+    schema = string_bytes d.schema_url;
+  },
+  d.attributes,
+)
+
+-- the same of a scope on which all of its attributes were set
+abbrev pub scope_draft : spans.Scope → spans.Scope × AttributeList
+scope_draft x = (with_attributes [] x, attribute_list all_kept x.attributes)
+
+-- the scope with the attributes that are left
+abbrev pub finished_scope : spans.Scope × AttributeList → spans.Scope
+finished_scope (x, list) = with_attributes list.kept.items x
 
 pub record Holds {A : Type 0} (d : Draft A) (s : Script) : Type 0 where
   pub words : d.words.items ≡ s.words
@@ -19,7 +41,7 @@ pub record Holds {A : Type 0} (d : Draft A) (s : Script) : Type 0 where
   pub desk : option_map config_view d.desk ≡ s.desk
   pub resource_limits : d.resource.limits ≡ all_kept
   pub resource : d.resource.kept ≡ attributes all_kept s.resource
-  pub scopes : map scope_view d.scopes.items ≡ s.scopes
+  pub scopes : map scope_draft_view d.scopes.items ≡ map scope_draft s.scopes
   pub answers : map outcome_view d.answers.items ≡ s.answers
   pub steps : map step_view d.steps.items ≡ s.steps
 
@@ -48,9 +70,16 @@ fits s (sampler name) = no_items s.steps && not (is_some s.sampler)
 fits s (limits l) = no_items s.steps && not (is_some s.limits)
 fits s (desk c) = no_items s.steps && not (is_some s.desk)
 fits s (resource p) = no_items s.steps
-fits s (scope number x) = no_items s.steps && (no_items s.scopes && number == 0)
+fits s (scope number x) = no_items s.steps && number == length s.scopes
+fits s (scope_attribute number p) = no_items s.steps && nat_lt number (length s.scopes)
 fits s (answer o) = true
 fits s (step x) = true
+
+-- the scopes, with one more attribute on that of this number
+abbrev pub set_on : ℕ → Attribute → List spans.Scope → List spans.Scope
+set_on n p [] = []
+set_on zero p (x ∷ xs) = with_attributes (x.attributes ++ p ∷ []) x ∷ xs
+set_on (suc n) p (x ∷ xs) = x ∷ set_on n p xs
 
 -- what they say with one more line
 abbrev pub extended_script : Script → Line → Script
@@ -59,7 +88,8 @@ extended_script s (sampler name) = record s { sampler = Some name }
 extended_script s (limits l) = record s { limits = Some l }
 extended_script s (desk c) = record s { desk = Some c }
 extended_script s (resource p) = record s { resource = s.resource ++ p ∷ [] }
-extended_script s (scope number x) = record s { scopes = s.scopes ++ x ∷ [] }
+extended_script s (scope number x) = record s { scopes = s.scopes ++ with_attributes [] x ∷ [] }
+extended_script s (scope_attribute number p) = record s { scopes = set_on number p s.scopes }
 extended_script s (answer o) = record s { answers = s.answers ++ o ∷ [] }
 extended_script s (step x) = record s { steps = s.steps ++ x ∷ [] }
 

@@ -29,6 +29,7 @@ pub data Line : Type 0 where
   desk : DeskConfig → Line
   resource : attributes.Attribute → Line
   scope : ℕ → spans.Scope → Line
+  scope_attribute : ℕ → attributes.Attribute → Line
   answer : Outcome → Line
   step : Step → Line
 
@@ -47,6 +48,8 @@ line_view (lines.Scope number name version schema) =
       attributes = [];
       schema = string_bytes schema;
     })
+line_view (lines.ScopeAttribute number key value) =
+    scope_attribute number (attribute_view (key, value))
 line_view (lines.Answer o) = answer (outcome_view o)
 line_view (lines.Step s) = step (step_view s)
 
@@ -116,6 +119,14 @@ scope_line (number ∷ name ∷ version ∷ schema ∷ []) = do
   Some (scope n (record { name = t; version = v; attributes = []; schema = s }))
 scope_line _ = None
 
+-- `sattr N KEY VALUE`
+unfoldable pub scope_attribute_line : List (List ℕ) → Option Line
+scope_attribute_line (number ∷ key ∷ value ∷ []) = do
+  n ← number_below (2 ^ 32) number
+  p ← pair_of key value
+  Some (scope_attribute n p)
+scope_attribute_line _ = None
+
 -- a number from 1 on, up to the greatest that may stand there
 unfoldable pub size_to : ℕ → List ℕ → Option ℕ
 size_to greatest word =
@@ -144,6 +155,7 @@ entry name arguments =
     else if bytes_eq name (codes "desk") then desk_line arguments
     else if bytes_eq name (codes "resource") then resource_line arguments
     else if bytes_eq name (codes "scope") then scope_line arguments
+    else if bytes_eq name (codes "sattr") then scope_attribute_line arguments
     else if bytes_eq name (codes "answer") then option_map answer (outcome_of arguments)
     else option_map step (step_of name arguments)
 

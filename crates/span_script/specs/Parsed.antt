@@ -8,22 +8,22 @@ use Rattle.batch_desk.specs.Desk.{default_config}
 use Rattle.retry_core.specs.Retries.{outcome_view}
 use Rattle.trace_history.specs.Steps.{step_view}
 use Rattle.span_model.specs.Spans.{default_limits}
-use Rattle.span_script.specs.Scripts.{Script, all_kept, IsLine}
+use Rattle.span_script.specs.Scripts.{Script, all_kept, kept_scope, IsLine}
 use Rattle.span_script.specs.declared.sampler.SamplerName.TheVariants.{AlwaysOn}
 use Rattle.span_script.specs.declared.script.Script.{Script as CodeScript}
 use Rattle.span_script.specs.declared.script.ScriptError.{ScriptError}
 use Rattle.span_script.specs.declared.script.ScriptError.TheVariants.{BadLine, OutOfMemory}
 
--- The script in the code says the same. Its resource has the attributes that are left of those that
--- were set. Where no sampler is named, all spans are sampled, and where no limits are set, or no
--- sizes of the batch processor, they are the standard's.
+-- The script in the code says the same. Its resource and its scopes have the attributes that are
+-- left of those that were set. Where no sampler is named, all spans are sampled, and where no
+-- limits are set, or no sizes of the batch processor, they are the standard's.
 pub record Means {A : Type 0} (c : CodeScript A) (s : Script) : Type 0 where
   pub words : c.words.items ≡ s.words
   pub sampler : c.sampler ≡ unwrap_or s.sampler AlwaysOn
   pub limits : limits_view c.limits ≡ unwrap_or s.limits default_limits
   pub desk : config_view c.desk ≡ unwrap_or s.desk default_config
   pub resource : attributes_view c.resource.items ≡ (attributes all_kept s.resource).items
-  pub scopes : map scope_view c.scopes.items ≡ s.scopes
+  pub scopes : map scope_view c.scopes.items ≡ map kept_scope s.scopes
   pub answers : map outcome_view c.answers.items ≡ s.answers
   pub steps : map step_view c.steps.items ≡ s.steps
 

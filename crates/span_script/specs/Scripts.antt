@@ -1,5 +1,5 @@
 -- What the lines of a script say together.
-use Rattle.std.specs.Prelude.{ℕ, ◌+◌, ◌-◌, ◌^◌, ◌<◌, ◌≤◌, ◌==◌, Bool, true, false, not, ◌&&◌, List, [], ◌∷◌, length, map, take, filter, filter_map, flat_map, slice_index_or, if◌then◌else◌, Option, Some, None, is_some, ok_or, Result}
+use Rattle.std.specs.Prelude.{ℕ, ◌+◌, ◌-◌, ◌^◌, ◌<◌, ◌≤◌, ◌==◌, nat_lt, Bool, true, false, not, ◌&&◌, List, [], ◌∷◌, length, map, take, filter, filter_map, flat_map, slice_index_or, if◌then◌else◌, Option, Some, None, is_some, ok_or, Result}
 use Rattle.std.specs.List.{slice_split, list_all, position_or_len, range_with_len}
 use Rattle.span_model.specs.Attributes as attributes
 use Rattle.span_model.specs.Spans as spans
@@ -7,7 +7,7 @@ use Rattle.desk_model.specs.Desks.{DeskConfig}
 use Rattle.desk_model.specs.Retries.{Outcome}
 use Rattle.history_model.specs.Steps.{Step}
 use Rattle.script_words.specs.Words.{◌>>=◌, each_of}
-use Rattle.span_script.specs.Lines.{Line, words, sampler, limits, desk, resource, scope, answer, step, line_of}
+use Rattle.span_script.specs.Lines.{Line, words, sampler, limits, desk, resource, scope, scope_attribute, answer, step, line_of}
 use Rattle.span_script.specs.declared.sampler.SamplerName.{SamplerName}
 
 pub record Script : Type 0 where
@@ -21,14 +21,23 @@ pub record Script : Type 0 where
   pub desk : Option DeskConfig
   -- the attributes that are set on the resource, in order
   pub resource : List attributes.Attribute
+  -- the scopes, each with the attributes that are set on it, in order
   pub scopes : List spans.Scope
   -- what comes of the attempts to send a batch, in order
   pub answers : List Outcome
   pub steps : List Step
 
--- a resource keeps the first 2^32 - 1 of its keys, and texts of any length (profile)
+-- a resource or a scope keeps the first 2^32 - 1 of its keys, and texts of any length (profile)
 abbrev pub all_kept : attributes.Limits
 all_kept = record { count = 2 ^ 32 - 1; length = None }
+
+-- a scope on which these attributes are set
+abbrev pub with_attributes : List attributes.Attribute → spans.Scope → spans.Scope
+with_attributes pairs x = record x { attributes = pairs }
+
+-- a scope with those that are left of the attributes that were set on it
+abbrev pub kept_scope : spans.Scope → spans.Scope
+kept_scope x = with_attributes (attributes.attributes all_kept x.attributes).items x
 
 -- ---- the lines that together are a script
 
@@ -66,6 +75,11 @@ abbrev pub scope_in : Line → Option (ℕ × spans.Scope)
 scope_in (scope number x) = Some (number, x)
 scope_in _ = None
 
+-- the attribute that a line sets on the scope with this number
+abbrev pub attribute_on : ℕ → Line → Option attributes.Attribute
+attribute_on n (scope_attribute number p) = if number == n then Some p else None
+attribute_on n _ = None
+
 abbrev pub answer_in : Line → Option Outcome
 answer_in (answer o) = Some o
 answer_in _ = None
@@ -85,25 +99,38 @@ at_most_one [] = true
 at_most_one (x ∷ []) = true
 at_most_one _ = false
 
--- scopes are numbered from 0 in their order, and there is one at most
-abbrev pub scopes_in_order : List (ℕ × spans.Scope) → Bool
-scopes_in_order [] = true
-scopes_in_order ((number, x) ∷ []) = number == 0
-scopes_in_order _ = false
+-- scopes are numbered in their order, the first of these with n
+abbrev pub numbered_from : ℕ → List (ℕ × spans.Scope) → Bool
+numbered_from n [] = true
+numbered_from n ((number, x) ∷ scopes) = number == n && numbered_from (n + 1) scopes
 
--- Settings stand before steps, the sampler, the limits and the desk are set once at most, and the
--- one scope has the number 0.
+-- Attributes are set on scopes that stand before them. The lines stand behind so many scopes.
+abbrev pub on_scopes_before : ℕ → List Line → Bool
+on_scopes_before n [] = true
+on_scopes_before n (scope number x ∷ lines) = on_scopes_before (n + 1) lines
+on_scopes_before n (scope_attribute number p ∷ lines) =
+    nat_lt number n && on_scopes_before n lines
+on_scopes_before n (_ ∷ lines) = on_scopes_before n lines
+
+-- Settings stand before steps, the sampler, the limits and the desk are set once at most, scopes
+-- are numbered from 0 in their order, and attributes are set on scopes that stand before them.
 abbrev pub is_script : List Line → Bool
 is_script lines =
     settings_first lines
     && (at_most_one (filter_map sampler_in lines)
     && (at_most_one (filter_map limits_in lines)
     && (at_most_one (filter_map desk_in lines)
-    && scopes_in_order (filter_map scope_in lines))))
+    && (numbered_from 0 (filter_map scope_in lines)
+    && on_scopes_before 0 lines))))
 
 abbrev pub first_of : {A : Type 0} → List A → Option A
 first_of [] = None
 first_of (x ∷ xs) = Some x
+
+-- the scopes, each with all attributes that are set on it
+abbrev pub scopes_of : List Line → List spans.Scope
+scopes_of lines =
+    map (λ p. with_attributes (filter_map (attribute_on p.0) lines) p.1) (filter_map scope_in lines)
 
 -- what they say together
 abbrev pub contents_of : List Line → Script
@@ -113,7 +140,7 @@ contents_of lines = record {
   limits = first_of (filter_map limits_in lines);
   desk = first_of (filter_map desk_in lines);
   resource = filter_map attribute_in lines;
-  scopes = map (λ p. p.1) (filter_map scope_in lines);
+  scopes = scopes_of lines;
   answers = filter_map answer_in lines;
   steps = filter_map step_in lines;
 }

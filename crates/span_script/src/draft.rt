@@ -1,20 +1,21 @@
 //! The lines of a script so far, and which line may follow them.
 
-ghost use Rattle.std.specs.Prelude.{◌≡◌, is_some, not};
+ghost use Rattle.std.specs.Prelude.{◌≡◌, [], is_some, not, string_bytes};
 ghost use Rattle.otlp_value.specs.Value.{attribute_view};
-ghost use Rattle.otlp_span.specs.Parts.{limits_view, scope_view};
+ghost use Rattle.otlp_span.specs.Parts.{limits_view};
 ghost use Rattle.batch_desk.specs.Views.{config_view};
 ghost use Rattle.retry_core.specs.Retries.{outcome_view};
 ghost use Rattle.trace_history.specs.Steps.{step_view};
-ghost use Rattle.span_script.specs.Lines.{line_view, words, sampler, limits, desk, resource, scope, answer, step};
+ghost use Rattle.span_script.specs.Lines.{line_view, words, sampler, limits, desk, resource, scope, scope_attribute, answer, step};
 ghost use Rattle.span_script.specs.Scripts.{Script};
 ghost use Rattle.span_script.specs.Drafts.{Holds, Follows, no_items, no_script, with_line, line_read};
 
 use crate::line::{Line, parse_line};
 use crate::sampler::SamplerName;
+use crate::scope::{ScopeDraft, all_attributes};
 use batch_desk::DeskConfig;
-use otlp_span::{Scope, SpanLimits};
-use otlp_value::{AttributeList, Limits, Value};
+use otlp_span::SpanLimits;
+use otlp_value::{AttributeList, Value};
 use retry_core::Outcome;
 use script_words::WordFault;
 use std::alloc::Allocator;
@@ -34,7 +35,7 @@ pub(crate) struct Draft<A: Allocator> {
     /// The attributes of the resource.
     pub(crate) resource: AttributeList<A>,
     /// The scopes.
-    pub(crate) scopes: Vec<Scope<A>, A>,
+    pub(crate) scopes: Vec<ScopeDraft<A>, A>,
     /// What comes of the attempts to send a batch.
     pub(crate) answers: Vec<Outcome, A>,
     /// The steps.
@@ -51,13 +52,7 @@ impl<A: Allocator + Copy> Draft<A> {
             sampler: None,
             limits: None,
             desk: None,
-            resource: AttributeList::new(
-                alloc,
-                Limits {
-                    count: u32::MAX,
-                    value_length: None,
-                },
-            ),
+            resource: all_attributes(alloc),
             scopes: Vec::new(alloc),
             answers: Vec::new(alloc),
             steps: Vec::new(alloc),
@@ -96,17 +91,9 @@ impl<A: Allocator + Copy> Draft<A> {
                 name,
                 version,
                 schema_url,
-            } => {
-                let attributes = Vec::new(alloc);
-                self.add_scope(
-                    number,
-                    Scope {
-                        name,
-                        version,
-                        attributes,
-                        schema_url,
-                    },
-                )
+            } => self.add_scope(alloc, number, name, version, schema_url),
+            Line::ScopeAttribute { number, key, value } => {
+                self.add_scope_attribute(number, key, value)
             }
             Line::Answer(outcome) => self.add_answer(outcome),
             Line::Step(step) => self.add_step(step),
@@ -177,14 +164,54 @@ impl<A: Allocator + Copy> Draft<A> {
 
     /// Goes on with a scope under its number.
     #[tactic(auto, unfolding(crate::specs::Drafts::with_line))]
-    fn add_scope(&mut self, number: u32, more: Scope<A>) -> Result<(), WordFault>
+    fn add_scope(
+        &mut self,
+        alloc: A,
+        number: u32,
+        name: String<A>,
+        version: String<A>,
+        schema_url: String<A>,
+    ) -> Result<(), WordFault>
         ensures { Follows
-            (λ s. with_line s (scope number (scope_view more))) self.old self.new result }
+            (λ s. with_line s (scope number (record {
+              name = string_bytes name;
+              version = string_bytes version;
+              attributes = [];
+              schema = string_bytes schema_url;
+            }))) self.old self.new result }
     {
-        if self.has_steps() || self.has_scopes() || number != 0 {
+        if self.has_steps() || number as usize != self.scopes.len() {
             return Err(WordFault::Bad);
         }
+        let more = ScopeDraft {
+            name,
+            version,
+            attributes: all_attributes(alloc),
+            schema_url,
+        };
         self.scopes.push(more)?;
+        Ok(())
+    }
+
+    /// Goes on with an attribute of the scope with this number.
+    #[tactic(auto, unfolding(crate::specs::Drafts::with_line))]
+    fn add_scope_attribute(
+        &mut self,
+        number: u32,
+        key: String<A>,
+        value: Value<A>,
+    ) -> Result<(), WordFault>
+        ensures { Follows
+            (λ s. with_line s (scope_attribute number (attribute_view (key, value))))
+            self.old self.new result }
+    {
+        if self.has_steps() {
+            return Err(WordFault::Bad);
+        }
+        let Some(scope) = self.scopes.get_mut(number as usize) else {
+            return Err(WordFault::Bad);
+        };
+        scope.attributes.set(key, value)?;
         Ok(())
     }
 
@@ -232,12 +259,5 @@ impl<A: Allocator + Copy> Draft<A> {
         ensures { (s : Script) → Holds self.now s → result ≡ is_some s.desk }
     {
         self.desk.is_some()
-    }
-
-    /// Whether a scope is there.
-    fn has_scopes(&self) -> bool
-        ensures { (s : Script) → Holds self.now s → result ≡ not (no_items s.scopes) }
-    {
-        !self.scopes.is_empty()
     }
 }

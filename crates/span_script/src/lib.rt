@@ -10,7 +10,8 @@
 //! | `limits A E L EA LA V` | sets the limits of spans, once at most |
 //! | `desk Q B D` | sets the sizes and the delay of the batch processor, once at most |
 //! | `resource KEY VALUE` | sets an attribute of the resource |
-//! | `scope 0 NAME VERSION SCHEMA` | the one scope |
+//! | `scope N NAME VERSION SCHEMA` | the next scope, whose number is N |
+//! | `sattr N KEY VALUE` | sets an attribute of scope N |
 //! | `answer OUTCOME` | what comes of the next attempt to send a batch |
 //! | `start SCOPE PARENT KIND AT NAME` | starts a span |
 //! | `attr N KEY VALUE` | sets an attribute of a span |
@@ -26,15 +27,16 @@
 //! | `attempt AT` | hands it to the exporter |
 //! | `reply AT WORD` | judges what came of that |
 //!
-//! The first six are settings, which stand before the first step; an `answer` may stand anywhere,
+//! The first seven are settings, which stand before the first step; an `answer` may stand anywhere,
 //! and all others are steps. Limits are numbers of attributes, events and links of a span, of
 //! attributes of an event and of a link, and the length of a text in characters, or `none`. Q is
 //! how many spans may wait, 1 to 65,536, B how many a batch may have, 1 to Q, and D the delay in
-//! milliseconds. OUTCOME is `delivered`, `partial N`, which is how many spans were rejected,
-//! `refused STATUS`, which is a status of HTTP, or `bad`. Elsewhere N is the number of a span: they
-//! are numbered from 0 by their starts. AT is a moment, and WORD a random number. PARENT is `root`,
-//! such a number, or `remote:TRACE:SPAN:FLAGS:STATE`, or `local:` likewise: 32, 16 and 2
-//! hexadecimal digits of either case and a text, which a further colon belongs to. KIND is
+//! milliseconds. Scopes are numbered from 0 in their order, and an attribute stands behind the
+//! scope that it is set on. OUTCOME is `delivered`, `partial N`, which is how many spans were
+//! rejected, `refused STATUS`, which is a status of HTTP, or `bad`. In a step N is the number of a
+//! span: they are numbered from 0 by their starts. AT is a moment, and WORD a random number. PARENT
+//! is `root`, the number of a span, or `remote:TRACE:SPAN:FLAGS:STATE`, or `local:` likewise: 32,
+//! 16 and 2 hexadecimal digits of either case and a text, which a further colon belongs to. KIND is
 //! `internal`, `server`, `client`, `producer` or `consumer`. PAIRS is any number of `KEY VALUE`.
 //!
 //! In a text `%` and two hexadecimal digits are that byte, `%` alone is the empty text, other bytes
@@ -51,6 +53,7 @@ mod draft;
 mod line;
 mod outcome;
 mod sampler;
+mod scope;
 mod script;
 mod step;
 mod value;

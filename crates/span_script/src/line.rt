@@ -4,7 +4,7 @@ ghost use Rattle.std.specs.Prelude.{◌≡◌, map, ok_or};
 ghost use Rattle.otlp_span.specs.Parts.{limits_view};
 ghost use Rattle.batch_desk.specs.Views.{config_view};
 ghost use Rattle.script_words.specs.Words.{Gives};
-ghost use Rattle.span_script.specs.Lines.{line_view, sampler_of, length_of, limits_of, words_line, sampler_line, limits_line, resource_line, scope_line, size_to, desk_of, desk_line, entry, line_of};
+ghost use Rattle.span_script.specs.Lines.{line_view, sampler_of, length_of, limits_of, words_line, sampler_line, limits_line, resource_line, scope_line, scope_attribute_line, size_to, desk_of, desk_line, entry, line_of};
 ghost use Rattle.script_words.specs.declared.WordFault.TheVariants.{Bad};
 
 use crate::outcome::parse_outcome;
@@ -45,6 +45,15 @@ pub(crate) enum Line<A: Allocator> {
         /// The schema that its telemetry follows, or an empty text.
         schema_url: String<A>,
     },
+    /// An attribute of a scope.
+    ScopeAttribute {
+        /// The number of the scope.
+        number: u32,
+        /// The attribute's key.
+        key: String<A>,
+        /// Its value.
+        value: Value<A>,
+    },
     /// What comes of an attempt to send a batch.
     Answer(Outcome),
     /// A step.
@@ -82,6 +91,7 @@ fn parse_entry<A: Allocator + Copy>(
         "desk" => parse_desk(arguments),
         "resource" => parse_resource(alloc, arguments),
         "scope" => parse_scope(alloc, arguments),
+        "sattr" => parse_scope_attribute(alloc, arguments),
         "answer" => Ok(Line::Answer(parse_outcome(arguments)?)),
         _ => Ok(Line::Step(parse_step(alloc, name, arguments)?)),
     }
@@ -201,6 +211,22 @@ fn parse_scope<A: Allocator + Copy>(alloc: A, arguments: &[&[u8]]) -> Result<Lin
         version,
         schema_url,
     })
+}
+
+/// `sattr N KEY VALUE`
+#[tactic(auto, unfolding(crate::specs::Lines::scope_attribute_line))]
+fn parse_scope_attribute<A: Allocator + Copy>(
+    alloc: A,
+    arguments: &[&[u8]],
+) -> Result<Line<A>, WordFault>
+    ensures { Gives line_view result (scope_attribute_line (map (λ w. w.now) arguments.now)) }
+{
+    let [number, key, value] = arguments else {
+        return Err(WordFault::Bad);
+    };
+    let number = small_number(number)?;
+    let (key, value) = parse_pair(alloc, key, value)?;
+    Ok(Line::ScopeAttribute { number, key, value })
 }
 
 /// `desk Q B D`

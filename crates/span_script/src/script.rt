@@ -1,6 +1,6 @@
 //! A whole script.
 
-ghost use Rattle.std.specs.Prelude.{◌≤◌, IfErr, IfOk, length};
+ghost use Rattle.std.specs.Prelude.{IfErr, IfOk};
 ghost use Rattle.span_ring.specs.SpanRing.{IsRingSize};
 ghost use Rattle.span_script.specs.Scripts.{Script as ScriptRead, script_read};
 ghost use Rattle.span_script.specs.Drafts.{Holds};
@@ -8,7 +8,9 @@ ghost use Rattle.span_script.specs.Parsed.{Means, Parses, TellsLine};
 
 use crate::draft::Draft;
 use crate::sampler::SamplerName;
+use crate::scope::finished_scopes;
 use batch_desk::DeskConfig;
+use otlp_ids::OutOfMemory;
 use otlp_span::{Scope, SpanLimits};
 use otlp_value::Value;
 use retry_core::Outcome;
@@ -32,7 +34,8 @@ pub struct Script<A: Allocator = Global> {
     /// The attributes of the resource, with distinct keys, in the order in which these were first
     /// set.
     pub resource: Vec<(String<A>, Value<A>), A>,
-    /// The scopes, under their numbers.
+    /// The scopes, under their numbers. Their attributes have distinct keys too, in the order in
+    /// which these were first set.
     pub scopes: Vec<Scope<A>, A>,
     /// What comes of the attempts to send a batch, in order.
     pub answers: Vec<Outcome, A>,
@@ -51,13 +54,13 @@ pub enum ScriptError {
     OutOfMemory,
 }
 
-impl From<otlp_ids::OutOfMemory> for ScriptError {
+impl From<OutOfMemory> for ScriptError {
     ghost use Rattle.std.specs.Prelude.{◌≡◌};
     ghost use Rattle.span_script.specs.declared.script.ScriptError.TheVariants.{OutOfMemory};
 
     ghost from_gives = { λ _ error. error ≡ OutOfMemory };
 
-    fn from(_: otlp_ids::OutOfMemory) -> ScriptError {
+    fn from(_: OutOfMemory) -> ScriptError {
         ScriptError::OutOfMemory
     }
 }
@@ -68,15 +71,14 @@ impl<A: Allocator + Copy> Script<A> {
     /// # Errors
     ///
     /// `BadLine` where a line is bad by itself or may not stand where it does: a setting behind a
-    /// step, a second sampler, second limits, a second desk, a second scope or one with another
-    /// number than 0.
+    /// step, a second sampler, second limits, a second desk, a scope with another number than the
+    /// next, an attribute of a scope that doesn't stand before it.
     /// `OutOfMemory` where memory was refused.
     pub fn parse(alloc: A, text: &[u8]) -> Result<Script<A>, ScriptError>
         // What the lines say, or the first bad one.
         ensures exact { Parses result (script_read text.now) }
         ensures numbered { IfErr result (TellsLine text.now) }
         // What a runner may count on.
-        ensures one_scope { IfOk result (λ script. length script.scopes.items ≤ 1) }
         ensures sizes { IfOk result (λ script. IsRingSize script.desk.queue script.desk.batch) }
     {
         let Ok(lines) = parts_of(alloc, text, b'\n') else {
@@ -90,12 +92,12 @@ impl<A: Allocator + Copy> Script<A> {
                 Err(WordFault::OutOfMemory) => return Err(ScriptError::OutOfMemory),
             }
         }
-        Ok(Script::from_draft(draft))
+        Ok(Script::from_draft(alloc, draft)?)
     }
 
     /// The script that a draft has come to.
-    fn from_draft(draft: Draft<A>) -> Script<A>
-        ensures { (s : ScriptRead) → Holds draft s → Means result s }
+    fn from_draft(alloc: A, draft: Draft<A>) -> Result<Script<A>, OutOfMemory>
+        ensures { IfOk result (λ script. (s : ScriptRead) → Holds draft s → Means script s) }
     {
         let Draft {
             words,
@@ -107,15 +109,15 @@ impl<A: Allocator + Copy> Script<A> {
             answers,
             steps,
         } = draft;
-        Script {
+        Ok(Script {
             words,
             sampler: sampler.unwrap_or(SamplerName::AlwaysOn),
             limits: limits.unwrap_or_default(),
             desk: desk.unwrap_or_default(),
             resource: resource.into_pairs(),
-            scopes,
+            scopes: finished_scopes(alloc, scopes)?,
             answers,
             steps,
-        }
+        })
     }
 }

@@ -1,7 +1,7 @@
 use Rattle.std.proofs.Common.{map, refl, ap}
-use Rattle.otlp_span.specs.Parts.{scope_view}
 use Rattle.retry_core.specs.Retries.{outcome_view}
 use Rattle.trace_history.specs.Steps.{step_view}
+use Rattle.span_script.specs.Drafts.{scope_draft_view}
 use Rattle.span_script.proofs.draft.Draft.new.Goals as goal
 
 pub returns : goal.returns
@@ -10,9 +10,9 @@ returns g c = record {
   sampler = refl;
   limits = refl;
   desk = refl;
-  resource_limits = rw c.new-2.ensures refl;
-  resource = rw c.new-2.ensures refl;
-  scopes = ap (map scope_view) c.new-3.ensures.items;
-  answers = ap (map outcome_view) c.new-4.ensures.items;
-  steps = ap (map step_view) c.new-5.ensures.items;
+  resource_limits = rw c.all_attributes.ensures refl;
+  resource = rw c.all_attributes.ensures refl;
+  scopes = ap (map scope_draft_view) c.new-2.ensures.items;
+  answers = ap (map outcome_view) c.new-3.ensures.items;
+  steps = ap (map step_view) c.new-4.ensures.items;
 }

@@ -1,10 +1,13 @@
-use Rattle.std.proofs.Common.{◌≡◌, Option, Some, None, ap, ◌∙◌}
+use Rattle.std.proofs.Common.{◌≡◌, List, [], ◌∷◌, map, Option, Some, None, refl, ap, ◌∙◌}
 use Rattle.std.specs.Prelude.{option_map, unwrap_or}
 use Rattle.std.specs.Option.{UnwrapsOrElse}
 use Rattle.otlp_span.specs.Parts.{limits_view}
+use Rattle.span_model.specs.Spans as spans
 use Rattle.span_model.specs.Spans.{default_limits}
 use Rattle.batch_desk.specs.Desk.{default_config}
 use Rattle.batch_desk.specs.Views.{config_view}
+use Rattle.span_script.specs.Scripts.{kept_scope}
+use Rattle.span_script.specs.Drafts.{scope_draft, finished_scope}
 use Rattle.span_script.specs.declared.sampler.SamplerName.TheVariants.{AlwaysOn}
 use Rattle.span_script.proofs.script.Script.from_draft.Goals as goal
 
@@ -14,6 +17,11 @@ or_standard : {X Y : Type 0} (view : X → Y) (standard : Y) (o : Option X) (x :
 or_standard view standard None x P e is = is e
 or_standard view standard (Some y) x P e is = ap view e
 
+-- what is left of the attributes of each scope
+kept_each : (xs : List spans.Scope) → map finished_scope (map scope_draft xs) ≡ map kept_scope xs
+kept_each [] = refl
+kept_each (x ∷ xs) = ap (λ ys. kept_scope x ∷ ys) (kept_each xs)
+
 pub returns : goal.returns
 returns g c = λ s h. record {
   words = h.words;
@@ -21,7 +29,7 @@ returns g c = λ s h. record {
   limits = or_standard limits_view default_limits c.args.draft.limits _ _ c.unwrap_or_default.ensures (λ is. is) ∙ ap (λ o. unwrap_or o default_limits) h.limits;
   desk = or_standard config_view default_config c.args.draft.desk _ _ c.unwrap_or_default-2.ensures (λ is. is) ∙ ap (λ o. unwrap_or o default_config) h.desk;
   resource = c.into_pairs.ensures ∙ ap (λ kept. kept.items) h.resource;
-  scopes = h.scopes;
+  scopes = c.in_ok-finished_scopes.ensures ∙ ap (map finished_scope) h.scopes ∙ kept_each s.scopes;
   answers = h.answers;
   steps = h.steps;
 }

@@ -1,7 +1,7 @@
 use Rattle.std.proofs.Common.{sym, ap, ◌∙◌, rules}
 use Rattle.script_words.proofs.Each.{words_at}
 use Rattle.span_script.proofs.Loop.{one_more_line, bad_line, no_more_lines, whole_text}
-use Rattle.span_script.proofs.Kept.{one_scope, sizes, bad_line_is}
+use Rattle.span_script.proofs.Kept.{sizes, bad_line_is}
 use Rattle.span_script.proofs.script.Script.parse.Goals as goal
 
 pub returns-in-Err-Bad-clause-exact : goal.returns-in-Err-Bad-clause-exact
@@ -24,10 +24,7 @@ pub returns-clause-exact : goal.returns-clause-exact
 returns-clause-exact g c =
     let all = whole_text c.deref-line-items.result.now c.args.text.now (ap words_at c.deref-line-items.ensures.value ∙ c.in-Ok.ensures) in
     let so_far = c.loop-index.invariant in
-    (so_far.0, sym all ∙ no_more_lines so_far.0 c.deref-line-items.result.now c.loop-index.index _ (search rules) so_far.2, c.from_draft.ensures so_far.0 so_far.1)
-
-pub returns-clause-one_scope : goal.returns-clause-one_scope
-returns-clause-one_scope g c = let s = returns-clause-exact g c in one_scope c.from_draft.result s.0 c.args.text.now s.2 s.1
+    (so_far.0, sym all ∙ no_more_lines so_far.0 c.deref-line-items.result.now c.loop-index.index _ (search rules) so_far.2, c.in_ok-from_draft.ensures so_far.0 so_far.1)
 
 pub returns-clause-sizes : goal.returns-clause-sizes
-returns-clause-sizes g c = let s = returns-clause-exact g c in sizes c.from_draft.result s.0 c.args.text.now s.2 s.1
+returns-clause-sizes g c = let s = returns-clause-exact g c in sizes c.in_ok-from_draft.field-0 s.0 c.args.text.now s.2 s.1
