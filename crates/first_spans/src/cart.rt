@@ -10,7 +10,7 @@ use std::sync::Arc;
 use trace_kit::{
     AlwaysOn, BodyPass, DEFAULT_MAX_BODY, EncodeFault, Kind, OutOfMemory, ParentBased, Provider,
     Resource, Sampler, Scope, Span, SpanLimits, StartFault, Status, Tracer, Value, WordsRng,
-    body_of, share_place,
+    body_of,
 };
 
 /// Why there is no body.
@@ -20,8 +20,6 @@ pub enum Fault {
     Start(StartFault),
     /// The spans could not be encoded.
     Encode(EncodeFault),
-    /// The spans are of more than one resource or scope.
-    Places,
 }
 
 impl From<StartFault> for Fault {
@@ -98,9 +96,6 @@ fn cart_body(
     let tracer = provider.tracer(scope);
     let mut pass = BodyPass::new(alloc, 2)?;
     record_request(alloc, &tracer, rng, &mut pass)?;
-    if !share_place(pass.spans()) {
-        return Err(Fault::Places);
-    }
     Ok(body_of(alloc, pass.spans(), DEFAULT_MAX_BODY)?)
 }
 

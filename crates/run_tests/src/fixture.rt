@@ -231,17 +231,15 @@ pub(crate) fn name(number: u64, ticket: u64) -> Entry {
 
 // ---- runs
 
-/// Asserts that the queue can be made, and that there is one scope.
+/// Asserts that the queue can be made.
 pub(crate) fn assert_runs<S: Sampler, A: Allocator>(
     rt: &impl Abort,
     config: &RunConfig<S, WordsRng<A>, A>,
 )
-    ensures sizes { IsRingSize config.now.desk.queue config.now.desk.batch }
-    ensures one_scope { length config.now.scopes.items ≤ 1 }
+    ensures { IsRingSize config.now.desk.queue config.now.desk.batch }
 {
     let (queue, batch) = (config.desk.queue, config.desk.batch);
     assert!(rt; 0 < batch && batch <= queue && queue <= MAX_QUEUE);
-    assert!(rt; config.scopes.len() <= 1);
 }
 
 /// Runs a program, whose steps stand with the answers that are compared.

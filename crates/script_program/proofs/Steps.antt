@@ -23,7 +23,6 @@ use Rattle.run_model.specs.Runs.{Answer, is_refused}
 use Rattle.span_script.specs.Scripts.{Script}
 use Rattle.span_script.specs.Parsed.{Means}
 use Rattle.span_script.specs.declared.script.Script.{Script as CodeScript}
-use Rattle.otlp_proto.specs.Group.{SharePlace}
 use Rattle.otlp_ids.specs.WordStream.{after_words, words_of}
 use Rattle.span_table.specs.Table.{TableWith, TakesStep, IsTable, span_numbered, calls_so_far}
 use Rattle.span_table.specs.Ends.{EndsAs, EndsBy, AnswersAlone, AnswersPass}
@@ -249,17 +248,3 @@ none-left (x ∷ xs) (suc i) h = none-left xs i (omega (arith, h))
 -- what a script is
 pub same-script : {A : Type 0} (c : CodeScript A) (read : Script) → Means c read → ended_spans (setup_view c) (granted_steps (map step_view c.steps.items)) ≡ spans_of read
 same-script c read m = rw (m.words, m.sampler, m.limits, m.resource, m.scopes, m.steps) refl
-
--- spans of one scope share their place
-pub share : (setup : Setup) (spans : List EndedSpan) → length setup.scopes ≤ 1 → AllByRecursion (IsPlaced setup) spans → SharePlace spans
-share setup [] few h = tt
-share setup (x ∷ xs) few h = each xs h.1
-  where
-    first : (n : ℕ) (scope : Scope) → slice_get setup.scopes n ≡ Some scope → slice_get setup.scopes 0 ≡ Some scope
-    first n scope e = let l : n < length setup.scopes = slice_get_within setup.scopes n scope e in let zero-n : n ≡ 0 = omega (arith, l, few) in rw zero-n at e
-
-    each : (ys : List EndedSpan) → AllByRecursion (IsPlaced setup) ys → AllByRecursion (λ y. (y.resource ≡ x.resource) × (y.scope ≡ x.scope)) ys
-    each [] k = tt
-    each (y ∷ ys) k =
-        let both : Some y.scope ≡ Some x.scope = sym (first k.0.1 y.scope k.0.2) ∙ first h.0.1 x.scope h.0.2 in
-        ((k.0.0 ∙ sym h.0.0, (let same : y.scope ≡ x.scope = cc in same)), each ys k.1)

@@ -2,7 +2,6 @@
 ghost use Rattle.std.specs.Prelude.{◌≡◌, ◌+◌, ◌≤◌, ◌∷◌, [], IfOk, OnOk, false, length, map};
 ghost use Rattle.history_model.specs.History.{ended_spans, granted_steps};
 ghost use Rattle.history_model.specs.Steps.{is_shutdown as closes};
-ghost use Rattle.otlp_proto.specs.Group.{SharePlace};
 ghost use Rattle.run_model.specs.Runs.{is_refused};
 ghost use Rattle.trace_history.specs.Answers.{answer_view};
 ghost use Rattle.trace_history.specs.Steps.{step_view};
@@ -27,10 +26,8 @@ pub fn spans_of_script<A: Allocator + Copy>(
     alloc: A,
     script: Script<A>,
 ) -> Result<BodyPass<A>, OutOfMemory>
-    requires { length script.scopes.items ≤ 1 }
-    ensures exact { IfOk result (λ pass. pass.spans ≡
+    ensures { IfOk result (λ pass. pass.spans ≡
         ended_spans (setup_view script) (granted_steps (map step_view script.steps.items))) }
-    ensures shared { IfOk result (λ pass. SharePlace pass.spans) }
 {
     let Script {
         words,

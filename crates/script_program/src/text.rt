@@ -1,5 +1,5 @@
 //! The lines that a script prints.
-ghost use Rattle.std.specs.Prelude.{◌≡◌, ◌≤◌, IfOk, length, map, string_bytes};
+ghost use Rattle.std.specs.Prelude.{◌≡◌, IfOk, map, string_bytes};
 ghost use Rattle.span_ring.specs.SpanRing.{IsRingSize};
 ghost use Rattle.span_exporter.specs.Views.{handed_view};
 ghost use Rattle.trace_history.specs.Answers.{history_view};
@@ -25,8 +25,7 @@ pub fn text_of_script<A: Allocator + Copy>(
     alloc: A,
     script: Script<A>,
 ) -> Result<String<A>, OutOfMemory>
-    requires one_scope { length script.scopes.items ≤ 1 }
-    requires sizes { IsRingSize script.desk.queue script.desk.batch }
+    requires { IsRingSize script.desk.queue script.desk.batch }
     ensures { (read : ScriptRead) → Means script read
         → IfOk result (λ text. IsRunText read (string_bytes text)) }
 {

@@ -6,9 +6,7 @@ pub use batch_desk::{
 };
 pub use drop_ledger::Ledger;
 pub use otlp_ids::{IdFault, OutOfMemory, SpanContext, SpanId, TraceFlags, TraceId};
-pub use otlp_proto::{
-    DEFAULT_MAX_BODY, EncodeFault, ResourceGroup, ScopeGroup, body_of, encode, group, share_place,
-};
+pub use otlp_proto::{DEFAULT_MAX_BODY, EncodeFault, body_of, encode};
 pub use otlp_sampler::{AlwaysOff, AlwaysOn, Decision, ParentBased, Sampler};
 pub use otlp_span::{
     Entries, Entry, Event, Kind, Link, Open, Reason, Resource, Scope, Slip, SpanCall, SpanData,
@@ -17,6 +15,7 @@ pub use otlp_span::{
 pub use otlp_value::{AttributeList, Limits, Value};
 pub use retry_core::{Cause, Next, Outcome, RetryAfter, decide};
 pub use run_text::{write_answers, write_report};
+pub use scope_group::{ResourceGroup, ScopeGroup, group};
 pub use script_program::{ScriptSampler, script, trace_script};
 pub use span_exporter::{Exporter, Handed, MemoryExporter};
 pub use span_ring::RingFault;

@@ -1,7 +1,6 @@
 pub mod Standing
 pub mod Ending
 pub mod Batches
-pub mod Places
 pub mod Runs
 pub mod Telling
 pub mod Calling

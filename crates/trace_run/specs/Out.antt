@@ -8,7 +8,6 @@ use Rattle.desk_model.specs.Retries as retries
 use Rattle.desk_model.specs.Retries.{Fate, next_of, fate_of}
 use Rattle.desk_model.specs.Queue as desk
 use Rattle.desk_model.specs.Desks.{Desk, Does, TakesSpans}
-use Rattle.otlp_proto.specs.Group.{SharePlace}
 use Rattle.retry_core.specs.Retries.{outcome_view, next_view}
 use Rattle.retry_core.specs.declared.next.Next.{Next}
 use Rattle.retry_core.specs.declared.outcome.Outcome.{Outcome}
@@ -57,11 +56,6 @@ shown (Some o) = Some (record {
 abbrev pub IsTied : Desk → Option Out → Type 0
 IsTied d None = d.out ≡ None
 IsTied d (Some o) = IsOut (is_sent o.stage) d o.batch
-
--- its spans share one resource and one scope
-abbrev pub IsPlaced : Option Out → Type 0
-IsPlaced None = Unit {0}
-IsPlaced (Some o) = SharePlace o.batch.spans
 
 -- The body, read as a request, is these spans under their resources and scopes. (OTLP
 -- Specification, OTLP/HTTP)

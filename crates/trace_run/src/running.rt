@@ -4,7 +4,7 @@ ghost use Rattle.run_model.specs.Answers as model;
 ghost use Rattle.run_model.specs.Runs.{Answered};
 ghost use Rattle.trace_history.specs.Answers.{answer_view};
 ghost use Rattle.trace_history.specs.Steps.{step_view};
-ghost use Rattle.trace_run.specs.Out.{IsPlaced, IsReady, IsTied};
+ghost use Rattle.trace_run.specs.Out.{IsReady, IsTied};
 ghost use Rattle.trace_run.specs.State.{GoesOn, MeansItsBatch, Stands, Tells};
 
 use crate::queue::SpanQueue;
@@ -34,7 +34,6 @@ impl<'a, S: Sampler, R: Rng, A: Allocator + Copy> Running<'a, S, R, A> {
     ) -> (Answer, Option<OutBatch<A>>)
         requires room { length self.old.table.spans < self.old.table.room }
         requires tied { IsTied self.old.queue out }
-        requires placed { IsPlaced out }
         requires ready { IsReady (E.room exporter.old) out }
         ensures goes_on { let x : Answered =
             record { step = step_view step.now; answer = answer_view result.0 } in

@@ -2,12 +2,11 @@
 ghost use Rattle.std.specs.Prelude.{◌≡◌, ◌<◌, ℕ, Some, IfOk, length, is_some, true};
 ghost use Rattle.export_model.specs.Export.{groups, body_length};
 ghost use Rattle.desk_model.specs.Retries as model;
-ghost use Rattle.otlp_proto.specs.Group.{SharePlace};
 ghost use Rattle.retry_core.specs.Retries.{next_view, outcome_view};
 ghost use Rattle.batch_desk.specs.Views.{fate_view};
 ghost use Rattle.run_model.specs.Answers.{take_answer};
 ghost use Rattle.trace_history.specs.Answers.{answer_view};
-ghost use Rattle.trace_run.specs.Out.{Encodes, EncodesBatch, IsPlaced, IsReady, IsTied, MeansSpans, Replies, Sends, Takes};
+ghost use Rattle.trace_run.specs.Out.{Encodes, EncodesBatch, IsReady, IsTied, MeansSpans, Replies, Sends, Takes};
 
 use batch_desk::{Batch, Desk, Fate};
 use otlp_ids::OutOfMemory;
@@ -81,7 +80,6 @@ pub(crate) fn encode_batch<E: Exporter, A: Allocator + Copy>(
     out: Option<OutBatch<A>>,
     exporter: &mut E,
 ) -> (Answer, Option<OutBatch<A>>)
-    requires placed { IsPlaced out }
     requires ready { IsReady (E.room exporter.old) out }
     ensures encodes { Encodes out result.0 result.1 }
     ensures ready { IsReady (E.room exporter.new) result.1 }
@@ -103,8 +101,7 @@ fn encode_spans<E: Exporter, A: Allocator + Copy>(
     batch: Batch<A>,
     exporter: &mut E,
 ) -> (Answer, Option<OutBatch<A>>)
-    requires placed { SharePlace batch.spans }
-    requires numbered { 0 < batch.number }
+    requires { 0 < batch.number }
     ensures encodes { EncodesBatch batch result.0 result.1 }
     ensures ready { IsReady (E.room exporter.new) result.1 }
     ensures nothing_is_sent { E.handed exporter.new ≡ E.handed exporter.old }
@@ -131,7 +128,6 @@ fn prepare_body<E: Exporter, A: Allocator + Copy>(
     batch: &Batch<A>,
     exporter: &mut E,
 ) -> Result<Vec<u8, A>, OutOfMemory>
-    requires { SharePlace batch.now.spans }
     ensures length { IfOk result
         (λ body. length body.items ≡ body_length (groups batch.now.spans)) }
     ensures means { IfOk result (λ body. MeansSpans batch.now.spans body.items) }

@@ -1,5 +1,5 @@
 //! Runs of whole programs.
-ghost use Rattle.std.specs.Prelude.{◌≡◌, ◌≤◌, IfOk, OnErr, length, map};
+ghost use Rattle.std.specs.Prelude.{◌≡◌, IfOk, OnErr, length};
 ghost use Rattle.span_ring.specs.SpanRing.{IsRingSize};
 ghost use Rattle.run_model.specs.Answers.{AreAnswers, desk_after};
 ghost use Rattle.run_model.specs.Headline.{EachOnce, attempts, out_after};
@@ -36,7 +36,7 @@ use trace_history::Step;
 /// Each sampled span that ends before the shutdown is waiting, or in the batch that is out, or was
 /// handed to the exporter, or is named by the ledger as dropped: once, and as its calls made it.
 ///
-/// The scopes of `config` are at most one, and its desk is of sizes that `Desk::new` takes.
+/// The desk of `config` is of sizes that `Desk::new` takes.
 ///
 /// # Errors
 ///
@@ -48,8 +48,7 @@ pub fn run<S: Sampler + Drop, R: Rng + Drop, E: Exporter, A: Allocator + Copy>(
     steps: &[Step<A>],
     exporter: &mut E,
 ) -> Result<RunReport<A>, OutOfMemory>
-    requires sizes { IsRingSize config.desk.queue config.desk.batch }
-    requires one_scope { length config.scopes.items ≤ 1 }
+    requires { IsRingSize config.desk.queue config.desk.batch }
 
     // Each step is answered, as the steps before it and the exporter decide.
     ensures count { IfOk result (λ report. length report.answers ≡ length steps.now) }

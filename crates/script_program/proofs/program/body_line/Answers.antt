@@ -8,7 +8,7 @@ use Rattle.script_program.proofs.program.body_line.Goals as goal
 
 pub returns-clause-line : goal.returns-clause-line
 returns-clause-line g c = λ read means.
-    let spans = c.spans.ensures ∙ c.in_ok-pass.ensures.exact ∙ same-script c.args.script read means in
+    let spans = c.spans.ensures ∙ c.in_ok-pass.ensures ∙ same-script c.args.script read means in
     record {
       body = c.in_ok-body.body.items;
       meaning = rw spans at c.in_ok-body.ensures.meaning;

@@ -1,18 +1,15 @@
-use Rattle.std.proofs.Common.{◌≡◌, ◌≤◌, ◌<◌, ◌^◌, refl, sym, ap, ◌∙◌, arith, [], map, length}
+use Rattle.std.proofs.Common.{◌≡◌, ◌<◌, ◌^◌, refl, sym, ap, ◌∙◌, arith, [], map, length}
 use Rattle.std.proofs.lemmas.List.{length-map}
-use Rattle.history_model.specs.History.{ended_spans, granted_steps}
-use Rattle.history_model.proofs.Histories.{ended-placed}
-use Rattle.otlp_span.specs.Parts.{scope_view}
 use Rattle.trace_history.specs.Steps.{step_view}
 use Rattle.script_program.specs.Recorder.{Stands, setup_view, start_steps}
-use Rattle.script_program.proofs.Steps.{begun, share, starts-few, words-are}
+use Rattle.script_program.proofs.Steps.{begun, starts-few, words-are}
 use Rattle.script_program.proofs.recorder.spans_of_script.Goals as goal
 
 pub take_steps-requires : goal.take_steps-requires
 take_steps-requires g c = rw (c.in_ok-spans.ensures.empty, c.in_ok-spans.ensures.room, c.count_starts-room.ensures, c.as_slice.ensures.value, c.as_slice-2.ensures.value) (omega arith)
 
-pub returns-clause-exact : goal.returns-clause-exact
-returns-clause-exact g c =
+pub returns : goal.returns
+returns g c =
     let setup = setup_view c.args.script in
     let steps = map step_view c.args.script.steps.items in
     let list = c.args.script.steps in
@@ -24,10 +21,3 @@ returns-clause-exact g c =
     c.in_ok-spans.ensures.empty room (c.in_ok-pass.ensures.value ∙ rw (c.count_starts-room.ensures, c.as_slice.ensures.value) refl) bound in
     let after = (rw c.as_slice-2.ensures.value at c.in_ok-take_steps.ensures) setup [] before in
     ap (λ p. p.spans) after.kept
-
-pub returns-clause-shared : goal.returns-clause-shared
-returns-clause-shared g c =
-    let setup = setup_view c.args.script in
-    let steps = map step_view c.args.script.steps.items in
-    let few : length setup.scopes ≤ 1 = rw (length-map c.args.script.scopes.items scope_view) c.requires in
-    rw (returns-clause-exact g c) (share setup (ended_spans setup (granted_steps steps)) few (ended-placed setup (granted_steps steps)))

@@ -6,7 +6,6 @@ use Rattle.trace_history.specs.Answers.{answer_view, history_view}
 use Rattle.trace_history.specs.Steps.{step_view}
 use Rattle.trace_run.specs.Run.{run_config}
 use Rattle.trace_run.proofs.Standing.{desk-is}
-use Rattle.trace_run.proofs.Places.{placed}
 use Rattle.trace_run.proofs.Bodies.{body-stays}
 use Rattle.trace_run.proofs.Runs.{stands-first, tells-none, tells-more, tells-still, attempts-push, each-once, behind-length, behind-push}
 use Rattle.trace_run.proofs.whole.run.Goals as goal
@@ -27,12 +26,6 @@ take_step-answer-requires-clause-room g c =
     let i = c.loop-step.invariant in
     let many = behind-length c.args.steps.now c.loop-step.answers.items c.loop-step.step-index i.count c.loop-step-test.true in
     omega (arith, i.stands.bound, many, c.loop-step-test.true, i.table_room)
-
-pub take_step-answer-requires-clause-placed : goal.take_step-answer-requires-clause-placed
-take_step-answer-requires-clause-placed g c =
-    let i = c.loop-step.invariant in
-    let run = run_config g.S.Sampler.meaning g.R.Rng.stream c.args.config in
-    placed run.setup (history_view (take c.loop-step.step-index c.args.steps.now) c.loop-step.answers.items) c.loop-step.out (rw (length-map c.args.config.scopes.items scope_view) c.requires.one_scope) i.stands.out_is
 
 pub loop-step-preserved : goal.loop-step-preserved
 loop-step-preserved g c =
