@@ -1,5 +1,5 @@
 -- What a script runs on, and the spans that it ends.
-use Rattle.std.specs.Prelude.{ℕ, List, [], slice_index, unwrap_or}
+use Rattle.std.specs.Prelude.{ℕ, List, [], map, slice_index, unwrap_or}
 use Rattle.span_model.specs.Attributes.{attributes}
 use Rattle.span_model.specs.Spans as model
 use Rattle.span_model.specs.Sampling.{SamplerMeaning, always_on, always_off, as_parent}
@@ -8,7 +8,7 @@ use Rattle.span_model.specs.Spans.{default_limits}
 use Rattle.history_model.specs.History.{Setup, ended_spans, granted_steps}
 use Rattle.run_model.specs.Answers.{RunConfig}
 use Rattle.batch_desk.specs.Desk.{default_config}
-use Rattle.span_script.specs.Scripts.{Script, all_kept}
+use Rattle.span_script.specs.Scripts.{Script, all_kept, kept_scope}
 use Rattle.span_script.specs.declared.sampler.SamplerName.{SamplerName}
 use Rattle.span_script.specs.declared.sampler.SamplerName.TheVariants.{AlwaysOn, AlwaysOff, ParentBased}
 
@@ -37,7 +37,7 @@ setup_of s = record {
     resource = resource_of s;
     limits = unwrap_or s.limits default_limits;
   };
-  scopes = s.scopes;
+  scopes = map kept_scope s.scopes;
 }
 
 -- The same, with the batch processor. Where the script sets no sizes they are the standard's.
