@@ -1,5 +1,5 @@
 -- One more step of a program.
-use Rattle.std.proofs.Common.{◌≡◌, refl, sym, ap, subst, ◌∙◌, ℕ, zero, suc, ◌+◌, ◌-◌, ◌%◌, ◌<◌, ◌≤◌, ◌==◌, eqb, nat_lt, arith, add-zero, zero-add, List, [], ◌∷◌, ◌++◌, length, filter, Bool, true, false, true≢false, not, cond, ◌&&◌, ◌||◌, Option, Some, None, option_map, slice_get}
+use Rattle.std.proofs.Common.{◌≡◌, refl, sym, ap, ◌∙◌, ℕ, zero, suc, ◌+◌, ◌-◌, ◌%◌, ◌<◌, ◌≤◌, ◌==◌, eqb, nat_lt, arith, add-zero, zero-add, List, [], ◌∷◌, ◌++◌, length, filter, Bool, true, false, true≢false, not, cond, ◌&&◌, ◌||◌, Option, Some, None, option_map, slice_get}
 use Rattle.std.specs.Option.{option_and_then, option_to_list}
 use Rattle.std.proofs.lemmas.List.Sums.{take_while-cons}
 use Rattle.std.specs.List.{cons_option, IsDistinct, AllByRecursion, list_any, filter_map}
@@ -418,69 +418,3 @@ refused-flagged false o h = h
 pub outcome-has-flag : (setup : Setup) (steps : List SpanStep) (n : ℕ) (o : StartResult) (s : StartedSpan) → slice_get (start_results setup steps) n ≡ Some o → o.span ≡ Some s →
     has_sampled_flag s.start.context.flags ≡ is_sampled s.decision
 outcome-has-flag setup steps n o s e f = rw f at (each-outcome Flagged setup (λ earlier r sc p k at name. refused-flagged r _ (outcome-flagged setup (words_left setup earlier) (slice_get setup.scopes sc) (parent_among earlier p) k at name)) steps n o e)
-
--- ---- where the spans that end come from
-
--- what a span belongs to: the provider's resource, and one of its scopes
-abbrev pub Placed : Setup → Option StartedSpan → Type 0
-Placed setup None = Unit {0}
-Placed setup (Some s) = (s.resource ≡ setup.provider.resource) × (n : ℕ) × (slice_get setup.scopes n ≡ Some s.scope)
-
-started-placed : (setup : Setup) (scope : Scope) (n : ℕ) (a : StartRequest) (words : Words) → slice_get setup.scopes n ≡ Some scope → Placed setup (started_span (record { provider = setup.provider; scope = scope }) a words)
-unfolding started_span
-started-placed setup scope n a words e = by (ids_of a.parent words)
-  where
-    by : (o : Option Ids) → Placed setup (option_map (λ ids. started_span_as (record { provider = setup.provider; scope = scope }) a ids (decision_of (record { provider = setup.provider; scope = scope }) a ids.trace)) o)
-    by None = tt
-    by (Some ids) = (refl, n, e)
-
-outcome-placed : (setup : Setup) (words : Words) (n : ℕ) (scope : Option Scope) (parent : Option (Option Context)) (k : Kind) (at : ℕ) (name : List ℕ) → slice_get setup.scopes n ≡ scope → Placed setup (start_result_in setup words scope parent k at name).span
-outcome-placed setup words n None parent k at name e = tt
-outcome-placed setup words n (Some scope) None k at name e = tt
-outcome-placed setup words n (Some scope) (Some parent) k at name e = started-placed setup scope n (start_request parent name k at) words e
-
-refused-placed : (setup : Setup) (refused : Bool) (o : StartResult) → Placed setup o.span → Placed setup (unless_refused refused o).span
-refused-placed setup true o h = tt
-refused-placed setup false o h = h
-
-all-of : {B : Type 0} (P : B → Type 0) (f : ℕ → Option B) (ns : List ℕ) → ((n : ℕ) (x : B) → f n ≡ Some x → P x) → AllByRecursion P (filter_map f ns)
-all-of P f [] h = tt
-all-of {B = B} P f (n ∷ ns) h = by (f n) refl (all-of P f ns h)
-  where
-    by : (o : Option B) → f n ≡ o → AllByRecursion P (filter_map f ns) → AllByRecursion P (cons_option o (filter_map f ns))
-    by None e rest = rest
-    by (Some x) e rest = (h n x e, rest)
-
--- the provider's resource and one of its scopes
-abbrev pub IsPlaced : Setup → EndedSpan → Type 0
-IsPlaced setup e = (e.resource ≡ setup.provider.resource) × (n : ℕ) × (slice_get setup.scopes n ≡ Some e.scope)
-
-exported-placed-all : (setup : Setup) (steps : List SpanStep) → AllByRecursion (IsPlaced setup) (exported_spans setup steps)
-exported-placed-all setup steps = all-of (IsPlaced setup) (exported_at setup steps) (ended_numbers steps) (λ n x e. by n x (slice_get (start_results setup steps) n) refl e)
-  where
-    exported-placed : (calls : List Call) (s : StartedSpan) (x : EndedSpan) → Placed setup (Some s) → exported_if_sampled calls s ≡ Some x → IsPlaced setup x
-    exported-placed calls s x h e = go (is_sampled s.decision) e
-      where
-        go : (b : Bool) → cond b (Some (exported_span s calls)) None ≡ Some x → IsPlaced setup x
-        go true e =
-            let same : exported_span s calls ≡ x = cc in
-            let placed : IsPlaced setup (exported_span s calls) = h in
-            subst (IsPlaced setup) same placed
-        go false e = cc
-
-    within : (calls : List Call) (s : Option StartedSpan) (x : EndedSpan) → Placed setup s → option_and_then (exported_if_sampled calls) s ≡ Some x → IsPlaced setup x
-    within calls None x h e = cc
-    within calls (Some s) x h e = exported-placed calls s x h e
-
-    by : (n : ℕ) (x : EndedSpan) (o : Option StartResult) → slice_get (start_results setup steps) n ≡ o → exported_of (calls_on n steps) o ≡ Some x → IsPlaced setup x
-    by n x None f e = cc
-    by n x (Some o) f e = within (calls_on n steps) o.span x
-        (each-outcome (Placed setup) setup (λ earlier r sc p k at name. refused-placed setup r _ (outcome-placed setup (words_left setup earlier) sc (slice_get setup.scopes sc) (parent_among earlier p) k at name refl)) steps n o f) e
-
--- the ticket is no part of the place
-tickets-placed : (setup : Setup) (n : ℕ) (xs : List EndedSpan) → AllByRecursion (IsPlaced setup) xs → AllByRecursion (IsPlaced setup) (with_tickets n xs)
-tickets-placed setup n [] h = tt
-tickets-placed setup n (x ∷ xs) h = (h.0, tickets-placed setup (n + 1) xs h.1)
-
-pub ended-placed : (setup : Setup) (steps : List SpanStep) → AllByRecursion (IsPlaced setup) (ended_spans setup steps)
-ended-placed setup steps = tickets-placed setup 0 (exported_spans setup steps) (exported-placed-all setup steps)

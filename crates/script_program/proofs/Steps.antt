@@ -18,7 +18,7 @@ use Rattle.span_model.specs.Starts.{StartedSpan, exported_span}
 use Rattle.history_model.specs.Steps as program
 use Rattle.history_model.specs.Steps.{Parent, Step, is_shutdown}
 use Rattle.history_model.specs.History.{SpanStep, Setup, StartResult, start_results, calls_on, ended_spans, exported_of, exported_if_sampled, start_count, with_tickets, granted_steps, span_step}
-use Rattle.history_model.proofs.Histories.{outcomes-many, ended-start, ended-no-more, ended-more, IsPlaced}
+use Rattle.history_model.proofs.Histories.{outcomes-many, ended-start, ended-no-more, ended-more}
 use Rattle.run_model.specs.Runs.{Answer, is_refused}
 use Rattle.span_script.specs.Scripts.{Script}
 use Rattle.span_script.specs.Parsed.{Means}
