@@ -1,5 +1,5 @@
 //! The program `trace-script`, over readers and writers.
-ghost use Rattle.std.specs.Prelude.{◌≡◌, ◌≤◌, ◌⊎◌, ◌++◌, ◌∷◌, [], true, false, ℕ, List, Option, IfOk, IfErr, IfSome, OnErr, OnOk, length, string_bytes};
+ghost use Rattle.std.specs.Prelude.{◌≡◌, ◌≤◌, ◌⊎◌, ◌++◌, ◌∷◌, [], true, false, ℕ, List, Option, IfOk, IfErr, IfSome, OnErr, OnOk, string_bytes};
 ghost use Rattle.std.specs.Io.KnownBytes.{Appends, IsAtEnd, Keeps};
 ghost use Rattle.hex.specs.Hex.{encode_lower};
 ghost use Rattle.span_script.specs.Parsed.{Means};
@@ -122,7 +122,6 @@ fn text_of_input<A: Allocator + Copy, R: Read>(
 
 /// The body of the script's spans in hexadecimal digits, and the end of the line.
 fn body_line<A: Allocator + Copy>(alloc: A, script: Script<A>) -> Result<String<A>, Failure>
-    requires { length script.scopes.items ≤ 1 }
     ensures line { (read : ScriptRead) → Means script read
         → IfOk result (λ line. IsBodyLine read (string_bytes line)) }
     ensures fault { (input : Option (List ℕ)) → IfErr result (Explains input) }
