@@ -1,0 +1,155 @@
+-- What steps on the open accounts do to a total, to a list of what all of them have, and to a fact
+-- that is true of each.
+use Rattle.std.proofs.Common.{◌≡◌, ℕ, ◌+◌, List, [], ◌∷◌, ◌++◌, length, sym, refl, ap, ◌∙◌, subst, arith}
+use Rattle.std.specs.Prelude.{IsPermutation, Option, Some, None}
+use Rattle.std.specs.List.{sum_by, flat_map, filter_map, AllByRecursion}
+use Rattle.std.proofs.lemmas.List.{append-nil, append_assoc, length-append}
+use Rattle.std.proofs.lemmas.List.Elements.{filter_map-append}
+use Rattle.std.proofs.lemmas.List.Sums.{sum_by-append, sum_by-cons}
+use Rattle.std.proofs.lemmas.List.Sorted.{IsPermutation-refl, IsPermutation-trans, IsPermutation-append_left, IsPermutation-append_right, IsPermutation-append_comm}
+use Rattle.std.proofs.lemmas.Grind.{flat_map-append}
+use Rattle.account_book.specs.Accounts.{Replaces, Removes, Closes}
+
+module _ {V : Type 0} where
+  -- ---- totals
+
+  pub sum_replaced : (f : V → ℕ) (old : List V) (v w : V) (new : List V) → Replaces old v w new → sum_by f new + f v ≡ sum_by f old + f w
+  sum_replaced f old v w new r =
+      let a = sum_by-append f r.0 (v ∷ r.1) in let b = sum_by-append f r.0 (w ∷ r.1) in let d = sum_by-cons f v r.1 in let e = sum_by-cons f w r.1 in
+      let x = ap (sum_by f) r.2 in let y = ap (sum_by f) r.3 in
+      omega arith
+
+  pub length_replaced : (old : List V) (v w : V) (new : List V) → Replaces old v w new → length new ≡ length old
+  length_replaced old v w new r =
+      ap length r.3 ∙ (length-append r.0 (w ∷ r.1) ∙ sym (length-append r.0 (v ∷ r.1))) ∙ sym (ap length r.2)
+
+  pub length_removed : (old : List V) (v : V) (new : List V) → Removes old v new → length old ≡ length new + 1
+  length_removed old v new r =
+      let a = length-append r.0 (v ∷ r.1) in let b = length-append r.0 r.1 in let x = ap length r.2 in let y = ap length r.3 in omega arith
+
+  sum_removed : (f : V → ℕ) (old : List V) (v : V) (new : List V) → Removes old v new → sum_by f old ≡ f v + sum_by f new
+  sum_removed f old v new r =
+      let a = sum_by-append f r.0 (v ∷ r.1) in let b = sum_by-append f r.0 r.1 in let d = sum_by-cons f v r.1 in
+      let x = ap (sum_by f) r.2 in let y = ap (sum_by f) r.3 in
+      omega arith
+
+  -- ---- what all have
+
+  module _ {X : Type 0} (f : V → List X) where
+    at : (before : List V) (v : V) (behind : List V) → flat_map f (before ++ v ∷ behind) ≡ flat_map f before ++ (f v ++ flat_map f behind)
+    at before v behind = flat_map-append f before (v ∷ behind)
+
+    -- one of them has more
+    pub gathered_replaced : (old : List V) (v w : V) (new : List V) (more : List X) → Replaces old v w new → f w ≡ f v ++ more → IsPermutation (flat_map f new) (flat_map f old ++ more)
+    gathered_replaced old v w new more r has =
+        let front = flat_map f r.0 in let back = flat_map f r.1 in
+        let new_is : flat_map f new ≡ front ++ ((f v ++ more) ++ back) = ap (flat_map f) r.3 ∙ at r.0 w r.1 ∙ ap (λ (xs : List X). front ++ (xs ++ back)) has in
+        let old_is : flat_map f old ++ more ≡ front ++ (f v ++ (back ++ more)) = ap (λ (vs : List V). flat_map f vs ++ more) r.2 ∙ ap (λ (xs : List X). xs ++ more) (at r.0 v r.1) ∙ append_assoc front (f v ++ back) more ∙ ap (λ (xs : List X). front ++ xs) (append_assoc (f v) back more) in
+        let moved : IsPermutation (f v ++ (more ++ back)) (f v ++ (back ++ more)) = IsPermutation-append_right (f v) (more ++ back) (back ++ more) (IsPermutation-append_comm more back) in
+        let inner : IsPermutation ((f v ++ more) ++ back) (f v ++ (back ++ more)) = subst (λ (xs : List X). IsPermutation xs (f v ++ (back ++ more))) (sym (append_assoc (f v) more back)) moved in
+        let whole : IsPermutation (front ++ ((f v ++ more) ++ back)) (front ++ (f v ++ (back ++ more))) = IsPermutation-append_right front ((f v ++ more) ++ back) (f v ++ (back ++ more)) inner in
+        subst (λ (xs : List X). IsPermutation xs (flat_map f old ++ more)) (sym new_is) (subst (λ (xs : List X). IsPermutation (front ++ ((f v ++ more) ++ back)) xs) (sym old_is) whole)
+
+    gathered_removed : (old : List V) (v : V) (new : List V) → Removes old v new → IsPermutation (flat_map f old) (f v ++ flat_map f new)
+    gathered_removed old v new r =
+        let front = flat_map f r.0 in let back = flat_map f r.1 in
+        let old_is : flat_map f old ≡ (front ++ f v) ++ back = ap (flat_map f) r.2 ∙ at r.0 v r.1 ∙ sym (append_assoc front (f v) back) in
+        let new_is : f v ++ flat_map f new ≡ (f v ++ front) ++ back = ap (λ (vs : List V). f v ++ flat_map f vs) r.3 ∙ ap (λ (xs : List X). f v ++ xs) (flat_map-append f r.0 r.1) ∙ sym (append_assoc (f v) front back) in
+        let moved : IsPermutation ((front ++ f v) ++ back) ((f v ++ front) ++ back) = IsPermutation-append_left back (front ++ f v) (f v ++ front) (IsPermutation-append_comm front (f v)) in
+        subst (λ (xs : List X). IsPermutation xs (f v ++ flat_map f new)) (sym old_is) (subst (λ (xs : List X). IsPermutation ((front ++ f v) ++ back) xs) (sym new_is) moved)
+
+    -- the closed ones and those that are left have what all had
+    pub gathered_closed : (old closed new : List V) → Closes old closed new → IsPermutation (flat_map f old) (flat_map f closed ++ flat_map f new)
+    gathered_closed old [] new c = subst (λ (vs : List V). IsPermutation (flat_map f old) (flat_map f vs)) (sym c) (IsPermutation-refl (flat_map f old))
+    gathered_closed old (v ∷ closed) new c =
+        let first = gathered_removed old v c.0 c.1 in let rest = gathered_closed c.0 closed new c.2 in
+        let both = IsPermutation-trans (flat_map f old) (f v ++ flat_map f c.0) (f v ++ (flat_map f closed ++ flat_map f new)) first (IsPermutation-append_right (f v) (flat_map f c.0) (flat_map f closed ++ flat_map f new) rest) in
+        subst (λ (xs : List X). IsPermutation (flat_map f old) xs) (sym (append_assoc (f v) (flat_map f closed) (flat_map f new))) both
+
+  -- ---- accounts that are closed
+
+  pub closes_step : (old closed left : List V) (v : V) (left' : List V) → Closes old closed left → Removes left v left' → Closes old (closed ++ v ∷ []) left'
+  closes_step old [] left v left' c r = (left', subst (λ (vs : List V). Removes vs v left') c r, refl)
+  closes_step old (u ∷ closed) left v left' c r = (c.0, c.1, closes_step c.0 closed left v left' c.2 r)
+
+  pub length_closed : (old closed new : List V) → Closes old closed new → length old ≡ length closed + length new
+  length_closed old [] new c = let x = ap length c in omega arith
+  length_closed old (v ∷ closed) new c = let a = length_removed old v c.0 c.1 in let b = length_closed c.0 closed new c.2 in omega arith
+
+  pub sum_closed : (f : V → ℕ) (old closed new : List V) → Closes old closed new → sum_by f old ≡ sum_by f closed + sum_by f new
+  sum_closed f old [] new c = let x = ap (sum_by f) c in omega arith
+  sum_closed f old (v ∷ closed) new c = let a = sum_removed f old v c.0 c.1 in let b = sum_closed f c.0 closed new c.2 in let d = sum_by-cons f v closed in omega arith
+
+  -- ---- facts of each
+
+  module _ (P : V → Type 0) where
+    pub each_append : (xs ys : List V) → AllByRecursion P xs → AllByRecursion P ys → AllByRecursion P (xs ++ ys)
+    each_append [] ys a b = b
+    each_append (x ∷ xs) ys a b = (a.0, each_append xs ys a.1 b)
+
+    pub each_split : (xs ys : List V) → AllByRecursion P (xs ++ ys) → AllByRecursion P xs × AllByRecursion P ys
+    each_split [] ys a = (tt, a)
+    each_split (x ∷ xs) ys a = let rest = each_split xs ys a.1 in ((a.0, rest.0), rest.1)
+
+    pub each_at : (old : List V) (v w : V) (new : List V) → Replaces old v w new → AllByRecursion P old → P v
+    each_at old v w new r all = (each_split r.0 (v ∷ r.1) (subst (AllByRecursion P) r.2 all)).1.0
+
+    pub each_replaced : (old : List V) (v w : V) (new : List V) → Replaces old v w new → AllByRecursion P old → P w → AllByRecursion P new
+    each_replaced old v w new r all one =
+        let parts = each_split r.0 (v ∷ r.1) (subst (AllByRecursion P) r.2 all) in
+        subst (AllByRecursion P) (sym r.3) (each_append r.0 (w ∷ r.1) parts.0 (one, parts.1.1))
+
+    pub each_removed : (old : List V) (v : V) (new : List V) → Removes old v new → AllByRecursion P old → P v × AllByRecursion P new
+    each_removed old v new r all =
+        let parts = each_split r.0 (v ∷ r.1) (subst (AllByRecursion P) r.2 all) in
+        (parts.1.0, subst (AllByRecursion P) (sym r.3) (each_append r.0 r.1 parts.0 parts.1.1))
+
+    pub each_closed : (old closed new : List V) → Closes old closed new → AllByRecursion P old → AllByRecursion P closed
+    each_closed old [] new c all = tt
+    each_closed old (v ∷ closed) new c all =
+        let one = each_removed old v c.0 c.1 all in (one.0, each_closed c.0 closed new c.2 one.1)
+
+  pub each_map : (P Q : V → Type 0) (xs : List V) → ((x : V) → P x → Q x) → AllByRecursion P xs → AllByRecursion Q xs
+  each_map P Q [] f all = tt
+  each_map P Q (x ∷ xs) f all = (f x all.0, each_map P Q xs f all.1)
+
+  -- ---- accounts of one kind
+
+  module _ {W : Type 0} (part : V → Option W) where
+    one_of : (v : V) (w : W) (rest : List V) → part v ≡ Some w → filter_map part (v ∷ rest) ≡ w ∷ filter_map part rest
+    one_of v w rest is = rw is refl
+
+    around : (before : List V) (v : V) (w : W) (behind : List V) → part v ≡ Some w → filter_map part (before ++ v ∷ behind) ≡ filter_map part before ++ w ∷ filter_map part behind
+    around before v w behind is =
+        filter_map-append part before (v ∷ behind) ∙ ap (λ (ws : List W). filter_map part before ++ ws) (one_of v w behind is)
+
+    pub part_replaced : (old : List V) (v w : V) (new : List V) (a b : W) → Replaces old v w new → part v ≡ Some a → part w ≡ Some b → Replaces (filter_map part old) a b (filter_map part new)
+    part_replaced old v w new a b r v_is w_is = (
+      filter_map part r.0,
+      filter_map part r.1,
+      ap (filter_map part) r.2 ∙ around r.0 v a r.1 v_is,
+      ap (filter_map part) r.3 ∙ around r.0 w b r.1 w_is,
+    )
+
+    pub part_removed : (old : List V) (v : V) (new : List V) (a : W) → Removes old v new → part v ≡ Some a → Removes (filter_map part old) a (filter_map part new)
+    part_removed old v new a r v_is = (
+      filter_map part r.0,
+      filter_map part r.1,
+      ap (filter_map part) r.2 ∙ around r.0 v a r.1 v_is,
+      ap (filter_map part) r.3 ∙ filter_map-append part r.0 r.1,
+    )
+
+    -- one of another kind is gone
+    pub part_kept : (old : List V) (v : V) (new : List V) → Removes old v new → part v ≡ None → filter_map part new ≡ filter_map part old
+    part_kept old v new r none =
+        let skipped : filter_map part (v ∷ r.1) ≡ filter_map part r.1 = rw none refl in
+        ap (filter_map part) r.3 ∙ filter_map-append part r.0 r.1 ∙ ap (λ (ws : List W). filter_map part r.0 ++ ws) (sym skipped)
+        ∙ sym (filter_map-append part r.0 (v ∷ r.1)) ∙ sym (ap (filter_map part) r.2)
+
+  -- ---- a loop over a list by value
+
+  pub yields_step : (yielded rest rest' all : List V) (v : V) → yielded ++ rest ≡ all → rest ≡ v ∷ rest' → (yielded ++ v ∷ []) ++ rest' ≡ all
+  yields_step yielded rest rest' all v so next = append_assoc yielded (v ∷ []) rest' ∙ ap (λ (l : List V). yielded ++ l) (sym next) ∙ so
+
+  pub yields_end : (yielded rest all : List V) → yielded ++ rest ≡ all → rest ≡ [] → yielded ≡ all
+  yields_end yielded rest all so none = sym (append-nil yielded) ∙ ap (λ (l : List V). yielded ++ l) (sym none) ∙ so
