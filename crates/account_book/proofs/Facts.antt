@@ -1,10 +1,10 @@
 -- What steps on the open accounts do to a total, to a list of what all of them have, and to a fact
 -- that is true of each.
 use Rattle.std.proofs.Common.{◌≡◌, ℕ, ◌+◌, List, [], ◌∷◌, ◌++◌, length, sym, refl, ap, ◌∙◌, subst, arith}
-use Rattle.std.specs.Prelude.{IsPermutation, Option, Some, None}
+use Rattle.std.specs.Prelude.{Contains, IsPermutation, Option, Some, None}
 use Rattle.std.specs.List.{sum_by, flat_map, filter_map, AllByRecursion}
 use Rattle.std.proofs.lemmas.List.{append-nil, append_assoc, length-append}
-use Rattle.std.proofs.lemmas.List.Elements.{filter_map-append}
+use Rattle.std.proofs.lemmas.List.Elements.{Contains-append_right, filter_map-append}
 use Rattle.std.proofs.lemmas.List.Sums.{sum_by-append, sum_by-cons}
 use Rattle.std.proofs.lemmas.List.Sorted.{IsPermutation-refl, IsPermutation-trans, IsPermutation-append_left, IsPermutation-append_right, IsPermutation-append_comm}
 use Rattle.std.proofs.lemmas.Grind.{flat_map-append}
@@ -32,6 +32,13 @@ module _ {V : Type 0} where
       let a = sum_by-append f r.0 (v ∷ r.1) in let b = sum_by-append f r.0 r.1 in let d = sum_by-cons f v r.1 in
       let x = ap (sum_by f) r.2 in let y = ap (sum_by f) r.3 in
       omega arith
+
+  pub contains_replaced : (old : List V) (v w : V) (new : List V) → Replaces old v w new → Contains old v
+  contains_replaced old v w new r =
+      subst (λ (vs : List V). Contains vs v) (sym r.2) (Contains-append_right r.0 (v ∷ r.1) v (0, omega arith, refl))
+
+  pub replaced_same : (old : List V) (v w : V) (new : List V) → Replaces old v w new → w ≡ v → new ≡ old
+  replaced_same old v w new r same = r.3 ∙ ap (λ (u : V). r.0 ++ u ∷ r.1) same ∙ sym r.2
 
   -- ---- what all have
 
@@ -153,3 +160,7 @@ module _ {V : Type 0} where
 
   pub yields_end : (yielded rest all : List V) → yielded ++ rest ≡ all → rest ≡ [] → yielded ≡ all
   yields_end yielded rest all so none = sym (append-nil yielded) ∙ ap (λ (l : List V). yielded ++ l) (sym none) ∙ so
+
+  pub yields_each : (P : V → Type 0) (yielded rest rest' all : List V) (v : V) → yielded ++ rest ≡ all → rest ≡ v ∷ rest' → AllByRecursion P all → P v
+  yields_each P yielded rest rest' all v so next each =
+      (each_split P yielded (v ∷ rest') (subst (AllByRecursion P) (sym (ap (λ (l : List V). yielded ++ l) (sym next) ∙ so)) each)).1.0

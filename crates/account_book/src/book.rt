@@ -1,5 +1,5 @@
 //! Accounts under a name, as what they say.
-ghost use Rattle.std.specs.Prelude.{◌≡◌, ℕ, List, [], ◌∷◌, ◌++◌, true};
+ghost use Rattle.std.specs.Prelude.{◌≡◌, ℕ, List, [], ◌∷◌, ◌++◌, Contains, true};
 ghost use Rattle.account_book.specs.Accounts.{open_of, Removes, Replaces};
 
 use crate::rows::{Change, Opening, Row, Rows};
@@ -38,6 +38,13 @@ impl<V> Change<(bool, V), ()> for Closed {
     ghost use Rattle.std.specs.Prelude.{false};
 
     ghost after = { λ row told. (false, row.1) };
+}
+
+/// An account says what it said.
+struct Unchanged;
+
+impl<V> Change<V, ()> for Unchanged {
+    ghost after = { λ said told. said };
 }
 
 /// A new book of which no type tells yet. In contracts it is its name.
@@ -125,6 +132,15 @@ impl<J: Naming, V> Book<J, V> {
         ensures account { account.new ≡ C.after account.old told.now }
     {
         self.rows.record::<T, Changed<C>>(&mut account.row, told);
+    }
+
+    /// Shows that an account is one of the open ones. Nothing changes.
+    pub fn recognize(&mut self, account: &mut Account<J, V>)
+        ensures there { Contains self.old account.old }
+        ensures book { self.new ≡ self.old }
+        ensures account { account.new ≡ account.old }
+    {
+        self.record::<(), Unchanged>(account, &());
     }
 
     /// Closes an account, which is one of the open ones.

@@ -69,7 +69,7 @@ pub struct FateCounts {
 
 impl FateCounts {
     /// None in any way.
-    pub(crate) fn new() -> FateCounts
+    pub fn new() -> FateCounts
         ensures { result ≡ record {
           delivered = 0;
           partial = 0;
@@ -90,7 +90,7 @@ impl FateCounts {
     }
 
     /// Counts one more batch that ended in this way.
-    pub(crate) fn add(&mut self, fate: Fate)
+    pub fn add(&mut self, fate: Fate)
         requires { fate_count (fate_counts_view self.old) < 2 ^ 64 - 1 }
         ensures { fate_counts_view self.new
             ≡ with_fate (fate_view fate) (fate_counts_view self.old) }

@@ -57,7 +57,7 @@ counted r reason xs spans = count-reasons r xs (map (entry_of reason) spans) ∙
 plus-none : (n : ℕ) → n + 0 ≡ n
 plus-none n = omega arith
 
-counts-more : (reason : Reason) (xs : List Entry) (spans : List EndedSpan) → drop_counts (xs ++ map (entry_of reason) spans) ≡ with_drops reason (length spans) (drop_counts xs)
+pub counts-more : (reason : Reason) (xs : List Entry) (spans : List EndedSpan) → drop_counts (xs ++ map (entry_of reason) spans) ≡ with_drops reason (length spans) (drop_counts xs)
 counts-more Reason.queue_full xs spans = λ i. record {
   queue_full = counted Reason.queue_full Reason.queue_full xs spans i;
   encode_memory = (counted Reason.encode_memory Reason.queue_full xs spans ∙ plus-none _) i;
@@ -89,7 +89,7 @@ of-kind kind h fate b e = count-more (is_fate kind) h fate ∙ ap (λ c. count_b
 other-kind : (kind : Fate) (h : List Fate) (fate : Fate) → is_fate kind fate ≡ false → count_by (is_fate kind) (h ++ fate ∷ []) ≡ count_by (is_fate kind) h
 other-kind kind h fate e = of-kind kind h fate false e ∙ plus-none (count_by (is_fate kind) h)
 
-fates-more : (xs : List Fate) (fate : Fate) → fate_counts (xs ++ fate ∷ []) ≡ with_fate fate (fate_counts xs)
+pub fates-more : (xs : List Fate) (fate : Fate) → fate_counts (xs ++ fate ∷ []) ≡ with_fate fate (fate_counts xs)
 fates-more xs Fate.delivered = λ i. record {
   delivered = of-kind Fate.delivered xs Fate.delivered true refl i;
   partial = other-kind (Fate.partial (pos 0)) xs Fate.delivered refl i;

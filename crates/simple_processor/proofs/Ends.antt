@@ -1,0 +1,199 @@
+-- The steps of a pass, one by one.
+use Rattle.std.proofs.Common.{◌≡◌, ℕ, ◌+◌, ◌-◌, ◌^◌, ◌<◌, Bool, true, false, List, [], ◌∷◌, ◌++◌, sym, refl, ap, ◌∙◌, subst, arith}
+use Rattle.std.specs.Prelude.{IsPermutation, Option, Some, None, ◌==◌, ◌||◌, nat_lt}
+use Rattle.std.specs.List.{AllByRecursion}
+use Rattle.std.proofs.lemmas.List.{append-nil}
+use Rattle.std.proofs.lemmas.List.Sorted.{IsPermutation-refl, IsPermutation-sym, IsPermutation-to_front}
+use Rattle.span_model.specs.Spans.{EndedSpan, with_ticket}
+use Rattle.span_model.specs.Dropped.{Entry, encode_memory, entry_of}
+use Rattle.desk_model.specs.Retries.{fate_of, next_of}
+use Rattle.desk_model.specs.Desks.{capped, drop_counts, fate_counts, with_drops, with_fate}
+use Rattle.desk_model.proofs.Lists.{some-more}
+use Rattle.desk_model.proofs.Events.{counts-more, fates-more}
+use Rattle.otlp_span.specs.declared.reason.Reason.TheVariants as reasons
+use Rattle.trace_api.specs.declared.pass.Ended.{Ended}
+use Rattle.trace_api.specs.declared.pass.Ended.TheVariants as answers
+use Rattle.span_exporter.specs.Handed.{Handed, Gains}
+use Rattle.simple_processor.specs.Accounts.{handed, dropped, PassAccount, Rises, after_end, after_pop, after_shutdown, is_simple_answer}
+use Rattle.simple_processor.specs.Bodies.{fates_of}
+use Rattle.simple_processor.specs.Desk.{State, Answers, IsDropped, IsHanded, IsLate, Pops, is_last_ticket, ticket_count}
+use Rattle.simple_processor.specs.Kept.{numbers_below}
+use Rattle.simple_processor.proofs.Lists.{below-more, rises-more, still-below}
+use Rattle.simple_processor.proofs.Agree.{Step, closed_by, only}
+use Rattle.account_book.proofs.Facts.{each_append}
+
+pub gains_nothing : (told told' : Option (List Handed)) → told' ≡ told → Gains [] told told'
+gains_nothing None told' same = same
+gains_nothing (Some had) told' same = same ∙ ap Some (sym (append-nil had))
+
+-- a step at which no span is answered a ticket
+module _ (told told' : Option (List Handed)) (s s' : State) (a b : PassAccount) (unsent : told' ≡ told) (handed_same : s'.handed ≡ s.handed) (dropped_same : s'.dropped ≡ s.dropped) (fates_same : s'.fates ≡ s.fates) (ends_same : b.ends ≡ a.ends)
+    (ps : List Entry) (lates shuts : ℕ) (popped : b.popped ≡ a.popped ++ ps) (late : b.late ≡ a.late + lates) (shutdowns : b.shutdowns ≡ a.shutdowns + shuts)
+    (names : IsPermutation s.ledger (s'.ledger ++ ps)) (counted : (n : ℕ) → s.late ≡ capped n → s'.late ≡ capped (n + lates))
+    (late_if_closed : (n : ℕ) → (0 < n → s.closed ≡ true) → 0 < n + lates → s'.closed ≡ true)
+    (closed : (n : ℕ) → s.closed ≡ closed_by (ticket_count s) n → s'.closed ≡ closed_by (ticket_count s) (n + shuts)) where
+  count_same : ticket_count s' ≡ ticket_count s
+  count_same = let e = handed_same in let f = dropped_same in omega arith
+
+  pub quiet : Step told told' s s' a b
+  quiet = record {
+    es = [];
+    ps = ps;
+    bodies = [];
+    lates = lates;
+    shuts = shuts;
+    ends = ends_same ∙ sym (append-nil a.ends);
+    popped = popped;
+    late = late;
+    shutdowns = shutdowns;
+    gains = gains_nothing told told' unsent;
+    sent = refl;
+    fates = λ had is. fates_same ∙ is ∙ ap (λ (hs : List Handed). fate_counts (fates_of hs)) (sym (append-nil had));
+    handed = let e = handed_same in omega arith;
+    numbers = ap numbers_below count_same ∙ sym (append-nil (numbers_below (ticket_count s)));
+    grows = let e = count_same in omega arith;
+    below = λ ts all. subst (AllByRecursion (λ t. t < ticket_count s')) (sym (append-nil ts)) (still-below ts (ticket_count s) (ticket_count s') (let e = count_same in omega arith) all);
+    rising = λ ts all r. subst Rises (sym (append-nil ts)) r;
+    names = names;
+    dropped = λ had is. ap drop_counts (append-nil had) ∙ is ∙ ap only (sym dropped_same);
+    counted = counted;
+    late_if_closed = late_if_closed;
+    closed = λ n is. closed n is ∙ ap (λ (m : ℕ). closed_by m (n + shuts)) (sym count_same);
+  }
+
+none_more : (n : ℕ) → n + 0 ≡ n
+none_more n = omega arith
+
+late-more : (m n : ℕ) → m ≡ capped n → capped (m + 1) ≡ capped (n + 1)
+late-more m n is = omega arith
+
+-- behind a shutdown none is admitted
+shut-closes : (count n : ℕ) → true ≡ closed_by count (n + 1)
+shut-closes count n = grind (arith)
+
+open-is : (count n : ℕ) → false ≡ closed_by count n → nat_lt 0 n ≡ false
+open-is count n is = or-none (nat_lt 0 n) (count == 2 ^ 64 - 1) is
+  where
+    or-none : (b d : Bool) → false ≡ (b || d) → b ≡ false
+    or-none true d e = sym e
+    or-none false d e = refl
+
+-- a ticket is given
+closes-last : (s : State) (count n : ℕ) → s.closed ≡ false → s.closed ≡ closed_by count n → is_last_ticket count ≡ closed_by (count + 1) (n + 0)
+closes-last s count n admits is =
+    let none : nat_lt 0 n ≡ false = open-is count n (sym admits ∙ is) in
+    rw (none_more n, none) refl
+
+late_step : (told told' : Option (List Handed)) (s s' : State) (span : EndedSpan) (a : PassAccount) → IsLate told told' s s' → Step told told' s s' a (after_end answers.Late span a)
+late_step told told' s s' span a l =
+    quiet told told' s s' a (after_end answers.Late span a) l.nothing_is_sent (ap (λ (x : State). x.handed) l.state) (ap (λ (x : State). x.dropped) l.state) (ap (λ (x : State). x.fates) l.state) refl
+    [] 1 0 (sym (append-nil a.popped)) refl (sym (none_more a.shutdowns))
+    (subst (λ (es : List Entry). IsPermutation s.ledger es) (sym (append-nil s'.ledger) ∙ refl) (subst (λ (es : List Entry). IsPermutation s.ledger es) (sym (ap (λ (x : State). x.ledger) l.state)) (IsPermutation-refl s.ledger)))
+    (λ n is. ap (λ (x : State). x.late) l.state ∙ late-more s.late n is)
+    (λ n was some. ap (λ (x : State). x.closed) l.state ∙ l.closed)
+    (λ n is. ap (λ (x : State). x.closed) l.state ∙ is ∙ ap (closed_by (ticket_count s)) (sym (none_more n)))
+
+pub shutdown_step : (told told' : Option (List Handed)) (s s' : State) (a : PassAccount) → told' ≡ told → s' ≡ record s { closed = true } → Step told told' s s' a (after_shutdown a)
+shutdown_step told told' s s' a unsent is =
+    quiet told told' s s' a (after_shutdown a) unsent (ap (λ (x : State). x.handed) is) (ap (λ (x : State). x.dropped) is) (ap (λ (x : State). x.fates) is) refl
+    [] 0 1 (sym (append-nil a.popped)) (sym (none_more a.late)) refl
+    (subst (λ (es : List Entry). IsPermutation s.ledger es) (sym (append-nil s'.ledger)) (subst (λ (es : List Entry). IsPermutation s.ledger es) (sym (ap (λ (x : State). x.ledger) is)) (IsPermutation-refl s.ledger)))
+    (λ n l. ap (λ (x : State). x.late) is ∙ l ∙ ap capped (sym (none_more n)))
+    (λ n was some. ap (λ (x : State). x.closed) is)
+    (λ n was. ap (λ (x : State). x.closed) is ∙ shut-closes (ticket_count s) n)
+
+pub pop_step : (told told' : Option (List Handed)) (s s' : State) (a : PassAccount) (entry : Entry) → told' ≡ told → Pops s (Some entry) s' → Step told told' s s' a (after_pop entry a)
+pop_step told told' s s' a entry unsent p =
+    quiet told told' s s' a (after_pop entry a) unsent (ap (λ (x : State). x.handed) p.1) (ap (λ (x : State). x.dropped) p.1) (ap (λ (x : State). x.fates) p.1) refl
+    (entry ∷ []) 0 0 refl (sym (none_more a.late)) (sym (none_more a.shutdowns))
+    (subst (λ (es : List Entry). IsPermutation es (s'.ledger ++ entry ∷ [])) (sym p.0) (IsPermutation-sym (s'.ledger ++ entry ∷ []) (entry ∷ s'.ledger) (IsPermutation-to_front s'.ledger entry)))
+    (λ n l. ap (λ (x : State). x.late) p.1 ∙ l ∙ ap capped (sym (none_more n)))
+    (λ n was some. ap (λ (x : State). x.closed) p.1 ∙ was (omega arith))
+    (λ n was. ap (λ (x : State). x.closed) p.1 ∙ was ∙ ap (closed_by (ticket_count s)) (sym (none_more n)))
+
+-- none was late while spans were admitted
+none-late : (s : State) (n : ℕ) → s.closed ≡ false → (0 < n → s.closed ≡ true) → 0 < n + 0 → ⊥
+none-late s n admits was some = let e = was (omega arith) in let f = admits in cc
+
+handed_step : (told told' : Option (List Handed)) (s s' : State) (span : EndedSpan) (ticket : ℕ) (a : PassAccount) → IsHanded told told' s span ticket s' → Step told told' s s' a (after_end (answers.Handed ticket) span a)
+handed_step told told' s s' span ticket a h =
+    let count : ticket_count s' ≡ ticket_count s + 1 = let e = ap (λ (x : State). x.handed) h.state in let f = ap (λ (x : State). x.dropped) h.state in omega arith in
+    record {
+      es = handed (with_ticket ticket span) ∷ [];
+      ps = [];
+      bodies = h.sent.body ∷ [];
+      lates = 0;
+      shuts = 0;
+      ends = refl;
+      popped = sym (append-nil a.popped);
+      late = sym (none_more a.late);
+      shutdowns = sym (none_more a.shutdowns);
+      gains = h.sent.gains;
+      sent = ap (λ x. x ∷ []) (sym h.sent.means);
+      fates = λ had is.
+          ap (λ (x : State). x.fates) h.state ∙ ap (with_fate h.fate) is ∙ sym (fates-more (fates_of had) h.fate)
+          ∙ ap fate_counts (sym (some-more (λ (x : Handed). fate_of (next_of x.outcome)) had h.sent.body h.fate (ap (λ o. fate_of (next_of o)) h.sent.answered ∙ h.ended)));
+      handed = ap (λ (x : State). x.handed) h.state;
+      numbers = ap numbers_below count ∙ below-more (ticket_count s) ∙ ap (λ (n : ℕ). numbers_below (ticket_count s) ++ n ∷ []) (sym h.is_next);
+      grows = let e = count in omega arith;
+      below = λ ts all. each_append (λ t. t < ticket_count s') ts (ticket ∷ []) (still-below ts (ticket_count s) (ticket_count s') (let e = count in omega arith) all) ((let e = count in let f = h.is_next in omega arith), tt);
+      rising = λ ts all r. rises-more ts ticket r (subst (λ (n : ℕ). AllByRecursion (λ t. t < n) ts) (sym h.is_next) all);
+      names = subst (λ (es : List Entry). IsPermutation s.ledger es) (sym (append-nil s'.ledger ∙ ap (λ (x : State). x.ledger) h.state)) (IsPermutation-refl s.ledger);
+      dropped = λ had is. ap drop_counts (append-nil had) ∙ is ∙ ap only (sym (ap (λ (x : State). x.dropped) h.state));
+      counted = λ n l. ap (λ (x : State). x.late) h.state ∙ l ∙ ap capped (sym (none_more n));
+      late_if_closed = λ n was some. absurd (none-late s n h.admits was some);
+      closed = λ n is. ap (λ (x : State). x.closed) h.state ∙ ap is_last_ticket h.is_next ∙ closes-last s (ticket_count s) n h.admits is ∙ ap (λ (m : ℕ). closed_by m (n + 0)) (sym count);
+    }
+
+dropped_step : (told told' : Option (List Handed)) (s s' : State) (span : EndedSpan) (ticket : ℕ) (a : PassAccount) → IsDropped told told' s span ticket s' → Step told told' s s' a (after_end (answers.Dropped ticket reasons.EncodeMemory) span a)
+dropped_step told told' s s' span ticket a d =
+    let count : ticket_count s' ≡ ticket_count s + 1 = let e = ap (λ (x : State). x.handed) d.state in let f = ap (λ (x : State). x.dropped) d.state in omega arith in
+    let entry : Entry = entry_of encode_memory (with_ticket ticket span) in
+    record {
+      es = dropped entry ∷ [];
+      ps = [];
+      bodies = [];
+      lates = 0;
+      shuts = 0;
+      ends = refl;
+      popped = sym (append-nil a.popped);
+      late = sym (none_more a.late);
+      shutdowns = sym (none_more a.shutdowns);
+      gains = gains_nothing told told' d.nothing_is_sent;
+      sent = refl;
+      fates = λ had is. ap (λ (x : State). x.fates) d.state ∙ is ∙ ap (λ (hs : List Handed). fate_counts (fates_of hs)) (sym (append-nil had));
+      handed = ap (λ (x : State). x.handed) d.state ∙ sym (none_more s.handed);
+      numbers = ap numbers_below count ∙ below-more (ticket_count s) ∙ ap (λ (n : ℕ). numbers_below (ticket_count s) ++ n ∷ []) (sym d.is_next);
+      grows = let e = count in omega arith;
+      below = λ ts all. each_append (λ t. t < ticket_count s') ts (ticket ∷ []) (still-below ts (ticket_count s) (ticket_count s') (let e = count in omega arith) all) ((let e = count in let f = d.is_next in omega arith), tt);
+      rising = λ ts all r. rises-more ts ticket r (subst (λ (n : ℕ). AllByRecursion (λ t. t < n) ts) (sym d.is_next) all);
+      names = subst (λ (es : List Entry). IsPermutation (entry ∷ s.ledger) es) (sym (append-nil s'.ledger ∙ ap (λ (x : State). x.ledger) d.state)) (IsPermutation-refl (entry ∷ s.ledger));
+      dropped = λ had is. counts-more encode_memory had (with_ticket ticket span ∷ []) ∙ ap (with_drops encode_memory 1) is ∙ ap only (sym (ap (λ (x : State). x.dropped) d.state));
+      counted = λ n l. ap (λ (x : State). x.late) d.state ∙ l ∙ ap capped (sym (none_more n));
+      late_if_closed = λ n was some. absurd (none-late s n d.admits was some);
+      closed = λ n is. ap (λ (x : State). x.closed) d.state ∙ ap is_last_ticket d.is_next ∙ closes-last s (ticket_count s) n d.admits is ∙ ap (λ (m : ℕ). closed_by m (n + 0)) (sym count);
+    }
+
+-- the end of a span, by its answer
+pub end_step : (told told' : Option (List Handed)) (s s' : State) (span : EndedSpan) (answer : Ended) (a : PassAccount) → Answers told told' s span answer s' → Step told told' s s' a (after_end answer span a)
+end_step told told' s s' span (answers.Handed ticket) a x = handed_step told told' s s' span ticket a x
+end_step told told' s s' span (answers.Dropped ticket reasons.EncodeMemory) a x = dropped_step told told' s s' span ticket a x
+end_step told told' s s' span (answers.Dropped ticket reasons.QueueFull) a x = absurd x
+end_step told told' s s' span (answers.Dropped ticket reasons.TooLarge) a x = absurd x
+end_step told told' s s' span (answers.Dropped ticket reasons.Abandoned) a x = absurd x
+end_step told told' s s' span answers.Late a x = late_step told told' s s' span a x
+end_step told told' s s' span (answers.Queued ticket) a x = absurd x
+end_step told told' s s' span answers.NotSampled a x = absurd x
+end_step told told' s s' span answers.AlreadyEnded a x = absurd x
+
+-- which answers there are
+pub end_answer : (told told' : Option (List Handed)) (s s' : State) (span : EndedSpan) (answer : Ended) → Answers told told' s span answer s' → is_simple_answer answer ≡ true
+end_answer told told' s s' span (answers.Handed ticket) x = refl
+end_answer told told' s s' span (answers.Dropped ticket reasons.EncodeMemory) x = refl
+end_answer told told' s s' span (answers.Dropped ticket reasons.QueueFull) x = absurd x
+end_answer told told' s s' span (answers.Dropped ticket reasons.TooLarge) x = absurd x
+end_answer told told' s s' span (answers.Dropped ticket reasons.Abandoned) x = absurd x
+end_answer told told' s s' span answers.Late x = refl
+end_answer told told' s s' span (answers.Queued ticket) x = absurd x
+end_answer told told' s s' span answers.NotSampled x = absurd x
+end_answer told told' s s' span answers.AlreadyEnded x = absurd x

@@ -1,0 +1,4 @@
+mod Lists
+mod Agree
+mod Ends
+mod Closing

@@ -1,0 +1,19 @@
+use Rattle.std.proofs.Common.{sym}
+use Rattle.simple_processor.specs.Holders.{origin_in}
+use Rattle.simple_processor.proofs.Closing.{keeps, spans_are, fates_are}
+use Rattle.simple_processor.proofs.processor.SimpleProcessor.close_out.Goals as goal
+
+pub returns-clause-keeps : goal.returns-clause-keeps
+returns-clause-keeps g c =
+    let accounts = c.close-accounts.result in let x = c.close-accounts.ensures in
+    rw (sym c.self.view_is) (keeps (origin_in c.self.inside.account).had (g.E.Exporter.handed accounts.exporter) x.agrees.bodies x.agrees.gains)
+
+pub returns-clause-spans : goal.returns-clause-spans
+returns-clause-spans g c =
+    let accounts = c.close-accounts.result in
+    rw (sym c.self.view_is) (spans_are (origin_in c.self.inside.account).had (g.E.Exporter.handed accounts.exporter) accounts.totals accounts.ledger c.args.passes.items c.close-accounts.ensures)
+
+pub returns-clause-fates : goal.returns-clause-fates
+returns-clause-fates g c =
+    let accounts = c.close-accounts.result in
+    rw (sym c.self.view_is) (fates_are (origin_in c.self.inside.account).had (g.E.Exporter.handed accounts.exporter) accounts.totals accounts.ledger c.args.passes.items c.close-accounts.ensures)

@@ -1,0 +1,36 @@
+-- What a simple processor hands to its exporter: each span alone, once. (Trace SDK, Simple
+-- processor; number and attempt: profile)
+use Rattle.std.specs.Prelude.{ℕ, ◌+◌, List, [], ◌∷◌, drop, length, filter_map, Option, Some}
+use Rattle.message_model.specs.Reading.{Reading, done}
+use Rattle.message_model.specs.Messages.{Triple, body_meaning}
+use Rattle.span_model.specs.Spans.{EndedSpan}
+use Rattle.export_model.specs.Export.{grouped_triples}
+use Rattle.desk_model.specs.Retries.{Fate, fate_of, next_of}
+use Rattle.span_exporter.specs.Handed.{Handed}
+
+-- An attempt, as OTLP reads it: its number, which attempt it is, and the meaning of its body.
+pub record Attempt : Type 0 where
+  pub number : ℕ
+  pub attempt : ℕ
+  pub meaning : Reading (List Triple)
+
+-- The one attempt of a span: under its ticket and 1, the first, with a body that means this span.
+abbrev pub attempt_of : EndedSpan → Attempt
+attempt_of span = record {
+  number = span.ticket + 1;
+  attempt = 1;
+  meaning = done (grouped_triples (span ∷ []));
+}
+
+-- what an exporter tells, so read
+abbrev pub attempt_in : Handed → Attempt
+attempt_in h = record { number = h.number; attempt = h.attempt; meaning = body_meaning h.body }
+
+-- How the attempts ended, each the only one of its body. (OTLP Specification, OTLP/HTTP Response)
+abbrev pub fates_of : List Handed → List Fate
+fates_of bodies = filter_map (λ (h : Handed). fate_of (next_of h.outcome)) bodies
+
+-- what an exporter tells that it was handed behind what it had told; one that doesn't tell, nothing
+abbrev pub told_since : Option (List Handed) → Option (List Handed) → List Handed
+told_since (Some had) (Some all) = drop (length had) all
+told_since _ _ = []

@@ -1,0 +1,135 @@
+-- What lies under the lock of a simple processor, and what a step makes of it. (Trace SDK, Simple
+-- processor; tickets, the ledger and counts: profile)
+use Rattle.std.specs.Prelude.{◌≡◌, ℕ, ◌+◌, ◌-◌, ◌^◌, ◌<◌, ◌≤◌, ◌==◌, Bool, true, false, List, [], ◌∷◌, length, Option, Some, None}
+use Rattle.span_model.specs.Spans.{EndedSpan, with_ticket}
+use Rattle.span_model.specs.Dropped.{Entry, encode_memory, entry_of}
+use Rattle.desk_model.specs.Retries.{Fate, Outcome, fate_of, next_of}
+use Rattle.desk_model.specs.Desks.{FateCounts, capped, with_fate}
+use Rattle.otlp_span.specs.declared.reason.Reason.TheVariants as reasons
+use Rattle.trace_api.specs.declared.pass.Ended.{Ended}
+use Rattle.trace_api.specs.declared.pass.Ended.TheVariants as answers
+use Rattle.batch_desk.specs.Counts.{fate_count}
+use Rattle.batch_desk.specs.Views.{drop_counts_view, fate_counts_view}
+use Rattle.batch_desk.specs.declared.totals.Totals.{Totals}
+use Rattle.span_exporter.specs.Handed.{Handed, Gains}
+use Rattle.simple_processor.specs.Bodies.{attempt_in, attempt_of}
+
+-- The ledger, the newest entry first; how many spans were handed to the exporter, were dropped, and
+-- were late; whether none is admitted any more; and how the attempts ended.
+pub record State : Type 0 where
+  pub ledger : List Entry
+  pub handed : ℕ
+  pub dropped : ℕ
+  pub late : ℕ
+  pub closed : Bool
+  pub fates : FateCounts
+
+-- the same with the exporter
+pub record DeskWith (E : Type 0) : Type 0 where
+  pub exporter : E
+  pub state : State
+
+abbrev pub new_state : State
+new_state = record {
+  ledger = [];
+  handed = 0;
+  dropped = 0;
+  late = 0;
+  closed = false;
+  fates = record {
+    delivered = 0;
+    partial = 0;
+    refused = 0;
+    bad_reply = 0;
+    given_up = 0;
+    abandoned = 0;
+  };
+}
+
+-- how many tickets were given, which is the next one
+abbrev pub ticket_count : State → ℕ
+ticket_count s = s.handed + s.dropped
+
+-- Behind this ticket the next would be the greatest number of 64 bits, and none is given.
+abbrev pub is_last_ticket : ℕ → Bool
+is_last_ticket ticket = ticket + 1 == 2 ^ 64 - 1
+
+-- how the counts hang together
+pub record AreCounts (s : State) : Type 0 where
+  pub tickets : ticket_count s < 2 ^ 64
+  pub admits : s.closed ≡ false → ticket_count s < 2 ^ 64 - 1
+  pub ledger : length s.ledger ≤ s.dropped
+  pub fates : fate_count s.fates ≡ s.handed
+
+-- An exporter that tells has one more attempt, the one of this span, and this came of it.
+pub record IsSent (told told' : Option (List Handed)) (span : EndedSpan) (outcome : Outcome)
+    : Type 0 where
+  pub body : Handed
+  pub gains : Gains (body ∷ []) told told'
+  pub means : attempt_in body ≡ attempt_of span
+  pub answered : body.outcome ≡ outcome
+
+-- The span was handed to the exporter under the next ticket, and its attempt ended so.
+pub record IsHanded (told told' : Option (List Handed)) (s : State) (span : EndedSpan) (ticket : ℕ)
+    (s' : State) : Type 0 where
+  pub admits : s.closed ≡ false
+  pub is_next : ticket ≡ ticket_count s
+  pub outcome : Outcome
+  pub sent : IsSent told told' (with_ticket ticket span) outcome
+  pub fate : Fate
+  pub ended : fate_of (next_of outcome) ≡ Some fate
+  pub state : s' ≡ record s {
+    handed = s.handed + 1;
+    closed = is_last_ticket ticket;
+    fates = with_fate fate s.fates;
+  }
+
+-- The span was dropped under the next ticket, for want of memory.
+pub record IsDropped (told told' : Option (List Handed)) (s : State) (span : EndedSpan)
+    (ticket : ℕ) (s' : State) : Type 0 where
+  pub admits : s.closed ≡ false
+  pub is_next : ticket ≡ ticket_count s
+  pub nothing_is_sent : told' ≡ told
+  pub state : s' ≡ record s {
+    ledger = entry_of encode_memory (with_ticket ticket span) ∷ s.ledger;
+    dropped = s.dropped + 1;
+    closed = is_last_ticket ticket;
+  }
+
+-- The span was late, and is only counted.
+pub record IsLate (told told' : Option (List Handed)) (s s' : State) : Type 0 where
+  pub closed : s.closed ≡ true
+  pub nothing_is_sent : told' ≡ told
+  pub state : s' ≡ record s { late = capped (s.late + 1) }
+
+-- What an answer to the end of a span says. (Trace SDK, OnEnd)
+abbrev pub Answers : Option (List Handed) → Option (List Handed) → State → EndedSpan → Ended
+    → State → Type 0
+Answers told told' s span (answers.Handed ticket) s' = IsHanded told told' s span ticket s'
+Answers told told' s span (answers.Dropped ticket reasons.EncodeMemory) s' =
+    IsDropped told told' s span ticket s'
+Answers told told' s span answers.Late s' = IsLate told told' s s'
+Answers told told' s span _ s' = ⊥
+
+-- What a pop gives: the newest entry, if there is one.
+abbrev pub Pops : State → Option Entry → State → Type 0
+Pops s (Some entry) s' =
+    (s.ledger ≡ entry ∷ s'.ledger) × (s' ≡ record s { ledger = s'.ledger })
+Pops s None s' = s' ≡ s
+
+-- The totals count what lies here: a handed span as accepted, taken and handed, a dropped one under
+-- its reason alone.
+pub record AreTotals (t : Totals) (s : State) : Type 0 where
+  pub accepted : t.accepted ≡ s.handed
+  pub taken : t.taken ≡ s.handed
+  pub handed : t.handed ≡ s.handed
+  pub left : t.left ≡ 0
+  pub late : t.late ≡ s.late
+  pub dropped : drop_counts_view t.dropped ≡ record {
+    queue_full = 0;
+    encode_memory = s.dropped;
+    too_large = 0;
+    abandoned = 0;
+  }
+  pub fates : fate_counts_view t.fates ≡ s.fates
+  pub closed : t.closed ≡ s.closed

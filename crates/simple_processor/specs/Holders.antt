@@ -1,0 +1,39 @@
+-- What the accounts of a simple processor say. (profile)
+use Rattle.std.specs.Prelude.{ℕ, List, filter_map, Option, Some, None}
+use Rattle.span_exporter.specs.Handed.{Handed}
+use Rattle.simple_processor.specs.Accounts.{PassAccount, new_account}
+
+-- What a processor began with: how many passes it has, and what its exporter told that it had been
+-- handed before.
+pub record Origin : Type 0 where
+  pub passes : ℕ
+  pub had : Option (List Handed)
+
+-- the processor's own account, or that of a pass
+pub data Holder : Type 0 where
+  processor : Origin → Holder
+  pass : PassAccount → Holder
+
+abbrev pub new_origin : Origin
+new_origin = record { passes = 0; had = None }
+
+abbrev pub origin_in : Holder → Origin
+origin_in (processor origin) = origin
+origin_in (pass account) = new_origin
+
+abbrev pub account_in : Holder → PassAccount
+account_in (processor origin) = new_account
+account_in (pass account) = account
+
+abbrev pub pass_account : Holder → Option PassAccount
+pass_account (processor origin) = None
+pass_account (pass account) = Some account
+
+-- the accounts of the passes
+abbrev pub pass_accounts : List Holder → List PassAccount
+pass_accounts holders = filter_map pass_account holders
+
+-- what is told to a pass's account changes it alone
+abbrev pub on_pass : (PassAccount → PassAccount) → Holder → Holder
+on_pass f (processor origin) = processor origin
+on_pass f (pass account) = pass (f account)

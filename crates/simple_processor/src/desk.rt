@@ -1,0 +1,201 @@
+//! What lies under the lock: the exporter, the ledger and counts.
+ghost use Rattle.std.specs.Prelude.{◌≡◌, ◌-◌, ◌^◌, ◌<◌, Some, IfOk, OnErr, option_map, true};
+ghost use Rattle.desk_model.specs.Retries as retries;
+ghost use Rattle.desk_model.specs.Retries.{next_of};
+ghost use Rattle.retry_core.specs.Retries.{outcome_view};
+ghost use Rattle.otlp_span.specs.Dropped.{entry_view};
+ghost use Rattle.batch_desk.specs.Views.{fate_view};
+ghost use Rattle.simple_processor.specs.Desk.{Answers, AreTotals, IsSent, Pops, new_state};
+
+use crate::encoder::Encoder;
+use crate::processor::SimpleAccounts;
+use batch_desk::{DropCounts, Fate, FateCounts, Totals};
+use drop_ledger::Ledger;
+use otlp_ids::OutOfMemory;
+use otlp_span::{Entry, Reason, SpanData};
+use retry_core::{Cause, Next, Outcome, decide};
+use span_exporter::Exporter;
+use std::alloc::Allocator;
+use std::marker::Model;
+use trace_api::Ended;
+
+/// What threads share, step by step: each call is one step.
+#[derive(Drop)]
+pub(crate) struct Desk<E, A: Allocator> {
+    exporter: E,
+    encoder: Encoder<A>,
+    ledger: Ledger<A>,
+    handed: u64,
+    dropped: u64,
+    late: u64,
+    closed: bool,
+    fates: FateCounts,
+}
+
+impl<E, A: Allocator> Model for Desk<E, A> {
+    ghost use Rattle.batch_desk.specs.Views.{fate_counts_view};
+    ghost use Rattle.simple_processor.specs.Desk.{AreCounts, DeskWith};
+
+    ghost Value = { DeskWith E };
+
+    ghost view = { λ d. record {
+      exporter = d.exporter;
+      state = record {
+        ledger = d.ledger;
+        handed = d.handed;
+        dropped = d.dropped;
+        late = d.late;
+        closed = d.closed;
+        fates = fate_counts_view d.fates;
+      };
+    } };
+
+    ghost invariant = { λ d. AreCounts (record {
+      ledger = d.ledger;
+      handed = d.handed;
+      dropped = d.dropped;
+      late = d.late;
+      closed = d.closed;
+      fates = fate_counts_view d.fates;
+    }) };
+}
+
+impl<E: Exporter, A: Allocator + Copy> Desk<E, A> {
+    /// A desk of this exporter at which nothing was done.
+    pub(crate) fn new(exporter: E, encoder: Encoder<A>) -> Desk<E, A>
+        ensures { result ≡ record { exporter = exporter; state = new_state } }
+    {
+        Desk {
+            exporter,
+            encoder,
+            ledger: Ledger::new(),
+            handed: 0,
+            dropped: 0,
+            late: 0,
+            closed: false,
+            fates: FateCounts::new(),
+        }
+    }
+
+    /// Takes a span that has ended, under the next ticket, and hands it to the exporter alone.
+    /// Where memory is refused, the ledger names it. Behind a shutdown it is only counted. Where
+    /// the next ticket would be 2^64 - 1, the desk closes as by a shutdown.
+    pub(crate) fn admit(&mut self, mut span: SpanData<A>) -> Ended
+        ensures { Answers (E.handed self.old.exporter) (E.handed self.new.exporter)
+            self.old.state span result self.new.state }
+    {
+        if self.closed {
+            self.late = self.late.saturating_add(1);
+            return Ended::Late;
+        }
+        let ticket = self.handed + self.dropped;
+        self.closed = ticket + 1 == u64::MAX;
+        span.set_ticket(ticket);
+        let (span, sent) = send(&mut self.exporter, &mut self.encoder, span);
+        match sent {
+            Ok(outcome) => {
+                self.fates.add(fate_of(outcome));
+                self.handed += 1;
+                Ended::Handed(ticket)
+            }
+            Err(OutOfMemory) => {
+                let entry = span.entry(Reason::EncodeMemory);
+                self.ledger.push(span.into_slip(), entry);
+                self.dropped += 1;
+                Ended::Dropped(ticket, Reason::EncodeMemory)
+            }
+        }
+    }
+
+    /// No span is admitted any more.
+    pub(crate) fn shutdown(&mut self)
+        ensures exporter { self.new.exporter ≡ self.old.exporter }
+        ensures state { self.new.state ≡ record self.old.state { closed = true } }
+    {
+        self.closed = true;
+    }
+
+    /// Takes the newest entry out of the ledger, if there is one.
+    pub(crate) fn pop_entry(&mut self) -> Option<Entry>
+        ensures exporter { self.new.exporter ≡ self.old.exporter }
+        ensures state { Pops self.old.state (option_map entry_view result) self.new.state }
+    {
+        self.ledger.pop()
+    }
+
+    /// The exporter, the counts and the ledger.
+    pub(crate) fn into_accounts(self) -> SimpleAccounts<E, A>
+        ensures exporter { result.exporter ≡ self.exporter }
+        ensures ledger { result.ledger ≡ self.state.ledger }
+        ensures totals { AreTotals result.totals self.state }
+    {
+        let Desk {
+            exporter,
+            encoder: _,
+            ledger,
+            handed,
+            dropped,
+            late,
+            closed,
+            fates,
+        } = self;
+        let totals = Totals {
+            accepted: handed,
+            taken: handed,
+            handed,
+            left: 0,
+            late,
+            dropped: DropCounts {
+                queue_full: 0,
+                encode_memory: dropped,
+                too_large: 0,
+                abandoned: 0,
+            },
+            fates,
+            closed,
+        };
+        SimpleAccounts {
+            exporter,
+            totals,
+            ledger,
+        }
+    }
+}
+
+/// Encodes a span alone, and hands its body to the exporter, once. The span comes back.
+fn send<E: Exporter, A: Allocator + Copy>(
+    exporter: &mut E,
+    encoder: &mut Encoder<A>,
+    span: SpanData<A>,
+) -> (SpanData<A>, Result<Outcome, OutOfMemory>)
+    requires { span.ticket < 2 ^ 64 - 1 }
+    ensures span { result.0 ≡ span }
+    ensures sent { IfOk result.1 (λ outcome. IsSent (E.handed exporter.old)
+        (E.handed exporter.new) span (outcome_view outcome)) }
+    ensures refused { OnErr result.1 (E.handed exporter.new ≡ E.handed exporter.old) }
+{
+    let number = span.ticket() + 1;
+    let (span, encoded) = encoder.encode(span);
+    let Ok(body) = encoded else {
+        return (span, Err(OutOfMemory));
+    };
+    if exporter.prepare(body.len(), 1).is_err() {
+        return (span, Err(OutOfMemory));
+    }
+    let outcome = exporter.export(number, 1, body.as_slice());
+    (span, Ok(outcome))
+}
+
+/// How an attempt ends that is the only one of its body.
+fn fate_of(outcome: Outcome) -> Fate
+    ensures { retries.fate_of (next_of (outcome_view outcome)) ≡ Some (fate_view result) }
+{
+    match decide(&outcome) {
+        Next::Done => Fate::Delivered,
+        Next::Partial(rejected) => Fate::Partial(rejected),
+        Next::GiveUp(Cause::Refused(status)) => Fate::Refused(status),
+        Next::GiveUp(Cause::BadReply) => Fate::BadReply,
+        Next::GiveUp(Cause::Attempts) => Fate::GivenUp,
+        Next::Again(_) => unreachable!(),
+    }
+}

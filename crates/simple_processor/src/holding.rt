@@ -1,0 +1,131 @@
+//! What the accounts of a processor say, and how that changes. No value of it is made.
+ghost use Rattle.std.specs.Prelude.{◌≡◌, []};
+
+use account_book::{Blank, Book, Change, Naming, Opening};
+use otlp_span::{Entry, SpanData};
+use span_exporter::Exporter;
+use std::alloc::Allocator;
+use std::marker::{Model, PhantomData};
+use std::snapshot::Snapshot;
+use trace_api::Ended;
+
+/// What an account says: what a processor began with, or what a pass knows.
+pub struct Holding {
+    marker: PhantomData<()>,
+}
+
+impl Model for Holding {
+    ghost use Rattle.simple_processor.specs.Accounts.{new_account};
+    ghost use Rattle.simple_processor.specs.Holders.{Holder, pass};
+
+    ghost Value = { Holder };
+
+    ghost view = { λ _. pass new_account };
+}
+
+/// The account of a pass that has done nothing.
+pub(crate) struct NewPass;
+
+impl Opening<Holding> for NewPass {
+    ghost use Rattle.simple_processor.specs.Accounts.{new_account};
+    ghost use Rattle.simple_processor.specs.Holders.{pass};
+
+    ghost first = { pass new_account };
+}
+
+/// The account of a processor that is told nothing yet.
+pub(crate) struct NewProcessor;
+
+impl Opening<Holding> for NewProcessor {
+    ghost use Rattle.simple_processor.specs.Holders.{new_origin, processor};
+
+    ghost first = { processor new_origin };
+}
+
+/// With what a processor begins: how many passes it has, and its exporter.
+#[derive(Drop)]
+pub(crate) struct Began<E> {
+    pub(crate) passes: usize,
+    pub(crate) exporter: Snapshot<E>,
+}
+
+/// A processor begins.
+pub(crate) struct Begins<E>(PhantomData<E>);
+
+impl<E: Exporter> Change<Holding, Began<E>> for Begins<E> {
+    ghost use Rattle.simple_processor.specs.Holders.{processor};
+
+    ghost after = { λ _ began. processor
+        (record { passes = began.passes; had = E.handed began.exporter.value }) };
+}
+
+/// A span that ended, and what was answered.
+#[derive(Drop)]
+pub(crate) struct SpanEnded<A: Allocator> {
+    pub(crate) span: Snapshot<SpanData<A>>,
+    pub(crate) answer: Ended,
+}
+
+/// A span ends.
+pub(crate) struct Ends;
+
+impl<A: Allocator> Change<Holding, SpanEnded<A>> for Ends {
+    ghost use Rattle.simple_processor.specs.Accounts.{after_end};
+    ghost use Rattle.simple_processor.specs.Holders.{on_pass};
+
+    ghost after = { λ holder ended. on_pass (after_end ended.answer ended.span.value) holder };
+}
+
+/// A pass calls shutdown.
+pub(crate) struct ShutsDown;
+
+impl Change<Holding, ()> for ShutsDown {
+    ghost use Rattle.simple_processor.specs.Accounts.{after_shutdown};
+    ghost use Rattle.simple_processor.specs.Holders.{on_pass};
+
+    ghost after = { λ holder _. on_pass after_shutdown holder };
+}
+
+/// A pass pops an entry of the ledger.
+pub(crate) struct Pops;
+
+impl Change<Holding, Entry> for Pops {
+    ghost use Rattle.otlp_span.specs.Dropped.{entry_view};
+    ghost use Rattle.simple_processor.specs.Accounts.{after_pop};
+    ghost use Rattle.simple_processor.specs.Holders.{on_pass};
+
+    ghost after = { λ holder entry. on_pass (after_pop (entry_view entry)) holder };
+}
+
+/// The accounts of one processor, before it is made: `SimpleProcessor::new` opens them. In
+/// contracts it is their name, by which a type parameter stands for this one processor.
+#[derive(Drop)]
+pub struct SimpleBlank {
+    blank: Blank<Holding>,
+}
+
+impl Model for SimpleBlank {
+    ghost use Rattle.std.specs.Prelude.{ℕ};
+
+    ghost Value = { ℕ };
+
+    ghost view = { λ b. b.blank };
+}
+
+impl SimpleBlank {
+    /// No accounts, under a name of their own. It takes no memory.
+    pub fn new() -> SimpleBlank {
+        SimpleBlank {
+            blank: Blank::new::<NewPass>(),
+        }
+    }
+
+    /// The book without accounts.
+    pub(crate) fn open<J: Naming>(self) -> Book<J, Holding>
+        requires { self ≡ J.name }
+        ensures { result ≡ [] }
+    {
+        let SimpleBlank { blank } = self;
+        blank.named::<J>()
+    }
+}

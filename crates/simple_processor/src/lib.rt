@@ -1,0 +1,21 @@
+//! A simple processor (OpenTelemetry Trace SDK, "Simple processor"): each sampled span is encoded
+//! alone at its end, and handed at once to an exporter that threads share under a lock.
+//!
+//! [`SimpleProcessor::new`] gives a processor and its passes. Each thread ends its spans on a
+//! [`SimplePass`] of its own; [`SimpleProcessor::close_out`] takes all passes back, and its
+//! contract says what was handed and dropped through them.
+#![tactic(auto)]
+
+mod desk;
+mod encoder;
+mod fault;
+mod holding;
+mod pass;
+mod processor;
+mod shared;
+
+pub use account_book::Naming;
+pub use fault::SimpleFault;
+pub use holding::SimpleBlank;
+pub use pass::{Flushed, SimplePass};
+pub use processor::{MAX_PASSES, SimpleAccounts, SimpleMissing, SimpleParts, SimpleProcessor};

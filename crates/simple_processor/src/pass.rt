@@ -1,0 +1,99 @@
+//! The passes of a simple processor.
+ghost use Rattle.std.specs.Prelude.{◌≡◌, IfNone, IfSome};
+ghost use Rattle.otlp_span.specs.Dropped.{entry_view};
+ghost use Rattle.simple_processor.specs.Accounts.{after_pop, after_shutdown};
+
+use crate::holding::Holding;
+use crate::shared::Shared;
+use account_book::{Account, Naming};
+use otlp_span::{Entry, SpanData};
+use span_exporter::Exporter;
+use std::alloc::{Allocator, Global};
+use std::marker::Model;
+use std::sync::{Arc, Mutex, Wait};
+use trace_api::{EndPass, Ended};
+
+/// All spans that ended before the call have been handed to the exporter or dropped.
+#[derive(Debug, Clone, Copy, PartialEq, Eq)]
+pub struct Flushed;
+
+/// One thread's way to a simple processor: what its spans go to at their end. In contracts it is
+/// what it knows: how each of its spans was answered, what it popped, how often it was late and
+/// called shutdown. Each call takes the lock once, and waits while another thread has it.
+#[derive(Drop)]
+pub struct SimplePass<J: Naming, E: Exporter, R, A: Allocator = Global> {
+    pub(crate) shared: Arc<Mutex<Shared<J, E, A>>, A>,
+    pub(crate) account: Account<J, Holding>,
+    pub(crate) rt: R,
+}
+
+impl<J: Naming, E: Exporter, R, A: Allocator> Model for SimplePass<J, E, R, A> {
+    ghost use Rattle.std.specs.Prelude.{◌≡◌};
+    ghost use Rattle.simple_processor.specs.Accounts.{PassAccount};
+    ghost use Rattle.simple_processor.specs.Holders.{account_in, pass};
+
+    ghost Value = { PassAccount };
+
+    ghost view = { λ p. account_in p.account };
+
+    ghost invariant = { λ p. p.account ≡ pass (account_in p.account) };
+}
+
+impl<J: Naming, E: Exporter, R: Wait, A: Allocator + Copy> SimplePass<J, E, R, A> {
+    /// Waits for the spans that ended before (Trace SDK, "ForceFlush"): a simple processor hands
+    /// each over at its end, so to take the lock is enough.
+    pub fn force_flush(&mut self) -> Flushed
+        ensures { self.new ≡ self.old }
+    {
+        drop(self.shared.lock(&self.rt));
+        Flushed
+    }
+
+    /// Admits no span any more, on any pass (Trace SDK, "Shutdown"): those that end from now on are
+    /// late. A later shutdown changes nothing.
+    pub fn shutdown(&mut self) -> Flushed
+        ensures { self.new ≡ after_shutdown self.old }
+    {
+        let SimplePass {
+            shared,
+            account,
+            rt,
+        } = self;
+        shared.lock(rt).shutdown(account);
+        Flushed
+    }
+
+    /// Takes the newest entry out of the ledger, if there is one.
+    pub fn pop_entry(&mut self) -> Option<Entry>
+        ensures some { IfSome result (λ entry. self.new ≡ after_pop (entry_view entry) self.old) }
+        ensures none { IfNone result (self.new ≡ self.old) }
+    {
+        let SimplePass {
+            shared,
+            account,
+            rt,
+        } = self;
+        shared.lock(rt).pop_entry(account)
+    }
+}
+
+impl<J: Naming, E: Exporter, R: Wait, A: Allocator + Copy> EndPass<SpanData<A>>
+    for SimplePass<J, E, R, A> {
+    ghost use Rattle.simple_processor.specs.Accounts.{AdmitsSpan};
+
+    ghost admits = { AdmitsSpan };
+
+    /// Encodes the span alone and hands its body to the exporter, in one attempt, numbered with
+    /// its ticket and 1: `Handed`. Where memory is refused, the ledger names the span on its own
+    /// slip: `Dropped`, as `EncodeMemory`. Behind a shutdown the span is only counted: `Late`.
+    /// Tickets are given from 0 on; where the next would be 2^64 - 1, none is given any more, as
+    /// behind a shutdown (profile: tickets, the ledger, late spans).
+    fn admit(&mut self, span: SpanData<A>) -> Ended {
+        let SimplePass {
+            shared,
+            account,
+            rt,
+        } = self;
+        shared.lock(rt).admit(account, span)
+    }
+}

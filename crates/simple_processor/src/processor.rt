@@ -1,0 +1,250 @@
+//! The simple processor.
+ghost use Rattle.std.specs.Prelude.{◌≡◌, ◌-◌, ◌^◌, ◌<◌, ◌≤◌, ◌++◌, ◌↔◌, ◌⊎◌, IfErr, IfOk, IsErrOf, IsPermutation, MatchResult, OnOk, OnSome, length, map, vec_len};
+ghost use Rattle.std.specs.List.{AllByRecursion};
+ghost use Rattle.span_exporter.specs.Handed.{Gains};
+ghost use Rattle.desk_model.specs.Desks.{capped, drop_counts, fate_counts};
+ghost use Rattle.batch_desk.specs.Views.{drop_counts_view, fate_counts_view};
+ghost use Rattle.simple_processor.specs.Accounts.{PassAccount, Rises, all_dropped, all_handed, all_popped, all_tickets, late_count, new_account, shutdown_count, tickets};
+ghost use Rattle.simple_processor.specs.Bodies.{attempt_in, attempt_of, fates_of, told_since};
+ghost use Rattle.simple_processor.specs.Holders.{pass};
+ghost use Rattle.simple_processor.specs.Kept.{given_tickets, is_closed, numbers_below};
+ghost use Rattle.simple_processor.specs.declared.processor.TheConstants.{MAX_PASSES};
+
+use crate::desk::Desk;
+use crate::encoder::Encoder;
+use crate::fault::SimpleFault;
+use crate::holding::{Began, Begins, Holding, NewPass, NewProcessor, SimpleBlank};
+use crate::pass::SimplePass;
+use crate::shared::Shared;
+use account_book::{Account, Book, Naming};
+use batch_desk::Totals;
+use drop_ledger::Ledger;
+use span_exporter::Exporter;
+use std::alloc::{AllocError, Allocator, Global};
+use std::marker::Model;
+use std::snapshot::Snapshot;
+use std::sync::{Arc, Mutex, Wait};
+
+/// The most passes that a processor may have (profile).
+pub const MAX_PASSES: usize = 64;
+
+/// A simple processor (Trace SDK, "Simple processor"): an exporter that threads share under a lock,
+/// each by a pass of its own. In contracts it is what it began with: how many passes it has, and
+/// what its exporter told before.
+#[derive(Drop)]
+pub struct SimpleProcessor<J: Naming, E: Exporter, R, A: Allocator = Global> {
+    shared: Arc<Mutex<Shared<J, E, A>>, A>,
+    account: Account<J, Holding>,
+    passes: usize,
+    rt: R,
+}
+
+impl<J: Naming, E: Exporter, R, A: Allocator> Model for SimpleProcessor<J, E, R, A> {
+    ghost use Rattle.std.specs.Prelude.{◌≡◌, ◌<◌};
+    ghost use Rattle.simple_processor.specs.Holders.{Origin, origin_in, processor};
+
+    ghost Value = { Origin };
+
+    ghost view = { λ p. origin_in p.account };
+
+    ghost invariant = { λ p. (p.account ≡ processor (origin_in p.account))
+        × (p.passes ≡ (origin_in p.account).passes) };
+}
+
+/// A new processor, and its passes.
+#[derive(Drop)]
+pub struct SimpleParts<J: Naming, E: Exporter, R, A: Allocator = Global> {
+    /// The processor.
+    pub processor: SimpleProcessor<J, E, R, A>,
+    /// Its passes, for a thread each.
+    pub passes: Vec<SimplePass<J, E, R, A>, A>,
+}
+
+/// What a processor comes to.
+#[derive(Drop)]
+pub struct SimpleAccounts<E, A: Allocator = Global> {
+    /// The exporter.
+    pub exporter: E,
+    /// The counts: a span that was handed to the exporter is accepted, taken and handed, and a
+    /// dropped one is counted under its reason alone.
+    pub totals: Totals,
+    /// The names of the dropped spans that were not popped.
+    pub ledger: Ledger<A>,
+}
+
+/// A pass is missing: all that was to be closed out.
+#[derive(Drop)]
+pub struct SimpleMissing<J: Naming, E: Exporter, R, A: Allocator = Global> {
+    /// The processor, as it was.
+    pub processor: SimpleProcessor<J, E, R, A>,
+    /// The passes that were handed in, as they were.
+    pub passes: Vec<SimplePass<J, E, R, A>, A>,
+}
+
+impl<J: Naming, E: Exporter, R: Wait + Copy, A: Allocator + Copy> SimpleProcessor<J, E, R, A> {
+    /// A processor over this exporter, with so many passes, 1 to [`MAX_PASSES`]. The blank becomes
+    /// its accounts: a type parameter stands for its name, and so for this one processor.
+    ///
+    /// # Errors
+    ///
+    /// `BadPasses` where the number of passes is none of these, else `OutOfMemory` where memory was
+    /// refused.
+    pub fn new(
+        alloc: A,
+        rt: R,
+        blank: SimpleBlank,
+        exporter: E,
+        passes: usize,
+    ) -> Result<SimpleParts<J, E, R, A>, SimpleFault>
+    where
+        E: Drop,
+        requires { blank ≡ J.name }
+        ensures processor { IfOk result (λ parts. parts.processor
+            ≡ record { passes = passes; had = E.handed exporter }) }
+        ensures count { IfOk result (λ parts. vec_len parts.passes ≡ passes) }
+        ensures passes { IfOk result
+            (λ parts. AllByRecursion (λ a. a ≡ new_account) parts.passes.items) }
+        ensures bad_passes { IsErrOf result SimpleFault.BadPasses
+            ↔ ((passes ≡ 0) ⊎ (MAX_PASSES < passes)) }
+    {
+        if passes == 0 || passes > MAX_PASSES {
+            return Err(SimpleFault::BadPasses);
+        }
+        let encoder = Encoder::new(alloc)?;
+        let mut book = blank.open::<J>();
+        let mut account = book.open::<NewProcessor>();
+        let began = Began {
+            passes,
+            exporter: Snapshot::of(&exporter),
+        };
+        book.record::<Began<E>, Begins<E>>(&mut account, &began);
+        let accounts = open_accounts(alloc, &mut book, passes)?;
+        let shared = Shared {
+            desk: Some(Desk::new(exporter, encoder)),
+            book,
+            passes,
+            began: began.exporter,
+        };
+        let shared = Arc::new(alloc, Mutex::new(shared))?;
+        let all = give_passes(alloc, rt, &shared, accounts)?;
+        let processor = SimpleProcessor {
+            shared,
+            account,
+            passes,
+            rt,
+        };
+        Ok(SimpleParts {
+            processor,
+            passes: all,
+        })
+    }
+
+    /// Ends the processor, once all its passes are back, and answers what they come to.
+    ///
+    /// # Errors
+    ///
+    /// `SimpleMissing` exactly where a pass is missing; it gives all back, as it was.
+    pub fn close_out(
+        self,
+        passes: Vec<SimplePass<J, E, R, A>, A>,
+    ) -> Result<SimpleAccounts<E, A>, SimpleMissing<J, E, R, A>>
+    where
+        E: Drop,
+        ensures missing { MatchResult result
+            (λ _. self.passes ≤ vec_len passes) (λ _. vec_len passes < self.passes) }
+        ensures given_back { IfErr result (λ m. (m.processor ≡ self) × (m.passes ≡ passes)) }
+
+        // What an exporter tells of the time since the processor was made: one attempt for each
+        // span that a pass was answered was handed, whose body means this span alone.
+        ensures keeps { IfOk result (λ a.
+            Gains (told_since self.had (E.handed a.exporter)) self.had (E.handed a.exporter)) }
+        ensures spans { IfOk result (λ a. OnSome (E.handed a.exporter)
+            (IsPermutation (map attempt_of (all_handed passes.items))
+            (map attempt_in (told_since self.had (E.handed a.exporter))))) }
+        ensures fates { IfOk result (λ a. OnSome (E.handed a.exporter)
+            (fate_counts_view a.totals.fates
+            ≡ fate_counts (fates_of (told_since self.had (E.handed a.exporter))))) }
+
+        // Tickets are given once, and rise on each pass.
+        ensures tickets { IfOk result (λ a.
+            IsPermutation (all_tickets passes.items) (numbers_below (given_tickets a.totals))) }
+        ensures rising { OnOk result
+            (AllByRecursion (λ (a : PassAccount). Rises (tickets a)) passes.items) }
+
+        // A dropped span is named in the ledger, until its entry is popped.
+        ensures entries { IfOk result (λ a.
+            IsPermutation (all_dropped passes.items) (a.ledger ++ all_popped passes.items)) }
+        ensures dropped { IfOk result (λ a.
+            drop_counts_view a.totals.dropped ≡ drop_counts (all_dropped passes.items)) }
+        ensures only_for_memory { IfOk result (λ a. (a.totals.dropped.queue_full ≡ 0)
+            × (a.totals.dropped.too_large ≡ 0) × (a.totals.dropped.abandoned ≡ 0)) }
+
+        ensures handed { IfOk result (λ a. a.totals.handed ≡ length (all_handed passes.items)) }
+        ensures accepted { IfOk result (λ a. (a.totals.accepted ≡ a.totals.handed)
+            × (a.totals.taken ≡ a.totals.handed) × (a.totals.left ≡ 0)) }
+
+        // Spans are late where none is admitted any more: after a shutdown, or without tickets.
+        ensures late { IfOk result (λ a. a.totals.late ≡ capped (late_count passes.items)) }
+        ensures late_after_shutdown { IfOk result (λ a. 0 < a.totals.late
+            → given_tickets a.totals < 2 ^ 64 - 1 → 0 < shutdown_count passes.items) }
+        ensures closed { IfOk result (λ a.
+            a.totals.closed ≡ is_closed (given_tickets a.totals) passes.items) }
+    {
+        if passes.len() < self.passes {
+            return Err(SimpleMissing {
+                processor: self,
+                passes,
+            });
+        }
+        let SimpleProcessor {
+            shared,
+            account,
+            passes: _,
+            rt,
+        } = self;
+        let accounts = shared.lock(&rt).close(account, passes);
+        Ok(accounts)
+    }
+}
+
+/// Opens an account for each of so many passes.
+fn open_accounts<J: Naming, A: Allocator>(
+    alloc: A,
+    book: &mut Book<J, Holding>,
+    passes: usize,
+) -> Result<Vec<Account<J, Holding>, A>, AllocError>
+    ensures book { IfOk result (λ opened. book.new ≡ book.old ++ opened.items) }
+    ensures count { IfOk result (λ opened. vec_len opened ≡ passes) }
+    ensures new { IfOk result
+        (λ opened. AllByRecursion (λ h. h ≡ pass new_account) opened.items) }
+{
+    let mut opened = Vec::with_capacity(alloc, passes)?;
+    for _pass in 0..passes {
+        opened.push_reserved(book.open::<NewPass>());
+    }
+    Ok(opened)
+}
+
+/// A pass for each of these accounts.
+fn give_passes<J: Naming, E: Exporter + Drop, R: Copy, A: Allocator>(
+    alloc: A,
+    rt: R,
+    shared: &Arc<Mutex<Shared<J, E, A>>, A>,
+    accounts: Vec<Account<J, Holding>, A>,
+) -> Result<Vec<SimplePass<J, E, R, A>, A>, AllocError>
+    requires { AllByRecursion (λ h. h ≡ pass new_account) accounts.items }
+    ensures count { IfOk result (λ passes. vec_len passes ≡ vec_len accounts) }
+    ensures new { IfOk result
+        (λ passes. AllByRecursion (λ a. a ≡ new_account) passes.items) }
+{
+    let mut passes = Vec::with_capacity(alloc, accounts.len())?;
+    for account in accounts {
+        let shared = Arc::try_clone(shared)?;
+        passes.push_reserved(SimplePass {
+            shared,
+            account,
+            rt,
+        });
+    }
+    Ok(passes)
+}

@@ -1,0 +1,116 @@
+//! What threads share, with the accounts of those who share it.
+ghost use Rattle.std.specs.Prelude.{◌≡◌, ◌≤◌, vec_len, true, option_map, IfSome, IfNone};
+ghost use Rattle.otlp_span.specs.Dropped.{entry_view};
+ghost use Rattle.simple_processor.specs.Accounts.{after_end, after_pop, after_shutdown, is_simple_answer};
+ghost use Rattle.simple_processor.specs.Holders.{account_in, on_pass, origin_in, pass, processor};
+ghost use Rattle.simple_processor.specs.Kept.{IsAccountOf};
+
+use crate::desk::Desk;
+use crate::holding::{Ends, Holding, Pops, ShutsDown, SpanEnded};
+use crate::pass::SimplePass;
+use crate::processor::SimpleAccounts;
+use account_book::{Account, Book, Naming};
+use otlp_span::{Entry, SpanData};
+use span_exporter::Exporter;
+use std::alloc::Allocator;
+use std::marker::Model;
+use std::snapshot::Snapshot;
+use trace_api::Ended;
+
+/// What lies under the lock of a processor, until it is closed out, with the book of its accounts.
+#[derive(Drop)]
+pub(crate) struct Shared<J: Naming, E: Exporter, A: Allocator> {
+    pub(crate) desk: Option<Desk<E, A>>,
+    pub(crate) book: Book<J, Holding>,
+    pub(crate) passes: usize,
+    pub(crate) began: Snapshot<E>,
+}
+
+impl<J: Naming, E: Exporter, A: Allocator> Model for Shared<J, E, A> {
+    ghost use Rattle.simple_processor.specs.Kept.{IsShared};
+
+    ghost Value = { Unit {0} };
+
+    ghost view = { λ s. tt };
+
+    ghost invariant = { λ s. IsShared (λ d. E.handed d.exporter) (λ d. d.state)
+        (record { passes = s.passes; had = E.handed s.began.value }) s.desk s.book };
+}
+
+impl<J: Naming, E: Exporter, A: Allocator + Copy> Shared<J, E, A> {
+    /// A span ends on a pass.
+    pub(crate) fn admit(&mut self, account: &mut Account<J, Holding>, span: SpanData<A>) -> Ended
+        requires { account.old ≡ pass (account_in account.old) }
+        ensures account { account.new ≡ on_pass (after_end result span) account.old }
+        ensures answer { is_simple_answer result ≡ true }
+    {
+        self.book.recognize(account);
+        let Some(desk) = &mut self.desk else {
+            unreachable!()
+        };
+        let seen = Snapshot::of(&span);
+        let answer = desk.admit(span);
+        self.book
+            .record::<SpanEnded<A>, Ends>(account, &SpanEnded { span: seen, answer });
+        answer
+    }
+
+    /// A pass shuts the processor down.
+    pub(crate) fn shutdown(&mut self, account: &mut Account<J, Holding>)
+        requires { account.old ≡ pass (account_in account.old) }
+        ensures { account.new ≡ on_pass after_shutdown account.old }
+    {
+        self.book.recognize(account);
+        let Some(desk) = &mut self.desk else {
+            unreachable!()
+        };
+        desk.shutdown();
+        self.book.record::<(), ShutsDown>(account, &());
+    }
+
+    /// A pass pops an entry of the ledger.
+    pub(crate) fn pop_entry(&mut self, account: &mut Account<J, Holding>) -> Option<Entry>
+        requires { account.old ≡ pass (account_in account.old) }
+        ensures some { IfSome result
+            (λ entry. account.new ≡ on_pass (after_pop (entry_view entry)) account.old) }
+        ensures none { IfNone result (account.new ≡ account.old) }
+    {
+        self.book.recognize(account);
+        let Some(desk) = &mut self.desk else {
+            unreachable!()
+        };
+        let entry = desk.pop_entry()?;
+        self.book.record::<Entry, Pops>(account, &entry);
+        Some(entry)
+    }
+
+    /// Takes all out, once the processor and all passes are back.
+    pub(crate) fn close<R>(
+        &mut self,
+        mut account: Account<J, Holding>,
+        passes: Vec<SimplePass<J, E, R, A>, A>,
+    ) -> SimpleAccounts<E, A>
+    where
+        E: Drop,
+        R: Drop,
+        requires processor { account ≡ processor (origin_in account) }
+        requires all { (origin_in account).passes ≤ vec_len passes }
+        ensures { IsAccountOf (origin_in account).had (E.handed result.exporter) result.totals
+            result.ledger passes.items }
+    {
+        self.book.recognize(&mut account);
+        let Some(desk) = self.desk.take() else {
+            unreachable!()
+        };
+        self.book.close(account);
+        for pass in passes {
+            let SimplePass {
+                shared: _,
+                account,
+                rt: _,
+            } = pass;
+            self.book.close(account);
+        }
+        desk.into_accounts()
+    }
+}
