@@ -3,9 +3,10 @@
 use crate::samples::{full_span, open, pair, text};
 use linked_list_allocator::LocalHeap;
 use otlp_ids::OutOfMemory;
-use otlp_proto::{EncodeFault, ResourceGroup, ScopeGroup, body_of, encode, group, share_place};
+use otlp_proto::{EncodeFault, body_of, encode};
 use otlp_span::{Resource, Scope, SpanData, SpanLimits};
 use otlp_value::Value;
+use scope_group::{ResourceGroup, ScopeGroup, group};
 use std::alloc::{Allocator, Global};
 use std::process::Abort;
 
@@ -15,7 +16,7 @@ fn plain_span<A: Allocator + Copy>(rt: &impl Abort, alloc: A) -> SpanData<A> {
 }
 
 /// Asserts that a body is this one, in hexadecimal digits.
-fn assert_body<A: Allocator + Copy>(
+pub(crate) fn assert_body<A: Allocator + Copy>(
     rt: &impl Abort,
     alloc: A,
     body: Result<Vec<u8, A>, EncodeFault>,
@@ -45,16 +46,8 @@ const TWO_SPANS: &str = concat!(
 fn exports_two_spans_of_one_scope(rt: HostRuntime) {
     let alloc = rt.alloc();
     let spans = [plain_span(&rt, alloc), plain_span(&rt, alloc)];
-    assert!(rt; share_place(&spans));
     assert_body(&rt, alloc, body_of(alloc, &spans, 117), TWO_SPANS);
     assert_too_large(&rt, body_of(alloc, &spans, 116));
-}
-
-#[test]
-fn tells_spans_of_two_scopes(rt: HostRuntime) {
-    let full = full_span(rt.alloc()).expect(&rt, "memory");
-    let spans = [plain_span(&rt, rt.alloc()), full];
-    assert!(rt; !share_place(&spans));
 }
 
 /// Asserts how a group with one scope is written for a programmer.
@@ -71,7 +64,6 @@ fn assert_debug(rt: &impl Abort, alloc: Global, group: &ResourceGroup<'_>) {
 fn groups_two_spans_of_one_scope(rt: HostRuntime) {
     let alloc = rt.alloc();
     let spans = [plain_span(&rt, alloc), plain_span(&rt, alloc)];
-    assert!(rt; share_place(&spans));
     let groups = group(alloc, &spans).expect(&rt, "memory");
     assert_eq!(rt; groups.len(), 1);
     assert_body(&rt, alloc, encode(alloc, groups.as_slice(), 117), TWO_SPANS);

@@ -61,18 +61,39 @@ const TRACE: [u8; 16] = [1, 2, 3, 4, 5, 6, 7, 8, 9, 10, 11, 12, 13, 14, 15, 16];
 
 const SPAN: [u8; 8] = [17, 18, 19, 20, 21, 22, 23, 24];
 
-/// The start of a span named `a` in the scope `s`, at the moment 1.
-fn opening<A: Allocator + Copy>(rt: &impl Abort, alloc: A) -> Open<A> {
-    let resource = Resource {
+/// A resource with this schema alone.
+pub(crate) fn resource<A: Allocator + Copy>(
+    rt: &impl Abort,
+    alloc: A,
+    schema_url: &str,
+) -> Resource<A> {
+    Resource {
         attributes: Vec::new(alloc),
-        schema_url: String::new(alloc),
-    };
-    let scope = Scope {
-        name: text(alloc, "s").expect(rt, "memory"),
-        version: String::new(alloc),
+        schema_url: text(alloc, schema_url).expect(rt, "memory"),
+    }
+}
+
+/// A scope without attributes.
+pub(crate) fn scope<A: Allocator + Copy>(
+    rt: &impl Abort,
+    alloc: A,
+    [name, version, schema_url]: [&str; 3],
+) -> Scope<A> {
+    Scope {
+        name: text(alloc, name).expect(rt, "memory"),
+        version: text(alloc, version).expect(rt, "memory"),
         attributes: Vec::new(alloc),
-        schema_url: String::new(alloc),
-    };
+        schema_url: text(alloc, schema_url).expect(rt, "memory"),
+    }
+}
+
+/// The start of a span named `a`, at the moment 1.
+pub(crate) fn opening<A: Allocator + Copy>(
+    rt: &impl Abort,
+    alloc: A,
+    resource: Resource<A>,
+    scope: Scope<A>,
+) -> Open<A> {
     Open {
         context: context(alloc, TRACE, SPAN, "").expect(rt, "memory"),
         parent: None,
@@ -84,12 +105,15 @@ fn opening<A: Allocator + Copy>(rt: &impl Abort, alloc: A) -> Open<A> {
     }
 }
 
+/// A span named `a` in the scope `s`, from the moment 1 on.
 pub(crate) fn open<A: Allocator + Copy>(
     rt: &impl Abort,
     alloc: A,
     limits: &SpanLimits,
 ) -> SpanRecord<A> {
-    SpanRecord::open(alloc, opening(rt, alloc), limits).expect(rt, "memory")
+    let scope = scope(rt, alloc, ["s", "", ""]);
+    let opening = opening(rt, alloc, resource(rt, alloc, ""), scope);
+    SpanRecord::open(alloc, opening, limits).expect(rt, "memory")
 }
 
 fn full_resource<A: Allocator + Copy>(alloc: A) -> Result<Arc<Resource<A>, A>, OutOfMemory> {

@@ -1,3 +1,4 @@
+//! Groups of spans, and how they are made.
 ghost use Rattle.std.specs.Prelude.{◌≡◌, ◌≢◌, [], IfOk, OnErr, map};
 ghost use Rattle.export_model.specs.Export as model;
 ghost use Rattle.scope_group.specs.Group.{groups_view, resources_view, scope_group_view, scopes_view};
@@ -56,11 +57,11 @@ fn by_resource<'a, A: Allocator + Copy>(
         ≡ model.groups_by model.resource_eq (λ x. x.resource) spans.now) }
     ensures refused { OnErr result (spans.now ≢ []) }
 {
-    let mut groups = IndexMap::new(alloc);
+    let mut resources = IndexMap::new(alloc);
     for span in spans {
-        add(alloc, &mut groups, span.resource(), span)?;
+        add(alloc, &mut resources, span.resource(), span)?;
     }
-    Ok(groups)
+    Ok(resources)
 }
 
 /// The spans by scope, in the order in which the scopes came first.
@@ -71,11 +72,11 @@ fn by_scope<'a, A: Allocator + Copy>(
     ensures { IfOk result (λ groups. scopes_view groups.entries
         ≡ model.groups_by model.scope_eq (λ x. x.scope) (map (λ s. s.now) spans.now)) }
 {
-    let mut groups = IndexMap::new(alloc);
+    let mut scopes = IndexMap::new(alloc);
     for span in spans {
-        add(alloc, &mut groups, span.scope(), *span)?;
+        add(alloc, &mut scopes, span.scope(), *span)?;
     }
-    Ok(groups)
+    Ok(scopes)
 }
 
 /// The groups of the spans of one resource.

@@ -24,7 +24,7 @@ pub use Rattle.otlp_value.specs.Value
 pub use Rattle.otlp_span.specs.Parts
 pub use Rattle.otlp_span.specs.Recording
 pub use Rattle.otlp_sampler.specs.Sampling as SamplerViews
-pub use Rattle.otlp_proto.specs.Group
+pub use Rattle.scope_group.specs.Group
 pub use Rattle.otlp_proto.specs.Encode
 pub use Rattle.trace_api.specs.Calls
 pub use Rattle.trace_api.specs.Pass

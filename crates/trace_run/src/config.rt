@@ -14,7 +14,7 @@ pub struct RunConfig<S: Sampler, R: Rng, A: Allocator = Global> {
     pub limits: SpanLimits,
     /// What makes them.
     pub resource: Resource<A>,
-    /// The scopes whose tracers start them, numbered from 0 on: at most one, until grouping comes.
+    /// The scopes whose tracers start them, numbered from 0 on.
     pub scopes: Vec<Scope<A>, A>,
     /// How much the queue and a batch hold, and the delay. It is one that `Desk::new` takes.
     pub desk: DeskConfig,

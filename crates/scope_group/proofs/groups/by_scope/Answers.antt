@@ -9,7 +9,7 @@ use Rattle.scope_group.proofs.Grouped.{equivalence, no-groups, one-more}
 use Rattle.scope_group.proofs.groups.by_scope.Goals as goal
 
 pub loop-span-init : goal.loop-span-init
-loop-span-init g c = ap scopes_view c.new-groups.ensures.empty ∙ sym (no-groups _ _)
+loop-span-init g c = ap scopes_view c.new-scopes.ensures.empty ∙ sym (no-groups _ _)
 
 pub loop-span-preserved : goal.loop-span-preserved
 loop-span-preserved g c =

@@ -1,0 +1,79 @@
+//! Batches of spans whose scopes take turns.
+use otlp_ids::{OutOfMemory, SpanContext, SpanId, TraceFlags, TraceId};
+use otlp_span::{Kind, Open, Resource, Scope, SpanData, SpanLimits, SpanRecord};
+use otlp_value::Value;
+use std::alloc::Global;
+use std::sync::Arc;
+
+/// How many spans a batch has.
+pub const SPANS: u32 = 512;
+
+/// A resource with three attributes.
+fn resource(alloc: Global) -> Result<Arc<Resource>, OutOfMemory> {
+    let mut attributes = Vec::new(alloc);
+    for (key, text) in [
+        ("service.name", "shop"),
+        ("service.version", "1.0.0"),
+        ("host.name", "checkout-1"),
+    ] {
+        let value = Value::Text(String::from_str(alloc, text)?);
+        attributes.push((String::from_str(alloc, key)?, value))?;
+    }
+    let resource = Resource {
+        attributes,
+        schema_url: String::new(alloc),
+    };
+    Ok(Arc::new(alloc, resource)?)
+}
+
+/// As many scopes, of different names.
+fn scopes(alloc: Global, count: u32) -> Result<Vec<Arc<Scope>>, OutOfMemory> {
+    let mut scopes = Vec::new(alloc);
+    for number in 0..count {
+        let scope = Scope {
+            name: format!(in alloc; "checkout-{number}")?,
+            version: String::from_str(alloc, "1.0.0")?,
+            attributes: Vec::new(alloc),
+            schema_url: String::new(alloc),
+        };
+        scopes.push(Arc::new(alloc, scope)?)?;
+    }
+    Ok(scopes)
+}
+
+/// A root that has ended.
+fn ended_span(
+    alloc: Global,
+    resource: &Arc<Resource>,
+    scope: &Arc<Scope>,
+) -> Result<SpanData, OutOfMemory> {
+    let open = Open {
+        context: SpanContext {
+            trace: TraceId([1; 16]),
+            span: SpanId([2; 8]),
+            flags: TraceFlags(1),
+            remote: false,
+            state: String::new(alloc),
+        },
+        parent: None,
+        resource: resource.clone()?,
+        scope: scope.clone()?,
+        name: String::from_str(alloc, "GET /cart")?,
+        kind: Kind::Internal,
+        start: 1,
+    };
+    Ok(SpanRecord::open(alloc, open, &SpanLimits::default())?.close(2))
+}
+
+/// A batch over so many scopes, which take turns.
+pub fn batch(alloc: Global, count: u32) -> Result<Vec<SpanData>, OutOfMemory> {
+    let resource = resource(alloc)?;
+    let scopes = scopes(alloc, count)?;
+    let mut spans = Vec::new(alloc);
+    for _ in 0..SPANS.checked_div(count).unwrap_or(0) {
+        for scope in &scopes {
+            spans.push(ended_span(alloc, &resource, scope)?)?;
+        }
+    }
+    Ok(spans)
+}
