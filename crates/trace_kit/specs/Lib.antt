@@ -32,6 +32,10 @@ pub use Rattle.trace_api.specs.Starts as TracerStarts
 pub use Rattle.trace_history.specs.Answers as AnswerViews
 pub use Rattle.trace_history.specs.Steps as StepViews
 pub use Rattle.span_exporter.specs.Handed
+pub use Rattle.simple_processor.specs.Accounts as PassAccounts
+pub use Rattle.simple_processor.specs.Bodies as PassBodies
+pub use Rattle.simple_processor.specs.Kept as PassKept
+pub use Rattle.simple_processor.specs.Holders as PassHolders
 pub use Rattle.run_text.specs.Lines
 pub use Rattle.trace_run.specs.Out
 pub use Rattle.trace_run.specs.Run
