@@ -37,7 +37,12 @@ fn nanos(clock: &impl Clock, start: Instant, rounds: u32) -> io::Result<u64> {
 }
 
 /// How long a span takes to be grouped.
-fn group_nanos(clock: &impl Clock, alloc: Global, spans: &[SpanData], rounds: u32) -> Result<u64, Fault> {
+fn group_nanos(
+    clock: &impl Clock,
+    alloc: Global,
+    spans: &[SpanData],
+    rounds: u32,
+) -> Result<u64, Fault> {
     let start = Instant::now(clock)?;
     for _ in 0..rounds {
         count_scopes(alloc, spans)?;
@@ -46,7 +51,12 @@ fn group_nanos(clock: &impl Clock, alloc: Global, spans: &[SpanData], rounds: u3
 }
 
 /// How long a span takes to be grouped and encoded.
-fn body_nanos(clock: &impl Clock, alloc: Global, spans: &[SpanData], rounds: u32) -> Result<u64, Fault> {
+fn body_nanos(
+    clock: &impl Clock,
+    alloc: Global,
+    spans: &[SpanData],
+    rounds: u32,
+) -> Result<u64, Fault> {
     let start = Instant::now(clock)?;
     for _ in 0..rounds {
         body_of(alloc, spans, usize::MAX)?;
