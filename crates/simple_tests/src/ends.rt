@@ -1,0 +1,160 @@
+//! Ends on one thread: how they are answered and counted.
+ghost use Rattle.std.specs.Prelude.{◌≡◌};
+
+use crate::fixture::{END, assert_handed, exporter, root, sampled};
+use batch_desk::{DropCounts, FateCounts, Totals};
+use otlp_sampler::AlwaysOff;
+use retry_core::Outcome;
+use simple_processor::{
+    Flushed, MAX_PASSES, Naming, SimpleBlank, SimpleFault, SimpleParts, SimpleProcessor,
+};
+use std::alloc::Global;
+use std::marker::Brand;
+use std::process::Abort;
+use std::sync::Wait;
+use trace_api::Ended;
+
+const OUTCOMES: [Outcome; 6] = [
+    Outcome::Delivered,
+    Outcome::Partial(1),
+    Outcome::Later {
+        status: 503,
+        after: None,
+    },
+    Outcome::Refused(400),
+    Outcome::NoReply,
+    Outcome::Bad,
+];
+
+/// The totals of a processor to which nothing happened.
+fn nothing() -> Totals {
+    Totals {
+        accepted: 0,
+        taken: 0,
+        handed: 0,
+        left: 0,
+        late: 0,
+        dropped: DropCounts {
+            queue_full: 0,
+            encode_memory: 0,
+            too_large: 0,
+            abandoned: 0,
+        },
+        fates: FateCounts::new(),
+        closed: false,
+    }
+}
+
+/// Hands over a span for each outcome: each is sent once, and ends as that one attempt says.
+fn count_outcomes<J: Naming, R: Wait + Abort + Copy>(rt: R, alloc: Global, blank: SimpleBlank)
+    requires { blank ≡ J.name }
+{
+    let exporter = exporter(&rt, alloc, &OUTCOMES);
+    let made = SimpleProcessor::<J, _, R>::new(alloc, rt, blank, exporter, 1);
+    let SimpleParts {
+        processor,
+        mut passes,
+    } = made.expect(&rt, "a processor");
+    let mut pass = passes.pop().expect(&rt, "a pass");
+    for ticket in 0..6u64 {
+        let mut span = sampled(&rt, alloc);
+        assert_eq!(rt; span.end(&mut pass, END), Ended::Handed(ticket));
+        assert_eq!(rt; pass.force_flush(), Flushed);
+    }
+    passes.push(pass).expect(&rt, "memory");
+    let accounts = processor.close_out(passes).ok();
+    let accounts = accounts.expect(&rt, "all passes are there");
+    assert_handed(&rt, alloc, accounts.exporter.handed(), &OUTCOMES);
+    let want = Totals {
+        accepted: 6,
+        taken: 6,
+        handed: 6,
+        fates: FateCounts {
+            delivered: 1,
+            partial: 1,
+            refused: 1,
+            bad_reply: 1,
+            given_up: 2,
+            abandoned: 0,
+        },
+        ..nothing()
+    };
+    assert_eq!(rt; accounts.totals, want);
+}
+
+#[test]
+fn each_outcome_is_counted(rt: HostRuntime) {
+    count_outcomes::<Brand, HostRuntime>(rt, rt.alloc(), SimpleBlank::new());
+}
+
+/// Ends spans before and after a shutdown, one that isn't sampled, and one twice.
+fn shut_down<J: Naming, R: Wait + Abort + Copy>(rt: R, alloc: Global, blank: SimpleBlank)
+    requires { blank ≡ J.name }
+{
+    let exporter = exporter(&rt, alloc, &[]);
+    let made = SimpleProcessor::<J, _, R>::new(alloc, rt, blank, exporter, 1);
+    let SimpleParts {
+        processor,
+        mut passes,
+    } = made.expect(&rt, "a processor");
+    let mut pass = passes.pop().expect(&rt, "a pass");
+    let mut span = sampled(&rt, alloc);
+    assert_eq!(rt; span.end(&mut pass, END), Ended::Handed(0));
+    assert_eq!(rt; span.end(&mut pass, END), Ended::AlreadyEnded);
+    let mut dropped = root(&rt, alloc, AlwaysOff);
+    assert_eq!(rt; dropped.end(&mut pass, END), Ended::NotSampled);
+    for _ in 0..2u32 {
+        assert_eq!(rt; pass.shutdown(), Flushed);
+        assert_eq!(rt; sampled(&rt, alloc).end(&mut pass, END), Ended::Late);
+    }
+    assert_eq!(rt; pass.pop_entry(), None);
+    passes.push(pass).expect(&rt, "memory");
+    let accounts = processor.close_out(passes).ok();
+    let accounts = accounts.expect(&rt, "all passes are there");
+    let want = Totals {
+        accepted: 1,
+        taken: 1,
+        handed: 1,
+        late: 2,
+        fates: FateCounts {
+            delivered: 1,
+            ..FateCounts::new()
+        },
+        closed: true,
+        ..nothing()
+    };
+    assert_eq!(rt; accounts.totals, want);
+}
+
+#[test]
+fn a_shutdown_makes_spans_late(rt: HostRuntime) {
+    shut_down::<Brand, HostRuntime>(rt, rt.alloc(), SimpleBlank::new());
+}
+
+/// How many passes a processor has that is to have so many.
+fn count_passes<J: Naming, R: Wait + Abort + Copy>(
+    rt: R,
+    alloc: Global,
+    blank: SimpleBlank,
+    passes: usize,
+) -> Result<usize, SimpleFault>
+    requires { blank ≡ J.name }
+{
+    let exporter = exporter(&rt, alloc, &[]);
+    let parts = SimpleProcessor::<J, _, R>::new(alloc, rt, blank, exporter, passes)?;
+    Ok(parts.passes.len())
+}
+
+#[test]
+fn a_processor_has_1_to_64_passes(rt: HostRuntime) {
+    for (passes, want) in [
+        (0, Err(SimpleFault::BadPasses)),
+        (1, Ok(1)),
+        (MAX_PASSES, Ok(MAX_PASSES)),
+        (MAX_PASSES + 1, Err(SimpleFault::BadPasses)),
+    ] {
+        let blank = SimpleBlank::new();
+        let count = count_passes::<Brand, HostRuntime>(rt, rt.alloc(), blank, passes);
+        assert_eq!(rt; count, want);
+    }
+}
