@@ -1,0 +1,111 @@
+//! Readers and writers that count their failures.
+
+use failing_allocator::FailingAllocator;
+use linked_list_allocator::LocalHeap;
+use otlp_http::{Counted, DeviceFailed, FailingCalls, FailingWire, FaultRead, FaultWrite};
+use std::io::{self, Read, Write};
+
+/// A reader that fails, and a writer that first takes nothing, and then fails.
+#[derive(Drop)]
+struct Broken {
+    writes: u64,
+}
+
+impl Read for Broken {
+    fn read(&mut self, _buffer: &mut [u8]) -> io::Result<usize> {
+        Err(io::Error::from(io::ErrorKind::BrokenPipe))
+    }
+}
+
+impl Write for Broken {
+    fn write(&mut self, _buffer: &[u8]) -> io::Result<usize> {
+        self.writes = self.writes.saturating_add(1);
+        if self.writes == 1 {
+            return Ok(0);
+        }
+        Err(io::Error::from(io::ErrorKind::BrokenPipe))
+    }
+
+    fn flush(&mut self) -> io::Result<()> {
+        Ok(())
+    }
+}
+
+#[test]
+fn a_reader_of_std_counts_its_failures(rt: HostRuntime) {
+    let mut reader = Counted::new(Broken { writes: 0 });
+    assert_eq!(rt;
+        FaultRead::read(&mut reader, &mut [0; 4]),
+        Err(DeviceFailed)
+    );
+    assert_eq!(rt;
+        FaultRead::read(&mut reader, &mut [0; 4]),
+        Err(DeviceFailed)
+    );
+    assert_eq!(rt; FaultRead::failures(&reader), 2);
+}
+
+#[test]
+fn a_write_of_no_byte_is_a_failure(rt: HostRuntime) {
+    let mut writer = Counted::new(Broken { writes: 0 });
+    assert_eq!(rt; FaultWrite::write(&mut writer, b"a"), Err(DeviceFailed));
+    assert_eq!(rt; FaultWrite::failures(&writer), 1);
+    assert_eq!(rt; FaultWrite::write(&mut writer, b"a"), Err(DeviceFailed));
+    assert_eq!(rt; FaultWrite::failures(&writer), 2);
+    assert_eq!(rt; writer.into_inner().writes, 2);
+}
+
+#[test]
+fn bytes_pass_through(rt: HostRuntime) {
+    let mut reader = Counted::new(b"abc".as_slice());
+    let mut room = [0; 2];
+    assert_eq!(rt; FaultRead::read(&mut reader, &mut room), Ok(2));
+    assert_eq!(rt; room, *b"ab");
+    assert_eq!(rt; FaultRead::read(&mut reader, &mut room), Ok(1));
+    assert_eq!(rt; room, *b"cb");
+    assert_eq!(rt; FaultRead::read(&mut reader, &mut room), Ok(0));
+    assert_eq!(rt; FaultRead::failures(&reader), 0);
+    let mut writer = Counted::new(Vec::new(rt.alloc()));
+    assert_eq!(rt; FaultWrite::write(&mut writer, b"xy"), Ok(2));
+    assert_eq!(rt; FaultWrite::failures(&writer), 0);
+    assert!(rt; writer.into_inner().as_slice() == b"xy".as_slice());
+}
+
+#[test]
+fn a_wire_gives_its_bytes_and_fails_as_told(rt: HostRuntime) {
+    let input = Vec::from_slice(rt.alloc(), b"abcde").expect(&rt, "memory");
+    let mut wire = FailingWire::new(input, Vec::new(rt.alloc()), 2, FailingCalls::Once(1));
+    let mut room = [0; 4];
+    assert_eq!(rt; wire.read(&mut room), Ok(2));
+    assert_eq!(rt; room, *b"ab\0\0");
+    assert_eq!(rt; wire.read(&mut room), Err(DeviceFailed));
+    assert!(rt; wire.left() == b"cde".as_slice());
+    assert_eq!(rt; wire.write(b"xyz"), Ok(2));
+    assert!(rt; wire.taken() == b"xy".as_slice());
+    assert_eq!(rt; wire.read(&mut [0; 1]), Ok(1));
+    assert_eq!(rt; wire.read(&mut room), Ok(2));
+    assert_eq!(rt; room, *b"de\0\0");
+    assert_eq!(rt; wire.read(&mut room), Ok(0));
+    assert_eq!(rt; FaultRead::failures(&wire), 1);
+    assert_eq!(rt; FaultWrite::failures(&wire), 1);
+}
+
+#[test]
+fn a_write_without_memory_is_a_failure(rt: HostRuntime) {
+    let heap = LocalHeap::new(rt.alloc(), 4096).expect(&rt, "memory");
+    let scarce = FailingAllocator::new(&heap, 0);
+    let output = Vec::new(&scarce);
+    let mut wire = FailingWire::new(Vec::new(&scarce), output, 4, FailingCalls::Never);
+    assert_eq!(rt; wire.write(b"ab"), Err(DeviceFailed));
+    assert!(rt; wire.taken().is_empty());
+    assert_eq!(rt; wire.write(b"ab"), Ok(2));
+    assert!(rt; wire.taken() == b"ab".as_slice());
+    assert_eq!(rt; FaultWrite::failures(&wire), 1);
+}
+
+#[test]
+fn a_failure_is_told(rt: HostRuntime) {
+    let failed = DeviceFailed;
+    let told = format!(in rt.alloc(); "{failed}").expect(&rt, "memory");
+    assert_eq!(rt; told.as_str(), "the device failed");
+}

@@ -1,0 +1,9 @@
+//! Tests of `otlp_http` over public calls alone. The crate has no items of its own.
+#![tactic(auto)]
+
+#[cfg(test)]
+mod devices;
+#[cfg(test)]
+mod requests;
+#[cfg(test)]
+mod targets;

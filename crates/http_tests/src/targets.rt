@@ -1,0 +1,80 @@
+//! Targets that are taken and refused, and memory that is refused to one.
+
+use failing_allocator::FailingAllocator;
+use linked_list_allocator::LocalHeap;
+use otlp_http::{Target, TargetFault};
+use std::alloc::Global;
+use std::process::Abort;
+
+#[test]
+fn a_target_tells_its_parts(rt: HostRuntime) {
+    for (host, port, path) in [
+        ("127.0.0.1", 4318, "/v1/traces"),
+        ("Collector-9.example", 0, "/"),
+        ("-", 65_535, "/a?b=%20!~"),
+    ] {
+        let target = Target::new(rt.alloc(), host, port, path).expect(&rt, "a target");
+        assert_eq!(rt; target.host(), host);
+        assert_eq!(rt; target.port(), port);
+        assert_eq!(rt; target.path(), path);
+    }
+}
+
+#[test]
+fn a_bad_host_is_told_before_a_bad_path(rt: HostRuntime) {
+    for (host, path, fault) in [
+        ("", "/", TargetFault::BadHost),
+        ("localhost:80", "/", TargetFault::BadHost),
+        ("[::1]", "/", TargetFault::BadHost),
+        ("a b", "/", TargetFault::BadHost),
+        ("a_b", "/", TargetFault::BadHost),
+        ("a\r\nX: y", "/", TargetFault::BadHost),
+        ("é", "/", TargetFault::BadHost),
+        ("a/", "", TargetFault::BadHost),
+        ("a", "", TargetFault::BadPath),
+        ("a", "v1/traces", TargetFault::BadPath),
+        ("a", "/a b", TargetFault::BadPath),
+        ("a", "/\u{7f}", TargetFault::BadPath),
+        ("a", "/ HTTP/1.1\r\nX: y", TargetFault::BadPath),
+        ("a", "/é", TargetFault::BadPath),
+    ] {
+        let refused = Target::new(rt.alloc(), host, 80, path).err();
+        assert_eq!(rt; refused, Some(fault), "{host:?} {path:?}");
+    }
+}
+
+#[test]
+fn each_copy_may_be_refused_memory(rt: HostRuntime) {
+    let heap = LocalHeap::new(rt.alloc(), 4096).expect(&rt, "memory");
+    for (fail_index, fault) in [
+        (0, Some(TargetFault::OutOfMemory)),
+        (1, Some(TargetFault::OutOfMemory)),
+        (2, None),
+    ] {
+        let scarce = FailingAllocator::new(&heap, fail_index);
+        let fault_told = Target::new(&scarce, "collector.example", 4318, "/v1/traces").err();
+        assert_eq!(rt; fault_told, fault, "{fail_index}");
+        assert_eq!(rt;
+            scarce.calls(),
+            fail_index.saturating_add(1).min(2),
+            "{fail_index}"
+        );
+        assert_eq!(rt; heap.used(), 0, "{fail_index}");
+    }
+}
+
+/// Asserts how a fault is told.
+fn assert_told(rt: &impl Abort, alloc: Global, fault: TargetFault, text: &str) {
+    let told = format!(in alloc; "{fault}").expect(rt, "memory");
+    assert_eq!(rt; told.as_str(), text);
+}
+
+#[test]
+fn faults_are_told(rt: HostRuntime) {
+    let alloc = rt.alloc();
+    let text = "bad host: a host is letters, digits, dots and dashes";
+    assert_told(&rt, alloc, TargetFault::BadHost, text);
+    let text = "bad path: a path is a slash and visible characters";
+    assert_told(&rt, alloc, TargetFault::BadPath, text);
+    assert_told(&rt, alloc, TargetFault::OutOfMemory, "out of memory");
+}

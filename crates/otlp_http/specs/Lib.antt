@@ -1,0 +1,4 @@
+pub mod Address
+pub mod Devices
+pub mod Request
+pub mod Wires

@@ -1,0 +1,118 @@
+//! Requests.
+
+ghost use Rattle.std.specs.Prelude.{◌≡◌, ◌+◌, ◌^◌, ◌<◌, length, take, map, decimal, IfErr, OnOk};
+ghost use Rattle.std.specs.Io.KnownBytes.{Appends};
+ghost use Rattle.std.specs.List.{concat};
+ghost use Rattle.otlp_http.specs.Devices.{CountsFailure};
+ghost use Rattle.otlp_http.specs.Request.{request_text};
+
+use crate::device::FaultWrite;
+use crate::target::Target;
+use itoa::Buffer;
+use std::alloc::Allocator;
+use thiserror::Error;
+
+/// The writer failed when the first `sent` bytes of the request had gone out.
+#[derive(Error, Debug, Clone, Copy, PartialEq, Eq)]
+#[error("the device failed after {sent} bytes")]
+pub struct Stopped {
+    /// How many bytes went out.
+    pub sent: u64,
+}
+
+/// Writes the whole piece, or answers how many of its bytes went out.
+fn write_piece<W: FaultWrite>(writer: &mut W, piece: &[u8]) -> Result<(), usize>
+    ensures ok { OnOk result (Appends (W.contents writer.old) (W.contents writer.new) piece.now) }
+    ensures within { IfErr result (λ n. n < length piece.now) }
+    ensures err { IfErr result (λ n.
+        Appends (W.contents writer.old) (W.contents writer.new) (take n piece.now)) }
+    ensures counted { CountsFailure result (W.failures writer.old) (W.failures writer.new) }
+{
+    let mut at = 0;
+    while at < piece.len() {
+        match writer.write(&piece[at..]) {
+            Ok(n) => at += n,
+            Err(_) => return Err(at),
+        }
+    }
+    Ok(())
+}
+
+/// Writes the pieces, one after another.
+fn write_pieces<W: FaultWrite>(writer: &mut W, pieces: &[&[u8]]) -> Result<(), Stopped>
+    requires { length (concat (map (λ p. p.now) pieces.now)) < 2 ^ 64 }
+    ensures ok { OnOk result (Appends (W.contents writer.old) (W.contents writer.new)
+        (concat (map (λ p. p.now) pieces.now))) }
+    ensures within { IfErr result (λ stopped.
+        stopped.sent < length (concat (map (λ p. p.now) pieces.now))) }
+    ensures stopped { IfErr result (λ stopped.
+        Appends (W.contents writer.old) (W.contents writer.new)
+        (take stopped.sent (concat (map (λ p. p.now) pieces.now)))) }
+    ensures counted { CountsFailure result (W.failures writer.old) (W.failures writer.new) }
+{
+    let mut sent: u64 = 0;
+    for piece in pieces {
+        match write_piece(writer, piece) {
+            Ok(()) => sent += piece.len() as u64,
+            Err(n) => return Err(Stopped {
+                sent: sent + n as u64,
+            }),
+        }
+    }
+    Ok(())
+}
+
+/// The pieces of the request's text, with the port and the body's length in decimal digits.
+fn request_pieces<'a, A: Allocator>(
+    target: &'a Target<A>,
+    port: &'a str,
+    digits: &'a str,
+    body: &'a [u8],
+) -> [&'a [u8]; 10]
+    requires port { port.now ≡ decimal target.now.port }
+    requires digits { digits.now ≡ decimal (length body.now) }
+    ensures whole { concat (map (λ p. p.now) result) ≡ request_text target.now body.now }
+    ensures short { length target.now.host + length target.now.path < 2 ^ 62 }
+{
+    [
+        b"POST ",
+        target.path().as_bytes(),
+        b" HTTP/1.1\r\nHost: ",
+        target.host().as_bytes(),
+        b":",
+        port.as_bytes(),
+        b"\r\nContent-Type: application/x-protobuf\r\nContent-Length: ",
+        digits.as_bytes(),
+        b"\r\nConnection: close\r\n\r\n",
+        body,
+    ]
+}
+
+/// Writes the request that carries `body` to the target: a POST with its head and the body, and
+/// nothing else (RFC 9112, sections 3 and 5; OTLP Specification, "OTLP/HTTP Request"; which fields
+/// it has: profile). It takes no memory, and doesn't wait for a reply.
+///
+/// # Errors
+///
+/// `Stopped` where a write failed: exactly the first `sent` bytes of the request went out, which
+/// are less than all, and the writer has counted one failure more.
+pub fn write_request<W: FaultWrite, A: Allocator>(
+    writer: &mut W,
+    target: &Target<A>,
+    body: &[u8],
+) -> Result<(), Stopped>
+    ensures ok { OnOk result (Appends (W.contents writer.old) (W.contents writer.new)
+        (request_text target.now body.now)) }
+    ensures within { IfErr result (λ stopped.
+        stopped.sent < length (request_text target.now body.now)) }
+    ensures stopped { IfErr result (λ stopped.
+        Appends (W.contents writer.old) (W.contents writer.new)
+        (take stopped.sent (request_text target.now body.now))) }
+    ensures counted { CountsFailure result (W.failures writer.old) (W.failures writer.new) }
+{
+    let mut port = Buffer::new();
+    let mut digits = Buffer::new();
+    let port = port.format(target.port());
+    let digits = digits.format(body.len());
+    write_pieces(writer, &request_pieces(target, port, digits, body))
+}

@@ -1,0 +1,155 @@
+//! Where requests go.
+
+ghost use Rattle.std.specs.Prelude.{◌≡◌, ◌+◌, ◌^◌, ◌<◌, ◌↔◌, false, length, IfOk, IsErrOf, IsTrue};
+ghost use Rattle.std.specs.List.{list_all};
+ghost use Rattle.otlp_http.specs.declared.target.TargetFault.TheVariants as faults;
+ghost use Rattle.otlp_http.specs.Address.{is_host, is_host_byte, is_path, is_path_byte};
+
+use std::alloc::{AllocError, Allocator, Global};
+use std::marker::Model;
+use thiserror::Error;
+
+/// Why a target is refused.
+#[derive(Error, Debug, Clone, Copy, PartialEq, Eq)]
+pub enum TargetFault {
+    /// The host is empty, or has a byte that is no ASCII letter, digit, `.` or `-`.
+    #[error("bad host: a host is letters, digits, dots and dashes")]
+    BadHost,
+    /// The path doesn't begin with `/`, or has a byte that isn't visible ASCII.
+    #[error("bad path: a path is a slash and visible characters")]
+    BadPath,
+    /// Host or path could not be stored.
+    #[error("out of memory")]
+    OutOfMemory,
+}
+
+impl From<AllocError> for TargetFault {
+    ghost from_gives = { λ _ fault. fault ≡ faults.OutOfMemory };
+
+    fn from(_: AllocError) -> TargetFault {
+        TargetFault::OutOfMemory
+    }
+}
+
+/// The host, the port and the path that a collector listens at (RFC 9110, section 7.2). In
+/// contracts it is an `Address`.
+#[derive(Drop)]
+#[derive_where(Debug)]
+pub struct Target<A: Allocator = Global> {
+    host: String<A>,
+    port: u16,
+    path: String<A>,
+}
+
+impl<A: Allocator> Model for Target<A> {
+    ghost use Rattle.std.specs.Prelude.{string_bytes};
+    ghost use Rattle.otlp_http.specs.Address.{Address, IsTarget};
+
+    ghost Value = { Address };
+
+    ghost view = { λ t. record {
+      host = string_bytes t.host;
+      port = t.port;
+      path = string_bytes t.path;
+    } };
+
+    ghost invariant = { λ t. IsTarget (record {
+      host = string_bytes t.host;
+      port = t.port;
+      path = string_bytes t.path;
+    }) };
+}
+
+/// Whether each byte may stand in a host.
+fn are_host_bytes(bytes: &[u8]) -> bool
+    ensures { result ≡ list_all is_host_byte bytes.now }
+{
+    bytes.iter().all(|b| b.is_ascii_alphanumeric() || (*b == b'.' || *b == b'-'))
+}
+
+/// Whether each byte may stand in a path.
+fn are_path_bytes(bytes: &[u8]) -> bool
+    ensures { result ≡ list_all is_path_byte bytes.now }
+{
+    bytes.iter().all(|b| *b >= b'!' && *b <= b'~')
+}
+
+/// Whether this is a host.
+fn is_host(host: &str) -> bool
+    ensures { result ≡ is_host host.now }
+{
+    !host.is_empty() && are_host_bytes(host.as_bytes())
+}
+
+/// Whether this is a path.
+fn is_path(path: &str) -> bool
+    ensures { result ≡ is_path path.now }
+{
+    path.as_bytes().first() == Some(&b'/') && are_path_bytes(path.as_bytes())
+}
+
+/// More bytes than any memory holds, a quarter of what 63 bits count.
+const TOO_LONG: usize = 1 << 61;
+
+impl<A: Allocator + Copy> Target<A> {
+    /// A target at a collector. OTLP's port is 4318, and its path `/v1/traces` (OTLP Specification,
+    /// "OTLP/HTTP Request").
+    ///
+    /// # Errors
+    ///
+    /// The first that holds: `BadHost` where the host is empty or has a byte that is no ASCII
+    /// letter, digit, `.` or `-` (profile); `BadPath` where the path doesn't begin with `/` or has
+    /// a byte that isn't from `!` to `~` (profile); `OutOfMemory` where one of them could not be
+    /// stored.
+    pub fn new(alloc: A, host: &str, port: u16, path: &str) -> Result<Target<A>, TargetFault>
+        ensures value { IfOk result (λ t.
+            t ≡ record { host = host.now; port = port; path = path.now }) }
+        ensures host { IfOk result (λ _. IsTrue (is_host host.now)) }
+        ensures path { IfOk result (λ _. IsTrue (is_path path.now)) }
+        ensures bad_host { IsErrOf result TargetFault.BadHost ↔ (is_host host.now ≡ false) }
+        ensures bad_path { IsErrOf result TargetFault.BadPath
+            ↔ (IsTrue (is_host host.now) × (is_path path.now ≡ false)) }
+        ensures out_of_memory { IsErrOf result TargetFault.OutOfMemory
+            → (IsTrue (is_host host.now) × IsTrue (is_path path.now)) }
+    {
+        if !is_host(host) {
+            return Err(TargetFault::BadHost);
+        }
+        if !is_path(path) {
+            return Err(TargetFault::BadPath);
+        }
+        if host.len() >= TOO_LONG || path.len() >= TOO_LONG {
+            return Err(TargetFault::OutOfMemory);
+        }
+        let host = String::from_str(alloc, host)?;
+        let path = String::from_str(alloc, path)?;
+        Ok(Target { host, port, path })
+    }
+}
+
+impl<A: Allocator> Target<A> {
+    /// The host: a name, or an address of four numbers.
+    pub fn host(&self) -> &str
+        ensures value { result.now ≡ self.now.host }
+        ensures valid { IsTrue (is_host result.now) }
+        // So the bytes of a request can be counted in 64 bits.
+        ensures short { length self.now.host + length self.now.path < 2 ^ 62 }
+    {
+        self.host.as_str()
+    }
+
+    /// The port.
+    pub fn port(&self) -> u16
+        ensures { result ≡ self.now.port }
+    {
+        self.port
+    }
+
+    /// The path, which begins with `/`.
+    pub fn path(&self) -> &str
+        ensures value { result.now ≡ self.now.path }
+        ensures valid { IsTrue (is_path result.now) }
+    {
+        self.path.as_str()
+    }
+}
