@@ -1,11 +1,12 @@
 -- Where a key is, and the groups of a map that gets one item more.
-use Rattle.std.proofs.Common.{◌≡◌, sym, ap, ◌∙◌, ℕ, zero, suc, ◌-◌, ◌<◌, List, [], ◌∷◌, ◌++◌, length, get_or, slice_get, position, Bool, true, false, Some, None, Vec, arith}
+use Rattle.std.proofs.Common.{◌≡◌, sym, ap, ◌∙◌, ℕ, zero, suc, ◌-◌, ◌<◌, List, [], ◌∷◌, ◌++◌, length, get_or, slice_get, position, Bool, true, false, Some, Vec, cond, arith}
 use Rattle.std.specs.Cmp.{IsEquivalence}
-use Rattle.std.specs.List.{AllByRecursion, IsDistinct}
-use Rattle.std.specs.Map.{keys_of, values_of}
+use Rattle.std.specs.List.{IsDistinct}
+use Rattle.std.specs.Option.{unwrap_or}
+use Rattle.std.specs.Map.{keys_of, values_of, lookup}
 use Rattle.std.proofs.lemmas.List.Quantifiers.{position-Some}
 use Rattle.indexmap.specs.IndexMap.{insert_entry, set_value_at}
-use Rattle.indexmap.proofs.MapLemmas.{index-first, Missing-position}
+use Rattle.indexmap.proofs.MapLemmas.{index-first}
 use Rattle.indexmap.proofs.RemoveLemmas.{own_first}
 use Rattle.scope_group.specs.Keyed.{groups_of, with_item}
 
@@ -34,10 +35,18 @@ added-behind eq es k x i old new there at p =
     let found = position-Some (eq k) (keys_of es) i k there in
     behind eq k x old new p es i found.0 found.1 found.2 at
 
-alone : {K T A : Type 0} (eq : K → K → Bool) (k : K) (x : T) (new : Vec T A) → new.items ≡ x ∷ [] → (es : List (K × Vec T A)) → AllByRecursion (λ j. eq k j ≡ false) (keys_of es) → groups_of (insert_entry eq es k new) ≡ with_item eq (groups_of es) k x
-alone eq k x new p [] h = ap (λ ys. record { key = k; items = ys } ∷ []) p
-alone eq k x new p (e ∷ es) h = rw h.0 (ap (λ gs. record { key = e.0; items = e.1.items } ∷ gs) (alone eq k x new p es h.1))
+looked-up : {K T A : Type 0} (eq : K → K → Bool) (k : K) (x : T) (none new : Vec T A) → none.items ≡ [] → (es : List (K × Vec T A)) → new.items ≡ (unwrap_or (lookup (eq k) es) none).items ++ x ∷ [] →
+    groups_of (insert_entry eq es k new) ≡ with_item eq (groups_of es) k x
+looked-up eq k x none new empty [] p = ap (λ ys. record { key = k; items = ys } ∷ []) (p ∙ ap (λ ys. ys ++ x ∷ []) empty)
+looked-up {K = K} {T = T} {A = A} eq k x none new empty (e ∷ es) p = go (eq k e.0) p (looked-up eq k x none new empty es)
+  where
+    go : (t : Bool) → new.items ≡ (unwrap_or (cond t (Some e.1) (lookup (eq k) es)) none).items ++ x ∷ [] →
+        (new.items ≡ (unwrap_or (lookup (eq k) es) none).items ++ x ∷ [] → groups_of (insert_entry eq es k new) ≡ with_item eq (groups_of es) k x) →
+        groups_of (cond t ((e.0, new) ∷ es) (e ∷ insert_entry eq es k new)) ≡ cond t (record { key = e.0; items = e.1.items ++ x ∷ [] } ∷ groups_of es) (record { key = e.0; items = e.1.items } ∷ with_item eq (groups_of es) k x)
+    go true q rest = ap (λ ys. record { key = e.0; items = ys } ∷ groups_of es) q
+    go false q rest = ap (λ gs. record { key = e.0; items = e.1.items } ∷ gs) (rest q)
 
--- an item of a new key
-pub added-alone : {K T A : Type 0} (eq : K → K → Bool) (es : List (K × Vec T A)) (k : K) (x : T) (new : Vec T A) → position (eq k) (keys_of es) ≡ None → new.items ≡ x ∷ [] → groups_of (insert_entry eq es k new) ≡ with_item eq (groups_of es) k x
-added-alone eq es k x new none p = alone eq k x new p es (Missing-position (eq k) es none).absent
+-- an item whose key is looked up
+pub added-by-entry : {K T A : Type 0} (eq : K → K → Bool) (es : List (K × Vec T A)) (k : K) (x : T) (none old new : Vec T A) (after : List (K × Vec T A)) → none.items ≡ [] → old ≡ unwrap_or (lookup (eq k) es) none → new.items ≡ old.items ++ x ∷ [] →
+    after ≡ insert_entry eq es k new → groups_of after ≡ with_item eq (groups_of es) k x
+added-by-entry eq es k x none old new after empty had p is = ap groups_of is ∙ looked-up eq k x none new empty es (p ∙ ap (λ v. v.items ++ x ∷ []) had)

@@ -1,5 +1,5 @@
 //! Items under keys, in the order in which the keys came first.
-ghost use Rattle.std.specs.Prelude.{◌≡◌, OnOk};
+ghost use Rattle.std.specs.Prelude.{◌≡◌, IfSome, OnOk, Some};
 ghost use Rattle.indexmap.specs.IndexMap.{index_of};
 ghost use Rattle.scope_group.specs.Keyed.{groups_of, with_item};
 
@@ -11,9 +11,9 @@ use std::hash::{BuildHasherDefault, FoldHasher, Hash};
 /// The items of each key, in the order in which the keys came first.
 pub(crate) type Keyed<K, T, A> = IndexMap<K, Vec<T, A>, BuildHasherDefault<FoldHasher>, A>;
 
-/// Where the key is. The last key is tried before the others are looked up.
-fn index_of<K: Eq + Hash, T, A: Allocator>(groups: &Keyed<K, T, A>, key: &K) -> Option<usize>
-    ensures { result ≡ index_of K.eq groups.now key.now }
+/// Where the last key is, if it equals this one.
+fn last_index<K: Eq + Hash, T, A: Allocator>(groups: &Keyed<K, T, A>, key: &K) -> Option<usize>
+    ensures { IfSome result (λ index. index_of K.eq groups.now key.now ≡ Some index) }
 {
     let count = groups.len();
     if let Some((last, _)) = groups.last()
@@ -21,10 +21,11 @@ fn index_of<K: Eq + Hash, T, A: Allocator>(groups: &Keyed<K, T, A>, key: &K) -> 
     {
         return Some(count - 1);
     }
-    groups.get_index_of(key)
+    None
 }
 
-/// Adds an item to those of its key. A key that is new stands behind the others.
+/// Adds an item to those of its key. A key that is new stands behind the others. The last key is
+/// tried before the others are looked up.
 ///
 /// # Errors
 ///
@@ -38,12 +39,10 @@ pub(crate) fn add<K: Eq + Hash + Drop, T: Drop, A: Allocator + Copy>(
     ensures { OnOk result
         (groups_of groups.new.entries ≡ with_item K.eq (groups_of groups.old.entries) key item) }
 {
-    let Some(index) = index_of(groups, &key) else {
-        let mut items = Vec::new(alloc);
-        items.push(item)?;
-        groups.insert(key, items)?;
+    if let Some(index) = last_index(groups, &key) {
+        groups[index].push(item)?;
         return Ok(());
-    };
-    groups[index].push(item)?;
+    }
+    groups.entry(key)?.or_insert(Vec::new(alloc)).push(item)?;
     Ok(())
 }

@@ -1,7 +1,0 @@
-use Rattle.std.proofs.Common.{sym, ◌∙◌}
-use Rattle.scope_group.proofs.Adding.{last-index}
-use Rattle.scope_group.proofs.keyed.index_of.Goals as goal
-
-pub returns : goal.returns
-returns g c =
-    rw c.len-count.ensures.len (last-index g.K.PartialEq.eq g.met.K.Eq.laws c.args.groups.now.entries c.in-Some.last.now c.args.key.now c.in-Some.field-0-1.now c.len-count.ensures.unique (sym c.in-Some.ensures.entry) (sym c.eq.ensures ∙ c.if-eq.true))
