@@ -14,5 +14,5 @@ returns g c = λ read means.
     (rw (c.as_slice.ensures.value, c.new-2.ensures, words, c.new.ensures.bytes) at said.answered)
     (rw (c.as_slice.ensures.value, c.new-2.ensures, words, c.new.ensures.bytes) at said.each_once)
     (rw (c.as_slice.ensures.value, c.new-2.ensures, words, c.new.ensures.bytes) at said.desk)
-    (rw (c.as_slice.ensures.value, c.new-exporter.ensures) at said.handed)
+    (rw (c.as_slice.ensures.value, c.new-2.ensures, words, c.new.ensures.bytes, c.new-exporter.ensures) at said.handed)
     (rw (c.as_slice-2.ensures.value, c.handed.ensures) at lines)) c.text_of_run-text.ensures
