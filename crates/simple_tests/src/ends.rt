@@ -6,7 +6,8 @@ use batch_desk::{DropCounts, FateCounts, Totals};
 use otlp_sampler::AlwaysOff;
 use retry_core::Outcome;
 use simple_processor::{
-    Flushed, MAX_PASSES, Naming, SimpleBlank, SimpleFault, SimpleParts, SimpleProcessor,
+    Flushed, MAX_PASSES, Naming, SimpleBlank, SimpleFault, SimpleMissing, SimpleParts,
+    SimpleProcessor,
 };
 use std::alloc::Global;
 use std::marker::Brand;
@@ -87,28 +88,37 @@ fn each_outcome_is_counted(rt: HostRuntime) {
     count_outcomes::<Brand, HostRuntime>(rt, rt.alloc(), SimpleBlank::new());
 }
 
-/// Ends spans before and after a shutdown, one that isn't sampled, and one twice.
+/// Ends spans before and after a shutdown by the other pass, one that isn't sampled, and one twice.
+/// With a pass missing, all is given back.
 fn shut_down<J: Naming, R: Wait + Abort + Copy>(rt: R, alloc: Global, blank: SimpleBlank)
     requires { blank ≡ J.name }
 {
     let exporter = exporter(&rt, alloc, &[]);
-    let made = SimpleProcessor::<J, _, R>::new(alloc, rt, blank, exporter, 1);
+    let made = SimpleProcessor::<J, _, R>::new(alloc, rt, blank, exporter, 2);
     let SimpleParts {
         processor,
         mut passes,
     } = made.expect(&rt, "a processor");
-    let mut pass = passes.pop().expect(&rt, "a pass");
+    let mut last = passes.pop().expect(&rt, "a pass");
+    let mut pass = passes.pop().expect(&rt, "another pass");
     let mut span = sampled(&rt, alloc);
     assert_eq!(rt; span.end(&mut pass, END), Ended::Handed(0));
     assert_eq!(rt; span.end(&mut pass, END), Ended::AlreadyEnded);
     let mut dropped = root(&rt, alloc, AlwaysOff);
     assert_eq!(rt; dropped.end(&mut pass, END), Ended::NotSampled);
     for _ in 0..2u32 {
-        assert_eq!(rt; pass.shutdown(), Flushed);
+        assert_eq!(rt; last.shutdown(), Flushed);
         assert_eq!(rt; sampled(&rt, alloc).end(&mut pass, END), Ended::Late);
     }
     assert_eq!(rt; pass.pop_entry(), None);
     passes.push(pass).expect(&rt, "memory");
+    let missing = processor.close_out(passes).err();
+    let SimpleMissing {
+        processor,
+        mut passes,
+    } = missing.expect(&rt, "a pass is missing");
+    assert_eq!(rt; passes.len(), 1);
+    passes.push(last).expect(&rt, "memory");
     let accounts = processor.close_out(passes).ok();
     let accounts = accounts.expect(&rt, "all passes are there");
     let want = Totals {
