@@ -18,8 +18,8 @@ pub use run_text::{write_answers, write_report};
 pub use scope_group::{ResourceGroup, ScopeGroup, group};
 pub use script_program::{ScriptSampler, script, trace_script};
 pub use simple_processor::{
-    Flushed, MAX_PASSES, Naming, SimpleAccounts, SimpleBlank, SimpleFault, SimpleMissing, SimpleParts,
-    SimplePass, SimpleProcessor,
+    Flushed, MAX_PASSES, Naming, SimpleAccounts, SimpleBlank, SimpleFault, SimpleMissing,
+    SimpleParts, SimplePass, SimpleProcessor,
 };
 pub use span_exporter::{Exporter, Handed, MemoryExporter};
 pub use span_ring::RingFault;
