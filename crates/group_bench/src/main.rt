@@ -1,6 +1,6 @@
-//! Groups batches of 512 spans over 1, 8 and 512 scopes, and prints how many scopes come out. With a
-//! number of rounds as its argument it prints how long a span takes, in nanoseconds: alone, and as a
-//! part of a body.
+//! Groups batches of 512 spans over 1, 8 and 512 scopes, and prints how many scopes come out. With
+//! a number of rounds as its argument it prints how long a span takes, in nanoseconds: alone, and
+//! as a part of a body.
 #![tactic(auto)]
 
 mod batches;

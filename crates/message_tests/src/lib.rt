@@ -1,5 +1,5 @@
-//! Tests of `otlp_wire`, `scope_group` and `otlp_proto` over their public calls. The bytes of each kind of call
-//! are compared by the stored runs of the program, in examples/.
+//! Tests of `otlp_wire`, `scope_group` and `otlp_proto` over their public calls. The bytes of each
+//! kind of call are compared by the stored runs of the program, in examples/.
 #![tactic(auto)]
 
 #[cfg(test)]

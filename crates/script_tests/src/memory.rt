@@ -30,9 +30,9 @@ const LINES: &str = concat!(
 /// More calls for memory than a script here takes.
 const MOST: u64 = 100;
 
-/// Parses the text, each time with another call for memory refused. It is refused, or the script has
-/// so many steps: room that is only asked for ahead may be refused without a word. All memory is
-/// given back.
+/// Parses the text, each time with another call for memory refused. It is refused, or the script
+/// has so many steps: room that is only asked for ahead may be refused without a word. All memory
+/// is given back.
 fn is_refused(rt: &impl Abort, alloc: Global, text: &str, steps: usize) -> Result<(), Fail> {
     let heap = LocalHeap::new(alloc, 65_536)?;
     let (mut refused, mut read) = (0u64, 0u64);
