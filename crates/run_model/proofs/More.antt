@@ -12,8 +12,9 @@ use Rattle.desk_model.specs.Queue as desk
 use Rattle.desk_model.proofs.Lists.{none-more, some-more, last-more, any-more}
 use Rattle.history_model.specs.Steps.{Step, is_shutdown}
 use Rattle.history_model.specs.History.{Setup, SpanStep, span_step, ended_spans}
-use Rattle.run_model.specs.Runs.{Ended, queued, handed, late, not_sampled, already_ended, Answer, started, no_randomness, no_span, out_of_memory, done, ended, taken, not_taken, encoded, sent, replied, nothing, Answered, is_refused, span_steps, before_shutdown, ended_by, event_by, events_among, desk_events}
-use Rattle.run_model.specs.Answers.{RunConfig, Progress, progress_by, progress, IsAnswer, AreAnswers, AreAnswersBehind}
+use Rattle.run_model.specs.Runs.{Ended, queued, handed, late, not_sampled, already_ended, Answer, started, no_randomness, no_span, out_of_memory, done, ended, taken, not_taken, encoded, sent, early, replied, nothing, Answered, is_refused, span_steps, before_shutdown, ended_by, event_by, events_among, desk_events}
+use Rattle.span_model.specs.Attributes.{last_or}
+use Rattle.run_model.specs.Answers.{RunConfig, Progress, progress_by, progress, attempts_by, last_attempt, IsAnswer, AreAnswers, AreAnswersBehind}
 use Rattle.run_model.specs.Headline.{Attempt, attempt_by, attempts}
 
 -- ---- the steps that count for the spans
@@ -136,6 +137,7 @@ event-stays spans more (taken number size) step h = refl
 event-stays spans more not_taken step h = refl
 event-stays spans more (encoded number size) step h = refl
 event-stays spans more (sent number attempt outcome) step h = refl
+event-stays spans more early step h = refl
 event-stays spans more (replied number next) step h = refl
 event-stays spans more nothing step h = refl
 
@@ -181,6 +183,14 @@ progress-some h x p e = ap (last-of) (some-more (λ x. progress_by x.answer) h x
   where
     last-of : List Progress → Progress
     last-of ps = Rattle.span_model.specs.Attributes.last_or Progress.not_out ps
+
+pub last_attempt-none : (h : List Answered) (x : Answered) → attempts_by x.answer ≡ None → last_attempt (h ++ x ∷ []) ≡ last_attempt h
+unfolding last_attempt
+last_attempt-none h x e = ap (last_or 0) (none-more (λ x. attempts_by x.answer) h x e)
+
+pub last_attempt-some : (h : List Answered) (x : Answered) (n : ℕ) → attempts_by x.answer ≡ Some n → last_attempt (h ++ x ∷ []) ≡ n
+unfolding last_attempt
+last_attempt-some h x n e = ap (last_or 0) (some-more (λ x. attempts_by x.answer) h x n e) ∙ last-more 0 (filter_map (λ x. attempts_by x.answer) h) n
 
 pub attempts-none : (h : List Answered) (x : Answered) → attempt_by x.answer ≡ None → attempts (h ++ x ∷ []) ≡ attempts h
 attempts-none h x e = none-more (λ x. attempt_by x.answer) h x e

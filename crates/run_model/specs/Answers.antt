@@ -1,6 +1,6 @@
 -- The answer to each step of a run. (Trace API; Trace SDK, Batching processor; OTLP Specification,
 -- OTLP/HTTP)
-use Rattle.std.specs.Prelude.{◌≡◌, ℕ, ◌+◌, ◌==◌, min, Bool, true, false, not, ◌&&◌, ◌||◌, if◌then◌else◌, List, [], ◌∷◌, ◌++◌, length, filter_map, Option, Some, None, is_some, is_none, slice_get}
+use Rattle.std.specs.Prelude.{◌≡◌, ℕ, ◌+◌, ◌==◌, nat_lt, min, Bool, true, false, not, ◌&&◌, ◌||◌, if◌then◌else◌, List, [], ◌∷◌, ◌++◌, length, filter_map, Option, Some, None, is_some, is_none, slice_get}
 use Rattle.std.specs.List.{list_any}
 use Rattle.std.specs.Option.{option_and_then}
 use Rattle.span_model.specs.Attributes.{is_empty, last_or}
@@ -9,17 +9,19 @@ use Rattle.span_model.specs.Sampling.{is_sampled, is_recording}
 use Rattle.span_model.specs.Spans.{Kind, Call, is_end}
 use Rattle.span_model.specs.Starts.{StartedSpan}
 use Rattle.export_model.specs.Export.{groups, body_length}
-use Rattle.desk_model.specs.Retries.{Outcome, next_of}
+use Rattle.desk_model.specs.Retries.{Outcome, again}
 use Rattle.desk_model.specs.Queue.{last_batch, last_spans}
 use Rattle.desk_model.specs.Desks.{DeskConfig, Desk, desk_of, is_due}
+use Rattle.retry_model.specs.Waits.{RetryConfig, next_after}
 use Rattle.history_model.specs.Steps.{Parent, Step, is_shutdown}
 use Rattle.history_model.specs.History.{Setup, StartResult, calls_on, parent_among, start_result, start_results}
-use Rattle.run_model.specs.Runs.{Ended, queued, late, not_sampled, already_ended, Answer, started, no_randomness, no_span, out_of_memory, done, ended, taken, not_taken, encoded, sent, replied, nothing, Answered, span_steps, ended_by, desk_events}
+use Rattle.run_model.specs.Runs.{Ended, queued, late, not_sampled, already_ended, Answer, started, no_randomness, no_span, out_of_memory, done, ended, taken, not_taken, encoded, sent, early, replied, nothing, Answered, span_steps, ended_by, desk_events}
 
 -- What a run has before its first step, at moment 0.
 pub record RunConfig : Type 0 where
   pub setup : Setup
   pub desk : DeskConfig
+  pub retry : RetryConfig
 
 -- ---- spans
 
@@ -84,21 +86,32 @@ take_answer desk now =
     then taken (desk.batches + 1) (min desk.config.batch (length desk.waiting)) else not_taken
 
 -- Where the last batch stands: it is out no more, or it is to be encoded, or to be sent, or it was
--- sent and what came of that is to be judged.
+-- sent and what came of that is to be judged, or it is to be sent again, from this moment on.
 pub data Progress : Type 0 where
   not_out to_encode to_send : Progress
   to_judge : Outcome → Progress
+  to_retry : ℕ → Progress
 
 abbrev pub progress_by : Answer → Option Progress
 progress_by (taken number size) = Some to_encode
 progress_by (encoded number size) = Some to_send
 progress_by (sent number attempt outcome) = Some (to_judge outcome)
+progress_by (replied number (again moment)) = Some (to_retry moment)
 progress_by (replied number next) = Some not_out
 progress_by _ = None
 
 -- what was last said of a batch
 unfoldable pub progress : List Answered → Progress
 progress history = last_or not_out (filter_map (λ x. progress_by x.answer) history)
+
+abbrev pub attempts_by : Answer → Option ℕ
+attempts_by (taken number size) = Some 0
+attempts_by (sent number attempt outcome) = Some attempt
+attempts_by _ = None
+
+-- how many attempts the last batch had
+unfoldable pub last_attempt : List Answered → ℕ
+last_attempt history = last_or 0 (filter_map (λ x. attempts_by x.answer) history)
 
 -- The length is that of the request that exports its spans. Where memory is refused, the batch can
 -- be encoded later. (OTLP Specification; profile)
@@ -108,14 +121,19 @@ encode_answer before desk setup refused to_encode =
     else encoded desk.batches (body_length (groups (last_spans (desk_events setup before))))
 encode_answer before desk setup refused _ = nothing
 
--- A batch has one attempt. (profile)
-abbrev pub attempt_answer : Desk → Outcome → Progress → Answer
-attempt_answer desk outcome to_send = sent desk.batches 1 outcome
-attempt_answer desk outcome _ = nothing
+-- The attempts of a batch are numbered from 1 on. None stands before the moment from which the batch
+-- is to be sent again. (OTLP Specification, Retryable Response Codes)
+abbrev pub attempt_answer : List Answered → Desk → Outcome → ℕ → Progress → Answer
+attempt_answer before desk outcome now to_send = sent desk.batches 1 outcome
+attempt_answer before desk outcome now (to_retry moment) =
+    if nat_lt now moment then early else sent desk.batches (last_attempt before + 1) outcome
+attempt_answer before desk outcome now _ = nothing
 
-abbrev pub reply_answer : Desk → Progress → Answer
-reply_answer desk (to_judge outcome) = replied desk.batches (next_of outcome)
-reply_answer desk _ = nothing
+-- (OTLP Specification, OTLP/HTTP Response)
+abbrev pub reply_answer : RunConfig → List Answered → Desk → ℕ → ℕ → Progress → Answer
+reply_answer run before desk now word (to_judge outcome) =
+    replied desk.batches (next_after run.retry (last_attempt before) outcome now word)
+reply_answer run before desk now word _ = nothing
 
 -- ---- all steps
 
@@ -141,9 +159,9 @@ answer_to run before given (Step.take now) = take_answer (desk_after run before)
 answer_to run before given Step.encode =
     encode_answer before (desk_after run before) run.setup given.refused (progress before)
 answer_to run before given (Step.attempt now) =
-    attempt_answer (desk_after run before) given.outcome (progress before)
+    attempt_answer before (desk_after run before) given.outcome now (progress before)
 answer_to run before given (Step.reply now word) =
-    reply_answer (desk_after run before) (progress before)
+    reply_answer run before (desk_after run before) now word (progress before)
 
 -- it is right, whatever is given
 pub record IsAnswer (run : RunConfig) (before : List Answered) (x : Answered) : Type 0 where

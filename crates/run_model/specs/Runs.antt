@@ -1,6 +1,6 @@
 -- A run: the steps of a program, each with its answer; the spans that they end, and what they do at
 -- the queue of its batch processor. (Trace API; Trace SDK, Batching processor)
-use Rattle.std.specs.Prelude.{ℕ, Bool, true, false, not, List, [], ◌∷◌, filter_map, take_while, Option, Some, None, option_map, slice_get}
+use Rattle.std.specs.Prelude.{ℕ, ◌==◌, Bool, true, false, not, if◌then◌else◌, List, [], ◌∷◌, filter_map, take_while, Option, Some, None, option_map, slice_get}
 use Rattle.span_model.specs.Dropped.{Reason, queue_full}
 use Rattle.span_model.specs.Spans.{EndedSpan}
 use Rattle.span_model.specs.Starts.{Ids}
@@ -36,8 +36,10 @@ pub data Answer : Type 0 where
   not_taken : Answer
   -- the body of the batch of this number has so many bytes
   encoded : ℕ → ℕ → Answer
-  -- this is the batch of this number, this attempt of it, from 1 on, and what came of it
+  -- this is the batch of this number, this attempt of it, from 1 on, and what came of it; or its
+  -- next attempt isn't due
   sent : ℕ → ℕ → Outcome → Answer
+  early : Answer
   -- the batch of this number, and what follows for it
   replied : ℕ → Next → Answer
   -- the step is for no batch that is out
@@ -84,7 +86,8 @@ event_by spans flush step = Some desk.flush
 event_by spans shutdown step = Some desk.shutdown
 event_by spans (taken number size) step = Some (desk.taken (moment_of step) size)
 -- Its first attempt hands the batch to the exporter.
-event_by spans (sent number attempt outcome) step = Some desk.handed
+event_by spans (sent number attempt outcome) step =
+    if attempt == 1 then Some desk.handed else None
 event_by spans (replied number next) step = option_map desk.settled (fate_of next)
 event_by spans _ step = None
 
