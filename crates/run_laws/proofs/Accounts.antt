@@ -9,8 +9,8 @@ use Rattle.desk_model.specs.Desks.{desk_of, Allowed, AreAllowed}
 use Rattle.desk_model.proofs.Lists.{some-more, any-more}
 use Rattle.desk_model.proofs.Steps.{tickets-kept, stage-kept, allowed-more}
 use Rattle.history_model.specs.Steps.{is_shutdown}
-use Rattle.run_model.specs.Runs.{Ended, queued, handed, late, not_sampled, already_ended, Answer, started, no_randomness, no_span, out_of_memory, done, ended, taken, not_taken, encoded, sent, replied, nothing, Answered, ended_by, event_by, desk_events}
-use Rattle.run_model.specs.Answers.{RunConfig, Progress, not_out, to_encode, to_send, to_judge, progress_by, progress}
+use Rattle.run_model.specs.Runs.{Ended, queued, handed, late, not_sampled, already_ended, Answer, started, no_randomness, no_span, out_of_memory, done, ended, taken, not_taken, encoded, sent, early, replied, nothing, Answered, ended_by, event_by, desk_events}
+use Rattle.run_model.specs.Answers.{RunConfig, Progress, not_out, to_encode, to_send, to_judge, to_retry, progress_by, progress}
 use Rattle.run_model.proofs.More.{is_shut, shut-more, IsBelow, AreBelow, events-more, events-same, progress-none}
 
 -- ---- tickets below a number
@@ -33,6 +33,7 @@ below-wider n m l (taken number size) h = tt
 below-wider n m l not_taken h = tt
 below-wider n m l (encoded number size) h = tt
 below-wider n m l (sent number attempt outcome) h = tt
+below-wider n m l early h = tt
 below-wider n m l (replied number next) h = tt
 below-wider n m l nothing h = tt
 
@@ -48,6 +49,7 @@ stage_of not_out = desk.not_out
 stage_of to_encode = in_hand
 stage_of to_send = in_hand
 stage_of (to_judge outcome) = with_exporter
+stage_of (to_retry moment) = with_exporter
 
 pub record Account (run : RunConfig) (h : List Answered) : Type 0 where
   pub below : AreBelow (length (ended_by run.setup h)) h

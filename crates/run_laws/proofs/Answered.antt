@@ -1,5 +1,5 @@
 -- What ends and takes answer, and what no other step answers.
-use Rattle.std.proofs.Common.{◌≡◌, refl, sym, ap, ◌∙◌, ℕ, ◌+◌, min, List, length, Bool, true, false, true≢false, not, ◌&&◌, Option, Some, None}
+use Rattle.std.proofs.Common.{◌≡◌, refl, sym, ap, ◌∙◌, ℕ, ◌+◌, nat_lt, min, List, length, Bool, true, false, true≢false, not, ◌&&◌, Option, Some, None}
 use Rattle.std.specs.Prelude.{is_none, if◌then◌else◌}
 use Rattle.std.specs.List.{list_any}
 use Rattle.std.specs.Option.{option_map_or}
@@ -11,9 +11,9 @@ use Rattle.desk_model.specs.Retries.{Outcome, Next}
 use Rattle.desk_model.specs.Desks.{Desk, is_due, desk_of}
 use Rattle.history_model.specs.Steps.{Step}
 use Rattle.history_model.specs.History.{Setup}
-use Rattle.run_model.specs.Runs.{Ended, queued, late, not_sampled, already_ended, Answer, started, no_randomness, no_span, out_of_memory, done, ended, taken, not_taken, encoded, sent, replied, nothing, Answered}
-use Rattle.run_model.specs.Answers.{RunConfig, Given, Progress, not_out, to_encode, to_send, to_judge, span_at, calls_so_far, takes_memory, is_live, start_answer, end_answer, call_answer, take_answer, encode_answer, attempt_answer, reply_answer, desk_after, answer_to, progress, IsAnswer}
-use Rattle.run_laws.specs.Laws.{is_first_end, was_shut, is_full, says_late, says_full, says_queued, may_take, says_taken, says_sent, LateBehindShutdown, DroppedWhereFull, QueuedWhereRoom, TakenWhereDue, TakesTheFirst, OfRuns}
+use Rattle.run_model.specs.Runs.{Ended, queued, late, not_sampled, already_ended, Answer, started, no_randomness, no_span, out_of_memory, done, ended, taken, not_taken, encoded, sent, early, replied, nothing, Answered}
+use Rattle.run_model.specs.Answers.{RunConfig, Given, Progress, not_out, to_encode, to_send, to_judge, to_retry, span_at, calls_so_far, takes_memory, is_live, start_answer, end_answer, call_answer, take_answer, encode_answer, attempt_answer, reply_answer, desk_after, answer_to, progress, last_attempt, IsAnswer}
+use Rattle.run_laws.specs.Laws.{is_first_end, was_shut, is_full, says_late, says_full, says_queued, may_take, says_taken, LateBehindShutdown, DroppedWhereFull, QueuedWhereRoom, TakenWhereDue, TakesTheFirst, OfRuns}
 use Rattle.run_laws.proofs.Histories.{answer-at}
 
 -- ---- a test that fails at every answer but ends, takes, encodings and attempts
@@ -27,6 +27,7 @@ record Quiet (f : Answer → Bool) : Type 0 where
   of_flush : f Answer.flush ≡ false
   of_shutdown : f Answer.shutdown ≡ false
   of_not_taken : f not_taken ≡ false
+  of_early : f early ≡ false
   of_replied : (number : ℕ) (next : Next) → f (replied number next) ≡ false
   of_nothing : f nothing ≡ false
 
@@ -46,18 +47,25 @@ module _ (f : Answer → Bool) (q : Quiet f) where
   quiet-encode t before desk setup refused not_out = q.of_nothing
   quiet-encode t before desk setup refused to_send = q.of_nothing
   quiet-encode t before desk setup refused (to_judge outcome) = q.of_nothing
+  quiet-encode t before desk setup refused (to_retry moment) = q.of_nothing
 
-  quiet-attempt : ((number attempt : ℕ) (outcome : Outcome) → f (sent number attempt outcome) ≡ false) → (desk : Desk) (outcome : Outcome) (p : Progress) → f (attempt_answer desk outcome p) ≡ false
-  quiet-attempt t desk outcome to_send = t _ _ _
-  quiet-attempt t desk outcome not_out = q.of_nothing
-  quiet-attempt t desk outcome to_encode = q.of_nothing
-  quiet-attempt t desk outcome (to_judge o) = q.of_nothing
+  quiet-attempt : ((number attempt : ℕ) (outcome : Outcome) → f (sent number attempt outcome) ≡ false) → (before : List Answered) (desk : Desk) (outcome : Outcome) (now : ℕ) (p : Progress) → f (attempt_answer before desk outcome now p) ≡ false
+  quiet-attempt t before desk outcome now to_send = t _ _ _
+  quiet-attempt t before desk outcome now (to_retry moment) = by (nat_lt now moment)
+    where
+      by : (b : Bool) → f (if b then early else sent desk.batches (last_attempt before + 1) outcome) ≡ false
+      by true = q.of_early
+      by false = t _ _ _
+  quiet-attempt t before desk outcome now not_out = q.of_nothing
+  quiet-attempt t before desk outcome now to_encode = q.of_nothing
+  quiet-attempt t before desk outcome now (to_judge o) = q.of_nothing
 
-  quiet-reply : (desk : Desk) (p : Progress) → f (reply_answer desk p) ≡ false
-  quiet-reply desk (to_judge outcome) = q.of_replied _ _
-  quiet-reply desk not_out = q.of_nothing
-  quiet-reply desk to_encode = q.of_nothing
-  quiet-reply desk to_send = q.of_nothing
+  quiet-reply : (run : RunConfig) (before : List Answered) (desk : Desk) (now word : ℕ) (p : Progress) → f (reply_answer run before desk now word p) ≡ false
+  quiet-reply run before desk now word (to_judge outcome) = q.of_replied _ _
+  quiet-reply run before desk now word not_out = q.of_nothing
+  quiet-reply run before desk now word to_encode = q.of_nothing
+  quiet-reply run before desk now word to_send = q.of_nothing
+  quiet-reply run before desk now word (to_retry moment) = q.of_nothing
 
   quiet-take : ((number size : ℕ) → f (taken number size) ≡ false) → (desk : Desk) (now : ℕ) → f (take_answer desk now) ≡ false
   quiet-take t desk now = by (is_due desk now && is_none desk.out)
@@ -122,8 +130,8 @@ module _ (f : Answer → Bool) (says : Bool → Bool → Bool) (t : TellsEnds f 
   ends-told given Step.shutdown = t.quiet.of_shutdown
   ends-told given (Step.take now) = quiet-take f t.quiet t.of_taken (desk_after run before) now
   ends-told given Step.encode = quiet-encode f t.quiet t.of_encoded before (desk_after run before) run.setup given.refused (progress before)
-  ends-told given (Step.attempt now) = quiet-attempt f t.quiet t.of_sent (desk_after run before) given.outcome (progress before)
-  ends-told given (Step.reply now word) = quiet-reply f t.quiet (desk_after run before) (progress before)
+  ends-told given (Step.attempt now) = quiet-attempt f t.quiet t.of_sent before (desk_after run before) given.outcome now (progress before)
+  ends-told given (Step.reply now word) = quiet-reply f t.quiet run before (desk_after run before) now word (progress before)
 
   ends-are : (x : Answered) → IsAnswer run before x → f x.answer ≡ told x.step
   ends-are x i = ap f i.is ∙ ends-told i.given x.step
@@ -151,7 +159,7 @@ of-queued false true false false ticket = refl
 
 tells-late : TellsEnds says_late (λ shut full. shut)
 tells-late = record {
-  quiet = record { of_start = λ ids. refl; of_no_randomness = refl; of_no_span = refl; of_memory = refl; of_done = refl; of_flush = refl; of_shutdown = refl; of_not_taken = refl; of_replied = λ n x. refl; of_nothing = refl };
+  quiet = record { of_start = λ ids. refl; of_no_randomness = refl; of_no_span = refl; of_memory = refl; of_done = refl; of_flush = refl; of_shutdown = refl; of_not_taken = refl; of_early = refl; of_replied = λ n x. refl; of_nothing = refl };
   of_taken = λ n s. refl;
   of_encoded = λ n s. refl;
   of_sent = λ n a o. refl;
@@ -160,7 +168,7 @@ tells-late = record {
 
 tells-full : TellsEnds says_full (λ shut full. not shut && full)
 tells-full = record {
-  quiet = record { of_start = λ ids. refl; of_no_randomness = refl; of_no_span = refl; of_memory = refl; of_done = refl; of_flush = refl; of_shutdown = refl; of_not_taken = refl; of_replied = λ n x. refl; of_nothing = refl };
+  quiet = record { of_start = λ ids. refl; of_no_randomness = refl; of_no_span = refl; of_memory = refl; of_done = refl; of_flush = refl; of_shutdown = refl; of_not_taken = refl; of_early = refl; of_replied = λ n x. refl; of_nothing = refl };
   of_taken = λ n s. refl;
   of_encoded = λ n s. refl;
   of_sent = λ n a o. refl;
@@ -169,7 +177,7 @@ tells-full = record {
 
 tells-queued : TellsEnds says_queued (λ shut full. not shut && not full)
 tells-queued = record {
-  quiet = record { of_start = λ ids. refl; of_no_randomness = refl; of_no_span = refl; of_memory = refl; of_done = refl; of_flush = refl; of_shutdown = refl; of_not_taken = refl; of_replied = λ n x. refl; of_nothing = refl };
+  quiet = record { of_start = λ ids. refl; of_no_randomness = refl; of_no_span = refl; of_memory = refl; of_done = refl; of_flush = refl; of_shutdown = refl; of_not_taken = refl; of_early = refl; of_replied = λ n x. refl; of_nothing = refl };
   of_taken = λ n s. refl;
   of_encoded = λ n s. refl;
   of_sent = λ n a o. refl;
@@ -196,7 +204,7 @@ queued-where-room run h w before later x e =
 -- ---- takes
 
 quiet-taken : Quiet says_taken
-quiet-taken = record { of_start = λ ids. refl; of_no_randomness = refl; of_no_span = refl; of_memory = refl; of_done = refl; of_flush = refl; of_shutdown = refl; of_not_taken = refl; of_replied = λ n x. refl; of_nothing = refl }
+quiet-taken = record { of_start = λ ids. refl; of_no_randomness = refl; of_no_span = refl; of_memory = refl; of_done = refl; of_flush = refl; of_shutdown = refl; of_not_taken = refl; of_early = refl; of_replied = λ n x. refl; of_nothing = refl }
 
 take-told : (run : RunConfig) (before : List Answered) (given : Given) (step : Step) → says_taken (answer_to run before given step) ≡ may_take run before step
 take-told run before given (Step.start scope parent kind at name) = quiet-start says_taken quiet-taken _ given.refused _
@@ -209,8 +217,8 @@ take-told run before given (Step.take now) = by (is_due (desk_after run before) 
     by true = refl
     by false = refl
 take-told run before given Step.encode = quiet-encode says_taken quiet-taken (λ n s. refl) before (desk_after run before) run.setup given.refused (progress before)
-take-told run before given (Step.attempt now) = quiet-attempt says_taken quiet-taken (λ n a o. refl) (desk_after run before) given.outcome (progress before)
-take-told run before given (Step.reply now word) = quiet-reply says_taken quiet-taken (desk_after run before) (progress before)
+take-told run before given (Step.attempt now) = quiet-attempt says_taken quiet-taken (λ n a o. refl) before (desk_after run before) given.outcome now (progress before)
+take-told run before given (Step.reply now word) = quiet-reply says_taken quiet-taken run before (desk_after run before) now word (progress before)
 
 pub taken-where-due : OfRuns TakenWhereDue
 taken-where-due run h w before later x e = let i = answer-at run h w before later x e in ap says_taken i.is ∙ take-told run before i.given x.step
@@ -241,54 +249,3 @@ pub takes-the-first : OfRuns TakesTheFirst
 takes-the-first run h w before later x e number size k =
     let i = answer-at run h w before later x e in
     first-taken run before i.given number size x.step (sym k ∙ i.is) (ap says_taken (sym k ∙ i.is) ∙ take-told run before i.given x.step)
-
--- ---- encodings and attempts
-
--- the last batch was sent, or is out no more
-abbrev pub is_done : Progress → Bool
-is_done not_out = true
-is_done to_encode = false
-is_done to_send = false
-is_done (to_judge outcome) = true
-
-abbrev pub says_encoded : Answer → Bool
-says_encoded (encoded number size) = true
-says_encoded _ = false
-
-quiet-encoded : Quiet says_encoded
-quiet-encoded = record { of_start = λ ids. refl; of_no_randomness = refl; of_no_span = refl; of_memory = refl; of_done = refl; of_flush = refl; of_shutdown = refl; of_not_taken = refl; of_replied = λ n x. refl; of_nothing = refl }
-
-quiet-sent : Quiet says_sent
-quiet-sent = record { of_start = λ ids. refl; of_no_randomness = refl; of_no_span = refl; of_memory = refl; of_done = refl; of_flush = refl; of_shutdown = refl; of_not_taken = refl; of_replied = λ n x. refl; of_nothing = refl }
-
-pub none-encoded : (run : RunConfig) (before : List Answered) (given : Given) (step : Step) → is_done (progress before) ≡ true → says_encoded (answer_to run before given step) ≡ false
-none-encoded run before given (Step.start scope parent kind at name) e = quiet-start says_encoded quiet-encoded _ given.refused _
-none-encoded run before given (Step.call n c) e = quiet-call says_encoded quiet-encoded (λ e. refl) run before (desk_after run before) given.refused n c (span_at run.setup before n)
-none-encoded run before given Step.flush e = refl
-none-encoded run before given Step.shutdown e = refl
-none-encoded run before given (Step.take now) e = quiet-take says_encoded quiet-encoded (λ n s. refl) (desk_after run before) now
-none-encoded run before given Step.encode e = by (progress before) e
-  where
-    by : (p : Progress) → is_done p ≡ true → says_encoded (encode_answer before (desk_after run before) run.setup given.refused p) ≡ false
-    by not_out e = refl
-    by to_encode e = absurd (true≢false (sym e))
-    by to_send e = refl
-    by (to_judge outcome) e = refl
-none-encoded run before given (Step.attempt now) e = quiet-attempt says_encoded quiet-encoded (λ n a o. refl) (desk_after run before) given.outcome (progress before)
-none-encoded run before given (Step.reply now word) e = quiet-reply says_encoded quiet-encoded (desk_after run before) (progress before)
-
-pub none-sent : (run : RunConfig) (before : List Answered) (given : Given) (step : Step) → is_done (progress before) ≡ true → says_sent (answer_to run before given step) ≡ false
-none-sent run before given (Step.start scope parent kind at name) e = quiet-start says_sent quiet-sent _ given.refused _
-none-sent run before given (Step.call n c) e = quiet-call says_sent quiet-sent (λ e. refl) run before (desk_after run before) given.refused n c (span_at run.setup before n)
-none-sent run before given Step.flush e = refl
-none-sent run before given Step.shutdown e = refl
-none-sent run before given (Step.take now) e = quiet-take says_sent quiet-sent (λ n s. refl) (desk_after run before) now
-none-sent run before given Step.encode e = quiet-encode says_sent quiet-sent (λ n s. refl) before (desk_after run before) run.setup given.refused (progress before)
-none-sent run before given (Step.attempt now) e = by (progress before) e
-  where
-    by : (p : Progress) → is_done p ≡ true → says_sent (attempt_answer (desk_after run before) given.outcome p) ≡ false
-    by not_out e = refl
-    by to_encode e = refl
-    by to_send e = absurd (true≢false (sym e))
-    by (to_judge outcome) e = refl
-none-sent run before given (Step.reply now word) e = quiet-reply says_sent quiet-sent (desk_after run before) (progress before)

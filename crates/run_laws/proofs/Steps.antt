@@ -2,12 +2,13 @@
 use Rattle.std.proofs.Common.{◌≡◌, refl, sym, ap, subst, ◌∙◌, ℕ, ◌+◌, ◌-◌, ◌*◌, ◌^◌, ◌<◌, ◌≤◌, ◌==◌, nat_lt, nat_le, min, arith, map, List, [], ◌∷◌, ◌++◌, length, Bool, true, false, true≢false, not, ◌&&◌, ◌||◌, ◌⊎◌, inl, inr, Option, Some, None, option_map}
 use Rattle.std.specs.Prelude.{is_none, if◌then◌else◌}
 use Rattle.std.specs.List.{list_any}
-use Rattle.std.proofs.lemmas.Bool.{eqb-true, eq-eqb, cases_order}
+use Rattle.std.proofs.lemmas.Bool.{eqb-true, eq-eqb, false_from_ne_true, cases_order}
 use Rattle.span_model.specs.Dropped.{queue_full}
 use Rattle.span_model.specs.Sampling.{is_sampled}
 use Rattle.span_model.specs.Spans.{EndedSpan, Kind, Call, is_end}
 use Rattle.span_model.specs.Starts.{StartedSpan}
-use Rattle.desk_model.specs.Retries.{Outcome, Fate, next_of, fate_of}
+use Rattle.desk_model.specs.Retries.{Outcome, Cause, Next, again, give_up, Fate, fate_of}
+use Rattle.retry_model.specs.Waits.{next_after}
 use Rattle.desk_model.specs.Queue.{DeskEvent, tickets, waiting_spans, in_hand_spans, handed_spans, drops, last_batch, last_size, Stage, in_hand, with_exporter, stage, is_closed}
 use Rattle.desk_model.specs.Queue as desk
 use Rattle.desk_model.specs.Desks.{Desk, out_as, is_due, is_in_hand, is_with_exporter, desk_of, AreAllowed}
@@ -17,14 +18,15 @@ use Rattle.desk_laws.specs.Queues.{times}
 use Rattle.desk_laws.proofs.Counts.{queue-bounded}
 use Rattle.desk_laws.proofs.Tickets.{in-places, each-once}
 use Rattle.history_model.specs.Steps.{Step, Parent, is_shutdown}
-use Rattle.run_model.specs.Runs.{Ended, queued, late, not_sampled, already_ended, Answer, started, no_randomness, no_span, out_of_memory, done, ended, taken, not_taken, sent, replied, nothing, Answered, ended_by, event_by, desk_events}
-use Rattle.run_model.specs.Answers.{RunConfig, Given, Progress, not_out, to_encode, to_send, to_judge, progress_by, progress, span_at, calls_so_far, takes_memory, is_live, start_answer, end_answer, call_answer, take_answer, encode_answer, attempt_answer, reply_answer, desk_after, answer_to, IsAnswer, AreAnswers}
+use Rattle.run_model.specs.Runs.{Ended, queued, late, not_sampled, already_ended, Answer, started, no_randomness, no_span, out_of_memory, done, ended, taken, not_taken, sent, early, replied, nothing, Answered, ended_by, event_by, desk_events}
+use Rattle.run_model.specs.Answers.{RunConfig, Given, Progress, not_out, to_encode, to_send, to_judge, to_retry, last_attempt, progress_by, progress, span_at, calls_so_far, takes_memory, is_live, start_answer, end_answer, call_answer, take_answer, encode_answer, attempt_answer, reply_answer, desk_after, answer_to, IsAnswer, AreAnswers}
 use Rattle.run_model.proofs.More.{is_shut, ended-shut, ended-none, IsBelow, progress-none, progress-some}
 use Rattle.run_model.specs.Headline.{EachOnce}
 use Rattle.run_laws.specs.Laws.{OfHistories, OfRuns, HandedAreNotDropped, TakenBehindShutdown, was_shut, may_take, EventsAreAllowed, NoneUnaccountedFor}
 use Rattle.run_laws.proofs.Histories.{by-steps, front}
 use Rattle.run_laws.proofs.Answered.{taken-where-due}
 use Rattle.run_laws.proofs.Ends.{told, start-ends-none, missing-ends-none, later-ends-none, unsampled-ends-none, exported_next, first-end-ends}
+use Rattle.run_laws.proofs.Attempts.{Tried, tried-step, tried-none, was-tried}
 use Rattle.run_laws.proofs.Accounts.{Account, stage_of, quiet, tells, ends}
 
 and-left : (a b : Bool) → (a && b) ≡ true → a ≡ true
@@ -39,7 +41,7 @@ none-is : {A : Type 0} (o : Option A) → is_none o ≡ true → o ≡ None
 none-is None e = refl
 none-is (Some x) e = absurd (true≢false (sym e))
 
-module _ (run : RunConfig) (h : List Answered) (a : Account run h) where
+module _ (run : RunConfig) (h : List Answered) (a : Account run h) (tried : (moment : ℕ) → progress h ≡ to_retry moment → 0 < last_attempt h) where
   abbrev events : List DeskEvent
   events = desk_events run.setup h
 
@@ -81,6 +83,7 @@ module _ (run : RunConfig) (h : List Answered) (a : Account run h) where
   after-encode d refused not_out e = after-nothing Step.encode (ended-none run.setup h (told Step.encode nothing) refl) refl
   after-encode d refused to_send e = after-nothing Step.encode (ended-none run.setup h (told Step.encode nothing) refl) refl
   after-encode d refused (to_judge outcome) e = after-nothing Step.encode (ended-none run.setup h (told Step.encode nothing) refl) refl
+  after-encode d refused (to_retry moment) e = after-nothing Step.encode (ended-none run.setup h (told Step.encode nothing) refl) refl
 
   in-hand : stage events ≡ in_hand → is_in_hand (desk_of run.desk 0 events).out ≡ true
   unfolding desk_of
@@ -90,32 +93,56 @@ module _ (run : RunConfig) (h : List Answered) (a : Account run h) where
   unfolding desk_of
   with-exporter e = ap (λ s. is_with_exporter (out_as s (last_batch events) (last_size events))) e
 
-  after-attempt : (desk_now : Desk) (outcome : Outcome) (now : ℕ) (p : Progress) → progress h ≡ p → After (Step.attempt now) (attempt_answer desk_now outcome p)
+  after-nothing-sent : (now : ℕ) → After (Step.attempt now) nothing
+  after-nothing-sent now = after-nothing (Step.attempt now) (ended-none run.setup h (told (Step.attempt now) nothing) refl) refl
+
+  -- a later attempt is nothing at the queue, where the batch is with the exporter already
+  after-retry : (number attempt now : ℕ) (outcome : Outcome) → 1 < attempt → stage events ≡ with_exporter → After (Step.attempt now) (sent number attempt outcome)
+  after-retry number attempt now outcome l e =
+      quiet run h (told (Step.attempt now) (sent number attempt outcome)) (ended-none run.setup h (told (Step.attempt now) (sent number attempt outcome)) refl)
+      (ap (λ b. if b then Some desk.handed else None) (false_from_ne_true (attempt == 1) (λ k. let n = eqb-true attempt 1 k in absurd (omega (arith, l, n)))))
+      (ap stage_of (progress-some h (told (Step.attempt now) (sent number attempt outcome)) (to_judge outcome) refl) ∙ sym e ∙ a.stands) refl tt a
+
+  after-attempt : (desk_now : Desk) (outcome : Outcome) (now : ℕ) (p : Progress) → progress h ≡ p → After (Step.attempt now) (attempt_answer h desk_now outcome now p)
   after-attempt d outcome now to_send e = tells run h (told (Step.attempt now) (sent d.batches 1 outcome)) desk.handed (ended-none run.setup h (told (Step.attempt now) (sent d.batches 1 outcome)) refl) refl refl
       (stage-told events desk.handed with_exporter refl ∙ ap stage_of (sym (progress-some h (told (Step.attempt now) (sent d.batches 1 outcome)) (to_judge outcome) refl))) refl tt
       (in-hand (a.stands ∙ ap stage_of e)) a
-  after-attempt d outcome now not_out e = after-nothing (Step.attempt now) (ended-none run.setup h (told (Step.attempt now) nothing) refl) refl
-  after-attempt d outcome now to_encode e = after-nothing (Step.attempt now) (ended-none run.setup h (told (Step.attempt now) nothing) refl) refl
-  after-attempt d outcome now (to_judge o) e = after-nothing (Step.attempt now) (ended-none run.setup h (told (Step.attempt now) nothing) refl) refl
+  after-attempt d outcome now (to_retry moment) e = by (nat_lt now moment)
+    where
+      by : (b : Bool) → After (Step.attempt now) (if b then early else sent d.batches (last_attempt h + 1) outcome)
+      by true = quiet run h (told (Step.attempt now) early) (ended-none run.setup h (told (Step.attempt now) early) refl) refl (ap stage_of (progress-none h (told (Step.attempt now) early) refl)) refl tt a
+      by false = let some = tried moment e in after-retry d.batches (last_attempt h + 1) now outcome (omega (arith, some)) (a.stands ∙ ap stage_of e)
+  after-attempt d outcome now not_out e = after-nothing-sent now
+  after-attempt d outcome now to_encode e = after-nothing-sent now
+  after-attempt d outcome now (to_judge o) e = after-nothing-sent now
 
-  -- one attempt always settles the batch
-  settles : (outcome : Outcome) → (fate : Fate) × (fate_of (next_of outcome) ≡ Some fate)
-  settles Outcome.delivered = (Fate.delivered, refl)
-  settles (Outcome.partial rejected) = (Fate.partial rejected, refl)
-  settles (Outcome.later status after) = (Fate.given_up, refl)
-  settles (Outcome.refused status) = (Fate.refused status, refl)
-  settles Outcome.no_reply = (Fate.given_up, refl)
-  settles Outcome.bad = (Fate.bad_reply, refl)
+  -- ---- replies
 
-  after-reply : (desk_now : Desk) (now word : ℕ) (p : Progress) → progress h ≡ p → After (Step.reply now word) (reply_answer desk_now p)
-  after-reply d now word (to_judge outcome) e =
-      let s = settles outcome in
-      tells run h (told (Step.reply now word) (replied d.batches (next_of outcome))) (desk.settled s.0) (ended-none run.setup h (told (Step.reply now word) (replied d.batches (next_of outcome))) refl) (ap (option_map desk.settled) s.1) refl
-      (stage-told events (desk.settled s.0) desk.not_out refl ∙ ap stage_of (sym (progress-some h (told (Step.reply now word) (replied d.batches (next_of outcome))) not_out refl))) refl tt
-      (with-exporter (a.stands ∙ ap stage_of e)) a
-  after-reply d now word not_out e = after-nothing (Step.reply now word) (ended-none run.setup h (told (Step.reply now word) nothing) refl) refl
-  after-reply d now word to_encode e = after-nothing (Step.reply now word) (ended-none run.setup h (told (Step.reply now word) nothing) refl) refl
-  after-reply d now word to_send e = after-nothing (Step.reply now word) (ended-none run.setup h (told (Step.reply now word) nothing) refl) refl
+  after-nothing-replied : (now word : ℕ) → After (Step.reply now word) nothing
+  after-nothing-replied now word = after-nothing (Step.reply now word) (ended-none run.setup h (told (Step.reply now word) nothing) refl) refl
+
+  after-settled : (number now word : ℕ) (next : Next) (fate : Fate) → fate_of next ≡ Some fate → progress_by (replied number next) ≡ Some not_out → stage events ≡ with_exporter → After (Step.reply now word) (replied number next)
+  after-settled number now word next fate f p e =
+      tells run h (told (Step.reply now word) (replied number next)) (desk.settled fate) (ended-none run.setup h (told (Step.reply now word) (replied number next)) refl) (ap (option_map desk.settled) f) refl
+      (stage-told events (desk.settled fate) desk.not_out refl ∙ ap stage_of (sym (progress-some h (told (Step.reply now word) (replied number next)) not_out p))) refl tt
+      (with-exporter e) a
+
+  after-replied : (number now word : ℕ) (next : Next) → stage events ≡ with_exporter → After (Step.reply now word) (replied number next)
+  after-replied number now word Next.done e = after-settled number now word Next.done Fate.delivered refl refl e
+  after-replied number now word (Next.partial rejected) e = after-settled number now word (Next.partial rejected) (Fate.partial rejected) refl refl e
+  after-replied number now word (give_up (Cause.refused status)) e = after-settled number now word (give_up (Cause.refused status)) (Fate.refused status) refl refl e
+  after-replied number now word (give_up Cause.bad_reply) e = after-settled number now word (give_up Cause.bad_reply) Fate.bad_reply refl refl e
+  after-replied number now word (give_up Cause.attempts) e = after-settled number now word (give_up Cause.attempts) Fate.given_up refl refl e
+  after-replied number now word (again moment) e =
+      quiet run h (told (Step.reply now word) (replied number (again moment))) (ended-none run.setup h (told (Step.reply now word) (replied number (again moment))) refl) refl
+      (ap stage_of (progress-some h (told (Step.reply now word) (replied number (again moment))) (to_retry moment) refl) ∙ sym e ∙ a.stands) refl tt a
+
+  after-reply : (desk_now : Desk) (now word : ℕ) (p : Progress) → progress h ≡ p → After (Step.reply now word) (reply_answer run h desk_now now word p)
+  after-reply d now word (to_judge outcome) e = after-replied d.batches now word (next_after run.retry (last_attempt h) outcome now word) (a.stands ∙ ap stage_of e)
+  after-reply d now word not_out e = after-nothing-replied now word
+  after-reply d now word to_encode e = after-nothing-replied now word
+  after-reply d now word to_send e = after-nothing-replied now word
+  after-reply d now word (to_retry moment) e = after-nothing-replied now word
 
   -- ---- starts
 
@@ -221,15 +248,22 @@ module _ (run : RunConfig) (h : List Answered) (a : Account run h) where
   after-step given (Step.attempt now) = after-attempt (desk_of run.desk 0 events) given.outcome now (progress h) refl
   after-step given (Step.reply now word) = after-reply (desk_of run.desk 0 events) now word (progress h) refl
 
-account-step : (run : RunConfig) (h : List Answered) (x : Answered) → Account run h → IsAnswer run h x → Account run (h ++ x ∷ [])
-account-step run h x a i = subst (λ answer. Account run (h ++ told x.step answer ∷ [])) (sym i.is) (after-step run h a i.given x.step)
+-- the account, and how often the last batch was sent
+abbrev Accounts : RunConfig → List Answered → Type 0
+Accounts run h = Account run h × Tried run h
+
+accounts-step : (run : RunConfig) (h : List Answered) (x : Answered) → Accounts run h → IsAnswer run h x → Accounts run (h ++ x ∷ [])
+accounts-step run h x a i = (subst (λ answer. Account run (h ++ told x.step answer ∷ [])) (sym i.is) (after-step run h a.0 (was-tried run h a.1) i.given x.step), tried-step run h x a.1 i)
 
 account-none : (run : RunConfig) → Account run []
 unfolding ended_by desk_events progress AreAllowed
 account-none run = record { below = tt; given = refl; stands = refl; shut = refl; allowed = λ l. tt }
 
+accounts : (run : RunConfig) (h : List Answered) → AreAnswers run h → Accounts run h
+accounts run h w = by-steps run (Accounts run) (accounts-step run) h (account-none run, tried-none run) w
+
 pub account : (run : RunConfig) (h : List Answered) → AreAnswers run h → Account run h
-account run h w = by-steps run (Account run) (account-step run) h (account-none run) w
+account run h w = (accounts run h w).0
 
 pub events-are-allowed : OfRuns EventsAreAllowed
 events-are-allowed run h w l = (account run h w).allowed l
@@ -253,7 +287,7 @@ handed-are-not-dropped setup h once ticket =
 
 closed-after : (run : RunConfig) (h : List Answered) → AreAnswers run h → was_shut h ≡ true → (desk_after run h).closed ≡ true
 unfolding desk_after desk_of
-closed-after run h w e = closed-now run h (account run h w) e
+closed-after run h w e = let a : Accounts run h = accounts run h w in closed-now run h a.0 (was-tried run h a.1) e
 
 due-closed : (a b c d e : Bool) → c ≡ true → (a && (b || e || c || d)) ≡ a
 due-closed true true c d e k = refl

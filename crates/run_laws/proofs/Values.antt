@@ -1,6 +1,6 @@
 -- The spans that wait, are in batches or were dropped are those that ended.
 use Rattle.std.proofs.Common.{◌≡◌, refl, sym, ap, ◌∙◌, ℕ, zero, suc, ◌+◌, ◌-◌, arith, List, [], ◌∷◌, ◌++◌, take, drop, map, Bool, true, false, true≢false, cond, not, ◌||◌, Option, Some, None, slice_get, option_map, filter_map}
-use Rattle.std.specs.Prelude.{unwrap_or}
+use Rattle.std.specs.Prelude.{◌==◌, if◌then◌else◌, unwrap_or}
 use Rattle.std.specs.List.{list_any, take_while, AllByRecursion, cons_option}
 use Rattle.std.proofs.lemmas.List.Sums.{take_while-cons}
 use Rattle.span_model.specs.Dropped.{Reason, queue_full, encode_memory, too_large, abandoned, Entry, entry_of}
@@ -12,7 +12,7 @@ use Rattle.desk_laws.specs.Queues.{is_popped}
 use Rattle.desk_laws.proofs.Ledgers.{ledger-names}
 use Rattle.history_model.specs.Steps.{Step, is_shutdown}
 use Rattle.history_model.specs.History.{Setup, span_step, with_tickets, ended_spans, granted_steps}
-use Rattle.run_model.specs.Runs.{Ended, queued, handed, late, not_sampled, already_ended, Answer, started, no_randomness, no_span, out_of_memory, done, ended, taken, not_taken, encoded, sent, replied, nothing, Answered, is_refused, span_steps, before_shutdown, ended_by, event_by, events_among, desk_events}
+use Rattle.run_model.specs.Runs.{Ended, queued, handed, late, not_sampled, already_ended, Answer, started, no_randomness, no_span, out_of_memory, done, ended, taken, not_taken, encoded, sent, early, replied, nothing, Answered, is_refused, span_steps, before_shutdown, ended_by, event_by, events_among, desk_events}
 use Rattle.run_model.specs.Answers.{RunConfig, desk_after}
 use Rattle.desk_model.specs.Retries.{Fate, fate_of}
 use Rattle.run_laws.specs.Laws.{OfHistories, IsEndedSpan, NamesEndedSpan, WaitingAreEnded, BatchesAreEnded, DropsNameEnded, EndedByTheSteps, LedgerNamesTheDropped}
@@ -115,6 +115,10 @@ module _ (spans : List EndedSpan) (placed : (n : ℕ) (s : EndedSpan) → slice_
   settled-one None = tt
   settled-one (Some f) = tt
 
+  handed-one : (b : Bool) → HasOne (if b then Some desk.handed else None)
+  handed-one true = tt
+  handed-one false = tt
+
   event-one : (a : Answer) (step : Step) → HasOne (event_by spans a step)
   event-one (ended (queued n)) step = queued-one n (slice_get spans n) refl
   event-one (ended (Ended.dropped n queue_full)) step = full-one n (slice_get spans n) refl
@@ -135,7 +139,8 @@ module _ (spans : List EndedSpan) (placed : (n : ℕ) (s : EndedSpan) → slice_
   event-one (taken number size) step = tt
   event-one not_taken step = tt
   event-one (encoded number size) step = tt
-  event-one (sent number attempt outcome) step = tt
+  event-one (sent number attempt outcome) step = handed-one (attempt == 1)
+  event-one early step = tt
   event-one (replied number next) step = settled-one (fate_of next)
   event-one nothing step = tt
 
@@ -190,6 +195,10 @@ settled-not : (o : Option Fate) → NotPopped (option_map desk.settled o)
 settled-not None = tt
 settled-not (Some f) = refl
 
+handed-not : (b : Bool) → NotPopped (if b then Some desk.handed else None)
+handed-not true = refl
+handed-not false = tt
+
 event-of : (spans : List EndedSpan) (a : Answer) (step : Step) → NotPopped (event_by spans a step)
 event-of spans (ended (queued n)) step = queued-not (slice_get spans n)
 event-of spans (ended (Ended.dropped n queue_full)) step = full-not (slice_get spans n)
@@ -210,7 +219,8 @@ event-of spans Answer.shutdown step = refl
 event-of spans (taken number size) step = refl
 event-of spans not_taken step = tt
 event-of spans (encoded number size) step = tt
-event-of spans (sent number attempt outcome) step = refl
+event-of spans (sent number attempt outcome) step = handed-not (attempt == 1)
+event-of spans early step = tt
 event-of spans (replied number next) step = settled-not (fate_of next)
 event-of spans nothing step = tt
 

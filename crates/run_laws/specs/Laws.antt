@@ -1,20 +1,23 @@
 -- What is proved of every run whose answers are right. (Trace API, End; Trace SDK, Batching
 -- processor; tickets and batches: profile)
-use Rattle.std.specs.Prelude.{◌≡◌, ℕ, ◌+◌, ◌-◌, ◌^◌, ◌<◌, ◌≤◌, ◌==◌, nat_lt, min, Bool, true, false, not, ◌&&◌, List, ◌∷◌, ◌++◌, length, map, reverse, slice_get, Some, is_none}
+use Rattle.std.specs.Prelude.{◌≡◌, ℕ, ◌+◌, ◌-◌, ◌^◌, ◌<◌, ◌≤◌, ◌==◌, nat_lt, min, Bool, true, false, not, ◌&&◌, List, [], ◌∷◌, ◌++◌, length, map, filter_map, reverse, slice_get, Option, Some, None, is_some, is_none}
 use Rattle.std.specs.List.{list_any, AllByRecursion}
 use Rattle.std.specs.Option.{option_map_or}
+use Rattle.span_model.specs.Attributes.{last_or}
 use Rattle.span_model.specs.Dropped.{queue_full, Entry, entry_of}
 use Rattle.span_model.specs.Sampling.{is_sampled}
 use Rattle.span_model.specs.Spans.{EndedSpan, is_end}
+use Rattle.desk_model.specs.Retries.{Outcome, Next, again, fate_of}
 use Rattle.desk_model.specs.Queue.{waiting_spans, batch_spans, handed_spans, drops}
 use Rattle.desk_model.specs.Desks.{is_due, AreAllowed}
 use Rattle.desk_laws.specs.Queues.{times}
+use Rattle.retry_model.specs.Waits.{next_after}
 use Rattle.history_model.specs.Steps.{Step, is_shutdown}
 use Rattle.history_model.specs.History.{Setup, ended_spans, granted_steps}
 use Rattle.run_model.specs.Runs.{Ended, Answer, ended, taken, sent, replied, Answered, is_refused, ended_by, desk_events}
 use Rattle.run_model.specs.Runs as runs
 use Rattle.run_model.specs.Answers.{RunConfig, span_at, calls_so_far, desk_after, AreAnswers}
-use Rattle.run_model.specs.Headline.{EachOnce}
+use Rattle.run_model.specs.Headline.{EachOnce, Attempt, attempts, attempts_of}
 
 -- whatever is done, and whatever of it ends
 abbrev pub OfHistories : (Setup → List Answered → Type 0) → Type 0
@@ -90,10 +93,6 @@ abbrev pub says_taken : Answer → Bool
 says_taken (taken number size) = true
 says_taken _ = false
 
-abbrev pub says_replied : Answer → Bool
-says_replied (replied number next) = true
-says_replied _ = false
-
 -- A take gives a batch exactly where one is due and none is out. (Trace SDK, Batching processor; at
 -- most one batch is out: profile)
 abbrev pub TakenWhereDue : RunConfig → List Answered → Type 0
@@ -114,26 +113,58 @@ TakenBehindShutdown run = AtEachStep (λ before x.
     → let desk = desk_after run before in
     says_taken x.answer ≡ (nat_lt 0 (length desk.waiting) && is_none desk.out))
 
--- At most one batch is out: before a next one is taken, what came of the last one was judged.
--- (profile)
+-- the answer ends a batch
+abbrev pub ends_batch : Answer → Bool
+ends_batch (replied number next) = is_some (fate_of next)
+ends_batch _ = false
+
+-- At most one batch is out: before a next one is taken, the last one was settled. (profile)
 abbrev pub OneBatchIsOut : List Answered → Type 0
 OneBatchIsOut history =
     (before between later : List Answered) (x y : Answered)
     → before ++ x ∷ between ++ y ∷ later ≡ history
     → says_taken x.answer ≡ true → says_taken y.answer ≡ true
-    → list_any (λ z. says_replied z.answer) between ≡ true
+    → list_any (λ z. ends_batch z.answer) between ≡ true
 
-abbrev pub says_sent : Answer → Bool
-says_sent (sent number attempt outcome) = true
-says_sent _ = false
+-- ---- attempts
 
--- A batch has one attempt: before another one, a next batch is taken. (profile)
-abbrev pub OneAttemptEach : List Answered → Type 0
-OneAttemptEach history =
-    (before between later : List Answered) (x y : Answered)
-    → before ++ x ∷ between ++ y ∷ later ≡ history
-    → says_sent x.answer ≡ true → says_sent y.answer ≡ true
-    → list_any (λ z. says_taken z.answer) between ≡ true
+-- The attempts of a batch are numbered from 1 on. (profile)
+abbrev pub AttemptsAreNumbered : List Answered → Type 0
+AttemptsAreNumbered = AtEachStep (λ before x.
+    (number attempt : ℕ) (outcome : Outcome) → x.answer ≡ sent number attempt outcome
+    → attempt ≡ length (attempts_of number before) + 1)
+
+-- There are at most as many as are configured. (OTLP Specification, Retryable Response Codes; the
+-- number: profile)
+abbrev pub AttemptsAreFew : RunConfig → List Answered → Type 0
+AttemptsAreFew run = AtEachStep (λ before x.
+    (number attempt : ℕ) (outcome : Outcome) → 1 ≤ run.retry.attempts
+    → x.answer ≡ sent number attempt outcome → attempt ≤ run.retry.attempts)
+
+abbrev pub moment_by : Answer → Option ℕ
+moment_by (taken number size) = Some 0
+moment_by (replied number (again moment)) = Some moment
+moment_by _ = None
+
+-- the moment from which on the last batch may be sent: at any, until a reply tells one
+unfoldable pub retry_moment : List Answered → ℕ
+retry_moment before = last_or 0 (filter_map (λ x. moment_by x.answer) before)
+
+-- None stands before that moment. (OTLP Specification, OTLP/HTTP Throttling)
+abbrev pub NoAttemptIsEarly : List Answered → Type 0
+NoAttemptIsEarly = AtEachStep (λ before x.
+    (now number attempt : ℕ) (outcome : Outcome) → x.step ≡ Step.attempt now
+    → x.answer ≡ sent number attempt outcome → retry_moment before ≤ now)
+
+-- What follows from a reply is what follows from the outcome of the last attempt, which was one of
+-- the same batch. (OTLP Specification, OTLP/HTTP Response)
+abbrev pub RepliesAreDecided : RunConfig → List Answered → Type 0
+RepliesAreDecided run = AtEachStep (λ before x.
+    (now word number : ℕ) (next : Next) → x.step ≡ Step.reply now word
+    → x.answer ≡ replied number next
+    → (earlier : List Attempt) × (last : Attempt) × (attempts before ≡ earlier ++ last ∷ [])
+    × (number ≡ last.number)
+    × (next ≡ next_after run.retry last.attempt last.outcome now word))
 
 -- ---- no span is unaccounted for
 

@@ -6,7 +6,7 @@ ghost use Rattle.std.specs.Prelude.{List};
 ghost use Rattle.run_model.specs.Runs.{Answered};
 ghost use Rattle.run_model.specs.Answers.{RunConfig};
 ghost use Rattle.run_model.specs.Headline.{EachOnce};
-ghost use Rattle.run_laws.specs.Laws.{OfHistories, OfRuns, LateBehindShutdown, DroppedWhereFull, QueuedWhereRoom, TakenWhereDue, TakesTheFirst, TakenBehindShutdown, OneBatchIsOut, OneAttemptEach, EndedSpansStay, EndedAreFew, EventsAreAllowed, NoneUnaccountedFor, HandedAreNotDropped, LedgerNamesTheDropped, WaitingAreEnded, BatchesAreEnded, DropsNameEnded, EndedByTheSteps};
+ghost use Rattle.run_laws.specs.Laws.{OfHistories, OfRuns, LateBehindShutdown, DroppedWhereFull, QueuedWhereRoom, TakenWhereDue, TakesTheFirst, TakenBehindShutdown, OneBatchIsOut, AttemptsAreNumbered, AttemptsAreFew, NoAttemptIsEarly, RepliesAreDecided, EndedSpansStay, EndedAreFew, EventsAreAllowed, NoneUnaccountedFor, HandedAreNotDropped, LedgerNamesTheDropped, WaitingAreEnded, BatchesAreEnded, DropsNameEnded, EndedByTheSteps};
 
 /// The first end of a sampled span: behind a shutdown it is late; else it is dropped where the
 /// queue is full, and waits where it isn't. Nothing else is late, dropped there or queued. (Trace
@@ -26,10 +26,20 @@ pub fn takes_are_answered()
     ensures shutdown { OfRuns TakenBehindShutdown }
 {}
 
-/// At most one batch is out, and it is sent once at most. (profile)
+/// At most one batch is out: it is settled before a next one is taken. (profile)
 pub fn one_batch_is_out()
     ensures one { OfRuns (λ run. OneBatchIsOut) }
-    ensures attempt { OfRuns (λ run. OneAttemptEach) }
+{}
+
+/// The attempts of a batch are numbered from 1 on, and are as many as are configured at most; none
+/// stands before the moment that the last reply told. What follows from a reply is decided by the
+/// outcome of the last attempt. (OTLP Specification, Retryable Response Codes, OTLP/HTTP
+/// Throttling)
+pub fn attempts_are_answered()
+    ensures numbered { OfRuns (λ run. AttemptsAreNumbered) }
+    ensures few { OfRuns AttemptsAreFew }
+    ensures early { OfRuns (λ run. NoAttemptIsEarly) }
+    ensures decided { OfRuns RepliesAreDecided }
 {}
 
 /// No span is unaccounted for: each that ended before the shutdown is handed to the exporter, still
