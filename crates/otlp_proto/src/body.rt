@@ -3,6 +3,7 @@ ghost use Rattle.std.specs.Prelude.{◌≡◌, ◌≢◌, ◌≤◌, ◌<◌, []
 ghost use Rattle.message_model.specs.Reading.{Reads};
 ghost use Rattle.message_model.specs.Messages.{body_meaning};
 ghost use Rattle.export_model.specs.Export as model;
+ghost use Rattle.otlp_proto.specs.Bodies.{body_bytes};
 
 use crate::encoder::{EncodeFault, encode};
 use otlp_span::SpanData;
@@ -23,6 +24,8 @@ pub fn body_of<A: Allocator + Copy>(
 ) -> Result<Vec<u8, A>, EncodeFault>
     ensures meaning { IfOk result
         (λ body. Reads (body_meaning body.items) (model.grouped_triples spans.now)) }
+    ensures canonical { IfOk result
+        (λ body. body.items ≡ body_bytes (model.groups spans.now)) }
     ensures length { IfOk result
         (λ body. length body.items ≡ model.body_length (model.groups spans.now)) }
     ensures within { OnOk result (model.body_length (model.groups spans.now) ≤ max) }

@@ -7,6 +7,7 @@ ghost use Rattle.message_model.specs.Messages.{meaning, body_meaning};
 ghost use Rattle.export_model.specs.Export as model;
 ghost use Rattle.otlp_span.specs.Parts.{kind_view, parent_id_view, resource_view, scope_view};
 ghost use Rattle.scope_group.specs.Group.{scope_group_view, resource_group_view, groups_view};
+ghost use Rattle.otlp_proto.specs.Bodies.{body_bytes};
 ghost use Rattle.otlp_proto.specs.Encode.{Puts, IsWritten};
 
 mod fields;
@@ -202,6 +203,8 @@ pub fn encode<A: Allocator + Copy>(
         IfOk result (λ body. Reads (meaning Tables.request body.items) message) }
     ensures spans { let images = model.triples_of (groups_view groups.now) in
         IfOk result (λ body. Reads (body_meaning body.items) images) }
+    ensures canonical { IfOk result
+        (λ body. body.items ≡ body_bytes (groups_view groups.now)) }
     ensures length { IfOk result
         (λ body. length body.items ≡ model.body_length (groups_view groups.now)) }
     ensures within { OnOk result (model.body_length (groups_view groups.now) ≤ max) }

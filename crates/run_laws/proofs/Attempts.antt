@@ -2,19 +2,19 @@
 use Rattle.std.proofs.Common.{◌≡◌, refl, sym, ap, subst, ◌∙◌, ℕ, ◌+◌, ◌-◌, ◌<◌, ◌≤◌, ◌==◌, nat_lt, min, arith, List, [], ◌∷◌, ◌++◌, length, Bool, true, false, true≢false, cond, ◌&&◌, ◌⊎◌, inl, inr, Option, Some, None, slice_get, option_map, filter_map, length-append}
 use Rattle.std.specs.Prelude.{filter, is_none, is_some, if◌then◌else◌}
 use Rattle.std.specs.List.{AllByRecursion, cons_option}
-use Rattle.std.specs.Option.{option_map_or}
-use Rattle.std.proofs.lemmas.Bool.{eqb-true, eq-eqb, ltb-true, ltb-false, false_from_ne_true}
+use Rattle.std.proofs.lemmas.Bool.{eqb-true, eq-eqb, ltb-false, false_from_ne_true}
 use Rattle.std.proofs.lemmas.List.Elements.{filter_map-append}
 use Rattle.span_model.specs.Attributes.{last_or}
 use Rattle.span_model.specs.Dropped.{queue_full, encode_memory, too_large, abandoned}
 use Rattle.span_model.specs.Spans.{EndedSpan, Call, is_end}
 use Rattle.span_model.specs.Starts.{StartedSpan}
-use Rattle.desk_model.specs.Retries.{Outcome, Cause, Next, again, give_up, next_of, Fate, fate_of}
+use Rattle.desk_model.specs.Retries.{Outcome, Cause, Next, again, give_up, Fate, fate_of}
 use Rattle.desk_model.specs.Queue.{DeskEvent, size_of_take, batch_sizes, last_batch}
 use Rattle.desk_model.specs.Queue as desk
 use Rattle.desk_model.specs.Desks.{is_due, desk_of}
 use Rattle.desk_model.proofs.Lists.{none-more, some-more, last-more}
-use Rattle.retry_model.specs.Waits.{RetryConfig, retried, next_after, wait_of, last_moment}
+use Rattle.retry_model.specs.Waits.{RetryConfig, next_after}
+use Rattle.retry_model.proofs.Again.{again-few}
 use Rattle.history_model.specs.Steps.{Step}
 use Rattle.run_model.specs.Runs.{Ended, queued, handed, late, not_sampled, already_ended, Answer, started, no_randomness, no_span, out_of_memory, done, ended, taken, not_taken, encoded, sent, early, replied, nothing, Answered, ended_by, event_by, events_among, desk_events}
 use Rattle.run_model.specs.Answers.{RunConfig, Progress, not_out, to_encode, to_send, to_judge, to_retry, progress_by, progress, attempts_by, last_attempt, span_at, calls_so_far, takes_memory, is_live, Given, start_answer, end_answer, call_answer, take_answer, encode_answer, attempt_answer, reply_answer, desk_after, answer_to, IsAnswer, AreAnswers}
@@ -57,26 +57,6 @@ of-more x (a ∷ told) = by (a.number == x.number) (of-more x told)
     by : (c : Bool) → of_batch x.number (told ++ x ∷ []) ≡ of_batch x.number told ++ x ∷ [] → cond c (a ∷ of_batch x.number (told ++ x ∷ [])) (of_batch x.number (told ++ x ∷ [])) ≡ cond c (a ∷ of_batch x.number told) (of_batch x.number told) ++ x ∷ []
     by true e = ap (λ l. a ∷ l) e
     by false e = e
-
--- ---- another attempt
-
-never-again : (outcome : Outcome) (moment : ℕ) → next_of outcome ≡ again moment → ⊥
-never-again Outcome.delivered moment e = cc
-never-again (Outcome.partial rejected) moment e = cc
-never-again (Outcome.later status after) moment e = cc
-never-again (Outcome.refused status) moment e = cc
-never-again Outcome.no_reply moment e = cc
-never-again Outcome.bad moment e = cc
-
--- it follows only where there are attempts left
-again-few : (config : RetryConfig) (attempt : ℕ) (outcome : Outcome) (now word moment : ℕ) → next_after config attempt outcome now word ≡ again moment → attempt < config.attempts
-again-few config attempt outcome now word moment e = by (nat_lt attempt config.attempts) refl e
-  where
-    by : (b : Bool) → nat_lt attempt config.attempts ≡ b
-        → (if b then option_map_or (λ after. again (min (now + wait_of config attempt after now word) last_moment)) (retried outcome) (next_of outcome) else next_of outcome) ≡ again moment
-        → attempt < config.attempts
-    by true k e = ltb-true attempt config.attempts k
-    by false k e = absurd (never-again outcome moment e)
 
 -- ---- what is so behind right answers
 
