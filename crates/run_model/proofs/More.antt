@@ -192,6 +192,24 @@ pub last_attempt-some : (h : List Answered) (x : Answered) (n : ℕ) → attempt
 unfolding last_attempt
 last_attempt-some h x n e = ap (last_or 0) (some-more (λ x. attempts_by x.answer) h x n e) ∙ last-more 0 (filter_map (λ x. attempts_by x.answer) h) n
 
+-- an answer that says nothing of where the batch stands says nothing of its attempts
+pub quiet-attempts : (a : Answer) → progress_by a ≡ None → attempts_by a ≡ None
+quiet-attempts (taken number size) e = cc
+quiet-attempts (encoded number size) e = refl
+quiet-attempts (sent number attempt outcome) e = cc
+quiet-attempts (replied number next) e = refl
+quiet-attempts (ended o) e = refl
+quiet-attempts (started ids) e = refl
+quiet-attempts no_randomness e = refl
+quiet-attempts no_span e = refl
+quiet-attempts out_of_memory e = refl
+quiet-attempts done e = refl
+quiet-attempts Answer.flush e = refl
+quiet-attempts Answer.shutdown e = refl
+quiet-attempts not_taken e = refl
+quiet-attempts early e = refl
+quiet-attempts nothing e = refl
+
 pub attempts-none : (h : List Answered) (x : Answered) → attempt_by x.answer ≡ None → attempts (h ++ x ∷ []) ≡ attempts h
 attempts-none h x e = none-more (λ x. attempt_by x.answer) h x e
 

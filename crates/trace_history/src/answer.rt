@@ -55,6 +55,9 @@ pub enum Answer {
         /// What came of it.
         outcome: Outcome,
     },
+    /// To an attempt: it stands before the moment from which the batch is to be sent again. Nothing
+    /// has changed.
+    Early,
     /// To a reply: what follows for the batch.
     Replied {
         /// The number of the batch.

@@ -1,12 +1,15 @@
 -- One more step of a run at its queue: where it stands behind it.
-use Rattle.std.proofs.Common.{◌≡◌, refl, sym, ap, subst, ◌∙◌, ℕ, ◌+◌, ◌≤◌, arith, List, [], ◌∷◌, ◌++◌, length, Bool, true, false, ◌||◌, Option, Some, None, inl}
+use Rattle.std.proofs.Common.{◌≡◌, refl, sym, ap, subst, ◌∙◌, ℕ, ◌+◌, ◌≤◌, arith, List, [], ◌∷◌, ◌++◌, length, Bool, true, false, ◌||◌, ◌⊎◌, Option, Some, None, inl, inr}
+use Rattle.std.specs.Prelude.{if◌then◌else◌}
+use Rattle.std.proofs.lemmas.Bool.{ne_eqb, lt-ltb, le-ltb}
 use Rattle.std.specs.Option.{option_to_list}
 use Rattle.rand_core.specs.Stream.{Stream}
 use Rattle.span_model.specs.Sampling.{SamplerMeaning}
 use Rattle.span_model.specs.Spans.{EndedSpan}
 use Rattle.export_model.specs.Export.{groups, body_length}
 use Rattle.desk_model.specs.Retries as retries
-use Rattle.desk_model.specs.Retries.{delivered, fate_of, next_of}
+use Rattle.desk_model.specs.Retries.{delivered, Next, Fate, fate_of}
+use Rattle.retry_model.specs.Waits.{RetryConfig, next_after}
 use Rattle.desk_model.specs.Queue as queue
 use Rattle.desk_model.specs.Queue.{DeskEvent, last_spans, last_batch, stage, not_out, in_hand, with_exporter}
 use Rattle.desk_model.specs.Desks as desks
@@ -16,10 +19,10 @@ use Rattle.history_model.specs.Steps.{Step, is_shutdown, flush, shutdown, take, 
 use Rattle.run_model.specs.Runs as runs
 use Rattle.run_model.specs.Runs.{Answer, Answered, is_refused, span_steps, ended_by, event_by, desk_events}
 use Rattle.run_model.specs.Answers as model
-use Rattle.run_model.specs.Answers.{RunConfig, Progress, progress, progress_by, desk_after, Given, IsAnswer, take_answer, encode_answer, attempt_answer, reply_answer}
+use Rattle.run_model.specs.Answers.{RunConfig, Progress, progress, progress_by, last_attempt, desk_after, Given, IsAnswer, take_answer, encode_answer, attempt_answer, reply_answer}
 use Rattle.run_model.specs.Headline as headline
 use Rattle.run_model.specs.Headline.{out_as, out_after}
-use Rattle.run_model.proofs.More.{is_shut, steps-none, ended-none, events-same, progress-some}
+use Rattle.run_model.proofs.More.{is_shut, steps-none, ended-none, events-same, progress-some, last_attempt-none, last_attempt-some}
 use Rattle.batch_desk.specs.Batch.{BatchView}
 use Rattle.batch_desk.specs.Desk.{IsOut}
 use Rattle.retry_core.specs.Retries.{outcome_view, next_view}
@@ -28,7 +31,7 @@ use Rattle.trace_history.specs.declared.answer.Answer.{Answer as CodeAnswer}
 use Rattle.trace_history.specs.declared.answer.Answer.TheVariants as answers
 use Rattle.span_exporter.specs.Handed.{Handed}
 use Rattle.span_table.specs.Table.{IsTable, TableWith}
-use Rattle.trace_run.specs.Out.{Stage, to_encode, to_send, to_judge, Out, progress_of, is_sent, shown, IsTied, IsIdle, Takes, TakesBatch, Encodes, EncodesAt, EncodesBatch, HasBody, Sends, SendsAt, SendsBody, SendsNone, Replies, SettlesAt, Settles, SettlesNone}
+use Rattle.trace_run.specs.Out.{Stage, to_encode, to_send, to_judge, to_retry, Out, progress_of, attempts_at, is_sent, shown_as, shown, IsTied, IsIdle, Takes, TakesBatch, Encodes, EncodesAt, EncodesBatch, HasBody, Sends, SendsAt, SendsFirst, SendsAgain, IsEarly, SendsNone, Replies, JudgesAt, Judges, Settles, PutsOff, SettlesNone}
 use Rattle.trace_run.specs.State.{Stands}
 use Rattle.trace_run.proofs.Standing.{IsQuiet, or-false, tied-kept, desk-is, stands-on, out-stays, quiet-on}
 
@@ -46,22 +49,36 @@ abbrev pub spans_in : Option headline.OutBatch → List EndedSpan
 spans_in None = []
 spans_in (Some b) = b.spans
 
-pub progress-is : (p : Progress) (spans : List EndedSpan) (number : ℕ) (o : Option headline.OutBatch) → o ≡ out_as p spans number → progress_in o ≡ p
-progress-is model.not_out spans number o e = ap progress_in e
-progress-is model.to_encode spans number o e = ap progress_in e
-progress-is model.to_send spans number o e = ap progress_in e
-progress-is (model.to_judge outcome) spans number o e = ap progress_in e
+abbrev pub attempts_in : Option headline.OutBatch → ℕ
+attempts_in None = 0
+attempts_in (Some b) = b.attempts
 
-pub record Shows (b : headline.OutBatch) (p : Progress) (es : List EndedSpan) (n : ℕ) : Type 0 where
+pub progress-is : (p : Progress) (spans : List EndedSpan) (number attempts : ℕ) (o : Option headline.OutBatch) → o ≡ out_as p spans number attempts → progress_in o ≡ p
+progress-is model.not_out spans number attempts o e = ap progress_in e
+progress-is model.to_encode spans number attempts o e = ap progress_in e
+progress-is model.to_send spans number attempts o e = ap progress_in e
+progress-is (model.to_judge outcome) spans number attempts o e = ap progress_in e
+progress-is (model.to_retry moment) spans number attempts o e = ap progress_in e
+
+pub record Shows (b : headline.OutBatch) (p : Progress) (es : List EndedSpan) (n k : ℕ) : Type 0 where
   pub stage : b.progress ≡ p
   pub number : b.number ≡ n
   pub spans : b.spans ≡ es
+  pub attempts : b.attempts ≡ k
 
-pub shows : (b : headline.OutBatch) (p : Progress) (spans : List EndedSpan) (number : ℕ) → Some b ≡ out_as p spans number → Shows b p spans number
-shows b model.not_out spans number e = cc
-shows b model.to_encode spans number e = record { stage = ap progress_in e; number = ap number_in e; spans = ap spans_in e }
-shows b model.to_send spans number e = record { stage = ap progress_in e; number = ap number_in e; spans = ap spans_in e }
-shows b (model.to_judge outcome) spans number e = record { stage = ap progress_in e; number = ap number_in e; spans = ap spans_in e }
+pub shows : (b : headline.OutBatch) (p : Progress) (spans : List EndedSpan) (number attempts : ℕ) → Some b ≡ out_as p spans number attempts → Shows b p spans number attempts
+shows b model.not_out spans number attempts e = cc
+shows b model.to_encode spans number attempts e = record { stage = ap progress_in e; number = ap number_in e; spans = ap spans_in e; attempts = ap attempts_in e }
+shows b model.to_send spans number attempts e = record { stage = ap progress_in e; number = ap number_in e; spans = ap spans_in e; attempts = ap attempts_in e }
+shows b (model.to_judge outcome) spans number attempts e = record { stage = ap progress_in e; number = ap number_in e; spans = ap spans_in e; attempts = ap attempts_in e }
+shows b (model.to_retry moment) spans number attempts e = record { stage = ap progress_in e; number = ap number_in e; spans = ap spans_in e; attempts = ap attempts_in e }
+
+-- what ends a batch is no retry
+ends-batch : (number : ℕ) (next : Next) (fate : Fate) → fate_of next ≡ Some fate → progress_by (runs.replied number next) ≡ Some model.not_out
+ends-batch number retries.done fate e = refl
+ends-batch number (retries.Next.partial rejected) fate e = refl
+ends-batch number (retries.again moment) fate e = cc
+ends-batch number (retries.give_up cause) fate e = refl
 
 -- the number that the desk knows
 abbrev number_out : Option OutBatch → ℕ
@@ -135,7 +152,7 @@ module _ {S R : Type 0} (meaning : S → SamplerMeaning) (stream : R → Stream)
       let known : last_batch (events ++ event ∷ []) ≡ t.batch.number = out-known (events ++ event ∷ []) desk2 false t.batch does t.in_hand in
       stands-on meaning stream run h table desk out at x table desk2 out2 (Some event) (same-spans x refl) same (inl refl) refl does
       t.keeps.config t.keeps.next_ticket (t.keeps.closed ∙ at.closed ∙ sym (or-false (is_shut h))) no-more (subst (IsTied desk2) (sym t.out) t.in_hand)
-      (ap shown t.out ∙ (λ i. out_as (sym (progress-some h x model.to_encode refl) i) ((spans ∙ ap last_spans (sym grown)) i) ((sym known ∙ ap last_batch (sym grown)) i)))
+      (ap shown t.out ∙ (λ i. out_as (sym (progress-some h x model.to_encode refl) i) ((spans ∙ ap last_spans (sym grown)) i) ((sym known ∙ ap last_batch (sym grown)) i) (sym (last_attempt-some h x 0 refl) i)))
       (record { given = record { refused = false; outcome = delivered }; is = right ∙ ap (λ d. take_answer d now) (desk-is meaning stream run h table desk out at) })
 
   not-taken-on : (now : ℕ) → runs.not_taken ≡ take_answer desk now → Stands meaning stream run (h ++ record { step = take now; answer = runs.not_taken } ∷ []) table desk out
@@ -160,15 +177,16 @@ module _ {S R : Type 0} (meaning : S → SamplerMeaning) (stream : R → Stream)
   take-on now (answers.Encoded number size) desk2 out2 right t = absurd t
   take-on now (answers.Sent number k outcome) desk2 out2 right t = absurd t
   take-on now (answers.Replied number next) desk2 out2 right t = absurd t
+  take-on now answers.Early desk2 out2 right t = absurd t
   take-on now answers.Nothing desk2 out2 right t = absurd t
 
   -- ---- the batch that is out
 
-  out-shows : (o : Out) → out ≡ Some o → Shows (record { number = o.batch.number; spans = o.batch.spans; progress = progress_of o.stage }) (progress h) (last_spans events) (last_batch events)
-  out-shows o e = shows _ (progress h) (last_spans events) (last_batch events) (sym (ap shown e) ∙ at.out_is)
+  out-shows : (o : Out) → out ≡ Some o → Shows (shown_as o) (progress h) (last_spans events) (last_batch events) (last_attempt h)
+  out-shows o e = shows (shown_as o) (progress h) (last_spans events) (last_batch events) (last_attempt h) (sym (ap shown e) ∙ at.out_is)
 
   out-none : out ≡ None → progress h ≡ model.not_out
-  out-none e = sym (progress-is (progress h) (last_spans events) (last_batch events) None (sym (ap shown e) ∙ at.out_is))
+  out-none e = sym (progress-is (progress h) (last_spans events) (last_batch events) (last_attempt h) None (sym (ap shown e) ∙ at.out_is))
 
   -- nothing is done where the batch stands elsewhere, or none is out
   nothing-on : (step : Step) (answer : CodeAnswer) (desk2 : Desk) (out2 : Option Out) → IsIdle out answer out2 → desk2 ≡ desk → is_shutdown step ≡ false
@@ -190,7 +208,7 @@ module _ {S R : Type 0} (meaning : S → SamplerMeaning) (stream : R → Stream)
       let tied : IsOut (is_sent o.stage) desk o.batch = subst (IsTied desk) e at.tied in
       stands-on meaning stream run h table desk out at x table desk out2 None (same-spans x refl) same (inl refl) refl (subst (λ es. IsDesk 0 es desk) (sym (Rattle.std.proofs.lemmas.List.append-nil events)) at.history)
       refl refl (at.closed ∙ sym (or-false (is_shut h))) no-more (subst (IsTied desk) (sym b.out) (subst (λ g. IsOut (is_sent g) desk o.batch) s tied))
-      (ap shown b.out ∙ (λ i. out_as (sym (progress-some h x model.to_send refl) i) ((sh.spans ∙ ap last_spans (sym grown)) i) ((sh.number ∙ ap last_batch (sym grown)) i)))
+      (ap shown b.out ∙ (λ i. out_as (sym (progress-some h x model.to_send refl) i) ((sh.spans ∙ ap last_spans (sym grown)) i) ((sh.number ∙ ap last_batch (sym grown)) i) ((sym (ap attempts_at s) ∙ sh.attempts ∙ sym (last_attempt-none h x refl)) i)))
       (record {
         given = record { refused = false; outcome = delivered };
         is =
@@ -224,6 +242,7 @@ module _ {S R : Type 0} (meaning : S → SamplerMeaning) (stream : R → Stream)
   encodes-batch o e s answers.Shutdown out2 t = absurd t
   encodes-batch o e s (answers.Sent number k outcome) out2 t = absurd t
   encodes-batch o e s (answers.Replied number next) out2 t = absurd t
+  encodes-batch o e s answers.Early out2 t = absurd t
   encodes-batch o e s answers.Nothing out2 t = absurd t
 
   -- where the batch stands elsewhere
@@ -239,7 +258,8 @@ module _ {S R : Type 0} (meaning : S → SamplerMeaning) (stream : R → Stream)
       staged : (o : Out) → out ≡ Some o → (s : Stage) → o.stage ≡ s → EncodesAt s o answer out2 → Stands meaning stream run (h ++ record { step = encode; answer = answer_view answer } ∷ []) table desk out2
       staged o e to_encode s t = encodes-batch o e s answer out2 t
       staged o e (to_send body) s t = let sh = out-shows o e in idle (Some o) e model.to_send (sym sh.stage ∙ ap progress_of s) (λ d. refl) t
-      staged o e (to_judge outcome) s t = let sh = out-shows o e in idle (Some o) e (model.to_judge outcome) (sym sh.stage ∙ ap progress_of s) (λ d. refl) t
+      staged o e (to_judge body k outcome) s t = let sh = out-shows o e in idle (Some o) e (model.to_judge outcome) (sym sh.stage ∙ ap progress_of s) (λ d. refl) t
+      staged o e (to_retry body attempts moment) s t = let sh = out-shows o e in idle (Some o) e (model.to_retry moment) (sym sh.stage ∙ ap progress_of s) (λ d. refl) t
 
       by : (o : Option Out) → out ≡ o → Encodes o answer out2 → Stands meaning stream run (h ++ record { step = encode; answer = answer_view answer } ∷ []) table desk out2
       by None e t = idle None e model.not_out (out-none e) (λ d. refl) t
@@ -247,77 +267,157 @@ module _ {S R : Type 0} (meaning : S → SamplerMeaning) (stream : R → Stream)
 
   -- ---- attempts
 
-  sent-on : (now : ℕ) (o : Out) → out ≡ Some o → (body : List ℕ) → o.stage ≡ to_send body → (answer : CodeAnswer) (desk2 : Desk) (out2 : Option Out) (before after : Option (List Handed)) → SendsBody body o.batch answer desk desk2 out2 before after
+  number-of : (o : Out) → out ≡ Some o → o.batch.number ≡ (desk_after run h).batches
+  number-of o e = let sh = out-shows o e in sh.number ∙ sym number-is ∙ ap (λ k. k.batches) (desk-is meaning stream run h table desk out at)
+
+  first-on : (now : ℕ) (o : Out) → out ≡ Some o → (body : List ℕ) → o.stage ≡ to_send body → (answer : CodeAnswer) (desk2 : Desk) (out2 : Option Out) (before after : Option (List Handed)) → SendsFirst body o.batch answer desk desk2 out2 before after
       → Stands meaning stream run (h ++ record { step = attempt now; answer = answer_view answer } ∷ []) table desk2 out2
-  sent-on now o e body s answer desk2 out2 before after t =
-      let told = outcome_view t.outcome in
+  first-on now o e body s answer desk2 out2 before after t =
+      let told = outcome_view t.sends.outcome in
       let x : Answered = record { step = attempt now; answer = runs.sent o.batch.number 1 told } in
       let same = ended-none run.setup h x refl in
       let sh = out-shows o e in
       let grown : desk_events run.setup (h ++ x ∷ []) ≡ events ++ queue.handed ∷ [] = events-same run.setup h x (Some queue.handed) same refl in
-      subst (λ a. Stands meaning stream run (h ++ record { step = attempt now; answer = answer_view a } ∷ []) table desk2 out2) (sym t.answered)
+      subst (λ a. Stands meaning stream run (h ++ record { step = attempt now; answer = answer_view a } ∷ []) table desk2 out2) (sym t.sends.answered)
       (stands-on meaning stream run h table desk out at x table desk2 out2 (Some queue.handed) (same-spans x refl) same (inl refl) refl (t.does 0 events at.history)
-      t.keeps.config t.keeps.next_ticket (t.keeps.closed ∙ at.closed ∙ sym (or-false (is_shut h))) no-more (subst (IsTied desk2) (sym t.out) t.with_exporter)
-      (ap shown t.out ∙ (λ i. out_as (sym (progress-some h x (model.to_judge told) refl) i) ((sh.spans ∙ sym (last-kept events queue.handed refl refl) ∙ ap last_spans (sym grown)) i)
-      ((sh.number ∙ sym (ap length (sizes-kept events queue.handed refl)) ∙ ap last_batch (sym grown)) i)))
+      t.keeps.config t.keeps.next_ticket (t.keeps.closed ∙ at.closed ∙ sym (or-false (is_shut h))) no-more (subst (IsTied desk2) (sym t.sends.out) t.with_exporter)
+      (ap shown t.sends.out ∙ (λ i. out_as (sym (progress-some h x (model.to_judge told) refl) i) ((sh.spans ∙ sym (last-kept events queue.handed refl refl) ∙ ap last_spans (sym grown)) i)
+      ((sh.number ∙ sym (ap length (sizes-kept events queue.handed refl)) ∙ ap last_batch (sym grown)) i) (sym (last_attempt-some h x 1 refl) i)))
       (record {
         given = record { refused = false; outcome = told };
-        is =
-            let n : o.batch.number ≡ (desk_after run h).batches = sh.number ∙ sym number-is ∙ ap (λ k. k.batches) (desk-is meaning stream run h table desk out at) in
-            ap (λ k. runs.sent k 1 told) n ∙ ap (attempt_answer (desk_after run h) told) (sym (sym sh.stage ∙ ap progress_of s));
+        is = ap (λ k. runs.sent k 1 told) (number-of o e) ∙ ap (attempt_answer h (desk_after run h) told now) (sym (sym sh.stage ∙ ap progress_of s));
       }))
 
-  pub attempt-on : (now : ℕ) (answer : CodeAnswer) (desk2 : Desk) (out2 : Option Out) (before after : Option (List Handed)) → Sends out answer desk desk2 out2 before after
+  module _ (now : ℕ) (o : Out) (e : out ≡ Some o) (body : List ℕ) (attempts moment : ℕ) (s : o.stage ≡ to_retry body attempts moment) (answer : CodeAnswer) (desk2 : Desk) (out2 : Option Out) (before after : Option (List Handed)) where
+    stage-is : progress h ≡ model.to_retry moment
+    stage-is = let sh = out-shows o e in sym sh.stage ∙ ap progress_of s
+
+    had : attempts ≡ last_attempt h
+    had = let sh = out-shows o e in sym (ap attempts_at s) ∙ sh.attempts
+
+    again-on : SendsAgain now moment attempts body o.batch answer desk desk2 out2 before after → Stands meaning stream run (h ++ record { step = attempt now; answer = answer_view answer } ∷ []) table desk2 out2
+    again-on t =
+        let told = outcome_view t.sends.outcome in
+        let x : Answered = record { step = attempt now; answer = runs.sent o.batch.number (attempts + 1) told } in
+        let same = ended-none run.setup h x refl in
+        let sh = out-shows o e in
+        let none : event_by (ended_by run.setup h) x.answer x.step ≡ None = ap (λ b. if b then Some queue.handed else None) (ne_eqb (attempts + 1) 1 (λ k. let l = t.some in absurd (omega (arith, k, l)))) in
+        let grown : desk_events run.setup (h ++ x ∷ []) ≡ events = events-same run.setup h x None same none ∙ Rattle.std.proofs.lemmas.List.append-nil events in
+        let tied : IsOut (is_sent o.stage) desk o.batch = subst (IsTied desk) e at.tied in
+        subst (λ a. Stands meaning stream run (h ++ record { step = attempt now; answer = answer_view a } ∷ []) table desk2 out2) (sym t.sends.answered)
+        (subst (λ d. Stands meaning stream run (h ++ x ∷ []) table d out2) (sym t.desk_same)
+        (stands-on meaning stream run h table desk out at x table desk out2 None (same-spans x refl) same (inl refl) none (subst (λ es. IsDesk 0 es desk) (sym (Rattle.std.proofs.lemmas.List.append-nil events)) at.history)
+        refl refl (at.closed ∙ sym (or-false (is_shut h))) no-more (subst (IsTied desk) (sym t.sends.out) (subst (λ g. IsOut (is_sent g) desk o.batch) s tied))
+        (ap shown t.sends.out ∙ (λ i. out_as (sym (progress-some h x (model.to_judge told) refl) i) ((sh.spans ∙ ap last_spans (sym grown)) i) ((sh.number ∙ ap last_batch (sym grown)) i) (sym (last_attempt-some h x (attempts + 1) refl) i)))
+        (record {
+          given = record { refused = false; outcome = told };
+          is =
+              (λ i. runs.sent (number-of o e i) (had i + 1) told)
+              ∙ ap (λ b. if b then runs.early else runs.sent (desk_after run h).batches (last_attempt h + 1) told) (sym (le-ltb now moment t.due))
+              ∙ ap (attempt_answer h (desk_after run h) told now) (sym stage-is);
+        })))
+
+    early-on : IsEarly now moment (Some o) answer desk desk2 out2 before after → Stands meaning stream run (h ++ record { step = attempt now; answer = answer_view answer } ∷ []) table desk2 out2
+    early-on t =
+        let Goal : CodeAnswer → Desk → Option Out → Type 0 = λ a d o. Stands meaning stream run (h ++ record { step = attempt now; answer = answer_view a } ∷ []) table d o in
+        subst (λ d. Goal answer d out2) (sym t.desk_same) (subst (λ o. Goal answer desk o) (sym (t.same ∙ sym e)) (subst (λ a. Goal a desk out) (sym t.answered)
+        (idle-on (record { step = attempt now; answer = runs.early }) (record { ticket = refl; event = λ spans. refl; stage = refl; attempt = refl }) refl refl
+        (record {
+          given = record { refused = false; outcome = delivered };
+          is = ap (λ b. if b then runs.early else runs.sent (desk_after run h).batches (last_attempt h + 1) delivered) (sym (lt-ltb now moment t.early)) ∙ ap (attempt_answer h (desk_after run h) delivered now) (sym stage-is);
+        }))))
+
+    retry-on : SendsAgain now moment attempts body o.batch answer desk desk2 out2 before after ⊎ IsEarly now moment (Some o) answer desk desk2 out2 before after → Stands meaning stream run (h ++ record { step = attempt now; answer = answer_view answer } ∷ []) table desk2 out2
+    retry-on (inl t) = again-on t
+    retry-on (inr t) = early-on t
+
+  pub attempt-on : (now : ℕ) (answer : CodeAnswer) (desk2 : Desk) (out2 : Option Out) (before after : Option (List Handed)) → Sends now out answer desk desk2 out2 before after
       → Stands meaning stream run (h ++ record { step = attempt now; answer = answer_view answer } ∷ []) table desk2 out2
   attempt-on now answer desk2 out2 before after t = by out refl t
     where
-      idle : (o : Option Out) → out ≡ o → (p : Progress) → progress h ≡ p → ((d : Desk) → attempt_answer d delivered p ≡ runs.nothing) → SendsNone o answer desk desk2 out2 before after → Stands meaning stream run (h ++ record { step = attempt now; answer = answer_view answer } ∷ []) table desk2 out2
+      idle : (o : Option Out) → out ≡ o → (p : Progress) → progress h ≡ p → ((d : Desk) → attempt_answer h d delivered now p ≡ runs.nothing) → SendsNone o answer desk desk2 out2 before after → Stands meaning stream run (h ++ record { step = attempt now; answer = answer_view answer } ∷ []) table desk2 out2
       idle o e p q f i = nothing-on (attempt now) answer desk2 out2 (subst (λ b. IsIdle b answer out2) (sym e) i.idle) i.desk_same refl (λ refused. refl)
-          (record { given = record { refused = false; outcome = delivered }; is = sym (ap (attempt_answer (desk_after run h) delivered) q ∙ f (desk_after run h)) })
+          (record { given = record { refused = false; outcome = delivered }; is = sym (ap (attempt_answer h (desk_after run h) delivered now) q ∙ f (desk_after run h)) })
 
-      staged : (o : Out) → out ≡ Some o → (s : Stage) → o.stage ≡ s → SendsAt s o answer desk desk2 out2 before after → Stands meaning stream run (h ++ record { step = attempt now; answer = answer_view answer } ∷ []) table desk2 out2
+      staged : (o : Out) → out ≡ Some o → (s : Stage) → o.stage ≡ s → SendsAt now s o answer desk desk2 out2 before after → Stands meaning stream run (h ++ record { step = attempt now; answer = answer_view answer } ∷ []) table desk2 out2
       staged o e to_encode s t = let sh = out-shows o e in idle (Some o) e model.to_encode (sym sh.stage ∙ ap progress_of s) (λ d. refl) t
-      staged o e (to_send body) s t = sent-on now o e body s answer desk2 out2 before after t
-      staged o e (to_judge outcome) s t = let sh = out-shows o e in idle (Some o) e (model.to_judge outcome) (sym sh.stage ∙ ap progress_of s) (λ d. refl) t
+      staged o e (to_send body) s t = first-on now o e body s answer desk2 out2 before after t
+      staged o e (to_judge body k outcome) s t = let sh = out-shows o e in idle (Some o) e (model.to_judge outcome) (sym sh.stage ∙ ap progress_of s) (λ d. refl) t
+      staged o e (to_retry body attempts moment) s t = retry-on now o e body attempts moment s answer desk2 out2 before after t
 
-      by : (o : Option Out) → out ≡ o → Sends o answer desk desk2 out2 before after → Stands meaning stream run (h ++ record { step = attempt now; answer = answer_view answer } ∷ []) table desk2 out2
+      by : (o : Option Out) → out ≡ o → Sends now o answer desk desk2 out2 before after → Stands meaning stream run (h ++ record { step = attempt now; answer = answer_view answer } ∷ []) table desk2 out2
       by None e t = idle None e model.not_out (out-none e) (λ d. refl) t
       by (Some o) e t = staged o e o.stage refl t
 
   -- ---- replies
 
-  settled-on : (now word : ℕ) (o : Out) → out ≡ Some o → (outcome : retries.Outcome) → o.stage ≡ to_judge outcome → (answer : CodeAnswer) (desk2 : Desk) (out2 : Option Out) → Settles outcome o.batch answer desk desk2 out2
-      → Stands meaning stream run (h ++ record { step = reply now word; answer = answer_view answer } ∷ []) table desk2 out2
-  settled-on now word o e outcome s answer desk2 out2 t =
-      let x : Answered = record { step = reply now word; answer = runs.replied o.batch.number (next_view t.next) } in
-      let event : DeskEvent = queue.settled t.fate in
-      let same = ended-none run.setup h x refl in
-      let sh = out-shows o e in
-      let is_event : event_by (ended_by run.setup h) x.answer x.step ≡ Some event = ap (Rattle.std.specs.Prelude.option_map queue.settled) (ap fate_of t.decided ∙ t.ends) in
-      subst (λ a. Stands meaning stream run (h ++ record { step = reply now word; answer = answer_view a } ∷ []) table desk2 out2) (sym t.answered)
-      (stands-on meaning stream run h table desk out at x table desk2 out2 (Some event) (same-spans x refl) same (inl refl) is_event (t.does 0 events at.history)
-      t.keeps.config t.keeps.next_ticket (t.keeps.closed ∙ at.closed ∙ sym (or-false (is_shut h))) no-more (subst (IsTied desk2) (sym t.out) t.gone)
-      (ap shown t.out ∙ ap (λ p. out_as p (last_spans (desk_events run.setup (h ++ x ∷ []))) (last_batch (desk_events run.setup (h ++ x ∷ [])))) (sym (progress-some h x model.not_out refl)))
-      (record {
-        given = record { refused = false; outcome = delivered };
-        is =
-            let n : o.batch.number ≡ (desk_after run h).batches = sh.number ∙ sym number-is ∙ ap (λ k. k.batches) (desk-is meaning stream run h table desk out at) in
-            (λ i. runs.replied (n i) (t.decided i)) ∙ ap (reply_answer (desk_after run h)) (sym (sym sh.stage ∙ ap progress_of s));
-      }))
+  module _ (now word : ℕ) (o : Out) (e : out ≡ Some o) (body : List ℕ) (k : ℕ) (outcome : retries.Outcome) (s : o.stage ≡ to_judge body k outcome) where
+    abbrev decided : Next
+    decided = next_after run.retry k outcome now word
 
-  pub reply-on : (now word : ℕ) (answer : CodeAnswer) (desk2 : Desk) (out2 : Option Out) → Replies out answer desk desk2 out2
+    is-decided : (next : Next) → next ≡ decided → IsAnswer run h (record { step = reply now word; answer = runs.replied o.batch.number next })
+    is-decided next is =
+        let sh = out-shows o e in
+        let had-so-many : k ≡ last_attempt h = sym (ap attempts_at s) ∙ sh.attempts in
+        record {
+          given = record { refused = false; outcome = delivered };
+          is =
+              (λ i. runs.replied (number-of o e i) (is i))
+              ∙ ap (λ a. runs.replied (desk_after run h).batches (next_after run.retry a outcome now word)) had-so-many
+              ∙ ap (reply_answer run h (desk_after run h) now word) (sym (sym sh.stage ∙ ap progress_of s));
+        }
+
+    settled-on : (answer : CodeAnswer) (desk2 : Desk) (out2 : Option Out) → Settles decided o.batch answer desk desk2 out2 → Stands meaning stream run (h ++ record { step = reply now word; answer = answer_view answer } ∷ []) table desk2 out2
+    settled-on answer desk2 out2 t =
+        let x : Answered = record { step = reply now word; answer = runs.replied o.batch.number (next_view t.next) } in
+        let event : DeskEvent = queue.settled t.fate in
+        let same = ended-none run.setup h x refl in
+        let is_event : event_by (ended_by run.setup h) x.answer x.step ≡ Some event = ap (Rattle.std.specs.Prelude.option_map queue.settled) (ap fate_of t.is ∙ t.ends) in
+        let over : progress_by x.answer ≡ Some model.not_out = ends-batch o.batch.number (next_view t.next) t.fate (ap fate_of t.is ∙ t.ends) in
+        subst (λ a. Stands meaning stream run (h ++ record { step = reply now word; answer = answer_view a } ∷ []) table desk2 out2) (sym t.answered)
+        (stands-on meaning stream run h table desk out at x table desk2 out2 (Some event) (same-spans x refl) same (inl refl) is_event (t.does 0 events at.history)
+        t.keeps.config t.keeps.next_ticket (t.keeps.closed ∙ at.closed ∙ sym (or-false (is_shut h))) no-more (subst (IsTied desk2) (sym t.out) t.gone)
+        (ap shown t.out ∙ ap (λ p. out_as p (last_spans (desk_events run.setup (h ++ x ∷ []))) (last_batch (desk_events run.setup (h ++ x ∷ []))) (last_attempt (h ++ x ∷ []))) (sym (progress-some h x model.not_out over)))
+        (is-decided (next_view t.next) t.is))
+
+    put-off-on : (answer : CodeAnswer) (desk2 : Desk) (out2 : Option Out) → PutsOff decided body k o.batch answer desk desk2 out2 → Stands meaning stream run (h ++ record { step = reply now word; answer = answer_view answer } ∷ []) table desk2 out2
+    put-off-on answer desk2 out2 t =
+        let x : Answered = record { step = reply now word; answer = runs.replied o.batch.number (retries.again t.moment) } in
+        let same = ended-none run.setup h x refl in
+        let sh = out-shows o e in
+        let grown : desk_events run.setup (h ++ x ∷ []) ≡ events = events-same run.setup h x None same refl ∙ Rattle.std.proofs.lemmas.List.append-nil events in
+        let tied : IsOut (is_sent o.stage) desk o.batch = subst (IsTied desk) e at.tied in
+        let said : answer_view answer ≡ x.answer = ap answer_view t.answered ∙ ap (runs.replied o.batch.number) (t.is ∙ t.again) in
+        subst (λ a. Stands meaning stream run (h ++ record { step = reply now word; answer = a } ∷ []) table desk2 out2) (sym said)
+        (subst (λ d. Stands meaning stream run (h ++ x ∷ []) table d out2) (sym t.desk_same)
+        (stands-on meaning stream run h table desk out at x table desk out2 None (same-spans x refl) same (inl refl) refl (subst (λ es. IsDesk 0 es desk) (sym (Rattle.std.proofs.lemmas.List.append-nil events)) at.history)
+        refl refl (at.closed ∙ sym (or-false (is_shut h))) no-more (subst (IsTied desk) (sym t.out) (subst (λ g. IsOut (is_sent g) desk o.batch) s tied))
+        (ap shown t.out ∙ (λ i. out_as (sym (progress-some h x (model.to_retry t.moment) refl) i) ((sh.spans ∙ ap last_spans (sym grown)) i) ((sh.number ∙ ap last_batch (sym grown)) i)
+        ((sym (ap attempts_at s) ∙ sh.attempts ∙ sym (last_attempt-none h x refl)) i)))
+        (is-decided (retries.again t.moment) (sym t.again))))
+
+    judged-on : (answer : CodeAnswer) (desk2 : Desk) (out2 : Option Out) → Judges decided body k o.batch answer desk desk2 out2 → Stands meaning stream run (h ++ record { step = reply now word; answer = answer_view answer } ∷ []) table desk2 out2
+    judged-on answer desk2 out2 (inl t) = settled-on answer desk2 out2 t
+    judged-on answer desk2 out2 (inr t) = put-off-on answer desk2 out2 t
+
+  reply-at : (now word : ℕ) (answer : CodeAnswer) (desk2 : Desk) (out2 : Option Out) → Replies run.retry now word out answer desk desk2 out2
       → Stands meaning stream run (h ++ record { step = reply now word; answer = answer_view answer } ∷ []) table desk2 out2
-  reply-on now word answer desk2 out2 t = by out refl t
+  reply-at now word answer desk2 out2 t = by out refl t
     where
-      idle : (o : Option Out) → out ≡ o → (p : Progress) → progress h ≡ p → ((d : Desk) → reply_answer d p ≡ runs.nothing) → SettlesNone o answer desk desk2 out2 → Stands meaning stream run (h ++ record { step = reply now word; answer = answer_view answer } ∷ []) table desk2 out2
+      idle : (o : Option Out) → out ≡ o → (p : Progress) → progress h ≡ p → ((d : Desk) → reply_answer run h d now word p ≡ runs.nothing) → SettlesNone o answer desk desk2 out2 → Stands meaning stream run (h ++ record { step = reply now word; answer = answer_view answer } ∷ []) table desk2 out2
       idle o e p q f i = nothing-on (reply now word) answer desk2 out2 (subst (λ b. IsIdle b answer out2) (sym e) i.idle) i.desk_same refl (λ refused. refl)
-          (record { given = record { refused = false; outcome = delivered }; is = sym (ap (reply_answer (desk_after run h)) q ∙ f (desk_after run h)) })
+          (record { given = record { refused = false; outcome = delivered }; is = sym (ap (reply_answer run h (desk_after run h) now word) q ∙ f (desk_after run h)) })
 
-      staged : (o : Out) → out ≡ Some o → (s : Stage) → o.stage ≡ s → SettlesAt s o answer desk desk2 out2 → Stands meaning stream run (h ++ record { step = reply now word; answer = answer_view answer } ∷ []) table desk2 out2
+      staged : (o : Out) → out ≡ Some o → (s : Stage) → o.stage ≡ s → JudgesAt run.retry now word s o answer desk desk2 out2 → Stands meaning stream run (h ++ record { step = reply now word; answer = answer_view answer } ∷ []) table desk2 out2
       staged o e to_encode s t = let sh = out-shows o e in idle (Some o) e model.to_encode (sym sh.stage ∙ ap progress_of s) (λ d. refl) t
       staged o e (to_send body) s t = let sh = out-shows o e in idle (Some o) e model.to_send (sym sh.stage ∙ ap progress_of s) (λ d. refl) t
-      staged o e (to_judge outcome) s t = settled-on now word o e outcome s answer desk2 out2 t
+      staged o e (to_judge body k outcome) s t = judged-on now word o e body k outcome s answer desk2 out2 t
+      staged o e (to_retry body attempts moment) s t = let sh = out-shows o e in idle (Some o) e (model.to_retry moment) (sym sh.stage ∙ ap progress_of s) (λ d. refl) t
 
-      by : (o : Option Out) → out ≡ o → Replies o answer desk desk2 out2 → Stands meaning stream run (h ++ record { step = reply now word; answer = answer_view answer } ∷ []) table desk2 out2
+      by : (o : Option Out) → out ≡ o → Replies run.retry now word o answer desk desk2 out2 → Stands meaning stream run (h ++ record { step = reply now word; answer = answer_view answer } ∷ []) table desk2 out2
       by None e t = idle None e model.not_out (out-none e) (λ d. refl) t
       by (Some o) e t = staged o e o.stage refl t
+
+  pub reply-on : (retry : RetryConfig) → run.retry ≡ retry → (now word : ℕ) (answer : CodeAnswer) (desk2 : Desk) (out2 : Option Out) → Replies retry now word out answer desk desk2 out2
+      → Stands meaning stream run (h ++ record { step = reply now word; answer = answer_view answer } ∷ []) table desk2 out2
+  reply-on retry same now word answer desk2 out2 t = reply-at now word answer desk2 out2 (subst (λ r. Replies r now word out answer desk desk2 out2) (sym same) t)

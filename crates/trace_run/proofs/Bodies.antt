@@ -1,6 +1,7 @@
 -- The bodies that were sent go on to mean their batches.
-use Rattle.std.proofs.Common.{◌≡◌, sym, ap, subst, ◌∙◌, ◌+◌, ◌≤◌, arith, List, [], ◌∷◌, ◌++◌, length, length-append}
+use Rattle.std.proofs.Common.{◌≡◌, sym, ap, subst, ◌∙◌, ℕ, zero, suc, ◌+◌, ◌≤◌, arith, Option, Some, slice_get, List, [], ◌∷◌, ◌++◌, length, length-append}
 use Rattle.std.specs.Option.{option_to_list}
+use Rattle.std.specs.List.{AllByRecursion}
 use Rattle.std.proofs.lemmas.List.Elements.{filter_map-append}
 use Rattle.desk_model.specs.Queue.{DeskEvent, batch_sizes, batch_spans, last_batch, size_of_take}
 use Rattle.desk_model.specs.Desks.{Desk, IsDesk, AreAllowed}
@@ -10,8 +11,11 @@ use Rattle.run_model.specs.Runs.{Answered, ended_by, event_by, desk_events}
 use Rattle.run_model.proofs.More.{AreBelow, events-more}
 use Rattle.run_laws.specs.Laws.{OfHistories, EndedSpansStay}
 use Rattle.span_exporter.specs.Handed.{Handed}
-use Rattle.trace_run.specs.Out.{MeansSpans}
-use Rattle.trace_run.specs.State.{MeansItsBatch}
+use Rattle.trace_run.specs.Out.{IsBodyOf}
+use Rattle.trace_run.specs.State.{MeansItsBatch, TellsAll, RepeatsBytes, IsHandedOver}
+use Rattle.export_model.specs.Export.{groups}
+use Rattle.otlp_proto.specs.Bodies.{body_bytes}
+use Rattle.run_model.specs.Headline.{attempts}
 
 last-grows : (events more : List DeskEvent) → last_batch events ≤ last_batch (events ++ more)
 last-grows events more =
@@ -25,7 +29,7 @@ body-stays stay ended setup h x desk below after handed m = record {
   taken =
       let grown : last_batch (desk_events setup h) ≤ last_batch (desk_events setup (h ++ x ∷ [])) = subst (λ (es : List DeskEvent). last_batch (desk_events setup h) ≤ last_batch es) (sym grows) (last-grows (desk_events setup h) more) in
       omega (arith, grown, m.taken);
-  means = subst (λ spans. MeansSpans spans handed.body) (sym same) m.means;
+  body = subst (λ spans. IsBodyOf spans handed.body) (sym same) m.body;
 }
   where
     more : List DeskEvent
@@ -38,3 +42,20 @@ body-stays stay ended setup h x desk below after handed m = record {
     same =
         ap (λ es. batch_spans es handed.number) grows
         ∙ stay desk.config 0 (desk_events setup h) more handed.number (subst (AreAllowed desk.config 0) grows after.allowed) m.numbered m.taken
+
+-- ---- each retry repeats the bytes
+
+at-index : (P : Handed → Type 0) (xs : List Handed) → AllByRecursion P xs → (i : ℕ) (x : Handed) → slice_get xs i ≡ Some x → P x
+at-index P [] all i x e = cc
+at-index P (y ∷ xs) all zero x e = let same : y ≡ x = cc in subst P same all.0
+at-index P (y ∷ xs) all (suc i) x e = at-index P xs all.1 i x e
+
+-- the bytes are those of the batch with the number
+repeats : (setup : Setup) (h : List Answered) (more : List Handed) → AllByRecursion (MeansItsBatch setup h) more → RepeatsBytes more
+repeats setup h more all i j a b e f n =
+    let first : MeansItsBatch setup h a = at-index (MeansItsBatch setup h) more all i a e in
+    let second : MeansItsBatch setup h b = at-index (MeansItsBatch setup h) more all j b f in
+    first.body.bytes ∙ ap (λ k. body_bytes (groups (batch_spans (desk_events setup h) k))) n ∙ sym second.body.bytes
+
+pub handed-over : (setup : Setup) (h : List Answered) (old new : Option (List Handed)) → TellsAll (attempts h) (MeansItsBatch setup h) old new → IsHandedOver setup h old new
+handed-over setup h old new t = record { more = t.more; gains = t.gains; are = t.are; bodies = t.bodies; repeats = repeats setup h t.more t.bodies }

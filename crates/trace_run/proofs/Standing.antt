@@ -15,7 +15,7 @@ use Rattle.history_model.proofs.Histories.{ended-start, ended-no-more}
 use Rattle.run_model.specs.Runs.{Answer, started, out_of_memory, done, Answered, is_refused, span_steps, ended_by, event_by, desk_events}
 use Rattle.run_model.specs.Answers.{RunConfig, start_answer, call_answer, takes_memory, is_live, progress_by, desk_after, IsAnswer}
 use Rattle.run_model.specs.Headline.{out_as, out_after, attempt_by}
-use Rattle.run_model.proofs.More.{is_shut, shut-more, ended-open, ended-shut, ended-none, ended-some, ticket_of, IsBelow, AreBelow, below-more, events-same, progress-none, answers-more}
+use Rattle.run_model.proofs.More.{is_shut, shut-more, ended-open, ended-shut, ended-none, ended-some, ticket_of, IsBelow, AreBelow, below-more, events-same, progress-none, quiet-attempts, last_attempt-none, answers-more}
 use Rattle.desk_model.specs.Retries.{delivered}
 use Rattle.span_table.specs.Table.{IsTable, TableWith, TakesStep, answer_to_start, answer_to_call, span_numbered}
 use Rattle.trace_run.specs.Out.{Out, shown, IsTied}
@@ -92,7 +92,7 @@ module _ {S R : Type 0} (meaning : S → SamplerMeaning) (stream : R → Stream)
   -- the batch that is out stays so
   pub out-stays : (x : Answered) (events : List DeskEvent) → progress_by x.answer ≡ None → desk_events run.setup (h ++ x ∷ []) ≡ events → last_spans events ≡ last_spans (desk_events run.setup h) → last_batch events ≡ last_batch (desk_events run.setup h)
       → shown out ≡ out_after run.setup (h ++ x ∷ [])
-  out-stays x events p e s b = at.out_is ∙ (λ i. out_as (sym (progress-none h x p) i) (sym (ap last_spans e ∙ s) i) (sym (ap last_batch e ∙ b) i))
+  out-stays x events p e s b = at.out_is ∙ (λ i. out_as (sym (progress-none h x p) i) (sym (ap last_spans e ∙ s) i) (sym (ap last_batch e ∙ b) i) (sym (last_attempt-none h x (quiet-attempts x.answer p)) i))
 
   -- a step that only the spans see
   pub quiet-on : (x : Answered) (table2 : TableWith S R) → IsQuiet x.answer x.step → IsTable meaning stream run.setup (span_steps (h ++ x ∷ [])) table2 → ended_by run.setup (h ++ x ∷ []) ≡ ended_by run.setup h

@@ -1,5 +1,5 @@
 -- What an exporter tells of a step of a run.
-use Rattle.std.proofs.Common.{◌≡◌, refl, sym, ap, subst, ◌∙◌, ℕ, ◌+◌, ◌<◌, arith, List, [], ◌∷◌, ◌++◌, Bool, true, false, cond, ◌&&◌, Option, Some, None}
+use Rattle.std.proofs.Common.{◌≡◌, refl, sym, ap, subst, ◌∙◌, ℕ, ◌+◌, ◌<◌, arith, List, [], ◌∷◌, ◌++◌, Bool, true, false, cond, ◌&&◌, ◌⊎◌, inl, inr, Option, Some, None}
 use Rattle.std.specs.Prelude.{is_none}
 use Rattle.std.specs.Option.{option_to_list}
 use Rattle.std.specs.List.{list_any}
@@ -11,7 +11,8 @@ use Rattle.desk_model.specs.Retries.{Outcome}
 use Rattle.desk_model.specs.Queue.{DeskEvent, batch_spans, last_batch, last_spans}
 use Rattle.desk_model.specs.Desks.{Desk, is_due}
 use Rattle.run_model.specs.Runs.{Answer, Answered, desk_events}
-use Rattle.run_model.specs.Answers.{RunConfig, take_answer}
+use Rattle.retry_model.specs.Waits.{RetryConfig}
+use Rattle.run_model.specs.Answers.{RunConfig, last_attempt, take_answer}
 use Rattle.run_model.specs.Headline.{attempt_by}
 use Rattle.batch_desk.specs.Batch.{BatchView}
 use Rattle.trace_history.specs.Answers.{answer_view}
@@ -21,7 +22,7 @@ use Rattle.span_exporter.specs.Handed.{Handed}
 use Rattle.span_table.specs.Table.{TableWith}
 use Rattle.span_table.specs.Ends.{EndsAs, EndsBy}
 use Rattle.trace_run.specs.Queue.{Admits}
-use Rattle.trace_run.specs.Out.{Stage, to_encode, to_send, to_judge, Out, Encodes, EncodesAt, EncodesBatch, Sends, SendsAt, SendsNone, MeansSpans, Replies, SettlesAt}
+use Rattle.trace_run.specs.Out.{Stage, to_encode, to_send, to_judge, to_retry, Out, Encodes, EncodesAt, EncodesBatch, Sends, SendsAt, SendsBody, IsBody, SendsNone, IsBodyOf, Replies, JudgesAt}
 use Rattle.trace_run.specs.State.{Stands, MeansItsBatch, TellsAll, Tells}
 use Rattle.trace_run.proofs.Batches.{shows}
 use Rattle.trace_run.proofs.Runs.{tells-none}
@@ -68,6 +69,7 @@ encode-batch-tells batch answers.Flush later t = absurd t
 encode-batch-tells batch answers.Shutdown later t = absurd t
 encode-batch-tells batch (answers.Sent number k outcome) later t = absurd t
 encode-batch-tells batch (answers.Replied number next) later t = absurd t
+encode-batch-tells batch answers.Early later t = absurd t
 encode-batch-tells batch answers.Nothing later t = absurd t
 
 pub encode-tells : (out later : Option Out) (answer : CodeAnswer) → Encodes out answer later → attempt_by (answer_view answer) ≡ None
@@ -77,40 +79,51 @@ encode-tells (Some o) later answer t = by o.stage t
     by : (s : Stage) → EncodesAt s o answer later → attempt_by (answer_view answer) ≡ None
     by to_encode u = encode-batch-tells o.batch answer later u
     by (to_send body) u = told-by answers.Nothing answer refl u.answered
-    by (to_judge outcome) u = told-by answers.Nothing answer refl u.answered
+    by (to_judge body attempt outcome) u = told-by answers.Nothing answer refl u.answered
+    by (to_retry body attempts moment) u = told-by answers.Nothing answer refl u.answered
 
 -- The batch that is out is the last one.
 body-of-last : {S R : Type 0} {meaning : S → SamplerMeaning} {stream : R → Stream} (run : RunConfig) (h : List Answered) {table : TableWith S R} {desk : Desk} (o : Out) → Stands meaning stream run h table desk (Some o)
-    → (body : List ℕ) (outcome : Outcome) → 0 < o.batch.number → MeansSpans o.batch.spans body
-    → MeansItsBatch run.setup h (record { number = o.batch.number; attempt = 1; body = body; outcome = outcome })
-body-of-last run h o at body outcome numbered means =
+    → (body : List ℕ) (attempt : ℕ) (outcome : Outcome) → IsBody body o.batch
+    → MeansItsBatch run.setup h (record { number = o.batch.number; attempt = attempt; body = body; outcome = outcome })
+body-of-last run h o at body attempt outcome b =
     let events : List DeskEvent = desk_events run.setup h in
-    let sh = shows _ _ (last_spans events) (last_batch events) at.out_is in
+    let sh = shows _ _ (last_spans events) (last_batch events) (last_attempt h) at.out_is in
     record {
-      numbered = numbered;
+      numbered = b.numbered;
       taken = let n = sh.number in omega (arith, n);
-      means = subst (λ spans. MeansSpans spans body) (sh.spans ∙ ap (batch_spans events) (sym sh.number)) means;
+      body = subst (λ spans. IsBodyOf spans body) (sh.spans ∙ ap (batch_spans events) (sym sh.number)) b.is;
     }
 
-pub send-tells : {S R : Type 0} {meaning : S → SamplerMeaning} {stream : R → Stream} (run : RunConfig) (h : List Answered) {table : TableWith S R} (out later : Option Out) (answer : CodeAnswer) (old new : Desk) (before after : Option (List Handed))
-    → Stands meaning stream run h table old out → Sends out answer old new later before after → Tells (answer_view answer) (MeansItsBatch run.setup h) before after
-send-tells run h None later answer old new before after at t = tells-nothing (answer_view answer) (MeansItsBatch run.setup h) before after (told-by answers.Nothing answer refl t.idle.answered) t.told
-send-tells run h (Some o) later answer old new before after at t = by o.stage t
+pub send-tells : {S R : Type 0} {meaning : S → SamplerMeaning} {stream : R → Stream} (run : RunConfig) (h : List Answered) {table : TableWith S R} (now : ℕ) (out later : Option Out) (answer : CodeAnswer) (old new : Desk) (before after : Option (List Handed))
+    → Stands meaning stream run h table old out → Sends now out answer old new later before after → Tells (answer_view answer) (MeansItsBatch run.setup h) before after
+send-tells run h now None later answer old new before after at t = tells-nothing (answer_view answer) (MeansItsBatch run.setup h) before after (told-by answers.Nothing answer refl t.idle.answered) t.told
+send-tells run h now (Some o) later answer old new before after at t = by o.stage t
   where
-    none : SendsNone (Some o) answer old new later before after → Tells (answer_view answer) (MeansItsBatch run.setup h) before after
+    Told : Type 0
+    Told = Tells (answer_view answer) (MeansItsBatch run.setup h) before after
+
+    none : SendsNone (Some o) answer old new later before after → Told
     none u = tells-nothing (answer_view answer) (MeansItsBatch run.setup h) before after (told-by answers.Nothing answer refl u.idle.answered) u.told
 
-    by : (s : Stage) → SendsAt s o answer old new later before after → Tells (answer_view answer) (MeansItsBatch run.setup h) before after
-    by to_encode u = none u
-    by (to_judge outcome) u = none u
-    by (to_send body) u = subst (λ a. Tells (answer_view a) (MeansItsBatch run.setup h) before after) (sym u.answered)
-        (record { more = _; gains = u.told; are = refl; bodies = (body-of-last run h o at body _ u.numbered u.means, tt) })
+    sent : (body : List ℕ) (attempt : ℕ) → SendsBody body attempt o.batch answer later before after → IsBody body o.batch → Told
+    sent body attempt u b = subst (λ a. Tells (answer_view a) (MeansItsBatch run.setup h) before after) (sym u.answered)
+        (record { more = _; gains = u.told; are = refl; bodies = (body-of-last run h o at body attempt _ b, tt) })
 
-pub reply-tells : (out later : Option Out) (answer : CodeAnswer) (old new : Desk) → Replies out answer old new later → attempt_by (answer_view answer) ≡ None
-reply-tells None later answer old new t = told-by answers.Nothing answer refl t.idle.answered
-reply-tells (Some o) later answer old new t = by o.stage t
+    by : (s : Stage) → SendsAt now s o answer old new later before after → Told
+    by to_encode u = none u
+    by (to_judge body attempt outcome) u = none u
+    by (to_send body) u = sent body 1 u.sends u.of_batch
+    by (to_retry body attempts moment) (inl u) = sent body (attempts + 1) u.sends u.of_batch
+    by (to_retry body attempts moment) (inr u) = tells-nothing (answer_view answer) (MeansItsBatch run.setup h) before after (told-by answers.Early answer refl u.answered) u.told
+
+pub reply-tells : (retry : RetryConfig) (now word : ℕ) (out later : Option Out) (answer : CodeAnswer) (old new : Desk) → Replies retry now word out answer old new later → attempt_by (answer_view answer) ≡ None
+reply-tells retry now word None later answer old new t = told-by answers.Nothing answer refl t.idle.answered
+reply-tells retry now word (Some o) later answer old new t = by o.stage t
   where
-    by : (s : Stage) → SettlesAt s o answer old new later → attempt_by (answer_view answer) ≡ None
+    by : (s : Stage) → JudgesAt retry now word s o answer old new later → attempt_by (answer_view answer) ≡ None
     by to_encode u = told-by answers.Nothing answer refl u.idle.answered
     by (to_send body) u = told-by answers.Nothing answer refl u.idle.answered
-    by (to_judge outcome) u = told-by (answers.Replied o.batch.number u.next) answer refl u.answered
+    by (to_retry body attempts moment) u = told-by answers.Nothing answer refl u.idle.answered
+    by (to_judge body attempt outcome) (inl u) = told-by (answers.Replied o.batch.number u.next) answer refl u.answered
+    by (to_judge body attempt outcome) (inr u) = told-by (answers.Replied o.batch.number u.next) answer refl u.answered

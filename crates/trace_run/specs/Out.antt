@@ -1,13 +1,15 @@
 -- The batch that is out in a run, and what is done to it.
-use Rattle.std.specs.Prelude.{◌≡◌, ℕ, ◌<◌, Bool, true, false, List, length, Option, Some, None}
+use Rattle.std.specs.Prelude.{◌≡◌, ℕ, ◌+◌, ◌<◌, ◌≤◌, ◌⊎◌, Bool, true, false, List, length, Option, Some, None}
 use Rattle.message_model.specs.Reading.{Reads}
 use Rattle.message_model.specs.Messages.{body_meaning}
 use Rattle.span_model.specs.Spans.{EndedSpan}
 use Rattle.export_model.specs.Export.{groups, body_length, grouped_triples}
 use Rattle.desk_model.specs.Retries as retries
-use Rattle.desk_model.specs.Retries.{Fate, next_of, fate_of}
+use Rattle.desk_model.specs.Retries.{Fate, fate_of}
 use Rattle.desk_model.specs.Queue as desk
 use Rattle.desk_model.specs.Desks.{Desk, Does, TakesSpans}
+use Rattle.retry_model.specs.Waits.{RetryConfig, IsRetryConfig, next_after}
+use Rattle.otlp_proto.specs.Bodies.{body_bytes}
 use Rattle.retry_core.specs.Retries.{outcome_view, next_view}
 use Rattle.retry_core.specs.declared.next.Next.{Next}
 use Rattle.retry_core.specs.declared.outcome.Outcome.{Outcome}
@@ -19,12 +21,14 @@ use Rattle.trace_history.specs.declared.answer.Answer.TheVariants as answers
 use Rattle.run_model.specs.Answers as model
 use Rattle.run_model.specs.Headline as headline
 
--- how far the batch is: it is to be encoded, or this body is to be sent, or it was sent, and this
--- came of it
+-- how far the batch is: it is to be encoded, or this body is to be sent, or it was sent in this
+-- attempt, and this came of it, or it had so many attempts and is to be sent again, from this moment
+-- on
 pub data Stage : Type 0 where
   to_encode : Stage
   to_send : List ℕ → Stage
-  to_judge : retries.Outcome → Stage
+  to_judge : List ℕ → ℕ → retries.Outcome → Stage
+  to_retry : List ℕ → ℕ → ℕ → Stage
 
 -- a batch that is out
 pub record Out : Type 0 where
@@ -34,21 +38,34 @@ pub record Out : Type 0 where
 abbrev pub progress_of : Stage → model.Progress
 progress_of to_encode = model.to_encode
 progress_of (to_send body) = model.to_send
-progress_of (to_judge outcome) = model.to_judge outcome
+progress_of (to_judge body attempt outcome) = model.to_judge outcome
+progress_of (to_retry body attempts moment) = model.to_retry moment
+
+-- how many attempts it had
+abbrev pub attempts_at : Stage → ℕ
+attempts_at to_encode = 0
+attempts_at (to_send body) = 0
+attempts_at (to_judge body attempt outcome) = attempt
+attempts_at (to_retry body attempts moment) = attempts
 
 -- it is with the exporter
 abbrev pub is_sent : Stage → Bool
 is_sent to_encode = false
 is_sent (to_send body) = false
-is_sent (to_judge outcome) = true
+is_sent (to_judge body attempt outcome) = true
+is_sent (to_retry body attempts moment) = true
 
-abbrev pub shown : Option Out → Option headline.OutBatch
-shown None = None
-shown (Some o) = Some (record {
+abbrev pub shown_as : Out → headline.OutBatch
+shown_as o = record {
   number = o.batch.number;
   spans = o.batch.spans;
   progress = progress_of o.stage;
-})
+  attempts = attempts_at o.stage;
+}
+
+abbrev pub shown : Option Out → Option headline.OutBatch
+shown None = None
+shown (Some o) = Some (shown_as o)
 
 -- ---- what holds between the steps
 
@@ -57,20 +74,42 @@ abbrev pub IsTied : Desk → Option Out → Type 0
 IsTied d None = d.out ≡ None
 IsTied d (Some o) = IsOut (is_sent o.stage) d o.batch
 
--- The body, read as a request, is these spans under their resources and scopes. (OTLP
--- Specification, OTLP/HTTP)
-abbrev pub MeansSpans : List EndedSpan → List ℕ → Type 0
-MeansSpans spans body = Reads (body_meaning body) (grouped_triples spans)
+-- The body, read as a request, is these spans under their resources and scopes, written as the
+-- canon has it. (OTLP Specification, OTLP/HTTP; the canon: profile)
+pub record IsBodyOf (spans : List EndedSpan) (body : List ℕ) : Type 0 where
+  pub means : Reads (body_meaning body) (grouped_triples spans)
+  pub bytes : body ≡ body_bytes (groups spans)
 
--- a body that is to be sent is that of the batch, and there is room for it
-abbrev pub IsReadyAt : (ℕ → ℕ) → List EndedSpan → Stage → Type 0
-IsReadyAt room spans (to_send body) = 0 < room (length body) × MeansSpans spans body
-IsReadyAt room spans _ = Unit {0}
+-- a body that is to be sent is that of the batch, and behind these attempts there is room for all
+-- that are configured
+pub record HasRoom (retry : RetryConfig) (room : ℕ → ℕ) (spans : List EndedSpan) (body : List ℕ)
+    (attempts : ℕ) : Type 0 where
+  pub config : IsRetryConfig retry
+  pub enough : retry.attempts ≤ room (length body) + attempts
+  pub is : IsBodyOf spans body
+
+abbrev pub IsReadyAt : RetryConfig → (ℕ → ℕ) → List EndedSpan → Stage → Type 0
+IsReadyAt retry room spans to_encode = Unit {0}
+IsReadyAt retry room spans (to_send body) = HasRoom retry room spans body 0
+IsReadyAt retry room spans (to_judge body attempt outcome) = HasRoom retry room spans body attempt
+IsReadyAt retry room spans (to_retry body attempts moment) = HasRoom retry room spans body attempts
+
+-- An attempt that was made is one of those configured, and where there is another, it was not the
+-- last.
+abbrev pub IsCountedAt : RetryConfig → Stage → Type 0
+IsCountedAt retry (to_judge body attempt outcome) = (1 ≤ attempt) × (attempt ≤ retry.attempts)
+IsCountedAt retry (to_retry body attempts moment) = (1 ≤ attempts) × (attempts < retry.attempts)
+IsCountedAt retry _ = Unit {0}
+
+abbrev pub IsCounted : RetryConfig → Option Out → Type 0
+IsCounted retry None = Unit {0}
+IsCounted retry (Some o) = IsCountedAt retry o.stage
 
 -- batches are numbered from 1 on
-abbrev pub IsReady : (ℕ → ℕ) → Option Out → Type 0
-IsReady room None = Unit {0}
-IsReady room (Some o) = 0 < o.batch.number × IsReadyAt room o.batch.spans o.stage
+abbrev pub IsReady : RetryConfig → (ℕ → ℕ) → Option Out → Type 0
+IsReady retry room None = Unit {0}
+IsReady retry room (Some o) =
+    0 < o.batch.number × IsReadyAt retry room o.batch.spans o.stage × IsCountedAt retry o.stage
 
 -- ---- turns
 
@@ -131,18 +170,46 @@ abbrev pub Encodes : Option Out → Answer → Option Out → Type 0
 Encodes None answer later = IsIdle None answer later
 Encodes (Some o) answer later = EncodesAt o.stage o answer later
 
--- The body was sent.
-pub record SendsBody (body : List ℕ) (batch : BatchView) (answer : Answer) (old new : Desk)
+-- The body was sent in this attempt.
+pub record SendsBody (body : List ℕ) (attempt : ℕ) (batch : BatchView) (answer : Answer)
     (later : Option Out) (before after : Option (List Handed)) : Type 0 where
   pub outcome : Outcome
-  pub answered : answer ≡ answers.Sent batch.number 1 outcome
-  pub out : later ≡ Some (record { batch = batch; stage = to_judge (outcome_view outcome) })
+  pub answered : answer ≡ answers.Sent batch.number attempt outcome
+  pub out : later ≡
+      Some (record { batch = batch; stage = to_judge body attempt (outcome_view outcome) })
+  pub told : Gains (handing batch.number attempt body (outcome_view outcome)) before after
+
+-- It is that of the batch.
+pub record IsBody (body : List ℕ) (batch : BatchView) : Type 0 where
+  pub numbered : 0 < batch.number
+  pub is : IsBodyOf batch.spans body
+
+-- The first attempt hands the batch to the exporter.
+pub record SendsFirst (body : List ℕ) (batch : BatchView) (answer : Answer) (old new : Desk)
+    (later : Option Out) (before after : Option (List Handed)) : Type 0 where
+  pub sends : SendsBody body 1 batch answer later before after
+  pub of_batch : IsBody body batch
   pub does : Does desk.handed old new
   pub with_exporter : IsOut true new batch
   pub keeps : Keeps old new
-  pub told : Gains (handing batch.number 1 body (outcome_view outcome)) before after
-  pub numbered : 0 < batch.number
-  pub means : MeansSpans batch.spans body
+
+-- A later one is made from its moment on.
+pub record SendsAgain (now moment attempts : ℕ) (body : List ℕ) (batch : BatchView)
+    (answer : Answer) (old new : Desk) (later : Option Out) (before after : Option (List Handed))
+    : Type 0 where
+  pub due : moment ≤ now
+  pub some : 1 ≤ attempts
+  pub sends : SendsBody body (attempts + 1) batch answer later before after
+  pub of_batch : IsBody body batch
+  pub desk_same : new ≡ old
+
+pub record IsEarly (now moment : ℕ) (out : Option Out) (answer : Answer) (old new : Desk)
+    (later : Option Out) (before after : Option (List Handed)) : Type 0 where
+  pub early : now < moment
+  pub answered : answer ≡ answers.Early
+  pub same : later ≡ out
+  pub desk_same : new ≡ old
+  pub told : after ≡ before
 
 -- nothing was
 pub record SendsNone (out : Option Out) (answer : Answer) (old new : Desk) (later : Option Out)
@@ -151,32 +218,47 @@ pub record SendsNone (out : Option Out) (answer : Answer) (old new : Desk) (late
   pub desk_same : new ≡ old
   pub told : after ≡ before
 
-abbrev pub SendsAt : Stage → Out → Answer → Desk → Desk → Option Out → Option (List Handed)
-    → Option (List Handed) → Type 0
-SendsAt (to_send body) o answer old new later before after =
-    SendsBody body o.batch answer old new later before after
-SendsAt _ o answer old new later before after =
+abbrev pub SendsAt : ℕ → Stage → Out → Answer → Desk → Desk → Option Out
+    → Option (List Handed) → Option (List Handed) → Type 0
+SendsAt now (to_send body) o answer old new later before after =
+    SendsFirst body o.batch answer old new later before after
+SendsAt now (to_retry body attempts moment) o answer old new later before after =
+    SendsAgain now moment attempts body o.batch answer old new later before after
+    ⊎ IsEarly now moment (Some o) answer old new later before after
+SendsAt now _ o answer old new later before after =
     SendsNone (Some o) answer old new later before after
 
 -- The batch that is out is sent, if it is to be.
-abbrev pub Sends : Option Out → Answer → Desk → Desk → Option Out → Option (List Handed)
+abbrev pub Sends : ℕ → Option Out → Answer → Desk → Desk → Option Out → Option (List Handed)
     → Option (List Handed) → Type 0
-Sends None answer old new later before after = SendsNone None answer old new later before after
-Sends (Some o) answer old new later before after =
-    SendsAt o.stage o answer old new later before after
+Sends now None answer old new later before after =
+    SendsNone None answer old new later before after
+Sends now (Some o) answer old new later before after =
+    SendsAt now o.stage o answer old new later before after
 
 -- What came of it settles the batch.
-pub record Settles (outcome : retries.Outcome) (batch : BatchView) (answer : Answer)
+pub record Settles (decided : retries.Next) (batch : BatchView) (answer : Answer)
     (old new : Desk) (later : Option Out) : Type 0 where
   pub next : Next
   pub answered : answer ≡ answers.Replied batch.number next
-  pub decided : next_view next ≡ next_of outcome
+  pub is : next_view next ≡ decided
   pub fate : Fate
-  pub ends : fate_of (next_of outcome) ≡ Some fate
+  pub ends : fate_of decided ≡ Some fate
   pub does : Does (desk.settled fate) old new
   pub out : later ≡ None
   pub gone : new.out ≡ None
   pub keeps : Keeps old new
+
+-- Or it is to be sent again.
+pub record PutsOff (decided : retries.Next) (body : List ℕ) (attempt : ℕ) (batch : BatchView)
+    (answer : Answer) (old new : Desk) (later : Option Out) : Type 0 where
+  pub moment : ℕ
+  pub again : decided ≡ retries.again moment
+  pub next : Next
+  pub answered : answer ≡ answers.Replied batch.number next
+  pub is : next_view next ≡ decided
+  pub out : later ≡ Some (record { batch = batch; stage = to_retry body attempt moment })
+  pub desk_same : new ≡ old
 
 -- nothing is settled
 pub record SettlesNone (out : Option Out) (answer : Answer) (old new : Desk) (later : Option Out)
@@ -184,11 +266,20 @@ pub record SettlesNone (out : Option Out) (answer : Answer) (old new : Desk) (la
   pub idle : IsIdle out answer later
   pub desk_same : new ≡ old
 
-abbrev pub SettlesAt : Stage → Out → Answer → Desk → Desk → Option Out → Type 0
-SettlesAt (to_judge outcome) o answer old new later = Settles outcome o.batch answer old new later
-SettlesAt _ o answer old new later = SettlesNone (Some o) answer old new later
+abbrev pub Judges : retries.Next → List ℕ → ℕ → BatchView → Answer → Desk → Desk → Option Out
+    → Type 0
+Judges decided body attempt batch answer old new later =
+    Settles decided batch answer old new later
+    ⊎ PutsOff decided body attempt batch answer old new later
 
--- The batch that is out is settled, if it was sent.
-abbrev pub Replies : Option Out → Answer → Desk → Desk → Option Out → Type 0
-Replies None answer old new later = SettlesNone None answer old new later
-Replies (Some o) answer old new later = SettlesAt o.stage o answer old new later
+abbrev pub JudgesAt : RetryConfig → ℕ → ℕ → Stage → Out → Answer → Desk → Desk → Option Out
+    → Type 0
+JudgesAt retry now word (to_judge body attempt outcome) o answer old new later =
+    Judges (next_after retry attempt outcome now word) body attempt o.batch answer old new later
+JudgesAt retry now word _ o answer old new later = SettlesNone (Some o) answer old new later
+
+-- What came of the last attempt is judged, if the batch that is out was sent.
+abbrev pub Replies : RetryConfig → ℕ → ℕ → Option Out → Answer → Desk → Desk → Option Out → Type 0
+Replies retry now word None answer old new later = SettlesNone None answer old new later
+Replies retry now word (Some o) answer old new later =
+    JudgesAt retry now word o.stage o answer old new later

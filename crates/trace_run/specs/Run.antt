@@ -22,4 +22,5 @@ run_config meaning stream c = record {
     scopes = map scope_view c.scopes.items;
   };
   desk = config_view c.desk;
+  retry = c.retry;
 }

@@ -7,4 +7,7 @@ use Rattle.trace_run.specs.declared.sending.Stage.TheVariants as stages
 abbrev pub stage_view : {A : Type 0} → Stage A → model.Stage
 stage_view stages.ToEncode = model.to_encode
 stage_view (stages.ToSend body) = model.to_send body.items
-stage_view (stages.ToJudge outcome) = model.to_judge (outcome_view outcome)
+stage_view (stages.ToJudge body attempt outcome) =
+    model.to_judge body.items attempt (outcome_view outcome)
+stage_view (stages.ToRetry body attempts from_then) =
+    model.to_retry body.items attempts from_then

@@ -3,6 +3,7 @@ use batch_desk::DeskConfig;
 use otlp_sampler::Sampler;
 use otlp_span::{Resource, Scope, SpanLimits};
 use rand_core::Rng;
+use retry_core::RetryConfig;
 use std::alloc::{Allocator, Global};
 
 /// What a run has before its first step (Trace SDK, "Tracer Provider", "Batching processor").
@@ -18,6 +19,8 @@ pub struct RunConfig<S: Sampler, R: Rng, A: Allocator = Global> {
     pub scopes: Vec<Scope<A>, A>,
     /// How much the queue and a batch hold, and the delay. It is one that `Desk::new` takes.
     pub desk: DeskConfig,
+    /// How often a batch is sent, and how long the waits between are.
+    pub retry: RetryConfig,
     /// Where identifiers are drawn from.
     pub rng: R,
 }

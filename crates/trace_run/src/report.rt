@@ -68,7 +68,7 @@ impl<A: Allocator> RunReport<A> {
         };
         let OutBatch { batch, stage } = out;
         match stage {
-            Stage::ToJudge(_) => desk.settle(batch, Fate::Abandoned),
+            Stage::ToJudge { .. } | Stage::ToRetry { .. } => desk.settle(batch, Fate::Abandoned),
             _ => desk.drop_batch(batch, Reason::Abandoned),
         }
         desk

@@ -11,6 +11,7 @@ use crate::queue::SpanQueue;
 use crate::sending::{OutBatch, encode_batch, judge_batch, send_batch, take_batch};
 use otlp_sampler::Sampler;
 use rand_core::Rng;
+use retry_core::RetryConfig;
 use span_exporter::Exporter;
 use span_table::SpanTable;
 use std::alloc::Allocator;
@@ -20,6 +21,7 @@ use trace_history::{Answer, Step};
 #[derive(Drop)]
 pub(crate) struct Running<'a, S: Sampler, R: Rng, A: Allocator + Copy> {
     pub(crate) alloc: A,
+    pub(crate) retry: RetryConfig,
     pub(crate) table: SpanTable<'a, S, R, A>,
     pub(crate) queue: SpanQueue<A>,
 }
@@ -34,17 +36,18 @@ impl<'a, S: Sampler, R: Rng, A: Allocator + Copy> Running<'a, S, R, A> {
     ) -> (Answer, Option<OutBatch<A>>)
         requires room { length self.old.table.spans < self.old.table.room }
         requires tied { IsTied self.old.queue out }
-        requires ready { IsReady (E.room exporter.old) out }
+        requires ready { IsReady self.old.retry (E.room exporter.old) out }
         ensures goes_on { let x : Answered =
             record { step = step_view step.now; answer = answer_view result.0 } in
-            GoesOn S.meaning R.stream x self.old.table self.old.queue out
+            GoesOn S.meaning R.stream self.old.retry x self.old.table self.old.queue out
             self.new.table self.new.queue result.1 }
         ensures told { (run : model.RunConfig) (h : List Answered) →
             Stands S.meaning R.stream run h self.old.table self.old.queue out
             → Tells (answer_view result.0) (MeansItsBatch run.setup h)
             (E.handed exporter.old) (E.handed exporter.new) }
-        ensures ready { IsReady (E.room exporter.new) result.1 }
+        ensures ready { IsReady self.old.retry (E.room exporter.new) result.1 }
         ensures room { self.new.table.room ≡ self.old.table.room }
+        ensures retry { self.new.retry ≡ self.old.retry }
     {
         match step {
             Step::Start {
@@ -67,9 +70,13 @@ impl<'a, S: Sampler, R: Rng, A: Allocator + Copy> Running<'a, S, R, A> {
                 (Answer::Shutdown, out)
             }
             Step::Take { at } => take_batch(&mut self.queue.desk, out, *at),
-            Step::Encode => encode_batch(self.alloc, out, exporter),
-            Step::Attempt { at: _ } => send_batch(&mut self.queue.desk, out, exporter),
-            Step::Reply { at: _, word: _ } => judge_batch(&mut self.queue.desk, out),
+            Step::Encode => encode_batch(self.alloc, &self.retry, out, exporter),
+            Step::Attempt { at } => {
+                send_batch(&self.retry, &mut self.queue.desk, out, exporter, *at)
+            }
+            Step::Reply { at, word } => {
+                judge_batch(&self.retry, &mut self.queue.desk, out, *at, *word)
+            }
         }
     }
 }

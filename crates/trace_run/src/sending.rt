@@ -1,17 +1,18 @@
 //! The batch that is out: it is taken, encoded, sent, and judged by what came of that.
-ghost use Rattle.std.specs.Prelude.{◌≡◌, ◌<◌, ℕ, Some, IfOk, length, is_some, true};
+ghost use Rattle.std.specs.Prelude.{◌≡◌, ◌<◌, ◌≤◌, ◌+◌, ℕ, Some, IfOk, length, is_some, true};
 ghost use Rattle.export_model.specs.Export.{groups, body_length};
 ghost use Rattle.desk_model.specs.Retries as model;
+ghost use Rattle.retry_model.specs.Waits.{IsRetryConfig, RetryConfig};
 ghost use Rattle.retry_core.specs.Retries.{next_view, outcome_view};
 ghost use Rattle.batch_desk.specs.Views.{fate_view};
 ghost use Rattle.run_model.specs.Answers.{take_answer};
 ghost use Rattle.trace_history.specs.Answers.{answer_view};
-ghost use Rattle.trace_run.specs.Out.{Encodes, EncodesBatch, IsReady, IsTied, MeansSpans, Replies, Sends, Takes};
+ghost use Rattle.trace_run.specs.Out.{Encodes, EncodesBatch, IsBodyOf, IsCounted, IsReady, IsTied, Replies, Sends, SendsBody, Takes};
 
 use batch_desk::{Batch, Desk, Fate};
 use otlp_ids::OutOfMemory;
 use otlp_proto::body_of;
-use retry_core::{Cause, Next, Outcome, decide};
+use retry_core::{Cause, Next, Outcome, RetryConfig, decide};
 use span_exporter::Exporter;
 use std::alloc::Allocator;
 use std::marker::Model;
@@ -24,9 +25,19 @@ pub(crate) enum Stage<A: Allocator> {
     /// It is to be encoded.
     ToEncode,
     /// This body of it is to be sent.
-    ToSend(Vec<u8, A>),
-    /// It was sent, and this came of it.
-    ToJudge(Outcome),
+    ToSend { body: Vec<u8, A> },
+    /// It was sent in this attempt, and this came of it.
+    ToJudge {
+        body: Vec<u8, A>,
+        attempt: u32,
+        outcome: Outcome,
+    },
+    /// It had so many attempts, and is to be sent again from this moment on.
+    ToRetry {
+        body: Vec<u8, A>,
+        attempts: u32,
+        from: u64,
+    },
 }
 
 /// A batch that is out.
@@ -54,7 +65,8 @@ pub(crate) fn take_batch<A: Allocator>(
     requires { IsTied desk.old out }
     ensures answered { answer_view result.0 ≡ take_answer desk.old at }
     ensures takes { Takes at result.0 desk.old out desk.new result.1 }
-    ensures ready { (room : ℕ → ℕ) → IsReady room out → IsReady room result.1 }
+    ensures ready { (retry : RetryConfig) (room : ℕ → ℕ) → IsReady retry room out
+        → IsReady retry room result.1 }
 {
     if let Some(out) = out {
         return (Answer::NotTaken, Some(out));
@@ -73,16 +85,17 @@ pub(crate) fn take_batch<A: Allocator>(
     (answer, Some(out))
 }
 
-/// Encodes the batch that is out, if that is to be done, and makes room for its one attempt. Where
+/// Encodes the batch that is out, if that is to be done, and makes room for its attempts. Where
 /// memory is refused, it can be encoded later.
 pub(crate) fn encode_batch<E: Exporter, A: Allocator + Copy>(
     alloc: A,
+    retry: &RetryConfig,
     out: Option<OutBatch<A>>,
     exporter: &mut E,
 ) -> (Answer, Option<OutBatch<A>>)
-    requires ready { IsReady (E.room exporter.old) out }
+    requires ready { IsReady retry.now (E.room exporter.old) out }
     ensures encodes { Encodes out result.0 result.1 }
-    ensures ready { IsReady (E.room exporter.new) result.1 }
+    ensures ready { IsReady retry.now (E.room exporter.new) result.1 }
     ensures nothing_is_sent { E.handed exporter.new ≡ E.handed exporter.old }
 {
     let Some(out) = out else {
@@ -90,29 +103,30 @@ pub(crate) fn encode_batch<E: Exporter, A: Allocator + Copy>(
     };
     let OutBatch { batch, stage } = out;
     match stage {
-        Stage::ToEncode => encode_spans(alloc, batch, exporter),
+        Stage::ToEncode => encode_spans(alloc, retry, batch, exporter),
         stage => (Answer::Nothing, Some(OutBatch { batch, stage })),
     }
 }
 
-/// Encodes a batch, and makes room for its one attempt.
+/// Encodes a batch, and makes room for its attempts.
 fn encode_spans<E: Exporter, A: Allocator + Copy>(
     alloc: A,
+    retry: &RetryConfig,
     batch: Batch<A>,
     exporter: &mut E,
 ) -> (Answer, Option<OutBatch<A>>)
     requires { 0 < batch.number }
     ensures encodes { EncodesBatch batch result.0 result.1 }
-    ensures ready { IsReady (E.room exporter.new) result.1 }
+    ensures ready { IsReady retry.now (E.room exporter.new) result.1 }
     ensures nothing_is_sent { E.handed exporter.new ≡ E.handed exporter.old }
 {
-    match prepare_body(alloc, &batch, exporter) {
+    match prepare_body(alloc, retry, &batch, exporter) {
         Ok(body) => {
             let answer = Answer::Encoded {
                 batch: batch.number(),
                 length: body.len(),
             };
-            let stage = Stage::ToSend(body);
+            let stage = Stage::ToSend { body };
             (answer, Some(OutBatch { batch, stage }))
         }
         Err(OutOfMemory) => {
@@ -122,79 +136,137 @@ fn encode_spans<E: Exporter, A: Allocator + Copy>(
     }
 }
 
-/// The body of a batch, for whose one attempt the exporter has room.
+/// The body of a batch, for whose attempts the exporter has room.
 fn prepare_body<E: Exporter, A: Allocator + Copy>(
     alloc: A,
+    retry: &RetryConfig,
     batch: &Batch<A>,
     exporter: &mut E,
 ) -> Result<Vec<u8, A>, OutOfMemory>
     ensures length { IfOk result
         (λ body. length body.items ≡ body_length (groups batch.now.spans)) }
-    ensures means { IfOk result (λ body. MeansSpans batch.now.spans body.items) }
-    ensures room { IfOk result (λ body. 0 < E.room exporter.new (length body.items)) }
+    ensures means { IfOk result (λ body. IsBodyOf batch.now.spans body.items) }
+    ensures room { IfOk result
+        (λ body. retry.now.attempts ≤ E.room exporter.new (length body.items)) }
+    ensures config { IsRetryConfig retry.now }
     ensures nothing_is_sent { E.handed exporter.new ≡ E.handed exporter.old }
 {
+    let attempts = retry.attempts();
     // No body is larger than memory, so want of memory is the one fault.
     let Ok(body) = body_of(alloc, batch.spans(), usize::MAX) else {
         return Err(OutOfMemory);
     };
-    exporter.prepare(body.len(), 1)?;
+    exporter.prepare(body.len(), attempts)?;
     Ok(body)
 }
 
-/// Sends the batch that is out, if that is to be done.
+/// Sends the batch that is out, if that is to be done, and not before its moment.
 pub(crate) fn send_batch<E: Exporter, A: Allocator>(
+    retry: &RetryConfig,
     desk: &mut Desk<A>,
     out: Option<OutBatch<A>>,
     exporter: &mut E,
+    at: u64,
 ) -> (Answer, Option<OutBatch<A>>)
     requires tied { IsTied desk.old out }
-    requires ready { IsReady (E.room exporter.old) out }
-    ensures sends { Sends out result.0 desk.old desk.new result.1
+    requires ready { IsReady retry.now (E.room exporter.old) out }
+    ensures sends { Sends at out result.0 desk.old desk.new result.1
         (E.handed exporter.old) (E.handed exporter.new) }
-    ensures ready { IsReady (E.room exporter.new) result.1 }
+    ensures ready { IsReady retry.now (E.room exporter.new) result.1 }
 {
     let Some(out) = out else {
         return (Answer::Nothing, None);
     };
     let OutBatch { batch, stage } = out;
     match stage {
-        Stage::ToSend(body) => {
-            let number = batch.number();
-            desk.handed(number);
-            let outcome = exporter.export(number, 1, body.as_slice());
-            let answer = Answer::Sent {
-                batch: number,
-                attempt: 1,
-                outcome,
-            };
-            let stage = Stage::ToJudge(outcome);
-            (answer, Some(OutBatch { batch, stage }))
+        Stage::ToSend { body } => {
+            desk.handed(batch.number());
+            send_body(batch, body, 1, exporter)
+        }
+        Stage::ToRetry {
+            body,
+            attempts,
+            from,
+        } => {
+            if at < from {
+                let stage = Stage::ToRetry {
+                    body,
+                    attempts,
+                    from,
+                };
+                return (Answer::Early, Some(OutBatch { batch, stage }));
+            }
+            send_body(batch, body, attempts + 1, exporter)
         }
         stage => (Answer::Nothing, Some(OutBatch { batch, stage })),
     }
 }
 
-/// Settles the batch that is out by what came of its attempt, if it was sent.
+/// Sends the body of a batch in this attempt.
+fn send_body<E: Exporter, A: Allocator>(
+    batch: Batch<A>,
+    body: Vec<u8, A>,
+    attempt: u32,
+    exporter: &mut E,
+) -> (Answer, Option<OutBatch<A>>)
+    requires { 0 < E.room exporter.old (length body.items) }
+    ensures sends { SendsBody body.items attempt batch result.0 result.1
+        (E.handed exporter.old) (E.handed exporter.new) }
+    ensures room { (len : ℕ) → E.room exporter.old len ≤ E.room exporter.new len + 1 }
+{
+    let number = batch.number();
+    let outcome = exporter.export(number, attempt, body.as_slice());
+    let answer = Answer::Sent {
+        batch: number,
+        attempt,
+        outcome,
+    };
+    let stage = Stage::ToJudge {
+        body,
+        attempt,
+        outcome,
+    };
+    (answer, Some(OutBatch { batch, stage }))
+}
+
+/// Judges what came of the last attempt, if the batch that is out was sent: it is settled, or it is
+/// to be sent again.
 pub(crate) fn judge_batch<A: Allocator>(
+    retry: &RetryConfig,
     desk: &mut Desk<A>,
     out: Option<OutBatch<A>>,
+    at: u64,
+    word: u64,
 ) -> (Answer, Option<OutBatch<A>>)
-    requires { IsTied desk.old out }
-    ensures replies { Replies out result.0 desk.old desk.new result.1 }
-    ensures ready { (room : ℕ → ℕ) → IsReady room out → IsReady room result.1 }
+    requires tied { IsTied desk.old out }
+    requires counted { IsCounted retry.now out }
+    ensures replies { Replies retry.now at word out result.0 desk.old desk.new result.1 }
+    ensures ready { (room : ℕ → ℕ) → IsReady retry.now room out
+        → IsReady retry.now room result.1 }
 {
     let Some(out) = out else {
         return (Answer::Nothing, None);
     };
     let OutBatch { batch, stage } = out;
     match stage {
-        Stage::ToJudge(outcome) => {
-            let next = decide(&outcome);
+        Stage::ToJudge {
+            body,
+            attempt,
+            outcome,
+        } => {
+            let next = decide(retry, attempt, &outcome, at, word);
             let answer = Answer::Replied {
                 batch: batch.number(),
                 next,
             };
+            if let Next::Again(from) = next {
+                let stage = Stage::ToRetry {
+                    body,
+                    attempts: attempt,
+                    from,
+                };
+                return (answer, Some(OutBatch { batch, stage }));
+            }
             desk.settle(batch, fate_of(next));
             (answer, None)
         }

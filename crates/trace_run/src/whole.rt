@@ -2,13 +2,13 @@
 ghost use Rattle.std.specs.Prelude.{◌≡◌, IfOk, OnErr, length};
 ghost use Rattle.span_ring.specs.SpanRing.{IsRingSize};
 ghost use Rattle.run_model.specs.Answers.{AreAnswers, desk_after};
-ghost use Rattle.run_model.specs.Headline.{EachOnce, attempts, out_after};
+ghost use Rattle.run_model.specs.Headline.{EachOnce, out_after};
 ghost use Rattle.trace_history.specs.Answers.{history_view};
 ghost use Rattle.trace_run.specs.Out.{shown};
-ghost use Rattle.run_laws.specs.Laws.{LateBehindShutdown, DroppedWhereFull, QueuedWhereRoom, TakenWhereDue, TakesTheFirst, TakenBehindShutdown, OneBatchIsOut, HandedAreNotDropped, WaitingAreEnded, BatchesAreEnded, DropsNameEnded, LedgerNamesTheDropped};
+ghost use Rattle.run_laws.specs.Laws.{LateBehindShutdown, DroppedWhereFull, QueuedWhereRoom, TakenWhereDue, TakesTheFirst, TakenBehindShutdown, OneBatchIsOut, AttemptsAreNumbered, AttemptsAreFew, NoAttemptIsEarly, RepliesAreDecided, HandedAreNotDropped, WaitingAreEnded, BatchesAreEnded, DropsNameEnded, LedgerNamesTheDropped};
 ghost use Rattle.trace_run.specs.Report.{OfRun};
 ghost use Rattle.trace_run.specs.Run.{run_config};
-ghost use Rattle.trace_run.specs.State.{MeansItsBatch, TellsAll};
+ghost use Rattle.trace_run.specs.State.{IsHandedOver};
 
 use crate::config::RunConfig;
 use crate::queue::SpanQueue;
@@ -21,7 +21,7 @@ use otlp_ids::OutOfMemory;
 use otlp_sampler::Sampler;
 use rand_core::Rng;
 use run_laws::{
-    ended_spans_stay, ends_are_answered, none_is_unaccounted_for, one_batch_is_out,
+    attempts_are_answered, ended_spans_stay, ends_are_answered, none_is_unaccounted_for, one_batch_is_out,
     takes_are_answered,
 };
 use span_exporter::Exporter;
@@ -96,11 +96,19 @@ pub fn run<S: Sampler + Drop, R: Rng + Drop, E: Exporter, A: Allocator + Copy>(
         IfOk result (λ report.
         shown report.out ≡ out_after run.setup (history_view steps.now report.answers)) }
 
+    // The attempts of a batch are numbered from 1 on, as many as are configured at most, none before
+    // its moment; what follows from a reply is decided by the last outcome.
+    ensures numbered { IfOk result
+        (OfRun S.meaning R.stream config steps.now (λ run. AttemptsAreNumbered)) }
+    ensures few { IfOk result (OfRun S.meaning R.stream config steps.now AttemptsAreFew) }
+    ensures early { IfOk result
+        (OfRun S.meaning R.stream config steps.now (λ run. NoAttemptIsEarly)) }
+    ensures decided { IfOk result (OfRun S.meaning R.stream config steps.now RepliesAreDecided) }
+
     // An exporter that tells was handed the attempts that the answers speak of. The body of each
-    // means the spans of its batch.
+    // means the spans of its batch, and each retry repeats the bytes of its batch.
     ensures handed { IfOk result (OfRun S.meaning R.stream config steps.now (λ run history.
-        TellsAll (attempts history) (MeansItsBatch run.setup history)
-        (E.handed exporter.old) (E.handed exporter.new))) }
+        IsHandedOver run.setup history (E.handed exporter.old) (E.handed exporter.new))) }
 
     // Refused, nothing was done.
     ensures refused { OnErr result (exporter.new ≡ exporter.old) }
@@ -111,6 +119,7 @@ pub fn run<S: Sampler + Drop, R: Rng + Drop, E: Exporter, A: Allocator + Copy>(
         resource,
         scopes,
         desk,
+        retry,
         rng,
     } = config;
     let mut answers = Vec::with_capacity(alloc, steps.len())?;
@@ -123,6 +132,7 @@ pub fn run<S: Sampler + Drop, R: Rng + Drop, E: Exporter, A: Allocator + Copy>(
     let queue = SpanQueue { desk };
     let mut running = Running {
         alloc,
+        retry,
         table,
         queue,
     };
@@ -137,6 +147,7 @@ pub fn run<S: Sampler + Drop, R: Rng + Drop, E: Exporter, A: Allocator + Copy>(
     no_ticket_is_lost();
     ends_are_answered();
     takes_are_answered();
+    attempts_are_answered();
     one_batch_is_out();
     none_is_unaccounted_for();
     let Running { queue, .. } = running;

@@ -1,24 +1,41 @@
-use Rattle.std.proofs.Common.{refl, sym, ap, ◌∙◌}
+use Rattle.std.proofs.Common.{refl, sym, ap, ◌∙◌, inl, inr}
 use Rattle.desk_model.specs.Retries.{fate_of}
 use Rattle.batch_desk.specs.Views.{fate_view}
+use Rattle.retry_core.specs.Retries.{next_view}
 use Rattle.trace_history.specs.declared.answer.Answer.TheVariants.{Replied}
 use Rattle.trace_run.proofs.sending.judge_batch.Goals as goal
 
-pub returns-in-ToJudge-clause-replies : goal.returns-in-ToJudge-clause-replies
-returns-in-ToJudge-clause-replies g c =
+pub returns-in-Again-clause-replies : goal.returns-in-Again-clause-replies
+returns-in-Again-clause-replies g c =
     let decided = c.decide-next.ensures.next in
-    rw (c.in-Some.is, ← c.out.view_is, c.in-ToJudge.is) (record {
+    rw (c.in-Some.is, ← c.out.view_is, c.in-ToJudge.is) (inr (record {
+      moment = c.in-Again.from;
+      again = sym decided ∙ ap next_view c.in-Again.is;
       next = c.decide-next.result;
       answered = ap (λ n. Replied n c.decide-next.result) c.number.ensures;
-      decided = decided;
-      fate = fate_view c.fate_of.result;
-      ends = ap fate_of (sym decided) ∙ sym c.fate_of.ensures;
-      does = c.settle.ensures.history;
+      is = decided;
       out = refl;
-      gone = ap (λ d. d.out) c.settle.ensures.desk;
-      keeps = record {
-        config = ap (λ d. d.config) c.settle.ensures.desk;
-        next_ticket = ap (λ d. d.next_ticket) c.settle.ensures.desk;
-        closed = ap (λ d. d.closed) c.settle.ensures.desk;
-      };
-    })
+      desk_same = refl;
+    }))
+
+pub returns-in_default-next : goal.returns-in_default-next
+returns-in_default-next g c =
+    let decided = c.decide-next.ensures.next in
+    record {
+      replies = rw (c.in-Some.is, ← c.out.view_is, c.in-ToJudge.is) (inl (record {
+        next = c.decide-next.result;
+        answered = ap (λ n. Replied n c.decide-next.result) c.number.ensures;
+        is = decided;
+        fate = fate_view c.fate_of.result;
+        ends = ap fate_of (sym decided) ∙ sym c.fate_of.ensures;
+        does = c.settle.ensures.history;
+        out = refl;
+        gone = ap (λ d. d.out) c.settle.ensures.desk;
+        keeps = record {
+          config = ap (λ d. d.config) c.settle.ensures.desk;
+          next_ticket = ap (λ d. d.next_ticket) c.settle.ensures.desk;
+          closed = ap (λ d. d.closed) c.settle.ensures.desk;
+        };
+      }));
+      ready = λ room r. tt;
+    }

@@ -1,4 +1,4 @@
-use Rattle.std.proofs.Common.{◌<◌, ◌+◌, ◌-◌, ◌^◌, ap, ◌∙◌, arith, length, take, take_all}
+use Rattle.std.proofs.Common.{◌<◌, ◌+◌, ◌-◌, ◌^◌, refl, sym, ap, ◌∙◌, arith, length, take, take_all}
 use Rattle.std.proofs.lemmas.List.{length-map, length_push}
 use Rattle.run_model.specs.Runs.{Answered}
 use Rattle.otlp_span.specs.Parts.{scope_view}
@@ -6,7 +6,7 @@ use Rattle.trace_history.specs.Answers.{answer_view, history_view}
 use Rattle.trace_history.specs.Steps.{step_view}
 use Rattle.trace_run.specs.Run.{run_config}
 use Rattle.trace_run.proofs.Standing.{desk-is}
-use Rattle.trace_run.proofs.Bodies.{body-stays}
+use Rattle.trace_run.proofs.Bodies.{body-stays, handed-over}
 use Rattle.trace_run.proofs.Runs.{stands-first, tells-none, tells-more, tells-still, attempts-push, each-once, behind-length, behind-push}
 use Rattle.trace_run.proofs.whole.run.Goals as goal
 
@@ -16,6 +16,7 @@ loop-step-init g c = record {
       (rw (c.new-provider.ensures, c.in_ok-resource.ensures.ok) at c.in_ok-table.ensures.table) c.in_ok-table.ensures.empty c.in-Ok.ensures.desk c.in-Ok.ensures.history;
   told = tells-none _ (g.E.Exporter.handed c.args.exporter.now);
   ready = tt;
+  retry = refl;
   count = ap length c.in_ok-answers.ensures.items;
   answers_room = c.in_ok-answers.ensures.exact;
   table_room = c.in_ok-table.ensures.room;
@@ -35,13 +36,14 @@ loop-step-preserved g c =
     let small : length h < 2 ^ 64 - 1 = omega (arith, behind-length c.args.steps.now c.loop-step.answers.items c.loop-step.step-index i.count c.loop-step-test.true, c.loop-step-test.true) in
     let pushed = behind-push c.args.steps.now c.loop-step.answers.items c.loop-step.step-index c.step-item.result c.take_step-answer.result.0 i.count c.loop-step-test.true c.step-item.is in
     let x : Answered = record { step = step_view c.step-item.result; answer = answer_view c.take_step-answer.result.0 } in
-    let stands = c.take_step-answer.ensures.goes_on run h small i.stands in
+    let stands = c.take_step-answer.ensures.goes_on run h small (sym i.retry) i.stands in
     let still = body-stays c.batches_are_slices.ensures.stay c.ended_spans_stay.ensures.stay run.setup h x _ i.stands.below stands.history in
     record {
       stands = rw (c.push_reserved.ensures.items, pushed) stands;
       told = rw (c.push_reserved.ensures.items, pushed, attempts-push h x)
           (tells-more _ _ _ _ _ _ (tells-still _ _ _ _ _ still i.told) (tells-still _ _ _ _ _ still (c.take_step-answer.ensures.told run h i.stands)));
-      ready = c.take_step-answer.ensures.ready;
+      ready = rw i.retry at c.take_step-answer.ensures.ready;
+      retry = c.take_step-answer.ensures.retry ∙ i.retry;
       count = ap length c.push_reserved.ensures.items ∙ length_push c.loop-step.answers.items c.take_step-answer.result.0 ∙ ap (λ n. n + 1) i.count;
       answers_room = c.push_reserved.ensures.capacity ∙ i.answers_room;
       table_room = c.take_step-answer.ensures.room ∙ i.table_room;
@@ -63,7 +65,8 @@ pub returns-clause-out : goal.returns-clause-out
 returns-clause-out g c = rw (take_all c.loop-step.step-index c.args.steps.now c.loop-step-test.false) at c.loop-step.invariant.stands.out_is
 
 pub returns-clause-handed : goal.returns-clause-handed
-returns-clause-handed g c = rw (take_all c.loop-step.step-index c.args.steps.now c.loop-step-test.false) at c.loop-step.invariant.told
+returns-clause-handed g c =
+    rw (take_all c.loop-step.step-index c.args.steps.now c.loop-step-test.false) at (handed-over _ _ _ _ c.loop-step.invariant.told)
 
 pub returns-clause-late : goal.returns-clause-late
 returns-clause-late g c =
@@ -124,3 +127,23 @@ pub returns-clause-ledger : goal.returns-clause-ledger
 returns-clause-ledger g c =
     let run = run_config g.S.Sampler.meaning g.R.Rng.stream c.args.config in
     c.none_is_unaccounted_for.ensures.named run (history_view c.args.steps.now c.loop-step.answers.items)
+
+pub returns-clause-numbered : goal.returns-clause-numbered
+returns-clause-numbered g c =
+    let run = run_config g.S.Sampler.meaning g.R.Rng.stream c.args.config in
+    rw (take_all c.loop-step.step-index c.args.steps.now c.loop-step-test.false) at (c.attempts_are_answered.ensures.numbered run _ c.loop-step.invariant.stands.answers)
+
+pub returns-clause-few : goal.returns-clause-few
+returns-clause-few g c =
+    let run = run_config g.S.Sampler.meaning g.R.Rng.stream c.args.config in
+    rw (take_all c.loop-step.step-index c.args.steps.now c.loop-step-test.false) at (c.attempts_are_answered.ensures.few run _ c.loop-step.invariant.stands.answers)
+
+pub returns-clause-early : goal.returns-clause-early
+returns-clause-early g c =
+    let run = run_config g.S.Sampler.meaning g.R.Rng.stream c.args.config in
+    rw (take_all c.loop-step.step-index c.args.steps.now c.loop-step-test.false) at (c.attempts_are_answered.ensures.early run _ c.loop-step.invariant.stands.answers)
+
+pub returns-clause-decided : goal.returns-clause-decided
+returns-clause-decided g c =
+    let run = run_config g.S.Sampler.meaning g.R.Rng.stream c.args.config in
+    rw (take_all c.loop-step.step-index c.args.steps.now c.loop-step-test.false) at (c.attempts_are_answered.ensures.decided run _ c.loop-step.invariant.stands.answers)

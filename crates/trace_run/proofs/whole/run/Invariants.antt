@@ -11,7 +11,8 @@ abbrev pub invariant-loop-step : goal.invariant-loop-step
 invariant-loop-step g l = record {
   stands : Stands g.S.Sampler.meaning g.R.Rng.stream (run_config g.S.Sampler.meaning g.R.Rng.stream l.fn.config) (history_view (take l.step-index l.steps) l.answers.items) l.running.table l.running.queue l.out;
   told : TellsAll (attempts (history_view (take l.step-index l.steps) l.answers.items)) (MeansItsBatch (run_config g.S.Sampler.meaning g.R.Rng.stream l.fn.config).setup (history_view (take l.step-index l.steps) l.answers.items)) (g.E.Exporter.handed l.fn.exporter) (g.E.Exporter.handed l.exporter);
-  ready : IsReady (g.E.Exporter.room l.exporter) l.out;
+  ready : IsReady l.fn.config.retry (g.E.Exporter.room l.exporter) l.out;
+  retry : l.running.retry ≡ l.fn.config.retry;
   count : length l.answers.items ≡ l.step-index;
   answers_room : vec_capacity l.answers ≡ length l.steps;
   table_room : l.running.table.room ≡ length l.steps;
