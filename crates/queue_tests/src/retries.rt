@@ -1,20 +1,170 @@
-//! What follows from the one attempt that a batch has.
-use retry_core::{Cause, Next, Outcome, RetryAfter, decide};
+//! What follows from an attempt to send a batch, and how long is waited.
+use retry_core::{BadRetry, Cause, Next, Outcome, RetryAfter, RetryConfig, decide};
+use std::process::Abort;
+
+/// 1994-11-06 08:49:37 UTC, in seconds since 1970.
+const DATE: u64 = 784_111_777;
+
+/// What follows from this attempt, which there has to be.
+fn follows(
+    rt: &impl Abort,
+    config: &RetryConfig,
+    attempt: u32,
+    outcome: Outcome,
+    now: u64,
+    word: u64,
+) -> Next {
+    assert!(rt; attempt >= 1 && attempt <= config.attempts());
+    decide(config, attempt, &outcome, now, word)
+}
+
+fn unavailable(after: RetryAfter) -> Outcome {
+    Outcome::Later {
+        status: 503,
+        after: Some(after),
+    }
+}
 
 #[test]
-fn a_batch_is_not_sent_again(rt: HostRuntime) {
-    let later = Outcome::Later {
-        status: 503,
-        after: Some(RetryAfter::Seconds(7)),
+fn waits_double_and_words_shorten_them(rt: HostRuntime) {
+    let config = RetryConfig::default();
+    for (attempt, word, moment) in [
+        (1, 0, 1_000_000_000),
+        (1, 500, 500_000_000),
+        (1, 501, 1_000_000_000),
+        (2, 0, 2_000_000_000),
+        (2, 1000, 1_000_000_000),
+        (3, 1, 3_999_000_000),
+        (4, 4000, 4_000_000_000),
+        (4, 4001, 8_000_000_000),
+    ] {
+        let next = follows(&rt, &config, attempt, Outcome::NoReply, 0, word);
+        assert_eq!(rt; next, Next::Again(moment));
+    }
+}
+
+#[test]
+fn waits_stop_at_the_greatest(rt: HostRuntime) {
+    let config = RetryConfig::new(5, 30_000, 100_000).expect(&rt, "settings");
+    for (attempt, word, moment) in [
+        (1, 15_000, 15_000_000_000),
+        (2, 0, 60_000_000_000),
+        (3, 0, 100_000_000_000),
+        (4, 50_000, 50_000_000_000),
+    ] {
+        let next = follows(&rt, &config, attempt, Outcome::NoReply, 0, word);
+        assert_eq!(rt; next, Next::Again(moment));
+    }
+}
+
+#[test]
+fn collectors_are_waited_for_as_they_ask(rt: HostRuntime) {
+    let config = RetryConfig::default();
+    for (after, now, moment) in [
+        (RetryAfter::Seconds(0), 7, 7),
+        (RetryAfter::Seconds(7), 7, 7_000_000_007),
+        (RetryAfter::Seconds(301), 0, 300_000_000_000),
+        (RetryAfter::Seconds(u64::MAX), 0, 300_000_000_000),
+        (
+            RetryAfter::Date(DATE),
+            784_111_775_000_000_000,
+            784_111_777_000_000_000,
+        ),
+        (
+            RetryAfter::Date(DATE),
+            784_111_777_000_000_001,
+            784_111_777_000_000_001,
+        ),
+        (RetryAfter::Date(u64::MAX), 5, 300_000_000_005),
+    ] {
+        let next = follows(&rt, &config, 1, unavailable(after), now, 9);
+        assert_eq!(rt; next, Next::Again(moment));
+    }
+}
+
+#[test]
+fn moments_stop_at_the_last_one(rt: HostRuntime) {
+    let config = RetryConfig::default();
+    for (outcome, now) in [
+        (Outcome::NoReply, 18_446_744_073_709_551_000),
+        (unavailable(RetryAfter::Seconds(1)), u64::MAX),
+        (unavailable(RetryAfter::Date(u64::MAX)), u64::MAX),
+    ] {
+        let next = follows(&rt, &config, 1, outcome, now, 0);
+        assert_eq!(rt; next, Next::Again(18_446_744_073_709_551_615));
+    }
+}
+
+#[test]
+fn each_outcome_is_followed_at_each_attempt(rt: HostRuntime) {
+    for last in [1, 2, 5] {
+        let config = RetryConfig::new(last, 1, 1).expect(&rt, "settings");
+        for attempt in 1..=last {
+            let again = if attempt == last {
+                Next::GiveUp(Cause::Attempts)
+            } else {
+                Next::Again(1_000_003)
+            };
+            each_outcome_is_followed(&rt, &config, attempt, again);
+        }
+    }
+}
+
+/// At the moment 3, with waits of a millisecond.
+fn each_outcome_is_followed(rt: &impl Abort, config: &RetryConfig, attempt: u32, again: Next) {
+    let throttled = Outcome::Later {
+        status: 429,
+        after: None,
     };
     for (outcome, next) in [
         (Outcome::Delivered, Next::Done),
         (Outcome::Partial(2), Next::Partial(2)),
-        (later, Next::GiveUp(Cause::Attempts)),
+        (throttled, again),
         (Outcome::Refused(400), Next::GiveUp(Cause::Refused(400))),
-        (Outcome::NoReply, Next::GiveUp(Cause::Attempts)),
+        (Outcome::NoReply, again),
         (Outcome::Bad, Next::GiveUp(Cause::BadReply)),
     ] {
-        assert_eq!(rt; decide(&outcome), next);
+        assert_eq!(rt; follows(rt, config, attempt, outcome, 3, 0), next);
     }
+}
+
+#[test]
+fn a_batch_of_one_attempt_is_not_sent_again(rt: HostRuntime) {
+    let config = RetryConfig::single_attempt();
+    assert_eq!(rt; config.attempts(), 1);
+    let outcome = unavailable(RetryAfter::Seconds(7));
+    let next = follows(&rt, &config, 1, outcome, 0, 0);
+    assert_eq!(rt; next, Next::GiveUp(Cause::Attempts));
+}
+
+#[test]
+fn settings_have_ranges(rt: HostRuntime) {
+    for (attempts, initial_ms, max_ms) in [
+        (1, 1000, 30_000),
+        (5, 1000, 30_000),
+        (5, 1, 1),
+        (5, 1, 300_000),
+        (5, 30_000, 30_000),
+        (5, 30_000, 300_000),
+    ] {
+        let config = RetryConfig::new(attempts, initial_ms, max_ms).expect(&rt, "settings");
+        assert_eq!(rt; config.attempts(), attempts);
+        assert_eq!(rt; config.initial_ms(), initial_ms);
+        assert_eq!(rt; config.max_ms(), max_ms);
+    }
+    for (attempts, initial_ms, max_ms) in [
+        (0, 1000, 30_000),
+        (6, 1000, 30_000),
+        (5, 0, 30_000),
+        (5, 30_001, 300_000),
+        (5, 1000, 999),
+        (5, 1000, 300_001),
+    ] {
+        let refused = RetryConfig::new(attempts, initial_ms, max_ms);
+        assert_eq!(rt; refused, Err(BadRetry));
+    }
+    assert_eq!(rt;
+        RetryConfig::new(5, 1000, 30_000),
+        Ok(RetryConfig::default())
+    );
 }

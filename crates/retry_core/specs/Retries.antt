@@ -1,6 +1,7 @@
 -- What outcomes of attempts, and what follows from them, are in the model.
 use Rattle.std.specs.Prelude.{option_map}
 use Rattle.desk_model.specs.Retries as model
+use Rattle.retry_model.specs.Waits as waiting
 use Rattle.retry_core.specs.declared.outcome.Outcome.{Outcome}
 use Rattle.retry_core.specs.declared.outcome.Outcome.TheVariants as outcomes
 use Rattle.retry_core.specs.declared.outcome.RetryAfter.{RetryAfter}
@@ -32,3 +33,7 @@ next_view nexts.Done = model.done
 next_view (nexts.Partial rejected) = model.Next.partial rejected
 next_view (nexts.Again moment) = model.again moment
 next_view (nexts.GiveUp cause) = model.give_up (cause_view cause)
+
+-- five attempts, waits of at most 1 second first and of at most 30 seconds (profile)
+abbrev pub default_retry : waiting.RetryConfig
+default_retry = record { attempts = 5; initial_ms = 1000; max_ms = 30000 }

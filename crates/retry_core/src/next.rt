@@ -1,10 +1,13 @@
 //! What follows from an outcome.
 
-ghost use Rattle.std.specs.Prelude.{◌≡◌};
+ghost use Rattle.std.specs.Prelude.{◌≡◌, ◌≤◌, option_map};
 ghost use Rattle.desk_model.specs.Retries.{next_of};
-ghost use Rattle.retry_core.specs.Retries.{outcome_view, next_view};
+ghost use Rattle.retry_model.specs.Waits.{next_after, retried};
+ghost use Rattle.retry_core.specs.Retries.{next_view, outcome_view, retry_after_view};
 
-use crate::outcome::Outcome;
+use crate::config::RetryConfig;
+use crate::outcome::{Outcome, RetryAfter};
+use crate::wait::wait_of;
 
 /// Why a batch is given up. (profile)
 #[derive(Clone, Copy, Debug, PartialEq, Eq)]
@@ -30,11 +33,20 @@ pub enum Next {
     GiveUp(Cause),
 }
 
-/// What follows from the one attempt that a batch has. An outcome after which it would be sent
-/// again ends it, as the last attempt does. (OTLP Specification, "Retryable Response Codes", "All
-/// Other Responses"; one attempt: profile)
-pub fn decide(outcome: &Outcome) -> Next
-    ensures next { next_view result ≡ next_of (outcome_view outcome.now) }
+/// Whether an outcome is to be tried again, and what its reply asks for.
+fn retried(outcome: &Outcome) -> Option<Option<RetryAfter>>
+    ensures { option_map (option_map retry_after_view) result ≡ retried (outcome_view outcome.now) }
+{
+    match *outcome {
+        Outcome::Later { after, .. } => Some(after),
+        Outcome::NoReply => Some(None),
+        _ => None,
+    }
+}
+
+/// What follows from the last attempt that a batch has.
+fn last_next(outcome: &Outcome) -> Next
+    ensures { next_view result ≡ next_of (outcome_view outcome.now) }
 {
     match *outcome {
         Outcome::Delivered => Next::Done,
@@ -42,5 +54,30 @@ pub fn decide(outcome: &Outcome) -> Next
         Outcome::Later { .. } | Outcome::NoReply => Next::GiveUp(Cause::Attempts),
         Outcome::Refused(status) => Next::GiveUp(Cause::Refused(status)),
         Outcome::Bad => Next::GiveUp(Cause::BadReply),
+    }
+}
+
+/// What follows from the outcome of an attempt, which are numbered from 1 on, at the moment `now`,
+/// in nanoseconds since 1970. `word` is a random word, by which a wait is shortened that the
+/// collector didn't ask for. It takes no memory. (OTLP Specification, "OTLP/HTTP Response",
+/// "OTLP/HTTP Throttling")
+///
+/// `Later` and `NoReply` are followed by another attempt, unless this one was the last. The wait
+/// before it is `initial_ms` behind the first attempt, and twice as long behind each later one, up
+/// to `max_ms`; the word, modulo half of that and one more, takes off so many milliseconds, which
+/// are half of the wait at most. What a reply asks for stands in place of it, up to 300 seconds: so
+/// many seconds, or until a date. The moment is 2^64 - 1 where it would be later. (profile)
+pub fn decide(config: &RetryConfig, attempt: u32, outcome: &Outcome, now: u64, word: u64) -> Next
+    requires first { 1 ≤ attempt }
+    requires last { attempt ≤ config.now.attempts }
+    ensures next { next_view result ≡
+        next_after config.now attempt (outcome_view outcome.now) now word }
+{
+    if attempt >= config.attempts() {
+        return last_next(outcome);
+    }
+    match retried(outcome) {
+        None => last_next(outcome),
+        Some(after) => Next::Again(now.saturating_add(wait_of(config, attempt, after, now, word))),
     }
 }

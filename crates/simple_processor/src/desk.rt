@@ -13,7 +13,7 @@ use batch_desk::{DropCounts, Fate, FateCounts, Totals};
 use drop_ledger::Ledger;
 use otlp_ids::OutOfMemory;
 use otlp_span::{Entry, Reason, SpanData};
-use retry_core::{Cause, Next, Outcome, decide};
+use retry_core::{Cause, Next, Outcome, RetryConfig, decide};
 use span_exporter::Exporter;
 use std::alloc::Allocator;
 use std::marker::Model;
@@ -190,7 +190,7 @@ fn send<E: Exporter, A: Allocator + Copy>(
 fn fate_of(outcome: Outcome) -> Fate
     ensures { retries.fate_of (next_of (outcome_view outcome)) ≡ Some (fate_view result) }
 {
-    match decide(&outcome) {
+    match decide(&RetryConfig::single_attempt(), 1, &outcome, 0, 0) {
         Next::Done => Fate::Delivered,
         Next::Partial(rejected) => Fate::Partial(rejected),
         Next::GiveUp(Cause::Refused(status)) => Fate::Refused(status),

@@ -1,0 +1,16 @@
+-- Settings of retries, and what is asked of them.
+use Rattle.std.specs.Prelude.{ℕ, Some}
+use Rattle.desk_model.specs.Retries.{RetryAfter, later, no_reply, Next}
+use Rattle.retry_model.specs.Waits.{RetryConfig, next_after}
+
+-- five attempts, waits of at most 1 second first and of at most 30 seconds
+abbrev pub usual : RetryConfig
+usual = record { attempts = 5; initial_ms = 1000; max_ms = 30000 }
+
+-- what follows from an attempt without a reply, at a moment, where a random word was drawn
+abbrev pub silence : ℕ → ℕ → ℕ → Next
+silence attempt now word = next_after usual attempt no_reply now word
+
+-- what follows from the first attempt, at a moment, where its reply asks for a wait
+abbrev pub asked : RetryAfter → ℕ → Next
+asked wait now = next_after usual 1 (later 503 (Some wait)) now 0
