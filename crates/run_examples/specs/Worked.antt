@@ -16,12 +16,13 @@ use Rattle.desk_model.specs.Retries.{Outcome, Next}
 use Rattle.desk_model.specs.Queue.{DeskEvent}
 use Rattle.desk_model.specs.Desks.{DeskConfig, Desk, desk_of}
 use Rattle.desk_laws.specs.Queues.{places, times}
+use Rattle.retry_model.specs.Waits.{RetryConfig}
 use Rattle.history_model.specs.Steps.{Parent, root, Step}
 use Rattle.history_model.specs.History.{Setup, start_results_behind}
 use Rattle.run_model.specs.Runs.{Answer, sent, Answered, ended_by, desk_events}
 use Rattle.run_model.specs.Runs as runs
 use Rattle.run_model.specs.Headline.{OutBatch, out_after}
-use Rattle.run_model.specs.Answers.{RunConfig, Progress, progress, desk_after, answer_to}
+use Rattle.run_model.specs.Answers.{RunConfig, Progress, progress, last_attempt, desk_after, answer_to}
 
 -- ---- identifiers
 
@@ -67,21 +68,41 @@ setup_with sampler words = record {
 abbrev pub desk_of_size : ℕ → DeskConfig
 desk_of_size queue = record { queue = queue; batch = 2; delay_ms = 5000 }
 
+-- five attempts, waits from 1000 to 30000 ms
+abbrev pub five_attempts : RetryConfig
+five_attempts = record { attempts = 5; initial_ms = 1000; max_ms = 30000 }
+
 -- all spans are sampled
 abbrev pub queue_of : ℕ → RunConfig
-queue_of queue = record { setup = setup_with always_on counting; desk = desk_of_size queue }
+queue_of queue = record {
+  setup = setup_with always_on counting;
+  desk = desk_of_size queue;
+  retry = five_attempts;
+}
+
+-- the same, with one attempt
+abbrev pub once_of : ℕ → RunConfig
+once_of queue = record {
+  setup = setup_with always_on counting;
+  desk = desk_of_size queue;
+  retry = record five_attempts { attempts = 1 };
+}
 
 -- a queue of one, and batches of one
 abbrev pub single : RunConfig
 single = record {
   setup = setup_with always_on counting;
   desk = record { queue = 1; batch = 1; delay_ms = 5000 };
+  retry = five_attempts;
 }
 
 -- a queue of four, with this sampler and these words, behind which are zeros
 abbrev pub run_with : SamplerMeaning → List ℕ → RunConfig
-run_with sampler words =
-    record { setup = setup_with sampler (slice_index words); desk = desk_of_size 4 }
+run_with sampler words = record {
+  setup = setup_with sampler (slice_index words);
+  desk = desk_of_size 4;
+  retry = five_attempts;
+}
 
 -- ---- steps
 
@@ -121,7 +142,7 @@ is_sent _ = false
 -- exporter has these outcomes, and then delivers.
 unfoldable pub history_behind : RunConfig → List ℕ → List Answered → List Outcome → List Step
     → List Answered
-unfolding desk_after desk_of desk_events ended_by progress start_results_behind started_span ids_of ids_words first_valid span chars encode groups body_length canon septets_of
+unfolding desk_after desk_of desk_events ended_by progress last_attempt start_results_behind started_span ids_of ids_words first_valid span chars encode groups body_length canon septets_of
 history_behind run scarce before outcomes [] = before
 history_behind run scarce before outcomes (step ∷ later) =
     let refused = list_any (λ place. place == length before) scarce in
@@ -268,7 +289,7 @@ unfolding desk_after desk_of worked_events
 worked_desk = desk_after (queue_of 2) worked
 
 unfoldable pub worked_out : Option OutBatch
-unfolding worked_events progress
+unfolding worked_events progress last_attempt
 worked_out = out_after (queue_of 2).setup worked
 
 -- how often each of so many tickets is in a place

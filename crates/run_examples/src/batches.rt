@@ -1,12 +1,12 @@
-//! What becomes of a batch that was taken (OTLP Specification, "OTLP/HTTP Response"; one attempt:
-//! profile). Of bodies the lengths stand here.
+//! What becomes of a batch that was taken (OTLP Specification, "OTLP/HTTP Response"). Of bodies the
+//! lengths stand here.
 
 ghost use Rattle.std.specs.Prelude.{◌≡◌, [], ◌∷◌, ◌++◌, pos, Some, None};
 ghost use Rattle.span_model.specs.Sampling.{always_on};
 ghost use Rattle.desk_model.specs.Retries.{Outcome, later, no_reply, bad, seconds, Next, give_up, Cause, attempts};
 ghost use Rattle.history_model.specs.Steps.{Step};
 ghost use Rattle.run_model.specs.Runs.{Answer, taken, encoded, sent, replied, nothing, out_of_memory};
-ghost use Rattle.run_examples.specs.Worked.{queue_of, run_with, first, child, family, ends, sends, answers_from, answers_without, answers_by, queued, delivers};
+ghost use Rattle.run_examples.specs.Worked.{queue_of, once_of, run_with, first, child, family, ends, sends, answers_from, answers_without, answers_by, queued, delivers};
 
 /// A batch is encoded once, then sent once, and then that is judged once.
 #[tactic(auto, unfolding(crate::specs::Worked::answers_from))]
@@ -52,25 +52,23 @@ pub fn refused()
         Answer.flush ∷ taken 1 1 ∷ delivers 1 64 }
 {}
 
-/// What follows from the outcome of the one attempt. The next batch is no longer concerned.
+/// What follows from the outcome of an attempt that is the last.
 #[tactic(auto, unfolding(crate::specs::Worked::answers_by))]
 pub fn outcomes()
-    ensures partial { answers_by (Outcome.partial (pos 2) ∷ []) 5 (queue_of 4)
+    ensures partial { answers_by (Outcome.partial (pos 2) ∷ []) 5 (once_of 4)
         (first ∷ ends 0 ∷ Step.flush ∷ Step.take 0 ∷ sends) ≡
         sent 1 1 (Outcome.partial (pos 2)) ∷ replied 1 (Next.partial (pos 2)) ∷ [] }
-    ensures bad_request { answers_by (Outcome.refused 400 ∷ []) 5 (queue_of 4)
+    ensures bad_request { answers_by (Outcome.refused 400 ∷ []) 5 (once_of 4)
         (first ∷ ends 0 ∷ Step.flush ∷ Step.take 0 ∷ sends) ≡
         sent 1 1 (Outcome.refused 400) ∷ replied 1 (give_up (Cause.refused 400)) ∷ [] }
-    ensures unavailable { answers_by (later 503 (Some (seconds 2)) ∷ []) 5 (queue_of 4)
+    ensures unavailable { answers_by (later 503 (Some (seconds 2)) ∷ []) 5 (once_of 4)
         (first ∷ ends 0 ∷ Step.flush ∷ Step.take 0 ∷ sends) ≡
         sent 1 1 (later 503 (Some (seconds 2))) ∷ replied 1 (give_up attempts) ∷ [] }
-    ensures silent { answers_by (no_reply ∷ []) 5 (queue_of 4)
-        (first ∷ ends 0 ∷ Step.flush ∷ Step.take 0 ∷ sends) ≡
-        sent 1 1 no_reply ∷ replied 1 (give_up attempts) ∷ [] }
-    ensures bad { answers_by (bad ∷ []) 5 (queue_of 4)
+    ensures bad { answers_by (bad ∷ []) 5 (once_of 4)
         (first ∷ ends 0 ∷ Step.flush ∷ Step.take 0 ∷ sends) ≡
         sent 1 1 bad ∷ replied 1 (give_up Cause.bad_reply) ∷ [] }
-    ensures next_batch { answers_by (no_reply ∷ []) 7 (queue_of 4)
+    // The next batch is no longer concerned.
+    ensures next_batch { answers_by (no_reply ∷ []) 7 (once_of 4)
         (family 1 ++ ends 0 ∷ Step.flush ∷ Step.take 0 ∷ sends ++ ends 1 ∷ Step.flush ∷
         Step.take 0 ∷ sends) ≡
         replied 1 (give_up attempts) ∷ queued 1 ∷ Answer.flush ∷ taken 2 1 ∷ delivers 2 74 }

@@ -56,7 +56,12 @@ pub fn left()
       };
     } }
     ensures out { worked_out ≡
-        Some (record { number = 2; spans = child_span 3 6 ∷ []; progress = to_encode }) }
+        Some (record {
+          number = 2;
+          spans = child_span 3 6 ∷ [];
+          progress = to_encode;
+          attempts = 0;
+        }) }
     ensures attempts { attempts worked ≡
         record { number = 1; attempt = 1; outcome = Outcome.delivered } ∷ [] }
     // Before the first take and behind it, behind the encoding, the attempt and the reply.

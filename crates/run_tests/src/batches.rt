@@ -7,7 +7,7 @@ use batch_desk::DeskConfig;
 use otlp_ids::{SpanId, TraceId};
 use otlp_sampler::AlwaysOn;
 use otlp_span::{Entry, Reason};
-use retry_core::{Cause, Next, Outcome};
+use retry_core::{Cause, Next, Outcome, RetryConfig};
 use std::alloc::Allocator;
 use std::process::Abort;
 use trace_history::Answer;
@@ -225,7 +225,7 @@ fn steps_for_no_batch_do_nothing(rt: HostRuntime) {
 }
 
 #[test]
-fn each_outcome_has_its_reply(rt: HostRuntime) {
+fn each_outcome_of_the_last_attempt_has_its_reply(rt: HostRuntime) {
     let alloc = rt.alloc();
     let later = Outcome::Later {
         status: 503,
@@ -241,7 +241,8 @@ fn each_outcome_has_its_reply(rt: HostRuntime) {
     ];
     for (outcome, next) in cases {
         let drawn = words(&rt, alloc, &WORDS);
-        let config = config(&rt, alloc, AlwaysOn, desk(1, 1), drawn);
+        let mut config = config(&rt, alloc, AlwaysOn, desk(1, 1), drawn);
+        config.retry = RetryConfig::single_attempt();
         let mut exporter = exporter(&rt, alloc, &[outcome]);
         let program = [
             (Do::Root, ROOT),

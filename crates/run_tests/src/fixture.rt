@@ -7,7 +7,7 @@ use otlp_ids::{SpanContext, SpanId, TraceFlags, TraceId};
 use otlp_sampler::Sampler;
 use otlp_span::{Entry, Kind, Reason, Resource, Scope, SpanCall, SpanLimits};
 use otlp_value::Value;
-use retry_core::{Next, Outcome};
+use retry_core::{Next, Outcome, RetryConfig};
 use span_exporter::MemoryExporter;
 use span_ring::MAX_QUEUE;
 use std::alloc::Allocator;
@@ -67,7 +67,11 @@ pub(crate) enum Do {
     Take(u64),
     Encode,
     Attempt,
+    /// An attempt at this moment.
+    AttemptAt(u64),
     Reply,
+    /// A reply at this moment, with this word.
+    ReplyAt(u64, u64),
 }
 
 /// The start of a span.
@@ -114,7 +118,9 @@ fn step<A: Allocator + Copy>(rt: &impl Abort, alloc: A, short: Do) -> Step<A> {
         Do::Take(at) => Step::Take { at },
         Do::Encode => Step::Encode,
         Do::Attempt => Step::Attempt { at: 10 },
+        Do::AttemptAt(at) => Step::Attempt { at },
         Do::Reply => Step::Reply { at: 10, word: 0 },
+        Do::ReplyAt(at, word) => Step::Reply { at, word },
     }
 }
 
@@ -132,7 +138,7 @@ pub(crate) fn steps<A: Allocator + Copy>(
 }
 
 /// What a run has before its first step: the scope `s`, and spans of these words that this sampler
-/// decides on.
+/// decides on. Batches are sent again as by default.
 pub(crate) fn config<S: Sampler, A: Allocator + Copy>(
     rt: &impl Abort,
     alloc: A,
@@ -158,6 +164,7 @@ pub(crate) fn config<S: Sampler, A: Allocator + Copy>(
         resource,
         scopes,
         desk,
+        retry: RetryConfig::default(),
         rng,
     }
 }
@@ -208,9 +215,14 @@ pub(crate) fn encoded(batch: u64, length: usize) -> Answer {
 }
 
 pub(crate) fn sent(batch: u64, outcome: Outcome) -> Answer {
+    sent_again(batch, 1, outcome)
+}
+
+/// The answer to this attempt of a batch.
+pub(crate) fn sent_again(batch: u64, attempt: u32, outcome: Outcome) -> Answer {
     Answer::Sent {
         batch,
-        attempt: 1,
+        attempt,
         outcome,
     }
 }

@@ -13,4 +13,6 @@ mod fixture;
 #[cfg(test)]
 mod memory;
 #[cfg(test)]
+mod retries;
+#[cfg(test)]
 mod starts;

@@ -167,7 +167,7 @@ fn count_told<A: Allocator + Copy>(rt: &impl Abort, ample: A, scarce: A) -> usiz
 }
 
 /// More calls for memory than the run makes.
-const MOST: u64 = 100;
+const MOST: u64 = 120;
 
 #[test]
 fn each_refusal_of_memory_leaves_all_spans_accounted_for(rt: HostRuntime) {

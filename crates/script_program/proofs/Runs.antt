@@ -10,7 +10,9 @@ use Rattle.trace_history.specs.Answers.{answer_view, history_view}
 use Rattle.trace_history.specs.Steps.{step_view}
 use Rattle.trace_history.specs.declared.answer.Answer.{Answer}
 use Rattle.trace_history.specs.declared.step.Step.{Step as CodeStep}
-use Rattle.trace_run.specs.State.{MeansItsBatch, TellsAll, attempt_of}
+use Rattle.trace_run.specs.State.{MeansItsBatch, RepeatsBytes, IsHandedOver, attempt_of}
+use Rattle.retry_core.specs.Retries.{default_retry}
+use Rattle.history_model.specs.History.{Setup}
 use Rattle.span_script.specs.Scripts.{Script}
 use Rattle.span_script.specs.Parsed.{Means}
 use Rattle.span_script.specs.declared.script.Script.{Script as CodeScript}
@@ -21,7 +23,7 @@ use Rattle.script_program.specs.Printed.{IsRunText, run_text}
 
 -- what a script has before its first step
 abbrev pub run_view : {A : Type 0} → CodeScript A → RunConfig
-run_view s = record { setup = setup_view s; desk = config_view s.desk }
+run_view s = record { setup = setup_view s; desk = config_view s.desk; retry = default_retry }
 
 pub same-run : {A : Type 0} (c : CodeScript A) (read : Script) → Means c read → run_view c ≡ run_of read
 same-run c read m = rw (m.words, m.sampler, m.limits, m.desk, m.resource, m.scopes) refl
@@ -34,21 +36,22 @@ steps-of (x ∷ steps) [] h = cc
 steps-of (x ∷ steps) (y ∷ answers) h = ap (λ xs. step_view x ∷ xs) (steps-of steps answers (cc))
 
 -- what was handed to an exporter that was handed nothing before
-handed-are : (told : List Attempt) (means : Handed → Type 0) (handed : List Handed) (t : TellsAll told means (Some []) (Some handed)) → handed ≡ t.more
-handed-are told means handed t = let same : Some handed ≡ Some t.more = t.gains in let e : handed ≡ t.more = cc in e
+handed-are : (setup : Setup) (h : List Answered) (handed : List Handed) (t : IsHandedOver setup h (Some []) (Some handed)) → handed ≡ t.more
+handed-are setup h handed t = let same : Some handed ≡ Some t.more = t.gains in let e : handed ≡ t.more = cc in e
 
 pub run-is : {A : Type 0} (c : CodeScript A) (read : Script) (answers : List Answer) (desk : Desk) (handed : List Handed) (text : List ℕ) → Means c read → length answers ≡ length c.steps.items
     → AreAnswers (run_view c) (history_view c.steps.items answers) → EachOnce (setup_view c) (history_view c.steps.items answers) → desk ≡ desk_after (run_view c) (history_view c.steps.items answers)
-    → TellsAll (attempts (history_view c.steps.items answers)) (MeansItsBatch (setup_view c) (history_view c.steps.items answers)) (Some []) (Some handed) → text ≡ run_text handed (history_view c.steps.items answers) desk → IsRunText read text
+    → IsHandedOver (setup_view c) (history_view c.steps.items answers) (Some []) (Some handed) → text ≡ run_text handed (history_view c.steps.items answers) desk → IsRunText read text
 run-is c read answers desk handed text means many answered once is told lines = record {
   history = history_view c.steps.items answers;
   steps = steps-of c.steps.items answers many ∙ means.steps;
   answered = rw (sym (same-run c read means)) answered;
   each_once = rw (ap (λ (r : RunConfig). r.setup) (sym (same-run c read means))) once;
   handed = handed;
-  told = ap (map attempt_of) (handed-are (attempts (history_view c.steps.items answers)) (MeansItsBatch (setup_view c) (history_view c.steps.items answers)) handed told) ∙ told.are;
+  told = ap (map attempt_of) (handed-are (setup_view c) (history_view c.steps.items answers) handed told) ∙ told.are;
   bodies =
       rw (ap (λ (r : RunConfig). r.setup) (sym (same-run c read means)))
-      (subst (AllByRecursion (MeansItsBatch (setup_view c) (history_view c.steps.items answers))) (sym (handed-are (attempts (history_view c.steps.items answers)) (MeansItsBatch (setup_view c) (history_view c.steps.items answers)) handed told)) told.bodies);
+      (subst (AllByRecursion (MeansItsBatch (setup_view c) (history_view c.steps.items answers))) (sym (handed-are (setup_view c) (history_view c.steps.items answers) handed told)) told.bodies);
+  repeats = subst RepeatsBytes (sym (handed-are (setup_view c) (history_view c.steps.items answers) handed told)) told.repeats;
   lines = lines ∙ ap (run_text handed (history_view c.steps.items answers)) (is ∙ ap (λ (r : RunConfig). desk_after r (history_view c.steps.items answers)) (same-run c read means));
 }

@@ -11,7 +11,7 @@ use Rattle.run_model.specs.Runs.{Answered}
 use Rattle.run_model.specs.Answers.{AreAnswers, desk_after}
 use Rattle.run_model.specs.Headline.{EachOnce, attempts}
 use Rattle.span_exporter.specs.Handed.{Handed}
-use Rattle.trace_run.specs.State.{MeansItsBatch, attempt_of}
+use Rattle.trace_run.specs.State.{MeansItsBatch, RepeatsBytes, attempt_of}
 use Rattle.run_text.specs.Lines.{answers_text, report_text}
 use Rattle.span_script.specs.Scripts.{Script, script_read}
 use Rattle.span_script.specs.declared.script.ScriptError.TheVariants as scripts
@@ -42,7 +42,8 @@ run_text handed history desk =
 
 -- The text is that of a run: each step of the script has its answer, no span is unaccounted for,
 -- the exporter was handed the attempts that the answers speak of, each with a body that means the
--- spans of its batch, and the report is of what the queue then shows.
+-- spans of its batch, and a retry with the bytes of its batch; the report is of what the queue then
+-- shows.
 pub record IsRunText (script : Script) (text : List ℕ) : Type 0 where
   pub history : List Answered
   pub steps : map (λ x. x.step) history ≡ script.steps
@@ -51,6 +52,7 @@ pub record IsRunText (script : Script) (text : List ℕ) : Type 0 where
   pub handed : List Handed
   pub told : map attempt_of handed ≡ attempts history
   pub bodies : AllByRecursion (MeansItsBatch (setup_of script) history) handed
+  pub repeats : RepeatsBytes handed
   pub lines : text ≡ run_text handed history (desk_after (run_of script) history)
 
 -- ---- either

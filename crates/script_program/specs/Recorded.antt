@@ -6,6 +6,7 @@ use Rattle.span_model.specs.Sampling.{SamplerMeaning, always_on, always_off, as_
 use Rattle.span_model.specs.Identifiers.{Words}
 use Rattle.span_model.specs.Spans.{default_limits}
 use Rattle.history_model.specs.History.{Setup, ended_spans, granted_steps}
+use Rattle.retry_core.specs.Retries.{default_retry}
 use Rattle.run_model.specs.Answers.{RunConfig}
 use Rattle.batch_desk.specs.Desk.{default_config}
 use Rattle.span_script.specs.Scripts.{Script, all_kept, kept_scope}
@@ -40,10 +41,14 @@ setup_of s = record {
   scopes = map kept_scope s.scopes;
 }
 
--- The same, with the batch processor. Where the script sets no sizes they are the standard's.
--- (Trace SDK, Batching processor)
+-- The same, with the batch processor. Where the script sets no sizes they are the standard's, and so
+-- the settings of retries are the default. (Trace SDK, Batching processor; retries: profile)
 abbrev pub run_of : Script → RunConfig
-run_of s = record { setup = setup_of s; desk = unwrap_or s.desk default_config }
+run_of s = record {
+  setup = setup_of s;
+  desk = unwrap_or s.desk default_config;
+  retry = default_retry;
+}
 
 -- the spans that a script ends before its first shutdown, in the order of their ends
 abbrev pub spans_of : Script → List model.EndedSpan

@@ -11,6 +11,7 @@ use crate::sampler::ScriptSampler;
 use batch_desk::Desk;
 use otlp_ids::OutOfMemory;
 use otlp_span::Resource;
+use retry_core::RetryConfig;
 use run_text::{write_answers, write_report};
 use span_exporter::{Handed, MemoryExporter};
 use span_script::Script;
@@ -48,6 +49,7 @@ pub fn text_of_script<A: Allocator + Copy>(
         },
         scopes,
         desk,
+        retry: RetryConfig::default(),
         rng: WordsRng::new(words),
     };
     let mut exporter = MemoryExporter::new(alloc, answers);
