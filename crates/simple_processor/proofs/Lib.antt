@@ -2,3 +2,4 @@ mod Lists
 mod Agree
 mod Ends
 mod Closing
+pub mod Crosses

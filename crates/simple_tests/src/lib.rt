@@ -1,5 +1,5 @@
-//! Tests of `simple_processor` over its public calls: answers, totals, and each refusal of memory.
-//! The crate has no items of its own.
+//! Tests of `simple_processor` over its public calls: threads that share one exporter, what its
+//! totals count, and each refusal of memory; and two processors side by side.
 #![tactic(auto)]
 
 #[cfg(test)]
@@ -8,3 +8,8 @@ mod ends;
 mod fixture;
 #[cfg(test)]
 mod memory;
+mod neighbors;
+#[cfg(test)]
+mod threads;
+
+pub use neighbors::close_two;
