@@ -105,6 +105,7 @@ made-by c old new answers.NotTaken h = absurd h
 made-by c old new (answers.Encoded batch length) h = absurd h
 made-by c old new (answers.Sent batch attempt outcome) h = absurd h
 made-by c old new (answers.Replied batch next) h = absurd h
+made-by c old new answers.Early h = absurd h
 made-by c old new answers.Nothing h = absurd h
 
 -- ---- the span in a slot

@@ -294,6 +294,7 @@ tells-none there o answers.NotTaken h = absurd h
 tells-none there o (answers.Encoded batch length) h = absurd h
 tells-none there o (answers.Sent batch attempt outcome) h = absurd h
 tells-none there o (answers.Replied batch next) h = absurd h
+tells-none there o answers.Early h = absurd h
 tells-none there o answers.Nothing h = absurd h
 
 pub comes-none : {there : Bool} {o : StartResult} {before after : Words} (answer : Answer) → ComesTo o there before after (Err answer) → TellsStart there o answer None
