@@ -8,7 +8,7 @@ use Rattle.span_model.specs.Dropped.{Reason, Entry}
 use Rattle.span_model.specs.Spans.{is_end}
 use Rattle.desk_model.specs.Retries.{Next, Cause}
 use Rattle.history_model.specs.Steps.{Step}
-use Rattle.run_model.specs.Runs.{Ended, Answer, started, no_randomness, no_span, out_of_memory, done, ended, taken, encoded, sent, replied, Answered}
+use Rattle.run_model.specs.Runs.{Ended, Answer, started, no_randomness, no_span, out_of_memory, done, ended, taken, encoded, sent, early, replied, Answered}
 use Rattle.run_model.specs.Headline.{attempts}
 use Rattle.span_exporter.specs.Handed.{Handed}
 
@@ -68,10 +68,12 @@ encode_words last (encoded batch size) = decimal batch ∷ decimal size ∷ []
 encode_words last out_of_memory = decimal last ∷ codes "out-of-memory" ∷ []
 encode_words last _ = codes "none" ∷ []
 
--- the number of the batch, which attempt of it this was, and the body that was handed over
+-- The number of the batch, which attempt of it this was, and the body that was handed over; or the
+-- moment stands before the one from which the batch is to be sent again.
 abbrev pub attempt_words : List ℕ → Answer → List (List ℕ)
 attempt_words body (sent batch attempt outcome) =
     decimal batch ∷ decimal attempt ∷ encode_lower body ∷ []
+attempt_words body early = codes "early" ∷ []
 attempt_words body _ = codes "none" ∷ []
 
 abbrev pub cause_words : Cause → List (List ℕ)

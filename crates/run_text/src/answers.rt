@@ -25,7 +25,8 @@ use trace_history::{Answer, Step};
 /// - `flush`, and `shutdown`;
 /// - `take BATCH SPANS`, or `take none`;
 /// - `encode BATCH BYTES`, `encode BATCH out-of-memory`, or `encode none`;
-/// - `attempt BATCH ATTEMPT BODY`, or `attempt none`;
+/// - `attempt BATCH ATTEMPT BODY`, where the attempts of a batch are numbered from 1 on,
+///   `attempt early` before the moment from which it is to be sent again, or `attempt none`;
 /// - `reply BATCH` and `done`, `partial REJECTED`, `again MOMENT`, `give-up refused STATUS`,
 ///   `give-up bad-reply` or `give-up attempts`, or `reply none`.
 ///

@@ -148,6 +148,7 @@ pub(crate) fn write_attempt<A: Allocator + Copy>(
             let digits = hex::encode(*out.allocator(), body)?;
             writeln!(out, "attempt {batch} {attempt} {digits}")?
         }
+        Answer::Early => writeln!(out, "attempt early")?,
         _ => writeln!(out, "attempt none")?,
     }
     Ok(())

@@ -126,6 +126,9 @@ pub(crate) const BATCHES: &str = concat!(
     "encode none\n",
     "attempt 1 1 00a1ff\n",
     "attempt none\n",
+    "reply 1 again 3000000004\n",
+    "attempt early\n",
+    "attempt 1 2 00a1ff\n",
     "reply 1 done\n",
     "reply none\n",
     "shutdown\n",
@@ -143,7 +146,7 @@ pub(crate) fn batches<A: Allocator + Copy>(rt: &impl Abort, alloc: A) -> Run<A> 
     run.step(rt, Step::Shutdown, Answer::Shutdown);
     run.step(rt, Step::Take { at: 2 }, taken(2, 1));
     run.step(rt, Step::Encode, encoded(2, 1));
-    run.step(rt, Step::Attempt { at: 2 }, sent(2));
+    run.step(rt, Step::Attempt { at: 2 }, sent(2, 1));
     run
 }
 
@@ -152,8 +155,12 @@ fn first_batch<A: Allocator + Copy>(rt: &impl Abort, run: &mut Run<A>) {
     run.step(rt, Step::Encode, Answer::OutOfMemory);
     run.step(rt, Step::Encode, encoded(1, 3));
     run.step(rt, Step::Encode, Answer::Nothing);
-    run.step(rt, Step::Attempt { at: 1 }, sent(1));
+    run.step(rt, Step::Attempt { at: 1 }, sent(1, 1));
     run.step(rt, Step::Attempt { at: 1 }, Answer::Nothing);
+    run.reply(rt, 1, Next::Again(3_000_000_004));
+    run.step(rt, Step::Attempt { at: 4 }, Answer::Early);
+    let at = 3_000_000_004;
+    run.step(rt, Step::Attempt { at }, sent(1, 2));
     run.reply(rt, 1, Next::Done);
     run.step(rt, Step::Reply { at: 1, word: 0 }, Answer::Nothing);
 }
@@ -166,10 +173,10 @@ fn encoded(batch: u64, length: usize) -> Answer {
     Answer::Encoded { batch, length }
 }
 
-fn sent(batch: u64) -> Answer {
+fn sent(batch: u64, attempt: u32) -> Answer {
     Answer::Sent {
         batch,
-        attempt: 1,
+        attempt,
         outcome: Outcome::Delivered,
     }
 }
@@ -177,8 +184,9 @@ fn sent(batch: u64) -> Answer {
 /// What the exporter was handed by these steps.
 pub(crate) fn handed<A: Allocator + Copy>(rt: &impl Abort, alloc: A) -> Vec<Handed<A>, A> {
     let mut handed = Vec::new(alloc);
-    hand(rt, alloc, &mut handed, 1, &[0, 0xa1, 0xff]);
-    hand(rt, alloc, &mut handed, 2, &[0x7e]);
+    hand(rt, alloc, &mut handed, 1, 1, &[0, 0xa1, 0xff]);
+    hand(rt, alloc, &mut handed, 1, 2, &[0, 0xa1, 0xff]);
+    hand(rt, alloc, &mut handed, 2, 1, &[0x7e]);
     handed
 }
 
@@ -187,11 +195,12 @@ fn hand<A: Allocator + Copy>(
     alloc: A,
     handed: &mut Vec<Handed<A>, A>,
     number: u64,
+    attempt: u32,
     bytes: &[u8],
 ) {
     let one = Handed {
         number,
-        attempt: 1,
+        attempt,
         body: Vec::from_slice(alloc, bytes).expect(rt, "memory"),
         outcome: Outcome::Delivered,
     };
@@ -226,6 +235,8 @@ pub(crate) const OTHERS: &str = concat!(
     "flush\n",
     "take none\n",
     "attempt 9 1 \n",
+    "encode none\n",
+    "reply none\n",
     "reply none\n",
 );
 
@@ -237,7 +248,9 @@ pub(crate) fn others<A: Allocator + Copy>(rt: &impl Abort, alloc: A) -> Run<A> {
     run.end(rt, 3, Answer::Ended(Ended::Handed(4)));
     run.step(rt, Step::Flush, Answer::Nothing);
     run.step(rt, Step::Take { at: 1 }, Answer::OutOfMemory);
-    run.step(rt, Step::Attempt { at: 1 }, sent(9));
-    run.step(rt, Step::Reply { at: 1, word: 0 }, sent(9));
+    run.step(rt, Step::Attempt { at: 1 }, sent(9, 1));
+    run.step(rt, Step::Encode, Answer::Early);
+    run.step(rt, Step::Reply { at: 1, word: 0 }, Answer::Early);
+    run.step(rt, Step::Reply { at: 1, word: 0 }, sent(9, 1));
     run
 }

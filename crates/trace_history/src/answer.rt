@@ -46,7 +46,7 @@ pub enum Answer {
         /// The length of its body, in bytes.
         length: usize,
     },
-    /// To an attempt: the batch was handed to the exporter.
+    /// To an attempt: the exporter was handed the batch, for the first time or once more.
     Sent {
         /// The number of the batch.
         batch: u64,
@@ -55,16 +55,18 @@ pub enum Answer {
         /// What came of it.
         outcome: Outcome,
     },
-    /// To an attempt: it stands before the moment from which the batch is to be sent again. Nothing
-    /// has changed.
+    /// To an attempt: its moment stands before the one from which the batch is to be sent again.
+    /// Nothing has changed.
     Early,
-    /// To a reply: what follows for the batch.
+    /// To a reply: what follows for the batch from its last attempt. Where that is `Again`, the
+    /// batch stays out, and is sent again from that moment on; else it is out no more.
     Replied {
         /// The number of the batch.
         batch: u64,
         /// What follows.
         next: Next,
     },
-    /// To an encoding, an attempt or a reply: no batch is out that this step is for.
+    /// To an encoding, an attempt or a reply: no batch is out that this step is for. Nothing has
+    /// changed.
     Nothing,
 }
