@@ -1,7 +1,7 @@
 //! The answer of a collector to a trace export (opentelemetry-proto, trace_service.proto:
 //! ExportTraceServiceResponse).
 
-ghost use Rattle.std.specs.Prelude.{◌≡◌, ◌++◌, List, [], ◌∷◌, IfOk, IfErr, IsErrOf};
+ghost use Rattle.std.specs.Prelude.{◌≡◌, ◌≢◌, ◌++◌, List, [], ◌∷◌, IfOk, IfErr, IsErrOf};
 ghost use Rattle.std.specs.List.{Contains};
 ghost use Rattle.std.specs.String.{string_bytes};
 ghost use Rattle.message_model.specs.Reading.{Reads};
@@ -10,7 +10,7 @@ ghost use Rattle.message_model.specs.Wire.{row};
 ghost use Rattle.message_model.specs.Tables;
 ghost use Rattle.message_model.specs.Messages.{meaning};
 ghost use Rattle.otlp_wire.specs.Fields.{field_of, fault_of};
-ghost use Rattle.otlp_read.specs.Response.{Counts, partial_row, NamesFault};
+ghost use Rattle.otlp_read.specs.Response.{Counts, partial_row, NamesFault, message_text};
 
 use crate::fault::ReadFault;
 use crate::payloads::{bytes_in, varint_in};
@@ -146,6 +146,8 @@ pub fn read_response<A: Allocator>(alloc: A, body: &[u8]) -> Result<Response<A>,
     ensures ok { IfOk result (λ response. Reads (meaning Tables.response body.now) response) }
     ensures err { IfErr result (λ fault.
         NamesFault (meaning Tables.response body.now).faults fault) }
+    ensures memory { IsErrOf result ReadFault.OutOfMemory →
+        message_text (meaning Tables.response body.now).value ≢ [] }
 {
     let counted = partial_fields(body)?;
     let error_message = match str::from_utf8(counted.error_message) {

@@ -2,4 +2,6 @@
 #![tactic(auto)]
 
 #[cfg(test)]
+mod responses;
+#[cfg(test)]
 mod rows;
