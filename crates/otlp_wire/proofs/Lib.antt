@@ -1,1 +1,4 @@
 pub mod Groups
+pub mod VarintSteps
+pub mod RowSteps
+pub mod RowParts

@@ -1,6 +1,9 @@
-//! Writers of the payloads of fields (Protocol Buffers, "Encoding"): varints, fixed numbers and
-//! length-delimited bytes, each appended to a vector, which is unchanged where it could not grow.
+//! Fields of messages as Protocol Buffers have them on the wire ("Encoding"): writers of their
+//! payloads, each of which appends to a vector, which is unchanged where it could not grow, and a
+//! reader of a message's fields.
 #![tactic(auto)]
+
+mod reader;
 
 ghost use Rattle.std.specs.Prelude.{◌≡◌, ◌+◌, ◌-◌, ◌≤◌, ◌<◌, ◌++◌, length, OnOk, OnErr, IsOk, vec_len, vec_capacity};
 ghost use Rattle.message_model.specs.Wire;
@@ -8,6 +11,7 @@ ghost use Rattle.message_model.specs.Canon.{shortest, payload_bytes};
 ghost use Rattle.otlp_wire.specs.Writing.{Appends, FitsCapacity, IsLeastSize, IsReachedSize};
 
 use otlp_ids::OutOfMemory;
+pub use reader::{Field, Fields, Payload, WireFault};
 use std::alloc::Allocator;
 
 /// How many bytes the shortest varint of the value has, 1 to 10 (Protocol Buffers, Encoding, "Base

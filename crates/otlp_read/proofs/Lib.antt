@@ -1,0 +1,5 @@
+pub mod OnePayload
+pub mod LastPayloads
+pub mod JoinedRows
+pub mod ResponseSteps
+pub mod ResponseMeaning

@@ -1,0 +1,60 @@
+-- The payloads of one field, and of fields one behind the other.
+use Rattle.std.proofs.Common.{◌≡◌, refl, sym, ap, ap₂, ◌∙◌, arith, ℕ, List, [], ◌∷◌, ◌++◌, Bool, true, false, cond, filter, map, ◌&&◌, ◌==◌}
+use Rattle.std.proofs.lemmas.Bool.{ne_eqb}
+use Rattle.std.specs.Borrow.{Bor}
+use Rattle.message_model.specs.Wire.{Field, varint, len}
+use Rattle.message_model.proofs.ReadBack.{payloads-own}
+use Rattle.otlp_wire.specs.Fields.{payload_of, field_of}
+use Rattle.otlp_wire.specs.declared.reader.Field.{Field as Found}
+use Rattle.otlp_wire.specs.declared.reader.Payload.{Payload}
+use Rattle.otlp_wire.specs.declared.reader.Payload.TheVariants.{Varint, I64, Len, I32}
+use Rattle.message_model.specs.Tables.{Shape}
+use Rattle.message_model.specs.Messages.{wire, wire_type, is_field, payloads}
+
+pub payloads-append : (n : ℕ) (s : Shape) (a b : List Field) → payloads n s (a ++ b) ≡ payloads n s a ++ payloads n s b
+unfolding payloads
+payloads-append n s [] b = refl
+payloads-append n s (f ∷ a) b = go (is_field n s f) (payloads-append n s a b)
+  where
+    go : (t : Bool) → payloads n s (a ++ b) ≡ payloads n s a ++ payloads n s b →
+        map (λ f. f.payload) (cond t (f ∷ filter (is_field n s) (a ++ b)) (filter (is_field n s) (a ++ b))) ≡ map (λ f. f.payload) (cond t (f ∷ filter (is_field n s) a) (filter (is_field n s) a)) ++ payloads n s b
+    go true ih = ap (λ l. f.payload ∷ l) ih
+    go false ih = ih
+
+pub other-number : (n : ℕ) (s : Shape) (f : Field) → (f.number ≡ n → ⊥) → payloads n s (f ∷ []) ≡ []
+unfolding payloads
+other-number n s f h = rw (ne_eqb f.number n h) refl
+
+pub other-type : (n : ℕ) (s : Shape) (f : Field) → (wire_type f.payload ≡ wire s → ⊥) → payloads n s (f ∷ []) ≡ []
+unfolding payloads
+other-type n s f h = rw (ne_eqb (wire_type f.payload) (wire s) h) (go (f.number == n))
+  where
+    go : (t : Bool) → map (λ f. f.payload) (cond (t && false) (f ∷ []) []) ≡ []
+    go true = refl
+    go false = refl
+
+-- ---- a field that was read
+
+pub found-varint : (f : Found) (n v : ℕ) → f.payload ≡ Varint v → f.number ≡ n → (s : Shape) → wire s ≡ 0 → payloads n s (field_of f ∷ []) ≡ varint v ∷ []
+found-varint f n v e1 e2 s w = ap₂ (λ m p. payloads n s (record { number = m; payload = payload_of p } ∷ [])) e2 e1 ∙ payloads-own n s (varint v) (sym w)
+
+pub found-bytes : (f : Found) (n : ℕ) (bytes : Bor (List ℕ)) → f.payload ≡ Len bytes → f.number ≡ n → (s : Shape) → wire s ≡ 2 → payloads n s (field_of f ∷ []) ≡ len bytes.now ∷ []
+found-bytes f n bytes e1 e2 s w = ap₂ (λ m p. payloads n s (record { number = m; payload = payload_of p } ∷ [])) e2 e1 ∙ payloads-own n s (len bytes.now) (sym w)
+
+is-varint : (p : Payload) → ((v : ℕ) → p ≡ Varint v → ⊥) → wire_type (payload_of p) ≡ 0 → ⊥
+is-varint (Varint v) h e = h v refl
+is-varint (I64 v) h e = omega (arith, e)
+is-varint (Len b) h e = omega (arith, e)
+is-varint (I32 v) h e = omega (arith, e)
+
+is-bytes : (p : Payload) → ((b : Bor (List ℕ)) → p ≡ Len b → ⊥) → wire_type (payload_of p) ≡ 2 → ⊥
+is-bytes (Varint v) h e = omega (arith, e)
+is-bytes (I64 v) h e = omega (arith, e)
+is-bytes (Len b) h e = h b refl
+is-bytes (I32 v) h e = omega (arith, e)
+
+pub no-varint : (f : Found) (n : ℕ) → ((v : ℕ) → f.payload ≡ Varint v → ⊥) → (s : Shape) → wire s ≡ 0 → payloads n s (field_of f ∷ []) ≡ []
+no-varint f n h s w = other-type n s (field_of f) (λ e. is-varint f.payload h (e ∙ w))
+
+pub no-bytes : (f : Found) (n : ℕ) → ((b : Bor (List ℕ)) → f.payload ≡ Len b → ⊥) → (s : Shape) → wire s ≡ 2 → payloads n s (field_of f ∷ []) ≡ []
+no-bytes f n h s w = other-type n s (field_of f) (λ e. is-bytes f.payload h (e ∙ w))

@@ -1,0 +1,32 @@
+-- The row of some bytes, by the field at their front.
+use Rattle.std.proofs.Common.{◌≡◌, refl, sym, ap, ◌∙◌, ℕ, ◌+◌, ◌-◌, ◌<◌, List, [], ◌∷◌, length, Ok, Err, ◌==◌, false, arith}
+use Rattle.std.proofs.lemmas.Bool.{true≢false}
+use Rattle.message_model.specs.Reading.{Reading, Fault, done}
+use Rattle.message_model.specs.Wire.{Field, put, field, row_from, row_after, row}
+use Rattle.message_model.proofs.Fields.{takes-field}
+use Rattle.message_model.proofs.RowLaws.{row-field}
+
+pub row-none : (bytes : List ℕ) → length bytes ≡ 0 → row bytes ≡ done []
+unfolding row row_after
+row-none [] e = refl
+row-none (b ∷ bytes) e = absurd (omega (arith, e))
+
+pub row-first : (bytes rest : List ℕ) (f : Field) → Ok (f, rest) ≡ field bytes → row bytes ≡ put f (row rest)
+row-first bytes rest f e = let s = takes-field.found bytes rest f (sym e) in ap row s.2 ∙ row-field s.0 rest f s.1
+
+pub row-fault : (bytes : List ℕ) (fault : Fault) → 0 < length bytes → Err fault ≡ field bytes → row bytes ≡ record { value = []; faults = fault ∷ [] }
+unfolding row row_after
+row-fault [] fault l e = absurd (omega (arith, l))
+row-fault (b ∷ bs) fault l e = ap (λ r. row_from r (λ rest. row_after (length bs - length rest) bs)) (sym e)
+
+-- fewer are left
+pub fewer-fields : (old new : Reading (List Field)) (f : Field) → old ≡ put f new → length new.value + length new.faults < length old.value + length old.faults
+fewer-fields old new f e = rw e (omega arith)
+
+pub fewer-faults : (old new : Reading (List Field)) (f : Fault) → old ≡ record { value = []; faults = f ∷ [] } → new ≡ done [] → length new.value + length new.faults < length old.value + length old.faults
+fewer-faults old new f e d = rw (e, d) (omega arith)
+
+-- bytes that are not empty
+pub some-byte : (bytes : List ℕ) → length bytes == 0 ≡ false → 0 < length bytes
+some-byte [] e = absurd (true≢false e)
+some-byte (b ∷ bytes) e = omega arith

@@ -1,0 +1,7 @@
+//! Tests of readers of messages over public calls alone. The crate has no items of its own.
+#![tactic(auto)]
+
+#[cfg(test)]
+mod responses;
+#[cfg(test)]
+mod rows;

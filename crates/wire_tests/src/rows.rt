@@ -1,0 +1,94 @@
+//! Fields that are read, with bytes that were written out by hand (Protocol Buffers, "Encoding").
+
+use otlp_wire::{Field, Fields, Payload, WireFault};
+use std::process::Abort;
+
+/// Asserts that just this field stands there.
+fn holds(rt: &impl Abort, bytes: &[u8], number: u32, payload: Payload<'_>) {
+    let mut fields = Fields::new(bytes);
+    let field = Field { number, payload };
+    assert_eq!(rt; fields.next(), Some(Ok(field)), "{bytes:?}");
+    assert_eq!(rt; fields.next(), None, "behind {bytes:?}");
+}
+
+/// Asserts that the fault stands there, and nothing behind it.
+fn fails(rt: &impl Abort, bytes: &[u8], fault: WireFault) {
+    let mut fields = Fields::new(bytes);
+    assert_eq!(rt; fields.next(), Some(Err(fault)), "{bytes:?}");
+    assert_eq!(rt; fields.next(), None, "behind {bytes:?}");
+    assert_eq!(rt; fields.next(), None, "again behind {bytes:?}");
+}
+
+#[test]
+fn reads_varints(rt: HostRuntime) {
+    let minus_one = b"\x08\xff\xff\xff\xff\xff\xff\xff\xff\xff\x01";
+    let past_64_bits = b"\x08\xff\xff\xff\xff\xff\xff\xff\xff\xff\x7f";
+    let ten_bytes = b"\x08\x82\x80\x80\x80\x80\x80\x80\x80\x80\x00";
+    holds(&rt, b"\x08\x00", 1, Payload::Varint(0));
+    holds(&rt, b"\x08\x96\x01", 1, Payload::Varint(150));
+    holds(&rt, b"\x08\x96\x81\x00", 1, Payload::Varint(150));
+    holds(&rt, minus_one, 1, Payload::Varint(u64::MAX));
+    holds(&rt, past_64_bits, 1, Payload::Varint(u64::MAX));
+    holds(&rt, ten_bytes, 1, Payload::Varint(2));
+}
+
+#[test]
+fn reads_each_wire_type(rt: HostRuntime) {
+    let largest = b"\xf8\xff\xff\xff\x0f\x07";
+    holds(&rt, b"\x09\x01\0\0\0\0\0\0\x80", 1, Payload::I64(0x8000_0000_0000_0001));
+    holds(&rt, b"\x12\x07testing", 2, Payload::Len(b"testing"));
+    holds(&rt, b"\x12\x00", 2, Payload::Len(b""));
+    holds(&rt, b"\x85\x01\x01\x02\x00\x00", 16, Payload::I32(0x201));
+    holds(&rt, b"\x88\x80\x00\x07", 1, Payload::Varint(7));
+    holds(&rt, largest, 536_870_911, Payload::Varint(7));
+}
+
+#[test]
+fn tells_each_fault(rt: HostRuntime) {
+    let eleven_bytes = b"\x08\x80\x80\x80\x80\x80\x80\x80\x80\x80\x80\x00";
+    let ten_bytes = b"\x80\x80\x80\x80\x80\x80\x80\x80\x80\x80";
+    fails(&rt, eleven_bytes, WireFault::LongVarint);
+    fails(&rt, ten_bytes, WireFault::LongVarint);
+    fails(&rt, b"\x00", WireFault::BadNumber);
+    fails(&rt, b"\x03", WireFault::BadNumber);
+    fails(&rt, b"\x07", WireFault::BadNumber);
+    fails(&rt, b"\x80\x80\x80\x80\x10", WireFault::BadNumber);
+    fails(&rt, b"\x0b", WireFault::Group);
+    fails(&rt, b"\x0c", WireFault::Group);
+    fails(&rt, b"\x0e", WireFault::BadWireType);
+    fails(&rt, b"\x0f", WireFault::BadWireType);
+    fails(&rt, b"\x80", WireFault::Truncated);
+    fails(&rt, b"\x08", WireFault::Truncated);
+    fails(&rt, b"\x09\x01\x02\x03\x04\x05\x06\x07", WireFault::Truncated);
+    fails(&rt, b"\x0d\x01\x02\x03", WireFault::Truncated);
+    fails(&rt, b"\x12\x02a", WireFault::Truncated);
+    fails(&rt, minus_one_bytes(), WireFault::Truncated);
+}
+
+/// A field that says it has 2^64 - 1 bytes.
+fn minus_one_bytes() -> &'static [u8] {
+    b"\x12\xff\xff\xff\xff\xff\xff\xff\xff\xff\x01"
+}
+
+#[test]
+fn a_good_body_that_is_cut(rt: HostRuntime) {
+    let body = b"\x0a\x02hi\x15\x01\0\0\0\x18\x96\x01\x21\x01\0\0\0\0\0\0\0";
+    for size in 0..=body.len() {
+        let mut whole = 0;
+        let mut cut = 0;
+        for field in Fields::new(&body[..size]) {
+            match field {
+                Ok(_) => whole += 1,
+                Err(fault) => {
+                    assert_eq!(rt; fault, WireFault::Truncated, "of {size} bytes");
+                    cut += 1;
+                }
+            }
+        }
+        let ends = [4, 9, 12, 21];
+        let fields = ends.iter().filter(|end| **end <= size).count();
+        assert_eq!(rt; whole, fields, "of {size} bytes");
+        let is_end = size == 0 || ends.contains(&size);
+        assert_eq!(rt; cut == 0, is_end, "of {size} bytes");
+    }
+}
