@@ -2,24 +2,30 @@
 use Rattle.std.specs.Prelude.{◌≡◌, ℕ, ◌<◌, ◌≤◌, ◌||◌, ◌==◌, nat_lt, List, [], length, codes}
 use Rattle.std.specs.Prelude.{if◌then◌else◌, Option, Some, None, Result, Ok, Err}
 use Rattle.std.specs.Io.KnownBytes.{IsAtEnd}
-use Rattle.otlp_http.specs.declared.body.Framing.{Framing}
-use Rattle.otlp_http.specs.declared.body.Framing.TheVariants.{Empty, Sized, ToEnd, Unknown}
 use Rattle.otlp_http.specs.declared.fault.HttpFault.{HttpFault}
 use Rattle.otlp_http.specs.declared.fault.HttpFault.TheVariants as faults
 use Rattle.otlp_http.specs.Fields.{NameAndValue, values_of, content_length}
 
+-- how far a body goes: there is none, it has so many bytes, it goes to the end of the bytes, or the
+-- head doesn't say
+pub data Framing : Type 0 where
+  empty : Framing
+  sized : ℕ → Framing
+  to_end : Framing
+  unknown : Framing
+
 -- how far a body goes by Content-Length: to the end, where there is none
 abbrev pub framing_by_length : Result (Option ℕ) HttpFault → Framing
-framing_by_length (Ok None) = ToEnd
-framing_by_length (Ok (Some size)) = Sized size
-framing_by_length (Err fault) = Unknown
+framing_by_length (Ok None) = to_end
+framing_by_length (Ok (Some size)) = sized size
+framing_by_length (Err fault) = unknown
 
 -- how far a body goes: no body for 204 and 304, unknown where Transfer-Encoding stands (profile),
 -- else by Content-Length
 abbrev pub framing_of : ℕ → List NameAndValue → Framing
 framing_of status fields =
-    if status == 204 || status == 304 then Empty
-    else (if nat_lt 0 (length (values_of (codes "transfer-encoding") fields)) then Unknown
+    if status == 204 || status == 304 then empty
+    else (if nat_lt 0 (length (values_of (codes "transfer-encoding") fields)) then unknown
     else framing_by_length (content_length (values_of (codes "content-length") fields)))
 
 -- a body of that size, of which those bytes were taken, then these were left
@@ -54,8 +60,8 @@ IsBodyToEnd limit taken left failed (Err faults.BadChunk) = ⊥
 -- what a body is within a limit of bytes, of which those were taken, then these were left
 abbrev pub IsBody : Framing → ℕ → List ℕ → Option (List ℕ) → Type 0 → Result (List ℕ) HttpFault
     → Type 0
-IsBody Empty limit taken left failed answer = (answer ≡ Ok []) × (taken ≡ [])
-IsBody (Sized size) limit taken left failed answer =
+IsBody empty limit taken left failed answer = (answer ≡ Ok []) × (taken ≡ [])
+IsBody (sized size) limit taken left failed answer =
     IsSizedBody limit size taken left failed answer
-IsBody ToEnd limit taken left failed answer = IsBodyToEnd limit taken left failed answer
-IsBody Unknown limit taken left failed answer = (answer ≡ Err faults.BadLength) × (taken ≡ [])
+IsBody to_end limit taken left failed answer = IsBodyToEnd limit taken left failed answer
+IsBody unknown limit taken left failed answer = (answer ≡ Err faults.BadLength) × (taken ≡ [])

@@ -6,9 +6,12 @@ use Rattle.httparse.specs.declared.spans.HeaderSpan.{HeaderSpan}
 use Rattle.httparse.specs.declared.spans.ResponseSpans.{ResponseSpans}
 use Rattle.http_header.specs.FieldValue.{FieldValue}
 use Rattle.http_header.specs.HeaderMap.{Entries, get_all, value_count}
+use Rattle.otlp_http.specs.declared.body.Framing.{Framing as DeclaredFraming}
+use Rattle.otlp_http.specs.declared.body.Framing.TheVariants.{Empty, Sized, ToEnd, Unknown}
 use Rattle.otlp_http.specs.declared.fault.HttpFault.{HttpFault}
 use Rattle.otlp_http.specs.declared.fault.HttpFault.TheVariants as faults
 use Rattle.otlp_http.specs.declared.limits.HeadLimits.{HeadLimits}
+use Rattle.otlp_http.specs.Bodies.{Framing, empty, sized, to_end, unknown}
 use Rattle.otlp_http.specs.Fields.{NameAndValue, fields_of, values_of, IsTaken}
 use Rattle.otlp_http.specs.Heads.{ComesAfter, IsHeadText, IsInterimStatus, IsUnfinished}
 
@@ -81,3 +84,10 @@ pub record HasKeptHead (limits : HeadLimits) (old new : Option (List ℕ)) (stat
   pub taken : All IsTaken (fields_of head)
   pub code : status ≡ status_code head
   pub keeps : KeepsFields kept (fields_of head)
+
+-- how far a body goes, as the code tells it
+abbrev pub framing_view : DeclaredFraming → Framing
+framing_view Empty = empty
+framing_view (Sized size) = sized size
+framing_view ToEnd = to_end
+framing_view Unknown = unknown

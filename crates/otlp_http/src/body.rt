@@ -7,7 +7,7 @@ ghost use Rattle.http_header.specs.HeaderMap.{get_all};
 ghost use Rattle.otlp_http.specs.Bodies.{framing_of, IsBody, IsBodyToEnd, IsSizedBody};
 ghost use Rattle.otlp_http.specs.Devices.{HasFailed};
 ghost use Rattle.otlp_http.specs.Fields.{NameAndValue};
-ghost use Rattle.otlp_http.specs.Parses.{KeepsFields};
+ghost use Rattle.otlp_http.specs.Parses.{framing_view, KeepsFields};
 
 use crate::device::FaultRead;
 use crate::fault::HttpFault;
@@ -45,7 +45,7 @@ fn is_coded(kept: &HeaderMap) -> bool
 /// How far the body goes that a head with this status and these fields has.
 pub(crate) fn framing_of(status: u16, kept: &HeaderMap) -> Framing
     ensures { (fields : List NameAndValue) → KeepsFields kept.now fields
-        → result ≡ framing_of status fields }
+        → framing_view result ≡ framing_of status fields }
 {
     if has_no_body(status) {
         return Framing::Empty;
@@ -130,7 +130,7 @@ pub(crate) fn read_body<R: FaultRead, A: Allocator>(
     limit: usize,
 ) -> Result<Vec<u8, A>, HttpFault>
     ensures { (taken : List ℕ) × Consumes (R.remaining reader.old) (R.remaining reader.new) taken
-        × IsBody framing limit taken (R.remaining reader.new)
+        × IsBody (framing_view framing) limit taken (R.remaining reader.new)
         (HasFailed (R.failures reader.old) (R.failures reader.new))
         (result_map_both (λ v. v.items) (λ fault. fault) result) }
 {
