@@ -2,7 +2,13 @@
 #![tactic(auto)]
 
 #[cfg(test)]
+mod bodies;
+#[cfg(test)]
 mod devices;
+#[cfg(test)]
+mod fixture;
+#[cfg(test)]
+mod heads;
 #[cfg(test)]
 mod requests;
 #[cfg(test)]

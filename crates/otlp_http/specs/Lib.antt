@@ -1,4 +1,9 @@
 pub mod Address
+pub mod Bodies
 pub mod Devices
+pub mod Fields
+pub mod Heads
+pub mod Parses
+pub mod Replies
 pub mod Request
 pub mod Wires

@@ -9,6 +9,14 @@ use std::alloc::{AllocError, Allocator, Global};
 use std::marker::Model;
 use thiserror::Error;
 
+/// The port at which collectors take OTLP over HTTP unless another is named. (OTLP Specification,
+/// "OTLP/HTTP Default Port")
+pub const DEFAULT_PORT: u16 = 4318;
+
+/// The path at which they take traces unless another is named. (OTLP Specification, "OTLP/HTTP
+/// Request")
+pub const DEFAULT_PATH: &str = "/v1/traces";
+
 /// Why a target is refused.
 #[derive(Error, Debug, Clone, Copy, PartialEq, Eq)]
 pub enum TargetFault {
@@ -92,8 +100,8 @@ fn is_path(path: &str) -> bool
 const TOO_LONG: usize = 1 << 61;
 
 impl<A: Allocator + Copy> Target<A> {
-    /// A target at a collector. OTLP's port is 4318, and its path `/v1/traces` (OTLP Specification,
-    /// "OTLP/HTTP Request").
+    /// A target at a collector. Where nothing else is known, the port is [`DEFAULT_PORT`], and the
+    /// path [`DEFAULT_PATH`] (OTLP Specification, "OTLP/HTTP Request").
     ///
     /// # Errors
     ///

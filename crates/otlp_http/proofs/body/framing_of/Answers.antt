@@ -1,0 +1,26 @@
+use Rattle.std.proofs.Common.{◌≡◌, sym, ap, ◌∙◌, rules, true, false, Ok, None, Some}
+use Rattle.otlp_http.specs.Bodies.{framing_by_length}
+use Rattle.otlp_http.proofs.BodyLemmas.{framing_kept}
+use Rattle.otlp_http.proofs.body.framing_of.Goals as goal
+
+pub returns-then-is_coded : goal.returns-then-is_coded
+returns-then-is_coded c fields keeps =
+    let bodied = sym c.has_no_body.ensures ∙ c.if-has_no_body.false in
+    sym (framing_kept c.args.status c.args.kept.now fields true keeps bodied (sym c.if-is_coded.true ∙ c.is_coded.ensures))
+
+pub returns-in-Ok-None : goal.returns-in-Ok-None
+returns-in-Ok-None c fields keeps =
+    let bodied = sym c.has_no_body.ensures ∙ c.if-has_no_body.false in
+    let is : c.content_length.result ≡ Ok None = search rules in
+    sym (framing_kept c.args.status c.args.kept.now fields false keeps bodied (sym c.if-is_coded.false ∙ c.is_coded.ensures) ∙ ap framing_by_length (sym c.content_length.ensures ∙ is))
+
+pub returns-in-Ok-Some : goal.returns-in-Ok-Some
+returns-in-Ok-Some c fields keeps =
+    let bodied = sym c.has_no_body.ensures ∙ c.if-has_no_body.false in
+    let is : c.content_length.result ≡ Ok (Some c.in-Ok-Some.size) = search rules in
+    sym (framing_kept c.args.status c.args.kept.now fields false keeps bodied (sym c.if-is_coded.false ∙ c.is_coded.ensures) ∙ ap framing_by_length (sym c.content_length.ensures ∙ is))
+
+pub returns-in-Err : goal.returns-in-Err
+returns-in-Err c fields keeps =
+    let bodied = sym c.has_no_body.ensures ∙ c.if-has_no_body.false in
+    sym (framing_kept c.args.status c.args.kept.now fields false keeps bodied (sym c.if-is_coded.false ∙ c.is_coded.ensures) ∙ ap framing_by_length (sym c.content_length.ensures ∙ c.in-Err.is))

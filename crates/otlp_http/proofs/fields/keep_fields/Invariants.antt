@@ -1,0 +1,11 @@
+use Rattle.std.proofs.Common.{map, take, All}
+use Rattle.httparse.specs.Spans.{header_bytes}
+use Rattle.otlp_http.specs.Fields.{IsTaken}
+use Rattle.otlp_http.specs.Parses.{KeepsFields}
+use Rattle.otlp_http.proofs.fields.keep_fields.Given as goal
+
+-- the fields below the index are kept
+abbrev pub invariant-loop-span : goal.invariant-loop-span
+invariant-loop-span l =
+    let fields = map (header_bytes l.text) (take l.span-index l.spans) in
+    KeepsFields l.kept fields × All IsTaken fields

@@ -1,0 +1,64 @@
+-- The fields of a head, and what they say (RFC 9110, sections 5, 8.6 and 10.2.3).
+use Rattle.std.specs.Prelude.{ℕ, ◌-◌, ◌^◌, Bool, ◌&&◌, List, [], ◌∷◌, length, map, min}
+use Rattle.std.specs.Prelude.{nat_lt, bytes_eq, if◌then◌else◌, Option, Some, None, option_map}
+use Rattle.std.specs.Prelude.{Result, Ok, Err}
+use Rattle.std.specs.List.{list_all}
+use Rattle.std.specs.Char.{is_ascii_digit}
+use Rattle.std.specs.Str.Parse.{digits_value}
+use Rattle.http_header.specs.FieldName.{IsFieldName}
+use Rattle.http_header.specs.FieldValue.{IsFieldValue}
+use Rattle.http_header.specs.Token.{lowercase}
+use Rattle.httpdate.specs.Date.{parse_secs}
+use Rattle.httparse.specs.Grammar.{ResponseHead}
+use Rattle.httparse.specs.Spans.{name_and_value}
+use Rattle.retry_core.specs.declared.outcome.RetryAfter.{RetryAfter}
+use Rattle.retry_core.specs.declared.outcome.RetryAfter.TheVariants.{Seconds, Date}
+use Rattle.otlp_http.specs.declared.fault.HttpFault.{HttpFault}
+use Rattle.otlp_http.specs.declared.fault.HttpFault.TheVariants.{BadLength}
+
+-- a field's name, and its value without spaces and tabs at both ends
+abbrev pub NameAndValue : Type 0
+NameAndValue = List ℕ × List ℕ
+
+-- the fields of a head, in their order
+abbrev pub fields_of : ResponseHead → List NameAndValue
+fields_of head = map name_and_value head.fields
+
+-- the values of the fields of that name, which is in lower case, in their order
+abbrev pub values_of : List ℕ → List NameAndValue → List (List ℕ)
+values_of name [] = []
+values_of name (field ∷ fields) =
+    if bytes_eq (lowercase field.0) name then field.1 ∷ values_of name fields
+    else values_of name fields
+
+-- `http_header` takes the field
+abbrev pub IsTaken : NameAndValue → Type 0
+IsTaken field = IsFieldName field.0 × IsFieldValue field.1
+
+-- decimal digits, one or more
+abbrev pub is_digits : List ℕ → Bool
+is_digits text = nat_lt 0 (length text) && list_all is_ascii_digit text
+
+-- decimal digits, one or more, whose number fits 64 bits
+abbrev pub is_length : List ℕ → Bool
+is_length text = is_digits text && nat_lt (digits_value 10 text) (2 ^ 64)
+
+-- the length that the values of Content-Length give: each is the same text, and that is a length
+-- (a list of lengths in one value is none: profile)
+abbrev pub content_length : List (List ℕ) → Result (Option ℕ) HttpFault
+content_length [] = Ok None
+content_length (value ∷ values) =
+    if list_all (bytes_eq value) values && is_length value then Ok (Some (digits_value 10 value))
+    else Err BadLength
+
+-- what a value of Retry-After says: so many seconds, 2^64 - 1 where they are more (profile), or a
+-- date; any other value says nothing
+abbrev pub wait_of : List ℕ → Option RetryAfter
+wait_of value =
+    if is_digits value then Some (Seconds (min (digits_value 10 value) (2 ^ 64 - 1)))
+    else option_map Date (parse_secs value)
+
+-- what the first value of Retry-After says (profile)
+abbrev pub retry_after : List (List ℕ) → Option RetryAfter
+retry_after [] = None
+retry_after (value ∷ values) = wait_of value

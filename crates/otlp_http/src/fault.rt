@@ -1,0 +1,30 @@
+//! Why a reply isn't read.
+
+use thiserror::Error;
+
+/// Why a reply, or its body, isn't read.
+#[derive(Error, Debug, Clone, Copy, PartialEq, Eq)]
+pub enum HttpFault {
+    /// The bytes ended within it.
+    #[error("the message ended early")]
+    Ended,
+    /// A read failed: the count of failures rose, or stood at its last value.
+    #[error("the device failed")]
+    Device,
+    /// The bytes can't begin a head, the head has a field that can't be kept, or too many interim
+    /// heads came.
+    #[error("bad head")]
+    BadHead,
+    /// The head doesn't say how long the body is, or says it in more than one way.
+    #[error("bad length")]
+    BadLength,
+    /// A chunk of the body is bad.
+    #[error("bad chunk")]
+    BadChunk,
+    /// The head or the body passes its limit.
+    #[error("too large")]
+    TooLarge,
+    /// Memory was refused.
+    #[error("out of memory")]
+    OutOfMemory,
+}

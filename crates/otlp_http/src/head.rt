@@ -1,0 +1,127 @@
+//! Heads of replies.
+
+ghost use Rattle.std.specs.Prelude.{◌≡◌, [], ◌↔◌, length, option_to_list, IfErr, IfNone, IfOk, OnErr, OnOk, IsTrue};
+ghost use Rattle.std.specs.Io.KnownBytes.{Consumes, IsAtEnd};
+ghost use Rattle.httparse.specs.Grammar.{HasNoResponse};
+ghost use Rattle.otlp_http.specs.Devices.{CountsFailure, HasFailed};
+ghost use Rattle.otlp_http.specs.Heads.{IsInterimStatus, LacksHead};
+ghost use Rattle.otlp_http.specs.Parses.{FindsHead, HasFinalHead, IsStopped, ParsesHead};
+ghost use Rattle.otlp_http.specs.Replies.{HasNoReply};
+
+use crate::device::{DeviceFailed, FaultRead};
+use crate::fault::HttpFault;
+use crate::limits::HeadLimits;
+use httparse::spans::{HeaderSpan, ResponseSpans, parse_response};
+use httparse::{Error, Status};
+use std::alloc::Allocator;
+
+/// Whether a front of the text is a head.
+fn parse_head(text: &[u8], spans: &mut [HeaderSpan]) -> Result<Option<ResponseSpans>, HttpFault>
+    ensures parsed { ParsesHead text.now (length spans.old) spans.new result }
+    ensures room { length spans.new ≡ length spans.old }
+{
+    match parse_response(text, spans) {
+        Ok(Status::Complete(head)) => Ok(Some(head)),
+        Ok(Status::Partial) => Ok(None),
+        Err(Error::TooManyHeaders) => Err(HttpFault::TooLarge),
+        Err(_) => Err(HttpFault::BadHead),
+    }
+}
+
+/// Why there is no head, where the bytes stopped by `fault` before it was whole.
+fn stopped(text: &[u8], spans: &mut [HeaderSpan], fault: HttpFault) -> HttpFault
+    requires { HasNoResponse text.now }
+    ensures { IsStopped text.now (length spans.old) fault result }
+{
+    match parse_head(text, spans) {
+        Ok(Some(_)) => unreachable!(),
+        Ok(None) => fault,
+        Err(bad) => bad,
+    }
+}
+
+/// Reads a byte, or none at the end.
+fn read_byte<R: FaultRead>(reader: &mut R) -> Result<Option<u8>, DeviceFailed>
+    ensures some { IfOk result (λ byte.
+        Consumes (R.remaining reader.old) (R.remaining reader.new) (option_to_list byte)) }
+    ensures end { IfOk result (λ byte. IfNone byte (IsAtEnd (R.remaining reader.new))) }
+    ensures err { OnErr result (Consumes (R.remaining reader.old) (R.remaining reader.new) []) }
+    ensures counted { CountsFailure result (R.failures reader.old) (R.failures reader.new) }
+{
+    let mut buf = [0];
+    let n = reader.read(&mut buf)?;
+    Ok(if n == 0 { None } else { Some(buf[0]) })
+}
+
+/// Reads one head, byte by byte so that none behind it is taken, and keeps it in `text`. A head
+/// ends by a line feed, so only there it is parsed.
+fn read_head<R: FaultRead, A: Allocator>(
+    reader: &mut R,
+    limits: &HeadLimits,
+    text: &mut Vec<u8, A>,
+    spans: &mut [HeaderSpan],
+) -> Result<ResponseSpans, HttpFault>
+    requires { length spans.old ≡ limits.now.fields }
+    ensures taken { Consumes (R.remaining reader.old) (R.remaining reader.new) text.new.items }
+    ensures kept { OnOk result (R.failures reader.new ≡ R.failures reader.old) }
+    ensures head { IfOk result (FindsHead limits.now text.new.items spans.new) }
+    ensures none { IfErr result (LacksHead limits.now text.new.items (R.remaining reader.new)
+        (HasFailed (R.failures reader.old) (R.failures reader.new))) }
+    ensures room { length spans.new ≡ length spans.old }
+{
+    text.clear();
+    while text.len() < limits.head {
+        if text.reserve(1).is_err() {
+            return Err(HttpFault::OutOfMemory);
+        }
+        let byte = match read_byte(reader) {
+            Ok(Some(byte)) => byte,
+            Ok(None) => return Err(stopped(text, spans, HttpFault::Ended)),
+            Err(_) => return Err(stopped(text, spans, HttpFault::Device)),
+        };
+        text.push_reserved(byte);
+        if byte == b'\n' {
+            if let Some(head) = parse_head(text, spans)? {
+                return Ok(head);
+            }
+        }
+    }
+    Err(stopped(text, spans, HttpFault::TooLarge))
+}
+
+/// Whether a status is interim.
+fn is_interim(status: u16) -> bool
+    ensures { IsTrue result ↔ IsInterimStatus status }
+{
+    status >= 100 && status < 200
+}
+
+/// Reads the first head that isn't interim: 16 interim heads are skipped, a further one is bad.
+pub(crate) fn read_final_head<R: FaultRead, A: Allocator>(
+    reader: &mut R,
+    limits: &HeadLimits,
+    text: &mut Vec<u8, A>,
+    spans: &mut [HeaderSpan],
+) -> Result<ResponseSpans, HttpFault>
+    requires { length spans.old ≡ limits.now.fields }
+    ensures head { IfOk result (HasFinalHead limits.now (R.remaining reader.old)
+        (R.remaining reader.new) text.new.items spans.new) }
+    ensures none { IfErr result (HasNoReply limits.now (R.remaining reader.old)
+        (R.remaining reader.new) (HasFailed (R.failures reader.old) (R.failures reader.new))) }
+    ensures kept { OnOk result (R.failures reader.new ≡ R.failures reader.old) }
+{
+    for _skipped in 0..16usize {
+        let head = match read_head(reader, limits, text, spans) {
+            Ok(head) => head,
+            Err(fault) => return Err(fault),
+        };
+        if !is_interim(head.code) {
+            return Ok(head);
+        }
+    }
+    match read_head(reader, limits, text, spans) {
+        Ok(head) if is_interim(head.code) => Err(HttpFault::BadHead),
+        Ok(head) => Ok(head),
+        Err(fault) => Err(fault),
+    }
+}

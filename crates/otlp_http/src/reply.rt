@@ -1,0 +1,111 @@
+//! Replies.
+
+ghost use Rattle.std.specs.Prelude.{◌≡◌, ◌≤◌, length, IfErr, IfOk, OnOk};
+ghost use Rattle.std.specs.Result.{result_map_both};
+ghost use Rattle.otlp_http.specs.Devices.{HasFailed};
+ghost use Rattle.otlp_http.specs.Parses.{HasKeptHead};
+ghost use Rattle.otlp_http.specs.Replies.{HasNoReply, IsReply};
+
+use crate::body::{framing_of, read_body};
+use crate::device::FaultRead;
+use crate::fault::HttpFault;
+use crate::fields::{keep_fields, retry_after};
+use crate::head::read_final_head;
+use crate::limits::{HeadLimits, MOST_FIELDS};
+use http_header::HeaderMap;
+use httparse::spans::HeaderSpan;
+use retry_core::RetryAfter;
+use std::alloc::{Allocator, Global};
+
+/// A reply of HTTP, without the interim ones before it (RFC 9110, section 15; RFC 9112, section 4).
+#[derive(Drop)]
+#[derive_where(Debug)]
+pub struct Reply<A: Allocator = Global> {
+    /// Its status, from 200 to 999 or below 100.
+    pub status: u16,
+    /// When it asks to be tried again, if it does: what its first Retry-After says (RFC 9110,
+    /// section 10.2.3). A number of seconds above `u64::MAX` counts as that, a date is told in
+    /// seconds since 1970, and any other value counts as none. (profile)
+    pub retry_after: Option<RetryAfter>,
+    /// Its body, or why that can't be had.
+    pub body: Result<Vec<u8, A>, HttpFault>,
+}
+
+/// The status and the fields of the first head that isn't interim.
+fn read_fields<R: FaultRead, A: Allocator>(
+    global: Global,
+    reader: &mut R,
+    limits: &HeadLimits,
+    text: &mut Vec<u8, A>,
+) -> Result<(u16, HeaderMap), HttpFault>
+    requires { limits.now.fields ≤ 64 }
+    ensures head { IfOk result (λ head. HasKeptHead limits.now (R.remaining reader.old)
+        (R.remaining reader.new) head.0 head.1) }
+    ensures none { IfErr result (HasNoReply limits.now (R.remaining reader.old)
+        (R.remaining reader.new) (HasFailed (R.failures reader.old) (R.failures reader.new))) }
+    ensures kept { OnOk result (R.failures reader.new ≡ R.failures reader.old) }
+{
+    let mut room = [HeaderSpan::default(); MOST_FIELDS];
+    let spans = &mut room[..limits.fields];
+    let head = match read_final_head(reader, limits, text, spans) {
+        Ok(head) => head,
+        Err(fault) => return Err(fault),
+    };
+    match keep_fields(global, text, &spans[..head.headers]) {
+        Ok(kept) => Ok((head.code, kept)),
+        Err(fault) => Err(fault),
+    }
+}
+
+/// Reads a reply, and no byte behind it (RFC 9112, sections 2.2, 4, 5 and 6.3). Heads are what
+/// `httparse` reads by default. Heads with a status from 100 to 199 are skipped, 16 at most
+/// (profile). A reply with status 204 or 304 has no body. Where Transfer-Encoding stands, the
+/// body's length is taken as not known (profile); else it is what Content-Length says, and where
+/// there is none, the body goes to the end of the bytes.
+///
+/// The text of the heads, while the call lasts, and the body are kept by `alloc`, and the fields,
+/// while the call lasts, by `global`.
+///
+/// # Errors
+///
+/// Where there is no whole head that can be used: `Ended` where the bytes ended before; `Device`
+/// where a read failed; `BadHead` where what came can't begin a head, also where it then ended,
+/// where a field is one that `http_header` refuses, or at a seventeenth interim head; `TooLarge`
+/// where a head has more bytes or fields than the limits allow; `OutOfMemory` where memory for it
+/// was refused. The reader is left where it was read up to, at most at the end of a head.
+///
+/// Behind the head, the body's error stands in [`Reply::body`]: `Ended` where the bytes ended
+/// before so many had come as Content-Length says; `Device` where a read failed; `BadLength` where
+/// Transfer-Encoding stands, or where Content-Length isn't one number of digits that fits 64 bits,
+/// in one field or in several of equal text; `TooLarge` where the body has more bytes than the
+/// limit, told by Content-Length before any of them is read; `OutOfMemory` where memory for it was
+/// refused.
+pub fn read_reply<R: FaultRead, A: Allocator + Copy>(
+    alloc: A,
+    global: Global,
+    reader: &mut R,
+    limits: &HeadLimits,
+) -> Result<Reply<A>, HttpFault>
+    requires fields { limits.now.fields ≤ 64 }
+    ensures reply { IfOk result (λ reply. IsReply limits.now (R.remaining reader.old)
+        (R.remaining reader.new) (HasFailed (R.failures reader.old) (R.failures reader.new))
+        (record {
+          status = reply.status;
+          retry_after = reply.retry_after;
+          body = result_map_both (λ v. v.items) (λ fault. fault) reply.body;
+        })) }
+    ensures no_reply { IfErr result (HasNoReply limits.now (R.remaining reader.old)
+        (R.remaining reader.new) (HasFailed (R.failures reader.old) (R.failures reader.new))) }
+{
+    let mut text = Vec::new(alloc);
+    let (status, kept) = match read_fields(global, reader, limits, &mut text) {
+        Ok(head) => head,
+        Err(fault) => return Err(fault),
+    };
+    let body = read_body(alloc, reader, framing_of(status, &kept), limits.body);
+    Ok(Reply {
+        status,
+        retry_after: retry_after(&kept),
+        body,
+    })
+}
