@@ -12,7 +12,8 @@ use otlp_wire::{Field, Payload};
 /// The number of the field, where it has this number and is a varint.
 pub(crate) fn varint_in(field: Field<'_>, number: u32) -> Option<u64>
     ensures { (s : Shape) → wire s ≡ 0 →
-        payloads number s (field_of field.entry ∷ []) ≡ option_to_list (option_map Wire.varint result) }
+        payloads number s (field_of field.entry ∷ []) ≡
+        option_to_list (option_map Wire.varint result) }
 {
     let Payload::Varint(value) = field.payload else {
         return None;

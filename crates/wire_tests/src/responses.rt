@@ -58,7 +58,12 @@ fn unknown_fields_are_skipped(rt: HostRuntime) {
     let among_others = b"\x10\x07\x0a\x0b\x18\x01\x08\x02\x1d\0\0\0\0\x08\x01\x12\x01\xff";
     let other_types = b"\x08\x05\x0a\x06\x0a\x01\x0b\x10\x07\x08";
     tells(&rt, alloc, among_others, 1, "");
-    fails(&rt, alloc, other_types, ReadFault::Wire(WireFault::Truncated));
+    fails(
+        &rt,
+        alloc,
+        other_types,
+        ReadFault::Wire(WireFault::Truncated),
+    );
     tells(&rt, alloc, b"\x08\x05\x0a\x05\x0a\x01\x0b\x10\x07", 0, "");
 }
 
@@ -67,10 +72,30 @@ fn tells_faults(rt: HostRuntime) {
     let alloc = rt.alloc();
     fails(&rt, alloc, b"\x0a\x03\x12\x01\xff", ReadFault::BadUtf8);
     fails(&rt, alloc, b"\x00", ReadFault::Wire(WireFault::BadNumber));
-    fails(&rt, alloc, b"\x0a\x01\x00", ReadFault::Wire(WireFault::BadNumber));
-    fails(&rt, alloc, b"\x0a\x01\x0b", ReadFault::Wire(WireFault::Group));
-    fails(&rt, alloc, b"\x0a\x01\x0e", ReadFault::Wire(WireFault::BadWireType));
-    fails(&rt, alloc, b"\x0a\x02\x12\x01", ReadFault::Wire(WireFault::Truncated));
+    fails(
+        &rt,
+        alloc,
+        b"\x0a\x01\x00",
+        ReadFault::Wire(WireFault::BadNumber),
+    );
+    fails(
+        &rt,
+        alloc,
+        b"\x0a\x01\x0b",
+        ReadFault::Wire(WireFault::Group),
+    );
+    fails(
+        &rt,
+        alloc,
+        b"\x0a\x01\x0e",
+        ReadFault::Wire(WireFault::BadWireType),
+    );
+    fails(
+        &rt,
+        alloc,
+        b"\x0a\x02\x12\x01",
+        ReadFault::Wire(WireFault::Truncated),
+    );
 }
 
 #[test]

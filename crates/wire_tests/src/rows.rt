@@ -35,7 +35,12 @@ fn reads_varints(rt: HostRuntime) {
 #[test]
 fn reads_each_wire_type(rt: HostRuntime) {
     let largest = b"\xf8\xff\xff\xff\x0f\x07";
-    holds(&rt, b"\x09\x01\0\0\0\0\0\0\x80", 1, Payload::I64(0x8000_0000_0000_0001));
+    holds(
+        &rt,
+        b"\x09\x01\0\0\0\0\0\0\x80",
+        1,
+        Payload::I64(0x8000_0000_0000_0001),
+    );
     holds(&rt, b"\x12\x07testing", 2, Payload::Len(b"testing"));
     holds(&rt, b"\x12\x00", 2, Payload::Len(b""));
     holds(&rt, b"\x85\x01\x01\x02\x00\x00", 16, Payload::I32(0x201));
@@ -59,7 +64,11 @@ fn tells_each_fault(rt: HostRuntime) {
     fails(&rt, b"\x0f", WireFault::BadWireType);
     fails(&rt, b"\x80", WireFault::Truncated);
     fails(&rt, b"\x08", WireFault::Truncated);
-    fails(&rt, b"\x09\x01\x02\x03\x04\x05\x06\x07", WireFault::Truncated);
+    fails(
+        &rt,
+        b"\x09\x01\x02\x03\x04\x05\x06\x07",
+        WireFault::Truncated,
+    );
     fails(&rt, b"\x0d\x01\x02\x03", WireFault::Truncated);
     fails(&rt, b"\x12\x02a", WireFault::Truncated);
     fails(&rt, minus_one_bytes(), WireFault::Truncated);
@@ -70,25 +79,31 @@ fn minus_one_bytes() -> &'static [u8] {
     b"\x12\xff\xff\xff\xff\xff\xff\xff\xff\xff\x01"
 }
 
+/// Where the fields of the body below end.
+const ENDS: [usize; 4] = [4, 9, 12, 21];
+
+/// Asserts that a body of so many bytes has each field that ends within it.
+fn has_whole_fields(rt: &impl Abort, fields: &mut Fields<'_>, size: usize) {
+    for end in ENDS {
+        if end <= size {
+            let field = fields.next();
+            assert!(rt; matches!(field, Some(Ok(_))), "{field:?} of {size} bytes");
+        }
+    }
+}
+
 #[test]
 fn a_good_body_that_is_cut(rt: HostRuntime) {
     let body = b"\x0a\x02hi\x15\x01\0\0\0\x18\x96\x01\x21\x01\0\0\0\0\0\0\0";
     for size in 0..=body.len() {
-        let mut whole = 0;
-        let mut cut = 0;
-        for field in Fields::new(&body[..size]) {
-            match field {
-                Ok(_) => whole += 1,
-                Err(fault) => {
-                    assert_eq!(rt; fault, WireFault::Truncated, "of {size} bytes");
-                    cut += 1;
-                }
-            }
-        }
-        let ends = [4, 9, 12, 21];
-        let fields = ends.iter().filter(|end| **end <= size).count();
-        assert_eq!(rt; whole, fields, "of {size} bytes");
-        let is_end = size == 0 || ends.contains(&size);
-        assert_eq!(rt; cut == 0, is_end, "of {size} bytes");
+        let mut fields = Fields::new(&body[..size]);
+        has_whole_fields(&rt, &mut fields, size);
+        let is_whole = size == 0 || ENDS.contains(&size);
+        let fault = if is_whole {
+            None
+        } else {
+            Some(Err(WireFault::Truncated))
+        };
+        assert_eq!(rt; fields.next(), fault, "of {size} bytes");
     }
 }
