@@ -1,5 +1,5 @@
 -- What a response means, by its row and the joined rows of its partial successes.
-use Rattle.std.proofs.Common.{◌≡◌, refl, sym, ap, subst, ◌∙◌, ℕ, List, [], ◌∷◌, ◌++◌, Bool, true, false, cond, append-nil, append_assoc}
+use Rattle.std.proofs.Common.{◌≡◌, refl, sym, ap, subst, ◌∙◌, ℕ, List, [], ◌∷◌, ◌++◌, Bool, true, false, cond, append-nil, append_assoc, arith, length, ◌<◌}
 use Rattle.std.specs.Int.{w64, cast_signed}
 use Rattle.std.specs.Str.{IsUtf8, is_utf8}
 use Rattle.std.specs.List.{Contains}
@@ -30,6 +30,10 @@ meaning-faults body = simp (append-nil, append_assoc) refl
 -- a fault of a row
 pub row-fault : (body : List ℕ) (fault : Fault) → Contains (row_faults body) fault → Contains (meaning Tables.response body).faults fault
 row-fault body fault h = subst (λ l. Contains l fault) (sym (meaning-faults body)) (Contains-append_left (row_faults body) _ fault h)
+
+-- where there is one, there are some
+pub not-none : (faults : List Fault) (fault : Fault) → Contains faults fault → faults ≡ [] → ⊥
+not-none faults fault h e = let none : length faults ≡ 0 = ap length e in let l = h.1 in absurd (omega (arith, none, l))
 
 not-utf8 : (t : List ℕ) → (IsUtf8 t → ⊥) → (b : Bool) → is_utf8 t ≡ b → Contains (cond b [] (bad_utf8 ∷ [])) bad_utf8
 not-utf8 t h true e = absurd (h (IsUtf8-from_is_utf8 t e))

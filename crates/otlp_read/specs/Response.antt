@@ -1,6 +1,6 @@
 -- What is read of a response (Protocol Buffers, Encoding; opentelemetry-proto,
 -- trace_service.proto).
-use Rattle.std.specs.Prelude.{◌≡◌, ℕ, List, []}
+use Rattle.std.specs.Prelude.{◌≡◌, ℕ, ℤ, List, []}
 use Rattle.std.specs.List.{Contains}
 use Rattle.message_model.specs.Reading.{Reading, Fault, bad_utf8, too_deep}
 use Rattle.message_model.specs.Wire.{Field}
@@ -34,3 +34,13 @@ pub record Counts (counted : PartialFields) (fields : List Field) : Type 0 where
 -- ExportTracePartialSuccess)
 abbrev pub message_text : Message Tables.response → List ℕ
 message_text (partial ▸ rest) = partial.1.0
+
+-- the number of rejected spans of a response (opentelemetry-proto, trace_service.proto:
+-- ExportTracePartialSuccess)
+abbrev pub rejected_in : Message Tables.response → ℤ
+rejected_in (partial ▸ rest) = partial.0
+
+-- The reading is whole, and says that so many spans were rejected.
+pub record Rejects (reading : Reading (Message Tables.response)) (rejected : ℤ) : Type 0 where
+  pub whole : reading.faults ≡ []
+  pub is : rejected ≡ rejected_in reading.value

@@ -8,4 +8,4 @@ mod payloads;
 mod response;
 
 pub use fault::ReadFault;
-pub use response::{PartialSuccess, Response, read_response};
+pub use response::{PartialSuccess, Response, read_rejected_spans, read_response};

@@ -1,16 +1,18 @@
 //! The answer of a collector to a trace export (opentelemetry-proto, trace_service.proto:
 //! ExportTraceServiceResponse).
 
-ghost use Rattle.std.specs.Prelude.{◌≡◌, ◌≢◌, ◌++◌, List, [], ◌∷◌, IfOk, IfErr, IsErrOf};
+ghost use Rattle.std.specs.Prelude.{◌≡◌, ◌≢◌, ◌++◌, List, [], ◌∷◌, IfOk, IfErr, OnErr, IsErrOf};
+ghost use Rattle.std.specs.Int.{cast_signed, w64};
 ghost use Rattle.std.specs.List.{Contains};
 ghost use Rattle.std.specs.String.{string_bytes};
 ghost use Rattle.message_model.specs.Reading.{Reads};
 ghost use Rattle.message_model.specs.Wire;
 ghost use Rattle.message_model.specs.Wire.{row};
 ghost use Rattle.message_model.specs.Tables;
+ghost use Rattle.message_model.specs.Tables.{◌▸◌};
 ghost use Rattle.message_model.specs.Messages.{meaning};
 ghost use Rattle.otlp_wire.specs.Fields.{field_of, fault_of};
-ghost use Rattle.otlp_read.specs.Response.{Counts, partial_row, NamesFault, message_text};
+ghost use Rattle.otlp_read.specs.Response.{Counts, partial_row, NamesFault, Rejects, message_text};
 
 use crate::fault::ReadFault;
 use crate::payloads::{bytes_in, varint_in};
@@ -135,6 +137,39 @@ fn partial_fields(body: &[u8]) -> Result<PartialFields<'_>, WireFault>
     Ok(counted)
 }
 
+/// How many spans a response says were rejected, in two's complement, and its message, which is a
+/// part of it.
+fn read_partial(body: &[u8]) -> Result<(u64, &str), ReadFault>
+    ensures ok { IfOk result (λ partial. Reads (meaning Tables.response body.now)
+        ((cast_signed w64 partial.0 ▸ partial.1.now ▸ tt) ▸ tt)) }
+    ensures err { IfErr result (λ fault.
+        NamesFault (meaning Tables.response body.now).faults fault) }
+    ensures faulty { OnErr result ((meaning Tables.response body.now).faults ≢ []) }
+{
+    let counted = partial_fields(body)?;
+    match str::from_utf8(counted.error_message) {
+        Ok(text) => Ok((counted.rejected_spans, text)),
+        Err(_) => Err(ReadFault::BadUtf8),
+    }
+}
+
+/// Reads of a response how many spans were rejected, as [`read_response`] does, but takes no
+/// memory.
+///
+/// # Errors
+///
+/// A `ReadFault` that the bytes have, so neither `OutOfMemory` nor `TooDeep`.
+pub fn read_rejected_spans(body: &[u8]) -> Result<i64, ReadFault>
+    ensures ok { IfOk result (λ rejected.
+        Rejects (meaning Tables.response body.now) rejected) }
+    ensures err { IfErr result (λ fault.
+        NamesFault (meaning Tables.response body.now).faults fault) }
+    ensures faulty { OnErr result ((meaning Tables.response body.now).faults ≢ []) }
+{
+    let (rejected_spans, _) = read_partial(body)?;
+    Ok(rejected_spans.cast_signed())
+}
+
 /// Reads a response (Protocol Buffers, "Encoding"). Several partial successes are joined, of
 /// several payloads of a field the last counts, and what is absent has its default.
 ///
@@ -149,13 +184,9 @@ pub fn read_response<A: Allocator>(alloc: A, body: &[u8]) -> Result<Response<A>,
     ensures memory { IsErrOf result ReadFault.OutOfMemory →
         message_text (meaning Tables.response body.now).value ≢ [] }
 {
-    let counted = partial_fields(body)?;
-    let error_message = match str::from_utf8(counted.error_message) {
-        Ok(text) => text,
-        Err(_) => return Err(ReadFault::BadUtf8),
-    };
+    let (rejected_spans, error_message) = read_partial(body)?;
     let partial_success = PartialSuccess {
-        rejected_spans: counted.rejected_spans.cast_signed(),
+        rejected_spans: rejected_spans.cast_signed(),
         error_message: copy_text(alloc, error_message)?,
     };
     Ok(Response { partial_success })
