@@ -1,7 +1,7 @@
 //! The lines of a script that drive the batch processor.
 
 use batch_desk::DeskConfig;
-use retry_core::Outcome;
+use retry_core::{Outcome, RetryAfter};
 use span_script::{Script, ScriptError};
 use std::test::Fail;
 use trace_history::Step;
@@ -68,6 +68,10 @@ fn reads_outcomes_in_order(rt: HostRuntime) -> Result<(), Fail> {
         "\n",
         "answer refused 65535\n",
         "flush\n",
+        "answer later 503 2\n",
+        "answer later 0 018446744073709551615\n",
+        "answer later 65535 none\n",
+        "answer none\n",
         "answer bad",
     );
     let script = Script::parse(rt.alloc(), text.as_bytes())?;
@@ -76,11 +80,19 @@ fn reads_outcomes_in_order(rt: HostRuntime) -> Result<(), Fail> {
         Outcome::Partial(i64::MIN),
         Outcome::Partial(0),
         Outcome::Refused(u16::MAX),
+        later(503, Some(RetryAfter::Seconds(2))),
+        later(0, Some(RetryAfter::Seconds(u64::MAX))),
+        later(u16::MAX, None),
+        Outcome::NoReply,
         Outcome::Bad,
     ];
     assert_eq!(rt; script.answers.as_slice(), outcomes.as_slice());
     assert_eq!(rt; script.steps.len(), 2);
     Ok(())
+}
+
+fn later(status: u16, after: Option<RetryAfter>) -> Outcome {
+    Outcome::Later { status, after }
 }
 
 #[test]
@@ -115,9 +127,14 @@ fn tells_bad_lines(rt: HostRuntime) {
         "answer refused 65536",
         "answer refused -1",
         "answer bad 1",
-        "answer later 503 1",
-        "answer later 503 none",
-        "answer none",
+        "answer none 1",
+        "answer later",
+        "answer later 503",
+        "answer later 65536 1",
+        "answer later 503 -1",
+        "answer later 503 18446744073709551616",
+        "answer later 503 None",
+        "answer later 503 1 1",
         "max 1",
     ] {
         let script = Script::parse(rt.alloc(), line.as_bytes());

@@ -1,12 +1,13 @@
 -- What comes of an attempt to send a batch, as words. (OTLP Specification, OTLP/HTTP Response)
 use Rattle.std.specs.Prelude.{ℕ, ◌^◌, List, [], ◌∷◌, if◌then◌else◌, Option, Some, None, option_map, bytes_eq, codes}
-use Rattle.desk_model.specs.Retries.{Outcome}
-use Rattle.script_words.specs.Words.{number_below, signed_number}
+use Rattle.desk_model.specs.Retries.{Outcome, RetryAfter, later, no_reply, seconds}
+use Rattle.script_words.specs.Words.{◌>>=◌, number_below, signed_number}
 
 -- an outcome that has no number
 unfoldable pub plain_outcome_of : List ℕ → Option Outcome
 plain_outcome_of name =
     if bytes_eq name (codes "delivered") then Some Outcome.delivered
+    else if bytes_eq name (codes "none") then Some no_reply
     else if bytes_eq name (codes "bad") then Some Outcome.bad
     else None
 
@@ -18,8 +19,25 @@ numbered_outcome_of name number =
     option_map Outcome.refused (number_below (2 ^ 16) number)
     else None
 
--- `delivered`, `partial N`, `refused STATUS` or `bad`
+-- when another attempt is welcome: `none`, where nothing is asked for, or in so many seconds
+unfoldable pub wait_of : List ℕ → Option (Option RetryAfter)
+wait_of word =
+    if bytes_eq word (codes "none") then Some None
+    else option_map (λ n. Some (seconds n)) (number_below (2 ^ 64) word)
+
+-- one that is to be tried again: the HTTP status, and when
+unfoldable pub later_of : List ℕ → List ℕ → Option Outcome
+later_of status wait =
+    number_below (2 ^ 16) status >>= λ n. option_map (later n) (wait_of wait)
+
+unfoldable pub later_outcome_of : List ℕ → List ℕ → List ℕ → Option Outcome
+later_outcome_of name status wait =
+    if bytes_eq name (codes "later") then later_of status wait else None
+
+-- `delivered`, `partial N`, `later STATUS SECONDS`, `later STATUS none`, `refused STATUS`, `none`
+-- or `bad`
 unfoldable pub outcome_of : List (List ℕ) → Option Outcome
 outcome_of (name ∷ []) = plain_outcome_of name
 outcome_of (name ∷ number ∷ []) = numbered_outcome_of name number
+outcome_of (name ∷ status ∷ wait ∷ []) = later_outcome_of name status wait
 outcome_of _ = None
