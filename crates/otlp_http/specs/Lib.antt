@@ -7,3 +7,4 @@ pub mod Parses
 pub mod Replies
 pub mod Request
 pub mod Wires
+pub mod Outcomes
