@@ -1,8 +1,6 @@
 -- What a run of a script is, in the model.
 use Rattle.std.proofs.Common.{◌≡◌, refl, sym, ap, subst, ◌∙◌, ℕ, suc, List, [], ◌∷◌, ◌++◌, length, map, Option, Some, None}
-use Rattle.std.specs.List.{AllByRecursion}
 use Rattle.run_model.specs.Answers.{RunConfig, AreAnswers, desk_after}
-use Rattle.run_model.specs.Headline.{EachOnce, Attempt, attempts}
 use Rattle.run_model.specs.Runs.{Answered}
 use Rattle.desk_model.specs.Desks.{Desk}
 use Rattle.span_exporter.specs.Handed.{Handed}
@@ -10,14 +8,13 @@ use Rattle.trace_history.specs.Answers.{answer_view, history_view}
 use Rattle.trace_history.specs.Steps.{step_view}
 use Rattle.trace_history.specs.declared.answer.Answer.{Answer}
 use Rattle.trace_history.specs.declared.step.Step.{Step as CodeStep}
-use Rattle.trace_run.specs.State.{MeansItsBatch, RepeatsBytes, IsHandedOver, attempt_of}
+use Rattle.trace_run.specs.Headline.{Headline}
 use Rattle.retry_core.specs.Retries.{default_retry}
-use Rattle.history_model.specs.History.{Setup}
 use Rattle.span_script.specs.Scripts.{Script}
 use Rattle.span_script.specs.Parsed.{Means}
 use Rattle.span_script.specs.declared.script.Script.{Script as CodeScript}
 use Rattle.batch_desk.specs.Views.{config_view}
-use Rattle.script_program.specs.Recorded.{run_of, setup_of}
+use Rattle.script_program.specs.Recorded.{run_of}
 use Rattle.script_program.specs.Recorder.{setup_view}
 use Rattle.script_program.specs.Printed.{IsRunText, run_text}
 
@@ -35,23 +32,14 @@ steps-of [] (y ∷ answers) h = cc
 steps-of (x ∷ steps) [] h = cc
 steps-of (x ∷ steps) (y ∷ answers) h = ap (λ xs. step_view x ∷ xs) (steps-of steps answers (cc))
 
--- what was handed to an exporter that was handed nothing before
-handed-are : (setup : Setup) (h : List Answered) (handed : List Handed) (t : IsHandedOver setup h (Some []) (Some handed)) → handed ≡ t.more
-handed-are setup h handed t = let same : Some handed ≡ Some t.more = t.gains in let e : handed ≡ t.more = cc in e
-
 pub run-is : {A : Type 0} (c : CodeScript A) (read : Script) (answers : List Answer) (desk : Desk) (handed : List Handed) (text : List ℕ) → Means c read → length answers ≡ length c.steps.items
-    → AreAnswers (run_view c) (history_view c.steps.items answers) → EachOnce (setup_view c) (history_view c.steps.items answers) → desk ≡ desk_after (run_view c) (history_view c.steps.items answers)
-    → IsHandedOver (setup_view c) (history_view c.steps.items answers) (Some []) (Some handed) → text ≡ run_text handed (history_view c.steps.items answers) desk → IsRunText read text
-run-is c read answers desk handed text means many answered once is told lines = record {
+    → AreAnswers (run_view c) (history_view c.steps.items answers) → desk ≡ desk_after (run_view c) (history_view c.steps.items answers)
+    → Headline (run_view c) (history_view c.steps.items answers) (Some []) (Some handed) → text ≡ run_text handed (history_view c.steps.items answers) desk → IsRunText read text
+run-is c read answers desk handed text means many answered is headline lines = record {
   history = history_view c.steps.items answers;
   steps = steps-of c.steps.items answers many ∙ means.steps;
   answered = rw (sym (same-run c read means)) answered;
-  each_once = rw (ap (λ (r : RunConfig). r.setup) (sym (same-run c read means))) once;
   handed = handed;
-  told = ap (map attempt_of) (handed-are (setup_view c) (history_view c.steps.items answers) handed told) ∙ told.are;
-  bodies =
-      rw (ap (λ (r : RunConfig). r.setup) (sym (same-run c read means)))
-      (subst (AllByRecursion (MeansItsBatch (setup_view c) (history_view c.steps.items answers))) (sym (handed-are (setup_view c) (history_view c.steps.items answers) handed told)) told.bodies);
-  repeats = subst RepeatsBytes (sym (handed-are (setup_view c) (history_view c.steps.items answers) handed told)) told.repeats;
+  headline = subst (λ r. Headline r (history_view c.steps.items answers) (Some []) (Some handed)) (same-run c read means) headline;
   lines = lines ∙ ap (run_text handed (history_view c.steps.items answers)) (is ∙ ap (λ (r : RunConfig). desk_after r (history_view c.steps.items answers)) (same-run c read means));
 }

@@ -1,6 +1,5 @@
 -- What the program prints.
-use Rattle.std.specs.Prelude.{◌≡◌, ◌⊎◌, ℕ, ◌+◌, List, [], ◌∷◌, ◌++◌, length, map, take, Bool, true, false, Option, Ok, Err, IfSome, unwrap_or}
-use Rattle.std.specs.List.{AllByRecursion}
+use Rattle.std.specs.Prelude.{◌≡◌, ◌⊎◌, ℕ, ◌+◌, List, [], ◌∷◌, ◌++◌, length, map, take, Bool, true, false, Option, Some, Ok, Err, IfSome, unwrap_or}
 use Rattle.std.specs.Io.KnownBytes.{Appends, Keeps}
 use Rattle.hex.specs.Hex.{encode_lower}
 use Rattle.message_model.specs.Reading.{Reads}
@@ -9,13 +8,12 @@ use Rattle.export_model.specs.Export.{grouped_triples, groups, body_length}
 use Rattle.desk_model.specs.Desks.{Desk, in_hand_size}
 use Rattle.run_model.specs.Runs.{Answered}
 use Rattle.run_model.specs.Answers.{AreAnswers, desk_after}
-use Rattle.run_model.specs.Headline.{EachOnce, attempts}
 use Rattle.span_exporter.specs.Handed.{Handed}
-use Rattle.trace_run.specs.State.{MeansItsBatch, RepeatsBytes, attempt_of}
+use Rattle.trace_run.specs.Headline.{Headline}
 use Rattle.run_text.specs.Lines.{answers_text, report_text}
 use Rattle.span_script.specs.Scripts.{Script, script_read}
 use Rattle.span_script.specs.declared.script.ScriptError.TheVariants as scripts
-use Rattle.script_program.specs.Recorded.{run_of, setup_of, spans_of}
+use Rattle.script_program.specs.Recorded.{run_of, spans_of}
 use Rattle.script_program.specs.declared.failure.Failure.{Failure}
 use Rattle.script_program.specs.declared.failure.Failure.TheVariants as failures
 
@@ -40,19 +38,15 @@ abbrev pub run_text : List Handed → List Answered → Desk → List ℕ
 run_text handed history desk =
     answers_text handed history ++ report_text (queued_count desk) desk.ledger desk.late
 
--- The text is that of a run: each step of the script has its answer, no span is unaccounted for,
--- the exporter was handed the attempts that the answers speak of, each with a body that means the
--- spans of its batch, and a retry with the bytes of its batch; the report is of what the queue then
--- shows.
+-- The text is that of a run over an exporter that was handed nothing before: each step of the script
+-- has its answer, no span is unaccounted for, the lines are of the attempts that the exporter was
+-- handed, and the report is of what the queue then shows.
 pub record IsRunText (script : Script) (text : List ℕ) : Type 0 where
   pub history : List Answered
   pub steps : map (λ x. x.step) history ≡ script.steps
   pub answered : AreAnswers (run_of script) history
-  pub each_once : EachOnce (setup_of script) history
   pub handed : List Handed
-  pub told : map attempt_of handed ≡ attempts history
-  pub bodies : AllByRecursion (MeansItsBatch (setup_of script) history) handed
-  pub repeats : RepeatsBytes handed
+  pub headline : Headline (run_of script) history (Some []) (Some handed)
   pub lines : text ≡ run_text handed history (desk_after (run_of script) history)
 
 -- ---- either

@@ -12,10 +12,12 @@ use Rattle.run_model.proofs.More.{AreBelow, events-more}
 use Rattle.run_laws.specs.Laws.{OfHistories, EndedSpansStay}
 use Rattle.span_exporter.specs.Handed.{Handed}
 use Rattle.trace_run.specs.Out.{IsBodyOf}
-use Rattle.trace_run.specs.State.{MeansItsBatch, TellsAll, RepeatsBytes, IsHandedOver}
+use Rattle.trace_run.specs.State.{TellsAll}
+use Rattle.trace_run.specs.Headline.{MeansItsBatch, RepeatsBytes, AreAsEnded, Headline}
 use Rattle.export_model.specs.Export.{groups}
 use Rattle.otlp_proto.specs.Bodies.{body_bytes}
-use Rattle.run_model.specs.Headline.{attempts}
+use Rattle.run_model.specs.Headline.{EachOnce, attempts}
+use Rattle.run_model.specs.Answers.{RunConfig}
 
 last-grows : (events more : List DeskEvent) → last_batch events ≤ last_batch (events ++ more)
 last-grows events more =
@@ -57,5 +59,5 @@ repeats setup h more all i j a b e f n =
     let second : MeansItsBatch setup h b = at-index (MeansItsBatch setup h) more all j b f in
     first.body.bytes ∙ ap (λ k. body_bytes (groups (batch_spans (desk_events setup h) k))) n ∙ sym second.body.bytes
 
-pub handed-over : (setup : Setup) (h : List Answered) (old new : Option (List Handed)) → TellsAll (attempts h) (MeansItsBatch setup h) old new → IsHandedOver setup h old new
-handed-over setup h old new t = record { more = t.more; gains = t.gains; are = t.are; bodies = t.bodies; repeats = repeats setup h t.more t.bodies }
+pub headline : (run : RunConfig) (h : List Answered) (old new : Option (List Handed)) → EachOnce run.setup h → AreAsEnded run.setup h → TellsAll (attempts h) (MeansItsBatch run.setup h) old new → Headline run h old new
+headline run h old new once values t = record { each_once = once; values = values; more = t.more; told = record { gains = t.gains; are = t.are }; bodies = t.bodies; repeats = repeats run.setup h t.more t.bodies }

@@ -19,7 +19,8 @@ use Rattle.trace_history.specs.Steps.{step_view}
 use Rattle.trace_history.specs.declared.answer.Answer.{Answer as CodeAnswer}
 use Rattle.trace_history.specs.declared.step.Step.{Step as CodeStep}
 use Rattle.trace_run.specs.Out.{Out}
-use Rattle.trace_run.specs.State.{Stands, TellsAll, attempt_of}
+use Rattle.trace_run.specs.State.{Stands, TellsAll}
+use Rattle.trace_run.specs.Headline.{attempt_of}
 
 -- ---- histories
 

@@ -23,7 +23,8 @@ use Rattle.span_table.specs.Table.{TableWith}
 use Rattle.span_table.specs.Ends.{EndsAs, EndsBy}
 use Rattle.trace_run.specs.Queue.{Admits}
 use Rattle.trace_run.specs.Out.{Stage, to_encode, to_send, to_judge, to_retry, Out, Encodes, EncodesAt, EncodesBatch, Sends, SendsAt, SendsBody, IsBody, SendsNone, IsBodyOf, Replies, JudgesAt}
-use Rattle.trace_run.specs.State.{Stands, MeansItsBatch, TellsAll, Tells}
+use Rattle.trace_run.specs.State.{Stands, TellsAll, Tells}
+use Rattle.trace_run.specs.Headline.{MeansItsBatch}
 use Rattle.trace_run.proofs.Batches.{shows}
 use Rattle.trace_run.proofs.Runs.{tells-none}
 

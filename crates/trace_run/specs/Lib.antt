@@ -4,3 +4,4 @@ pub mod Views
 pub mod Report
 pub mod Run
 pub mod State
+pub mod Headline

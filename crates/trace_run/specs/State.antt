@@ -1,21 +1,20 @@
 -- Where a run stands behind some steps.
-use Rattle.std.specs.Prelude.{◌≡◌, ℕ, ◌+◌, ◌-◌, ◌^◌, ◌<◌, ◌≤◌, List, [], ◌∷◌, ◌++◌, length, map, slice_get, Option, Some}
+use Rattle.std.specs.Prelude.{◌≡◌, ◌+◌, ◌-◌, ◌^◌, ◌<◌, ◌≤◌, List, [], ◌∷◌, ◌++◌, length, map, Option}
 use Rattle.std.specs.Option.{option_to_list}
 use Rattle.std.specs.List.{list_any, AllByRecursion}
 use Rattle.rand_core.specs.Stream.{Stream}
 use Rattle.span_model.specs.Sampling.{SamplerMeaning}
-use Rattle.desk_model.specs.Queue.{batch_spans, last_batch}
 use Rattle.desk_model.specs.Desks.{Desk, IsDesk}
 use Rattle.retry_model.specs.Waits.{RetryConfig}
-use Rattle.history_model.specs.History.{Setup}
 use Rattle.history_model.specs.Steps.{is_shutdown}
 use Rattle.run_model.specs.Runs.{Answer, Answered, span_steps, ended_by, desk_events}
 use Rattle.run_model.specs.Answers.{RunConfig, AreAnswers}
-use Rattle.run_model.specs.Headline.{Attempt, attempt_by, attempts, out_after}
+use Rattle.run_model.specs.Headline.{Attempt, attempt_by, out_after}
 use Rattle.run_model.proofs.More.{AreBelow}
 use Rattle.span_exporter.specs.Handed.{Handed, Gains}
 use Rattle.span_table.specs.Table.{IsTable, TableWith}
-use Rattle.trace_run.specs.Out.{Out, shown, IsTied, IsBodyOf}
+use Rattle.trace_run.specs.Out.{Out, shown, IsTied}
+use Rattle.trace_run.specs.Headline.{attempt_of}
 
 -- Behind these steps, the spans, the queue and the batch that is out are what the steps mean.
 pub record Stands {S R : Type 0} (meaning : S → SamplerMeaning) (stream : R → Stream)
@@ -40,21 +39,7 @@ GoesOn meaning stream retry x table desk out table2 desk2 out2 =
     → Stands meaning stream run h table desk out
     → Stands meaning stream run (h ++ x ∷ []) table2 desk2 out2
 
--- ---- what the exporter tells
-
-abbrev pub attempt_of : Handed → Attempt
-attempt_of handed = record {
-  number = handed.number;
-  attempt = handed.attempt;
-  outcome = handed.outcome;
-}
-
--- Its body, read as a request, is the spans of its batch under their resources and scopes. (OTLP
--- Specification, OTLP/HTTP; batches are numbered from 1 on: profile)
-pub record MeansItsBatch (setup : Setup) (h : List Answered) (handed : Handed) : Type 0 where
-  pub numbered : 0 < handed.number
-  pub taken : handed.number ≤ last_batch (desk_events setup h)
-  pub body : IsBodyOf (batch_spans (desk_events setup h) handed.number) handed.body
+-- ---- what the exporter tells of a step
 
 -- an exporter that tells has gained these attempts, each with a body that means this
 pub record TellsAll (told : List Attempt) (means : Handed → Type 0)
@@ -68,19 +53,3 @@ pub record TellsAll (told : List Attempt) (means : Handed → Type 0)
 abbrev pub Tells : Answer → (Handed → Type 0) → Option (List Handed) → Option (List Handed)
     → Type 0
 Tells answer means old new = TellsAll (option_to_list (attempt_by answer)) means old new
-
--- Two attempts of one batch have the same bytes. (OTLP Specification, Retryable Response Codes)
-abbrev pub RepeatsBytes : List Handed → Type 0
-RepeatsBytes more =
-    (i j : ℕ) (a b : Handed) → slice_get more i ≡ Some a → slice_get more j ≡ Some b
-    → a.number ≡ b.number → a.body ≡ b.body
-
--- An exporter that tells has gained the attempts that the answers speak of, each with a body that
--- means the spans of its batch; each retry repeats the bytes of its batch.
-pub record IsHandedOver (setup : Setup) (h : List Answered) (old new : Option (List Handed))
-    : Type 0 where
-  pub more : List Handed
-  pub gains : Gains more old new
-  pub are : map attempt_of more ≡ attempts h
-  pub bodies : AllByRecursion (MeansItsBatch setup h) more
-  pub repeats : RepeatsBytes more

@@ -5,7 +5,8 @@ ghost use Rattle.run_model.specs.Runs.{Answered};
 ghost use Rattle.trace_history.specs.Answers.{answer_view};
 ghost use Rattle.trace_history.specs.Steps.{step_view};
 ghost use Rattle.trace_run.specs.Out.{IsReady, IsTied};
-ghost use Rattle.trace_run.specs.State.{GoesOn, MeansItsBatch, Stands, Tells};
+ghost use Rattle.trace_run.specs.State.{GoesOn, Stands, Tells};
+ghost use Rattle.trace_run.specs.Headline.{MeansItsBatch};
 
 use crate::queue::SpanQueue;
 use crate::sending::{OutBatch, encode_batch, judge_batch, send_batch, take_batch};

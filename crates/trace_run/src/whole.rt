@@ -2,13 +2,13 @@
 ghost use Rattle.std.specs.Prelude.{◌≡◌, IfOk, OnErr, length};
 ghost use Rattle.span_ring.specs.SpanRing.{IsRingSize};
 ghost use Rattle.run_model.specs.Answers.{AreAnswers, desk_after};
-ghost use Rattle.run_model.specs.Headline.{EachOnce, out_after};
+ghost use Rattle.run_model.specs.Headline.{out_after};
 ghost use Rattle.trace_history.specs.Answers.{history_view};
 ghost use Rattle.trace_run.specs.Out.{shown};
-ghost use Rattle.run_laws.specs.Laws.{LateBehindShutdown, DroppedWhereFull, QueuedWhereRoom, TakenWhereDue, TakesTheFirst, TakenBehindShutdown, OneBatchIsOut, AttemptsAreNumbered, AttemptsAreFew, NoAttemptIsEarly, RepliesAreDecided, HandedAreNotDropped, WaitingAreEnded, BatchesAreEnded, DropsNameEnded, LedgerNamesTheDropped};
+ghost use Rattle.run_laws.specs.Laws.{LateBehindShutdown, DroppedWhereFull, QueuedWhereRoom, TakenWhereDue, TakesTheFirst, TakenBehindShutdown, OneBatchIsOut, AttemptsAreNumbered, AttemptsAreFew, NoAttemptIsEarly, RepliesAreDecided, HandedAreNotDropped, LedgerNamesTheDropped};
 ghost use Rattle.trace_run.specs.Report.{OfRun};
 ghost use Rattle.trace_run.specs.Run.{run_config};
-ghost use Rattle.trace_run.specs.State.{IsHandedOver};
+ghost use Rattle.trace_run.specs.Headline.{Headline};
 
 use crate::config::RunConfig;
 use crate::queue::SpanQueue;
@@ -71,20 +71,12 @@ pub fn run<S: Sampler + Drop, R: Rng + Drop, E: Exporter, A: Allocator + Copy>(
     ensures one_out { IfOk result
         (OfRun S.meaning R.stream config steps.now (λ run. OneBatchIsOut)) }
 
-    // No span is unaccounted for.
-    ensures each_once { IfOk result
-        (OfRun S.meaning R.stream config steps.now (λ run. EachOnce run.setup)) }
-
+    // No span is unaccounted for: each that ended before the shutdown was handed, is still queued,
+    // or is named, once, as it ended; each body means its batch, and each retry repeats it.
+    ensures headline { IfOk result (OfRun S.meaning R.stream config steps.now (λ run history.
+        Headline run history (E.handed exporter.old) (E.handed exporter.new))) }
     ensures not_named { IfOk result (OfRun S.meaning R.stream config steps.now
         (λ run. HandedAreNotDropped run.setup)) }
-
-    // Each has the value that the history means, and so has each entry of the ledger.
-    ensures waiting { IfOk result (OfRun S.meaning R.stream config steps.now
-        (λ run. WaitingAreEnded run.setup)) }
-    ensures batches { IfOk result (OfRun S.meaning R.stream config steps.now
-        (λ run. BatchesAreEnded run.setup)) }
-    ensures named { IfOk result (OfRun S.meaning R.stream config steps.now
-        (λ run. DropsNameEnded run.setup)) }
     ensures ledger { IfOk result
         (OfRun S.meaning R.stream config steps.now LedgerNamesTheDropped) }
 
@@ -104,11 +96,6 @@ pub fn run<S: Sampler + Drop, R: Rng + Drop, E: Exporter, A: Allocator + Copy>(
     ensures early { IfOk result
         (OfRun S.meaning R.stream config steps.now (λ run. NoAttemptIsEarly)) }
     ensures decided { IfOk result (OfRun S.meaning R.stream config steps.now RepliesAreDecided) }
-
-    // An exporter that tells was handed the attempts that the answers speak of. The body of each
-    // means the spans of its batch, and each retry repeats the bytes of its batch.
-    ensures handed { IfOk result (OfRun S.meaning R.stream config steps.now (λ run history.
-        IsHandedOver run.setup history (E.handed exporter.old) (E.handed exporter.new))) }
 
     // Refused, nothing was done.
     ensures refused { OnErr result (exporter.new ≡ exporter.old) }

@@ -6,7 +6,7 @@ use Rattle.trace_history.specs.Answers.{answer_view, history_view}
 use Rattle.trace_history.specs.Steps.{step_view}
 use Rattle.trace_run.specs.Run.{run_config}
 use Rattle.trace_run.proofs.Standing.{desk-is}
-use Rattle.trace_run.proofs.Bodies.{body-stays, handed-over}
+use Rattle.trace_run.proofs.Bodies.{body-stays, headline}
 use Rattle.trace_run.proofs.Runs.{stands-first, tells-none, tells-more, tells-still, attempts-push, each-once, behind-length, behind-push}
 use Rattle.trace_run.proofs.whole.run.Goals as goal
 
@@ -49,11 +49,17 @@ loop-step-preserved g c =
       table_room = c.take_step-answer.ensures.room ∙ i.table_room;
     }
 
-pub returns-clause-each_once : goal.returns-clause-each_once
-returns-clause-each_once g c =
+pub returns-clause-headline : goal.returns-clause-headline
+returns-clause-headline g c =
     let i = c.loop-step.invariant in
     let run = run_config g.S.Sampler.meaning g.R.Rng.stream c.args.config in
-    rw (take_all c.loop-step.step-index c.args.steps.now c.loop-step-test.false) at (each-once g.S.Sampler.meaning g.R.Rng.stream run _ _ _ _ i.stands c.no_ticket_is_lost.ensures.once)
+    let all = take_all c.loop-step.step-index c.args.steps.now c.loop-step-test.false in
+    let h = history_view c.args.steps.now c.loop-step.answers.items in
+    let stay = c.ended_spans_stay.ensures in
+    headline run h _ _
+    (rw all at (each-once g.S.Sampler.meaning g.R.Rng.stream run _ _ _ _ i.stands c.no_ticket_is_lost.ensures.once))
+    (record { waiting = stay.waiting run.setup h; batches = stay.batches run.setup h; named = stay.drops run.setup h })
+    (rw all at i.told)
 
 pub returns-clause-desk : goal.returns-clause-desk
 returns-clause-desk g c =
@@ -63,10 +69,6 @@ returns-clause-desk g c =
 
 pub returns-clause-out : goal.returns-clause-out
 returns-clause-out g c = rw (take_all c.loop-step.step-index c.args.steps.now c.loop-step-test.false) at c.loop-step.invariant.stands.out_is
-
-pub returns-clause-handed : goal.returns-clause-handed
-returns-clause-handed g c =
-    rw (take_all c.loop-step.step-index c.args.steps.now c.loop-step-test.false) at (handed-over _ _ _ _ c.loop-step.invariant.told)
 
 pub returns-clause-late : goal.returns-clause-late
 returns-clause-late g c =
@@ -106,22 +108,8 @@ returns-clause-one_out g c =
 pub returns-clause-not_named : goal.returns-clause-not_named
 returns-clause-not_named g c =
     let run = run_config g.S.Sampler.meaning g.R.Rng.stream c.args.config in
-    c.none_is_unaccounted_for.ensures.handed run.setup (history_view c.args.steps.now c.loop-step.answers.items) (returns-clause-each_once g c)
-
-pub returns-clause-waiting : goal.returns-clause-waiting
-returns-clause-waiting g c =
-    let run = run_config g.S.Sampler.meaning g.R.Rng.stream c.args.config in
-    c.ended_spans_stay.ensures.waiting run.setup (history_view c.args.steps.now c.loop-step.answers.items)
-
-pub returns-clause-batches : goal.returns-clause-batches
-returns-clause-batches g c =
-    let run = run_config g.S.Sampler.meaning g.R.Rng.stream c.args.config in
-    c.ended_spans_stay.ensures.batches run.setup (history_view c.args.steps.now c.loop-step.answers.items)
-
-pub returns-clause-named : goal.returns-clause-named
-returns-clause-named g c =
-    let run = run_config g.S.Sampler.meaning g.R.Rng.stream c.args.config in
-    c.ended_spans_stay.ensures.drops run.setup (history_view c.args.steps.now c.loop-step.answers.items)
+    let whole = returns-clause-headline g c in
+    c.none_is_unaccounted_for.ensures.handed run.setup (history_view c.args.steps.now c.loop-step.answers.items) whole.each_once
 
 pub returns-clause-ledger : goal.returns-clause-ledger
 returns-clause-ledger g c =

@@ -3,7 +3,8 @@ use Rattle.run_model.specs.Headline.{attempts}
 use Rattle.trace_history.specs.Answers.{history_view}
 use Rattle.trace_run.specs.Out.{IsReady}
 use Rattle.trace_run.specs.Run.{run_config}
-use Rattle.trace_run.specs.State.{Stands, MeansItsBatch, TellsAll}
+use Rattle.trace_run.specs.State.{Stands, TellsAll}
+use Rattle.trace_run.specs.Headline.{MeansItsBatch}
 use Rattle.trace_run.proofs.whole.run.Given as goal
 
 -- It stands behind the steps so far, and the exporter tells their attempts.
