@@ -19,7 +19,9 @@ pub struct Flushed;
 
 /// One thread's way to a simple processor: what its spans go to at their end. In contracts it is
 /// what it knows: how each of its spans was answered, what it popped, how often it was late and
-/// called shutdown. Each call takes the lock once, and waits while another thread has it.
+/// called shutdown. Each call takes the lock once, and waits while another thread has it. On the
+/// heap a pass may go to another thread where its exporter and the runtime's value may: what
+/// `thread::spawn` asks its caller to show is the lemma `pass_send` of `proofs/Crosses.antt`.
 #[derive(Drop)]
 pub struct SimplePass<J: Naming, E: Exporter, R, A: Allocator = Global> {
     pub(crate) shared: Arc<Mutex<Shared<J, E, A>>, A>,
