@@ -52,7 +52,7 @@ pub struct Field<'a> {
     pub payload: Payload<'a>,
 }
 
-/// The varint at the front, and the bytes after it.
+/// The varint at the front, of ten bytes at most, and the bytes after it.
 fn read_varint(bytes: &[u8]) -> Result<(u64, &[u8]), WireFault>
     ensures { front_of (λ n. n) result ≡ Wire.number bytes.now }
 {
