@@ -10,7 +10,7 @@ use std::marker::Model;
 use thiserror::Error;
 
 /// What stands in the place of a field where none does (Protocol Buffers, Encoding, "Message
-/// Structure"). Where several can be told, it is the first of these.
+/// Structure"). A tag's number is told before its wire type, and both before a payload's fault.
 #[derive(Error, Debug, Clone, Copy, PartialEq, Eq)]
 pub enum WireFault {
     /// A proper beginning of a field, which the end of the bytes cuts off.
@@ -52,7 +52,7 @@ pub struct Field<'a> {
     pub payload: Payload<'a>,
 }
 
-/// The varint at the front, and the bytes after it.
+/// The varint at the front, of ten bytes at most, and the bytes after it.
 fn read_varint(bytes: &[u8]) -> Result<(u64, &[u8]), WireFault>
     ensures { front_of (λ n. n) result ≡ Wire.number bytes.now }
 {
