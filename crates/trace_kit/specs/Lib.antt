@@ -11,6 +11,9 @@ pub use Rattle.span_model.specs.Dropped
 pub use Rattle.desk_model.specs.Desks
 pub use Rattle.desk_model.specs.Queue
 pub use Rattle.desk_model.specs.Retries
+pub use Rattle.retry_model.specs.Waits
+pub use Rattle.desk_laws.specs.Queues
+pub use Rattle.run_laws.specs.Laws as RunLaws
 pub use Rattle.export_model.specs.Export
 pub use Rattle.history_model.specs.Steps
 pub use Rattle.history_model.specs.History
@@ -26,12 +29,20 @@ pub use Rattle.otlp_span.specs.Recording
 pub use Rattle.otlp_sampler.specs.Sampling as SamplerViews
 pub use Rattle.scope_group.specs.Group
 pub use Rattle.otlp_proto.specs.Encode
+pub use Rattle.otlp_proto.specs.Bodies
+pub use Rattle.otlp_read.specs.Response
 pub use Rattle.trace_api.specs.Calls
 pub use Rattle.trace_api.specs.Pass
 pub use Rattle.trace_api.specs.Starts as TracerStarts
 pub use Rattle.trace_history.specs.Answers as AnswerViews
 pub use Rattle.trace_history.specs.Steps as StepViews
 pub use Rattle.span_exporter.specs.Handed
+pub use Rattle.span_exporter.specs.Views as ExporterViews
+pub use Rattle.span_ring.specs.SpanRing
+pub use Rattle.batch_desk.specs.Desk as DeskCalls
+pub use Rattle.batch_desk.specs.Batch
+pub use Rattle.batch_desk.specs.Views as DeskViews
+pub use Rattle.retry_core.specs.Retries as RetryViews
 pub use Rattle.simple_processor.specs.Accounts as PassAccounts
 pub use Rattle.simple_processor.specs.Bodies as PassBodies
 pub use Rattle.simple_processor.specs.Kept as PassKept
@@ -41,5 +52,11 @@ pub use Rattle.trace_run.specs.Out
 pub use Rattle.trace_run.specs.Run
 pub use Rattle.trace_run.specs.Report
 pub use Rattle.trace_run.specs.State
+pub use Rattle.trace_run.specs.Headline as RunHeadline
 pub use Rattle.script_program.specs.Command
 pub use Rattle.script_program.specs.Printed
+pub use Rattle.otlp_http.specs.Address
+pub use Rattle.otlp_http.specs.Devices
+pub use Rattle.otlp_http.specs.Request
+pub use Rattle.otlp_http.specs.Replies
+pub use Rattle.otlp_http.specs.Outcomes

@@ -5,15 +5,20 @@ pub use batch_desk::{
     Admitted, Batch, Desk, DeskConfig, DropCounts, Fate, FateCounts, Mark, Totals,
 };
 pub use drop_ledger::Ledger;
+pub use otlp_http::{
+    Counted, DEFAULT_PATH, DEFAULT_PORT, DeviceFailed, FaultRead, FaultWrite, HeadLimits, HttpFault,
+    Reply, Stopped, Target, TargetFault, outcome_of, read_reply, write_request,
+};
 pub use otlp_ids::{IdFault, OutOfMemory, SpanContext, SpanId, TraceFlags, TraceId};
 pub use otlp_proto::{DEFAULT_MAX_BODY, EncodeFault, body_of, encode};
+pub use otlp_read::{PartialSuccess, ReadFault, Response, read_response};
 pub use otlp_sampler::{AlwaysOff, AlwaysOn, Decision, ParentBased, Sampler};
 pub use otlp_span::{
     Entries, Entry, Event, Kind, Link, Open, Reason, Resource, Scope, Slip, SpanCall, SpanData,
     SpanLimits, SpanRecord, Status, replay,
 };
 pub use otlp_value::{AttributeList, Limits, Value};
-pub use retry_core::{Cause, Next, Outcome, RetryAfter, decide};
+pub use retry_core::{BadRetry, Cause, Next, Outcome, RetryAfter, RetryConfig, decide};
 pub use run_text::{write_answers, write_report};
 pub use scope_group::{ResourceGroup, ScopeGroup, group};
 pub use script_program::{ScriptSampler, script, trace_script};
