@@ -1,6 +1,6 @@
 //! Bodies of replies.
 
-ghost use Rattle.std.specs.Prelude.{◌≡◌, ◌||◌, ◌==◌, ℕ, List, length, codes, nat_lt};
+ghost use Rattle.std.specs.Prelude.{◌≡◌, ◌||◌, ◌==◌, ℕ, List, length, codes, nat_lt, OnOk};
 ghost use Rattle.std.specs.Io.KnownBytes.{Consumes};
 ghost use Rattle.std.specs.Result.{result_map_both};
 ghost use Rattle.http_header.specs.HeaderMap.{get_all};
@@ -68,10 +68,11 @@ fn read_sized<R: FaultRead, A: Allocator>(
     size: u64,
     limit: usize,
 ) -> Result<Vec<u8, A>, HttpFault>
-    ensures { (taken : List ℕ) × Consumes (R.remaining reader.old) (R.remaining reader.new) taken
+    ensures body { (taken : List ℕ) × Consumes (R.remaining reader.old) (R.remaining reader.new) taken
         × IsSizedBody limit size taken (R.remaining reader.new)
         (HasFailed (R.failures reader.old) (R.failures reader.new))
         (result_map_both (λ v. v.items) (λ fault. fault) result) }
+    ensures kept { OnOk result (R.failures reader.new ≡ R.failures reader.old) }
 {
     if size > limit as u64 {
         return Err(HttpFault::TooLarge);
@@ -99,10 +100,11 @@ fn read_to_end<R: FaultRead, A: Allocator>(
     reader: &mut R,
     limit: usize,
 ) -> Result<Vec<u8, A>, HttpFault>
-    ensures { (taken : List ℕ) × Consumes (R.remaining reader.old) (R.remaining reader.new) taken
+    ensures body { (taken : List ℕ) × Consumes (R.remaining reader.old) (R.remaining reader.new) taken
         × IsBodyToEnd limit taken (R.remaining reader.new)
         (HasFailed (R.failures reader.old) (R.failures reader.new))
         (result_map_both (λ v. v.items) (λ fault. fault) result) }
+    ensures kept { OnOk result (R.failures reader.new ≡ R.failures reader.old) }
 {
     let mut body = Vec::new(alloc);
     let mut piece = [0; 512];
@@ -129,10 +131,11 @@ pub(crate) fn read_body<R: FaultRead, A: Allocator>(
     framing: Framing,
     limit: usize,
 ) -> Result<Vec<u8, A>, HttpFault>
-    ensures { (taken : List ℕ) × Consumes (R.remaining reader.old) (R.remaining reader.new) taken
+    ensures body { (taken : List ℕ) × Consumes (R.remaining reader.old) (R.remaining reader.new) taken
         × IsBody (framing_view framing) limit taken (R.remaining reader.new)
         (HasFailed (R.failures reader.old) (R.failures reader.new))
         (result_map_both (λ v. v.items) (λ fault. fault) result) }
+    ensures kept { OnOk result (R.failures reader.new ≡ R.failures reader.old) }
 {
     match framing {
         Framing::Empty => Ok(Vec::new(alloc)),

@@ -61,7 +61,7 @@ fn read_fields<R: FaultRead, A: Allocator>(
 /// `httparse` reads by default. Heads with a status from 100 to 199 are skipped, 16 at most
 /// (profile). A reply with status 204 or 304 has no body. Where Transfer-Encoding stands, the
 /// body's length is taken as not known (profile); else it is what Content-Length says, and where
-/// there is none, the body goes to the end of the bytes.
+/// there is none, the body goes to the end of the bytes. A read that failed is not tried again.
 ///
 /// The text of the heads, while the call lasts, and the body are kept by `alloc`, and the fields,
 /// while the call lasts, by `global`.
@@ -94,6 +94,8 @@ pub fn read_reply<R: FaultRead, A: Allocator + Copy>(
           retry_after = reply.retry_after;
           body = result_map_both (λ v. v.items) (λ fault. fault) reply.body;
         })) }
+    ensures kept { IfOk result (λ reply.
+        OnOk reply.body (R.failures reader.new ≡ R.failures reader.old)) }
     ensures no_reply { IfErr result (HasNoReply limits.now (R.remaining reader.old)
         (R.remaining reader.new) (HasFailed (R.failures reader.old) (R.failures reader.new))) }
 {

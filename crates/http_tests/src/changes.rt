@@ -1,0 +1,56 @@
+//! Replies in which a seeded generator has changed bytes.
+
+use crate::fixture::{BODY, are_same, joined, read, wire};
+use otlp_http::{FailingCalls, HttpFault, Reply};
+use rand_core::Rng;
+use rand_pcg::Pcg32;
+use std::alloc::Global;
+use std::process::Abort;
+
+/// An interim head, and a head with a field of each kind that counts.
+const HEADS: &str = concat!(
+    "HTTP/1.1 100 Continue\r\n\r\n",
+    "HTTP/1.1 503 Busy\r\nRetry-After: 7\r\nContent-Length: 7\r\n\r\n",
+);
+
+/// A text in which one to four bytes may be others.
+fn changed(rt: &impl Abort, alloc: Global, rng: &mut Pcg32, text: &[u8]) -> Vec<u8> {
+    let mut text = Vec::from_slice(alloc, text).expect(rt, "memory");
+    for _change in 0..=rng.next_u32() % 4 {
+        let at = rng.next_u32() % 88;
+        let byte = (rng.next_u32() % 256) as u8;
+        if let Some(place) = text.get_mut(at as usize) {
+            *place = byte;
+        }
+    }
+    text
+}
+
+/// Whether an answer is one that can come of bytes that end, with memory for all of them.
+fn is_named(answer: &Result<Reply, HttpFault>) -> bool {
+    match answer {
+        Ok(reply) => match &reply.body {
+            Ok(_) => true,
+            Err(HttpFault::Ended | HttpFault::BadLength | HttpFault::TooLarge) => true,
+            Err(_) => false,
+        },
+        Err(HttpFault::Ended | HttpFault::BadHead | HttpFault::TooLarge) => true,
+        Err(_) => false,
+    }
+}
+
+#[test]
+fn a_changed_reply_is_read_the_same_in_parts(rt: HostRuntime) {
+    let alloc = rt.alloc();
+    let mut rng = Pcg32::new(1, 1);
+    let text = joined(&rt, alloc, HEADS.as_bytes(), BODY);
+    for _reply in 0..20_000u32 {
+        let changed = changed(&rt, alloc, &mut rng, &text);
+        let mut whole = wire(&rt, alloc, &changed, 65_536, FailingCalls::Never);
+        let mut parts = wire(&rt, alloc, &changed, 3, FailingCalls::Never);
+        let answer = read(alloc, &mut whole);
+        assert!(rt; is_named(&answer));
+        assert!(rt; are_same(&answer, &read(alloc, &mut parts)));
+        assert_eq!(rt; whole.left().len(), parts.left().len());
+    }
+}
