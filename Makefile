@@ -10,9 +10,10 @@ run: ## Build trace-script without its proofs and print what the examples' steps
 	@echo '# trace-script, built before it is proved (make test proves), on each of examples/*.script' >&2
 	@cd crates/trace_script && rt try --cases ../../examples
 
-test: docs ## The gate: documents, every proof from nothing, must-fail edits, tests, programs and stored runs (tens of minutes)
+test: docs ## The gate: documents, every proof from nothing, must-fail edits, tests, programs, stored runs and what must not compile (tens of minutes)
 	rt ci
 	tools/runs
+	tools/wont-compile
 
 docs: ## Compare the documents with the sources
 	tools/check-docs
