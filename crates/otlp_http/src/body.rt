@@ -68,7 +68,8 @@ fn read_sized<R: FaultRead, A: Allocator>(
     size: u64,
     limit: usize,
 ) -> Result<Vec<u8, A>, HttpFault>
-    ensures body { (taken : List ℕ) × Consumes (R.remaining reader.old) (R.remaining reader.new) taken
+    ensures body { (taken : List ℕ)
+        × Consumes (R.remaining reader.old) (R.remaining reader.new) taken
         × IsSizedBody limit size taken (R.remaining reader.new)
         (HasFailed (R.failures reader.old) (R.failures reader.new))
         (result_map_both (λ v. v.items) (λ fault. fault) result) }
@@ -100,7 +101,8 @@ fn read_to_end<R: FaultRead, A: Allocator>(
     reader: &mut R,
     limit: usize,
 ) -> Result<Vec<u8, A>, HttpFault>
-    ensures body { (taken : List ℕ) × Consumes (R.remaining reader.old) (R.remaining reader.new) taken
+    ensures body { (taken : List ℕ)
+        × Consumes (R.remaining reader.old) (R.remaining reader.new) taken
         × IsBodyToEnd limit taken (R.remaining reader.new)
         (HasFailed (R.failures reader.old) (R.failures reader.new))
         (result_map_both (λ v. v.items) (λ fault. fault) result) }
@@ -131,7 +133,8 @@ pub(crate) fn read_body<R: FaultRead, A: Allocator>(
     framing: Framing,
     limit: usize,
 ) -> Result<Vec<u8, A>, HttpFault>
-    ensures body { (taken : List ℕ) × Consumes (R.remaining reader.old) (R.remaining reader.new) taken
+    ensures body { (taken : List ℕ)
+        × Consumes (R.remaining reader.old) (R.remaining reader.new) taken
         × IsBody (framing_view framing) limit taken (R.remaining reader.new)
         (HasFailed (R.failures reader.old) (R.failures reader.new))
         (result_map_both (λ v. v.items) (λ fault. fault) result) }
