@@ -63,6 +63,6 @@ abbrev pub next_after : RetryConfig → ℕ → Outcome → ℕ → ℕ → Next
 next_after config attempt outcome now word =
     if nat_lt attempt config.attempts
     then option_map_or
-        (λ after. again (min (now + wait_of config attempt after now word) last_moment))
-        (retried outcome) (next_of outcome)
+    (λ after. again (min (now + wait_of config attempt after now word) last_moment))
+    (retried outcome) (next_of outcome)
     else next_of outcome

@@ -230,12 +230,15 @@ module _ (run : RunConfig) (h : List Answered) where
   told-attempt outcome now (to_judge o) e = tt
 
   told-reply : (now word : ℕ) (p : Progress) → progress h ≡ p → Told run h (Step.reply now word) (reply_answer run h (desk_after run h) now word p)
-  told-reply now word (to_judge outcome) e = (refl, record {
-    outcome = outcome;
-    judged = e;
-    few = λ moment k. again-few run.retry (last_attempt h) outcome now word moment k;
-    decided = λ at drawn k. let a : now ≡ at = cc in let b : word ≡ drawn = cc in rw (a, b) refl;
-  })
+  told-reply now word (to_judge outcome) e = (
+    refl,
+    record {
+      outcome = outcome;
+      judged = e;
+      few = λ moment k. again-few run.retry (last_attempt h) outcome now word moment k;
+      decided = λ at drawn k. let a : now ≡ at = cc in let b : word ≡ drawn = cc in rw (a, b) refl;
+    },
+  )
   told-reply now word not_out e = tt
   told-reply now word to_encode e = tt
   told-reply now word to_send e = tt

@@ -27,7 +27,10 @@ fn assert_repeats<A: Allocator>(rt: &impl Abort, exporter: &MemoryExporter<A>, a
     assert_eq!(rt; first.body.len(), 64);
     assert_eq!(rt; handed.len(), attempts as usize);
     for (place, attempt) in handed.iter().enumerate() {
-        assert_eq!(rt; (attempt.number, attempt.attempt as usize), (1, place.wrapping_add(1)));
+        assert_eq!(rt;
+            (attempt.number, attempt.attempt as usize),
+            (1, place.wrapping_add(1))
+        );
         assert_eq!(rt; attempt.body.as_slice(), first.body.as_slice());
     }
 }
@@ -52,7 +55,10 @@ fn an_attempt_waits_as_the_collector_asks(rt: HostRuntime) {
         (Do::Encode, Answer::Nothing),
         (Do::ReplyAt(SECOND, 0), Answer::Nothing),
         (Do::AttemptAt(3 * SECOND - 1), Answer::Early),
-        (Do::AttemptAt(3 * SECOND), sent_again(1, 2, Outcome::Delivered)),
+        (
+            Do::AttemptAt(3 * SECOND),
+            sent_again(1, 2, Outcome::Delivered),
+        ),
         (Do::ReplyAt(3 * SECOND, 0), replied(1, Next::Done)),
     ];
     let report = run_program(&rt, alloc, config, &mut exporter, &program);
@@ -76,11 +82,20 @@ fn the_fifth_attempt_is_the_last(rt: HostRuntime) {
         (Do::AttemptAt(SECOND), sent_again(1, 2, none)),
         (Do::ReplyAt(SECOND, 0), replied(1, Next::Again(3 * SECOND))),
         (Do::AttemptAt(3 * SECOND), sent_again(1, 3, none)),
-        (Do::ReplyAt(3 * SECOND, 0), replied(1, Next::Again(7 * SECOND))),
+        (
+            Do::ReplyAt(3 * SECOND, 0),
+            replied(1, Next::Again(7 * SECOND)),
+        ),
         (Do::AttemptAt(7 * SECOND), sent_again(1, 4, none)),
-        (Do::ReplyAt(7 * SECOND, 4000), replied(1, Next::Again(11 * SECOND))),
+        (
+            Do::ReplyAt(7 * SECOND, 4000),
+            replied(1, Next::Again(11 * SECOND)),
+        ),
         (Do::AttemptAt(11 * SECOND), sent_again(1, 5, none)),
-        (Do::ReplyAt(11 * SECOND, 0), replied(1, Next::GiveUp(Cause::Attempts))),
+        (
+            Do::ReplyAt(11 * SECOND, 0),
+            replied(1, Next::GiveUp(Cause::Attempts)),
+        ),
     ];
     let report = run_program(&rt, alloc, config, &mut exporter, &program);
     assert_repeats(&rt, &exporter, 5);

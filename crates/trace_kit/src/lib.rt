@@ -1,34 +1,109 @@
 //! A tracing kit by OpenTelemetry's API: one `use` of this crate gives a program all it needs.
 #![tactic(auto)]
 
-pub use batch_desk::{
-    Admitted, Batch, Desk, DeskConfig, DropCounts, Fate, FateCounts, Mark, Totals,
-};
+pub use batch_desk::Admitted;
+pub use batch_desk::Batch;
+pub use batch_desk::Desk;
+pub use batch_desk::DeskConfig;
+pub use batch_desk::DropCounts;
+pub use batch_desk::Fate;
+pub use batch_desk::FateCounts;
+pub use batch_desk::Mark;
+pub use batch_desk::Totals;
 pub use drop_ledger::Ledger;
-pub use otlp_http::{
-    Counted, DEFAULT_PATH, DEFAULT_PORT, DeviceFailed, FaultRead, FaultWrite, HeadLimits, HttpFault,
-    Reply, Stopped, Target, TargetFault, outcome_of, read_reply, write_request,
-};
-pub use otlp_ids::{IdFault, OutOfMemory, SpanContext, SpanId, TraceFlags, TraceId};
-pub use otlp_proto::{DEFAULT_MAX_BODY, EncodeFault, body_of, encode};
-pub use otlp_read::{PartialSuccess, ReadFault, Response, read_response};
-pub use otlp_sampler::{AlwaysOff, AlwaysOn, Decision, ParentBased, Sampler};
-pub use otlp_span::{
-    Entries, Entry, Event, Kind, Link, Open, Reason, Resource, Scope, Slip, SpanCall, SpanData,
-    SpanLimits, SpanRecord, Status, replay,
-};
-pub use otlp_value::{AttributeList, Limits, Value};
-pub use retry_core::{BadRetry, Cause, Next, Outcome, RetryAfter, RetryConfig, decide};
-pub use run_text::{write_answers, write_report};
-pub use scope_group::{ResourceGroup, ScopeGroup, group};
-pub use script_program::{ScriptSampler, script, trace_script};
-pub use simple_processor::{
-    Flushed, MAX_PASSES, Naming, SimpleAccounts, SimpleBlank, SimpleFault, SimpleMissing,
-    SimpleParts, SimplePass, SimpleProcessor,
-};
-pub use span_exporter::{Exporter, Handed, MemoryExporter};
+pub use otlp_http::Counted;
+pub use otlp_http::DEFAULT_PATH;
+pub use otlp_http::DEFAULT_PORT;
+pub use otlp_http::DeviceFailed;
+pub use otlp_http::FaultRead;
+pub use otlp_http::FaultWrite;
+pub use otlp_http::HeadLimits;
+pub use otlp_http::HttpFault;
+pub use otlp_http::Reply;
+pub use otlp_http::Stopped;
+pub use otlp_http::Target;
+pub use otlp_http::TargetFault;
+pub use otlp_http::outcome_of;
+pub use otlp_http::read_reply;
+pub use otlp_http::write_request;
+pub use otlp_ids::IdFault;
+pub use otlp_ids::OutOfMemory;
+pub use otlp_ids::SpanContext;
+pub use otlp_ids::SpanId;
+pub use otlp_ids::TraceFlags;
+pub use otlp_ids::TraceId;
+pub use otlp_proto::DEFAULT_MAX_BODY;
+pub use otlp_proto::EncodeFault;
+pub use otlp_proto::body_of;
+pub use otlp_proto::encode;
+pub use otlp_read::PartialSuccess;
+pub use otlp_read::ReadFault;
+pub use otlp_read::Response;
+pub use otlp_read::read_response;
+pub use otlp_sampler::AlwaysOff;
+pub use otlp_sampler::AlwaysOn;
+pub use otlp_sampler::Decision;
+pub use otlp_sampler::ParentBased;
+pub use otlp_sampler::Sampler;
+pub use otlp_span::Entries;
+pub use otlp_span::Entry;
+pub use otlp_span::Event;
+pub use otlp_span::Kind;
+pub use otlp_span::Link;
+pub use otlp_span::Open;
+pub use otlp_span::Reason;
+pub use otlp_span::Resource;
+pub use otlp_span::Scope;
+pub use otlp_span::Slip;
+pub use otlp_span::SpanCall;
+pub use otlp_span::SpanData;
+pub use otlp_span::SpanLimits;
+pub use otlp_span::SpanRecord;
+pub use otlp_span::Status;
+pub use otlp_span::replay;
+pub use otlp_value::AttributeList;
+pub use otlp_value::Limits;
+pub use otlp_value::Value;
+pub use retry_core::BadRetry;
+pub use retry_core::Cause;
+pub use retry_core::Next;
+pub use retry_core::Outcome;
+pub use retry_core::RetryAfter;
+pub use retry_core::RetryConfig;
+pub use retry_core::decide;
+pub use run_text::write_answers;
+pub use run_text::write_report;
+pub use scope_group::ResourceGroup;
+pub use scope_group::ScopeGroup;
+pub use scope_group::group;
+pub use script_program::ScriptSampler;
+pub use script_program::script;
+pub use script_program::trace_script;
+pub use simple_processor::Flushed;
+pub use simple_processor::MAX_PASSES;
+pub use simple_processor::Naming;
+pub use simple_processor::SimpleAccounts;
+pub use simple_processor::SimpleBlank;
+pub use simple_processor::SimpleFault;
+pub use simple_processor::SimpleMissing;
+pub use simple_processor::SimpleParts;
+pub use simple_processor::SimplePass;
+pub use simple_processor::SimpleProcessor;
+pub use span_exporter::Exporter;
+pub use span_exporter::Handed;
+pub use span_exporter::MemoryExporter;
 pub use span_ring::RingFault;
-pub use trace_api::{BodyPass, EndPass, Ended, Provider, Span, StartFault, Tracer};
-pub use trace_history::{Answer, Parent, Step};
-pub use trace_run::{RunConfig, RunReport, run};
+pub use trace_api::BodyPass;
+pub use trace_api::EndPass;
+pub use trace_api::Ended;
+pub use trace_api::Provider;
+pub use trace_api::Span;
+pub use trace_api::StartFault;
+pub use trace_api::Tracer;
+pub use trace_history::Answer;
+pub use trace_history::Parent;
+pub use trace_history::Step;
+pub use trace_run::RunConfig;
+pub use trace_run::RunReport;
+pub use trace_run::run;
 pub use words_rng::WordsRng;

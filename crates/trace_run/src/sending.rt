@@ -25,7 +25,9 @@ pub(crate) enum Stage<A: Allocator> {
     /// It is to be encoded.
     ToEncode,
     /// This body of it is to be sent.
-    ToSend { body: Vec<u8, A> },
+    ToSend {
+        body: Vec<u8, A>,
+    },
     /// It was sent in this attempt, and this came of it.
     ToJudge {
         body: Vec<u8, A>,

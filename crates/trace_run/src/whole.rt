@@ -21,8 +21,8 @@ use otlp_ids::OutOfMemory;
 use otlp_sampler::Sampler;
 use rand_core::Rng;
 use run_laws::{
-    attempts_are_answered, ended_spans_stay, ends_are_answered, none_is_unaccounted_for, one_batch_is_out,
-    takes_are_answered,
+    attempts_are_answered, ended_spans_stay, ends_are_answered, none_is_unaccounted_for,
+    one_batch_is_out, takes_are_answered,
 };
 use span_exporter::Exporter;
 use span_table::SpanTable;
