@@ -121,8 +121,8 @@ encode_answer before desk setup refused to_encode =
     else encoded desk.batches (body_length (groups (last_spans (desk_events setup before))))
 encode_answer before desk setup refused _ = nothing
 
--- The attempts of a batch are numbered from 1 on. None stands before the moment from which the batch
--- is to be sent again. (OTLP Specification, Retryable Response Codes)
+-- The attempts of a batch are numbered from 1 on. None stands before the moment from which the
+-- batch is to be sent again. (OTLP Specification, Retryable Response Codes)
 abbrev pub attempt_answer : List Answered → Desk → Outcome → ℕ → Progress → Answer
 attempt_answer before desk outcome now to_send = sent desk.batches 1 outcome
 attempt_answer before desk outcome now (to_retry moment) =

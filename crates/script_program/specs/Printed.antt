@@ -38,9 +38,9 @@ abbrev pub run_text : List Handed → List Answered → Desk → List ℕ
 run_text handed history desk =
     answers_text handed history ++ report_text (queued_count desk) desk.ledger desk.late
 
--- The text is that of a run over an exporter that was handed nothing before: each step of the script
--- has its answer, no span is unaccounted for, the lines are of the attempts that the exporter was
--- handed, and the report is of what the queue then shows.
+-- The text is that of a run over an exporter that was handed nothing before: each step of the
+-- script has its answer, no span is unaccounted for, the lines are of the attempts that the
+-- exporter was handed, and the report is of what the queue then shows.
 pub record IsRunText (script : Script) (text : List ℕ) : Type 0 where
   pub history : List Answered
   pub steps : map (λ x. x.step) history ≡ script.steps

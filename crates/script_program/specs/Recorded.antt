@@ -41,8 +41,8 @@ setup_of s = record {
   scopes = map kept_scope s.scopes;
 }
 
--- The same, with the batch processor. Where the script sets no sizes they are the standard's, and so
--- the settings of retries are the default. (Trace SDK, Batching processor; retries: profile)
+-- The same, with the batch processor. Where the script sets no sizes they are the standard's. The
+-- settings of retries are the default. (Trace SDK, Batching processor; retries: profile)
 abbrev pub run_of : Script → RunConfig
 run_of s = record {
   setup = setup_of s;

@@ -22,8 +22,8 @@ use Rattle.run_model.specs.Answers as model
 use Rattle.run_model.specs.Headline as headline
 
 -- how far the batch is: it is to be encoded, or this body is to be sent, or it was sent in this
--- attempt, and this came of it, or it had so many attempts and is to be sent again, from this moment
--- on
+-- attempt, and this came of it, or it had so many attempts and is to be sent again, from this
+-- moment on
 pub data Stage : Type 0 where
   to_encode : Stage
   to_send : List ℕ → Stage

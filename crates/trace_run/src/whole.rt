@@ -88,8 +88,8 @@ pub fn run<S: Sampler + Drop, R: Rng + Drop, E: Exporter, A: Allocator + Copy>(
         IfOk result (λ report.
         shown report.out ≡ out_after run.setup (history_view steps.now report.answers)) }
 
-    // The attempts of a batch are numbered from 1 on, as many as are configured at most, none before
-    // its moment; what follows from a reply is decided by the last outcome.
+    // The attempts of a batch are numbered from 1 on, as many as are configured at most, none
+    // before its moment; what follows from a reply is decided by the last outcome.
     ensures numbered { IfOk result
         (OfRun S.meaning R.stream config steps.now (λ run. AttemptsAreNumbered)) }
     ensures few { IfOk result (OfRun S.meaning R.stream config steps.now AttemptsAreFew) }
