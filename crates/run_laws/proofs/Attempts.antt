@@ -76,8 +76,8 @@ pub record Retried (config : RetryConfig) (last since moment : ℕ) : Type 0 whe
 -- the last batch, by where it stands: its number, its last attempt, and since when it may be sent
 abbrev pub TriedAt : RetryConfig → List Attempt → ℕ → ℕ → ℕ → Progress → Type 0
 TriedAt config told number last since not_out = Unit {0}
-TriedAt config told number last since to_encode = (last ≡ 0) × (since ≡ 0)
-TriedAt config told number last since to_send = (last ≡ 0) × (since ≡ 0)
+TriedAt config told number last since to_encode = (last ≡ 0) × (since ≡ 0) × (0 < number)
+TriedAt config told number last since to_send = (last ≡ 0) × (since ≡ 0) × (0 < number)
 TriedAt config told number last since (to_judge outcome) = Judged config told number last outcome
 TriedAt config told number last since (to_retry moment) = Retried config last since moment
 
@@ -88,7 +88,7 @@ pub record TriedWith (config : RetryConfig) (told : List Attempt) (number last s
 
 module _ (config : RetryConfig) (told : List Attempt) (number last since : ℕ) (p : Progress) (t : TriedWith config told number last since p) where
   on-take : TriedWith config told (number + 1) 0 0 to_encode
-  on-take = record { stands = (refl, refl); counted = ap length (of-next number told t.below); below = up-to-next number told t.below }
+  on-take = record { stands = (refl, refl, omega arith); counted = ap length (of-next number told t.below); below = up-to-next number told t.below }
 
   on-encode : p ≡ to_encode → TriedWith config told number last since to_send
   on-encode e = record { stands = subst (TriedAt config told number last since) e t.stands; counted = t.counted; below = t.below }
@@ -164,17 +164,17 @@ moment-some h x n e = ap (last_or 0) (some-more (λ x. moment_by x.answer) h x n
 -- ---- what an answer says of where the batch stood
 
 -- an attempt, by what it is
-data Sends (run : RunConfig) (h : List Answered) (step : Step) (number attempt : ℕ) : Type 0 where
+pub data Sends (run : RunConfig) (h : List Answered) (step : Step) (number attempt : ℕ) : Type 0 where
   first : progress h ≡ to_send → attempt ≡ 1 → Sends run h step number attempt
   later : (moment : ℕ) → progress h ≡ to_retry moment → attempt ≡ last_attempt h + 1 → ((now : ℕ) → step ≡ Step.attempt now → moment ≤ now) → Sends run h step number attempt
 
-record Replies (run : RunConfig) (h : List Answered) (step : Step) (next : Next) : Type 0 where
-  outcome : Outcome
-  judged : progress h ≡ to_judge outcome
-  few : (moment : ℕ) → next ≡ again moment → last_attempt h < run.retry.attempts
-  decided : (now word : ℕ) → step ≡ Step.reply now word → next ≡ next_after run.retry (last_attempt h) outcome now word
+pub record Replies (run : RunConfig) (h : List Answered) (step : Step) (next : Next) : Type 0 where
+  pub outcome : Outcome
+  pub judged : progress h ≡ to_judge outcome
+  pub few : (moment : ℕ) → next ≡ again moment → last_attempt h < run.retry.attempts
+  pub decided : (now word : ℕ) → step ≡ Step.reply now word → next ≡ next_after run.retry (last_attempt h) outcome now word
 
-abbrev Told : RunConfig → List Answered → Step → Answer → Type 0
+abbrev pub Told : RunConfig → List Answered → Step → Answer → Type 0
 Told run h step (taken number size) = number ≡ (desk_after run h).batches + 1
 Told run h step (encoded number size) = progress h ≡ to_encode
 Told run h step (sent number attempt outcome) = (number ≡ (desk_after run h).batches) × Sends run h step number attempt
@@ -254,7 +254,7 @@ module _ (run : RunConfig) (h : List Answered) where
   told-of given (Step.attempt now) = told-attempt given.outcome now (progress h) refl
   told-of given (Step.reply now word) = told-reply now word (progress h) refl
 
-  told : (x : Answered) → IsAnswer run h x → Told run h x.step x.answer
+  pub told : (x : Answered) → IsAnswer run h x → Told run h x.step x.answer
   told x i = subst (Told run h x.step) (sym i.is) (told-of i.given x.step)
 
 -- ---- the number of the last batch
@@ -378,13 +378,13 @@ module _ (run : RunConfig) (h : List Answered) (x : Answered) (t : Tried run h) 
   -- the attempt behind the last one
   numbered : (step : Step) (sent_number attempt : ℕ) → Sends run h step sent_number attempt → attempt ≡ last + 1
   numbered step sent_number attempt (first e k) =
-      let s : (last ≡ 0) × (retry_moment h ≡ 0) = subst (TriedAt run.retry (attempts h) number last (retry_moment h)) e t.stands in
+      let s : (last ≡ 0) × (retry_moment h ≡ 0) × (0 < number) = subst (TriedAt run.retry (attempts h) number last (retry_moment h)) e t.stands in
       let l = s.0 in omega (arith, l, k)
   numbered step sent_number attempt (later moment e k f) = k
 
   few : (step : Step) (sent_number attempt : ℕ) → Sends run h step sent_number attempt → 1 ≤ run.retry.attempts → last + 1 ≤ run.retry.attempts
   few step sent_number attempt (first e k) l =
-      let s : (last ≡ 0) × (retry_moment h ≡ 0) = subst (TriedAt run.retry (attempts h) number last (retry_moment h)) e t.stands in
+      let s : (last ≡ 0) × (retry_moment h ≡ 0) × (0 < number) = subst (TriedAt run.retry (attempts h) number last (retry_moment h)) e t.stands in
       let z = s.0 in omega (arith, l, z)
   few step sent_number attempt (later moment e k f) l =
       let r : Retried run.retry last (retry_moment h) moment = subst (TriedAt run.retry (attempts h) number last (retry_moment h)) e t.stands in
@@ -448,7 +448,7 @@ no-attempt-is-early run h w before rest x e now number attempt outcome i k =
   where
     by : Tried run before → Sends run before x.step number attempt → retry_moment before ≤ now
     by t (first p n) =
-        let s : (last_attempt before ≡ 0) × (retry_moment before ≡ 0) = subst (TriedAt run.retry (attempts before) (batches before) (last_attempt before) (retry_moment before)) p t.stands in
+        let s : (last_attempt before ≡ 0) × (retry_moment before ≡ 0) × (0 < batches before) = subst (TriedAt run.retry (attempts before) (batches before) (last_attempt before) (retry_moment before)) p t.stands in
         let z = s.1 in omega (arith, z)
     by t (later moment p n f) =
         let r : Retried run.retry (last_attempt before) (retry_moment before) moment = subst (TriedAt run.retry (attempts before) (batches before) (last_attempt before) (retry_moment before)) p t.stands in

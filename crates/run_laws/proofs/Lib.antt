@@ -6,3 +6,4 @@ pub mod Attempts
 pub mod Steps
 pub mod Batches
 pub mod Values
+pub mod Handed

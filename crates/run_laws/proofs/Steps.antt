@@ -249,18 +249,21 @@ module _ (run : RunConfig) (h : List Answered) (a : Account run h) (tried : (mom
   after-step given (Step.reply now word) = after-reply (desk_of run.desk 0 events) now word (progress h) refl
 
 -- the account, and how often the last batch was sent
-abbrev Accounts : RunConfig → List Answered → Type 0
+abbrev pub Accounts : RunConfig → List Answered → Type 0
 Accounts run h = Account run h × Tried run h
 
-accounts-step : (run : RunConfig) (h : List Answered) (x : Answered) → Accounts run h → IsAnswer run h x → Accounts run (h ++ x ∷ [])
+pub accounts-step : (run : RunConfig) (h : List Answered) (x : Answered) → Accounts run h → IsAnswer run h x → Accounts run (h ++ x ∷ [])
 accounts-step run h x a i = (subst (λ answer. Account run (h ++ told x.step answer ∷ [])) (sym i.is) (after-step run h a.0 (was-tried run h a.1) i.given x.step), tried-step run h x a.1 i)
 
 account-none : (run : RunConfig) → Account run []
 unfolding ended_by desk_events progress AreAllowed
 account-none run = record { below = tt; given = refl; stands = refl; shut = refl; allowed = λ l. tt }
 
+pub accounts-none : (run : RunConfig) → Accounts run []
+accounts-none run = (account-none run, tried-none run)
+
 accounts : (run : RunConfig) (h : List Answered) → AreAnswers run h → Accounts run h
-accounts run h w = by-steps run (Accounts run) (accounts-step run) h (account-none run, tried-none run) w
+accounts run h w = by-steps run (Accounts run) (accounts-step run) h (accounts-none run) w
 
 pub account : (run : RunConfig) (h : List Answered) → AreAnswers run h → Account run h
 account run h w = (accounts run h w).0

@@ -1,6 +1,6 @@
 -- What is proved of every run whose answers are right. (Trace API, End; Trace SDK, Batching
 -- processor; tickets and batches: profile)
-use Rattle.std.specs.Prelude.{◌≡◌, ℕ, ◌+◌, ◌-◌, ◌^◌, ◌<◌, ◌≤◌, ◌==◌, nat_lt, min, Bool, true, false, not, ◌&&◌, List, [], ◌∷◌, ◌++◌, length, map, filter_map, reverse, slice_get, Option, Some, None, is_some, is_none}
+use Rattle.std.specs.Prelude.{◌≡◌, ℕ, ◌+◌, ◌-◌, ◌^◌, ◌<◌, ◌≤◌, ◌==◌, nat_lt, min, Bool, true, false, not, ◌&&◌, List, [], ◌∷◌, ◌++◌, length, map, flat_map, filter_map, if◌then◌else◌, reverse, slice_get, Option, Some, None, is_some, is_none}
 use Rattle.std.specs.List.{list_any, AllByRecursion}
 use Rattle.std.specs.Option.{option_map_or}
 use Rattle.span_model.specs.Attributes.{last_or}
@@ -192,6 +192,20 @@ EventsAreAllowed run history =
 abbrev pub NoneUnaccountedFor : RunConfig → List Answered → Type 0
 NoneUnaccountedFor run history =
     HasTickets run.setup history → EachOnce run.setup history
+
+abbrev pub handed_by : Answer → Option ℕ
+handed_by (sent number attempt outcome) = if attempt == 1 then Some number else None
+handed_by _ = None
+
+-- the numbers of the batches that were handed to the exporter, each by its first attempt
+abbrev pub handed_batches : List Answered → List ℕ
+handed_batches history = filter_map (λ x. handed_by x.answer) history
+
+-- The spans that were handed are those of these batches. (profile)
+abbrev pub HandedAreTheBatches : RunConfig → List Answered → Type 0
+HandedAreTheBatches run history =
+    HasTickets run.setup history → let events = desk_events run.setup history in
+    handed_spans events ≡ flat_map (batch_spans events) (handed_batches history)
 
 -- A span that was handed to the exporter is not named as dropped, and neither is done twice.
 -- (profile)

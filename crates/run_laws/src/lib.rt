@@ -6,7 +6,7 @@ ghost use Rattle.std.specs.Prelude.{List};
 ghost use Rattle.run_model.specs.Runs.{Answered};
 ghost use Rattle.run_model.specs.Answers.{RunConfig};
 ghost use Rattle.run_model.specs.Headline.{EachOnce};
-ghost use Rattle.run_laws.specs.Laws.{OfHistories, OfRuns, LateBehindShutdown, DroppedWhereFull, QueuedWhereRoom, TakenWhereDue, TakesTheFirst, TakenBehindShutdown, OneBatchIsOut, AttemptsAreNumbered, AttemptsAreFew, NoAttemptIsEarly, RepliesAreDecided, EndedSpansStay, EndedAreFew, EventsAreAllowed, NoneUnaccountedFor, HandedAreNotDropped, LedgerNamesTheDropped, WaitingAreEnded, BatchesAreEnded, DropsNameEnded, EndedByTheSteps};
+ghost use Rattle.run_laws.specs.Laws.{OfHistories, OfRuns, LateBehindShutdown, DroppedWhereFull, QueuedWhereRoom, TakenWhereDue, TakesTheFirst, TakenBehindShutdown, OneBatchIsOut, AttemptsAreNumbered, AttemptsAreFew, NoAttemptIsEarly, RepliesAreDecided, EndedSpansStay, EndedAreFew, EventsAreAllowed, NoneUnaccountedFor, HandedAreTheBatches, HandedAreNotDropped, LedgerNamesTheDropped, WaitingAreEnded, BatchesAreEnded, DropsNameEnded, EndedByTheSteps};
 
 /// The first end of a sampled span: behind a shutdown it is late; else it is dropped where the
 /// queue is full, and waits where it isn't. Nothing else is late, dropped there or queued. (Trace
@@ -43,11 +43,13 @@ pub fn attempts_are_answered()
 {}
 
 /// No span is unaccounted for: each that ended before the shutdown is handed to the exporter, still
-/// queued, or dropped, once, and the ledger names those that were dropped. What is done at the
+/// queued, or dropped, once, and the ledger names those that were dropped. Those that were handed are
+/// the spans of the batches that had an attempt. What is done at the
 /// queue is allowed there. Premise: fewer than 2^64 - 1 spans ended. (profile)
 pub fn none_is_unaccounted_for()
     ensures allowed { OfRuns EventsAreAllowed }
     ensures once { OfRuns NoneUnaccountedFor }
+    ensures batches { OfRuns HandedAreTheBatches }
     ensures handed { OfHistories (λ setup history.
         EachOnce setup history → HandedAreNotDropped setup history) }
     ensures named { (run : RunConfig) (history : List Answered) →

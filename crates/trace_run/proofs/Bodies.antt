@@ -9,7 +9,7 @@ use Rattle.desk_laws.specs.Queues.{BatchesStay}
 use Rattle.history_model.specs.History.{Setup}
 use Rattle.run_model.specs.Runs.{Answered, ended_by, event_by, desk_events}
 use Rattle.run_model.proofs.More.{AreBelow, events-more}
-use Rattle.run_laws.specs.Laws.{OfHistories, EndedSpansStay}
+use Rattle.run_laws.specs.Laws.{OfHistories, EndedSpansStay, HandedAreTheBatches}
 use Rattle.span_exporter.specs.Handed.{Handed}
 use Rattle.trace_run.specs.Out.{IsBodyOf}
 use Rattle.trace_run.specs.State.{TellsAll}
@@ -59,5 +59,5 @@ repeats setup h more all i j a b e f n =
     let second : MeansItsBatch setup h b = at-index (MeansItsBatch setup h) more all j b f in
     first.body.bytes ∙ ap (λ k. body_bytes (groups (batch_spans (desk_events setup h) k))) n ∙ sym second.body.bytes
 
-pub headline : (run : RunConfig) (h : List Answered) (old new : Option (List Handed)) → EachOnce run.setup h → AreAsEnded run.setup h → TellsAll (attempts h) (MeansItsBatch run.setup h) old new → Headline run h old new
-headline run h old new once values t = record { each_once = once; values = values; more = t.more; told = record { gains = t.gains; are = t.are }; bodies = t.bodies; repeats = repeats run.setup h t.more t.bodies }
+pub headline : (run : RunConfig) (h : List Answered) (old new : Option (List Handed)) → EachOnce run.setup h → HandedAreTheBatches run h → AreAsEnded run.setup h → TellsAll (attempts h) (MeansItsBatch run.setup h) old new → Headline run h old new
+headline run h old new once handed values t = record { each_once = once; handed = handed; values = values; more = t.more; told = record { gains = t.gains; are = t.are }; bodies = t.bodies; repeats = repeats run.setup h t.more t.bodies }

@@ -7,7 +7,7 @@ use Rattle.history_model.specs.History.{Setup}
 use Rattle.run_model.specs.Runs.{Answered, desk_events}
 use Rattle.run_model.specs.Answers.{RunConfig}
 use Rattle.run_model.specs.Headline.{EachOnce, Attempt, attempts}
-use Rattle.run_laws.specs.Laws.{WaitingAreEnded, BatchesAreEnded, DropsNameEnded}
+use Rattle.run_laws.specs.Laws.{HandedAreTheBatches, WaitingAreEnded, BatchesAreEnded, DropsNameEnded}
 use Rattle.span_exporter.specs.Handed.{Handed, Gains}
 use Rattle.trace_run.specs.Out.{IsBodyOf}
 
@@ -51,6 +51,7 @@ pub record IsTold (history : List Answered) (old new : Option (List Handed)) (mo
 pub record Headline (run : RunConfig) (history : List Answered) (old new : Option (List Handed))
     : Type 0 where
   pub each_once : EachOnce run.setup history
+  pub handed : HandedAreTheBatches run history
   pub values : AreAsEnded run.setup history
   pub more : List Handed
   pub told : IsTold history old new more

@@ -1,4 +1,5 @@
 use Rattle.run_laws.proofs.Steps.{events-are-allowed, none-unaccounted-for, handed-are-not-dropped}
+use Rattle.run_laws.proofs.Handed.{handed-are-the-batches}
 use Rattle.run_laws.proofs.Values.{ledger-names-the-dropped}
 use Rattle.run_laws.proofs.none_is_unaccounted_for.Goals as goal
 
@@ -6,6 +7,7 @@ pub returns : goal.returns
 returns c = record {
   allowed = events-are-allowed;
   once = none-unaccounted-for;
+  batches = handed-are-the-batches;
   handed = handed-are-not-dropped;
   named = ledger-names-the-dropped;
 }

@@ -58,6 +58,7 @@ returns-clause-headline g c =
     let stay = c.ended_spans_stay.ensures in
     headline run h _ _
     (rw all at (each-once g.S.Sampler.meaning g.R.Rng.stream run _ _ _ _ i.stands c.no_ticket_is_lost.ensures.once))
+    (c.none_is_unaccounted_for.ensures.batches run h (rw all at i.stands.answers))
     (record { waiting = stay.waiting run.setup h; batches = stay.batches run.setup h; named = stay.drops run.setup h })
     (rw all at i.told)
 
