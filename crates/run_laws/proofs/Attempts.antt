@@ -1,14 +1,13 @@
 -- How often a batch was sent, and what each right answer keeps of that.
-use Rattle.std.proofs.Common.{◌≡◌, refl, sym, ap, subst, ◌∙◌, ℕ, ◌+◌, ◌-◌, ◌<◌, ◌≤◌, ◌==◌, nat_lt, min, arith, List, [], ◌∷◌, ◌++◌, length, Bool, true, false, true≢false, cond, ◌&&◌, ◌⊎◌, inl, inr, Option, Some, None, slice_get, option_map, filter_map, length-append}
-use Rattle.std.specs.Prelude.{filter, is_none, is_some, if◌then◌else◌}
+use Rattle.std.proofs.Common.{◌≡◌, refl, sym, ap, subst, ◌∙◌, ℕ, ◌+◌, ◌<◌, ◌≤◌, ◌==◌, nat_lt, min, arith, List, [], ◌∷◌, ◌++◌, length, Bool, true, false, true≢false, cond, ◌&&◌, Option, Some, None, slice_get, option_map, filter_map, length-append}
+use Rattle.std.specs.Prelude.{filter, is_none, if◌then◌else◌}
 use Rattle.std.specs.List.{AllByRecursion, cons_option}
 use Rattle.std.proofs.lemmas.Bool.{eqb-true, eq-eqb, ltb-false, false_from_ne_true}
-use Rattle.std.proofs.lemmas.List.Elements.{filter_map-append}
 use Rattle.span_model.specs.Attributes.{last_or}
 use Rattle.span_model.specs.Dropped.{queue_full, encode_memory, too_large, abandoned}
 use Rattle.span_model.specs.Spans.{EndedSpan, Call, is_end}
 use Rattle.span_model.specs.Starts.{StartedSpan}
-use Rattle.desk_model.specs.Retries.{Outcome, Cause, Next, again, give_up, Fate, fate_of}
+use Rattle.desk_model.specs.Retries.{Outcome, Next, again, give_up, Fate, fate_of}
 use Rattle.desk_model.specs.Queue.{DeskEvent, size_of_take, batch_sizes, last_batch}
 use Rattle.desk_model.specs.Queue as desk
 use Rattle.desk_model.specs.Desks.{is_due, desk_of}

@@ -1,8 +1,7 @@
 -- At most one batch is out.
-use Rattle.std.proofs.Common.{◌≡◌, refl, sym, ap, subst, ◌∙◌, ℕ, List, [], ◌∷◌, ◌++◌, append_assoc, Bool, true, false, true≢false, ◌&&◌, ◌||◌, Option, Some, None, filter_map}
+use Rattle.std.proofs.Common.{◌≡◌, refl, sym, ap, subst, ◌∙◌, ℕ, List, [], ◌∷◌, ◌++◌, Bool, true, false, true≢false, ◌&&◌, ◌||◌, Option, Some, None, filter_map}
 use Rattle.std.specs.Prelude.{is_none}
 use Rattle.std.specs.List.{list_any, cons_option}
-use Rattle.std.proofs.lemmas.List.{append-nil}
 use Rattle.std.proofs.lemmas.List.Elements.{filter_map-append}
 use Rattle.span_model.specs.Attributes.{last_or}
 use Rattle.desk_model.specs.Queue.{last_batch, last_size}

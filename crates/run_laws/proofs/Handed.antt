@@ -1,5 +1,5 @@
 -- The spans that were handed are those of the batches that were handed.
-use Rattle.std.proofs.Common.{◌≡◌, refl, sym, ap, subst, ◌∙◌, ℕ, ◌+◌, ◌-◌, ◌^◌, ◌<◌, ◌≤◌, ◌==◌, arith, List, [], ◌∷◌, ◌++◌, length, Bool, true, false, ◌⊎◌, inl, inr, Option, Some, None, slice_get, option_map, filter_map, length-append}
+use Rattle.std.proofs.Common.{◌≡◌, refl, sym, ap, subst, ◌∙◌, ℕ, ◌+◌, ◌<◌, ◌≤◌, ◌==◌, arith, List, [], ◌∷◌, ◌++◌, length, Bool, true, false, Option, Some, None, slice_get, option_map, length-append}
 use Rattle.std.specs.Prelude.{flat_map, if◌then◌else◌}
 use Rattle.std.specs.Option.{option_to_list}
 use Rattle.std.specs.List.{AllByRecursion}
@@ -17,7 +17,7 @@ use Rattle.desk_model.proofs.Lists.{none-more, some-more, gather-more}
 use Rattle.desk_laws.proofs.Batches.{batches-stay}
 use Rattle.history_model.specs.Steps.{Step}
 use Rattle.run_model.specs.Runs.{Ended, queued, handed, late, not_sampled, already_ended, Answer, started, no_randomness, no_span, out_of_memory, done, ended, taken, not_taken, encoded, sent, early, replied, nothing, Answered, ended_by, event_by, desk_events}
-use Rattle.run_model.specs.Answers.{RunConfig, Progress, to_send, progress, last_attempt, desk_after, IsAnswer, AreAnswers}
+use Rattle.run_model.specs.Answers.{RunConfig, last_attempt, desk_after, IsAnswer}
 use Rattle.run_model.specs.Headline.{attempts}
 use Rattle.run_model.proofs.More.{events-more}
 use Rattle.run_laws.specs.Laws.{OfRuns, HasTickets, retry_moment, handed_by, handed_batches, HandedAreTheBatches}

@@ -1,12 +1,12 @@
 -- One more step of a run.
-use Rattle.std.proofs.Common.{◌≡◌, refl, sym, ap, ◌∙◌, ℕ, zero, suc, ◌<◌, ◌≤◌, ◌+◌, arith, List, [], ◌∷◌, ◌++◌, length, append_assoc, Bool, true, false, true≢false, not, cond, ◌||◌, Option, Some, None, IfSome, slice_get, filter_map, option_map}
-use Rattle.std.specs.List.{list_any, take_while, AllByRecursion, cons_option}
+use Rattle.std.proofs.Common.{◌≡◌, refl, sym, ap, ◌∙◌, ℕ, zero, suc, ◌<◌, ◌≤◌, arith, List, [], ◌∷◌, ◌++◌, length, append_assoc, Bool, true, false, true≢false, not, cond, ◌||◌, Option, Some, None, IfSome, slice_get, filter_map, option_map}
+use Rattle.std.specs.List.{list_any, AllByRecursion, cons_option}
 use Rattle.std.specs.Option.{option_to_list}
 use Rattle.std.proofs.lemmas.List.{append-nil}
 use Rattle.std.proofs.lemmas.List.Elements.{filter_map-append}
 use Rattle.std.proofs.lemmas.List.Sums.{take_while-cons}
 use Rattle.span_model.specs.Spans.{EndedSpan}
-use Rattle.span_model.specs.Dropped.{Reason, queue_full, encode_memory, too_large, abandoned}
+use Rattle.span_model.specs.Dropped.{queue_full, encode_memory, too_large, abandoned}
 use Rattle.desk_model.specs.Queue.{DeskEvent}
 use Rattle.desk_model.specs.Queue as desk
 use Rattle.desk_model.proofs.Lists.{none-more, some-more, last-more, any-more}

@@ -1,16 +1,16 @@
 -- The answer to each step of a run. (Trace API; Trace SDK, Batching processor; OTLP Specification,
 -- OTLP/HTTP)
-use Rattle.std.specs.Prelude.{◌≡◌, ℕ, ◌+◌, ◌==◌, nat_lt, min, Bool, true, false, not, ◌&&◌, ◌||◌, if◌then◌else◌, List, [], ◌∷◌, ◌++◌, length, filter_map, Option, Some, None, is_some, is_none, slice_get}
+use Rattle.std.specs.Prelude.{◌≡◌, ℕ, ◌+◌, ◌==◌, nat_lt, min, Bool, false, not, ◌&&◌, ◌||◌, if◌then◌else◌, List, [], ◌∷◌, ◌++◌, length, filter_map, Option, Some, None, is_some, is_none, slice_get}
 use Rattle.std.specs.List.{list_any}
 use Rattle.std.specs.Option.{option_and_then}
 use Rattle.span_model.specs.Attributes.{is_empty, last_or}
 use Rattle.span_model.specs.Dropped.{queue_full}
 use Rattle.span_model.specs.Sampling.{is_sampled, is_recording}
-use Rattle.span_model.specs.Spans.{Kind, Call, is_end}
+use Rattle.span_model.specs.Spans.{Call, is_end}
 use Rattle.span_model.specs.Starts.{StartedSpan}
 use Rattle.export_model.specs.Export.{groups, body_length}
 use Rattle.desk_model.specs.Retries.{Outcome, again}
-use Rattle.desk_model.specs.Queue.{last_batch, last_spans}
+use Rattle.desk_model.specs.Queue.{last_spans}
 use Rattle.desk_model.specs.Desks.{DeskConfig, Desk, desk_of, is_due}
 use Rattle.retry_model.specs.Waits.{RetryConfig, next_after}
 use Rattle.history_model.specs.Steps.{Parent, Step, is_shutdown}

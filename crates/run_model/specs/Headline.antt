@@ -7,7 +7,7 @@ use Rattle.desk_model.specs.Queue.{last_batch, last_spans}
 use Rattle.desk_laws.specs.Queues.{places, times}
 use Rattle.history_model.specs.History.{Setup}
 use Rattle.run_model.specs.Runs.{Answer, sent, Answered, ended_by, desk_events}
-use Rattle.run_model.specs.Answers.{Progress, not_out, to_encode, to_send, to_judge, progress, last_attempt}
+use Rattle.run_model.specs.Answers.{Progress, not_out, progress, last_attempt}
 
 -- Each sampled span that ended before the shutdown waits, or is in a batch that is out and was not
 -- sent, or was handed to the exporter, or was dropped; once, and no other span is.

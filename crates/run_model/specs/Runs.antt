@@ -1,6 +1,6 @@
 -- A run: the steps of a program, each with its answer; the spans that they end, and what they do at
 -- the queue of its batch processor. (Trace API; Trace SDK, Batching processor)
-use Rattle.std.specs.Prelude.{ℕ, ◌==◌, Bool, true, false, not, if◌then◌else◌, List, [], ◌∷◌, filter_map, take_while, Option, Some, None, option_map, slice_get}
+use Rattle.std.specs.Prelude.{ℕ, ◌==◌, Bool, true, false, not, if◌then◌else◌, List, filter_map, take_while, Option, Some, None, option_map, slice_get}
 use Rattle.span_model.specs.Dropped.{Reason, queue_full}
 use Rattle.span_model.specs.Spans.{EndedSpan}
 use Rattle.span_model.specs.Starts.{Ids}
