@@ -7,5 +7,6 @@
 
 pub mod devices;
 pub mod fields;
+pub mod outcomes;
 pub mod requests;
 pub mod targets;

@@ -12,6 +12,8 @@ mod fixture;
 #[cfg(test)]
 mod heads;
 #[cfg(test)]
+mod outcomes;
+#[cfg(test)]
 mod requests;
 #[cfg(test)]
 mod targets;
