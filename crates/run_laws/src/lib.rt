@@ -43,9 +43,9 @@ pub fn attempts_are_answered()
 {}
 
 /// No span is unaccounted for: each that ended before the shutdown is handed to the exporter, still
-/// queued, or dropped, once, and the ledger names those that were dropped. Those that were handed are
-/// the spans of the batches that had an attempt. What is done at the
-/// queue is allowed there. Premise: fewer than 2^64 - 1 spans ended. (profile)
+/// queued, or dropped, once, and the ledger names those that were dropped. Those that were handed
+/// are the spans of the batches that had an attempt. What is done at the queue is allowed there.
+/// Premise: fewer than 2^64 - 1 spans ended. (profile)
 pub fn none_is_unaccounted_for()
     ensures allowed { OfRuns EventsAreAllowed }
     ensures once { OfRuns NoneUnaccountedFor }

@@ -3,7 +3,7 @@
 
 use failing_allocator::FailingAllocator;
 use linked_list_allocator::LocalHeap;
-use otlp_read::{ReadFault, read_response};
+use otlp_read::{ReadFault, read_rejected_spans, read_response};
 use otlp_wire::WireFault;
 use std::alloc::Global;
 use std::process::Abort;
@@ -14,6 +14,7 @@ fn tells(rt: &impl Abort, alloc: Global, body: &[u8], rejected: i64, message: &s
     let partial = response.partial_success();
     assert_eq!(rt; partial.rejected_spans(), rejected, "{body:?}");
     assert_eq!(rt; partial.error_message(), message, "{body:?}");
+    assert_eq!(rt; read_rejected_spans(body).ok(), Some(rejected), "{body:?}");
 }
 
 /// Asserts why a body is no response.
