@@ -4,6 +4,7 @@ use Rattle.std.specs.Prelude.{if◌then◌else◌, Option, Some, None, Result, O
 use Rattle.std.specs.Io.KnownBytes.{IsAtEnd}
 use Rattle.otlp_http.specs.declared.fault.HttpFault.{HttpFault}
 use Rattle.otlp_http.specs.declared.fault.HttpFault.TheVariants as faults
+use Rattle.otlp_http.specs.Devices.{one_more}
 use Rattle.otlp_http.specs.Fields.{NameAndValue, values_of, content_length}
 
 -- how far a body goes: there is none, it has so many bytes, it goes to the end of the bytes, or the
@@ -39,7 +40,7 @@ IsSizedBody limit size taken left failed (Err faults.Device) =
     failed × (length taken < size) × (size ≤ limit)
 IsSizedBody limit size taken left failed (Err faults.TooLarge) = (taken ≡ []) × (limit < size)
 IsSizedBody limit size taken left failed (Err faults.OutOfMemory) =
-    (length taken ≤ size) × (size ≤ limit)
+    (0 < length taken) × (length taken ≤ size) × (size ≤ limit)
 IsSizedBody limit size taken left failed (Err faults.BadHead) = ⊥
 IsSizedBody limit size taken left failed (Err faults.BadLength) = ⊥
 IsSizedBody limit size taken left failed (Err faults.BadChunk) = ⊥
@@ -51,7 +52,8 @@ IsBodyToEnd limit taken left failed (Ok body) =
     (body ≡ taken) × IsAtEnd left × (length taken ≤ limit)
 IsBodyToEnd limit taken left failed (Err faults.Device) = failed × (length taken ≤ limit)
 IsBodyToEnd limit taken left failed (Err faults.TooLarge) = limit < length taken
-IsBodyToEnd limit taken left failed (Err faults.OutOfMemory) = length taken ≤ limit
+IsBodyToEnd limit taken left failed (Err faults.OutOfMemory) =
+    (0 < length taken) × (length taken ≤ limit)
 IsBodyToEnd limit taken left failed (Err faults.Ended) = ⊥
 IsBodyToEnd limit taken left failed (Err faults.BadHead) = ⊥
 IsBodyToEnd limit taken left failed (Err faults.BadLength) = ⊥
@@ -65,3 +67,8 @@ IsBody (sized size) limit taken left failed answer =
     IsSizedBody limit size taken left failed answer
 IsBody to_end limit taken left failed answer = IsBodyToEnd limit taken left failed answer
 IsBody unknown limit taken left failed answer = (answer ≡ Err faults.BadLength) × (taken ≡ [])
+
+-- Only a read that failed is counted, and where one did, no other read was tried. (profile)
+abbrev pub CountsFailedRead : {T : Type 0} → Result T HttpFault → ℕ → ℕ → Type 0
+CountsFailedRead (Err faults.Device) old new = new ≡ one_more old
+CountsFailedRead _ old new = new ≡ old

@@ -1,10 +1,10 @@
 //! Bodies of replies.
 
-ghost use Rattle.std.specs.Prelude.{◌≡◌, ◌||◌, ◌==◌, ℕ, List, length, codes, nat_lt, OnOk};
+ghost use Rattle.std.specs.Prelude.{◌≡◌, ◌||◌, ◌==◌, ℕ, List, length, codes, nat_lt};
 ghost use Rattle.std.specs.Io.KnownBytes.{Consumes};
 ghost use Rattle.std.specs.Result.{result_map_both};
 ghost use Rattle.http_header.specs.HeaderMap.{get_all};
-ghost use Rattle.otlp_http.specs.Bodies.{framing_of, IsBody, IsBodyToEnd, IsSizedBody};
+ghost use Rattle.otlp_http.specs.Bodies.{framing_of, CountsFailedRead, IsBody, IsBodyToEnd, IsSizedBody};
 ghost use Rattle.otlp_http.specs.Devices.{HasFailed};
 ghost use Rattle.otlp_http.specs.Fields.{NameAndValue};
 ghost use Rattle.otlp_http.specs.Parses.{framing_view, KeepsFields};
@@ -73,7 +73,7 @@ fn read_sized<R: FaultRead, A: Allocator>(
         × IsSizedBody limit size taken (R.remaining reader.new)
         (HasFailed (R.failures reader.old) (R.failures reader.new))
         (result_map_both (λ v. v.items) (λ fault. fault) result) }
-    ensures kept { OnOk result (R.failures reader.new ≡ R.failures reader.old) }
+    ensures counted { CountsFailedRead result (R.failures reader.old) (R.failures reader.new) }
 {
     if size > limit as u64 {
         return Err(HttpFault::TooLarge);
@@ -106,7 +106,7 @@ fn read_to_end<R: FaultRead, A: Allocator>(
         × IsBodyToEnd limit taken (R.remaining reader.new)
         (HasFailed (R.failures reader.old) (R.failures reader.new))
         (result_map_both (λ v. v.items) (λ fault. fault) result) }
-    ensures kept { OnOk result (R.failures reader.new ≡ R.failures reader.old) }
+    ensures counted { CountsFailedRead result (R.failures reader.old) (R.failures reader.new) }
 {
     let mut body = Vec::new(alloc);
     let mut piece = [0; 512];
@@ -138,7 +138,7 @@ pub(crate) fn read_body<R: FaultRead, A: Allocator>(
         × IsBody (framing_view framing) limit taken (R.remaining reader.new)
         (HasFailed (R.failures reader.old) (R.failures reader.new))
         (result_map_both (λ v. v.items) (λ fault. fault) result) }
-    ensures kept { OnOk result (R.failures reader.new ≡ R.failures reader.old) }
+    ensures counted { CountsFailedRead result (R.failures reader.old) (R.failures reader.new) }
 {
     match framing {
         Framing::Empty => Ok(Vec::new(alloc)),

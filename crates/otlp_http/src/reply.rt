@@ -2,6 +2,7 @@
 
 ghost use Rattle.std.specs.Prelude.{◌≡◌, ◌≤◌, length, IfErr, IfOk, OnOk};
 ghost use Rattle.std.specs.Result.{result_map_both};
+ghost use Rattle.otlp_http.specs.Bodies.{CountsFailedRead};
 ghost use Rattle.otlp_http.specs.Devices.{HasFailed};
 ghost use Rattle.otlp_http.specs.Parses.{HasKeptHead};
 ghost use Rattle.otlp_http.specs.Replies.{HasNoReply, IsReply};
@@ -94,8 +95,8 @@ pub fn read_reply<R: FaultRead, A: Allocator + Copy>(
           retry_after = reply.retry_after;
           body = result_map_both (λ v. v.items) (λ fault. fault) reply.body;
         })) }
-    ensures kept { IfOk result (λ reply.
-        OnOk reply.body (R.failures reader.new ≡ R.failures reader.old)) }
+    ensures counted { IfOk result (λ reply.
+        CountsFailedRead reply.body (R.failures reader.old) (R.failures reader.new)) }
     ensures no_reply { IfErr result (HasNoReply limits.now (R.remaining reader.old)
         (R.remaining reader.new) (HasFailed (R.failures reader.old) (R.failures reader.new))) }
 {
