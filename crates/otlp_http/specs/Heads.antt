@@ -8,6 +8,7 @@ use Rattle.httparse.specs.Spans.{ResponseExceeds}
 use Rattle.otlp_http.specs.declared.fault.HttpFault.{HttpFault}
 use Rattle.otlp_http.specs.declared.fault.HttpFault.TheVariants as faults
 use Rattle.otlp_http.specs.declared.limits.HeadLimits.{HeadLimits}
+use Rattle.otlp_http.specs.Devices.{one_more}
 
 -- the text is that head, within the limits of bytes and of fields
 pub record IsHeadText (limits : HeadLimits) (text : List ℕ) (head : ResponseHead) : Type 0 where
@@ -51,3 +52,11 @@ pub record ComesAfter (limits : HeadLimits) (old new : Option (List ℕ))
   pub each : All (IsInterim limits) interims
   pub few : length interims ≤ 16
   pub taken : Consumes old new (flat_map print_response interims ++ text)
+
+-- The same of a head that is lacking: a text that can't begin one is told as that also where a read
+-- failed behind it. (profile)
+abbrev pub CountsAtHead : HttpFault → ℕ → ℕ → Type 0
+CountsAtHead faults.Device old new = new ≡ one_more old
+CountsAtHead faults.Ended old new = new ≡ old
+CountsAtHead faults.OutOfMemory old new = new ≡ old
+CountsAtHead _ old new = (new ≡ old) ⊎ (new ≡ one_more old)

@@ -4,7 +4,7 @@ ghost use Rattle.std.specs.Prelude.{◌≡◌, [], ◌↔◌, length, option_to_
 ghost use Rattle.std.specs.Io.KnownBytes.{Consumes, IsAtEnd};
 ghost use Rattle.httparse.specs.Grammar.{HasNoResponse};
 ghost use Rattle.otlp_http.specs.Devices.{CountsFailure, HasFailed};
-ghost use Rattle.otlp_http.specs.Heads.{IsInterimStatus, LacksHead};
+ghost use Rattle.otlp_http.specs.Heads.{CountsAtHead, IsInterimStatus, LacksHead};
 ghost use Rattle.otlp_http.specs.Parses.{FindsHead, HasFinalHead, IsStopped, ParsesHead};
 ghost use Rattle.otlp_http.specs.Replies.{HasNoReply};
 
@@ -67,6 +67,8 @@ fn read_head<R: FaultRead, A: Allocator>(
     ensures head { IfOk result (FindsHead limits.now text.new.items spans.new) }
     ensures none { IfErr result (LacksHead limits.now text.new.items (R.remaining reader.new)
         (HasFailed (R.failures reader.old) (R.failures reader.new))) }
+    ensures counted { IfErr result (λ fault.
+        CountsAtHead fault (R.failures reader.old) (R.failures reader.new)) }
     ensures room { length spans.new ≡ length spans.old }
 {
     text.clear();
@@ -108,6 +110,8 @@ pub(crate) fn read_final_head<R: FaultRead, A: Allocator>(
         (R.remaining reader.new) text.new.items spans.new) }
     ensures none { IfErr result (HasNoReply limits.now (R.remaining reader.old)
         (R.remaining reader.new) (HasFailed (R.failures reader.old) (R.failures reader.new))) }
+    ensures counted { IfErr result (λ fault.
+        CountsAtHead fault (R.failures reader.old) (R.failures reader.new)) }
     ensures kept { OnOk result (R.failures reader.new ≡ R.failures reader.old) }
 {
     for _skipped in 0..16usize {

@@ -4,6 +4,7 @@ ghost use Rattle.std.specs.Prelude.{◌≡◌, ◌≤◌, length, IfErr, IfOk, O
 ghost use Rattle.std.specs.Result.{result_map_both};
 ghost use Rattle.otlp_http.specs.Bodies.{CountsFailedRead};
 ghost use Rattle.otlp_http.specs.Devices.{HasFailed};
+ghost use Rattle.otlp_http.specs.Heads.{CountsAtHead};
 ghost use Rattle.otlp_http.specs.Parses.{HasKeptHead};
 ghost use Rattle.otlp_http.specs.Replies.{HasNoReply, IsReply};
 
@@ -44,6 +45,8 @@ fn read_fields<R: FaultRead, A: Allocator>(
         (R.remaining reader.new) head.0 head.1) }
     ensures none { IfErr result (HasNoReply limits.now (R.remaining reader.old)
         (R.remaining reader.new) (HasFailed (R.failures reader.old) (R.failures reader.new))) }
+    ensures counted { IfErr result (λ fault.
+        CountsAtHead fault (R.failures reader.old) (R.failures reader.new)) }
     ensures kept { OnOk result (R.failures reader.new ≡ R.failures reader.old) }
 {
     let mut room = [HeaderSpan::default(); MOST_FIELDS];
@@ -99,6 +102,8 @@ pub fn read_reply<R: FaultRead, A: Allocator + Copy>(
         CountsFailedRead reply.body (R.failures reader.old) (R.failures reader.new)) }
     ensures no_reply { IfErr result (HasNoReply limits.now (R.remaining reader.old)
         (R.remaining reader.new) (HasFailed (R.failures reader.old) (R.failures reader.new))) }
+    ensures failed { IfErr result (λ fault.
+        CountsAtHead fault (R.failures reader.old) (R.failures reader.new)) }
 {
     let mut text = Vec::new(alloc);
     let (status, kept) = match read_fields(global, reader, limits, &mut text) {
