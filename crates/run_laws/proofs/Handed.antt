@@ -12,7 +12,7 @@ use Rattle.span_model.specs.Spans.{EndedSpan}
 use Rattle.desk_model.specs.Retries.{Outcome, Fate, fate_of}
 use Rattle.desk_model.specs.Queue.{DeskEvent, size_of_take, batch_sizes, batch_spans, last_batch, last_spans, spans_handed_by, handed_spans}
 use Rattle.desk_model.specs.Queue as desk
-use Rattle.desk_model.specs.Desks.{AreAllowed, desk_of}
+use Rattle.desk_model.specs.Desks.{DeskConfig, AreAllowed, AreAllowedBehind, desk_of}
 use Rattle.desk_model.proofs.Lists.{none-more, some-more, gather-more}
 use Rattle.desk_laws.proofs.Batches.{batches-stay}
 use Rattle.history_model.specs.Steps.{Step}
@@ -20,7 +20,7 @@ use Rattle.run_model.specs.Runs.{Ended, queued, handed, late, not_sampled, alrea
 use Rattle.run_model.specs.Answers.{RunConfig, last_attempt, desk_after, IsAnswer}
 use Rattle.run_model.specs.Headline.{attempts}
 use Rattle.run_model.proofs.More.{events-more}
-use Rattle.run_laws.specs.Laws.{OfRuns, HasTickets, retry_moment, handed_by, handed_batches, HandedAreTheBatches}
+use Rattle.run_laws.specs.Laws.{OfRuns, IsAllowed, retry_moment, handed_by, handed_batches, HandedAreTheBatches}
 use Rattle.run_laws.proofs.Histories.{by-steps}
 use Rattle.run_laws.proofs.Ends.{ended-stay}
 use Rattle.run_laws.proofs.Accounts.{Account}
@@ -49,6 +49,15 @@ last-grows : (events more : List DeskEvent) → last_batch events ≤ last_batch
 last-grows events more =
     let n : last_batch (events ++ more) ≡ last_batch events + length (batch_sizes more) = ap length (filter_map-append size_of_take events more) ∙ length-append (batch_sizes events) (batch_sizes more) in
     omega (arith, n)
+
+allowed-behind : (config : DeskConfig) (before events more : List DeskEvent) → AreAllowedBehind config 0 before (events ++ more) → AreAllowedBehind config 0 before events
+allowed-behind config before [] more a = tt
+allowed-behind config before (y ∷ events) more a = (a.0, allowed-behind config (before ++ y ∷ []) events more a.1)
+
+-- the first events are allowed
+allowed-front : (config : DeskConfig) (events more : List DeskEvent) → AreAllowed config 0 (events ++ more) → AreAllowed config 0 events
+unfolding AreAllowed
+allowed-front config events more a = allowed-behind config [] events more a
 
 -- ---- what an answer hands over
 
@@ -112,7 +121,7 @@ module _ (events : List DeskEvent) (spans : List EndedSpan) (step : Step) where
 record HandedOver (run : RunConfig) (h : List Answered) : Type 0 where
   all : Accounts run h
   numbers : AreBatches (last_batch (desk_events run.setup h)) (handed_batches h)
-  spans : HasTickets run.setup h → handed_spans (desk_events run.setup h) ≡ flat_map (batch_spans (desk_events run.setup h)) (handed_batches h)
+  spans : IsAllowed run h → handed_spans (desk_events run.setup h) ≡ flat_map (batch_spans (desk_events run.setup h)) (handed_batches h)
 
 module _ (run : RunConfig) (h : List Answered) (x : Answered) (p : HandedOver run h) (right : IsAnswer run h x) where
   abbrev events : List DeskEvent
@@ -133,27 +142,25 @@ module _ (run : RunConfig) (h : List Answered) (x : Answered) (p : HandedOver ru
   grows : desk_events run.setup (h ++ x ∷ []) ≡ events ++ option_to_list event
   grows = events-more run.setup h x later event (ended-stay run.setup h (x ∷ [])).1 account.below refl
 
-  -- tickets that are there were there
-  had-tickets : HasTickets run.setup (h ++ x ∷ []) → HasTickets run.setup h
-  had-tickets l =
-      let n : length (ended_by run.setup (h ++ x ∷ [])) ≡ length (ended_by run.setup h) + length later = ap length (ended-stay run.setup h (x ∷ [])).1 ∙ length-append (ended_by run.setup h) later in
-      omega (arith, l, n)
+  -- what was done before is allowed too
+  was-allowed : IsAllowed run (h ++ x ∷ []) → IsAllowed run h
+  was-allowed l = allowed-front run.desk events (option_to_list event) (subst (AreAllowed run.desk 0) grows l)
 
-  allowed-after : HasTickets run.setup (h ++ x ∷ []) → AreAllowed run.desk 0 (events ++ option_to_list event)
-  allowed-after l = let a : Account run (h ++ x ∷ []) = all-after.0 in subst (AreAllowed run.desk 0) grows (a.allowed l)
+  allowed-after : IsAllowed run (h ++ x ∷ []) → AreAllowed run.desk 0 (events ++ option_to_list event)
+  allowed-after l = subst (AreAllowed run.desk 0) grows l
 
-  stays : HasTickets run.setup (h ++ x ∷ []) → (n : ℕ) → 0 < n → n ≤ last_batch events → batch_spans events n ≡ batch_spans (events ++ option_to_list event) n
+  stays : IsAllowed run (h ++ x ∷ []) → (n : ℕ) → 0 < n → n ≤ last_batch events → batch_spans events n ≡ batch_spans (events ++ option_to_list event) n
   stays l n some few = sym (batches-stay run.desk 0 events (option_to_list event) n (allowed-after l) some few)
 
   -- the batches before have their spans still
-  before : HasTickets run.setup (h ++ x ∷ []) → handed_spans events ≡ flat_map (batch_spans (events ++ option_to_list event)) (handed_batches h)
-  before l = p.spans (had-tickets l) ∙ same-spans (batch_spans events) (batch_spans (events ++ option_to_list event)) (last_batch events) (stays l) (handed_batches h) p.numbers
+  before : IsAllowed run (h ++ x ∷ []) → handed_spans events ≡ flat_map (batch_spans (events ++ option_to_list event)) (handed_batches h)
+  before l = p.spans (was-allowed l) ∙ same-spans (batch_spans events) (batch_spans (events ++ option_to_list event)) (last_batch events) (stays l) (handed_batches h) p.numbers
 
   abbrev After : Type 0
   After = HandedOver run (h ++ x ∷ [])
 
   after-with : (numbers : List ℕ) → handed_batches (h ++ x ∷ []) ≡ numbers → AreBatches (last_batch events) numbers
-      → (HasTickets run.setup (h ++ x ∷ []) → handed_spans events ++ hands events event ≡ flat_map (batch_spans (events ++ option_to_list event)) numbers) → After
+      → (IsAllowed run (h ++ x ∷ []) → handed_spans events ++ hands events event ≡ flat_map (batch_spans (events ++ option_to_list event)) numbers) → After
   after-with numbers same are e =
       let grown : last_batch events ≤ last_batch (events ++ option_to_list event) = last-grows events (option_to_list event) in
       record {
@@ -202,5 +209,5 @@ handed-first : (run : RunConfig) → HandedOver run []
 unfolding desk_events ended_by
 handed-first run = record { all = accounts-none run; numbers = tt; spans = λ l. refl }
 
-pub handed-are-the-batches : OfRuns HandedAreTheBatches
+pub handed-are-the-batches : OfRuns (λ run history. IsAllowed run history → HandedAreTheBatches run.setup history)
 handed-are-the-batches run h w = let p : HandedOver run h = by-steps run (HandedOver run) (handed-step run) h (handed-first run) w in p.spans

@@ -183,10 +183,14 @@ HasTickets setup history = length (ended_by setup history) < 2 ^ 64 - 1
 abbrev pub EndedAreFew : Setup → List Answered → Type 0
 EndedAreFew setup history = length (ended_by setup history) ≤ length history
 
--- What is done at the queue is allowed there. (Trace SDK, Batching processor)
+-- what is done at the queue is allowed there
+abbrev pub IsAllowed : RunConfig → List Answered → Type 0
+IsAllowed run history = AreAllowed run.desk 0 (desk_events run.setup history)
+
+-- So it is, where there are tickets. (Trace SDK, Batching processor)
 abbrev pub EventsAreAllowed : RunConfig → List Answered → Type 0
 EventsAreAllowed run history =
-    HasTickets run.setup history → AreAllowed run.desk 0 (desk_events run.setup history)
+    HasTickets run.setup history → IsAllowed run history
 
 -- Each span that ended before the shutdown is handed, still queued, or dropped, once. (profile)
 abbrev pub NoneUnaccountedFor : RunConfig → List Answered → Type 0
@@ -202,10 +206,11 @@ abbrev pub handed_batches : List Answered → List ℕ
 handed_batches history = filter_map (λ x. handed_by x.answer) history
 
 -- The spans that were handed are those of these batches. (profile)
-abbrev pub HandedAreTheBatches : RunConfig → List Answered → Type 0
-HandedAreTheBatches run history =
-    HasTickets run.setup history → let events = desk_events run.setup history in
+abbrev pub HandedAreTheBatches : Setup → List Answered → Type 0
+HandedAreTheBatches setup history =
+    let events = desk_events setup history in
     handed_spans events ≡ flat_map (batch_spans events) (handed_batches history)
+
 
 -- A span that was handed to the exporter is not named as dropped, and neither is done twice.
 -- (profile)

@@ -6,7 +6,7 @@ ghost use Rattle.std.specs.Prelude.{List};
 ghost use Rattle.run_model.specs.Runs.{Answered};
 ghost use Rattle.run_model.specs.Answers.{RunConfig};
 ghost use Rattle.run_model.specs.Headline.{EachOnce};
-ghost use Rattle.run_laws.specs.Laws.{OfHistories, OfRuns, LateBehindShutdown, DroppedWhereFull, QueuedWhereRoom, TakenWhereDue, TakesTheFirst, TakenBehindShutdown, OneBatchIsOut, AttemptsAreNumbered, AttemptsAreFew, NoAttemptIsEarly, RepliesAreDecided, EndedSpansStay, EndedAreFew, EventsAreAllowed, NoneUnaccountedFor, HandedAreTheBatches, HandedAreNotDropped, LedgerNamesTheDropped, WaitingAreEnded, BatchesAreEnded, DropsNameEnded, EndedByTheSteps};
+ghost use Rattle.run_laws.specs.Laws.{OfHistories, OfRuns, LateBehindShutdown, DroppedWhereFull, QueuedWhereRoom, TakenWhereDue, TakesTheFirst, TakenBehindShutdown, OneBatchIsOut, AttemptsAreNumbered, AttemptsAreFew, NoAttemptIsEarly, RepliesAreDecided, EndedSpansStay, EndedAreFew, EventsAreAllowed, NoneUnaccountedFor, IsAllowed, HandedAreTheBatches, HandedAreNotDropped, LedgerNamesTheDropped, WaitingAreEnded, BatchesAreEnded, DropsNameEnded, EndedByTheSteps};
 
 /// The first end of a sampled span: behind a shutdown it is late; else it is dropped where the
 /// queue is full, and waits where it isn't. Nothing else is late, dropped there or queued. (Trace
@@ -49,7 +49,8 @@ pub fn attempts_are_answered()
 pub fn none_is_unaccounted_for()
     ensures allowed { OfRuns EventsAreAllowed }
     ensures once { OfRuns NoneUnaccountedFor }
-    ensures batches { OfRuns HandedAreTheBatches }
+    ensures batches { OfRuns (λ run history.
+        IsAllowed run history → HandedAreTheBatches run.setup history) }
     ensures handed { OfHistories (λ setup history.
         EachOnce setup history → HandedAreNotDropped setup history) }
     ensures named { (run : RunConfig) (history : List Answered) →

@@ -59,5 +59,5 @@ repeats setup h more all i j a b e f n =
     let second : MeansItsBatch setup h b = at-index (MeansItsBatch setup h) more all j b f in
     first.body.bytes ∙ ap (λ k. body_bytes (groups (batch_spans (desk_events setup h) k))) n ∙ sym second.body.bytes
 
-pub headline : (run : RunConfig) (h : List Answered) (old new : Option (List Handed)) → EachOnce run.setup h → HandedAreTheBatches run h → AreAsEnded run.setup h → TellsAll (attempts h) (MeansItsBatch run.setup h) old new → Headline run h old new
+pub headline : (run : RunConfig) (h : List Answered) (old new : Option (List Handed)) → EachOnce run.setup h → HandedAreTheBatches run.setup h → AreAsEnded run.setup h → TellsAll (attempts h) (MeansItsBatch run.setup h) old new → Headline run h old new
 headline run h old new once handed values t = record { each_once = once; handed = handed; values = values; more = t.more; told = record { gains = t.gains; are = t.are }; bodies = t.bodies; repeats = repeats run.setup h t.more t.bodies }

@@ -1,5 +1,5 @@
 -- A whole run: where it stands behind its first steps, and behind all.
-use Rattle.std.proofs.Common.{◌≡◌, refl, sym, ap, ◌∙◌, ℕ, suc, ◌+◌, ◌<◌, arith, List, [], ◌∷◌, ◌++◌, length, take, append_assoc, Option, Some, None, option_map, nat_lt, if◌then◌else◌, get_or}
+use Rattle.std.proofs.Common.{◌≡◌, refl, sym, ap, subst, ◌∙◌, ℕ, suc, ◌+◌, ◌<◌, arith, List, [], ◌∷◌, ◌++◌, length, take, append_assoc, Option, Some, None, option_map, nat_lt, if◌then◌else◌, get_or}
 use Rattle.std.proofs.Math.Seq.{take-suc}
 use Rattle.std.specs.Option.{option_to_list}
 use Rattle.std.specs.List.{AllByRecursion}
@@ -7,11 +7,12 @@ use Rattle.std.proofs.lemmas.List.{append-nil, map-append, length-take-le}
 use Rattle.std.proofs.lemmas.List.Elements.{filter_map-append}
 use Rattle.rand_core.specs.Stream.{Stream}
 use Rattle.span_model.specs.Sampling.{SamplerMeaning}
-use Rattle.desk_model.specs.Desks.{Desk, IsDesk, desk_of, new_desk}
+use Rattle.desk_model.specs.Desks.{Desk, IsDesk, AreAllowed, desk_of, new_desk}
 use Rattle.desk_laws.specs.Queues.{EachTicketOnce}
 use Rattle.run_model.specs.Runs.{Answered, ended_by, desk_events}
 use Rattle.run_model.specs.Answers.{RunConfig, AreAnswers, desk_after}
 use Rattle.run_model.specs.Headline.{EachOnce, Attempt, attempt_by, attempts}
+use Rattle.run_laws.specs.Laws.{IsAllowed}
 use Rattle.span_exporter.specs.Handed.{Handed}
 use Rattle.span_table.specs.Table.{IsTable, TableWith}
 use Rattle.trace_history.specs.Answers.{answer_view, history_view}
@@ -94,6 +95,9 @@ module _ {S R : Type 0} (meaning : S → SamplerMeaning) (stream : R → Stream)
     out_is = refl;
     answers = tt;
   }
+
+  pub is-allowed : (h : List Answered) (table : TableWith S R) (desk : Desk) (out : Option Out) → Stands meaning stream run h table desk out → IsAllowed run h
+  is-allowed h table desk out at = subst (λ config. AreAllowed config 0 (desk_events run.setup h)) at.config at.history.allowed
 
   pub each-once : (h : List Answered) (table : TableWith S R) (desk : Desk) (out : Option Out) → Stands meaning stream run h table desk out → EachTicketOnce → EachOnce run.setup h
   unfolding desk_of

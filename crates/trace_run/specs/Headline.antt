@@ -51,7 +51,7 @@ pub record IsTold (history : List Answered) (old new : Option (List Handed)) (mo
 pub record Headline (run : RunConfig) (history : List Answered) (old new : Option (List Handed))
     : Type 0 where
   pub each_once : EachOnce run.setup history
-  pub handed : HandedAreTheBatches run history
+  pub handed : HandedAreTheBatches run.setup history
   pub values : AreAsEnded run.setup history
   pub more : List Handed
   pub told : IsTold history old new more

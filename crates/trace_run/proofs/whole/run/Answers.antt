@@ -6,7 +6,7 @@ use Rattle.trace_history.specs.Steps.{step_view}
 use Rattle.trace_run.specs.Run.{run_config}
 use Rattle.trace_run.proofs.Standing.{desk-is}
 use Rattle.trace_run.proofs.Bodies.{body-stays, headline}
-use Rattle.trace_run.proofs.Runs.{stands-first, tells-none, tells-more, tells-still, attempts-push, each-once, behind-length, behind-push}
+use Rattle.trace_run.proofs.Runs.{stands-first, tells-none, tells-more, tells-still, attempts-push, is-allowed, each-once, behind-length, behind-push}
 use Rattle.trace_run.proofs.whole.run.Goals as goal
 
 pub loop-step-init : goal.loop-step-init
@@ -57,7 +57,7 @@ returns-clause-headline g c =
     let stay = c.ended_spans_stay.ensures in
     headline run h _ _
     (rw all at (each-once g.S.Sampler.meaning g.R.Rng.stream run _ _ _ _ i.stands c.no_ticket_is_lost.ensures.once))
-    (c.none_is_unaccounted_for.ensures.batches run h (rw all at i.stands.answers))
+    (rw all at (c.none_is_unaccounted_for.ensures.batches run _ i.stands.answers (is-allowed g.S.Sampler.meaning g.R.Rng.stream run _ _ _ _ i.stands)))
     (record { waiting = stay.waiting run.setup h; batches = stay.batches run.setup h; named = stay.drops run.setup h })
     (rw all at i.told)
 
