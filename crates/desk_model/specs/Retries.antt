@@ -48,8 +48,8 @@ pub data Fate : Type 0 where
   -- nobody sends it any more
   abandoned : Fate
 
--- What follows where a batch has one attempt: it is not tried again. (OTLP Specification, Retryable
--- Response Codes, All Other Responses; one attempt: profile)
+-- What follows from the last attempt of a batch: it is not tried again. (OTLP Specification,
+-- Retryable Response Codes, All Other Responses; giving up: profile)
 abbrev pub next_of : Outcome → Next
 next_of Outcome.delivered = done
 next_of (Outcome.partial rejected) = Next.partial rejected

@@ -36,6 +36,8 @@ fn a_body_has_its_length(rt: HostRuntime) {
     assert_body(&rt, &reply_of(&rt, alloc, two), b"ab");
     let zeros = b"HTTP/1.1 200 OK\r\nContent-Length: 0002\r\n\r\nabc";
     assert_body(&rt, &reply_of(&rt, alloc, zeros), b"ab");
+    let zero = b"HTTP/1.1 200 OK\r\nContent-Length: 0\r\n\r\nabc";
+    assert_body(&rt, &reply_of(&rt, alloc, zero), b"");
     let none = b"HTTP/1.1 200 OK\r\n\r\nabc";
     assert_body(&rt, &reply_of(&rt, alloc, none), b"abc");
     for status in [204u16, 304] {

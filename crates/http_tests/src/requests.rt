@@ -1,6 +1,9 @@
 //! Requests that are written whole, and requests whose writer fails.
 
-use otlp_http::{Counted, FailingCalls, FailingWire, FaultWrite, Stopped, Target, write_request};
+use otlp_http::{
+    Counted, DEFAULT_PATH, DEFAULT_PORT, FailingCalls, FailingWire, FaultWrite, Stopped, Target,
+    write_request,
+};
 use std::alloc::Global;
 use std::process::Abort;
 
@@ -24,7 +27,7 @@ const HEAD: &str = concat!(
 
 /// A collector on this machine.
 fn local(rt: &impl Abort, alloc: Global) -> Target {
-    Target::new(alloc, "127.0.0.1", 4318, "/v1/traces").expect(rt, "a target")
+    Target::new(alloc, "127.0.0.1", DEFAULT_PORT, DEFAULT_PATH).expect(rt, "a target")
 }
 
 /// The whole request: 191 bytes.

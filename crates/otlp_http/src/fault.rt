@@ -15,10 +15,11 @@ pub enum HttpFault {
     /// heads came.
     #[error("bad head")]
     BadHead,
-    /// The head doesn't say how long the body is, or says it in more than one way.
+    /// Transfer-Encoding stands (profile), or Content-Length isn't one number of digits that fits 64
+    /// bits (RFC 9112, section 6.3).
     #[error("bad length")]
     BadLength,
-    /// A chunk of the body is bad.
+    /// A chunk of the body is bad. It isn't told yet: a body in chunks is `BadLength`.
     #[error("bad chunk")]
     BadChunk,
     /// The head or the body passes its limit.

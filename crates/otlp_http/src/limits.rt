@@ -2,8 +2,8 @@
 
 ghost use Rattle.std.specs.Prelude.{◌≡◌};
 
-/// How much of a reply is read. (RFC 9110, section 4.1; RFC 9112, sections 3 and 5; the numbers of
-/// the default: profile)
+/// How much of a reply is read. (RFC 9110, section 5.4; RFC 9112, section 4; the numbers of the
+/// default: profile)
 #[derive(Clone, Copy, Debug, PartialEq, Eq)]
 pub struct HeadLimits {
     /// The most bytes of a head, with the empty line that ends it: 16,384 by default.

@@ -34,6 +34,7 @@ next_view (nexts.Partial rejected) = model.Next.partial rejected
 next_view (nexts.Again moment) = model.again moment
 next_view (nexts.GiveUp cause) = model.give_up (cause_view cause)
 
--- five attempts, waits of at most 1 second first and of at most 30 seconds (profile)
+-- five attempts, waits of at most 1 second first and of at most 30 seconds that nobody asks for
+-- (profile)
 abbrev pub default_retry : waiting.RetryConfig
 default_retry = record { attempts = 5; initial_ms = 1000; max_ms = 30000 }

@@ -9,11 +9,11 @@ use thiserror::Error;
 
 /// Why settings of retries are refused: a number is out of its range.
 #[derive(Error, Debug, Clone, Copy, PartialEq, Eq)]
-#[error("bad retry settings: 1 to 5 attempts, a first wait of 1 to 30000 ms, none above 300000 ms")]
+#[error("bad retry settings: 1 to 5 attempts, a wait of 1 to 30000 ms, the longest to 300000 ms")]
 pub struct BadRetry;
 
-/// How often a batch is sent, and how long the waits between its attempts are (OTLP Specification,
-/// "Retryable Response Codes": exponential backoff with jitter; the numbers: profile). In
+/// How often a batch is sent, and how long the waits between its attempts are (OpenTelemetry
+/// Protocol Exporter, "Retry": exponential backoff with jitter; the numbers: profile). In
 /// contracts it is the model's `RetryConfig`.
 #[derive(Debug, Clone, Copy, PartialEq, Eq)]
 pub struct RetryConfig {
@@ -51,7 +51,7 @@ impl RetryConfig {
     /// A batch is sent so many times at most, 1 to 5. The wait behind its first attempt is
     /// `initial_ms` milliseconds at most, 1 to 30,000, behind each later one at most twice as long
     /// as behind the one before it, and never above `max_ms`, which is from `initial_ms` to
-    /// 300,000. (profile)
+    /// 300,000, where the collector asks for none. (profile)
     ///
     /// # Errors
     ///
@@ -132,7 +132,8 @@ impl Default for RetryConfig {
 
     ghost is_default = { λ config. config ≡ default_retry };
 
-    /// Five attempts; the first wait is 1000 ms at most, and none is above 30,000 ms. (profile)
+    /// Five attempts; the first wait is 1000 ms at most, and none is above 30,000 ms that the
+    /// collector doesn't ask for. (profile)
     fn default() -> RetryConfig {
         RetryConfig {
             attempts: 5,

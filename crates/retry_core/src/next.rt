@@ -14,7 +14,7 @@ use crate::wait::wait_of;
 pub enum Cause {
     /// The collector refused it with this HTTP status.
     Refused(u16),
-    /// Its reply was none.
+    /// What came was no reply of HTTP.
     BadReply,
     /// It was sent as often as is allowed.
     Attempts,
@@ -66,7 +66,11 @@ fn last_next(outcome: &Outcome) -> Next
 /// before it is `initial_ms` behind the first attempt, and twice as long behind each later one, up
 /// to `max_ms`; the word, modulo half of that and one more, takes off so many milliseconds, which
 /// are half of the wait at most. What a reply asks for stands in place of it, up to 300 seconds: so
-/// many seconds, or until a date. The moment is 2^64 - 1 where it would be later. (profile)
+/// many seconds, or until a date, so at once where that has passed. The moment is 2^64 - 1 where it
+/// would be later. The last attempt is followed by `GiveUp(Attempts)`. At every attempt `Delivered`
+/// gives `Done`, `Partial` itself, and `Refused` and `Bad` give up. (profile)
+///
+/// The attempt is one of 1 to `config.attempts()`.
 pub fn decide(config: &RetryConfig, attempt: u32, outcome: &Outcome, now: u64, word: u64) -> Next
     requires first { 1 ≤ attempt }
     requires last { attempt ≤ config.now.attempts }

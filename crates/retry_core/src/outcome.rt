@@ -12,7 +12,7 @@ pub enum RetryAfter {
 /// What came of an attempt. (OTLP Specification, "OTLP/HTTP Response")
 #[derive(Clone, Copy, Debug, PartialEq, Eq)]
 pub enum Outcome {
-    /// The collector took the whole batch.
+    /// The collector took the whole batch, as far as it tells. ("Full Success")
     Delivered,
     /// It took the batch, but rejected so many spans. ("Partial Success")
     Partial(i64),
@@ -25,8 +25,8 @@ pub enum Outcome {
     },
     /// Any other status, after which the batch isn't sent again. ("All Other Responses")
     Refused(u16),
-    /// No reply, or only the beginning of one.
+    /// No whole head of a reply came, or memory to keep it was refused. (profile)
     NoReply,
-    /// A reply that isn't HTTP, or is too large, or has a body that isn't an OTLP response.
+    /// What came in place of a head can't begin one, or the head is too large. (profile)
     Bad,
 }

@@ -3,12 +3,12 @@ use Rattle.std.specs.Prelude.{ℕ, ◌+◌, ◌-◌, ◌*◌, ◌/◌, ◌%◌, 
 use Rattle.std.specs.Option.{option_map_or}
 use Rattle.desk_model.specs.Retries.{RetryAfter, seconds, date, Outcome, later, no_reply, Next, again, next_of}
 
--- How often a batch is sent, and how long the waits between are, in milliseconds. (OTLP
--- Specification: exponential backoff with jitter; the numbers: profile)
+-- How often a batch is sent, and how long the waits between are, in milliseconds. (OpenTelemetry
+-- Protocol Exporter, Retry: exponential backoff with jitter; the numbers: profile)
 pub record RetryConfig : Type 0 where
   -- the attempts that a batch has
   pub attempts : ℕ
-  -- what the first wait is at most, and what any is
+  -- what the first wait is at most, and what any is where the collector asks for none
   pub initial_ms : ℕ
   pub max_ms : ℕ
 
@@ -26,7 +26,8 @@ pub record IsRetryConfig (config : RetryConfig) : Type 0 where
 abbrev pub longest_ms : RetryConfig → ℕ → ℕ
 longest_ms config attempt = min (config.initial_ms * 2 ^ (attempt - 1)) config.max_ms
 
--- A random word takes off up to a half. (OTLP Specification: jitter; how much: profile)
+-- A random word takes off up to a half. (OpenTelemetry Protocol Exporter, Retry: jitter; how much:
+-- profile)
 abbrev pub backoff_ms : RetryConfig → ℕ → ℕ → ℕ
 backoff_ms config attempt word =
     let longest = longest_ms config attempt in longest - word % (longest / 2 + 1)
@@ -40,7 +41,8 @@ greatest_wait = 300 * second
 
 -- How long the wait behind this attempt is, in nanoseconds, from a moment on, which is in
 -- nanoseconds since 1970: as the reply asks, in so many seconds or until a date, or else the
--- backoff. (OTLP Specification, OTLP/HTTP Throttling; RFC 9110, Retry-After)
+-- backoff. (OTLP Specification, OTLP/HTTP Throttling; RFC 9110, Retry-After; with each status that
+-- is tried again: profile)
 abbrev pub wait_of : RetryConfig → ℕ → Option RetryAfter → ℕ → ℕ → ℕ
 wait_of config attempt None now word = backoff_ms config attempt word * 1000000
 wait_of config attempt (Some (seconds n)) now word = min (n * second) greatest_wait

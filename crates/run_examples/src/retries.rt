@@ -1,23 +1,24 @@
 //! A batch that is sent again (OTLP Specification, "Retryable Response Codes", "OTLP/HTTP
 //! Throttling"), at most five times.
 
-ghost use Rattle.std.specs.Prelude.{◌≡◌, [], ◌∷◌, ◌++◌, Some, None};
+ghost use Rattle.std.specs.Prelude.{◌≡◌, [], ◌∷◌, ◌++◌, pos, Some};
 ghost use Rattle.desk_model.specs.Retries.{Outcome, later, no_reply, seconds, Next, again, give_up, Cause, attempts};
 ghost use Rattle.history_model.specs.Steps.{Step};
 ghost use Rattle.run_model.specs.Runs.{Answer, taken, not_taken, encoded, sent, early, replied, nothing};
 ghost use Rattle.run_examples.specs.Worked.{queue_of, first, child, family, ends, sends, answers_by, queued, delivers};
 
-/// The collector asks for two seconds: an attempt before that moment is early, one at it is the
-/// second.
+/// The collector asks for two seconds: an attempt before that moment is early and takes no outcome
+/// from the exporter, one at it is the second.
 #[tactic(auto, unfolding(crate::specs::Worked::answers_by))]
 pub fn asked_to_wait()
-    ensures waits { answers_by (later 503 (Some (seconds 2)) ∷ []) 3 (queue_of 4)
+    ensures waits { answers_by (later 503 (Some (seconds 2)) ∷ Outcome.partial (pos 1) ∷ []) 3
+        (queue_of 4)
         (first ∷ ends 0 ∷ Step.shutdown ∷ Step.take 10 ∷ Step.encode ∷ Step.attempt 10 ∷
         Step.reply 1000000000 0 ∷ Step.attempt 2999999999 ∷ Step.attempt 3000000000 ∷
         Step.reply 3000000000 0 ∷ []) ≡
         taken 1 1 ∷ encoded 1 64 ∷ sent 1 1 (later 503 (Some (seconds 2))) ∷
-        replied 1 (again 3000000000) ∷ early ∷ sent 1 2 Outcome.delivered ∷
-        replied 1 Next.done ∷ [] }
+        replied 1 (again 3000000000) ∷ early ∷ sent 1 2 (Outcome.partial (pos 1)) ∷
+        replied 1 (Next.partial (pos 1)) ∷ [] }
 {}
 
 /// Without a reply each wait is twice as long as the one before it, and the fifth attempt is the

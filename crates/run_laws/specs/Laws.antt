@@ -211,7 +211,6 @@ HandedAreTheBatches setup history =
     let events = desk_events setup history in
     handed_spans events ≡ flat_map (batch_spans events) (handed_batches history)
 
-
 -- A span that was handed to the exporter is not named as dropped, and neither is done twice.
 -- (profile)
 abbrev pub HandedAreNotDropped : Setup → List Answered → Type 0

@@ -55,7 +55,8 @@ pub enum Step<A: Allocator = Global> {
     },
     /// Encodes the batch that was taken.
     Encode,
-    /// Hands the encoded batch to the exporter (Trace SDK, "Export").
+    /// Hands the encoded batch to the exporter (Trace SDK, "Export"), or hands it over once more,
+    /// from the moment on that its last reply told.
     Attempt {
         /// When.
         at: u64,

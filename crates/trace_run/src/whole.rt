@@ -33,8 +33,10 @@ use trace_history::Step;
 
 /// Takes the steps of a program in order, over a queue that is made at moment 0, and hands the
 /// batches to the exporter (Trace API; Trace SDK, "Batching processor"). Each step has an answer.
-/// Each sampled span that ends before the shutdown is waiting, or in the batch that is out, or was
-/// handed to the exporter, or is named by the ledger as dropped: once, and as its calls made it.
+/// Each sampled span that ends before the shutdown is waiting, or in the batch that is out and was
+/// not handed over yet, or was handed to the exporter, or is named by the ledger as dropped: once,
+/// and as its calls made it. A batch is sent again, with the same bytes, where its reply asks for
+/// that (OTLP Specification, "Retryable Response Codes").
 ///
 /// The desk of `config` is of sizes that `Desk::new` takes.
 ///
