@@ -11,7 +11,7 @@ pub const BODY: &[u8] = &[0x0a, 0x05, 0x08, 0x02, 0x12, 0x01, 0x78];
 pub const HEAD: &[u8] = b"HTTP/1.1 200 OK\r\nContent-Length: 7\r\n\r\n";
 
 /// A wire that gives these bytes, at most so many a call.
-pub fn wire(
+pub(crate) fn wire(
     rt: &impl Abort,
     alloc: Global,
     text: &[u8],
@@ -24,20 +24,20 @@ pub fn wire(
 }
 
 /// What two pieces of text are, one behind the other.
-pub fn joined(rt: &impl Abort, alloc: Global, front: &[u8], rest: &[u8]) -> Vec<u8> {
+pub(crate) fn joined(rt: &impl Abort, alloc: Global, front: &[u8], rest: &[u8]) -> Vec<u8> {
     let mut text = Vec::from_slice(alloc, front).expect(rt, "memory");
     text.extend_from_slice(rest).expect(rt, "memory");
     text
 }
 
 /// What a wire's bytes are read as, within the usual limits.
-pub fn read(alloc: Global, wire: &mut FailingWire) -> Result<Reply, HttpFault> {
+pub(crate) fn read(alloc: Global, wire: &mut FailingWire) -> Result<Reply, HttpFault> {
     read_reply(alloc, alloc, wire, &HeadLimits::default())
 }
 
 /// What a text is read as: by a wire that gives all that is asked for, and the same by one that
 /// gives a byte a call.
-pub fn read_text(rt: &impl Abort, alloc: Global, text: &[u8]) -> Result<Reply, HttpFault> {
+pub(crate) fn read_text(rt: &impl Abort, alloc: Global, text: &[u8]) -> Result<Reply, HttpFault> {
     let mut whole = wire(rt, alloc, text, 65_536, FailingCalls::Never);
     let mut bytes = wire(rt, alloc, text, 1, FailingCalls::Never);
     let answer = read(alloc, &mut whole);
@@ -48,7 +48,7 @@ pub fn read_text(rt: &impl Abort, alloc: Global, text: &[u8]) -> Result<Reply, H
 }
 
 /// Whether two bodies, or why they can't be had, are the same.
-pub fn are_same_bodies(
+pub(crate) fn are_same_bodies(
     body: &Result<Vec<u8>, HttpFault>,
     other: &Result<Vec<u8>, HttpFault>,
 ) -> bool {
@@ -60,7 +60,10 @@ pub fn are_same_bodies(
 }
 
 /// Whether two answers are the same.
-pub fn are_same(answer: &Result<Reply, HttpFault>, other: &Result<Reply, HttpFault>) -> bool {
+pub(crate) fn are_same(
+    answer: &Result<Reply, HttpFault>,
+    other: &Result<Reply, HttpFault>,
+) -> bool {
     match (answer, other) {
         (Ok(reply), Ok(other)) => {
             reply.status == other.status
@@ -73,12 +76,12 @@ pub fn are_same(answer: &Result<Reply, HttpFault>, other: &Result<Reply, HttpFau
 }
 
 /// The reply that a text is.
-pub fn reply_of(rt: &impl Abort, alloc: Global, text: &[u8]) -> Reply {
+pub(crate) fn reply_of(rt: &impl Abort, alloc: Global, text: &[u8]) -> Reply {
     read_text(rt, alloc, text).expect(rt, "a reply")
 }
 
 /// Why a text is no reply.
-pub fn fault_of(rt: &impl Abort, alloc: Global, text: &[u8]) -> HttpFault {
+pub(crate) fn fault_of(rt: &impl Abort, alloc: Global, text: &[u8]) -> HttpFault {
     match read_text(rt, alloc, text) {
         Ok(_) => panic!(rt; "a reply"),
         Err(fault) => fault,
@@ -86,7 +89,7 @@ pub fn fault_of(rt: &impl Abort, alloc: Global, text: &[u8]) -> HttpFault {
 }
 
 /// Checks that a reply has this body.
-pub fn assert_body(rt: &impl Abort, reply: &Reply, body: &[u8]) {
+pub(crate) fn assert_body(rt: &impl Abort, reply: &Reply, body: &[u8]) {
     match &reply.body {
         Ok(found) => assert!(rt; found.as_slice() == body),
         Err(fault) => panic!(rt; "{fault}"),
@@ -94,7 +97,7 @@ pub fn assert_body(rt: &impl Abort, reply: &Reply, body: &[u8]) {
 }
 
 /// Checks that a reply's body can't be had for this cause.
-pub fn assert_no_body(rt: &impl Abort, reply: &Reply, cause: HttpFault) {
+pub(crate) fn assert_no_body(rt: &impl Abort, reply: &Reply, cause: HttpFault) {
     match &reply.body {
         Ok(_) => panic!(rt; "a body"),
         Err(fault) => assert_eq!(rt; *fault, cause),

@@ -19,6 +19,7 @@ pub use otlp_http::FaultRead;
 pub use otlp_http::FaultWrite;
 pub use otlp_http::HeadLimits;
 pub use otlp_http::HttpFault;
+pub use otlp_http::MOST_FIELDS;
 pub use otlp_http::Reply;
 pub use otlp_http::Stopped;
 pub use otlp_http::Target;
