@@ -1,11 +1,12 @@
 ghost use Rattle.std.specs.Prelude.{◌≡◌, ◌+◌, ◌-◌, ◌^◌, ◌<◌};
 ghost use Rattle.desk_model.specs.Desks.{with_drops, with_fate};
 ghost use Rattle.otlp_span.specs.Dropped.{reason_view};
+ghost use Rattle.retry_core.specs.Retries.{fate_view};
 ghost use Rattle.batch_desk.specs.Counts.{drop_count, fate_count};
-ghost use Rattle.batch_desk.specs.Views.{drop_counts_view, fate_counts_view, fate_view};
+ghost use Rattle.batch_desk.specs.Views.{drop_counts_view, fate_counts_view};
 
-use crate::fate::Fate;
 use otlp_span::Reason;
+use retry_core::Fate;
 
 /// How many spans were dropped for each reason, those whose entry was popped from the ledger too
 /// (profile).

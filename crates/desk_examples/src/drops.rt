@@ -2,7 +2,7 @@
 
 ghost use Rattle.std.specs.Prelude.{◌≡◌, [], ◌∷◌, ◌++◌, pos, None, true, false};
 ghost use Rattle.span_model.specs.Dropped.{queue_full, too_large, encode_memory};
-ghost use Rattle.desk_model.specs.Retries.{Fate};
+ghost use Rattle.retry_model.specs.Retries.{Fate};
 ghost use Rattle.desk_model.specs.Queue.{flush, shutdown, late, taken, handed, dropped, settled, popped, drops, ledger_entries, popped_entries};
 ghost use Rattle.desk_examples.specs.Histories.{four, ends, ends_full, named, five_ends, ledger_tickets, popped_tickets, span_at, shown, AllAllowed};
 

@@ -5,7 +5,7 @@ use Rattle.std.specs.List.{list_any, filter_map}
 use Rattle.std.proofs.lemmas.List.Sums.{sum_by-append}
 use Rattle.span_model.specs.Spans.{EndedSpan}
 use Rattle.span_model.specs.Dropped.{Reason, Entry, entry_of, is_reason, count_of_reason}
-use Rattle.desk_model.specs.Retries.{Fate}
+use Rattle.retry_model.specs.Retries.{Fate}
 use Rattle.span_model.specs.Attributes.{last_or}
 use Rattle.desk_model.specs.Queue.{is_late, DeskEvent, queued, full, late, flush, shutdown, taken, handed, dropped, settled, popped, ticket_of, tickets, taken_count, waiting_spans, last_batch, last_spans, last_size, Stage, not_out, in_hand, with_exporter, stage, moment_of, spans_handed_by, handed_spans, fate_by, fates, entries_by, drops, ledger_entries, late_count, is_shutdown, is_closed}
 use Rattle.desk_model.specs.Desks.{DeskConfig, Desk, drop_counts, with_drops, is_fate, fate_counts, with_fate, capped, out_as, desk_of, accepted_count, is_in_hand, is_with_exporter, handed_out, out_size, new_desk, Allowed, AreAllowed, IsDesk, Does, DropsSpans, TakesSpans}

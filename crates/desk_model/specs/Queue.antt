@@ -6,7 +6,7 @@ use Rattle.std.specs.List.{list_any}
 use Rattle.span_model.specs.Attributes.{last_or}
 use Rattle.span_model.specs.Spans.{EndedSpan}
 use Rattle.span_model.specs.Dropped.{Reason, queue_full, Entry, entry_of}
-use Rattle.desk_model.specs.Retries.{Fate}
+use Rattle.retry_model.specs.Retries.{Fate}
 
 -- What was done, and what was answered. A list of these is a history, the first one first.
 pub data DeskEvent : Type 0 where

@@ -1,9 +1,10 @@
 //! Desks, driven by hand.
 use crate::spans::{Spans, TRACE};
-use batch_desk::{Admitted, Batch, Desk, DeskConfig, DropCounts, Fate, FateCounts, Totals};
+use batch_desk::{Admitted, Batch, Desk, DeskConfig, DropCounts, FateCounts, Totals};
 use linked_list_allocator::LocalHeap;
 use otlp_ids::SpanId;
 use otlp_span::{Entry, Reason};
+use retry_core::Fate;
 use span_ring::RingFault;
 use std::alloc::{Allocator, Global};
 use std::ops::Range;

@@ -1,6 +1,7 @@
 //! A desk as plain lists, to compare desks with.
-use batch_desk::{Admitted, DeskConfig, DropCounts, Fate, FateCounts, Totals};
+use batch_desk::{Admitted, DeskConfig, DropCounts, FateCounts, Totals};
 use otlp_span::Reason;
+use retry_core::Fate;
 use std::alloc::Global;
 use std::process::Abort;
 

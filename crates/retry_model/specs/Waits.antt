@@ -1,7 +1,7 @@
 -- When a batch is sent again. (OTLP Specification, Retryable Response Codes, OTLP/HTTP Throttling)
 use Rattle.std.specs.Prelude.{ℕ, ◌+◌, ◌-◌, ◌*◌, ◌/◌, ◌%◌, ◌^◌, ◌≤◌, nat_lt, min, if◌then◌else◌, Option, Some, None}
 use Rattle.std.specs.Option.{option_map_or}
-use Rattle.desk_model.specs.Retries.{RetryAfter, seconds, date, Outcome, later, no_reply, Next, again, next_of}
+use Rattle.retry_model.specs.Retries.{RetryAfter, seconds, date, Outcome, later, no_reply, Next, again, next_of}
 
 -- How often a batch is sent, and how long the waits between are, in milliseconds. (OpenTelemetry
 -- Protocol Exporter, Retry: exponential backoff with jitter; the numbers: profile)

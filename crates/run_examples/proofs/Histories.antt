@@ -3,7 +3,7 @@ use Rattle.std.proofs.Common.{refl, sym, subst, ◌==◌, List, [], ◌∷◌, �
 use Rattle.std.specs.List.{list_any}
 use Rattle.std.proofs.lemmas.List.{append-nil}
 use Rattle.span_model.specs.Spans.{first_or}
-use Rattle.desk_model.specs.Retries.{Outcome}
+use Rattle.retry_model.specs.Retries.{Outcome}
 use Rattle.history_model.specs.Steps.{Step}
 use Rattle.run_model.specs.Runs.{Answered}
 use Rattle.run_model.specs.Answers.{RunConfig, Given, answer_to, IsAnswer, AreAnswersBehind, AreAnswers}

@@ -12,7 +12,7 @@ use Rattle.span_model.specs.Sampling.{SamplerMeaning, always_on}
 use Rattle.span_model.specs.Spans.{default_limits, internal, unset, Context, Call, Resource, Scope, EndedSpan, first_or, span}
 use Rattle.span_model.specs.Starts.{Ids, started_span, ids_of, ids_words}
 use Rattle.export_model.specs.Export.{groups, body_length}
-use Rattle.desk_model.specs.Retries.{Outcome, Next}
+use Rattle.retry_model.specs.Retries.{Outcome, Next}
 use Rattle.desk_model.specs.Queue.{DeskEvent}
 use Rattle.desk_model.specs.Desks.{DeskConfig, Desk, desk_of}
 use Rattle.desk_laws.specs.Queues.{places, times}

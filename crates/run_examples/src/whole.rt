@@ -4,7 +4,7 @@
 
 ghost use Rattle.std.specs.Prelude.{◌≡◌, [], ◌∷◌, ◌++◌, Some, None, true, false};
 ghost use Rattle.span_model.specs.Dropped.{queue_full};
-ghost use Rattle.desk_model.specs.Retries.{Outcome, Fate};
+ghost use Rattle.retry_model.specs.Retries.{Outcome, Fate};
 ghost use Rattle.desk_model.specs.Queue as desk;
 ghost use Rattle.run_model.specs.Answers.{not_out, to_encode, to_send, to_judge, AreAnswers};
 ghost use Rattle.run_model.specs.Headline.{EachOnce, attempts};

@@ -7,7 +7,7 @@ use Rattle.span_model.specs.Dropped.{queue_full}
 use Rattle.span_model.specs.Sampling.{is_sampled}
 use Rattle.span_model.specs.Spans.{Call, is_end}
 use Rattle.span_model.specs.Starts.{Ids, StartedSpan}
-use Rattle.desk_model.specs.Retries.{Outcome, Next}
+use Rattle.retry_model.specs.Retries.{Outcome, Next}
 use Rattle.desk_model.specs.Desks.{Desk, is_due, desk_of}
 use Rattle.history_model.specs.Steps.{Step}
 use Rattle.history_model.specs.History.{Setup}

@@ -7,7 +7,7 @@ use Rattle.span_model.specs.Attributes.{last_or}
 use Rattle.span_model.specs.Dropped.{queue_full, encode_memory, too_large, abandoned}
 use Rattle.span_model.specs.Spans.{EndedSpan, Call, is_end}
 use Rattle.span_model.specs.Starts.{StartedSpan}
-use Rattle.desk_model.specs.Retries.{Outcome, Next, again, give_up, Fate, fate_of}
+use Rattle.retry_model.specs.Retries.{Outcome, Next, again, give_up, Fate, fate_of}
 use Rattle.desk_model.specs.Queue.{DeskEvent, size_of_take, batch_sizes, last_batch}
 use Rattle.desk_model.specs.Queue as desk
 use Rattle.desk_model.specs.Desks.{is_due, desk_of}

@@ -5,7 +5,7 @@ use Rattle.std.specs.List.{list_any, cons_option}
 use Rattle.std.proofs.lemmas.List.Elements.{filter_map-append}
 use Rattle.span_model.specs.Attributes.{last_or}
 use Rattle.desk_model.specs.Queue.{last_batch, last_size}
-use Rattle.desk_model.specs.Retries.{Next, again, give_up, Cause}
+use Rattle.retry_model.specs.Retries.{Next, again, give_up, Cause}
 use Rattle.desk_model.specs.Desks.{out_as, is_due, desk_of}
 use Rattle.history_model.specs.Steps.{Step}
 use Rattle.run_model.specs.Runs.{Answer, started, no_randomness, no_span, out_of_memory, done, ended, taken, not_taken, encoded, sent, early, replied, nothing, Answered, desk_events}

@@ -9,7 +9,7 @@ use Rattle.std.proofs.lemmas.Grind.{flat_map-append}
 use Rattle.std.proofs.lemmas.Bool.{eqb-true}
 use Rattle.span_model.specs.Dropped.{queue_full, encode_memory, too_large, abandoned}
 use Rattle.span_model.specs.Spans.{EndedSpan}
-use Rattle.desk_model.specs.Retries.{Outcome, Fate, fate_of}
+use Rattle.retry_model.specs.Retries.{Outcome, Fate, fate_of}
 use Rattle.desk_model.specs.Queue.{DeskEvent, size_of_take, batch_sizes, batch_spans, last_batch, last_spans, spans_handed_by, handed_spans}
 use Rattle.desk_model.specs.Queue as desk
 use Rattle.desk_model.specs.Desks.{DeskConfig, AreAllowed, AreAllowedBehind, desk_of}
@@ -83,7 +83,7 @@ module _ (events : List DeskEvent) (spans : List EndedSpan) (step : Step) where
   full-hands n None = none refl refl
   full-hands n (Some s) = none refl refl
 
-  settled-hands : (number : ℕ) (next : Rattle.desk_model.specs.Retries.Next) (o : Option Fate) → Hands events (replied number next) (option_map desk.settled o)
+  settled-hands : (number : ℕ) (next : Rattle.retry_model.specs.Retries.Next) (o : Option Fate) → Hands events (replied number next) (option_map desk.settled o)
   settled-hands number next None = none refl refl
   settled-hands number next (Some f) = none refl refl
 

@@ -7,7 +7,7 @@ use Rattle.span_model.specs.Dropped.{queue_full}
 use Rattle.span_model.specs.Sampling.{is_sampled}
 use Rattle.span_model.specs.Spans.{EndedSpan, Kind, Call, is_end}
 use Rattle.span_model.specs.Starts.{StartedSpan}
-use Rattle.desk_model.specs.Retries.{Outcome, Cause, Next, again, give_up, Fate, fate_of}
+use Rattle.retry_model.specs.Retries.{Outcome, Cause, Next, again, give_up, Fate, fate_of}
 use Rattle.retry_model.specs.Waits.{next_after}
 use Rattle.desk_model.specs.Queue.{DeskEvent, tickets, waiting_spans, in_hand_spans, handed_spans, drops, last_batch, last_size, Stage, in_hand, with_exporter, stage, is_closed}
 use Rattle.desk_model.specs.Queue as desk

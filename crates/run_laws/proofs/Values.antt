@@ -14,7 +14,7 @@ use Rattle.history_model.specs.Steps.{Step, is_shutdown}
 use Rattle.history_model.specs.History.{Setup, span_step, with_tickets, ended_spans, granted_steps}
 use Rattle.run_model.specs.Runs.{Ended, queued, handed, late, not_sampled, already_ended, Answer, started, no_randomness, no_span, out_of_memory, done, ended, taken, not_taken, encoded, sent, early, replied, nothing, Answered, is_refused, span_steps, before_shutdown, ended_by, event_by, events_among, desk_events}
 use Rattle.run_model.specs.Answers.{RunConfig, desk_after}
-use Rattle.desk_model.specs.Retries.{Fate, fate_of}
+use Rattle.retry_model.specs.Retries.{Fate, fate_of}
 use Rattle.run_laws.specs.Laws.{OfHistories, IsEndedSpan, NamesEndedSpan, WaitingAreEnded, BatchesAreEnded, DropsNameEnded, EndedByTheSteps, LedgerNamesTheDropped}
 
 -- ---- lists of which all have a property

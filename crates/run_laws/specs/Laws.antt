@@ -7,7 +7,7 @@ use Rattle.span_model.specs.Attributes.{last_or}
 use Rattle.span_model.specs.Dropped.{queue_full, Entry, entry_of}
 use Rattle.span_model.specs.Sampling.{is_sampled}
 use Rattle.span_model.specs.Spans.{EndedSpan, is_end}
-use Rattle.desk_model.specs.Retries.{Outcome, Next, again, fate_of}
+use Rattle.retry_model.specs.Retries.{Outcome, Next, again, fate_of}
 use Rattle.desk_model.specs.Queue.{waiting_spans, batch_spans, handed_spans, drops}
 use Rattle.desk_model.specs.Desks.{is_due, AreAllowed}
 use Rattle.desk_laws.specs.Queues.{times}

@@ -9,7 +9,7 @@ use Rattle.span_model.specs.Sampling.{is_sampled, is_recording}
 use Rattle.span_model.specs.Spans.{Call, is_end}
 use Rattle.span_model.specs.Starts.{StartedSpan}
 use Rattle.export_model.specs.Export.{groups, body_length}
-use Rattle.desk_model.specs.Retries.{Outcome, again}
+use Rattle.retry_model.specs.Retries.{Outcome, again}
 use Rattle.desk_model.specs.Queue.{last_spans}
 use Rattle.desk_model.specs.Desks.{DeskConfig, Desk, desk_of, is_due}
 use Rattle.retry_model.specs.Waits.{RetryConfig, next_after}

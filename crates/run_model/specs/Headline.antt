@@ -2,7 +2,7 @@
 -- processor; profile)
 use Rattle.std.specs.Prelude.{◌≡◌, ℕ, nat_lt, ◌==◌, if◌then◌else◌, List, length, filter, filter_map, Option, Some, None}
 use Rattle.span_model.specs.Spans.{EndedSpan}
-use Rattle.desk_model.specs.Retries.{Outcome}
+use Rattle.retry_model.specs.Retries.{Outcome}
 use Rattle.desk_model.specs.Queue.{last_batch, last_spans}
 use Rattle.desk_laws.specs.Queues.{places, times}
 use Rattle.history_model.specs.History.{Setup}

@@ -4,7 +4,7 @@ use Rattle.std.specs.Prelude.{ℕ, ◌==◌, Bool, true, false, not, if◌then�
 use Rattle.span_model.specs.Dropped.{Reason, queue_full}
 use Rattle.span_model.specs.Spans.{EndedSpan}
 use Rattle.span_model.specs.Starts.{Ids}
-use Rattle.desk_model.specs.Retries.{Outcome, Next, fate_of}
+use Rattle.retry_model.specs.Retries.{Outcome, Next, fate_of}
 use Rattle.desk_model.specs.Queue.{DeskEvent}
 use Rattle.desk_model.specs.Queue as desk
 use Rattle.history_model.specs.Steps.{Step, is_shutdown, take}

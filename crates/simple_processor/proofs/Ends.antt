@@ -6,7 +6,7 @@ use Rattle.std.proofs.lemmas.List.{append-nil}
 use Rattle.std.proofs.lemmas.List.Sorted.{IsPermutation-refl, IsPermutation-sym, IsPermutation-to_front}
 use Rattle.span_model.specs.Spans.{EndedSpan, with_ticket}
 use Rattle.span_model.specs.Dropped.{Entry, encode_memory, entry_of}
-use Rattle.desk_model.specs.Retries.{fate_of, next_of}
+use Rattle.retry_model.specs.Retries.{fate_of, next_of}
 use Rattle.desk_model.specs.Desks.{capped, drop_counts, fate_counts, with_drops, with_fate}
 use Rattle.desk_model.proofs.Lists.{some-more}
 use Rattle.desk_model.proofs.Events.{counts-more, fates-more}

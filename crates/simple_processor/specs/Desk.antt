@@ -3,7 +3,7 @@
 use Rattle.std.specs.Prelude.{◌≡◌, ℕ, ◌+◌, ◌-◌, ◌^◌, ◌<◌, ◌≤◌, ◌==◌, Bool, true, false, List, [], ◌∷◌, length, Option, Some, None}
 use Rattle.span_model.specs.Spans.{EndedSpan, with_ticket}
 use Rattle.span_model.specs.Dropped.{Entry, encode_memory, entry_of}
-use Rattle.desk_model.specs.Retries.{Fate, Outcome, fate_of, next_of}
+use Rattle.retry_model.specs.Retries.{Fate, Outcome, fate_of, next_of}
 use Rattle.desk_model.specs.Desks.{FateCounts, capped, with_fate}
 use Rattle.otlp_span.specs.declared.reason.Reason.TheVariants as reasons
 use Rattle.trace_api.specs.declared.pass.Ended.{Ended}

@@ -1,6 +1,6 @@
 -- What an exporter over memory shows. (profile)
 use Rattle.std.specs.Prelude.{List, [], ◌∷◌}
-use Rattle.desk_model.specs.Retries.{Outcome}
+use Rattle.retry_model.specs.Retries.{Outcome}
 use Rattle.span_exporter.specs.Handed.{Handed}
 use Rattle.span_exporter.specs.Room.{Room}
 

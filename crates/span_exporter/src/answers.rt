@@ -18,7 +18,7 @@ pub(crate) struct Answers<A: Allocator> {
 
 impl<A: Allocator> Model for Answers<A> {
     ghost use Rattle.std.specs.Prelude.{◌≤◌, List, drop, length, map};
-    ghost use Rattle.desk_model.specs.Retries as model;
+    ghost use Rattle.retry_model.specs.Retries as model;
     ghost use Rattle.retry_core.specs.Retries.{outcome_view};
 
     ghost Value = { List model.Outcome };

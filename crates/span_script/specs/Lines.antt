@@ -5,7 +5,7 @@ use Rattle.std.specs.List.{slice_split}
 use Rattle.span_model.specs.Attributes as attributes
 use Rattle.span_model.specs.Spans as spans
 use Rattle.desk_model.specs.Desks.{DeskConfig}
-use Rattle.desk_model.specs.Retries.{Outcome}
+use Rattle.retry_model.specs.Retries.{Outcome}
 use Rattle.history_model.specs.Steps.{Step}
 use Rattle.otlp_value.specs.Value.{attribute_view}
 use Rattle.otlp_span.specs.Parts.{limits_view}

@@ -4,7 +4,7 @@ use Rattle.std.specs.List.{slice_split, list_all, position_or_len, range_with_le
 use Rattle.span_model.specs.Attributes as attributes
 use Rattle.span_model.specs.Spans as spans
 use Rattle.desk_model.specs.Desks.{DeskConfig}
-use Rattle.desk_model.specs.Retries.{Outcome}
+use Rattle.retry_model.specs.Retries.{Outcome}
 use Rattle.history_model.specs.Steps.{Step}
 use Rattle.script_words.specs.Words.{◌>>=◌, each_of}
 use Rattle.span_script.specs.Lines.{Line, words, sampler, limits, desk, resource, scope, scope_attribute, answer, step, line_of}

@@ -7,8 +7,8 @@ use Rattle.rand_core.specs.Stream.{Stream}
 use Rattle.span_model.specs.Sampling.{SamplerMeaning}
 use Rattle.span_model.specs.Spans.{EndedSpan}
 use Rattle.export_model.specs.Export.{groups, body_length}
-use Rattle.desk_model.specs.Retries as retries
-use Rattle.desk_model.specs.Retries.{delivered, Next, Fate, fate_of}
+use Rattle.retry_model.specs.Retries as retries
+use Rattle.retry_model.specs.Retries.{delivered, Next, Fate, fate_of}
 use Rattle.retry_model.specs.Waits.{RetryConfig, next_after}
 use Rattle.desk_model.specs.Queue as queue
 use Rattle.desk_model.specs.Queue.{DeskEvent, last_spans, last_batch, stage, not_out, in_hand, with_exporter}

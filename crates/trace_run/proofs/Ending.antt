@@ -10,7 +10,7 @@ use Rattle.span_model.specs.Sampling.{SamplerMeaning, is_sampled}
 use Rattle.span_model.specs.Spans.{Call, EndedSpan, end, is_end, with_ticket}
 use Rattle.span_model.specs.Starts.{StartedSpan, exported_span}
 use Rattle.span_model.specs.Dropped.{queue_full}
-use Rattle.desk_model.specs.Retries.{delivered}
+use Rattle.retry_model.specs.Retries.{delivered}
 use Rattle.desk_model.specs.Queue as queue
 use Rattle.desk_model.specs.Queue.{DeskEvent, last_spans, last_batch, size_of_take}
 use Rattle.desk_model.specs.Desks.{Desk, IsDesk}

@@ -16,7 +16,7 @@ use Rattle.run_model.specs.Runs.{Answer, started, out_of_memory, done, Answered,
 use Rattle.run_model.specs.Answers.{RunConfig, start_answer, call_answer, takes_memory, is_live, progress_by, desk_after, IsAnswer}
 use Rattle.run_model.specs.Headline.{out_as, out_after, attempt_by}
 use Rattle.run_model.proofs.More.{is_shut, shut-more, ended-open, ended-shut, ended-none, ended-some, ticket_of, IsBelow, AreBelow, below-more, events-same, progress-none, quiet-attempts, last_attempt-none, answers-more}
-use Rattle.desk_model.specs.Retries.{delivered}
+use Rattle.retry_model.specs.Retries.{delivered}
 use Rattle.span_table.specs.Table.{IsTable, TableWith, TakesStep, answer_to_start, answer_to_call, span_numbered}
 use Rattle.trace_run.specs.Out.{Out, shown, IsTied}
 use Rattle.trace_run.specs.State.{Stands}

@@ -7,7 +7,7 @@ use Rattle.rand_core.specs.Stream.{Stream}
 use Rattle.span_model.specs.Sampling.{SamplerMeaning, is_sampled}
 use Rattle.span_model.specs.Spans.{Call, end, is_end}
 use Rattle.span_model.specs.Starts.{StartedSpan, exported_span}
-use Rattle.desk_model.specs.Retries.{Outcome}
+use Rattle.retry_model.specs.Retries.{Outcome}
 use Rattle.desk_model.specs.Queue.{DeskEvent, batch_spans, last_batch, last_spans}
 use Rattle.desk_model.specs.Desks.{Desk, is_due}
 use Rattle.run_model.specs.Runs.{Answer, Answered, desk_events}

@@ -4,8 +4,8 @@ use Rattle.message_model.specs.Reading.{Reads}
 use Rattle.message_model.specs.Messages.{body_meaning}
 use Rattle.span_model.specs.Spans.{EndedSpan}
 use Rattle.export_model.specs.Export.{groups, body_length, grouped_triples}
-use Rattle.desk_model.specs.Retries as retries
-use Rattle.desk_model.specs.Retries.{Fate, fate_of}
+use Rattle.retry_model.specs.Retries as retries
+use Rattle.retry_model.specs.Retries.{Fate, fate_of}
 use Rattle.desk_model.specs.Queue as desk
 use Rattle.desk_model.specs.Desks.{Desk, Does, TakesSpans}
 use Rattle.retry_model.specs.Waits.{RetryConfig, IsRetryConfig, next_after}

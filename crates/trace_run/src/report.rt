@@ -3,8 +3,9 @@ ghost use Rattle.std.specs.Prelude.{◌≡◌, option_map};
 ghost use Rattle.trace_run.specs.Report.{after_close};
 
 use crate::sending::{OutBatch, Stage};
-use batch_desk::{Batch, Desk, Fate};
+use batch_desk::{Batch, Desk};
 use otlp_span::Reason;
+use retry_core::Fate;
 use std::alloc::{Allocator, Global};
 use std::marker::Model;
 use trace_history::Answer;

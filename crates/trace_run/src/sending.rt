@@ -1,18 +1,16 @@
 //! The batch that is out: it is taken, encoded, sent, and judged by what came of that.
-ghost use Rattle.std.specs.Prelude.{◌≡◌, ◌<◌, ◌≤◌, ◌+◌, ℕ, Some, IfOk, length, is_some, true};
+ghost use Rattle.std.specs.Prelude.{◌≡◌, ◌<◌, ◌≤◌, ◌+◌, ℕ, IfOk, length};
 ghost use Rattle.export_model.specs.Export.{groups, body_length};
-ghost use Rattle.desk_model.specs.Retries as model;
 ghost use Rattle.retry_model.specs.Waits.{IsRetryConfig, RetryConfig};
-ghost use Rattle.retry_core.specs.Retries.{next_view, outcome_view};
-ghost use Rattle.batch_desk.specs.Views.{fate_view};
+ghost use Rattle.retry_core.specs.Retries.{outcome_view};
 ghost use Rattle.run_model.specs.Answers.{take_answer};
 ghost use Rattle.trace_history.specs.Answers.{answer_view};
 ghost use Rattle.trace_run.specs.Out.{Encodes, EncodesBatch, IsBodyOf, IsCounted, IsReady, IsTied, Replies, Sends, SendsBody, Takes};
 
-use batch_desk::{Batch, Desk, Fate};
+use batch_desk::{Batch, Desk};
 use otlp_ids::OutOfMemory;
 use otlp_proto::body_of;
-use retry_core::{Cause, Next, Outcome, RetryConfig, decide};
+use retry_core::{Next, Outcome, RetryConfig, decide};
 use span_exporter::Exporter;
 use std::alloc::Allocator;
 use std::marker::Model;
@@ -269,24 +267,9 @@ pub(crate) fn judge_batch<A: Allocator>(
                 };
                 return (answer, Some(OutBatch { batch, stage }));
             }
-            desk.settle(batch, fate_of(next));
+            desk.settle(batch, next.fate().unwrap());
             (answer, None)
         }
         stage => (Answer::Nothing, Some(OutBatch { batch, stage })),
-    }
-}
-
-/// How the batch ends, of which there is no other attempt.
-fn fate_of(next: Next) -> Fate
-    requires { is_some (model.fate_of (next_view next)) ≡ true }
-    ensures { Some (fate_view result) ≡ model.fate_of (next_view next) }
-{
-    match next {
-        Next::Done => Fate::Delivered,
-        Next::Partial(rejected) => Fate::Partial(rejected),
-        Next::GiveUp(Cause::Refused(status)) => Fate::Refused(status),
-        Next::GiveUp(Cause::BadReply) => Fate::BadReply,
-        Next::GiveUp(Cause::Attempts) => Fate::GivenUp,
-        Next::Again(_) => unreachable!(),
     }
 }

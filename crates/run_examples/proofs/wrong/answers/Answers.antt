@@ -4,7 +4,7 @@ use Rattle.span_model.specs.Identifiers.{first_valid}
 use Rattle.span_model.specs.Spans.{span}
 use Rattle.span_model.specs.Starts.{started_span, ids_of, ids_words}
 use Rattle.export_model.specs.Export.{groups, body_length}
-use Rattle.desk_model.specs.Retries.{Outcome}
+use Rattle.retry_model.specs.Retries.{Outcome}
 use Rattle.desk_model.specs.Desks.{desk_of}
 use Rattle.history_model.specs.Steps.{Step}
 use Rattle.history_model.specs.History.{start_results_behind}

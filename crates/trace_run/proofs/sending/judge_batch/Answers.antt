@@ -1,7 +1,6 @@
 use Rattle.std.proofs.Common.{refl, sym, ap, ◌∙◌, inl, inr}
-use Rattle.desk_model.specs.Retries.{fate_of}
-use Rattle.batch_desk.specs.Views.{fate_view}
-use Rattle.retry_core.specs.Retries.{next_view}
+use Rattle.retry_model.specs.Retries.{fate_of}
+use Rattle.retry_core.specs.Retries.{fate_view, next_view}
 use Rattle.trace_history.specs.declared.answer.Answer.TheVariants.{Replied}
 use Rattle.trace_run.proofs.sending.judge_batch.Goals as goal
 

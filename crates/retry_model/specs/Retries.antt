@@ -1,5 +1,5 @@
--- What an exporter answers to an attempt to send a batch, and what follows from it. (OTLP
--- Specification, OTLP/HTTP Response)
+-- What comes of an attempt to send a batch, and what follows from it. (OTLP Specification,
+-- OTLP/HTTP Response)
 use Rattle.std.specs.Prelude.{ℕ, ℤ, Option, Some, None}
 
 -- when another attempt is welcome: in so many seconds, or at a date, in seconds since 1970 (RFC

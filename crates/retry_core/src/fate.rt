@@ -1,3 +1,5 @@
+//! How a batch ends.
+
 /// How a batch that was handed to an exporter ended (OTLP Specification, "OTLP/HTTP Response").
 #[derive(Debug, Clone, Copy, PartialEq, Eq)]
 pub enum Fate {
