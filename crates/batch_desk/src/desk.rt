@@ -24,7 +24,7 @@ use std::marker::Model;
 /// The batch that is out: its number, how many spans it has, and whether it was handed to an
 /// exporter.
 #[derive(Clone, Copy, Debug)]
-struct OutBatch {
+struct TakenBatch {
     number: u64,
     size: u64,
     is_handed: bool,
@@ -38,7 +38,7 @@ pub struct Desk<A: Allocator = Global> {
     ring: SpanRing<SpanData<A>, A>,
     ledger: Ledger<A>,
     delay_ms: u32,
-    out: Option<OutBatch>,
+    out: Option<TakenBatch>,
     next_ticket: u64,
     taken: u64,
     asked: u64,
@@ -201,7 +201,7 @@ impl<A: Allocator> Desk<A> {
         self.taken += size;
         self.batches = number;
         self.last_moment = now;
-        self.out = Some(OutBatch {
+        self.out = Some(TakenBatch {
             number,
             size,
             is_handed: false,
@@ -257,7 +257,7 @@ impl<A: Allocator> Desk<A> {
     {
         let size = size_of(self.out);
         self.handed += size;
-        self.out = Some(OutBatch {
+        self.out = Some(TakenBatch {
             number,
             size,
             is_handed: true,
@@ -359,7 +359,7 @@ fn has_passed(since: u64, delay_ms: u32, now: u64) -> bool
 }
 
 /// How many spans the batch has that is out.
-fn size_of(out: Option<OutBatch>) -> u64
+fn size_of(out: Option<TakenBatch>) -> u64
     ensures { result ≡ out_size (option_map out_view out) }
 {
     out.map_or(0, |out| out.size)

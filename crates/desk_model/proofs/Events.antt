@@ -6,7 +6,7 @@ use Rattle.std.proofs.lemmas.List.Sums.{sum_by-append}
 use Rattle.span_model.specs.Spans.{EndedSpan}
 use Rattle.span_model.specs.Dropped.{Reason, Entry, entry_of, is_reason, count_of_reason}
 use Rattle.retry_model.specs.Retries.{Fate}
-use Rattle.desk_model.specs.Queue.{is_late, DeskEvent, queued, full, late, flush, shutdown, taken, handed, dropped, settled, popped, asks, asked_count, accepted_spans, queued_span, size_of_take, ticket_of, tickets, taken_count, waiting_spans, last_batch, last_spans, last_size, Stage, not_out, in_hand, with_exporter, stage, stage_by, stack_on, moment_of, last_moment, spans_handed_by, handed_spans, fate_by, fates, entries_by, drops, ledger_entries, ledger_steps_by, late_count, is_shutdown, is_closed}
+use Rattle.desk_model.specs.Queue.{is_late, DeskEvent, queued, full, late, flush, shutdown, taken, handed, dropped, settled, popped, asks, asked_count, accepted_spans, queued_span, size_of_take, ticket_of, tickets, taken_count, waiting_spans, last_batch, last_spans, last_size, Stage, not_out, in_hand, with_exporter, stage, stage_by, stack_on, moment_of_take, last_moment, spans_handed_by, handed_spans, fate_by, fates, entries_by, drops, ledger_entries, ledger_steps_by, late_count, is_shutdown, is_closed}
 use Rattle.desk_model.specs.Desks.{DeskConfig, Desk, DropCounts, FateCounts, drop_counts, with_drops, is_fate, fate_counts, with_fate, capped, out_as, desk_of, accepted_count, is_in_hand, is_with_exporter, handed_out, out_size, new_desk, Allowed, AreAllowed, IsDesk, Does, DropsSpans, TakesSpans}
 use Rattle.desk_model.proofs.Lists.{count-more, gather-more, stack-pushes, push_as, drop_as, one_as, plus_as, length_as, behind_as, length-as-is, length-behind, behind-is, pushed-behind, one-behind, sum-behind, last-behind}
 use Rattle.desk_model.proofs.Steps.{IsWithin, waiting-more, ledger-more, asked-more, shut-more, length-last, accepted-adds, last-taken, allowed-more, allowed-within}
@@ -111,7 +111,7 @@ shown_behind config made h x = record {
   batches = one_as (size_of_take x) (last_batch h);
   asked = if asks x then length (accepted_spans h) else asked_count h;
   closed = (is_shutdown x || list_any is_shutdown h) || (one_as (ticket_of x) (length (tickets h)) == 2 ^ 64 - 1);
-  last_moment = unwrap_or (moment_of x) (last_moment made h);
+  last_moment = unwrap_or (moment_of_take x) (last_moment made h);
   handed = length_as (spans_handed_by h x) (length (handed_spans h));
   late = capped (raised (is_late x) 1 (late_count h));
   dropped = drop_counts (behind_as (entries_by h x) (drops h));
@@ -131,7 +131,7 @@ module _ (config : DeskConfig) (made : ℕ) (h : List DeskEvent) where
     batches = (one-behind size_of_take h x) i;
     asked = (asked-more h x) i;
     closed = (shut-more h x) i || (one-behind ticket_of h x i == 2 ^ 64 - 1);
-    last_moment = last-behind moment_of h x made i;
+    last_moment = last-behind moment_of_take h x made i;
     handed = (ap length (gather-more spans_handed_by h x) ∙ length-behind (handed_spans h) (spans_handed_by h x)) i;
     late = capped ((count-more is_late h x ∙ raised-is (is_late x) 1 (late_count h)) i);
     dropped = drop_counts ((gather-more entries_by h x ∙ sym (behind-is (entries_by h x) (drops h))) i);

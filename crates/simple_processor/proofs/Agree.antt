@@ -11,7 +11,7 @@ use Rattle.span_exporter.specs.Handed.{Handed, Gains}
 use Rattle.account_book.specs.Accounts.{Replaces}
 use Rattle.account_book.proofs.Facts.{sum_replaced, length_replaced, gathered_replaced, each_at, each_map, each_replaced, part_replaced}
 use Rattle.simple_processor.specs.Accounts.{SpanEnd, PassAccount, Rises, all_dropped, all_handed, all_popped, all_tickets, dropped_entries, dropped_entry, handed_span, handed_spans, late_count, shutdown_count, ticket_of, tickets}
-use Rattle.simple_processor.specs.Bodies.{attempt_in, attempt_of, fates_of}
+use Rattle.simple_processor.specs.Bodies.{attempt_in, attempt_of_span, fates_of}
 use Rattle.simple_processor.specs.Desk.{State, ticket_count}
 use Rattle.simple_processor.specs.Holders.{Origin, Holder, account_in, on_pass, pass, pass_account, pass_accounts}
 use Rattle.simple_processor.specs.Kept.{Agrees, IsOf, IsShared, Kept, numbers_below}
@@ -37,7 +37,7 @@ pub record Step (told told' : Option (List Handed)) (s s' : State) (a b : PassAc
   pub late : b.late ≡ a.late + lates
   pub shutdowns : b.shutdowns ≡ a.shutdowns + shuts
   pub gains : Gains bodies told told'
-  pub sent : map attempt_of (filter_map handed_span es) ≡ map attempt_in bodies
+  pub sent : map attempt_of_span (filter_map handed_span es) ≡ map attempt_in bodies
   pub fates : (had : List Handed) → s.fates ≡ fate_counts (fates_of had) → s'.fates ≡ fate_counts (fates_of (had ++ bodies))
   pub handed : s'.handed ≡ s.handed + length (filter_map handed_span es)
   pub numbers : numbers_below (ticket_count s') ≡ numbers_below (ticket_count s) ++ map ticket_of es
@@ -119,7 +119,7 @@ module _ (had told told' : Option (List Handed)) (s s' : State) (old new : List 
   agrees_step = record {
     bodies = k.bodies ++ st.bodies;
     gains = gains_more k.bodies st.bodies had told told' k.gains st.gains;
-    sent = images_more attempt_of attempt_in (all_handed old) (all_handed new) (filter_map handed_span st.es) k.bodies st.bodies all_handed_is k.sent st.sent;
+    sent = images_more attempt_of_span attempt_in (all_handed old) (all_handed new) (filter_map handed_span st.es) k.bodies st.bodies all_handed_is k.sent st.sent;
     fates = st.fates k.bodies k.fates;
     handed = let e = count_is in let f = st.handed in let h = k.handed in omega arith;
     given_once = subst (λ (ns : List ℕ). IsPermutation (all_tickets new) ns) (sym st.numbers) (same_more (all_tickets old) (all_tickets new) (map ticket_of st.es) (numbers_below (ticket_count s)) all_tickets_is k.given_once);

@@ -12,7 +12,7 @@ use Rattle.batch_desk.specs.Counts.{fate_count}
 use Rattle.batch_desk.specs.Views.{drop_counts_view, fate_counts_view}
 use Rattle.batch_desk.specs.declared.totals.Totals.{Totals}
 use Rattle.span_exporter.specs.Handed.{Handed, Gains}
-use Rattle.simple_processor.specs.Bodies.{attempt_in, attempt_of}
+use Rattle.simple_processor.specs.Bodies.{attempt_in, attempt_of_span}
 
 -- The ledger, the newest entry first; how many spans were handed to the exporter, were dropped, and
 -- were late; whether none is admitted any more; and how the attempts ended.
@@ -66,7 +66,7 @@ pub record IsSent (told told' : Option (List Handed)) (span : EndedSpan) (outcom
     : Type 0 where
   pub body : Handed
   pub gains : Gains (body ∷ []) told told'
-  pub means : attempt_in body ≡ attempt_of span
+  pub means : attempt_in body ≡ attempt_of_span span
   pub answered : body.outcome ≡ outcome
 
 -- The span was handed to the exporter under the next ticket, and its attempt ended so.

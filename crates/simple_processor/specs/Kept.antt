@@ -5,7 +5,7 @@ use Rattle.span_model.specs.Dropped.{Entry}
 use Rattle.desk_model.specs.Desks.{capped, drop_counts, fate_counts}
 use Rattle.span_exporter.specs.Handed.{Handed, Gains}
 use Rattle.simple_processor.specs.Accounts.{PassAccount, Rises, all_dropped, all_handed, all_popped, all_tickets, late_count, shutdown_count, tickets}
-use Rattle.simple_processor.specs.Bodies.{attempt_in, attempt_of, fates_of}
+use Rattle.simple_processor.specs.Bodies.{attempt_in, attempt_of_span, fates_of}
 use Rattle.simple_processor.specs.Desk.{State, AreTotals, ticket_count}
 use Rattle.batch_desk.specs.declared.totals.Totals.{Totals}
 use Rattle.simple_processor.specs.Holders.{Origin, Holder, processor, pass, pass_accounts}
@@ -29,7 +29,7 @@ pub record Agrees (had told : Option (List Handed)) (s : State) (accounts : List
     : Type 0 where
   pub bodies : List Handed
   pub gains : Gains bodies had told
-  pub sent : IsPermutation (map attempt_of (all_handed accounts)) (map attempt_in bodies)
+  pub sent : IsPermutation (map attempt_of_span (all_handed accounts)) (map attempt_in bodies)
   pub fates : s.fates ≡ fate_counts (fates_of bodies)
   pub handed : s.handed ≡ length (all_handed accounts)
   pub given_once : IsPermutation (all_tickets accounts) (numbers_below (ticket_count s))
