@@ -7,14 +7,15 @@ ghost use Rattle.desk_model.specs.Desks.{Does, DropsSpans, IsDesk, TakesSpans, a
 ghost use Rattle.otlp_span.specs.Dropped.{entry_view, reason_view};
 ghost use Rattle.retry_core.specs.Retries.{fate_view};
 ghost use Rattle.batch_desk.specs.Desk.{IsOut, admission, admission_event, after_admission, after_drop, after_take, next_batch, out_state};
-ghost use Rattle.batch_desk.specs.Views.{config_view, drop_counts_view, fate_counts_view, out_view};
+ghost use Rattle.drop_ledger.specs.Counts.{drop_counts_view};
+ghost use Rattle.batch_desk.specs.Views.{config_view, fate_counts_view, out_view};
 
 use crate::admitted::Admitted;
 use crate::batch::Batch;
 use crate::config::DeskConfig;
 use crate::mark::Mark;
-use crate::totals::{DropCounts, FateCounts, Totals};
-use drop_ledger::Ledger;
+use crate::totals::{FateCounts, Totals};
+use drop_ledger::{DropCounts, Ledger};
 use otlp_span::{Entry, Reason, SpanData};
 use retry_core::Fate;
 use span_ring::{RingFault, Run, SpanRing};

@@ -1,13 +1,13 @@
 -- One more event: what a desk then shows.
-use Rattle.std.proofs.Common.{◌≡◌, refl, sym, ap, ◌∙◌, subst, ℕ, ◌+◌, ◌-◌, ◌^◌, ◌≤◌, min, arith, List, [], ◌∷◌, ◌++◌, length, take, drop, append_assoc, Bool, true, false, cond, ◌||◌, Some, None, length-drop, length-append}
-use Rattle.std.specs.Prelude.{◌==◌, if◌then◌else◌, sum}
+use Rattle.std.proofs.Common.{◌≡◌, refl, sym, ap, ◌∙◌, subst, ℕ, ◌+◌, ◌-◌, ◌≤◌, min, arith, List, [], ◌∷◌, ◌++◌, length, take, drop, append_assoc, Bool, true, false, cond, ◌||◌, Some, None, length-drop, length-append}
+use Rattle.std.specs.Prelude.{if◌then◌else◌, sum}
 use Rattle.std.specs.List.{list_any, filter_map}
 use Rattle.std.proofs.lemmas.List.{append-nil, drop-append-le, drop-drop}
 use Rattle.span_model.specs.Attributes.{last_or}
 use Rattle.span_model.specs.Spans.{EndedSpan}
-use Rattle.desk_model.specs.Queue.{DeskEvent, queued, full, late, flush, shutdown, taken, handed, dropped, settled, popped, gather, ticket_of, tickets, queued_span, accepted_spans, size_of_take, batch_sizes, taken_count, waiting_spans, last_batch, last_spans, last_size, Stage, not_out, in_hand, stage_by, stage, moment_of_take, last_moment, spans_handed_by, handed_spans, fate_by, fates, entries_by, drops, stack_on, ledger_steps_by, ledger_entries, is_late, late_count, asks, marks_by, asked_count, is_shutdown, is_closed}
-use Rattle.desk_model.specs.Desks.{DeskConfig, out_as, desk_of, Allowed, AreAllowedBehind, AreAllowed}
-use Rattle.desk_model.proofs.Lists.{none-more, some-more, last-more, any-more, count-more, sum-more, gather-more, stack-append, push_as, drop_as, pushed-behind, drop-behind, last_slice, last-slice-stays, last-slice-more, length-last-slice}
+use Rattle.desk_model.specs.Queue.{DeskEvent, queued, full, late, flush, shutdown, taken, handed, dropped, settled, popped, gather, ticket_of, tickets, queued_span, accepted_spans, size_of_take, batch_sizes, taken_count, waiting_spans, last_batch, last_spans, last_size, Stage, not_out, stage_by, stage, spans_handed_by, handed_spans, entries_by, drops, stack_on, ledger_steps_by, ledger_entries, asks, marks_by, asked_count, is_shutdown}
+use Rattle.desk_model.specs.Desks.{DeskConfig, desk_of, Allowed, AreAllowedBehind, AreAllowed}
+use Rattle.desk_model.proofs.Lists.{none-more, some-more, last-more, any-more, sum-more, gather-more, stack-append, push_as, drop_as, pushed-behind, drop-behind, last_slice, last-slice-stays, last-slice-more, length-last-slice}
 
 -- ---- what an event leaves as it was
 

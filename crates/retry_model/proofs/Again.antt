@@ -3,7 +3,7 @@ use Rattle.std.proofs.Common.{◌≡◌, refl, ℕ, ◌+◌, ◌<◌, nat_lt, mi
 use Rattle.std.specs.Prelude.{if◌then◌else◌}
 use Rattle.std.specs.Option.{option_map_or}
 use Rattle.std.proofs.lemmas.Bool.{ltb-true}
-use Rattle.retry_model.specs.Retries.{Outcome, Next, again, next_of}
+use Rattle.retry_model.specs.Retries.{Outcome, again, next_of}
 use Rattle.retry_model.specs.Waits.{RetryConfig, retried, next_after, wait_ns, greatest_moment}
 
 never-again : (outcome : Outcome) (moment : ℕ) → next_of outcome ≡ again moment → ⊥

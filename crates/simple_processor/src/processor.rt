@@ -3,7 +3,8 @@ ghost use Rattle.std.specs.Prelude.{◌≡◌, ◌-◌, ◌^◌, ◌<◌, ◌≤
 ghost use Rattle.std.specs.List.{AllByRecursion};
 ghost use Rattle.span_exporter.specs.Handed.{Gains};
 ghost use Rattle.desk_model.specs.Desks.{capped, drop_counts, fate_counts};
-ghost use Rattle.batch_desk.specs.Views.{drop_counts_view, fate_counts_view};
+ghost use Rattle.drop_ledger.specs.Counts.{drop_counts_view};
+ghost use Rattle.batch_desk.specs.Views.{fate_counts_view};
 ghost use Rattle.simple_processor.specs.Accounts.{PassAccount, Rises, all_dropped, all_handed, all_popped, all_tickets, late_count, new_account, shutdown_count, tickets};
 ghost use Rattle.simple_processor.specs.Bodies.{attempt_in, attempt_of_span, fates_of, told_since};
 ghost use Rattle.simple_processor.specs.Holders.{pass};

@@ -32,10 +32,7 @@ impl<A: Allocator> ListedOutcomes<A> {
     pub(crate) fn new(outcomes: Vec<Outcome, A>) -> ListedOutcomes<A>
         ensures { result ≡ map outcome_view outcomes.items }
     {
-        ListedOutcomes {
-            outcomes,
-            given: 0,
-        }
+        ListedOutcomes { outcomes, given: 0 }
     }
 
     /// The next outcome.
