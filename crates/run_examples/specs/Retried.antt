@@ -3,7 +3,7 @@
 use Rattle.std.specs.Prelude.{ℕ, List, [], ◌∷◌, ◌++◌, Option, Some, map}
 use Rattle.std.specs.List.{range_with_len}
 use Rattle.span_model.specs.Spans.{EndedSpan}
-use Rattle.desk_model.specs.Retries.{Outcome, Next, later, seconds, again}
+use Rattle.retry_model.specs.Retries.{Outcome, Next, later, seconds, again}
 use Rattle.desk_model.specs.Queue.{DeskEvent, handed_spans}
 use Rattle.desk_model.specs.Desks.{Desk}
 use Rattle.desk_laws.specs.Queues.{places, times}

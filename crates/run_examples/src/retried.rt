@@ -3,7 +3,7 @@
 //! out from its take to the reply to its second attempt, and its span is handed over once.
 
 ghost use Rattle.std.specs.Prelude.{◌≡◌, [], ◌∷◌, Some, true};
-ghost use Rattle.desk_model.specs.Retries.{Outcome, Fate};
+ghost use Rattle.retry_model.specs.Retries.{Outcome, Fate};
 ghost use Rattle.desk_model.specs.Queue as desk;
 ghost use Rattle.run_model.specs.Answers.{to_retry, AreAnswers};
 ghost use Rattle.run_model.specs.Headline.{EachOnce, attempts};
