@@ -29,6 +29,9 @@ use std::sync::{Arc, Mutex, Wait};
 /// The most passes that a processor may have (profile).
 pub const MAX_PASSES: usize = 64;
 
+// No clause says the number itself.
+const _: () = prove!(MAX_PASSES == 64);
+
 /// A simple processor (Trace SDK, "Simple processor"): an exporter that threads share under a lock,
 /// each by a pass of its own. In contracts it is what it began with: how many passes it has, and
 /// what its exporter told before.
