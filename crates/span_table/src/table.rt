@@ -30,6 +30,7 @@ use trace_history::{Answer, Parent};
 /// span (Trace API, "Span Creation", "Span operations"). It takes the steps that are for spans, and
 /// answers each.
 #[derive(Drop)]
+#[derive_where(Debug; S, R)]
 pub struct SpanTable<'a, S: Sampler, R: Rng, A: Allocator + Copy = Global> {
     alloc: A,
     tracers: Vec<Tracer<'a, S, A>, A>,
