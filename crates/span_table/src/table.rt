@@ -52,14 +52,12 @@ impl<'a, S: Sampler, R: Rng, A: Allocator + Copy> Model for SpanTable<'a, S, R, 
     } };
 }
 
-/// Writes all but the allocator.
-impl<S: Sampler + fmt::Debug, R: Rng + fmt::Debug, A: Allocator + Copy> fmt::Debug
-    for SpanTable<'_, S, R, A> {
+/// Writes how many tracers and spans there are.
+impl<S: Sampler, R: Rng, A: Allocator + Copy> fmt::Debug for SpanTable<'_, S, R, A> {
     fn fmt<W: fmt::Write>(&self, f: &mut fmt::Formatter<W>) -> fmt::Result {
         f.debug_struct("SpanTable")
-            .field("tracers", &self.tracers)
-            .field("rng", &self.rng)
-            .field("spans", &self.spans)
+            .field("tracers", &self.tracers.len())
+            .field("spans", &self.spans.len())
             .finish_non_exhaustive()
     }
 }
