@@ -1,5 +1,5 @@
 -- Lists with one more element at their end: what is gathered of them, counted in them and cut from them.
-use Rattle.std.proofs.Common.{◌≡◌, refl, sym, ap, ◌∙◌, ℕ, zero, suc, ◌+◌, ◌-◌, ◌<◌, ◌≤◌, arith, List, [], ◌∷◌, ◌++◌, length, take, drop, append_assoc, Bool, true, false, cond, ◌||◌, Option, Some, None, slice_get, length-drop, length-append}
+use Rattle.std.proofs.Common.{◌≡◌, refl, sym, ap, ◌∙◌, ℕ, zero, suc, ◌+◌, ◌<◌, ◌≤◌, arith, List, [], ◌∷◌, ◌++◌, length, take, drop, append_assoc, Bool, true, false, cond, ◌||◌, Option, Some, None, slice_get, length-drop, length-append}
 use Rattle.std.specs.Prelude.{unwrap_or, sum, count_by, filter_map, map, reverse}
 use Rattle.std.specs.List.{cons_option, list_any}
 use Rattle.std.proofs.lemmas.List.{append-nil, drop-append-le, take-append-le, drop-drop, length-take-le, reverse-append}
@@ -174,23 +174,23 @@ slice-stays ns ms xs ys i w l = ap (λ ss. slice_get ss i) (slices-append ns ms 
 
 -- the last slice
 abbrev pub last_slice : {A : Type 0} → List ℕ → List A → List A
-last_slice ns xs = unwrap_or (slice_get (slices ns xs) (length ns - 1)) []
+last_slice ns xs = unwrap_or (slice_get ([] ∷ slices ns xs) (length ns)) []
 
 pub last-slice-stays : {A : Type 0} (ns : List ℕ) (xs ys : List A) → sum ns ≤ length xs → last_slice ns (xs ++ ys) ≡ last_slice ns xs
 last-slice-stays [] xs ys w = refl
 last-slice-stays (n ∷ ns) xs ys w =
-    ap (λ ms. unwrap_or (slice_get (slices ms (xs ++ ys)) (length (n ∷ ns) - 1)) []) (sym (append-nil (n ∷ ns)))
-    ∙ ap (λ o. unwrap_or o []) (slice-stays (n ∷ ns) [] xs ys (length (n ∷ ns) - 1) w (omega arith))
+    ap (λ ms. unwrap_or (slice_get (slices ms (xs ++ ys)) (length ns)) []) (sym (append-nil (n ∷ ns)))
+    ∙ ap (λ o. unwrap_or o []) (slice-stays (n ∷ ns) [] xs ys (length ns) w (omega arith))
 
 -- one more slice has the first of what was behind the others
 pub last-slice-more : {A : Type 0} (ns : List ℕ) (n : ℕ) (xs : List A) → sum ns ≤ length xs → last_slice (ns ++ n ∷ []) xs ≡ take n (drop (sum ns) xs)
-last-slice-more ns n xs w =
-    let l : length (ns ++ n ∷ []) ≡ length ns + 1 = length-append ns (n ∷ []) in
-    let i : length (ns ++ n ∷ []) - 1 ≡ length (slices ns xs) = omega (arith, l, length-slices ns xs) in
-    ap (λ ys. unwrap_or (slice_get (slices (ns ++ n ∷ []) ys) (length (ns ++ n ∷ []) - 1)) []) (sym (append-nil xs))
-    ∙ ap (λ ss. unwrap_or (slice_get ss (length (ns ++ n ∷ []) - 1)) []) (slices-append ns (n ∷ []) xs [] w)
-    ∙ ap (λ o. unwrap_or o []) (get-at (slices ns xs) (take n (drop (sum ns) (xs ++ []))) (length (ns ++ n ∷ []) - 1) i)
-    ∙ ap (λ ys. take n (drop (sum ns) ys)) (append-nil xs)
+last-slice-more {A = A} ns n xs w =
+    let l : length (ns ++ n ∷ []) ≡ suc (length (slices ns xs)) = length-append ns (n ∷ []) ∙ (let i : length ns + 1 ≡ suc (length (slices ns xs)) = omega (arith, length-slices ns xs) in i) in
+    ap (λ (k : ℕ). unwrap_or (slice_get ([] ∷ slices (ns ++ n ∷ []) xs) k) []) l
+    ∙ ap (λ (ys : List A). unwrap_or (slice_get (slices (ns ++ n ∷ []) ys) (length (slices ns xs))) []) (sym (append-nil xs))
+    ∙ ap (λ ss. unwrap_or (slice_get ss (length (slices ns xs))) []) (slices-append ns (n ∷ []) xs [] w)
+    ∙ ap (λ o. unwrap_or o []) (get-at (slices ns xs) (take n (drop (sum ns) (xs ++ []))) (length (slices ns xs)) refl)
+    ∙ ap (λ (ys : List A). take n (drop (sum ns) ys)) (append-nil xs)
 
 length-slice-at : {A : Type 0} (ns : List ℕ) (xs : List A) (d i : ℕ) → sum ns ≤ length xs → length ns ≡ suc i → length (unwrap_or (slice_get (slices ns xs) i) []) ≡ last_or d ns
 length-slice-at [] xs d i w e = absurd (omega (arith, e))
@@ -201,4 +201,4 @@ length-slice-at (n ∷ m ∷ ns) xs d (suc i) w e = length-slice-at (m ∷ ns) (
 
 pub length-last-slice : {A : Type 0} (ns : List ℕ) (xs : List A) → sum ns ≤ length xs → length (last_slice ns xs) ≡ last_or 0 ns
 length-last-slice [] xs w = refl
-length-last-slice (n ∷ ns) xs w = length-slice-at (n ∷ ns) xs 0 (length (n ∷ ns) - 1) w (omega arith)
+length-last-slice (n ∷ ns) xs w = length-slice-at (n ∷ ns) xs 0 (length ns) w refl

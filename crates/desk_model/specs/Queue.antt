@@ -75,10 +75,10 @@ slices [] xs = []
 slices (n ∷ ns) xs = take n xs ∷ slices ns (drop n xs)
 
 -- the spans of the batch with this number, from 1 on: of those accepted, the slice behind the
--- batches before
+-- batches before; none for a number that no batch has, as 0
 abbrev pub batch_spans : List DeskEvent → ℕ → List EndedSpan
 batch_spans events number =
-    unwrap_or (slice_get (slices (batch_sizes events) (accepted_spans events)) (number - 1)) []
+    unwrap_or (slice_get ([] ∷ slices (batch_sizes events) (accepted_spans events)) number) []
 
 -- the number of the last batch, or 0
 abbrev pub last_batch : List DeskEvent → ℕ

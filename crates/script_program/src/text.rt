@@ -20,8 +20,8 @@ use trace_history::Step;
 use trace_run::{RunConfig, RunReport, run};
 use words_rng::WordsRng;
 
-/// Runs the steps of a script over an exporter that gives the script's outcomes. The text has a
-/// line for each step, and the report behind them. Then the run is closed.
+/// Runs the steps of a script over an exporter with the script's outcomes. The text has a line for
+/// each step, and the report behind them. Then the run is closed.
 pub fn text_of_script<A: Allocator + Copy>(
     alloc: A,
     script: Script<A>,

@@ -11,7 +11,7 @@ use Rattle.history_model.specs.History.{start_results_behind}
 use Rattle.run_model.specs.Runs.{Answer, taken, not_taken, encoded, sent, nothing, out_of_memory, ended_by, desk_events}
 use Rattle.run_model.specs.Answers.{progress, desk_after, IsAnswer, AreAnswers}
 use Rattle.run_examples.specs.Worked.{queue_of, worked, told, ends, queued, full, late}
-use Rattle.run_examples.proofs.Histories.{answer-at}
+use Rattle.run_model.proofs.More.{answer-at}
 use Rattle.run_examples.proofs.wrong.answers.Goals as goal
 
 -- the wrong answer at a place is right behind the steps before it
