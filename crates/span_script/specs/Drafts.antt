@@ -34,16 +34,27 @@ scope_draft x = (with_attributes [] x, attribute_list all_kept x.attributes)
 abbrev pub finished_scope : spans.Scope × AttributeList → spans.Scope
 finished_scope (x, list) = with_attributes list.kept.items x
 
+-- the words, the sampler, the limits and the sizes
+abbrev pub HoldsSettings : {A : Type 0} → Draft A → Script → Type 0
+HoldsSettings d s =
+    (d.words.items ≡ s.words) × (d.sampler ≡ s.sampler)
+    × (option_map limits_view d.limits ≡ s.limits) × (option_map config_view d.desk ≡ s.desk)
+
+-- the resource and the scopes
+abbrev pub HoldsAttributes : {A : Type 0} → Draft A → Script → Type 0
+HoldsAttributes d s =
+    (d.resource.limits ≡ all_kept) × (d.resource.kept ≡ attributes all_kept s.resource)
+    × (map scope_draft_view d.scopes.items ≡ map scope_draft s.scopes)
+
+-- the outcomes and the steps
+abbrev pub HoldsSteps : {A : Type 0} → Draft A → Script → Type 0
+HoldsSteps d s =
+    (map outcome_view d.outcomes.items ≡ s.outcomes) × (map step_view d.steps.items ≡ s.steps)
+
 pub record Holds {A : Type 0} (d : Draft A) (s : Script) : Type 0 where
-  pub words : d.words.items ≡ s.words
-  pub sampler : d.sampler ≡ s.sampler
-  pub limits : option_map limits_view d.limits ≡ s.limits
-  pub desk : option_map config_view d.desk ≡ s.desk
-  pub resource_limits : d.resource.limits ≡ all_kept
-  pub resource : d.resource.kept ≡ attributes all_kept s.resource
-  pub scopes : map scope_draft_view d.scopes.items ≡ map scope_draft s.scopes
-  pub outcomes : map outcome_view d.outcomes.items ≡ s.outcomes
-  pub steps : map step_view d.steps.items ≡ s.steps
+  pub settings : HoldsSettings d s
+  pub attributes : HoldsAttributes d s
+  pub steps : HoldsSteps d s
 
 -- ---- how a draft goes on: `proofs/Together` has that it comes to what the lines are together
 

@@ -109,22 +109,30 @@ unfoldable pub resource_line : List (List ℕ) → Option Line
 resource_line (key ∷ value ∷ []) = option_map resource (pair_of key value)
 resource_line _ = None
 
--- `scope N NAME VERSION SCHEMA`
-unfoldable pub scope_line : List (List ℕ) → Option Line
-scope_line (number ∷ name ∷ version ∷ schema ∷ []) = do
+-- a scope without attributes, under its number
+unfoldable pub scope_line_of : List ℕ → List ℕ → List ℕ → List ℕ → Option Line
+scope_line_of number name version schema = do
   n ← number_below (2 ^ 32) number
   t ← text_of name
   v ← text_of version
   s ← text_of schema
   Some (scope n (record { name = t; version = v; attributes = []; schema = s }))
+
+-- `scope N NAME VERSION SCHEMA`
+unfoldable pub scope_line : List (List ℕ) → Option Line
+scope_line (number ∷ name ∷ version ∷ schema ∷ []) = scope_line_of number name version schema
 scope_line _ = None
 
--- `sattr N KEY VALUE`
-unfoldable pub scope_attribute_line : List (List ℕ) → Option Line
-scope_attribute_line (number ∷ key ∷ value ∷ []) = do
+-- an attribute of the scope with this number
+unfoldable pub scope_attribute_line_of : List ℕ → List ℕ → List ℕ → Option Line
+scope_attribute_line_of number key value = do
   n ← number_below (2 ^ 32) number
   p ← pair_of key value
   Some (scope_attribute n p)
+
+-- `sattr N KEY VALUE`
+unfoldable pub scope_attribute_line : List (List ℕ) → Option Line
+scope_attribute_line (number ∷ key ∷ value ∷ []) = scope_attribute_line_of number key value
 scope_attribute_line _ = None
 
 -- a number from 1 on, up to the greatest that may stand there

@@ -28,11 +28,14 @@ pub(crate) fn parse_outcome(words: &[&[u8]]) -> Result<Outcome, WordFault>
 fn parse_plain_outcome(name: &[u8]) -> Result<Outcome, WordFault>
     ensures { Gives outcome_view result (plain_outcome_of name.now) }
 {
-    match name {
-        b"delivered" => Ok(Outcome::Delivered),
-        b"none" => Ok(Outcome::NoReply),
-        b"bad" => Ok(Outcome::Bad),
-        _ => Err(WordFault::Bad),
+    if name == b"delivered".as_slice() {
+        Ok(Outcome::Delivered)
+    } else if name == b"none".as_slice() {
+        Ok(Outcome::NoReply)
+    } else if name == b"bad".as_slice() {
+        Ok(Outcome::Bad)
+    } else {
+        Err(WordFault::Bad)
     }
 }
 
