@@ -1,6 +1,5 @@
 -- The replies of the examples, and the lack of them. (RFC 9112, sections 2 to 6)
-use Rattle.std.specs.Prelude.{ℕ, List, [], ◌∷◌, ◌++◌, replicate, codes, Option, Some, Result}
-use Rattle.std.specs.List.{concat}
+use Rattle.std.specs.Prelude.{ℕ, List, [], ◌∷◌, codes, Option, Some, Result}
 use Rattle.retry_core.specs.declared.outcome.RetryAfter.{RetryAfter}
 use Rattle.otlp_http.specs.declared.fault.HttpFault.{HttpFault}
 use Rattle.otlp_http.specs.declared.limits.HeadLimits.{HeadLimits}

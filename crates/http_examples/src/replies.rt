@@ -1,6 +1,6 @@
-//! Bytes that are a reply, and bytes that are none (RFC 9112, sections 2 to 6; the limits: profile).
+//! Bytes that are a reply, and bytes that are none (RFC 9112, sections 2 to 6; limits: profile).
 
-ghost use Rattle.std.specs.Prelude.{◌≡◌, ◌∷◌, ◌++◌, [], codes, replicate, Err, None, Ok, Some};
+ghost use Rattle.std.specs.Prelude.{◌++◌, [], codes, replicate, Err, None, Ok, Some};
 ghost use Rattle.std.specs.List.{concat};
 ghost use Rattle.retry_core.specs.declared.outcome.RetryAfter.TheVariants.{Seconds};
 ghost use Rattle.otlp_http.specs.declared.fault.HttpFault.TheVariants as faults;

@@ -1,5 +1,5 @@
 -- Bytes mean one thing.
-use Rattle.std.proofs.Common.{◌≡◌, ◌≢◌, ℕ, ◌<◌, ◌≤◌, List, ◌++◌, length, refl, sym, ap, ◌∙◌, subst, arith, append_assoc, inl, inr, ◌⊎◌, Some, Result, Ok, Err}
+use Rattle.std.proofs.Common.{◌≡◌, ◌≢◌, ℕ, ◌<◌, List, ◌++◌, length, refl, sym, ap, ◌∙◌, subst, arith, append_assoc, inl, inr, ◌⊎◌, Some, Ok, Err}
 use Rattle.std.specs.Prelude.{All, codes}
 use Rattle.std.specs.List.{flat_map}
 use Rattle.httparse.specs.Grammar.{ResponseHead, print_response, status_code, IsResponseHead}
@@ -10,12 +10,12 @@ use Rattle.otlp_http.specs.declared.fault.HttpFault.TheVariants as faults
 use Rattle.otlp_http.specs.declared.limits.HeadLimits.{HeadLimits}
 use Rattle.otlp_http.specs.Bodies.{framing_of, IsBody}
 use Rattle.otlp_http.specs.Fields.{fields_of, values_of, IsTaken, retry_after}
-use Rattle.otlp_http.specs.Heads.{ComesAfter, IsHeadText, IsInterimStatus, LacksHead}
+use Rattle.otlp_http.specs.Heads.{ComesAfter, IsHeadText, IsInterimStatus}
 use Rattle.otlp_http.specs.Replies.{HttpReply, IsReply, RefusesHead, HasNoReply}
-use Rattle.http_laws.specs.Meanings.{IsMeaning, HasManyFields, BytesMeanOneReply, BytesMeanOneFault}
+use Rattle.http_laws.specs.Meanings.{BytesMeanOneReply, BytesMeanOneFault}
 use Rattle.http_laws.proofs.Lacks.{Lack, lack_of, many, lacks_not, lacks_one}
 use Rattle.http_laws.proofs.BodiesAgree.{body_one}
-use Rattle.http_laws.proofs.Interims.{Stands, Aligned, same, first, second, align}
+use Rattle.http_laws.proofs.Interims.{Stands, same, first, second, align}
 
 -- what stands behind the interim heads
 comes : (limits : HeadLimits) (bytes left : List ℕ) (interims : List ResponseHead) (text : List ℕ) → ComesAfter limits (Some bytes) (Some left) interims text

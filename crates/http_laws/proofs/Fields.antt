@@ -1,11 +1,10 @@
 -- A head with too many fields is not one with fewer.
-use Rattle.std.proofs.Common.{◌≡◌, ℕ, ◌<◌, ◌≤◌, List, [], ◌∷◌, ◌++◌, length, refl, sym, ap, ◌∙◌, subst, arith, append_assoc, append-nil, length-append, Option}
+use Rattle.std.proofs.Common.{◌≡◌, ℕ, ◌≤◌, List, [], ◌∷◌, ◌++◌, length, refl, sym, ap, ◌∙◌, subst, arith, append_assoc, append-nil, length-append, Option}
 use Rattle.std.specs.Prelude.{⊤}
 use Rattle.std.specs.List.{flat_map}
 use Rattle.std.specs.Char.{is_ascii_digit}
 use Rattle.std.proofs.lemmas.List.{append_cancel_right}
-use Rattle.httparse.specs.Grammar.{LineEnd, crlf, lf, print_end, print_blank, print_version, Field, print_field, ResponseHead, IsResponseHead, print_response, print_reason, ReadsResponse, AllPass}
-use Rattle.httparse.specs.Lines.{code_digits}
+use Rattle.httparse.specs.Grammar.{LineEnd, crlf, lf, print_end, print_blank, print_version, print_field, ResponseHead, IsResponseHead, print_response, print_reason, ReadsResponse, AllPass}
 use Rattle.httparse.specs.Pieces.{Code, ResponseStart}
 use Rattle.httparse.specs.Spans.{ResponseExceeds}
 use Rattle.httparse.proofs.PieceLemmas.{ResponseStart_deterministic, Section_skip}

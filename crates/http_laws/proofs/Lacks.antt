@@ -1,5 +1,5 @@
 -- Why no head came, and that none then stands there.
-use Rattle.std.proofs.Common.{◌≡◌, ◌≢◌, ℕ, ◌+◌, ◌<◌, ◌≤◌, List, [], ◌∷◌, ◌++◌, length, refl, sym, ap, ◌∙◌, subst, arith, append-nil, append_assoc, length-append, inl, inr, Some}
+use Rattle.std.proofs.Common.{◌≡◌, ◌≢◌, ℕ, ◌+◌, ◌<◌, ◌≤◌, List, [], ◌∷◌, ◌++◌, length, refl, sym, ap, ◌∙◌, arith, append-nil, append_assoc, length-append, inl, inr, Some}
 use Rattle.httparse.specs.Grammar.{ResponseHead, print_response, NeverHasResponse}
 use Rattle.httparse.specs.Spans.{ResponseExceeds}
 use Rattle.otlp_http.specs.declared.fault.HttpFault.{HttpFault}

@@ -1,4 +1,5 @@
--- Bytes mean one reply, or have one fault in its place. (RFC 9112, sections 2 to 6; limits: profile)
+-- Bytes mean one reply, or have one fault in its place. (RFC 9112, sections 2 to 6; limits:
+-- profile)
 use Rattle.std.specs.Prelude.{◌≡◌, ℕ, List, ◌++◌, All, Some, Result, Ok, Err}
 use Rattle.std.specs.List.{flat_map}
 use Rattle.httparse.specs.Grammar.{ResponseHead, print_response}

@@ -148,4 +148,6 @@ fn a_processor_has_1_to_64_passes(rt: HostRuntime) {
         let count = count_passes::<Brand, HostRuntime>(rt, rt.alloc(), blank, passes);
         assert_eq!(rt; count, want);
     }
+    let told = format!(in rt.alloc(); "{}", SimpleFault::BadPasses).expect(&rt, "memory");
+    assert_eq!(rt; told.as_str(), "a processor has 1 to 64 passes");
 }

@@ -1,4 +1,4 @@
-use Rattle.std.proofs.Common.{◌≡◌, [], ◌∷◌, ◌++◌, refl, arith, codes, Some, None}
+use Rattle.std.proofs.Common.{[], ◌∷◌, refl, arith, codes, Some, None}
 use Rattle.std.proofs.lemmas.List.Elements.{All-cons, All-nil}
 use Rattle.httparse.specs.Grammar.{crlf, lf, ResponseHead}
 use Rattle.httparse.proofs.OnLiterals.{httparse_on_literals}

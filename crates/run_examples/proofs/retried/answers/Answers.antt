@@ -1,6 +1,6 @@
 use Rattle.std.proofs.Common.{◌≡◌, [], ◌∷◌, map, refl, subst}
 use Rattle.run_model.specs.Answers.{AreAnswers}
-use Rattle.run_examples.specs.Worked.{queue_of, history_behind}
+use Rattle.run_examples.specs.Worked.{queue_of}
 use Rattle.run_examples.specs.Retried.{busy, retried, retried_history}
 use Rattle.run_examples.proofs.Histories.{history-behind-right}
 use Rattle.run_examples.proofs.retried.answers.Goals as goal
