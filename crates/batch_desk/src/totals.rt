@@ -67,6 +67,24 @@ pub struct FateCounts {
     pub abandoned: u64,
 }
 
+impl Default for FateCounts {
+    ghost use Rattle.std.specs.Prelude.{◌≡◌};
+
+    ghost is_default = { λ counts. counts ≡ record {
+      delivered = 0;
+      partial = 0;
+      refused = 0;
+      bad_reply = 0;
+      given_up = 0;
+      abandoned = 0;
+    } };
+
+    /// As `FateCounts::new`: none in any way.
+    fn default() -> FateCounts {
+        FateCounts::new()
+    }
+}
+
 impl FateCounts {
     /// None in any way.
     pub fn new() -> FateCounts

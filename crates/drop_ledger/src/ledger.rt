@@ -31,6 +31,17 @@ impl<A: Allocator> Model for Ledger<A> {
     ghost invariant = { λ l. IsLedger l.newest l.len l.counts };
 }
 
+impl<A: Allocator> Default for Ledger<A> {
+    ghost use Rattle.std.specs.Prelude.{◌≡◌, []};
+
+    ghost is_default = { λ ledger. ledger ≡ [] };
+
+    /// As `Ledger::new`: no names.
+    fn default() -> Ledger<A> {
+        Ledger::new()
+    }
+}
+
 impl<A: Allocator> Ledger<A> {
     /// No names.
     pub fn new() -> Ledger<A>

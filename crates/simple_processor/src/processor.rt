@@ -21,6 +21,7 @@ use batch_desk::Totals;
 use drop_ledger::Ledger;
 use span_exporter::Exporter;
 use std::alloc::{AllocError, Allocator, Global};
+use std::fmt;
 use std::marker::Model;
 use std::snapshot::Snapshot;
 use std::sync::{Arc, Mutex, Wait};
@@ -51,8 +52,18 @@ impl<J: Naming, E: Exporter, R, A: Allocator> Model for SimpleProcessor<J, E, R,
         × (p.passes ≡ (origin_in p.account).passes) };
 }
 
+/// Writes how many passes there are. What lies under the lock isn't looked at.
+impl<J: Naming, E: Exporter, R, A: Allocator> fmt::Debug for SimpleProcessor<J, E, R, A> {
+    fn fmt<W: fmt::Write>(&self, f: &mut fmt::Formatter<W>) -> fmt::Result {
+        f.debug_struct("SimpleProcessor")
+            .field("passes", &self.passes)
+            .finish_non_exhaustive()
+    }
+}
+
 /// A new processor, and its passes.
 #[derive(Drop)]
+#[derive_where(Debug)]
 pub struct SimpleParts<J: Naming, E: Exporter, R, A: Allocator = Global> {
     /// The processor.
     pub processor: SimpleProcessor<J, E, R, A>,
@@ -62,6 +73,7 @@ pub struct SimpleParts<J: Naming, E: Exporter, R, A: Allocator = Global> {
 
 /// What a processor comes to.
 #[derive(Drop)]
+#[derive_where(Debug; E)]
 pub struct SimpleAccounts<E, A: Allocator = Global> {
     /// The exporter.
     pub exporter: E,
@@ -74,6 +86,7 @@ pub struct SimpleAccounts<E, A: Allocator = Global> {
 
 /// A pass is missing: all that was to be closed out.
 #[derive(Drop)]
+#[derive_where(Debug)]
 pub struct SimpleMissing<J: Naming, E: Exporter, R, A: Allocator = Global> {
     /// The processor, as it was.
     pub processor: SimpleProcessor<J, E, R, A>,
