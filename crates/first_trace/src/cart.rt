@@ -1,13 +1,12 @@
 //! The spans of a request for a cart.
 use anyhow::Result;
-use otlp_sampler::{AlwaysOn, ParentBased};
-use otlp_span::{Kind, Resource, Scope, SpanLimits, Status};
-use otlp_value::Value;
 use rand::Rng;
 use std::alloc::Global;
 use std::sync::Arc;
 use std::time::{Clock, SystemTime, UNIX_EPOCH};
-use trace_api::{BodyPass, Provider};
+use trace_kit::trace::{
+    AlwaysOn, BodyPass, Kind, ParentBased, Provider, Resource, Scope, SpanLimits, Status, Value,
+};
 
 /// The moment that the clock tells, in nanoseconds since 1970.
 fn now(clock: &impl Clock) -> Result<u64> {
@@ -15,30 +14,19 @@ fn now(clock: &impl Clock) -> Result<u64> {
     Ok(u64::try_from(since.as_nanos())?)
 }
 
-/// What a text says, as the value of an attribute.
-fn text(alloc: Global, text: &str) -> Result<Value> {
-    Ok(Value::Text(text.to_string(alloc)?))
-}
-
 /// Traces a request for a cart and the query that it makes, and keeps both spans.
 pub fn trace_request(alloc: Global, clock: &impl Clock, rng: &mut impl Rng) -> Result<BodyPass> {
     // A provider knows what makes the spans, which are recorded, and how much they keep.
-    let service = ("service.name".to_string(alloc)?, text(alloc, "shop")?);
-    let resource = Resource {
-        attributes: vec![in alloc; service]?,
-        schema_url: String::new(alloc),
-    };
-    let resource = Arc::new(alloc, resource)?;
+    let service = (
+        "service.name".to_string(alloc)?,
+        Value::text(alloc, "shop")?,
+    );
+    let resource = Arc::new(alloc, Resource::new(alloc, vec![in alloc; service]?))?;
     let provider = Provider::new(ParentBased::new(AlwaysOn), resource, SpanLimits::default());
 
     // A tracer starts the spans of one part of the program.
-    let scope = Scope {
-        name: "checkout".to_string(alloc)?,
-        version: String::new(alloc),
-        attributes: Vec::new(alloc),
-        schema_url: String::new(alloc),
-    };
-    let tracer = provider.tracer(Arc::new(alloc, scope)?);
+    let scope = Arc::new(alloc, Scope::named(alloc, "checkout")?)?;
+    let tracer = provider.tracer(scope);
 
     // Spans go to a pass when they end. This one keeps up to 16 of them.
     let mut pass = BodyPass::new(alloc, 16)?;
@@ -46,7 +34,10 @@ pub fn trace_request(alloc: Global, clock: &impl Clock, rng: &mut impl Rng) -> R
     // A span without a parent begins a trace.
     let at = now(clock)?;
     let mut request = tracer.start_copied(alloc, rng, None, "GET /cart", Kind::Server, at)?;
-    request.set_attribute("http.request.method".to_string(alloc)?, text(alloc, "GET")?)?;
+    request.set_attribute(
+        "http.request.method".to_string(alloc)?,
+        Value::text(alloc, "GET")?,
+    )?;
 
     // One with a parent is its child, in the same trace.
     let parent = Some(request.context());

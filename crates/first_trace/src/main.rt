@@ -6,10 +6,10 @@ mod cart;
 mod tree;
 
 use anyhow::Result;
-use otlp_proto::{DEFAULT_MAX_BODY, body_of};
 use rand::make_rng;
 use rand::rngs::StdRng;
 use std::io::Write;
+use trace_kit::export::{DEFAULT_MAX_BODY, body_of};
 
 fn main(rt: HostRuntime) -> Result<()> {
     let alloc = rt.alloc();

@@ -1,8 +1,6 @@
 //! Ended spans, as they are printed.
-use otlp_ids::SpanId;
-use otlp_span::SpanData;
-use otlp_value::Value;
 use std::io::{self, Write};
+use trace_kit::trace::{SpanData, SpanId, Value};
 
 /// Writes a value: a text or a number as it is, and any other as it is debugged.
 fn write_value<W: Write>(output: &mut W, value: &Value) -> io::Result<()> {
