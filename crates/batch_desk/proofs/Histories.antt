@@ -4,7 +4,7 @@ use Rattle.std.specs.Prelude.{option_map}
 use Rattle.std.proofs.lemmas.List.{take_min, drop_min}
 use Rattle.span_model.specs.Spans.{EndedSpan}
 use Rattle.span_model.specs.Dropped.{Reason, queue_full, entry_of, is_reason}
-use Rattle.desk_model.specs.Retries.{Fate}
+use Rattle.retry_model.specs.Retries.{Fate}
 use Rattle.desk_model.specs.Queue.{queued, full, late, flush, shutdown, handed, settled, popped}
 use Rattle.desk_model.specs.Desks.{DeskConfig, Desk, OutBatch, Does, DropsSpans, IsDesk, TakesSpans, accepted_count, capped, handed_out, is_due, is_in_hand, is_with_exporter, new_desk, out_size, with_drops, with_fate}
 use Rattle.desk_model.proofs.Events.{new_desk_is, queued_does, full_does, late_does, flush_does, shutdown_does, taken_does, handed_does, dropped_does, settled_does, popped_does}

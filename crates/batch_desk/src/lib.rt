@@ -10,7 +10,6 @@ mod admitted;
 mod batch;
 mod config;
 mod desk;
-mod fate;
 mod mark;
 mod totals;
 
@@ -18,6 +17,5 @@ pub use admitted::Admitted;
 pub use batch::Batch;
 pub use config::DeskConfig;
 pub use desk::Desk;
-pub use fate::Fate;
 pub use mark::Mark;
-pub use totals::{DropCounts, FateCounts, Totals};
+pub use totals::{FateCounts, Totals};

@@ -1,6 +1,6 @@
 -- Settings of retries, and what is asked of them.
 use Rattle.std.specs.Prelude.{ℕ, Some}
-use Rattle.desk_model.specs.Retries.{RetryAfter, later, no_reply, Next}
+use Rattle.retry_model.specs.Retries.{RetryAfter, later, no_reply, Next}
 use Rattle.retry_model.specs.Waits.{RetryConfig, next_after}
 
 -- five attempts, waits of at most 1 second first and of at most 30 seconds

@@ -2,7 +2,7 @@
 //! "OTLP/HTTP Throttling"; RFC 9110, "Retry-After").
 
 ghost use Rattle.std.specs.Prelude.{◌≡◌, pos, Some, None};
-ghost use Rattle.desk_model.specs.Retries.{Outcome, later, no_reply, bad, seconds, date, done, Next, Cause, again, give_up, attempts, Fate, next_of, fate_of};
+ghost use Rattle.retry_model.specs.Retries.{Outcome, later, no_reply, bad, seconds, date, done, Next, Cause, again, give_up, attempts, Fate, next_of, fate_of};
 ghost use Rattle.retry_model.specs.Waits.{IsRetryConfig, next_after};
 ghost use Rattle.desk_examples.specs.Settings.{usual, silence, asked};
 

@@ -42,9 +42,10 @@ batches-first config made h now size w =
     )
 
 pub batches-stay : BatchesStay
-batches-stay config made h more n w a b =
-    (λ i. unwrap_or (slice_get (slices (filter_map-append size_of_take h more i) (filter_map-append queued_span h more i)) (n - 1)) [])
-    ∙ ap (λ o. unwrap_or o []) (slice-stays (batch_sizes h) (batch_sizes more) (accepted_spans h) (accepted_spans more) (n - 1) (allowed-within config made h (front-allowed config made h more w)) (omega (arith, a, b)))
+batches-stay config made h more zero w a b = refl
+batches-stay config made h more (suc n) w a b =
+    (λ i. unwrap_or (slice_get (slices (filter_map-append size_of_take h more i) (filter_map-append queued_span h more i)) n) [])
+    ∙ ap (λ o. unwrap_or o []) (slice-stays (batch_sizes h) (batch_sizes more) (accepted_spans h) (accepted_spans more) n (allowed-within config made h (front-allowed config made h more w)) (omega (arith, b)))
 
 -- ---- all batches
 
@@ -52,15 +53,15 @@ pub range-more : (a n : ℕ) → range_with_len a (suc n) ≡ range_with_len a n
 range-more a zero = ap (λ (k : ℕ). k ∷ []) (sym (add-zero a))
 range-more a (suc n) = ap (λ l. a ∷ l) (range-more (a + 1) n ∙ ap (λ (k : ℕ). range_with_len (a + 1) n ++ k ∷ []) (let e : a + 1 + n ≡ a + suc n = omega arith in e))
 
--- of some lists the one at this place
+-- of some lists the one with this number, from 1 on
 abbrev pub piece : {A : Type 0} → List (List A) → ℕ → List A
-piece ls n = unwrap_or (slice_get ls (n - 1)) []
+piece ls n = unwrap_or (slice_get ([] ∷ ls) n) []
 
 at-place : {A : Type 0} (before ls : List (List A)) (l : List A) → piece (before ++ l ∷ ls) (length before + 1) ≡ l
 at-place before ls l =
-    let n : length before + 1 - 1 ≡ length before = omega arith in
+    let n : length before + 1 ≡ suc (length before) = omega arith in
     let one : length (before ++ l ∷ []) ≡ length before + 1 = length-append before (l ∷ []) in
-    ap (λ (k : ℕ). unwrap_or (slice_get (before ++ l ∷ ls) k) []) n
+    ap (piece (before ++ l ∷ ls)) n
     ∙ ap (λ ms. unwrap_or (slice_get ms (length before)) []) (sym (append_assoc before (l ∷ []) ls))
     ∙ ap (λ o. unwrap_or o []) (get-front (before ++ l ∷ []) ls (length before) (omega (arith, one)) ∙ get-at before l (length before) refl)
 

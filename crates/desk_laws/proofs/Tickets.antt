@@ -193,7 +193,7 @@ next-once t n = go (cases_order t n)
     go (inr (inl h)) = let a : t < suc n = omega arith in rw (lt-ltb t (suc n) a, lt-ltb t n h, ne_eqb n t (λ q. absurd (omega (arith, h, q)))) refl
     go (inr (inr h)) = let a : suc n ≤ t = omega arith in let b : n ≤ t = omega arith in rw (le-ltb t (suc n) a, le-ltb t n b, ne_eqb n t (λ q. absurd (omega (arith, h, q)))) refl
 
-times-below : (t n : ℕ) → times t (range_with_len 0 n) ≡ (if nat_lt t n then 1 else 0)
+pub times-below : (t n : ℕ) → times t (range_with_len 0 n) ≡ (if nat_lt t n then 1 else 0)
 times-below t zero = let a : 0 ≤ t = omega arith in rw (le-ltb t 0 a) refl
 times-below t (suc n) =
     ap (times t) (range-more 0 n ∙ ap (λ (k : ℕ). range_with_len 0 n ++ k ∷ []) (let z : 0 + n ≡ n = omega arith in z))

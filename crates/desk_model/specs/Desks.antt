@@ -3,7 +3,7 @@
 use Rattle.std.specs.Prelude.{◌≡◌, ℕ, pos, ◌+◌, ◌-◌, ◌*◌, ◌^◌, ◌<◌, min, nat_lt, nat_le, Bool, true, false, not, ◌&&◌, ◌||◌, if◌then◌else◌, List, [], ◌∷◌, ◌++◌, length, count_by, Option, Some, None}
 use Rattle.span_model.specs.Spans.{EndedSpan}
 use Rattle.span_model.specs.Dropped.{Reason, Entry, is_reason, count_of_reason}
-use Rattle.desk_model.specs.Retries.{Fate}
+use Rattle.retry_model.specs.Retries.{Fate}
 use Rattle.desk_model.specs.Queue.{DeskEvent, queued, full, late, flush, shutdown, taken, handed, dropped, settled, popped, tickets, taken_count, waiting_spans, last_batch, last_spans, last_size, Stage, not_out, in_hand, with_exporter, stage, last_moment, handed_spans, fates, drops, ledger_entries, late_count, asked_count, is_closed}
 
 -- How many spans may wait, how many a batch may have, and the delay in milliseconds. (Trace SDK,
@@ -64,6 +64,21 @@ pub record Desk : Type 0 where
   pub fates : FateCounts
 
 -- ---- counts
+
+-- nothing was dropped
+abbrev pub no_drops : DropCounts
+no_drops = record { queue_full = 0; encode_memory = 0; too_large = 0; abandoned = 0 }
+
+-- no batch has a fate
+abbrev pub no_fates : FateCounts
+no_fates = record {
+  delivered = 0;
+  partial = 0;
+  refused = 0;
+  bad_reply = 0;
+  given_up = 0;
+  abandoned = 0;
+}
 
 abbrev pub drop_counts : List Entry → DropCounts
 drop_counts entries = record {
@@ -162,15 +177,8 @@ new_desk config made = record {
   last_moment = made;
   handed = 0;
   late = 0;
-  dropped = record { queue_full = 0; encode_memory = 0; too_large = 0; abandoned = 0 };
-  fates = record {
-    delivered = 0;
-    partial = 0;
-    refused = 0;
-    bad_reply = 0;
-    given_up = 0;
-    abandoned = 0;
-  };
+  dropped = no_drops;
+  fates = no_fates;
 }
 
 -- ---- due and flushed

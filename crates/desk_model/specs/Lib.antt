@@ -1,3 +1,2 @@
-pub mod Retries
 pub mod Queue
 pub mod Desks

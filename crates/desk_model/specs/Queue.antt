@@ -6,7 +6,7 @@ use Rattle.std.specs.List.{list_any}
 use Rattle.span_model.specs.Attributes.{last_or}
 use Rattle.span_model.specs.Spans.{EndedSpan}
 use Rattle.span_model.specs.Dropped.{Reason, queue_full, Entry, entry_of}
-use Rattle.desk_model.specs.Retries.{Fate}
+use Rattle.retry_model.specs.Retries.{Fate}
 
 -- What was done, and what was answered. A list of these is a history, the first one first.
 pub data DeskEvent : Type 0 where
@@ -75,10 +75,10 @@ slices [] xs = []
 slices (n ∷ ns) xs = take n xs ∷ slices ns (drop n xs)
 
 -- the spans of the batch with this number, from 1 on: of those accepted, the slice behind the
--- batches before
+-- batches before; none for a number that no batch has, as 0
 abbrev pub batch_spans : List DeskEvent → ℕ → List EndedSpan
 batch_spans events number =
-    unwrap_or (slice_get (slices (batch_sizes events) (accepted_spans events)) (number - 1)) []
+    unwrap_or (slice_get ([] ∷ slices (batch_sizes events) (accepted_spans events)) number) []
 
 -- the number of the last batch, or 0
 abbrev pub last_batch : List DeskEvent → ℕ
@@ -109,13 +109,13 @@ abbrev pub stage : List DeskEvent → Stage
 stage events = last_or not_out (filter_map stage_by events)
 
 -- the moment of a take
-abbrev pub moment_of : DeskEvent → Option ℕ
-moment_of (taken now size) = Some now
-moment_of _ = None
+abbrev pub moment_of_take : DeskEvent → Option ℕ
+moment_of_take (taken now size) = Some now
+moment_of_take _ = None
 
 -- the moment of the last take, or that at which the queue was made
 abbrev pub last_moment : ℕ → List DeskEvent → ℕ
-last_moment made events = last_or made (filter_map moment_of events)
+last_moment made events = last_or made (filter_map moment_of_take events)
 
 -- ---- what was handed, and what came of it
 

@@ -1,24 +1,13 @@
 //! The spans of a checkout, through a queue that is too short for them.
+use anyhow::{Context, Result};
 use std::alloc::Global;
 use std::io::{self, Write};
 use std::sync::Arc;
-use thiserror::Error;
-use trace_kit::queue::{Desk, DeskConfig, Fate, RingFault};
+use trace_kit::queue::{Desk, DeskConfig, Fate};
 use trace_kit::trace::{
     Kind, Open, OutOfMemory, Resource, Scope, SpanContext, SpanData, SpanId, SpanLimits,
     SpanRecord, TraceFlags, TraceId,
 };
-
-/// Why not all was printed.
-#[derive(Debug, Drop, Error)]
-pub enum Fault {
-    #[error("{0}")]
-    Queue(#[from] RingFault),
-    #[error("{0}")]
-    Memory(#[from] OutOfMemory),
-    #[error("{0}")]
-    Output(#[from] io::Error),
-}
 
 const TRACE: TraceId = TraceId([1, 2, 3, 4, 5, 6, 7, 8, 9, 10, 11, 12, 13, 14, 15, 16]);
 
@@ -31,19 +20,9 @@ struct Shop {
 
 /// A shop without attributes.
 fn make_shop(alloc: Global) -> Result<Shop, OutOfMemory> {
-    let resource = Resource {
-        attributes: Vec::new(alloc),
-        schema_url: String::new(alloc),
-    };
-    let scope = Scope {
-        name: String::from_str(alloc, "checkout")?,
-        version: String::new(alloc),
-        attributes: Vec::new(alloc),
-        schema_url: String::new(alloc),
-    };
     Ok(Shop {
-        resource: Arc::new(alloc, resource)?,
-        scope: Arc::new(alloc, scope)?,
+        resource: Arc::new(alloc, Resource::new(alloc, Vec::new(alloc)))?,
+        scope: Arc::new(alloc, Scope::named(alloc, "checkout")?)?,
     })
 }
 
@@ -53,7 +32,7 @@ fn ended_span(alloc: Global, shop: &Shop, id: u8) -> Result<SpanData, OutOfMemor
         context: SpanContext {
             trace: TRACE,
             span: SpanId([id; 8]),
-            flags: TraceFlags(1),
+            flags: TraceFlags::SAMPLED,
             remote: false,
             state: String::new(alloc),
         },
@@ -99,12 +78,13 @@ fn drive<W: Write>(mut desk: Desk, spans: Vec<SpanData>, output: &mut W) -> io::
 }
 
 /// Prints what becomes of three spans in a queue for two, with one to a batch.
-pub fn print_batches<W: Write>(alloc: Global, output: &mut W) -> Result<(), Fault> {
+pub fn print_batches<W: Write>(alloc: Global, output: &mut W) -> Result<()> {
     let config = DeskConfig {
         queue: 2,
         batch: 1,
         delay_ms: 5000,
     };
-    let desk = Desk::new(alloc, config, 0)?;
-    Ok(drive(desk, ended_spans(alloc, 3)?, output)?)
+    let desk = Desk::new(alloc, config, 0).context("no queue")?;
+    let spans = ended_spans(alloc, 3).context("no spans")?;
+    drive(desk, spans, output).context("not all was printed")
 }

@@ -3,13 +3,8 @@
 
 mod checkout;
 
-use std::io;
-use std::process::ExitCode;
+use anyhow::Result;
 
-fn main(rt: HostRuntime) -> io::Result<ExitCode> {
-    let mut output = rt.stdout();
-    match checkout::print_batches(rt.alloc(), &mut output) {
-        Ok(()) => Ok(ExitCode::SUCCESS),
-        Err(_) => Ok(ExitCode::FAILURE),
-    }
+fn main(rt: HostRuntime) -> Result<()> {
+    checkout::print_batches(rt.alloc(), &mut rt.stdout())
 }

@@ -5,40 +5,14 @@ ghost use Rattle.trace_kit.specs.Messages.{body_meaning};
 ghost use Rattle.trace_kit.specs.Reading.{Reads};
 ghost use Rattle.trace_kit.specs.Spans.{EndedSpan};
 
+use anyhow::Result;
 use std::alloc::Global;
 use std::sync::Arc;
-use trace_kit::export::{DEFAULT_MAX_BODY, EncodeFault, body_of};
+use trace_kit::export::{DEFAULT_MAX_BODY, body_of};
 use trace_kit::trace::{
     AlwaysOn, BodyPass, Kind, OutOfMemory, ParentBased, Provider, Resource, Sampler, Scope, Span,
-    SpanLimits, StartFault, Status, Tracer, Value, WordsRng,
+    SpanLimits, Status, Tracer, Value, WordsRng,
 };
-
-/// Why there is no body.
-#[derive(Debug, Drop)]
-pub enum Fault {
-    /// A span has not started, or there was no memory for it.
-    Start(StartFault),
-    /// The spans could not be encoded.
-    Encode(EncodeFault),
-}
-
-impl From<StartFault> for Fault {
-    fn from(fault: StartFault) -> Fault {
-        Fault::Start(fault)
-    }
-}
-
-impl From<OutOfMemory> for Fault {
-    fn from(fault: OutOfMemory) -> Fault {
-        Fault::Start(StartFault::from(fault))
-    }
-}
-
-impl From<EncodeFault> for Fault {
-    fn from(fault: EncodeFault) -> Fault {
-        Fault::Encode(fault)
-    }
-}
 
 /// When the request comes, in nanoseconds since 1970.
 const START: u64 = 1_700_000_000_000_000_000;
@@ -55,7 +29,7 @@ fn record_query<S: Sampler>(
     rng: &mut WordsRng,
     request: &Span,
     pass: &mut BodyPass,
-) -> Result<(), Fault> {
+) -> Result<()> {
     let name = text(alloc, "SELECT")?;
     let parent = Some(request.context());
     let mut query = tracer.start(alloc, rng, parent, name, Kind::Client, START + 1_000_000)?;
@@ -70,10 +44,10 @@ fn record_request<S: Sampler>(
     tracer: &Tracer<'_, S>,
     rng: &mut WordsRng,
     pass: &mut BodyPass,
-) -> Result<(), Fault> {
+) -> Result<()> {
     let name = text(alloc, "GET /cart")?;
     let mut request = tracer.start(alloc, rng, None, name, Kind::Server, START)?;
-    let method = Value::Text(text(alloc, "GET")?);
+    let method = Value::text(alloc, "GET")?;
     request.set_attribute(text(alloc, "http.request.method")?, method)?;
     record_query(alloc, tracer, rng, &request, pass)?;
     request.set_status(Status::Ok);
@@ -88,7 +62,7 @@ fn cart_body(
     resource: Arc<Resource>,
     scope: Arc<Scope>,
     rng: &mut WordsRng,
-) -> Result<Vec<u8>, Fault>
+) -> Result<Vec<u8>>
     ensures { IfOk result (λ body. (spans : List EndedSpan)
         × Reads (body_meaning body.items) (grouped_triples spans)) }
 {
@@ -102,22 +76,15 @@ fn cart_body(
 /// The resource of a shop's service.
 fn shop(alloc: Global) -> Result<Arc<Resource>, OutOfMemory> {
     let mut attributes = Vec::new(alloc);
-    let name = Value::Text(text(alloc, "shop")?);
-    attributes.push((text(alloc, "service.name")?, name))?;
-    let resource = Resource {
-        attributes,
-        schema_url: String::new(alloc),
-    };
-    Ok(Arc::new(alloc, resource)?)
+    attributes.push((text(alloc, "service.name")?, Value::text(alloc, "shop")?))?;
+    Ok(Arc::new(alloc, Resource::new(alloc, attributes))?)
 }
 
 /// The scope of its checkout.
 fn checkout(alloc: Global) -> Result<Arc<Scope>, OutOfMemory> {
     let scope = Scope {
-        name: text(alloc, "checkout")?,
         version: text(alloc, "1.0.0")?,
-        attributes: Vec::new(alloc),
-        schema_url: String::new(alloc),
+        ..Scope::named(alloc, "checkout")?
     };
     Ok(Arc::new(alloc, scope)?)
 }
@@ -134,7 +101,7 @@ fn listed_words(alloc: Global) -> Result<WordsRng, OutOfMemory> {
 }
 
 /// The body of the first request.
-pub fn first_body(alloc: Global) -> Result<Vec<u8>, Fault>
+pub fn first_body(alloc: Global) -> Result<Vec<u8>>
     ensures { IfOk result (λ body. (spans : List EndedSpan)
         × Reads (body_meaning body.items) (grouped_triples spans)) }
 {

@@ -4,16 +4,12 @@
 
 mod cart;
 
-use std::io;
-use std::process::ExitCode;
+use anyhow::Result;
 
-fn main(rt: HostRuntime) -> io::Result<ExitCode> {
-    let Ok(body) = cart::first_body(rt.alloc()) else {
-        return Ok(ExitCode::FAILURE);
-    };
-    for byte in body {
+fn main(rt: HostRuntime) -> Result<()> {
+    for byte in cart::first_body(rt.alloc())? {
         print!(rt; "{byte:02x}")?;
     }
     println!(rt;)?;
-    Ok(ExitCode::SUCCESS)
+    Ok(())
 }

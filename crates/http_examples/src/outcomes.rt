@@ -1,8 +1,8 @@
 //! What replies mean for the batch that was sent (OTLP Specification, "OTLP/HTTP Response").
 
 ghost use Rattle.std.specs.Prelude.{◌≡◌, ◌∷◌, ◌++◌, [], Err, None, Ok, Some, pos, replicate};
-ghost use Rattle.desk_model.specs.Retries.{bad, delivered, later, no_reply, seconds};
-ghost use Rattle.desk_model.specs.Retries.Outcome.{partial, refused};
+ghost use Rattle.retry_model.specs.Retries.{bad, delivered, later, no_reply, seconds};
+ghost use Rattle.retry_model.specs.Retries.Outcome.{partial, refused};
 ghost use Rattle.retry_core.specs.declared.outcome.RetryAfter.TheVariants.{Seconds};
 ghost use Rattle.otlp_http.specs.declared.fault.HttpFault.TheVariants as faults;
 ghost use Rattle.otlp_http.specs.Outcomes.{outcome_of, outcome_of_body};

@@ -3,17 +3,27 @@
 use failing_allocator::FailingAllocator;
 use linked_list_allocator::LocalHeap;
 use otlp_http::{Counted, DeviceFailed, FailingCalls, FailingWire, FaultRead, FaultWrite};
-use std::io::{self, Read, Write};
+use std::io::{self, ErrorKind, Read, Write};
 
 /// A reader that fails, and a writer that first takes nothing, and then fails.
 #[derive(Drop)]
 struct Broken {
+    kind: ErrorKind,
     writes: u64,
 }
 
+impl Broken {
+    fn new(kind: ErrorKind) -> Broken {
+        Broken { kind, writes: 0 }
+    }
+}
+
+/// A failure that stays, and one that another call may not have.
+const KINDS: [ErrorKind; 2] = [ErrorKind::BrokenPipe, ErrorKind::Interrupted];
+
 impl Read for Broken {
     fn read(&mut self, _buffer: &mut [u8]) -> io::Result<usize> {
-        Err(io::Error::from(io::ErrorKind::BrokenPipe))
+        Err(io::Error::from(self.kind))
     }
 }
 
@@ -23,7 +33,7 @@ impl Write for Broken {
         if self.writes == 1 {
             return Ok(0);
         }
-        Err(io::Error::from(io::ErrorKind::BrokenPipe))
+        Err(io::Error::from(self.kind))
     }
 
     fn flush(&mut self) -> io::Result<()> {
@@ -33,26 +43,26 @@ impl Write for Broken {
 
 #[test]
 fn a_reader_of_std_counts_its_failures(rt: HostRuntime) {
-    let mut reader = Counted::new(Broken { writes: 0 });
-    assert_eq!(rt;
-        FaultRead::read(&mut reader, &mut [0; 4]),
-        Err(DeviceFailed)
-    );
-    assert_eq!(rt;
-        FaultRead::read(&mut reader, &mut [0; 4]),
-        Err(DeviceFailed)
-    );
-    assert_eq!(rt; FaultRead::failures(&reader), 2);
+    for kind in KINDS {
+        let mut reader = Counted::new(Broken::new(kind));
+        for count in 1..3u64 {
+            let failed = FaultRead::read(&mut reader, &mut [0; 4]);
+            assert_eq!(rt; failed, Err(DeviceFailed));
+            assert_eq!(rt; FaultRead::failures(&reader), count);
+        }
+    }
 }
 
 #[test]
 fn a_write_of_no_byte_is_a_failure(rt: HostRuntime) {
-    let mut writer = Counted::new(Broken { writes: 0 });
-    assert_eq!(rt; FaultWrite::write(&mut writer, b"a"), Err(DeviceFailed));
-    assert_eq!(rt; FaultWrite::failures(&writer), 1);
-    assert_eq!(rt; FaultWrite::write(&mut writer, b"a"), Err(DeviceFailed));
-    assert_eq!(rt; FaultWrite::failures(&writer), 2);
-    assert_eq!(rt; writer.into_inner().writes, 2);
+    for kind in KINDS {
+        let mut writer = Counted::new(Broken::new(kind));
+        for count in 1..3u64 {
+            assert_eq!(rt; FaultWrite::write(&mut writer, b"a"), Err(DeviceFailed));
+            assert_eq!(rt; FaultWrite::failures(&writer), count);
+        }
+        assert_eq!(rt; writer.into_inner().writes, 2);
+    }
 }
 
 #[test]

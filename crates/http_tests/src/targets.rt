@@ -21,6 +21,13 @@ fn a_target_tells_its_parts(rt: HostRuntime) {
 }
 
 #[test]
+fn a_target_may_be_long(rt: HostRuntime) {
+    let text = "/".repeat(rt.alloc(), 4096).expect(&rt, "memory");
+    let target = Target::new(rt.alloc(), "a", 80, text.as_str()).expect(&rt, "a target");
+    assert_eq!(rt; target.path(), text.as_str());
+}
+
+#[test]
 fn a_bad_host_is_told_before_a_bad_path(rt: HostRuntime) {
     for (host, path, fault) in [
         ("", "/", TargetFault::BadHost),

@@ -6,7 +6,7 @@ use Rattle.message_model.specs.Reading.{Reading, Fault}
 use Rattle.message_model.specs.Tables
 use Rattle.message_model.specs.Tables.{Message}
 use Rattle.message_model.specs.Messages.{meaning}
-use Rattle.desk_model.specs.Retries.{Outcome, delivered, later, no_reply, bad}
+use Rattle.retry_model.specs.Retries.{Outcome, delivered, later, no_reply, bad}
 use Rattle.retry_core.specs.Retries.{retry_after_view}
 use Rattle.otlp_read.specs.Response.{rejected_in}
 use Rattle.otlp_http.specs.declared.fault.HttpFault.{HttpFault}

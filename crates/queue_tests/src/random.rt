@@ -3,8 +3,9 @@ ghost use Rattle.std.specs.Prelude.{◌<◌, ◌≢◌};
 
 use crate::plain::Plain;
 use crate::spans::Spans;
-use batch_desk::{Batch, Desk, DeskConfig, Fate, Mark};
+use batch_desk::{Batch, Desk, DeskConfig, Mark};
 use otlp_span::Reason;
+use retry_core::Fate;
 use std::alloc::Global;
 use std::process::Abort;
 use std::test::Fail;

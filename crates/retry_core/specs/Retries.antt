@@ -1,6 +1,6 @@
--- What outcomes of attempts, and what follows from them, are in the model.
+-- What outcomes of attempts, what follows from them, and how batches end are in the model.
 use Rattle.std.specs.Prelude.{option_map}
-use Rattle.desk_model.specs.Retries as model
+use Rattle.retry_model.specs.Retries as model
 use Rattle.retry_model.specs.Waits as waiting
 use Rattle.retry_core.specs.declared.outcome.Outcome.{Outcome}
 use Rattle.retry_core.specs.declared.outcome.Outcome.TheVariants as outcomes
@@ -10,6 +10,8 @@ use Rattle.retry_core.specs.declared.next.Next.{Next}
 use Rattle.retry_core.specs.declared.next.Next.TheVariants as nexts
 use Rattle.retry_core.specs.declared.next.Cause.{Cause}
 use Rattle.retry_core.specs.declared.next.Cause.TheVariants as causes
+use Rattle.retry_core.specs.declared.fate.Fate.{Fate}
+use Rattle.retry_core.specs.declared.fate.Fate.TheVariants as fates
 
 abbrev pub retry_after_view : RetryAfter → model.RetryAfter
 retry_after_view (waits.Seconds seconds) = model.seconds seconds
@@ -33,6 +35,14 @@ next_view nexts.Done = model.done
 next_view (nexts.Partial rejected) = model.Next.partial rejected
 next_view (nexts.Again moment) = model.again moment
 next_view (nexts.GiveUp cause) = model.give_up (cause_view cause)
+
+abbrev pub fate_view : Fate → model.Fate
+fate_view fates.Delivered = model.Fate.delivered
+fate_view (fates.Partial rejected) = model.Fate.partial rejected
+fate_view (fates.Refused status) = model.Fate.refused status
+fate_view fates.BadReply = model.Fate.bad_reply
+fate_view fates.GivenUp = model.given_up
+fate_view fates.Abandoned = model.abandoned
 
 -- five attempts, waits of at most 1 second first and of at most 30 seconds that nobody asks for
 -- (profile)

@@ -3,10 +3,12 @@
 #![tactic(auto)]
 
 mod config;
+mod fate;
 mod next;
 mod outcome;
 mod wait;
 
 pub use config::{BadRetry, RetryConfig};
+pub use fate::Fate;
 pub use next::{Cause, Next, decide};
 pub use outcome::{Outcome, RetryAfter};

@@ -1,13 +1,14 @@
 //! What follows from an outcome.
 
 ghost use Rattle.std.specs.Prelude.{◌≡◌, ◌≤◌, option_map};
-ghost use Rattle.desk_model.specs.Retries.{next_of};
+ghost use Rattle.retry_model.specs.Retries.{fate_of, next_of};
 ghost use Rattle.retry_model.specs.Waits.{next_after, retried};
-ghost use Rattle.retry_core.specs.Retries.{next_view, outcome_view, retry_after_view};
+ghost use Rattle.retry_core.specs.Retries.{fate_view, next_view, outcome_view, retry_after_view};
 
 use crate::config::RetryConfig;
+use crate::fate::Fate;
 use crate::outcome::{Outcome, RetryAfter};
-use crate::wait::wait_of;
+use crate::wait::wait_ns;
 
 /// Why a batch is given up. (profile)
 #[derive(Clone, Copy, Debug, PartialEq, Eq)]
@@ -31,6 +32,23 @@ pub enum Next {
     Again(u64),
     /// The batch is not sent again.
     GiveUp(Cause),
+}
+
+impl Next {
+    /// How the batch ends by this, if it does: where another attempt follows, it doesn't.
+    /// (profile)
+    pub fn fate(self) -> Option<Fate>
+        ensures { option_map fate_view result ≡ fate_of (next_view self) }
+    {
+        match self {
+            Next::Done => Some(Fate::Delivered),
+            Next::Partial(rejected) => Some(Fate::Partial(rejected)),
+            Next::Again(_) => None,
+            Next::GiveUp(Cause::Refused(status)) => Some(Fate::Refused(status)),
+            Next::GiveUp(Cause::BadReply) => Some(Fate::BadReply),
+            Next::GiveUp(Cause::Attempts) => Some(Fate::GivenUp),
+        }
+    }
 }
 
 /// Whether an outcome is to be tried again, and what its reply asks for.
@@ -82,6 +100,6 @@ pub fn decide(config: &RetryConfig, attempt: u32, outcome: &Outcome, now: u64, w
     }
     match retried(outcome) {
         None => last_next(outcome),
-        Some(after) => Next::Again(now.saturating_add(wait_of(config, attempt, after, now, word))),
+        Some(after) => Next::Again(now.saturating_add(wait_ns(config, attempt, after, now, word))),
     }
 }

@@ -1,16 +1,15 @@
 -- Histories whose answers are those of the definitions are right.
-use Rattle.std.proofs.Common.{refl, sym, subst, ◌==◌, List, [], ◌∷◌, ◌++◌, length, drop, append_assoc, ℕ, if◌then◌else◌}
+use Rattle.std.proofs.Common.{refl, ◌==◌, List, [], ◌∷◌, ◌++◌, length, drop, ℕ, if◌then◌else◌}
 use Rattle.std.specs.List.{list_any}
-use Rattle.std.proofs.lemmas.List.{append-nil}
 use Rattle.span_model.specs.Spans.{first_or}
-use Rattle.desk_model.specs.Retries.{Outcome}
+use Rattle.retry_model.specs.Retries.{Outcome}
 use Rattle.history_model.specs.Steps.{Step}
 use Rattle.run_model.specs.Runs.{Answered}
-use Rattle.run_model.specs.Answers.{RunConfig, Given, answer_to, IsAnswer, AreAnswersBehind, AreAnswers}
+use Rattle.run_model.specs.Answers.{RunConfig, Given, answer_to, AreAnswers}
 use Rattle.run_model.proofs.More.{answers-more}
 use Rattle.run_examples.specs.Worked.{is_sent, history_behind, history}
 
-history-behind-right : (run : RunConfig) (scarce : List ℕ) (before : List Answered) (outcomes : List Outcome) (steps : List Step) → AreAnswers run before → AreAnswers run (history_behind run scarce before outcomes steps)
+pub history-behind-right : (run : RunConfig) (scarce : List ℕ) (before : List Answered) (outcomes : List Outcome) (steps : List Step) → AreAnswers run before → AreAnswers run (history_behind run scarce before outcomes steps)
 unfolding history_behind AreAnswers
 history-behind-right run scarce before outcomes [] w = w
 history-behind-right run scarce before outcomes (step ∷ later) w =
@@ -22,13 +21,3 @@ history-behind-right run scarce before outcomes (step ∷ later) w =
 pub history-right : (run : RunConfig) (steps : List Step) → AreAnswers run (history run steps)
 unfolding history AreAnswers
 history-right run steps = history-behind-right run [] [] [] steps tt
-
--- ---- one step of a right history
-
-answer-behind : (run : RunConfig) (first before later : List Answered) (x : Answered) → AreAnswersBehind run first (before ++ x ∷ later) → IsAnswer run (first ++ before) x
-answer-behind run first [] later x w = subst (λ b. IsAnswer run b x) (sym (append-nil first)) w.0
-answer-behind run first (y ∷ before) later x w = subst (λ b. IsAnswer run b x) (append_assoc first (y ∷ []) before) (answer-behind run (first ++ y ∷ []) before later x w.1)
-
-pub answer-at : (run : RunConfig) (before later : List Answered) (x : Answered) → AreAnswers run (before ++ x ∷ later) → IsAnswer run before x
-unfolding AreAnswers
-answer-at run before later x w = answer-behind run [] before later x w

@@ -1,6 +1,6 @@
 -- The runs of the examples: what they have, their steps, and what is answered to these.
 use Rattle.std.specs.Prelude.{ℕ, ◌+◌, ◌==◌, List, [], ◌∷◌, ◌++◌, ℤ, length, map, take, drop, replicate, slice_index, Bool, true, false, if◌then◌else◌, Option, Some, None, codes}
-use Rattle.std.specs.List.{list_any, range_with_len}
+use Rattle.std.specs.List.{list_any}
 use Rattle.std.specs.Str.{chars}
 use lib.Utf8.{encode}
 use Prim.Native.String.{String}
@@ -12,16 +12,16 @@ use Rattle.span_model.specs.Sampling.{SamplerMeaning, always_on}
 use Rattle.span_model.specs.Spans.{default_limits, internal, unset, Context, Call, Resource, Scope, EndedSpan, first_or, span}
 use Rattle.span_model.specs.Starts.{Ids, started_span, ids_of, ids_words}
 use Rattle.export_model.specs.Export.{groups, body_length}
-use Rattle.desk_model.specs.Retries.{Outcome, Next}
-use Rattle.desk_model.specs.Queue.{DeskEvent}
+use Rattle.retry_model.specs.Retries.{Outcome, no_reply, Next}
+use Rattle.desk_model.specs.Queue.{DeskEvent, batch_spans}
 use Rattle.desk_model.specs.Desks.{DeskConfig, Desk, desk_of}
-use Rattle.desk_laws.specs.Queues.{places, times}
+use Rattle.desk_laws.specs.Queues.{places}
 use Rattle.retry_model.specs.Waits.{RetryConfig}
 use Rattle.history_model.specs.Steps.{Parent, root, Step}
 use Rattle.history_model.specs.History.{Setup, start_results_behind}
 use Rattle.run_model.specs.Runs.{Answer, sent, Answered, ended_by, desk_events}
 use Rattle.run_model.specs.Runs as runs
-use Rattle.run_model.specs.Headline.{OutBatch, out_after}
+use Rattle.run_model.specs.Headline.{Attempt, PendingBatch, pending_after}
 use Rattle.run_model.specs.Answers.{RunConfig, Progress, progress, last_attempt, desk_after, answer_to}
 
 -- ---- identifiers
@@ -288,19 +288,28 @@ unfoldable pub worked_desk : Desk
 unfolding desk_after desk_of worked_events
 worked_desk = desk_after (queue_of 2) worked
 
-unfoldable pub worked_out : Option OutBatch
+unfoldable pub worked_out : Option PendingBatch
 unfolding worked_events progress last_attempt
-worked_out = out_after (queue_of 2).setup worked
+worked_out = pending_after (queue_of 2).setup worked
 
--- how often each of so many tickets is in a place
-unfoldable pub times_below : ℕ → List ℕ
+-- the tickets in all places
+unfoldable pub worked_places : List ℕ
 unfolding worked_events
-times_below n = map (λ ticket. times ticket (places worked_events)) (range_with_len 0 n)
+worked_places = places worked_events
+
+-- the spans of the batch with this number
+unfoldable pub worked_batch : ℕ → List EndedSpan
+unfolding worked_events
+worked_batch number = batch_spans worked_events number
 
 -- where the batch stands behind the first so many steps
 unfoldable pub progress_after : ℕ → Progress
 unfolding progress
 progress_after n = progress (take n worked)
+
+-- an attempt of this batch that came to nothing
+abbrev pub tried : ℕ → ℕ → Attempt
+tried number attempt = record { number = number; attempt = attempt; outcome = no_reply }
 
 -- ---- wrong reports of it
 

@@ -3,7 +3,7 @@
 
 ghost use Rattle.std.specs.Prelude.{◌≡◌, [], ◌∷◌, ◌++◌, pos, Some, None};
 ghost use Rattle.span_model.specs.Sampling.{always_on};
-ghost use Rattle.desk_model.specs.Retries.{Outcome, later, no_reply, bad, seconds, Next, give_up, Cause, attempts};
+ghost use Rattle.retry_model.specs.Retries.{Outcome, later, no_reply, bad, seconds, Next, give_up, Cause, attempts};
 ghost use Rattle.history_model.specs.Steps.{Step};
 ghost use Rattle.run_model.specs.Runs.{Answer, taken, encoded, sent, replied, nothing, out_of_memory};
 ghost use Rattle.run_examples.specs.Worked.{queue_of, once_of, run_with, first, child, family, ends, sends, answers_from, answers_without, answers_by, queued, delivers};

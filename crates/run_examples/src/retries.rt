@@ -2,7 +2,7 @@
 //! Throttling"), at most five times.
 
 ghost use Rattle.std.specs.Prelude.{◌≡◌, [], ◌∷◌, ◌++◌, pos, Some};
-ghost use Rattle.desk_model.specs.Retries.{Outcome, later, no_reply, seconds, Next, again, give_up, Cause, attempts};
+ghost use Rattle.retry_model.specs.Retries.{Outcome, later, no_reply, seconds, Next, again, give_up, Cause, attempts};
 ghost use Rattle.history_model.specs.Steps.{Step};
 ghost use Rattle.run_model.specs.Runs.{Answer, taken, not_taken, encoded, sent, early, replied, nothing};
 ghost use Rattle.run_examples.specs.Worked.{queue_of, first, child, family, ends, sends, answers_by, queued, delivers};

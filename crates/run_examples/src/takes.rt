@@ -2,7 +2,7 @@
 //! "Shutdown"; at most one batch is out: profile).
 
 ghost use Rattle.std.specs.Prelude.{◌≡◌, [], ◌∷◌, ◌++◌};
-ghost use Rattle.desk_model.specs.Retries.{Outcome, Next};
+ghost use Rattle.retry_model.specs.Retries.{Outcome, Next};
 ghost use Rattle.history_model.specs.Steps.{Step};
 ghost use Rattle.run_model.specs.Runs.{Answer, taken, not_taken};
 ghost use Rattle.run_examples.specs.Worked.{queue_of, single, first, child, family, ends, sends, answers_from, queued, full, delivers};

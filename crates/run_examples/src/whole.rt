@@ -4,11 +4,11 @@
 
 ghost use Rattle.std.specs.Prelude.{◌≡◌, [], ◌∷◌, ◌++◌, Some, None, true, false};
 ghost use Rattle.span_model.specs.Dropped.{queue_full};
-ghost use Rattle.desk_model.specs.Retries.{Outcome, Fate};
+ghost use Rattle.retry_model.specs.Retries.{Outcome, Fate};
 ghost use Rattle.desk_model.specs.Queue as desk;
 ghost use Rattle.run_model.specs.Answers.{not_out, to_encode, to_send, to_judge, AreAnswers};
-ghost use Rattle.run_model.specs.Headline.{EachOnce, attempts};
-ghost use Rattle.run_examples.specs.Worked.{desk_of_size, queue_of, history, worked, worked_steps, worked_spans, worked_events, worked_desk, worked_out, times_below, progress_after, first_span, child_span, child_entry};
+ghost use Rattle.run_model.specs.Headline.{EachOnce, attempts, batch_numbers, AreNumbered};
+ghost use Rattle.run_examples.specs.Worked.{desk_of_size, queue_of, history, worked, worked_steps, worked_spans, worked_events, worked_desk, worked_out, worked_places, worked_batch, progress_after, first_span, child_span, child_entry, tried};
 
 /// Its answers are the right ones.
 #[tactic(auto, unfolding(crate::specs::Worked::history))]
@@ -72,9 +72,30 @@ pub fn left()
     ensures replied { progress_after 13 ≡ not_out }
 {}
 
-/// Each ticket that was given stands in one place, and no other ticket does.
-#[tactic(auto, unfolding(crate::specs::Worked::times_below))]
+/// Each ticket that was given stands in one place, and no other ticket does: one waits, one is in
+/// the batch that is out, two were handed over, and one was dropped.
+#[tactic(auto, unfolding(crate::specs::Worked::worked_places))]
 pub fn places()
-    ensures seven { times_below 7 ≡ 1 ∷ 1 ∷ 1 ∷ 1 ∷ 1 ∷ 0 ∷ 0 ∷ [] }
+    ensures tickets { worked_places ≡ 4 ∷ 3 ∷ 0 ∷ 1 ∷ 2 ∷ [] }
     ensures once { EachOnce (queue_of 2).setup worked }
+{}
+
+/// The spans of the batches, by number: none has the number 0 or 3.
+#[tactic(auto, unfolding(crate::specs::Worked::worked_batch))]
+pub fn batches()
+    ensures first { worked_batch 1 ≡ first_span 0 ∷ child_span 1 4 ∷ [] }
+    ensures second { worked_batch 2 ≡ child_span 3 6 ∷ [] }
+    ensures none { worked_batch 0 ≡ [] }
+    ensures no_third { worked_batch 3 ≡ [] }
+{}
+
+/// The distinct batches of some attempts, in the order of their first ones, and how they are
+/// numbered: batch 1 is sent twice, and batch 2 between.
+pub fn numbers()
+    ensures of_worked { batch_numbers (attempts worked) ≡ 1 ∷ [] }
+    ensures distinct { batch_numbers (tried 1 1 ∷ tried 2 1 ∷ tried 1 2 ∷ []) ≡ 1 ∷ 2 ∷ [] }
+    ensures numbered { AreNumbered (attempts worked) }
+    ensures skips { ¬ (AreNumbered (tried 1 1 ∷ tried 1 3 ∷ [])) }
+    ensures begins_at_two { ¬ (AreNumbered (tried 1 2 ∷ [])) }
+    ensures backwards { ¬ (AreNumbered (tried 1 2 ∷ tried 1 1 ∷ [])) }
 {}

@@ -7,12 +7,12 @@ use Rattle.span_model.specs.Dropped.{queue_full}
 use Rattle.span_model.specs.Sampling.{is_sampled}
 use Rattle.span_model.specs.Spans.{Call, is_end}
 use Rattle.span_model.specs.Starts.{Ids, StartedSpan}
-use Rattle.desk_model.specs.Retries.{Outcome, Next}
+use Rattle.retry_model.specs.Retries.{Outcome, Next}
 use Rattle.desk_model.specs.Desks.{Desk, is_due, desk_of}
 use Rattle.history_model.specs.Steps.{Step}
 use Rattle.history_model.specs.History.{Setup}
-use Rattle.run_model.specs.Runs.{Ended, queued, late, not_sampled, already_ended, Answer, started, no_randomness, no_span, out_of_memory, done, ended, taken, not_taken, encoded, sent, early, replied, nothing, Answered}
-use Rattle.run_model.specs.Answers.{RunConfig, Given, Progress, not_out, to_encode, to_send, to_judge, to_retry, span_at, calls_so_far, takes_memory, is_live, start_answer, end_answer, call_answer, take_answer, encode_answer, attempt_answer, reply_answer, desk_after, answer_to, progress, last_attempt, IsAnswer}
+use Rattle.run_model.specs.Runs.{Ended, queued, late, not_sampled, already_ended, Answer, started, no_randomness, no_span, out_of_memory, done, ended, taken, not_taken, encoded, sent, early, replied, nothing, Answered, span_at, calls_so_far}
+use Rattle.run_model.specs.Answers.{RunConfig, Given, Progress, not_out, to_encode, to_send, to_judge, to_retry, takes_memory, is_live, start_answer, end_answer, call_answer, take_answer, encode_answer, attempt_answer, reply_answer, desk_after, answer_to, progress, last_attempt, IsAnswer}
 use Rattle.run_laws.specs.Laws.{is_first_end, was_shut, is_full, says_late, says_full, says_queued, may_take, says_taken, LateBehindShutdown, DroppedWhereFull, QueuedWhereRoom, TakenWhereDue, TakesTheFirst, OfRuns}
 use Rattle.run_laws.proofs.Histories.{answer-at}
 

@@ -1,26 +1,30 @@
 -- How often a batch was sent, and what each right answer keeps of that.
-use Rattle.std.proofs.Common.{◌≡◌, refl, sym, ap, subst, ◌∙◌, ℕ, ◌+◌, ◌<◌, ◌≤◌, ◌==◌, nat_lt, min, arith, List, [], ◌∷◌, ◌++◌, length, Bool, true, false, true≢false, cond, ◌&&◌, Option, Some, None, slice_get, option_map, filter_map, length-append}
-use Rattle.std.specs.Prelude.{filter, is_none, if◌then◌else◌}
-use Rattle.std.specs.List.{AllByRecursion, cons_option}
+use Rattle.std.proofs.Common.{◌≡◌, refl, sym, ap, subst, ◌∙◌, ℕ, ◌+◌, ◌<◌, ◌≤◌, ◌==◌, nat_lt, min, arith, List, [], ◌∷◌, ◌++◌, length, Bool, true, false, true≢false, cond, ◌&&◌, map, suc, Option, Some, None, option_map, filter_map, length-append}
+use Rattle.std.specs.Prelude.{is_none, if◌then◌else◌}
+use Rattle.std.specs.List.{AllByRecursion, cons_option, range_with_len}
+use Rattle.std.proofs.lemmas.List.{append-nil, map-append}
+use Rattle.std.proofs.lemmas.List.Elements.{filter-append}
 use Rattle.std.proofs.lemmas.Bool.{eqb-true, eq-eqb, ltb-false, false_from_ne_true}
 use Rattle.span_model.specs.Attributes.{last_or}
-use Rattle.span_model.specs.Dropped.{queue_full, encode_memory, too_large, abandoned}
 use Rattle.span_model.specs.Spans.{EndedSpan, Call, is_end}
 use Rattle.span_model.specs.Starts.{StartedSpan}
-use Rattle.desk_model.specs.Retries.{Outcome, Next, again, give_up, Fate, fate_of}
-use Rattle.desk_model.specs.Queue.{DeskEvent, size_of_take, batch_sizes, last_batch}
+use Rattle.retry_model.specs.Retries.{Outcome, Next, again, give_up, Fate, fate_of}
+use Rattle.desk_model.specs.Queue.{DeskEvent, size_of_take, batch_sizes}
 use Rattle.desk_model.specs.Queue as desk
 use Rattle.desk_model.specs.Desks.{is_due, desk_of}
 use Rattle.desk_model.proofs.Lists.{none-more, some-more, last-more}
 use Rattle.retry_model.specs.Waits.{RetryConfig, next_after}
 use Rattle.retry_model.proofs.Again.{again-few}
+use Rattle.desk_laws.proofs.Batches.{range-more}
 use Rattle.history_model.specs.Steps.{Step}
-use Rattle.run_model.specs.Runs.{Ended, queued, handed, late, not_sampled, already_ended, Answer, started, no_randomness, no_span, out_of_memory, done, ended, taken, not_taken, encoded, sent, early, replied, nothing, Answered, ended_by, event_by, events_among, desk_events}
-use Rattle.run_model.specs.Answers.{RunConfig, Progress, not_out, to_encode, to_send, to_judge, to_retry, progress_by, progress, attempts_by, last_attempt, span_at, calls_so_far, takes_memory, is_live, Given, start_answer, end_answer, call_answer, take_answer, encode_answer, attempt_answer, reply_answer, desk_after, answer_to, IsAnswer, AreAnswers}
-use Rattle.run_model.specs.Headline.{Attempt, attempt_by, attempts, attempts_of}
+use Rattle.history_model.specs.History.{Setup}
+use Rattle.run_model.specs.Runs.{Answer, started, out_of_memory, done, ended, taken, not_taken, encoded, sent, early, replied, Answered, span_at, calls_so_far, event_by, events_behind, desk_events}
+use Rattle.run_model.specs.Answers.{RunConfig, Progress, not_out, to_encode, to_send, to_judge, to_retry, progress_by, progress, attempts_by, last_attempt, takes_memory, is_live, Given, start_answer, end_answer, call_answer, take_answer, encode_answer, attempt_answer, reply_answer, desk_after, answer_to, IsAnswer, AreAnswers}
+use Rattle.run_model.specs.Headline.{Attempt, attempt_by, attempts, attempts_with, attempts_of, AreNumbered}
 use Rattle.run_model.proofs.More.{progress-none, progress-some, last_attempt-none, last_attempt-some, attempts-none, attempts-some}
-use Rattle.run_laws.specs.Laws.{OfRuns, moment_by, retry_moment, AttemptsAreNumbered, AttemptsAreFew, NoAttemptIsEarly, RepliesAreDecided}
+use Rattle.run_laws.specs.Laws.{OfRuns, OfSettings, moment_by, retry_moment, AttemptsAreNumbered, AttemptsAreFew, AttemptsAreFiveAtMost, NoAttemptIsEarly, RepliesAreDecided}
 use Rattle.run_laws.proofs.Histories.{by-steps, front, answer-at}
+use Rattle.run_laws.proofs.Cases.{size_by, IsSilent, EventCases, by-event, by-answer}
 
 -- ---- lists
 
@@ -37,25 +41,39 @@ up-to-next : (number : ℕ) (told : List Attempt) → AreUpTo number told → Ar
 up-to-next number [] b = tt
 up-to-next number (a ∷ told) b = (let l = b.0 in omega (arith, l), up-to-next number told b.1)
 
--- the attempts of one batch
-abbrev pub of_batch : ℕ → List Attempt → List Attempt
-of_batch number told = filter (λ a. a.number == number) told
-
-of-next : (number : ℕ) (told : List Attempt) → AreUpTo number told → of_batch (number + 1) told ≡ []
+of-next : (number : ℕ) (told : List Attempt) → AreUpTo number told → attempts_with (number + 1) told ≡ []
 of-next number [] b = refl
 of-next number (a ∷ told) b = by (a.number == number + 1) (false_from_ne_true (a.number == number + 1) (λ e. let n = eqb-true a.number (number + 1) e in let l = b.0 in absurd (omega (arith, n, l)))) (of-next number told b.1)
   where
-    by : (c : Bool) → c ≡ false → of_batch (number + 1) told ≡ [] → cond c (a ∷ of_batch (number + 1) told) (of_batch (number + 1) told) ≡ []
+    by : (c : Bool) → c ≡ false → attempts_with (number + 1) told ≡ [] → cond c (a ∷ attempts_with (number + 1) told) (attempts_with (number + 1) told) ≡ []
     by true e f = absurd (true≢false e)
     by false e f = f
 
-of-more : (x : Attempt) (told : List Attempt) → of_batch x.number (told ++ x ∷ []) ≡ of_batch x.number told ++ x ∷ []
+of-more : (x : Attempt) (told : List Attempt) → attempts_with x.number (told ++ x ∷ []) ≡ attempts_with x.number told ++ x ∷ []
 of-more x [] = rw (eq-eqb x.number x.number refl) refl
 of-more x (a ∷ told) = by (a.number == x.number) (of-more x told)
   where
-    by : (c : Bool) → of_batch x.number (told ++ x ∷ []) ≡ of_batch x.number told ++ x ∷ [] → cond c (a ∷ of_batch x.number (told ++ x ∷ [])) (of_batch x.number (told ++ x ∷ [])) ≡ cond c (a ∷ of_batch x.number told) (of_batch x.number told) ++ x ∷ []
+    by : (c : Bool) → attempts_with x.number (told ++ x ∷ []) ≡ attempts_with x.number told ++ x ∷ [] → cond c (a ∷ attempts_with x.number (told ++ x ∷ [])) (attempts_with x.number (told ++ x ∷ [])) ≡ cond c (a ∷ attempts_with x.number told) (attempts_with x.number told) ++ x ∷ []
     by true e = ap (λ l. a ∷ l) e
     by false e = e
+
+-- one more, numbered behind those of its batch
+order-more : (told : List Attempt) (a : Attempt) → AreNumbered told → a.attempt ≡ length (attempts_with a.number told) + 1 → AreNumbered (told ++ a ∷ [])
+order-more told a o e n = by (a.number == n) refl
+  where
+    grown : attempts_with n (told ++ a ∷ []) ≡ attempts_with n told ++ cond (a.number == n) (a ∷ []) []
+    grown = filter-append (λ (b : Attempt). b.number == n) told (a ∷ [])
+
+    by : (b : Bool) → (a.number == n) ≡ b → map (λ (b : Attempt). b.attempt) (attempts_with n (told ++ a ∷ [])) ≡ range_with_len 1 (length (attempts_with n (told ++ a ∷ [])))
+    by false f =
+        let same : attempts_with n (told ++ a ∷ []) ≡ attempts_with n told = grown ∙ ap (λ c. attempts_with n told ++ cond c (a ∷ []) []) f ∙ append-nil (attempts_with n told) in
+        subst (λ l. map (λ (b : Attempt). b.attempt) l ≡ range_with_len 1 (length l)) (sym same) (o n)
+    by true f =
+        let same : attempts_with n (told ++ a ∷ []) ≡ attempts_with n told ++ a ∷ [] = grown ∙ ap (λ c. attempts_with n told ++ cond c (a ∷ []) []) f in
+        let k : a.attempt ≡ 1 + length (attempts_with n told) = e ∙ ap (λ (m : ℕ). length (attempts_with m told) + 1) (eqb-true a.number n f) ∙ (let c : length (attempts_with n told) + 1 ≡ 1 + length (attempts_with n told) = omega arith in c) in
+        let many : length (attempts_with n told ++ a ∷ []) ≡ suc (length (attempts_with n told)) = length-append (attempts_with n told) (a ∷ []) ∙ (let c : length (attempts_with n told) + 1 ≡ suc (length (attempts_with n told)) = omega arith in c) in
+        subst (λ l. map (λ (b : Attempt). b.attempt) l ≡ range_with_len 1 (length l)) (sym same)
+        (map-append (λ (b : Attempt). b.attempt) (attempts_with n told) (a ∷ []) ∙ (λ i. o n i ++ k i ∷ []) ∙ sym (range-more 1 (length (attempts_with n told))) ∙ ap (range_with_len 1) (sym many))
 
 -- ---- what is so behind right answers
 
@@ -82,69 +100,40 @@ TriedAt config told number last since (to_retry moment) = Retried config last si
 
 pub record TriedWith (config : RetryConfig) (told : List Attempt) (number last since : ℕ) (p : Progress) : Type 0 where
   pub stands : TriedAt config told number last since p
-  pub counted : length (of_batch number told) ≡ last
+  pub counted : length (attempts_with number told) ≡ last
   pub below : AreUpTo number told
+  pub in_order : AreNumbered told
 
 module _ (config : RetryConfig) (told : List Attempt) (number last since : ℕ) (p : Progress) (t : TriedWith config told number last since p) where
   on-take : TriedWith config told (number + 1) 0 0 to_encode
-  on-take = record { stands = (refl, refl, omega arith); counted = ap length (of-next number told t.below); below = up-to-next number told t.below }
+  on-take = record { stands = (refl, refl, omega arith); counted = ap length (of-next number told t.below); below = up-to-next number told t.below; in_order = t.in_order }
 
   on-encode : p ≡ to_encode → TriedWith config told number last since to_send
-  on-encode e = record { stands = subst (TriedAt config told number last since) e t.stands; counted = t.counted; below = t.below }
+  on-encode e = record { stands = subst (TriedAt config told number last since) e t.stands; counted = t.counted; below = t.below; in_order = t.in_order }
 
   on-sent : (outcome : Outcome) → (1 ≤ config.attempts → last + 1 ≤ config.attempts) → TriedWith config (told ++ record { number = number; attempt = last + 1; outcome = outcome } ∷ []) number (last + 1) since (to_judge outcome)
   on-sent outcome few = record {
     stands = record { some = omega arith; few = few; earlier = told; ends = refl };
-    counted = ap length (of-more (record { number = number; attempt = last + 1; outcome = outcome }) told) ∙ length-append (of_batch number told) _ ∙ ap (λ (n : ℕ). n + 1) t.counted;
+    counted = ap length (of-more (record { number = number; attempt = last + 1; outcome = outcome }) told) ∙ length-append (attempts_with number told) _ ∙ ap (λ (n : ℕ). n + 1) t.counted;
     below = all-more (λ (a : Attempt). a.number ≤ number) told _ t.below (omega arith);
+    in_order = order-more told (record { number = number; attempt = last + 1; outcome = outcome }) t.in_order (ap (λ (n : ℕ). n + 1) (sym t.counted));
   }
 
   on-again : (outcome : Outcome) → p ≡ to_judge outcome → (moment : ℕ) → last < config.attempts → TriedWith config told number last moment (to_retry moment)
   on-again outcome e moment few =
       let j : Judged config told number last outcome = subst (TriedAt config told number last since) e t.stands in
-      record { stands = record { some = j.some; few = few; from_then = refl }; counted = t.counted; below = t.below }
+      record { stands = record { some = j.some; few = few; from_then = refl }; counted = t.counted; below = t.below; in_order = t.in_order }
 
   on-end : TriedWith config told number last since not_out
-  on-end = record { stands = tt; counted = t.counted; below = t.below }
+  on-end = record { stands = tt; counted = t.counted; below = t.below; in_order = t.in_order }
 
 -- ---- histories
-
-abbrev pub size_by : Answer → Option ℕ
-size_by (taken number size) = Some size
-size_by _ = None
 
 abbrev pub batches : List Answered → ℕ
 batches h = length (filter_map (λ x. size_by x.answer) h)
 
 abbrev pub Tried : RunConfig → List Answered → Type 0
 Tried run h = TriedWith run.retry (attempts h) (batches h) (last_attempt h) (retry_moment h) (progress h)
-
--- what says nothing of a batch
-record Silent (a : Answer) : Type 0 where
-  no_size : size_by a ≡ None
-  no_number : attempts_by a ≡ None
-  no_attempt : attempt_by a ≡ None
-  no_moment : moment_by a ≡ None
-
-silent : (a : Answer) → progress_by a ≡ None → Silent a
-silent (taken number size) e = cc
-silent (encoded number size) e = cc
-silent (sent number attempt outcome) e = cc
-silent (replied number (again moment)) e = cc
-silent (replied number Next.done) e = cc
-silent (replied number (Next.partial rejected)) e = cc
-silent (replied number (give_up cause)) e = cc
-silent (ended o) e = record { no_size = refl; no_number = refl; no_attempt = refl; no_moment = refl }
-silent (started ids) e = record { no_size = refl; no_number = refl; no_attempt = refl; no_moment = refl }
-silent no_randomness e = record { no_size = refl; no_number = refl; no_attempt = refl; no_moment = refl }
-silent no_span e = record { no_size = refl; no_number = refl; no_attempt = refl; no_moment = refl }
-silent out_of_memory e = record { no_size = refl; no_number = refl; no_attempt = refl; no_moment = refl }
-silent done e = record { no_size = refl; no_number = refl; no_attempt = refl; no_moment = refl }
-silent Answer.flush e = record { no_size = refl; no_number = refl; no_attempt = refl; no_moment = refl }
-silent Answer.shutdown e = record { no_size = refl; no_number = refl; no_attempt = refl; no_moment = refl }
-silent not_taken e = record { no_size = refl; no_number = refl; no_attempt = refl; no_moment = refl }
-silent early e = record { no_size = refl; no_number = refl; no_attempt = refl; no_moment = refl }
-silent nothing e = record { no_size = refl; no_number = refl; no_attempt = refl; no_moment = refl }
 
 batches-none : (h : List Answered) (x : Answered) → size_by x.answer ≡ None → batches (h ++ x ∷ []) ≡ batches h
 batches-none h x e = ap length (none-more (λ x. size_by x.answer) h x e)
@@ -262,58 +251,47 @@ abbrev size_in : Option DeskEvent → Option ℕ
 size_in None = None
 size_in (Some y) = size_of_take y
 
-queued-size : (o : Option EndedSpan) → size_in (option_map desk.queued o) ≡ None
-queued-size None = refl
-queued-size (Some s) = refl
-
-full-size : (o : Option EndedSpan) → size_in (option_map desk.full o) ≡ None
-full-size None = refl
-full-size (Some s) = refl
-
-handed-size : (b : Bool) → size_in (if b then Some desk.handed else None) ≡ None
-handed-size true = refl
-handed-size false = refl
-
-settled-size : (o : Option Fate) → size_in (option_map desk.settled o) ≡ None
-settled-size None = refl
-settled-size (Some f) = refl
-
-event-size : (spans : List EndedSpan) (a : Answer) (step : Step) → size_in (event_by spans a step) ≡ size_by a
-event-size spans (ended (queued n)) step = queued-size (slice_get spans n)
-event-size spans (ended (Ended.dropped n queue_full)) step = full-size (slice_get spans n)
-event-size spans (ended (Ended.dropped n encode_memory)) step = refl
-event-size spans (ended (Ended.dropped n too_large)) step = refl
-event-size spans (ended (Ended.dropped n abandoned)) step = refl
-event-size spans (ended (handed n)) step = refl
-event-size spans (ended late) step = refl
-event-size spans (ended not_sampled) step = refl
-event-size spans (ended already_ended) step = refl
-event-size spans (started ids) step = refl
-event-size spans no_randomness step = refl
-event-size spans no_span step = refl
-event-size spans out_of_memory step = refl
-event-size spans done step = refl
-event-size spans Answer.flush step = refl
-event-size spans Answer.shutdown step = refl
-event-size spans (taken number size) step = refl
-event-size spans not_taken step = refl
-event-size spans (encoded number size) step = refl
-event-size spans (sent number attempt outcome) step = handed-size (attempt == 1)
-event-size spans early step = refl
-event-size spans (replied number next) step = settled-size (fate_of next)
-event-size spans nothing step = refl
-
-event-sizes : (spans : List EndedSpan) (h : List Answered) → batch_sizes (events_among spans h) ≡ filter_map (λ x. size_by x.answer) h
-event-sizes spans [] = refl
-event-sizes spans (x ∷ h) = by (event_by spans x.answer x.step) (event-size spans x.answer x.step) (event-sizes spans h)
+sizes-are : (step : Step) → EventCases step (λ a o. size_in o ≡ size_by a)
+sizes-are step = record {
+  of_queued = λ n o. by-queued o;
+  of_full = λ n o. by-full o;
+  of_late = refl;
+  of_flush = refl;
+  of_shutdown = refl;
+  of_taken = λ n size. refl;
+  of_encoded = λ n size. refl;
+  of_sent = λ n attempt outcome. by-handed (attempt == 1);
+  of_replied = λ n next. by-settled (fate_of next);
+  of_other = λ a s. sym s.no_size;
+}
   where
-    by : (o : Option DeskEvent) → size_in o ≡ size_by x.answer → batch_sizes (events_among spans h) ≡ filter_map (λ x. size_by x.answer) h → filter_map size_of_take (cons_option o (events_among spans h)) ≡ cons_option (size_by x.answer) (filter_map (λ x. size_by x.answer) h)
-    by None e f = ap (λ o. cons_option o (batch_sizes (events_among spans h))) e ∙ ap (cons_option (size_by x.answer)) f
-    by (Some y) e f = ap (λ o. cons_option o (batch_sizes (events_among spans h))) e ∙ ap (cons_option (size_by x.answer)) f
+    by-queued : (o : Option EndedSpan) → size_in (option_map desk.queued o) ≡ None
+    by-queued None = refl
+    by-queued (Some s) = refl
+
+    by-full : (o : Option EndedSpan) → size_in (option_map desk.full o) ≡ None
+    by-full None = refl
+    by-full (Some s) = refl
+
+    by-handed : (b : Bool) → size_in (if b then Some desk.handed else None) ≡ None
+    by-handed true = refl
+    by-handed false = refl
+
+    by-settled : (o : Option Fate) → size_in (option_map desk.settled o) ≡ None
+    by-settled None = refl
+    by-settled (Some f) = refl
+
+event-sizes : (setup : Setup) (before h : List Answered) → batch_sizes (events_behind setup before h) ≡ filter_map (λ x. size_by x.answer) h
+event-sizes setup before [] = refl
+event-sizes setup before (x ∷ h) = by (event_by setup before x.answer x.step) (by-event setup before x.step (λ a o. size_in o ≡ size_by a) (sizes-are x.step) x.answer) (event-sizes setup (before ++ x ∷ []) h)
+  where
+    by : (o : Option DeskEvent) → size_in o ≡ size_by x.answer → batch_sizes (events_behind setup (before ++ x ∷ []) h) ≡ filter_map (λ x. size_by x.answer) h → filter_map size_of_take (cons_option o (events_behind setup (before ++ x ∷ []) h)) ≡ cons_option (size_by x.answer) (filter_map (λ x. size_by x.answer) h)
+    by None e f = ap (λ o. cons_option o (batch_sizes (events_behind setup (before ++ x ∷ []) h))) e ∙ ap (cons_option (size_by x.answer)) f
+    by (Some y) e f = ap (λ o. cons_option o (batch_sizes (events_behind setup (before ++ x ∷ []) h))) e ∙ ap (cons_option (size_by x.answer)) f
 
 pub desk-batches : (run : RunConfig) (h : List Answered) → (desk_after run h).batches ≡ batches h
 unfolding desk_after desk_of desk_events
-desk-batches run h = ap length (event-sizes (ended_by run.setup h) h)
+desk-batches run h = ap length (event-sizes run.setup [] h)
 
 -- ---- one more right answer
 
@@ -337,11 +315,10 @@ module _ (run : RunConfig) (h : List Answered) (x : Answered) (t : Tried run h) 
   abbrev After : Type 0
   After = Tried run (h ++ x ∷ [])
 
-  after-silent : progress_by x.answer ≡ None → After
-  after-silent e =
-      let s : Silent x.answer = silent x.answer e in
+  after-silent : IsSilent x.answer → After
+  after-silent s =
       tried-is run h x (attempts h) number last (retry_moment h) (progress h)
-      (record { told_is = attempts-none h x s.no_attempt; number_is = batches-none h x s.no_size; last_is = last_attempt-none h x s.no_number; since_is = moment-none h x s.no_moment; progress_is = progress-none h x e }) t
+      (record { told_is = attempts-none h x s.no_attempt; number_is = batches-none h x s.no_size; last_is = last_attempt-none h x s.no_number; since_is = moment-none h x s.no_moment; progress_is = progress-none h x s.no_progress }) t
 
   after-taken : (taken_number size : ℕ) → x.answer ≡ taken taken_number size → After
   after-taken taken_number size e =
@@ -375,7 +352,7 @@ module _ (run : RunConfig) (h : List Answered) (x : Answered) (t : Tried run h) 
       (on-end run.retry (attempts h) number last (retry_moment h) (progress h) t)
 
   -- the attempt behind the last one
-  numbered : (step : Step) (sent_number attempt : ℕ) → Sends run h step sent_number attempt → attempt ≡ last + 1
+  pub numbered : (step : Step) (sent_number attempt : ℕ) → Sends run h step sent_number attempt → attempt ≡ last + 1
   numbered step sent_number attempt (first e k) =
       let s : (last ≡ 0) × (retry_moment h ≡ 0) × (0 < number) = subst (TriedAt run.retry (attempts h) number last (retry_moment h)) e t.stands in
       let l = s.0 in omega (arith, l, k)
@@ -389,32 +366,29 @@ module _ (run : RunConfig) (h : List Answered) (x : Answered) (t : Tried run h) 
       let r : Retried run.retry last (retry_moment h) moment = subst (TriedAt run.retry (attempts h) number last (retry_moment h)) e t.stands in
       let fewer = r.few in omega (arith, fewer)
 
-  after-step : (a : Answer) → x.answer ≡ a → Told run h x.step a → After
-  after-step (taken n size) e k = after-taken n size e
-  after-step (encoded n size) e k = after-encoded n size e k
-  after-step (sent n attempt outcome) e k = after-sent attempt outcome (e ∙ ap (λ (m : ℕ). sent m attempt outcome) (k.0 ∙ desk-batches run h)) (numbered x.step n attempt k.1) (few x.step n attempt k.1)
-  after-step (replied n (again moment)) e k = let r : Replies run h x.step (again moment) = k.1 in after-again n moment r.outcome e r.judged (r.few moment refl)
-  after-step (replied n Next.done) e k = after-end (ap attempt_by e) (ap size_by e) (ap attempts_by e) (ap moment_by e) (ap progress_by e)
-  after-step (replied n (Next.partial rejected)) e k = after-end (ap attempt_by e) (ap size_by e) (ap attempts_by e) (ap moment_by e) (ap progress_by e)
-  after-step (replied n (give_up cause)) e k = after-end (ap attempt_by e) (ap size_by e) (ap attempts_by e) (ap moment_by e) (ap progress_by e)
-  after-step (ended o) e k = after-silent (ap progress_by e)
-  after-step (started ids) e k = after-silent (ap progress_by e)
-  after-step no_randomness e k = after-silent (ap progress_by e)
-  after-step no_span e k = after-silent (ap progress_by e)
-  after-step out_of_memory e k = after-silent (ap progress_by e)
-  after-step done e k = after-silent (ap progress_by e)
-  after-step Answer.flush e k = after-silent (ap progress_by e)
-  after-step Answer.shutdown e k = after-silent (ap progress_by e)
-  after-step not_taken e k = after-silent (ap progress_by e)
-  after-step early e k = after-silent (ap progress_by e)
-  after-step nothing e k = after-silent (ap progress_by e)
+  replied-after : (n : ℕ) (next : Next) → x.answer ≡ replied n next → Told run h x.step (replied n next) → After
+  replied-after n (again moment) e k = let r : Replies run h x.step (again moment) = k.1 in after-again n moment r.outcome e r.judged (r.few moment refl)
+  replied-after n Next.done e k = after-end (ap attempt_by e) (ap size_by e) (ap attempts_by e) (ap moment_by e) (ap progress_by e)
+  replied-after n (Next.partial rejected) e k = after-end (ap attempt_by e) (ap size_by e) (ap attempts_by e) (ap moment_by e) (ap progress_by e)
+  replied-after n (give_up cause) e k = after-end (ap attempt_by e) (ap size_by e) (ap attempts_by e) (ap moment_by e) (ap progress_by e)
+
+  after-step : Told run h x.step x.answer → After
+  after-step k = by-answer (λ a. x.answer ≡ a → Told run h x.step a → After)
+      (record {
+        of_taken = λ n size e k. after-taken n size e;
+        of_encoded = λ n size e k. after-encoded n size e k;
+        of_sent = λ n attempt outcome e k. after-sent attempt outcome (e ∙ ap (λ (m : ℕ). sent m attempt outcome) (k.0 ∙ desk-batches run h)) (numbered x.step n attempt k.1) (few x.step n attempt k.1);
+        of_replied = replied-after;
+        of_other = λ a s e k. after-silent (subst IsSilent (sym e) s);
+      })
+      run.setup x.answer refl k
 
 pub tried-step : (run : RunConfig) (h : List Answered) (x : Answered) → Tried run h → IsAnswer run h x → Tried run (h ++ x ∷ [])
-tried-step run h x t i = after-step run h x t x.answer refl (told run h x i)
+tried-step run h x t i = after-step run h x t (told run h x i)
 
 pub tried-none : (run : RunConfig) → Tried run []
 unfolding progress last_attempt retry_moment
-tried-none run = record { stands = tt; counted = refl; below = tt }
+tried-none run = record { stands = tt; counted = refl; below = tt; in_order = λ n. refl }
 
 pub tried : (run : RunConfig) (h : List Answered) → AreAnswers run h → Tried run h
 tried run h w = by-steps run (Tried run) (tried-step run) h (tried-none run) w
@@ -431,13 +405,21 @@ attempts-are-numbered run h w before rest x e number attempt outcome k =
     let s = subst (Told run before x.step) k (told run before x (answer-at run h w before rest x e)) in
     numbered run before x t x.step number attempt s.1 ∙ ap (λ (n : ℕ). n + 1) (sym (ap (λ (n : ℕ). length (attempts_of n before)) (s.0 ∙ desk-batches run before) ∙ t.counted))
 
-pub attempts-are-few : OfRuns AttemptsAreFew
-attempts-are-few run h w before rest x e number attempt outcome l k =
+pub attempts-are-in-order : OfRuns (λ run h. AreNumbered (attempts h))
+attempts-are-in-order run h w = let t : Tried run h = tried run h w in t.in_order
+
+pub attempts-are-few : OfRuns (OfSettings AttemptsAreFew)
+attempts-are-few run h w valid before rest x e number attempt outcome k =
     let t : Tried run before = tried run before (front run before (x ∷ rest) (subst (AreAnswers run) (sym e) w)) in
     let s = subst (Told run before x.step) k (told run before x (answer-at run h w before rest x e)) in
     let n : attempt ≡ last_attempt before + 1 = numbered run before x t x.step number attempt s.1 in
-    let f : last_attempt before + 1 ≤ run.retry.attempts = few run before x t x.step number attempt s.1 l in
+    let f : last_attempt before + 1 ≤ run.retry.attempts = few run before x t x.step number attempt s.1 valid.some in
     omega (arith, n, f)
+
+pub attempts-are-five : OfRuns (OfSettings (λ run. AttemptsAreFiveAtMost))
+attempts-are-five run h w valid before rest x e number attempt outcome k =
+    let f : attempt ≤ run.retry.attempts = attempts-are-few run h w valid before rest x e number attempt outcome k in
+    let five = valid.few in omega (arith, f, five)
 
 pub no-attempt-is-early : OfRuns (λ run. NoAttemptIsEarly)
 no-attempt-is-early run h w before rest x e now number attempt outcome i k =
@@ -454,7 +436,7 @@ no-attempt-is-early run h w before rest x e now number attempt outcome i k =
         let same = r.from_then in let l = f now i in omega (arith, same, l)
 
 pub replies-are-decided : OfRuns RepliesAreDecided
-replies-are-decided run h w before rest x e now word number next i k =
+replies-are-decided run h w before rest x e now word n next i k =
     let t : Tried run before = tried run before (front run before (x ∷ rest) (subst (AreAnswers run) (sym e) w)) in
     let s = subst (Told run before x.step) k (told run before x (answer-at run h w before rest x e)) in
     let r : Replies run before x.step next = s.1 in

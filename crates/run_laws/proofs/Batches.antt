@@ -5,13 +5,15 @@ use Rattle.std.specs.List.{list_any, cons_option}
 use Rattle.std.proofs.lemmas.List.Elements.{filter_map-append}
 use Rattle.span_model.specs.Attributes.{last_or}
 use Rattle.desk_model.specs.Queue.{last_batch, last_size}
-use Rattle.desk_model.specs.Retries.{Next, again, give_up, Cause}
+use Rattle.retry_model.specs.Retries.{Next, again, give_up}
 use Rattle.desk_model.specs.Desks.{out_as, is_due, desk_of}
 use Rattle.history_model.specs.Steps.{Step}
-use Rattle.run_model.specs.Runs.{Answer, started, no_randomness, no_span, out_of_memory, done, ended, taken, not_taken, encoded, sent, early, replied, nothing, Answered, desk_events}
+use Rattle.history_model.specs.History.{Setup}
+use Rattle.run_model.specs.Runs.{Answer, replied, Answered, desk_events}
 use Rattle.run_model.specs.Answers.{RunConfig, Progress, not_out, to_encode, to_send, to_judge, to_retry, progress_by, progress, desk_after, AreAnswers}
 use Rattle.run_laws.specs.Laws.{may_take, says_taken, ends_batch, OfRuns, OneBatchIsOut}
 use Rattle.run_laws.proofs.Histories.{front}
+use Rattle.run_laws.proofs.Cases.{by-answer}
 use Rattle.run_laws.proofs.Answered.{taken-where-due}
 use Rattle.run_laws.proofs.Accounts.{Account, stage_of}
 use Rattle.run_laws.proofs.Steps.{account}
@@ -30,27 +32,28 @@ last-behind d [] y ys = refl
 last-behind d (x ∷ xs) y ys = last-behind x xs y ys
 
 -- what is said of a batch that is out, but for its end
-told-out : (a : Answer) (p : Progress) → ends_batch a ≡ false → progress_by a ≡ Some p → is_out p ≡ true
-told-out (taken number size) p r e = let k : to_encode ≡ p = cc in ap is_out (sym k)
-told-out (encoded number size) p r e = let k : to_send ≡ p = cc in ap is_out (sym k)
-told-out (sent number attempt outcome) p r e = let k : to_judge outcome ≡ p = cc in ap is_out (sym k)
-told-out early p r e = cc
-told-out (replied number (again moment)) p r e = let k : to_retry moment ≡ p = cc in ap is_out (sym k)
-told-out (replied number Next.done) p r e = absurd (true≢false r)
-told-out (replied number (Next.partial rejected)) p r e = absurd (true≢false r)
-told-out (replied number (give_up (Cause.refused status))) p r e = absurd (true≢false r)
-told-out (replied number (give_up Cause.bad_reply)) p r e = absurd (true≢false r)
-told-out (replied number (give_up Cause.attempts)) p r e = absurd (true≢false r)
-told-out (ended e) p r f = cc
-told-out (started ids) p r e = cc
-told-out no_randomness p r e = cc
-told-out no_span p r e = cc
-told-out out_of_memory p r e = cc
-told-out done p r e = cc
-told-out Answer.flush p r e = cc
-told-out Answer.shutdown p r e = cc
-told-out not_taken p r e = cc
-told-out nothing p r e = cc
+abbrev TellsOut : Answer → Type 0
+TellsOut a = (p : Progress) → ends_batch a ≡ false → progress_by a ≡ Some p → is_out p ≡ true
+
+told-out : Setup → (a : Answer) → TellsOut a
+told-out setup a = by-answer TellsOut
+    (record {
+      of_taken = λ n size p r e. let k : to_encode ≡ p = cc in ap is_out (sym k);
+      of_encoded = λ n size p r e. let k : to_send ≡ p = cc in ap is_out (sym k);
+      of_sent = λ n attempt outcome p r e. let k : to_judge outcome ≡ p = cc in ap is_out (sym k);
+      of_replied = replied-out;
+      of_other = λ a s p r e. absurd (none-some p (sym s.no_progress ∙ e));
+    })
+    setup a
+  where
+    none-some : (p : Progress) → None ≡ Some p → ⊥
+    none-some p e = cc
+
+    replied-out : (number : ℕ) (next : Next) → TellsOut (replied number next)
+    replied-out number (again moment) p r e = let k : to_retry moment ≡ p = cc in ap is_out (sym k)
+    replied-out number Next.done p r e = absurd (true≢false r)
+    replied-out number (Next.partial rejected) p r e = absurd (true≢false r)
+    replied-out number (give_up cause) p r e = absurd (true≢false r)
 
 or-left : (b c : Bool) → (b || c) ≡ false → b ≡ false
 or-left true c e = absurd (true≢false e)
@@ -61,40 +64,34 @@ or-right true c e = absurd (true≢false e)
 or-right false c e = e
 
 -- it stays out where it isn't ended
-stays-out : (p : Progress) (between : List Answered) → is_out p ≡ true → list_any (λ z. ends_batch z.answer) between ≡ false → is_out (last_or p (filter_map (λ z. progress_by z.answer) between)) ≡ true
-stays-out p [] o n = o
-stays-out p (z ∷ between) o n = by (progress_by z.answer) refl (λ q k. stays-out q between k (or-right (ends_batch z.answer) (list_any (λ z. ends_batch z.answer) between) n))
+stays-out : (setup : Setup) (p : Progress) (between : List Answered) → is_out p ≡ true → list_any (λ z. ends_batch z.answer) between ≡ false → is_out (last_or p (filter_map (λ z. progress_by z.answer) between)) ≡ true
+stays-out setup p [] o n = o
+stays-out setup p (z ∷ between) o n = by (progress_by z.answer) refl (λ q k. stays-out setup q between k (or-right (ends_batch z.answer) (list_any (λ z. ends_batch z.answer) between) n))
   where
     by : (q : Option Progress) → progress_by z.answer ≡ q → ((r : Progress) → is_out r ≡ true → is_out (last_or r (filter_map (λ z. progress_by z.answer) between)) ≡ true)
         → is_out (last_or p (cons_option q (filter_map (λ z. progress_by z.answer) between))) ≡ true
     by None e rest = rest p o
-    by (Some q) e rest = rest q (told-out z.answer q (or-left (ends_batch z.answer) (list_any (λ z. ends_batch z.answer) between) n) e)
+    by (Some q) e rest = rest q (told-out setup z.answer q (or-left (ends_batch z.answer) (list_any (λ z. ends_batch z.answer) between) n) e)
 
 -- behind a take
-taken-out : (before between : List Answered) (x : Answered) → progress_by x.answer ≡ Some to_encode → list_any (λ z. ends_batch z.answer) between ≡ false → is_out (progress (before ++ x ∷ between)) ≡ true
+taken-out : (setup : Setup) (before between : List Answered) (x : Answered) → progress_by x.answer ≡ Some to_encode → list_any (λ z. ends_batch z.answer) between ≡ false → is_out (progress (before ++ x ∷ between)) ≡ true
 unfolding progress
-taken-out before between x e n =
+taken-out setup before between x e n =
     ap is_out
     (ap (last_or not_out) (filter_map-append (λ z. progress_by z.answer) before (x ∷ between) ∙ ap (λ o. filter_map (λ z. progress_by z.answer) before ++ cons_option o (filter_map (λ z. progress_by z.answer) between)) e)
     ∙ last-behind not_out (filter_map (λ z. progress_by z.answer) before) to_encode (filter_map (λ z. progress_by z.answer) between))
-    ∙ stays-out to_encode between refl n
+    ∙ stays-out setup to_encode between refl n
 
-says-taken : (a : Answer) → says_taken a ≡ true → progress_by a ≡ Some to_encode
-says-taken (taken number size) e = refl
-says-taken (encoded number size) e = absurd (true≢false (sym e))
-says-taken (sent number attempt outcome) e = absurd (true≢false (sym e))
-says-taken early e = absurd (true≢false (sym e))
-says-taken (replied number next) e = absurd (true≢false (sym e))
-says-taken (ended o) e = absurd (true≢false (sym e))
-says-taken (started ids) e = absurd (true≢false (sym e))
-says-taken no_randomness e = absurd (true≢false (sym e))
-says-taken no_span e = absurd (true≢false (sym e))
-says-taken out_of_memory e = absurd (true≢false (sym e))
-says-taken done e = absurd (true≢false (sym e))
-says-taken Answer.flush e = absurd (true≢false (sym e))
-says-taken Answer.shutdown e = absurd (true≢false (sym e))
-says-taken not_taken e = absurd (true≢false (sym e))
-says-taken nothing e = absurd (true≢false (sym e))
+says-taken : Setup → (a : Answer) → says_taken a ≡ true → progress_by a ≡ Some to_encode
+says-taken setup a = by-answer (λ a. says_taken a ≡ true → progress_by a ≡ Some to_encode)
+    (record {
+      of_taken = λ n size e. refl;
+      of_encoded = λ n size e. absurd (true≢false (sym e));
+      of_sent = λ n attempt outcome e. absurd (true≢false (sym e));
+      of_replied = λ n next e. absurd (true≢false (sym e));
+      of_other = λ a s e. absurd (true≢false (sym e ∙ s.no_take));
+    })
+    setup a
 
 -- ---- before a take
 
@@ -132,4 +129,4 @@ one-batch-is-out run h all before between later x y e t u = by (list_any (λ z. 
         let may : may_take run (before ++ x ∷ between) y.step ≡ true = sym (taken-where-due run h all (before ++ x ∷ between) later y e) ∙ u in
         let a : Account run (before ++ x ∷ between) = account run (before ++ x ∷ between) (front run (before ++ x ∷ between) (y ∷ later) (subst (AreAnswers run) (sym e) all)) in
         let none : is_out (progress (before ++ x ∷ between)) ≡ false = not-out run (before ++ x ∷ between) a (none-out run (before ++ x ∷ between) y.step may) in
-        absurd (true≢false (sym (taken-out before between x (says-taken x.answer t) k) ∙ none))
+        absurd (true≢false (sym (taken-out run.setup before between x (says-taken run.setup x.answer t) k) ∙ none))

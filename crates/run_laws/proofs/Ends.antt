@@ -11,9 +11,8 @@ use Rattle.span_model.specs.Starts.{StartedSpan, exported_span}
 use Rattle.history_model.specs.Steps.{Parent, Step}
 use Rattle.history_model.specs.History.{Setup, StartResult, start, call, start_count, start_results, exported_of, exported_if_sampled, with_tickets, ended_spans}
 use Rattle.history_model.proofs.Histories.{outcomes-many, ended-start, ended-no-more, ended-more}
-use Rattle.run_model.specs.Runs.{Answer, Answered, is_refused, span_steps, ended_by}
-use Rattle.run_model.specs.Answers.{span_at, calls_so_far}
-use Rattle.run_model.proofs.More.{is_shut, ended-open, ended-shut, ended-none, ended-some}
+use Rattle.run_model.specs.Runs.{Answer, Answered, is_refused, span_steps, span_at, calls_so_far, ended_by}
+use Rattle.run_model.proofs.More.{is_shut, ended-open, ended-shut, ended-none, ended-some, exported-found}
 use Rattle.run_laws.specs.Laws.{OfHistories, EndedSpansStay, EndedAreFew}
 
 abbrev pub told : Step → Answer → Answered
@@ -76,10 +75,6 @@ exports-missing : (calls : List Call) (o : Option StartResult) → option_and_th
 exports-missing calls None e = refl
 exports-missing calls (Some r) e = ap (option_and_then (exported_if_sampled calls)) e
 
-exports-found : (calls : List Call) (o : Option StartResult) (s : StartedSpan) → option_and_then (λ o. o.span) o ≡ Some s → exported_of calls o ≡ exported_if_sampled calls s
-exports-found calls None s e = cc
-exports-found calls (Some r) s e = ap (option_and_then (exported_if_sampled calls)) e
-
 pub missing-ends-none : (setup : Setup) (h : List Answered) (n : ℕ) (c : Call) (answer : Answer) → is_refused answer ≡ false → span_at setup h n ≡ None → ended_by setup (h ++ told (Step.call n c) answer ∷ []) ≡ ended_by setup h
 missing-ends-none setup h n c answer r e =
     call-ends-none setup h n c answer r
@@ -98,7 +93,7 @@ later-ends-none setup h n c answer r e = call-ends-none setup h n c answer r (ap
 pub unsampled-ends-none : (setup : Setup) (h : List Answered) (n : ℕ) (c : Call) (answer : Answer) (s : StartedSpan) → is_refused answer ≡ false → span_at setup h n ≡ Some s → is_sampled s.decision ≡ false → ended_by setup (h ++ told (Step.call n c) answer ∷ []) ≡ ended_by setup h
 unsampled-ends-none setup h n c answer s r e d =
     let none : exported_of (calls_so_far h n ++ c ∷ []) (slice_get (start_results setup (span_steps h)) n) ≡ None =
-    exports-found (calls_so_far h n ++ c ∷ []) (slice_get (start_results setup (span_steps h)) n) s e ∙ rw d refl in
+    exported-found (calls_so_far h n ++ c ∷ []) (slice_get (start_results setup (span_steps h)) n) s e ∙ rw d refl in
     call-ends-none setup h n c answer r
     (if-none (is_first h n c) (exports setup h n c) (ap (λ o. with_tickets (length (ended_by setup h)) (option_to_list o)) none))
 
@@ -118,7 +113,7 @@ pub first-end-ends : (setup : Setup) (h : List Answered) (n : ℕ) (c : Call) (a
 first-end-ends setup h n c answer s r o e f g d =
     let first : is_first h n c ≡ true = rw (e, has-started setup h n s g, f) refl in
     let one : exported_of (calls_so_far h n ++ c ∷ []) (slice_get (start_results setup (span_steps h)) n) ≡ Some (exported_span s (calls_so_far h n ++ c ∷ [])) =
-    exports-found (calls_so_far h n ++ c ∷ []) (slice_get (start_results setup (span_steps h)) n) s g ∙ rw d refl in
+    exported-found (calls_so_far h n ++ c ∷ []) (slice_get (start_results setup (span_steps h)) n) s g ∙ rw d refl in
     call-open setup h n c answer r o
     ∙ ap (λ b. ended_by setup h ++ cond b (exports setup h n c) []) first
     ∙ ap (λ es. ended_by setup h ++ with_tickets (length (ended_by setup h)) (option_to_list es)) one

@@ -3,6 +3,7 @@ use Rattle.std.proofs.Common.{◌≡◌, sym, subst, List, [], ◌∷◌, ◌++�
 use Rattle.std.proofs.lemmas.List.{append-nil}
 use Rattle.run_model.specs.Runs.{Answered}
 use Rattle.run_model.specs.Answers.{RunConfig, IsAnswer, AreAnswersBehind, AreAnswers}
+use Rattle.run_model.proofs.More.{answer-at as right-at}
 
 -- what holds before the first step, and is kept by each right answer
 module _ (run : RunConfig) (P : List Answered → Type 0) (step : (h : List Answered) (x : Answered) → P h → IsAnswer run h x → P (h ++ x ∷ [])) where
@@ -32,11 +33,6 @@ pub behind : (run : RunConfig) (before later : List Answered) → AreAnswers run
 unfolding AreAnswers
 behind run before later w = behind-first run [] before later w
 
-answer-behind : (run : RunConfig) (first before later : List Answered) (x : Answered) → AreAnswersBehind run first (before ++ x ∷ later) → IsAnswer run (first ++ before) x
-answer-behind run first [] later x w = subst (λ b. IsAnswer run b x) (sym (append-nil first)) w.0
-answer-behind run first (y ∷ before) later x w = subst (λ b. IsAnswer run b x) (append_assoc first (y ∷ []) before) (answer-behind run (first ++ y ∷ []) before later x w.1)
-
 -- each step is, behind those before it
 pub answer-at : (run : RunConfig) (h : List Answered) → AreAnswers run h → (before later : List Answered) (x : Answered) → before ++ x ∷ later ≡ h → IsAnswer run before x
-unfolding AreAnswers
-answer-at run h w before later x e = answer-behind run [] before later x (subst (AreAnswers run) (sym e) w)
+answer-at run h w before later x e = right-at run before later x (subst (AreAnswers run) (sym e) w)

@@ -1,9 +1,11 @@
 pub mod Histories
+pub mod Elements
+pub mod Cases
+pub mod Values
 pub mod Answered
 pub mod Ends
 pub mod Accounts
 pub mod Attempts
 pub mod Steps
 pub mod Batches
-pub mod Values
 pub mod Handed

@@ -1,21 +1,22 @@
 -- The spans that wait, are in batches or were dropped are those that ended.
-use Rattle.std.proofs.Common.{◌≡◌, refl, sym, ap, ◌∙◌, ℕ, zero, suc, ◌+◌, ◌-◌, arith, List, [], ◌∷◌, ◌++◌, take, drop, map, Bool, true, false, true≢false, cond, not, ◌||◌, Option, Some, None, slice_get, option_map, filter_map}
+use Rattle.std.proofs.Common.{◌≡◌, refl, sym, ap, ◌∙◌, ℕ, zero, suc, List, [], ◌∷◌, ◌++◌, take, drop, map, Bool, true, false, true≢false, cond, not, ◌||◌, Option, Some, None, slice_get, option_map, filter_map}
 use Rattle.std.specs.Prelude.{◌==◌, if◌then◌else◌, unwrap_or}
 use Rattle.std.specs.List.{list_any, take_while, AllByRecursion, cons_option}
 use Rattle.std.proofs.lemmas.List.Sums.{take_while-cons}
-use Rattle.span_model.specs.Dropped.{Reason, queue_full, encode_memory, too_large, abandoned, Entry, entry_of}
-use Rattle.span_model.specs.Spans.{EndedSpan, with_ticket}
-use Rattle.desk_model.specs.Queue.{DeskEvent, popped, taken_count, accepted_spans, batch_sizes, slices, batch_spans, last_spans, last_batch, waiting_spans, gather, entries_by, drops}
+use Rattle.span_model.specs.Dropped.{Reason, queue_full, Entry, entry_of}
+use Rattle.span_model.specs.Spans.{EndedSpan}
+use Rattle.desk_model.specs.Queue.{DeskEvent, popped, ticket_of, taken_count, accepted_spans, batch_sizes, slices, batch_spans, last_spans, last_batch, waiting_spans, gather, entries_by, drops}
 use Rattle.desk_model.specs.Queue as desk
 use Rattle.desk_model.specs.Desks.{desk_of}
 use Rattle.desk_laws.specs.Queues.{is_popped}
 use Rattle.desk_laws.proofs.Ledgers.{ledger-names}
 use Rattle.history_model.specs.Steps.{Step, is_shutdown}
-use Rattle.history_model.specs.History.{Setup, span_step, with_tickets, ended_spans, granted_steps}
-use Rattle.run_model.specs.Runs.{Ended, queued, handed, late, not_sampled, already_ended, Answer, started, no_randomness, no_span, out_of_memory, done, ended, taken, not_taken, encoded, sent, early, replied, nothing, Answered, is_refused, span_steps, before_shutdown, ended_by, event_by, events_among, desk_events}
+use Rattle.history_model.specs.History.{Setup, span_step, ended_spans, granted_steps}
+use Rattle.run_model.specs.Runs.{Answered, is_refused, span_steps, before_shutdown, ended_by, event_by, events_behind, desk_events}
 use Rattle.run_model.specs.Answers.{RunConfig, desk_after}
-use Rattle.desk_model.specs.Retries.{Fate, fate_of}
+use Rattle.retry_model.specs.Retries.{Fate, fate_of}
 use Rattle.run_laws.specs.Laws.{OfHistories, IsEndedSpan, NamesEndedSpan, WaitingAreEnded, BatchesAreEnded, DropsNameEnded, EndedByTheSteps, LedgerNamesTheDropped}
+use Rattle.run_laws.proofs.Cases.{EventCases, by-event}
 
 -- ---- lists of which all have a property
 
@@ -42,7 +43,7 @@ module _ {A : Type 0} (P : A → Type 0) where
 -- ---- events whose spans have a property
 
 module _ (P : EndedSpan → Type 0) where
-  abbrev Has : DeskEvent → Type 0
+  abbrev pub Has : DeskEvent → Type 0
   Has (desk.queued s) = P s
   Has (desk.full s) = P s
   Has _ = Unit {0}
@@ -64,7 +65,8 @@ module _ (P : EndedSpan → Type 0) where
   waiting-have es a = all-drop P (taken_count es) (accepted_spans es) (accepted-have es a)
 
   batch-has : (es : List DeskEvent) (number : ℕ) → AllByRecursion Has es → AllByRecursion P (batch_spans es number)
-  batch-has es number a = all-slice P (batch_sizes es) (accepted_spans es) (number - 1) (accepted-have es a)
+  batch-has es zero a = tt
+  batch-has es (suc n) a = all-slice P (batch_sizes es) (accepted_spans es) n (accepted-have es a)
 
   -- what is dropped has a property of entries
   module _ (Q : Entry → Type 0) (names : (r : Reason) (s : EndedSpan) → P s → Q (entry_of r s)) where
@@ -90,92 +92,65 @@ module _ (P : EndedSpan → Type 0) where
         all-append Q (entries_by before x) (gather entries_by (before ++ x ∷ []) es) (event-names before x b a.0)
         (gather-names (before ++ x ∷ []) es (all-append Has before (x ∷ []) b (a.0, tt)) a.1)
 
--- ---- the events of a run
+-- ---- one more event, and more that is so
 
-module _ (spans : List EndedSpan) (placed : (n : ℕ) (s : EndedSpan) → slice_get spans n ≡ Some s → s.ticket ≡ n) where
-  abbrev IsOne : EndedSpan → Type 0
-  IsOne s = slice_get spans s.ticket ≡ Some s
+all-map : {A : Type 0} (P Q : A → Type 0) → ((x : A) → P x → Q x) → (xs : List A) → AllByRecursion P xs → AllByRecursion Q xs
+all-map P Q go [] a = tt
+all-map P Q go (x ∷ xs) a = (go x a.0, all-map P Q go xs a.1)
 
-  at-ticket : (n : ℕ) (s : EndedSpan) → slice_get spans n ≡ Some s → IsOne s
-  at-ticket n s e = ap (slice_get spans) (placed n s e) ∙ e
+has-map : (P Q : EndedSpan → Type 0) → ((s : EndedSpan) → P s → Q s) → (y : DeskEvent) → Has P y → Has Q y
+has-map P Q go (desk.queued s) h = go s h
+has-map P Q go (desk.full s) h = go s h
+has-map P Q go desk.late h = tt
+has-map P Q go desk.flush h = tt
+has-map P Q go desk.shutdown h = tt
+has-map P Q go (desk.taken now size) h = tt
+has-map P Q go desk.handed h = tt
+has-map P Q go (desk.dropped r) h = tt
+has-map P Q go (desk.settled f) h = tt
+has-map P Q go popped h = tt
 
-  abbrev HasOne : Option DeskEvent → Type 0
-  HasOne None = Unit {0}
-  HasOne (Some y) = Has IsOne y
+-- an event that gives no ticket
+pub has-no-ticket : (P : EndedSpan → Type 0) (y : DeskEvent) → ticket_of y ≡ None → Has P y
+has-no-ticket P (desk.queued s) e = cc
+has-no-ticket P (desk.full s) e = cc
+has-no-ticket P desk.late e = tt
+has-no-ticket P desk.flush e = tt
+has-no-ticket P desk.shutdown e = tt
+has-no-ticket P (desk.taken now size) e = tt
+has-no-ticket P desk.handed e = tt
+has-no-ticket P (desk.dropped r) e = tt
+has-no-ticket P (desk.settled f) e = tt
+has-no-ticket P popped e = tt
 
-  queued-one : (n : ℕ) (o : Option EndedSpan) → slice_get spans n ≡ o → HasOne (option_map desk.queued o)
-  queued-one n None e = tt
-  queued-one n (Some s) e = at-ticket n s e
+-- the spans of the events are of these, each at its ticket
+abbrev pub AreOf : List EndedSpan → List DeskEvent → Type 0
+AreOf ended es = AllByRecursion (Has (λ s. slice_get ended s.ticket ≡ Some s)) es
 
-  full-one : (n : ℕ) (o : Option EndedSpan) → slice_get spans n ≡ o → HasOne (option_map desk.full o)
-  full-one n None e = tt
-  full-one n (Some s) e = at-ticket n s e
+pub are-push : (ended : List EndedSpan) (es : List DeskEvent) (y : DeskEvent) → AreOf ended es → Has (λ s. slice_get ended s.ticket ≡ Some s) y → AreOf ended (es ++ y ∷ [])
+are-push ended es y a h = all-append (Has (λ s. slice_get ended s.ticket ≡ Some s)) es (y ∷ []) a (h, tt)
 
-  settled-one : (o : Option Fate) → HasOne (option_map desk.settled o)
-  settled-one None = tt
-  settled-one (Some f) = tt
+get-stays : (xs ys : List EndedSpan) (n : ℕ) (s : EndedSpan) → slice_get xs n ≡ Some s → slice_get (xs ++ ys) n ≡ Some s
+get-stays [] ys n s e = cc
+get-stays (x ∷ xs) ys zero s e = e
+get-stays (x ∷ xs) ys (suc n) s e = get-stays xs ys n s e
 
-  handed-one : (b : Bool) → HasOne (if b then Some desk.handed else None)
-  handed-one true = tt
-  handed-one false = tt
+pub are-more : (ended more : List EndedSpan) (es : List DeskEvent) → AreOf ended es → AreOf (ended ++ more) es
+are-more ended more es a =
+    all-map (Has (λ s. slice_get ended s.ticket ≡ Some s)) (Has (λ s. slice_get (ended ++ more) s.ticket ≡ Some s))
+    (has-map (λ s. slice_get ended s.ticket ≡ Some s) (λ s. slice_get (ended ++ more) s.ticket ≡ Some s) (λ s e. get-stays ended more s.ticket s e)) es a
 
-  event-one : (a : Answer) (step : Step) → HasOne (event_by spans a step)
-  event-one (ended (queued n)) step = queued-one n (slice_get spans n) refl
-  event-one (ended (Ended.dropped n queue_full)) step = full-one n (slice_get spans n) refl
-  event-one (ended (Ended.dropped n encode_memory)) step = tt
-  event-one (ended (Ended.dropped n too_large)) step = tt
-  event-one (ended (Ended.dropped n abandoned)) step = tt
-  event-one (ended (handed n)) step = tt
-  event-one (ended late) step = tt
-  event-one (ended not_sampled) step = tt
-  event-one (ended already_ended) step = tt
-  event-one (started ids) step = tt
-  event-one no_randomness step = tt
-  event-one no_span step = tt
-  event-one out_of_memory step = tt
-  event-one done step = tt
-  event-one Answer.flush step = tt
-  event-one Answer.shutdown step = tt
-  event-one (taken number size) step = tt
-  event-one not_taken step = tt
-  event-one (encoded number size) step = tt
-  event-one (sent number attempt outcome) step = handed-one (attempt == 1)
-  event-one early step = tt
-  event-one (replied number next) step = settled-one (fate_of next)
-  event-one nothing step = tt
+-- ---- what waits, is in batches, or was dropped
 
-  events-one : (h : List Answered) → AllByRecursion (Has IsOne) (events_among spans h)
-  events-one [] = tt
-  events-one (x ∷ h) = by (event_by spans x.answer x.step) (event-one x.answer x.step) (events-one h)
-    where
-      by : (o : Option DeskEvent) → HasOne o → AllByRecursion (Has IsOne) (events_among spans h) → AllByRecursion (Has IsOne) (cons_option o (events_among spans h))
-      by None a rest = rest
-      by (Some y) a rest = (a, rest)
+module _ (setup : Setup) (h : List Answered) (a : AreOf (ended_by setup h) (desk_events setup h)) where
+  pub waiting-are-ended : WaitingAreEnded setup h
+  waiting-are-ended = waiting-have (IsEndedSpan setup h) (desk_events setup h) a
 
-tickets-placed : (k : ℕ) (xs : List EndedSpan) (n : ℕ) (s : EndedSpan) → slice_get (with_tickets k xs) n ≡ Some s → s.ticket ≡ k + n
-tickets-placed k [] n s e = cc
-tickets-placed k (x ∷ xs) zero s e =
-    let same : with_ticket k x ≡ s = cc in
-    let t : k ≡ s.ticket = ap (λ y. y.ticket) same in
-    omega (arith, t)
-tickets-placed k (x ∷ xs) (suc n) s e = let t : s.ticket ≡ k + 1 + n = tickets-placed (k + 1) xs n s e in omega (arith, t)
+  pub batches-are-ended : BatchesAreEnded setup h
+  batches-are-ended number = batch-has (IsEndedSpan setup h) (desk_events setup h) number a
 
-ended-placed : (setup : Setup) (h : List Answered) (n : ℕ) (s : EndedSpan) → slice_get (ended_by setup h) n ≡ Some s → s.ticket ≡ n
-unfolding ended_by
-ended-placed setup h n s e = let t = tickets-placed 0 _ n s e in omega (arith, t)
-
-run-has : (setup : Setup) (h : List Answered) → AllByRecursion (Has (IsEndedSpan setup h)) (desk_events setup h)
-unfolding desk_events
-run-has setup h = events-one (ended_by setup h) (ended-placed setup h) h
-
-pub waiting-are-ended : OfHistories WaitingAreEnded
-waiting-are-ended setup h = waiting-have (IsEndedSpan setup h) (desk_events setup h) (run-has setup h)
-
-pub batches-are-ended : OfHistories BatchesAreEnded
-batches-are-ended setup h number = batch-has (IsEndedSpan setup h) (desk_events setup h) number (run-has setup h)
-
-pub drops-name-ended : OfHistories DropsNameEnded
-drops-name-ended setup h = gather-names (IsEndedSpan setup h) (NamesEndedSpan setup h) (λ r s e. (s, e, refl)) [] (desk_events setup h) tt (run-has setup h)
+  pub drops-name-ended : DropsNameEnded setup h
+  drops-name-ended = gather-names (IsEndedSpan setup h) (NamesEndedSpan setup h) (λ r s e. (s, e, refl)) [] (desk_events setup h) tt a
 
 -- ---- the ledger
 
@@ -183,58 +158,47 @@ abbrev NotPopped : Option DeskEvent → Type 0
 NotPopped None = Unit {0}
 NotPopped (Some y) = is_popped y ≡ false
 
-queued-not : (o : Option EndedSpan) → NotPopped (option_map desk.queued o)
-queued-not None = tt
-queued-not (Some s) = refl
-
-full-not : (o : Option EndedSpan) → NotPopped (option_map desk.full o)
-full-not None = tt
-full-not (Some s) = refl
-
-settled-not : (o : Option Fate) → NotPopped (option_map desk.settled o)
-settled-not None = tt
-settled-not (Some f) = refl
-
-handed-not : (b : Bool) → NotPopped (if b then Some desk.handed else None)
-handed-not true = refl
-handed-not false = tt
-
-event-of : (spans : List EndedSpan) (a : Answer) (step : Step) → NotPopped (event_by spans a step)
-event-of spans (ended (queued n)) step = queued-not (slice_get spans n)
-event-of spans (ended (Ended.dropped n queue_full)) step = full-not (slice_get spans n)
-event-of spans (ended (Ended.dropped n encode_memory)) step = tt
-event-of spans (ended (Ended.dropped n too_large)) step = tt
-event-of spans (ended (Ended.dropped n abandoned)) step = tt
-event-of spans (ended (handed n)) step = tt
-event-of spans (ended late) step = refl
-event-of spans (ended not_sampled) step = tt
-event-of spans (ended already_ended) step = tt
-event-of spans (started ids) step = tt
-event-of spans no_randomness step = tt
-event-of spans no_span step = tt
-event-of spans out_of_memory step = tt
-event-of spans done step = tt
-event-of spans Answer.flush step = refl
-event-of spans Answer.shutdown step = refl
-event-of spans (taken number size) step = refl
-event-of spans not_taken step = tt
-event-of spans (encoded number size) step = tt
-event-of spans (sent number attempt outcome) step = handed-not (attempt == 1)
-event-of spans early step = tt
-event-of spans (replied number next) step = settled-not (fate_of next)
-event-of spans nothing step = tt
-
-events-pop-none : (spans : List EndedSpan) (h : List Answered) → list_any is_popped (events_among spans h) ≡ false
-events-pop-none spans [] = refl
-events-pop-none spans (x ∷ h) = by (event_by spans x.answer x.step) (event-of spans x.answer x.step) (events-pop-none spans h)
+never-popped : (step : Step) → EventCases step (λ a o. NotPopped o)
+never-popped step = record {
+  of_queued = λ n o. by-queued o;
+  of_full = λ n o. by-full o;
+  of_late = refl;
+  of_flush = refl;
+  of_shutdown = refl;
+  of_taken = λ n s. refl;
+  of_encoded = λ n s. tt;
+  of_sent = λ n attempt outcome. by-handed (attempt == 1);
+  of_replied = λ n next. by-settled (fate_of next);
+  of_other = λ a s. tt;
+}
   where
-    by : (o : Option DeskEvent) → NotPopped o → list_any is_popped (events_among spans h) ≡ false → list_any is_popped (cons_option o (events_among spans h)) ≡ false
+    by-queued : (o : Option EndedSpan) → NotPopped (option_map desk.queued o)
+    by-queued None = tt
+    by-queued (Some s) = refl
+
+    by-full : (o : Option EndedSpan) → NotPopped (option_map desk.full o)
+    by-full None = tt
+    by-full (Some s) = refl
+
+    by-handed : (b : Bool) → NotPopped (if b then Some desk.handed else None)
+    by-handed true = refl
+    by-handed false = tt
+
+    by-settled : (o : Option Fate) → NotPopped (option_map desk.settled o)
+    by-settled None = tt
+    by-settled (Some f) = refl
+
+events-pop-none : (setup : Setup) (before h : List Answered) → list_any is_popped (events_behind setup before h) ≡ false
+events-pop-none setup before [] = refl
+events-pop-none setup before (x ∷ h) = by (event_by setup before x.answer x.step) (by-event setup before x.step (λ a o. NotPopped o) (never-popped x.step) x.answer) (events-pop-none setup (before ++ x ∷ []) h)
+  where
+    by : (o : Option DeskEvent) → NotPopped o → list_any is_popped (events_behind setup (before ++ x ∷ []) h) ≡ false → list_any is_popped (cons_option o (events_behind setup (before ++ x ∷ []) h)) ≡ false
     by None p rest = rest
     by (Some y) p rest = rw (p, rest) refl
 
 pub ledger-names-the-dropped : (run : RunConfig) (h : List Answered) → LedgerNamesTheDropped run h
 unfolding desk_after desk_of desk_events
-ledger-names-the-dropped run h = ledger-names (events_among (ended_by run.setup h) h) (events-pop-none (ended_by run.setup h) h)
+ledger-names-the-dropped run h = ledger-names (events_behind run.setup [] h) (events-pop-none run.setup [] h)
 
 -- ---- without refusals
 

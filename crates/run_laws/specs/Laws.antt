@@ -1,23 +1,23 @@
 -- What is proved of every run whose answers are right. (Trace API, End; Trace SDK, Batching
 -- processor; tickets and batches: profile)
-use Rattle.std.specs.Prelude.{◌≡◌, ℕ, ◌+◌, ◌-◌, ◌^◌, ◌<◌, ◌≤◌, ◌==◌, nat_lt, min, Bool, true, false, not, ◌&&◌, List, [], ◌∷◌, ◌++◌, length, map, flat_map, filter_map, if◌then◌else◌, reverse, slice_get, Option, Some, None, is_some, is_none}
+use Rattle.std.specs.Prelude.{◌≡◌, ℕ, ◌+◌, ◌-◌, ◌^◌, ◌<◌, ◌≤◌, ◌==◌, nat_lt, min, Bool, true, false, not, ◌&&◌, List, [], ◌∷◌, ◌++◌, length, map, flat_map, filter_map, reverse, slice_get, Option, Some, None, is_none}
 use Rattle.std.specs.List.{list_any, AllByRecursion}
 use Rattle.std.specs.Option.{option_map_or}
 use Rattle.span_model.specs.Attributes.{last_or}
 use Rattle.span_model.specs.Dropped.{queue_full, Entry, entry_of}
 use Rattle.span_model.specs.Sampling.{is_sampled}
 use Rattle.span_model.specs.Spans.{EndedSpan, is_end}
-use Rattle.desk_model.specs.Retries.{Outcome, Next, again, fate_of}
+use Rattle.retry_model.specs.Retries.{Outcome, Next, again, give_up}
 use Rattle.desk_model.specs.Queue.{waiting_spans, batch_spans, handed_spans, drops}
 use Rattle.desk_model.specs.Desks.{is_due, AreAllowed}
 use Rattle.desk_laws.specs.Queues.{times}
-use Rattle.retry_model.specs.Waits.{next_after}
+use Rattle.retry_model.specs.Waits.{IsRetryConfig, next_after}
 use Rattle.history_model.specs.Steps.{Step, is_shutdown}
 use Rattle.history_model.specs.History.{Setup, ended_spans, granted_steps}
-use Rattle.run_model.specs.Runs.{Ended, Answer, ended, taken, sent, replied, Answered, is_refused, ended_by, desk_events}
+use Rattle.run_model.specs.Runs.{Ended, Answer, started, no_randomness, no_span, out_of_memory, ended, taken, not_taken, encoded, sent, early, replied, nothing, Answered, is_refused, span_at, calls_so_far, ended_by, desk_events}
 use Rattle.run_model.specs.Runs as runs
-use Rattle.run_model.specs.Answers.{RunConfig, span_at, calls_so_far, desk_after, AreAnswers}
-use Rattle.run_model.specs.Headline.{EachOnce, Attempt, attempts, attempts_of}
+use Rattle.run_model.specs.Answers.{RunConfig, desk_after, AreAnswers}
+use Rattle.run_model.specs.Headline.{EachOnce, Attempt, attempts, attempts_of, batch_numbers}
 
 -- whatever is done, and whatever of it ends
 abbrev pub OfHistories : (Setup → List Answered → Type 0) → Type 0
@@ -113,10 +113,26 @@ TakenBehindShutdown run = AtEachStep (λ before x.
     → let desk = desk_after run before in
     says_taken x.answer ≡ (nat_lt 0 (length desk.waiting) && is_none desk.out))
 
--- the answer ends a batch
+-- The answer ends a batch: nothing more follows for it.
 abbrev pub ends_batch : Answer → Bool
-ends_batch (replied number next) = is_some (fate_of next)
-ends_batch _ = false
+ends_batch (replied number Next.done) = true
+ends_batch (replied number (Next.partial rejected)) = true
+ends_batch (replied number (give_up cause)) = true
+ends_batch (replied number (again moment)) = false
+ends_batch (taken number size) = false
+ends_batch (encoded number size) = false
+ends_batch (sent number attempt outcome) = false
+ends_batch (started ids) = false
+ends_batch no_randomness = false
+ends_batch no_span = false
+ends_batch out_of_memory = false
+ends_batch runs.done = false
+ends_batch (ended came) = false
+ends_batch Answer.flush = false
+ends_batch Answer.shutdown = false
+ends_batch not_taken = false
+ends_batch early = false
+ends_batch nothing = false
 
 -- At most one batch is out: before a next one is taken, the last one was settled. (profile)
 abbrev pub OneBatchIsOut : List Answered → Type 0
@@ -128,7 +144,7 @@ OneBatchIsOut history =
 
 -- ---- attempts
 
--- The attempts of a batch are numbered from 1 on. (profile)
+-- Each attempt has the number behind those that its batch had. (profile)
 abbrev pub AttemptsAreNumbered : List Answered → Type 0
 AttemptsAreNumbered = AtEachStep (λ before x.
     (number attempt : ℕ) (outcome : Outcome) → x.answer ≡ sent number attempt outcome
@@ -138,8 +154,18 @@ AttemptsAreNumbered = AtEachStep (λ before x.
 -- number: profile)
 abbrev pub AttemptsAreFew : RunConfig → List Answered → Type 0
 AttemptsAreFew run = AtEachStep (λ before x.
-    (number attempt : ℕ) (outcome : Outcome) → 1 ≤ run.retry.attempts
-    → x.answer ≡ sent number attempt outcome → attempt ≤ run.retry.attempts)
+    (number attempt : ℕ) (outcome : Outcome) → x.answer ≡ sent number attempt outcome
+    → attempt ≤ run.retry.attempts)
+
+-- No batch has more than five. (profile)
+abbrev pub AttemptsAreFiveAtMost : List Answered → Type 0
+AttemptsAreFiveAtMost = AtEachStep (λ before x.
+    (number attempt : ℕ) (outcome : Outcome) → x.answer ≡ sent number attempt outcome
+    → attempt ≤ 5)
+
+-- with settings that are taken
+abbrev pub OfSettings : (RunConfig → List Answered → Type 0) → RunConfig → List Answered → Type 0
+OfSettings holds run history = IsRetryConfig run.retry → holds run history
 
 abbrev pub moment_by : Answer → Option ℕ
 moment_by (taken number size) = Some 0
@@ -194,22 +220,14 @@ EventsAreAllowed run history =
 
 -- Each span that ended before the shutdown is handed, still queued, or dropped, once. (profile)
 abbrev pub NoneUnaccountedFor : RunConfig → List Answered → Type 0
-NoneUnaccountedFor run history =
-    HasTickets run.setup history → EachOnce run.setup history
+NoneUnaccountedFor run history = IsAllowed run history → EachOnce run.setup history
 
-abbrev pub handed_by : Answer → Option ℕ
-handed_by (sent number attempt outcome) = if attempt == 1 then Some number else None
-handed_by _ = None
-
--- the numbers of the batches that were handed to the exporter, each by its first attempt
-abbrev pub handed_batches : List Answered → List ℕ
-handed_batches history = filter_map (λ x. handed_by x.answer) history
-
--- The spans that were handed are those of these batches. (profile)
-abbrev pub HandedAreTheBatches : Setup → List Answered → Type 0
-HandedAreTheBatches setup history =
+-- The spans that were handed to the exporter are those of the distinct batches of these attempts.
+-- (profile)
+abbrev pub HandedAreTheBatches : Setup → List Answered → List Attempt → Type 0
+HandedAreTheBatches setup history told =
     let events = desk_events setup history in
-    handed_spans events ≡ flat_map (batch_spans events) (handed_batches history)
+    handed_spans events ≡ flat_map (batch_spans events) (batch_numbers told)
 
 -- A span that was handed to the exporter is not named as dropped, and neither is done twice.
 -- (profile)

@@ -5,8 +5,8 @@
 ghost use Rattle.std.specs.Prelude.{List};
 ghost use Rattle.run_model.specs.Runs.{Answered};
 ghost use Rattle.run_model.specs.Answers.{RunConfig};
-ghost use Rattle.run_model.specs.Headline.{EachOnce};
-ghost use Rattle.run_laws.specs.Laws.{OfHistories, OfRuns, LateBehindShutdown, DroppedWhereFull, QueuedWhereRoom, TakenWhereDue, TakesTheFirst, TakenBehindShutdown, OneBatchIsOut, AttemptsAreNumbered, AttemptsAreFew, NoAttemptIsEarly, RepliesAreDecided, EndedSpansStay, EndedAreFew, EventsAreAllowed, NoneUnaccountedFor, IsAllowed, HandedAreTheBatches, HandedAreNotDropped, LedgerNamesTheDropped, WaitingAreEnded, BatchesAreEnded, DropsNameEnded, EndedByTheSteps};
+ghost use Rattle.run_model.specs.Headline.{EachOnce, attempts, AreNumbered};
+ghost use Rattle.run_laws.specs.Laws.{OfHistories, OfRuns, LateBehindShutdown, DroppedWhereFull, QueuedWhereRoom, TakenWhereDue, TakesTheFirst, TakenBehindShutdown, OneBatchIsOut, AttemptsAreNumbered, AttemptsAreFew, AttemptsAreFiveAtMost, OfSettings, NoAttemptIsEarly, RepliesAreDecided, EndedSpansStay, EndedAreFew, EventsAreAllowed, NoneUnaccountedFor, IsAllowed, HandedAreTheBatches, HandedAreNotDropped, LedgerNamesTheDropped, WaitingAreEnded, BatchesAreEnded, DropsNameEnded, EndedByTheSteps};
 
 /// The first end of a sampled span: behind a shutdown it is late; else it is dropped where the
 /// queue is full, and waits where it isn't. Nothing else is late, dropped there or queued. (Trace
@@ -31,40 +31,46 @@ pub fn one_batch_is_out()
     ensures one { OfRuns (λ run. OneBatchIsOut) }
 {}
 
-/// The attempts of a batch are numbered from 1 on, and are as many as are configured at most; none
-/// stands before the moment that the last reply told. What follows from a reply is decided by the
-/// outcome of the last attempt. (OTLP Specification, Retryable Response Codes, OTLP/HTTP
-/// Throttling)
+/// The attempts of a batch are numbered from 1 on, and are as many as are configured at most, and
+/// so five; none stands before the moment that the last reply told. What follows from a reply is
+/// decided by the outcome of the last attempt. (OTLP Specification, Retryable Response Codes,
+/// OTLP/HTTP Throttling)
 pub fn attempts_are_answered()
     ensures numbered { OfRuns (λ run. AttemptsAreNumbered) }
-    ensures few { OfRuns AttemptsAreFew }
+    ensures in_order { OfRuns (λ run history. AreNumbered (attempts history)) }
+    ensures few { OfRuns (OfSettings AttemptsAreFew) }
+    ensures five { OfRuns (OfSettings (λ run. AttemptsAreFiveAtMost)) }
     ensures early { OfRuns (λ run. NoAttemptIsEarly) }
     ensures decided { OfRuns RepliesAreDecided }
 {}
 
 /// No span is unaccounted for: each that ended before the shutdown is handed to the exporter, still
 /// queued, or dropped, once, and the ledger names those that were dropped. Those that were handed
-/// are the spans of the batches that had an attempt. What is done at the queue is allowed there.
-/// Premise: fewer than 2^64 - 1 spans ended. (profile)
+/// are the spans of the batches that had an attempt. What is done at the queue is allowed there
+/// where fewer than 2^64 - 1 spans ended; that it is, is the premise of the others. (profile)
 pub fn none_is_unaccounted_for()
     ensures allowed { OfRuns EventsAreAllowed }
     ensures once { OfRuns NoneUnaccountedFor }
     ensures batches { OfRuns (λ run history.
-        IsAllowed run history → HandedAreTheBatches run.setup history) }
+        IsAllowed run history → HandedAreTheBatches run.setup history (attempts history)) }
     ensures handed { OfHistories (λ setup history.
         EachOnce setup history → HandedAreNotDropped setup history) }
     ensures named { (run : RunConfig) (history : List Answered) →
         LedgerNamesTheDropped run history }
 {}
 
-/// A span that has ended keeps its ticket and its value, whatever follows. With these it waits, is
-/// in its batch, or is named. Where no memory was refused, it is one that the steps end. No more
-/// spans end than there are steps. (Trace API, End)
+/// A span that has ended keeps its ticket and its value, whatever follows. Where no memory was
+/// refused, it is one that the steps end. No more spans end than there are steps. (Trace API, End)
 pub fn ended_spans_stay()
     ensures stay { OfHistories EndedSpansStay }
     ensures few { OfHistories EndedAreFew }
-    ensures waiting { OfHistories WaitingAreEnded }
-    ensures batches { OfHistories BatchesAreEnded }
-    ensures drops { OfHistories DropsNameEnded }
     ensures steps { OfHistories EndedByTheSteps }
+{}
+
+/// The spans that wait, those of each batch, and those that were dropped are spans that ended, each
+/// with the ticket and the value with which it did. (Trace API, End)
+pub fn queued_spans_are_ended()
+    ensures waiting { OfRuns (λ run. WaitingAreEnded run.setup) }
+    ensures batches { OfRuns (λ run. BatchesAreEnded run.setup) }
+    ensures drops { OfRuns (λ run. DropsNameEnded run.setup) }
 {}

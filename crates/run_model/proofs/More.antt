@@ -1,18 +1,17 @@
 -- One more step of a run.
-use Rattle.std.proofs.Common.{◌≡◌, refl, sym, ap, ◌∙◌, ℕ, zero, suc, ◌<◌, ◌≤◌, arith, List, [], ◌∷◌, ◌++◌, length, append_assoc, Bool, true, false, true≢false, not, cond, ◌||◌, Option, Some, None, IfSome, slice_get, filter_map, option_map}
-use Rattle.std.specs.List.{list_any, AllByRecursion, cons_option}
-use Rattle.std.specs.Option.{option_to_list}
+use Rattle.std.proofs.Common.{◌≡◌, refl, sym, ap, subst, ◌∙◌, ℕ, List, [], ◌∷◌, ◌++◌, append_assoc, Bool, true, false, true≢false, not, cond, ◌||◌, Option, Some, None, slice_get, filter_map, option_map}
+use Rattle.std.specs.List.{list_any, cons_option}
+use Rattle.std.specs.Option.{option_and_then, option_to_list}
 use Rattle.std.proofs.lemmas.List.{append-nil}
-use Rattle.std.proofs.lemmas.List.Elements.{filter_map-append}
 use Rattle.std.proofs.lemmas.List.Sums.{take_while-cons}
-use Rattle.span_model.specs.Spans.{EndedSpan}
-use Rattle.span_model.specs.Dropped.{queue_full, encode_memory, too_large, abandoned}
+use Rattle.span_model.specs.Sampling.{is_sampled}
+use Rattle.span_model.specs.Spans.{Call, with_ticket}
+use Rattle.span_model.specs.Starts.{StartedSpan, exported_span}
 use Rattle.desk_model.specs.Queue.{DeskEvent}
-use Rattle.desk_model.specs.Queue as desk
 use Rattle.desk_model.proofs.Lists.{none-more, some-more, last-more, any-more}
 use Rattle.history_model.specs.Steps.{Step, is_shutdown}
-use Rattle.history_model.specs.History.{Setup, SpanStep, span_step, ended_spans}
-use Rattle.run_model.specs.Runs.{Ended, queued, handed, late, not_sampled, already_ended, Answer, started, no_randomness, no_span, out_of_memory, done, ended, taken, not_taken, encoded, sent, early, replied, nothing, Answered, is_refused, span_steps, before_shutdown, ended_by, event_by, events_among, desk_events}
+use Rattle.history_model.specs.History.{Setup, SpanStep, StartResult, span_step, exported_of, exported_if_sampled, ended_spans}
+use Rattle.run_model.specs.Runs.{Answer, started, no_randomness, no_span, out_of_memory, done, ended, taken, not_taken, encoded, sent, early, replied, nothing, Answered, is_refused, span_steps, starts_so_far, span_at, calls_so_far, before_shutdown, ended_by, span_of_end, event_by, events_behind, desk_events}
 use Rattle.span_model.specs.Attributes.{last_or}
 use Rattle.run_model.specs.Answers.{RunConfig, Progress, progress_by, progress, attempts_by, last_attempt, IsAnswer, AreAnswers, AreAnswersBehind}
 use Rattle.run_model.specs.Headline.{Attempt, attempt_by, attempts}
@@ -91,82 +90,37 @@ ended-some setup h x s f k e = ended-open setup (h ++ x ∷ []) (shut-still h x 
 
 -- ---- what is done at the queue
 
-abbrev pub ticket_of : Answer → Option ℕ
-ticket_of (ended (queued ticket)) = Some ticket
-ticket_of (ended (Ended.dropped ticket reason)) = Some ticket
-ticket_of _ = None
-
--- its ticket, if it gives one, is below a number
-abbrev pub IsBelow : ℕ → Answer → Type 0
-IsBelow n a = IfSome (ticket_of a) (λ ticket. ticket < n)
-
-abbrev pub AreBelow : ℕ → List Answered → Type 0
-AreBelow n h = AllByRecursion (λ x. IsBelow n x.answer) h
-
-pub below-more : (n m : ℕ) (h : List Answered) (x : Answered) → n ≤ m → AreBelow n h → IsBelow m x.answer → AreBelow m (h ++ x ∷ [])
-below-more n m [] x e b c = (c, tt)
-below-more n m (y ∷ h) x e b c = (by (ticket_of y.answer) b.0, below-more n m h x e b.1 c)
-  where
-    by : (o : Option ℕ) → IfSome o (λ ticket. ticket < n) → IfSome o (λ ticket. ticket < m)
-    by None k = k
-    by (Some t) k = omega (arith, k, e)
-
-get-before : {A : Type 0} (xs ys : List A) (n : ℕ) → n < length xs → slice_get (xs ++ ys) n ≡ slice_get xs n
-get-before [] ys n h = absurd (omega (arith, h))
-get-before (x ∷ xs) ys zero h = refl
-get-before (x ∷ xs) ys (suc n) h = get-before xs ys n (omega (arith, h))
-
-event-stays : (spans more : List EndedSpan) (a : Answer) (step : Step) → IsBelow (length spans) a → event_by (spans ++ more) a step ≡ event_by spans a step
-event-stays spans more (ended (queued ticket)) step h = ap (option_map desk.queued) (get-before spans more ticket h)
-event-stays spans more (ended (Ended.dropped ticket queue_full)) step h = ap (option_map desk.full) (get-before spans more ticket h)
-event-stays spans more (ended (Ended.dropped ticket encode_memory)) step h = refl
-event-stays spans more (ended (Ended.dropped ticket too_large)) step h = refl
-event-stays spans more (ended (Ended.dropped ticket abandoned)) step h = refl
-event-stays spans more (ended (handed ticket)) step h = refl
-event-stays spans more (ended late) step h = refl
-event-stays spans more (ended not_sampled) step h = refl
-event-stays spans more (ended already_ended) step h = refl
-event-stays spans more (started ids) step h = refl
-event-stays spans more no_randomness step h = refl
-event-stays spans more no_span step h = refl
-event-stays spans more out_of_memory step h = refl
-event-stays spans more done step h = refl
-event-stays spans more Answer.flush step h = refl
-event-stays spans more Answer.shutdown step h = refl
-event-stays spans more (taken number size) step h = refl
-event-stays spans more not_taken step h = refl
-event-stays spans more (encoded number size) step h = refl
-event-stays spans more (sent number attempt outcome) step h = refl
-event-stays spans more early step h = refl
-event-stays spans more (replied number next) step h = refl
-event-stays spans more nothing step h = refl
-
-events-stay : (spans more : List EndedSpan) (h : List Answered) → AreBelow (length spans) h → events_among (spans ++ more) h ≡ events_among spans h
-events-stay spans more [] b = refl
-events-stay spans more (x ∷ h) b = rw (event-stays spans more x.answer x.step b.0, events-stay spans more h b.1) refl
+cons-append : {B : Type 0} (o : Option B) (xs ys : List B) → cons_option o (xs ++ ys) ≡ cons_option o xs ++ ys
+cons-append None xs ys = refl
+cons-append (Some y) xs ys = refl
 
 one-of : {B : Type 0} (o : Option B) → cons_option o [] ≡ option_to_list o
 one-of None = refl
 one-of (Some x) = refl
 
--- where so many more spans end
-pub events-more : (setup : Setup) (h : List Answered) (x : Answered) (more : List EndedSpan) (o : Option DeskEvent) → ended_by setup (h ++ x ∷ []) ≡ ended_by setup h ++ more → AreBelow (length (ended_by setup h)) h
-    → event_by (ended_by setup h ++ more) x.answer x.step ≡ o → desk_events setup (h ++ x ∷ []) ≡ desk_events setup h ++ option_to_list o
-unfolding desk_events
-events-more setup h x more o e b f =
-    ap (λ spans. events_among spans (h ++ x ∷ [])) e
-    ∙ filter_map-append (λ y. event_by (ended_by setup h ++ more) y.answer y.step) h (x ∷ [])
-    ∙ ap (λ l. l ++ cons_option (event_by (ended_by setup h ++ more) x.answer x.step) []) (events-stay (ended_by setup h) more h b)
-    ∙ ap (λ l. events_among (ended_by setup h) h ++ l) (one-of (event_by (ended_by setup h ++ more) x.answer x.step) ∙ ap option_to_list f)
+events-append : (setup : Setup) (before h : List Answered) (x : Answered) → events_behind setup before (h ++ x ∷ []) ≡ events_behind setup before h ++ option_to_list (event_by setup (before ++ h) x.answer x.step)
+events-append setup before [] x = one-of (event_by setup before x.answer x.step) ∙ ap (λ b. option_to_list (event_by setup b x.answer x.step)) (sym (append-nil before))
+events-append setup before (y ∷ h) x =
+    ap (cons_option (event_by setup before y.answer y.step))
+    (events-append setup (before ++ y ∷ []) h x ∙ ap (λ b. events_behind setup (before ++ y ∷ []) h ++ option_to_list (event_by setup b x.answer x.step)) (append_assoc before (y ∷ []) h))
+    ∙ cons-append (event_by setup before y.answer y.step) (events_behind setup (before ++ y ∷ []) h) (option_to_list (event_by setup (before ++ y ∷ h) x.answer x.step))
 
--- where none does
-pub events-same : (setup : Setup) (h : List Answered) (x : Answered) (o : Option DeskEvent) → ended_by setup (h ++ x ∷ []) ≡ ended_by setup h
-    → event_by (ended_by setup h) x.answer x.step ≡ o → desk_events setup (h ++ x ∷ []) ≡ desk_events setup h ++ option_to_list o
+-- one more step
+pub events-more : (setup : Setup) (h : List Answered) (x : Answered) (o : Option DeskEvent) → event_by setup h x.answer x.step ≡ o → desk_events setup (h ++ x ∷ []) ≡ desk_events setup h ++ option_to_list o
 unfolding desk_events
-events-same setup h x o e f =
-    ap (λ spans. events_among spans (h ++ x ∷ [])) e
-    ∙ filter_map-append (λ y. event_by (ended_by setup h) y.answer y.step) h (x ∷ [])
-    ∙ ap (λ l. events_among (ended_by setup h) h ++ l) (one-of (event_by (ended_by setup h) x.answer x.step) ∙ ap option_to_list f)
+events-more setup h x o e = events-append setup [] h x ∙ ap (λ p. events_behind setup [] h ++ option_to_list p) e
+
+pub exported-found : (calls : List Call) (o : Option StartResult) (s : StartedSpan) → option_and_then (λ o. o.span) o ≡ Some s → exported_of calls o ≡ exported_if_sampled calls s
+exported-found calls None s e = cc
+exported-found calls (Some r) s e = ap (option_and_then (exported_if_sampled calls)) e
+
+-- the span that the end of a sampled one ends
+pub span-of-end : (setup : Setup) (h : List Answered) (n : ℕ) (c : Call) (ticket : ℕ) (s : StartedSpan) → span_at setup h n ≡ Some s → is_sampled s.decision ≡ true
+    → span_of_end setup h (Step.call n c) ticket ≡ Some (with_ticket ticket (exported_span s (calls_so_far h n ++ c ∷ [])))
+span-of-end setup h n c ticket s e d =
+    let one : exported_of (calls_so_far h n ++ c ∷ []) (slice_get (starts_so_far setup h) n) ≡ Some (exported_span s (calls_so_far h n ++ c ∷ [])) =
+    exported-found (calls_so_far h n ++ c ∷ []) (slice_get (starts_so_far setup h) n) s e ∙ rw d refl in
+    ap (option_map (with_ticket ticket)) one
 
 -- ---- the last batch and the attempts
 
@@ -225,3 +179,12 @@ answers-behind run before (y ∷ h) x a i = (a.0, answers-behind run (before ++ 
 pub answers-more : (run : RunConfig) (h : List Answered) (x : Answered) → AreAnswers run h → IsAnswer run h x → AreAnswers run (h ++ x ∷ [])
 unfolding AreAnswers
 answers-more run h x a i = answers-behind run [] h x a i
+
+answer-behind : (run : RunConfig) (first before later : List Answered) (x : Answered) → AreAnswersBehind run first (before ++ x ∷ later) → IsAnswer run (first ++ before) x
+answer-behind run first [] later x w = subst (λ b. IsAnswer run b x) (sym (append-nil first)) w.0
+answer-behind run first (y ∷ before) later x w = subst (λ b. IsAnswer run b x) (append_assoc first (y ∷ []) before) (answer-behind run (first ++ y ∷ []) before later x w.1)
+
+-- each answer is right behind the steps before it
+pub answer-at : (run : RunConfig) (before later : List Answered) (x : Answered) → AreAnswers run (before ++ x ∷ later) → IsAnswer run before x
+unfolding AreAnswers
+answer-at run before later x w = answer-behind run [] before later x w

@@ -2,20 +2,19 @@
 -- OTLP/HTTP)
 use Rattle.std.specs.Prelude.{◌≡◌, ℕ, ◌+◌, ◌==◌, nat_lt, min, Bool, false, not, ◌&&◌, ◌||◌, if◌then◌else◌, List, [], ◌∷◌, ◌++◌, length, filter_map, Option, Some, None, is_some, is_none, slice_get}
 use Rattle.std.specs.List.{list_any}
-use Rattle.std.specs.Option.{option_and_then}
 use Rattle.span_model.specs.Attributes.{is_empty, last_or}
 use Rattle.span_model.specs.Dropped.{queue_full}
 use Rattle.span_model.specs.Sampling.{is_sampled, is_recording}
 use Rattle.span_model.specs.Spans.{Call, is_end}
 use Rattle.span_model.specs.Starts.{StartedSpan}
 use Rattle.export_model.specs.Export.{groups, body_length}
-use Rattle.desk_model.specs.Retries.{Outcome, again}
+use Rattle.retry_model.specs.Retries.{Outcome, Next, again, give_up}
 use Rattle.desk_model.specs.Queue.{last_spans}
 use Rattle.desk_model.specs.Desks.{DeskConfig, Desk, desk_of, is_due}
 use Rattle.retry_model.specs.Waits.{RetryConfig, next_after}
 use Rattle.history_model.specs.Steps.{Parent, Step, is_shutdown}
-use Rattle.history_model.specs.History.{Setup, StartResult, calls_on, parent_among, start_result, start_results}
-use Rattle.run_model.specs.Runs.{Ended, queued, late, not_sampled, already_ended, Answer, started, no_randomness, no_span, out_of_memory, done, ended, taken, not_taken, encoded, sent, early, replied, nothing, Answered, span_steps, ended_by, desk_events}
+use Rattle.history_model.specs.History.{Setup, parent_among, start_result}
+use Rattle.run_model.specs.Runs.{Ended, queued, late, not_sampled, already_ended, Answer, started, no_randomness, no_span, out_of_memory, done, ended, taken, not_taken, encoded, sent, early, replied, nothing, Answered, starts_so_far, span_at, calls_so_far, ended_by, desk_events}
 
 -- What a run has before its first step, at moment 0.
 pub record RunConfig : Type 0 where
@@ -24,18 +23,6 @@ pub record RunConfig : Type 0 where
   pub retry : RetryConfig
 
 -- ---- spans
-
--- what the starts so far came to
-abbrev pub starts_so_far : Setup → List Answered → List StartResult
-starts_so_far setup before = start_results setup (span_steps before)
-
--- the span with this number, where its start gave one
-abbrev pub span_at : Setup → List Answered → ℕ → Option StartedSpan
-span_at setup before n = option_and_then (λ o. o.span) (slice_get (starts_so_far setup before) n)
-
--- the calls on it that count
-abbrev pub calls_so_far : List Answered → ℕ → List Call
-calls_so_far before n = calls_on n (span_steps before)
 
 -- there are the scope and the parent that a start names
 abbrev pub is_there : Setup → List Answered → ℕ → Parent → Bool
@@ -97,8 +84,22 @@ progress_by (taken number size) = Some to_encode
 progress_by (encoded number size) = Some to_send
 progress_by (sent number attempt outcome) = Some (to_judge outcome)
 progress_by (replied number (again moment)) = Some (to_retry moment)
-progress_by (replied number next) = Some not_out
-progress_by _ = None
+-- These end it.
+progress_by (replied number Next.done) = Some not_out
+progress_by (replied number (Next.partial rejected)) = Some not_out
+progress_by (replied number (give_up cause)) = Some not_out
+-- The others say nothing of a batch.
+progress_by (started ids) = None
+progress_by no_randomness = None
+progress_by no_span = None
+progress_by out_of_memory = None
+progress_by done = None
+progress_by (ended came) = None
+progress_by Answer.flush = None
+progress_by Answer.shutdown = None
+progress_by not_taken = None
+progress_by early = None
+progress_by nothing = None
 
 -- what was last said of a batch
 unfoldable pub progress : List Answered → Progress
@@ -137,7 +138,8 @@ reply_answer run before desk now word _ = nothing
 
 -- ---- all steps
 
--- what a step can't know beforehand: whether memory is refused to it, and what the exporter answers
+-- what a step can't know beforehand: whether memory is refused to it, and the outcome that the
+-- exporter would tell
 pub record Given : Type 0 where
   pub refused : Bool
   pub outcome : Outcome

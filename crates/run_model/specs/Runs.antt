@@ -1,14 +1,16 @@
 -- A run: the steps of a program, each with its answer; the spans that they end, and what they do at
 -- the queue of its batch processor. (Trace API; Trace SDK, Batching processor)
-use Rattle.std.specs.Prelude.{ℕ, ◌==◌, Bool, true, false, not, if◌then◌else◌, List, filter_map, take_while, Option, Some, None, option_map, slice_get}
-use Rattle.span_model.specs.Dropped.{Reason, queue_full}
-use Rattle.span_model.specs.Spans.{EndedSpan}
-use Rattle.span_model.specs.Starts.{Ids}
-use Rattle.desk_model.specs.Retries.{Outcome, Next, fate_of}
+use Rattle.std.specs.Prelude.{ℕ, ◌==◌, Bool, true, false, not, if◌then◌else◌, List, [], ◌∷◌, ◌++◌, filter_map, take_while, Option, Some, None, option_map, slice_get}
+use Rattle.std.specs.List.{cons_option}
+use Rattle.std.specs.Option.{option_and_then}
+use Rattle.span_model.specs.Dropped.{Reason, queue_full, encode_memory, too_large, abandoned}
+use Rattle.span_model.specs.Spans.{Call, EndedSpan, with_ticket}
+use Rattle.span_model.specs.Starts.{Ids, StartedSpan}
+use Rattle.retry_model.specs.Retries.{Outcome, Next, fate_of}
 use Rattle.desk_model.specs.Queue.{DeskEvent}
 use Rattle.desk_model.specs.Queue as desk
 use Rattle.history_model.specs.Steps.{Step, is_shutdown, take}
-use Rattle.history_model.specs.History.{Setup, SpanStep, span_step, ended_spans}
+use Rattle.history_model.specs.History.{Setup, StartResult, SpanStep, span_step, start_results, calls_on, exported_of, ended_spans}
 
 -- What becomes of a span at its end: with its ticket, it waits, or it is with the exporter, or it
 -- is dropped for a reason. (Trace SDK, OnEnd; tickets: profile)
@@ -60,6 +62,18 @@ is_refused _ = false
 abbrev pub span_steps : List Answered → List SpanStep
 span_steps history = filter_map (λ x. span_step (is_refused x.answer) x.step) history
 
+-- what the starts so far came to
+abbrev pub starts_so_far : Setup → List Answered → List StartResult
+starts_so_far setup before = start_results setup (span_steps before)
+
+-- the span with this number, where its start gave one
+abbrev pub span_at : Setup → List Answered → ℕ → Option StartedSpan
+span_at setup before n = option_and_then (λ o. o.span) (slice_get (starts_so_far setup before) n)
+
+-- the calls on it that count
+abbrev pub calls_so_far : List Answered → ℕ → List Call
+calls_so_far before n = calls_on n (span_steps before)
+
 -- the history before the first shutdown
 abbrev pub before_shutdown : List Answered → List Answered
 before_shutdown history = take_while (λ x. not (is_shutdown x.step)) history
@@ -72,29 +86,58 @@ ended_by setup history = ended_spans setup (span_steps (before_shutdown history)
 
 -- ---- at the queue
 
-abbrev pub moment_of : Step → ℕ
-moment_of (take now) = now
-moment_of _ = 0
+-- The span that a step ends behind these, with this ticket: what the calls on it made of it, of
+-- which this one is the last. (Trace API, End)
+abbrev pub span_of_end : Setup → List Answered → Step → ℕ → Option EndedSpan
+span_of_end setup before (Step.call n c) ticket =
+    option_map (with_ticket ticket)
+    (exported_of (calls_so_far before n ++ c ∷ []) (slice_get (starts_so_far setup before) n))
+span_of_end setup before _ ticket = None
 
--- What a step does at the queue, by its answer, where these are the spans that end.
-abbrev pub event_by : List EndedSpan → Answer → Step → Option DeskEvent
-event_by spans (ended (queued ticket)) step = option_map desk.queued (slice_get spans ticket)
-event_by spans (ended (dropped ticket queue_full)) step =
-    option_map desk.full (slice_get spans ticket)
-event_by spans (ended late) step = Some desk.late
-event_by spans flush step = Some desk.flush
-event_by spans shutdown step = Some desk.shutdown
-event_by spans (taken number size) step = Some (desk.taken (moment_of step) size)
+-- the moment of a take
+abbrev pub take_moment : Step → ℕ
+take_moment (take now) = now
+take_moment _ = 0
+
+-- What a step does at the queue behind these, by its answer.
+abbrev pub event_by : Setup → List Answered → Answer → Step → Option DeskEvent
+event_by setup before (ended (queued ticket)) step =
+    option_map desk.queued (span_of_end setup before step ticket)
+event_by setup before (ended (dropped ticket queue_full)) step =
+    option_map desk.full (span_of_end setup before step ticket)
+event_by setup before (ended late) step = Some desk.late
+event_by setup before flush step = Some desk.flush
+event_by setup before shutdown step = Some desk.shutdown
+event_by setup before (taken number size) step = Some (desk.taken (take_moment step) size)
 -- Its first attempt hands the batch to the exporter.
-event_by spans (sent number attempt outcome) step =
+event_by setup before (sent number attempt outcome) step =
     if attempt == 1 then Some desk.handed else None
-event_by spans (replied number next) step = option_map desk.settled (fate_of next)
-event_by spans _ step = None
+event_by setup before (replied number next) step = option_map desk.settled (fate_of next)
+-- No span is handed by its end, and none is dropped there for another reason.
+event_by setup before (ended (handed ticket)) step = None
+event_by setup before (ended (dropped ticket encode_memory)) step = None
+event_by setup before (ended (dropped ticket too_large)) step = None
+event_by setup before (ended (dropped ticket abandoned)) step = None
+-- The others do nothing there.
+event_by setup before (ended not_sampled) step = None
+event_by setup before (ended already_ended) step = None
+event_by setup before (started ids) step = None
+event_by setup before no_randomness step = None
+event_by setup before no_span step = None
+event_by setup before out_of_memory step = None
+event_by setup before done step = None
+event_by setup before not_taken step = None
+event_by setup before (encoded number size) step = None
+event_by setup before early step = None
+event_by setup before nothing step = None
 
--- what these steps do there, in order
-abbrev pub events_among : List EndedSpan → List Answered → List DeskEvent
-events_among spans history = filter_map (λ x. event_by spans x.answer x.step) history
+-- what these steps do there, in order, behind others
+abbrev pub events_behind : Setup → List Answered → List Answered → List DeskEvent
+events_behind setup before [] = []
+events_behind setup before (x ∷ later) =
+    cons_option (event_by setup before x.answer x.step)
+    (events_behind setup (before ++ x ∷ []) later)
 
 -- what is done at the queue
 unfoldable pub desk_events : Setup → List Answered → List DeskEvent
-desk_events setup history = events_among (ended_by setup history) history
+desk_events setup history = events_behind setup [] history

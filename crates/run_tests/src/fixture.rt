@@ -178,7 +178,7 @@ pub(crate) fn desk(queue: usize, batch: usize) -> DeskConfig {
     }
 }
 
-/// An exporter that answers these outcomes.
+/// An exporter with these outcomes.
 pub(crate) fn exporter<A: Allocator + Copy>(
     rt: &impl Abort,
     alloc: A,

@@ -6,7 +6,7 @@ use Rattle.hex.specs.Hex.{encode_lower}
 use Rattle.span_model.specs.Attributes.{last_or}
 use Rattle.span_model.specs.Dropped.{Reason, Entry}
 use Rattle.span_model.specs.Spans.{is_end}
-use Rattle.desk_model.specs.Retries.{Next, Cause}
+use Rattle.retry_model.specs.Retries.{Next, Cause}
 use Rattle.history_model.specs.Steps.{Step}
 use Rattle.run_model.specs.Runs.{Ended, Answer, started, no_randomness, no_span, out_of_memory, done, ended, taken, encoded, sent, early, replied, Answered}
 use Rattle.run_model.specs.Headline.{attempts}

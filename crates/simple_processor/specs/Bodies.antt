@@ -5,7 +5,7 @@ use Rattle.message_model.specs.Reading.{Reading, done}
 use Rattle.message_model.specs.Messages.{Triple, body_meaning}
 use Rattle.span_model.specs.Spans.{EndedSpan}
 use Rattle.export_model.specs.Export.{grouped_triples}
-use Rattle.desk_model.specs.Retries.{Fate, fate_of, next_of}
+use Rattle.retry_model.specs.Retries.{Fate, fate_of, next_of}
 use Rattle.span_exporter.specs.Handed.{Handed}
 
 -- An attempt, as OTLP reads it: its number, which attempt it is, and the meaning of its body.
@@ -15,8 +15,8 @@ pub record Attempt : Type 0 where
   pub meaning : Reading (List Triple)
 
 -- The one attempt of a span: under its ticket and 1, the first, with a body that means this span.
-abbrev pub attempt_of : EndedSpan → Attempt
-attempt_of span = record {
+abbrev pub attempt_of_span : EndedSpan → Attempt
+attempt_of_span span = record {
   number = span.ticket + 1;
   attempt = 1;
   meaning = done (grouped_triples (span ∷ []));

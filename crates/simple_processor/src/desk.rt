@@ -1,19 +1,18 @@
 //! What lies under the lock: the exporter, the ledger and counts.
 ghost use Rattle.std.specs.Prelude.{◌≡◌, ◌-◌, ◌^◌, ◌<◌, Some, IfOk, OnErr, option_map, true};
-ghost use Rattle.desk_model.specs.Retries as retries;
-ghost use Rattle.desk_model.specs.Retries.{next_of};
-ghost use Rattle.retry_core.specs.Retries.{outcome_view};
+ghost use Rattle.retry_model.specs.Retries as retries;
+ghost use Rattle.retry_model.specs.Retries.{next_of};
+ghost use Rattle.retry_core.specs.Retries.{fate_view, outcome_view};
 ghost use Rattle.otlp_span.specs.Dropped.{entry_view};
-ghost use Rattle.batch_desk.specs.Views.{fate_view};
 ghost use Rattle.simple_processor.specs.Desk.{Answers, AreTotals, IsSent, Pops, new_state};
 
 use crate::encoder::Encoder;
 use crate::processor::SimpleAccounts;
-use batch_desk::{DropCounts, Fate, FateCounts, Totals};
-use drop_ledger::Ledger;
+use batch_desk::{FateCounts, Totals};
+use drop_ledger::{DropCounts, Ledger};
 use otlp_ids::OutOfMemory;
 use otlp_span::{Entry, Reason, SpanData};
-use retry_core::{Cause, Next, Outcome, RetryConfig, decide};
+use retry_core::{Fate, Outcome, RetryConfig, decide};
 use span_exporter::Exporter;
 use std::alloc::Allocator;
 use std::marker::Model;
@@ -146,10 +145,8 @@ impl<E: Exporter, A: Allocator + Copy> Desk<E, A> {
             left: 0,
             late,
             dropped: DropCounts {
-                queue_full: 0,
                 encode_memory: dropped,
-                too_large: 0,
-                abandoned: 0,
+                ..DropCounts::new()
             },
             fates,
             closed,
@@ -190,12 +187,6 @@ fn send<E: Exporter, A: Allocator + Copy>(
 fn fate_of(outcome: Outcome) -> Fate
     ensures { retries.fate_of (next_of (outcome_view outcome)) ≡ Some (fate_view result) }
 {
-    match decide(&RetryConfig::single_attempt(), 1, &outcome, 0, 0) {
-        Next::Done => Fate::Delivered,
-        Next::Partial(rejected) => Fate::Partial(rejected),
-        Next::GiveUp(Cause::Refused(status)) => Fate::Refused(status),
-        Next::GiveUp(Cause::BadReply) => Fate::BadReply,
-        Next::GiveUp(Cause::Attempts) => Fate::GivenUp,
-        Next::Again(_) => unreachable!(),
-    }
+    let next = decide(&RetryConfig::single_attempt(), 1, &outcome, 0, 0);
+    next.fate().unwrap()
 }

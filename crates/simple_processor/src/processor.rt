@@ -3,9 +3,10 @@ ghost use Rattle.std.specs.Prelude.{◌≡◌, ◌-◌, ◌^◌, ◌<◌, ◌≤
 ghost use Rattle.std.specs.List.{AllByRecursion};
 ghost use Rattle.span_exporter.specs.Handed.{Gains};
 ghost use Rattle.desk_model.specs.Desks.{capped, drop_counts, fate_counts};
-ghost use Rattle.batch_desk.specs.Views.{drop_counts_view, fate_counts_view};
+ghost use Rattle.drop_ledger.specs.Counts.{drop_counts_view};
+ghost use Rattle.batch_desk.specs.Views.{fate_counts_view};
 ghost use Rattle.simple_processor.specs.Accounts.{PassAccount, Rises, all_dropped, all_handed, all_popped, all_tickets, late_count, new_account, shutdown_count, tickets};
-ghost use Rattle.simple_processor.specs.Bodies.{attempt_in, attempt_of, fates_of, told_since};
+ghost use Rattle.simple_processor.specs.Bodies.{attempt_in, attempt_of_span, fates_of, told_since};
 ghost use Rattle.simple_processor.specs.Holders.{pass};
 ghost use Rattle.simple_processor.specs.Kept.{given_tickets, is_closed, numbers_below};
 ghost use Rattle.simple_processor.specs.declared.processor.TheConstants.{MAX_PASSES};
@@ -28,6 +29,9 @@ use std::sync::{Arc, Mutex, Wait};
 
 /// The most passes that a processor may have (profile).
 pub const MAX_PASSES: usize = 64;
+
+// No clause says the number itself.
+const _: () = prove!(MAX_PASSES == 64);
 
 /// A simple processor (Trace SDK, "Simple processor"): an exporter that threads share under a lock,
 /// each by a pass of its own. In contracts it is what it began with: how many passes it has, and
@@ -172,7 +176,7 @@ impl<J: Naming, E: Exporter, R: Wait + Copy, A: Allocator + Copy> SimpleProcesso
         ensures keeps { IfOk result (λ a.
             Gains (told_since self.had (E.handed a.exporter)) self.had (E.handed a.exporter)) }
         ensures spans { IfOk result (λ a. OnSome (E.handed a.exporter)
-            (IsPermutation (map attempt_of (all_handed passes.items))
+            (IsPermutation (map attempt_of_span (all_handed passes.items))
             (map attempt_in (told_since self.had (E.handed a.exporter))))) }
         ensures fates { IfOk result (λ a. OnSome (E.handed a.exporter)
             (fate_counts_view a.totals.fates

@@ -1,10 +1,10 @@
 -- What an exporter over memory shows. (profile)
 use Rattle.std.specs.Prelude.{List, [], ◌∷◌}
-use Rattle.desk_model.specs.Retries.{Outcome}
+use Rattle.retry_model.specs.Retries.{Outcome}
 use Rattle.span_exporter.specs.Handed.{Handed}
 use Rattle.span_exporter.specs.Room.{Room}
 
--- what it was handed, what it answers next, and its room
+-- what it was handed, the outcomes that come next, and its room
 pub record Memory : Type 0 where
   pub handed : List Handed
   pub outcomes : List Outcome

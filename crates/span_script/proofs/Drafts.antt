@@ -18,7 +18,7 @@ use Rattle.span_script.specs.declared.sampler.SamplerName.{SamplerName}
 use Rattle.trace_history.specs.declared.step.Step.{Step as CodeStep}
 use Rattle.span_script.specs.declared.draft.Draft.{Draft}
 use Rattle.trace_history.specs.Steps.{step_view}
-use Rattle.span_script.specs.Lines.{words, sampler, limits, desk, resource, scope, scope_attribute, answer, step}
+use Rattle.span_script.specs.Lines.{words, sampler, limits, desk, resource, scope, scope_attribute, outcome, step}
 use Rattle.span_script.specs.declared.scope.ScopeDraft.{ScopeDraft}
 use Rattle.span_script.specs.Scripts.{Script, all_kept, with_attributes}
 use Rattle.span_script.specs.Drafts.{Holds, scope_draft_view, scope_draft, no_items, set_on, with_line}
@@ -27,25 +27,25 @@ pub add_words : {A : Type 0} (d : Draft A) (after : Vec ℕ A) (s : Script) (mor
     → (t : Script) × (with_line s (words more) ≡ Some t) × Holds (record d { words = after }) t
 unfolding with_line
 add_words d after s more first e h =
-    (record s { words = s.words ++ more }, rw first refl, record { words = e ∙ ap (λ l. l ++ more) h.words; sampler = h.sampler; limits = h.limits; desk = h.desk; resource_limits = h.resource_limits; resource = h.resource; scopes = h.scopes; answers = h.answers; steps = h.steps })
+    (record s { words = s.words ++ more }, rw first refl, record { settings = (e ∙ ap (λ l. l ++ more) h.settings.0, h.settings.1, h.settings.2, h.settings.3); attributes = h.attributes; steps = h.steps })
 
 pub set_sampler : {A : Type 0} (d : Draft A) (s : Script) (name : SamplerName) → no_items s.steps ≡ true → is_some s.sampler ≡ false → Holds d s
     → (t : Script) × (with_line s (sampler name) ≡ Some t) × Holds (record d { sampler = Some name }) t
 unfolding with_line
 set_sampler d s name first none h =
-    (record s { sampler = Some name }, rw (first, none) refl, record { words = h.words; sampler = refl; limits = h.limits; desk = h.desk; resource_limits = h.resource_limits; resource = h.resource; scopes = h.scopes; answers = h.answers; steps = h.steps })
+    (record s { sampler = Some name }, rw (first, none) refl, record { settings = (h.settings.0, refl, h.settings.2, h.settings.3); attributes = h.attributes; steps = h.steps })
 
 pub set_limits : {A : Type 0} (d : Draft A) (s : Script) (values : SpanLimits) → no_items s.steps ≡ true → is_some s.limits ≡ false → Holds d s
     → (t : Script) × (with_line s (limits (limits_view values)) ≡ Some t) × Holds (record d { limits = Some values }) t
 unfolding with_line
 set_limits d s values first none h =
-    (record s { limits = Some (limits_view values) }, rw (first, none) refl, record { words = h.words; sampler = h.sampler; limits = refl; desk = h.desk; resource_limits = h.resource_limits; resource = h.resource; scopes = h.scopes; answers = h.answers; steps = h.steps })
+    (record s { limits = Some (limits_view values) }, rw (first, none) refl, record { settings = (h.settings.0, h.settings.1, refl, h.settings.3); attributes = h.attributes; steps = h.steps })
 
 pub set_desk : {A : Type 0} (d : Draft A) (s : Script) (config : DeskConfig) → no_items s.steps ≡ true → is_some s.desk ≡ false → Holds d s
     → (t : Script) × (with_line s (desk (config_view config)) ≡ Some t) × Holds (record d { desk = Some config }) t
 unfolding with_line
 set_desk d s config first none h =
-    (record s { desk = Some (config_view config) }, rw (first, none) refl, record { words = h.words; sampler = h.sampler; limits = h.limits; desk = refl; resource_limits = h.resource_limits; resource = h.resource; scopes = h.scopes; answers = h.answers; steps = h.steps })
+    (record s { desk = Some (config_view config) }, rw (first, none) refl, record { settings = (h.settings.0, h.settings.1, h.settings.2, refl); attributes = h.attributes; steps = h.steps })
 
 pub add_attribute : {A : Type 0} (d : Draft A) (after : AttributeList) (s : Script) (p : attributes.Attribute) → no_items s.steps ≡ true → SetsPair p d.resource after → Holds d s
     → (t : Script) × (with_line s (resource p) ≡ Some t) × Holds (record d { resource = after }) t
@@ -53,17 +53,7 @@ unfolding with_line
 add_attribute d after s p first set h = (
   record s { resource = s.resource ++ p ∷ [] },
   rw first refl,
-  record {
-    words = h.words;
-    sampler = h.sampler;
-    limits = h.limits;
-    desk = h.desk;
-    resource_limits = set.limits ∙ h.resource_limits;
-    resource = rw h.resource_limits at (set.value s.resource (rw h.resource_limits h.resource));
-    scopes = h.scopes;
-    answers = h.answers;
-    steps = h.steps;
-  },
+  record { settings = h.settings; attributes = (set.limits ∙ h.attributes.0, rw h.attributes.0 at (set.value s.resource (rw h.attributes.0 h.attributes.1)), h.attributes.2); steps = h.steps },
 )
 
 pub same_count : {A : Type 0} (ds : List (ScopeDraft A)) (xs : List spans.Scope) → map scope_draft_view ds ≡ map scope_draft xs → length ds ≡ length xs
@@ -76,21 +66,8 @@ pub add_scope : {A : Type 0} (d : Draft A) (after : Vec (ScopeDraft A) A) (s : S
 unfolding with_line
 add_scope d after s number x more first next is e h = (
   record s { scopes = s.scopes ++ with_attributes [] x ∷ [] },
-  rw (first, eq-eqb number (length s.scopes) (next ∙ same_count d.scopes.items s.scopes h.scopes)) refl,
-  record {
-    words = h.words;
-    sampler = h.sampler;
-    limits = h.limits;
-    desk = h.desk;
-    resource_limits = h.resource_limits;
-    resource = h.resource;
-    scopes =
-        ap (map scope_draft_view) e ∙ map_push scope_draft_view d.scopes.items more ∙ ap (λ y. map scope_draft_view d.scopes.items ++ y ∷ []) is
-        ∙ ap (λ l. l ++ scope_draft (with_attributes [] x) ∷ []) h.scopes
-        ∙ sym (map_push scope_draft s.scopes (with_attributes [] x));
-    answers = h.answers;
-    steps = h.steps;
-  },
+  rw (first, eq-eqb number (length s.scopes) (next ∙ same_count d.scopes.items s.scopes h.attributes.2)) refl,
+  record { settings = h.settings; attributes = (h.attributes.0, h.attributes.1, ap (map scope_draft_view) e ∙ map_push scope_draft_view d.scopes.items more ∙ ap (λ y. map scope_draft_view d.scopes.items ++ y ∷ []) is ∙ ap (λ l. l ++ scope_draft (with_attributes [] x) ∷ []) h.attributes.2 ∙ sym (map_push scope_draft s.scopes (with_attributes [] x))); steps = h.steps },
 )
 
 -- ---- an attribute of a scope
@@ -132,40 +109,20 @@ pub add_scope_attribute : {A : Type 0} (d : Draft A) (after : Vec (ScopeDraft A)
     → (t : Script) × (with_line s (scope_attribute n p) ≡ Some t) × Holds (record d { scopes = after }) t
 unfolding with_line
 add_scope_attribute d after s n c list p first found set e h =
-    let within : n < length s.scopes = subst (λ k. n < k) (same_count d.scopes.items s.scopes h.scopes) (slice_get_within d.scopes.items n c found) in (
+    let within : n < length s.scopes = subst (λ k. n < k) (same_count d.scopes.items s.scopes h.attributes.2) (slice_get_within d.scopes.items n c found) in (
       record s { scopes = set_on n p s.scopes },
       rw (first, lt-ltb n (length s.scopes) within) refl,
-      record {
-        words = h.words;
-        sampler = h.sampler;
-        limits = h.limits;
-        desk = h.desk;
-        resource_limits = h.resource_limits;
-        resource = h.resource;
-        scopes = ap (map scope_draft_view) e ∙ set_there d.scopes.items s.scopes n c list p found h.scopes set;
-        answers = h.answers;
-        steps = h.steps;
-      },
+      record { settings = h.settings; attributes = (h.attributes.0, h.attributes.1, ap (map scope_draft_view) e ∙ set_there d.scopes.items s.scopes n c list p found h.attributes.2 set); steps = h.steps },
     )
 
-pub add_answer : {A : Type 0} (d : Draft A) (after : Vec Outcome A) (s : Script) (more : Outcome)
-    → after.items ≡ d.answers.items ++ more ∷ [] → Holds d s
-    → (t : Script) × (with_line s (answer (outcome_view more)) ≡ Some t) × Holds (record d { answers = after }) t
+pub add_outcome : {A : Type 0} (d : Draft A) (after : Vec Outcome A) (s : Script) (more : Outcome)
+    → after.items ≡ d.outcomes.items ++ more ∷ [] → Holds d s
+    → (t : Script) × (with_line s (outcome (outcome_view more)) ≡ Some t) × Holds (record d { outcomes = after }) t
 unfolding with_line
-add_answer d after s more e h = (
-  record s { answers = s.answers ++ outcome_view more ∷ [] },
+add_outcome d after s more e h = (
+  record s { outcomes = s.outcomes ++ outcome_view more ∷ [] },
   refl,
-  record {
-    words = h.words;
-    sampler = h.sampler;
-    limits = h.limits;
-    desk = h.desk;
-    resource_limits = h.resource_limits;
-    resource = h.resource;
-    scopes = h.scopes;
-    answers = ap (map outcome_view) e ∙ map_push outcome_view d.answers.items more ∙ ap (λ l. l ++ outcome_view more ∷ []) h.answers;
-    steps = h.steps;
-  },
+  record { settings = h.settings; attributes = h.attributes; steps = (ap (map outcome_view) e ∙ map_push outcome_view d.outcomes.items more ∙ ap (λ l. l ++ outcome_view more ∷ []) h.steps.0, h.steps.1) },
 )
 
 pub add_step : {A : Type 0} (d : Draft A) (after : Vec (CodeStep A) A) (s : Script) (more : CodeStep A)
@@ -175,15 +132,5 @@ unfolding with_line
 add_step d after s more e h = (
   record s { steps = s.steps ++ step_view more ∷ [] },
   refl,
-  record {
-    words = h.words;
-    sampler = h.sampler;
-    limits = h.limits;
-    desk = h.desk;
-    resource_limits = h.resource_limits;
-    resource = h.resource;
-    scopes = h.scopes;
-    answers = h.answers;
-    steps = ap (map step_view) e ∙ map_push step_view d.steps.items more ∙ ap (λ l. l ++ step_view more ∷ []) h.steps;
-  },
+  record { settings = h.settings; attributes = h.attributes; steps = (h.steps.0, ap (map step_view) e ∙ map_push step_view d.steps.items more ∙ ap (λ l. l ++ step_view more ∷ []) h.steps.1) },
 )

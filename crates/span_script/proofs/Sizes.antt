@@ -9,9 +9,9 @@ use Rattle.span_ring.specs.SpanRing.{IsRingSize}
 use Rattle.span_ring.specs.declared.ring.TheConstants.{MAX_QUEUE}
 use Rattle.script_words.specs.Words.{◌>>=◌, each_of, number_below, hex_word, text_of}
 use Rattle.span_script.specs.Values.{pair_of}
-use Rattle.span_script.specs.Outcomes.{outcome_of}
+use Rattle.span_script.specs.Outcomes.{outcome_of_words}
 use Rattle.span_script.specs.Steps.{step_of}
-use Rattle.span_script.specs.Lines.{Line, words, sampler, limits, desk, resource, answer, step, sampler_of, limits_of, size_to, desk_of, words_line, sampler_line, limits_line, desk_line, resource_line, scope_line, scope_attribute_line, entry, entry_of, line_of}
+use Rattle.span_script.specs.Lines.{Line, words, sampler, limits, desk, resource, outcome, step, sampler_of, limits_of, size_to, desk_of, words_line, sampler_line, limits_line, desk_line, resource_line, scope_line, scope_line_of, scope_attribute_line, scope_attribute_line_of, entry, entry_of, line_of}
 
 abbrev pub IsSized : DeskConfig → Type 0
 IsSized c = IsRingSize c.queue c.batch
@@ -102,7 +102,7 @@ resource_sized (_ ∷ []) = tt
 resource_sized (_ ∷ _ ∷ _ ∷ _) = tt
 
 scope_sized : (arguments : List (List ℕ)) → IfSome (scope_line arguments) IsSizedLine
-unfolding scope_line
+unfolding scope_line scope_line_of
 scope_sized (number ∷ name ∷ version ∷ schema ∷ []) =
     bound _ (number_below (2 ^ 32) number) _ (λ n. bound _ (text_of name) _ (λ t. bound _ (text_of version) _ (λ v. bound _ (text_of schema) _ (λ s. tt))))
 scope_sized [] = tt
@@ -112,7 +112,7 @@ scope_sized (_ ∷ _ ∷ _ ∷ []) = tt
 scope_sized (_ ∷ _ ∷ _ ∷ _ ∷ _ ∷ _) = tt
 
 scope_attribute_sized : (arguments : List (List ℕ)) → IfSome (scope_attribute_line arguments) IsSizedLine
-unfolding scope_attribute_line
+unfolding scope_attribute_line scope_attribute_line_of
 scope_attribute_sized (number ∷ key ∷ value ∷ []) = bound _ (number_below (2 ^ 32) number) _ (λ n. bound _ (pair_of key value) _ (λ p. tt))
 scope_attribute_sized [] = tt
 scope_attribute_sized (_ ∷ []) = tt
@@ -129,7 +129,7 @@ sized_entry name arguments =
     (either _ (bytes_eq name (codes "resource")) _ _ (resource_sized arguments)
     (either _ (bytes_eq name (codes "scope")) _ _ (scope_sized arguments)
     (either _ (bytes_eq name (codes "sattr")) _ _ (scope_attribute_sized arguments)
-    (either _ (bytes_eq name (codes "answer")) _ _ (mapped _ answer (outcome_of arguments) (λ _. tt))
+    (either _ (bytes_eq name (codes "answer")) _ _ (mapped _ outcome (outcome_of_words arguments) (λ _. tt))
     (mapped _ step (step_of name arguments) (λ _. tt)))))))))
 
 sized_words : (ws : List (List ℕ)) → IfSome (entry_of ws) IsSizedLine

@@ -9,7 +9,7 @@ use Rattle.std.proofs.lemmas.Str.{IsUtf8-from_is_utf8}
 use Rattle.history_model.specs.Steps.{call}
 use Rattle.script_words.specs.Words.{◌>>=◌, number_below}
 use Rattle.span_script.specs.Calls.{call_of}
-use Rattle.span_script.specs.Steps.{call_step, step_on_span, step_of}
+use Rattle.span_script.specs.Steps.{call_step, call_step_of, step_on_span, step_of}
 
 pub other_than : (name keyword : List ℕ) → (IsUtf8 name → ⊥) → is_utf8 keyword ≡ true → bytes_eq name keyword ≡ false
 other_than name keyword h text = elim (cases_Bool (bytes_eq name keyword)) [
@@ -36,7 +36,7 @@ nothing_after None f p e = refl
 nothing_after (Some x) f p e = ap (λ q. q >>= f x) e
 
 no_call_step : (name : List ℕ) (words : List (List ℕ)) → (IsUtf8 name → ⊥) → call_step name words ≡ None
-unfolding call_step
+unfolding call_step call_step_of
 no_call_step name [] h = refl
 no_call_step name (span ∷ others) h = nothing_after (number_below (2 ^ 32) span) (λ n c. Some (call n c)) (call_of name others) (no_call name others h)
 

@@ -10,13 +10,17 @@ unfoldable pub attribute_call : List (List ℕ) → Option Call
 attribute_call (key ∷ value ∷ []) = option_map set_attribute (pair_of key value)
 attribute_call _ = None
 
--- `AT NAME PAIRS`
-unfoldable pub event_call : List (List ℕ) → Option Call
-event_call (at ∷ name ∷ pairs) = do
+-- the moment of an event, its name and its pairs
+unfoldable pub event_call_of : List ℕ → List ℕ → List (List ℕ) → Option Call
+event_call_of at name pairs = do
   a ← number_below (2 ^ 64) at
   n ← text_of name
   ps ← pairs_of pairs
   Some (add_event n a ps)
+
+-- `AT NAME PAIRS`
+unfoldable pub event_call : List (List ℕ) → Option Call
+event_call (at ∷ name ∷ pairs) = event_call_of at name pairs
 event_call _ = None
 
 -- the type, the message and the stack trace of an exception, its moment and its pairs

@@ -5,7 +5,7 @@ use Rattle.std.specs.List.{slice_split}
 use Rattle.span_model.specs.Attributes as attributes
 use Rattle.span_model.specs.Spans as spans
 use Rattle.desk_model.specs.Desks.{DeskConfig}
-use Rattle.desk_model.specs.Retries.{Outcome}
+use Rattle.retry_model.specs.Retries.{Outcome}
 use Rattle.history_model.specs.Steps.{Step}
 use Rattle.otlp_value.specs.Value.{attribute_view}
 use Rattle.otlp_span.specs.Parts.{limits_view}
@@ -15,7 +15,7 @@ use Rattle.retry_core.specs.Retries.{outcome_view}
 use Rattle.trace_history.specs.Steps.{step_view}
 use Rattle.script_words.specs.Words.{◌>>=◌, each_of, number_below, hex_word, text_of}
 use Rattle.span_script.specs.Values.{pair_of}
-use Rattle.span_script.specs.Outcomes.{outcome_of}
+use Rattle.span_script.specs.Outcomes.{outcome_of_words}
 use Rattle.span_script.specs.Steps.{step_of}
 use Rattle.span_script.specs.declared.sampler.SamplerName.{SamplerName}
 use Rattle.span_script.specs.declared.sampler.SamplerName.TheVariants as samplers
@@ -30,7 +30,7 @@ pub data Line : Type 0 where
   resource : attributes.Attribute → Line
   scope : ℕ → spans.Scope → Line
   scope_attribute : ℕ → attributes.Attribute → Line
-  answer : Outcome → Line
+  outcome : Outcome → Line
   step : Step → Line
 
 -- ---- the types of the code
@@ -50,7 +50,7 @@ line_view (lines.Scope number name version schema) =
     })
 line_view (lines.ScopeAttribute number key value) =
     scope_attribute number (attribute_view (key, value))
-line_view (lines.Answer o) = answer (outcome_view o)
+line_view (lines.Outcome o) = outcome (outcome_view o)
 line_view (lines.Step s) = step (step_view s)
 
 -- ---- what the words of a line spell
@@ -109,22 +109,30 @@ unfoldable pub resource_line : List (List ℕ) → Option Line
 resource_line (key ∷ value ∷ []) = option_map resource (pair_of key value)
 resource_line _ = None
 
--- `scope N NAME VERSION SCHEMA`
-unfoldable pub scope_line : List (List ℕ) → Option Line
-scope_line (number ∷ name ∷ version ∷ schema ∷ []) = do
+-- a scope without attributes, under its number
+unfoldable pub scope_line_of : List ℕ → List ℕ → List ℕ → List ℕ → Option Line
+scope_line_of number name version schema = do
   n ← number_below (2 ^ 32) number
   t ← text_of name
   v ← text_of version
   s ← text_of schema
   Some (scope n (record { name = t; version = v; attributes = []; schema = s }))
+
+-- `scope N NAME VERSION SCHEMA`
+unfoldable pub scope_line : List (List ℕ) → Option Line
+scope_line (number ∷ name ∷ version ∷ schema ∷ []) = scope_line_of number name version schema
 scope_line _ = None
 
--- `sattr N KEY VALUE`
-unfoldable pub scope_attribute_line : List (List ℕ) → Option Line
-scope_attribute_line (number ∷ key ∷ value ∷ []) = do
+-- an attribute of the scope with this number
+unfoldable pub scope_attribute_line_of : List ℕ → List ℕ → List ℕ → Option Line
+scope_attribute_line_of number key value = do
   n ← number_below (2 ^ 32) number
   p ← pair_of key value
   Some (scope_attribute n p)
+
+-- `sattr N KEY VALUE`
+unfoldable pub scope_attribute_line : List (List ℕ) → Option Line
+scope_attribute_line (number ∷ key ∷ value ∷ []) = scope_attribute_line_of number key value
 scope_attribute_line _ = None
 
 -- a number from 1 on, up to the greatest that may stand there
@@ -156,7 +164,7 @@ entry name arguments =
     else if bytes_eq name (codes "resource") then resource_line arguments
     else if bytes_eq name (codes "scope") then scope_line arguments
     else if bytes_eq name (codes "sattr") then scope_attribute_line arguments
-    else if bytes_eq name (codes "answer") then option_map answer (outcome_of arguments)
+    else if bytes_eq name (codes "answer") then option_map outcome (outcome_of_words arguments)
     else option_map step (step_of name arguments)
 
 abbrev pub entry_of : List (List ℕ) → Option Line

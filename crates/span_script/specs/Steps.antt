@@ -21,32 +21,44 @@ kind_of word =
     else if bytes_eq word (codes "consumer") then Some kinds.Consumer
     else None
 
--- `SCOPE PARENT KIND AT NAME`
-unfoldable pub start_step : List (List ℕ) → Option Step
-start_step (number ∷ parent ∷ kind ∷ at ∷ name ∷ []) = do
+-- a start, by the number of its scope, its parent, its kind, its moment and its name
+unfoldable pub start_step_of : List ℕ → List ℕ → List ℕ → List ℕ → List ℕ → Option Step
+start_step_of number parent kind at name = do
   n ← number_below (2 ^ 32) number
   p ← parent_of parent
   k ← kind_of kind
   a ← number_below (2 ^ 64) at
   t ← text_of name
   Some (start n p (kind_view k) a t)
+
+-- `SCOPE PARENT KIND AT NAME`
+unfoldable pub start_step : List (List ℕ) → Option Step
+start_step (number ∷ parent ∷ kind ∷ at ∷ name ∷ []) = start_step_of number parent kind at name
 start_step _ = None
 
--- `N AT`
-unfoldable pub end_step : List (List ℕ) → Option Step
-end_step (span ∷ at ∷ []) = do
+-- an end, by the span's number and the moment
+unfoldable pub end_step_of : List ℕ → List ℕ → Option Step
+end_step_of span at = do
   n ← number_below (2 ^ 32) span
   a ← number_below (2 ^ 64) at
   Some (call n (spans.end a))
+
+-- `N AT`
+unfoldable pub end_step : List (List ℕ) → Option Step
+end_step (span ∷ at ∷ []) = end_step_of span at
 end_step _ = None
 
--- any other call on a span: the span's number stands behind the name
-unfoldable pub call_step : List ℕ → List (List ℕ) → Option Step
-call_step name [] = None
-call_step name (span ∷ others) = do
+-- any other call of a name, on the span of a number, with the words behind that
+unfoldable pub call_step_of : List ℕ → List ℕ → List (List ℕ) → Option Step
+call_step_of name span others = do
   n ← number_below (2 ^ 32) span
   c ← call_of name others
   Some (call n c)
+
+-- the span's number stands behind the name
+unfoldable pub call_step : List ℕ → List (List ℕ) → Option Step
+call_step name [] = None
+call_step name (span ∷ others) = call_step_of name span others
 
 -- a start, an end, or another call
 unfoldable pub step_on_span : List ℕ → List (List ℕ) → Option Step
@@ -72,12 +84,16 @@ unfoldable pub attempt_step : List (List ℕ) → Option Step
 attempt_step (at ∷ []) = option_map attempt (number_below (2 ^ 64) at)
 attempt_step _ = None
 
--- `AT WORD`
-unfoldable pub reply_step : List (List ℕ) → Option Step
-reply_step (at ∷ word ∷ []) = do
+-- a reply, by its moment and a random number
+unfoldable pub reply_step_of : List ℕ → List ℕ → Option Step
+reply_step_of at word = do
   a ← number_below (2 ^ 64) at
   w ← number_below (2 ^ 64) word
   Some (reply a w)
+
+-- `AT WORD`
+unfoldable pub reply_step : List (List ℕ) → Option Step
+reply_step (at ∷ word ∷ []) = reply_step_of at word
 reply_step _ = None
 
 -- a step of this name, and the words behind it

@@ -3,7 +3,7 @@
 ghost use Rattle.std.specs.Prelude.{map};
 ghost use Rattle.otlp_span.specs.Parts.{call_view, status_view};
 ghost use Rattle.script_words.specs.Words.{Gives};
-ghost use Rattle.span_script.specs.Calls.{attribute_call, call_of, described_status_of, event_call, exception_call, exception_of, link_call, name_call, plain_status_of, status_call};
+ghost use Rattle.span_script.specs.Calls.{attribute_call, call_of, described_status_of, event_call, event_call_of, exception_call, exception_of, link_call, name_call, plain_status_of, status_call};
 
 use crate::context::parse_context;
 use crate::value::{parse_pair, parse_pairs};
@@ -51,6 +51,20 @@ fn parse_event<A: Allocator + Copy>(alloc: A, words: &[&[u8]]) -> Result<SpanCal
     let [timestamp, name, pairs @ ..] = words else {
         return Err(WordFault::Bad);
     };
+    event(alloc, timestamp, name, pairs)
+}
+
+/// An event, a word for each of its parts.
+#[tactic(auto, unfolding(crate::specs::Calls::event_call_of))]
+fn event<A: Allocator + Copy>(
+    alloc: A,
+    timestamp: &[u8],
+    name: &[u8],
+    pairs: &[&[u8]],
+) -> Result<SpanCall<A>, WordFault>
+    ensures { Gives call_view result
+        (event_call_of timestamp.now name.now (map (λ w. w.now) pairs.now)) }
+{
     let timestamp = number(timestamp)?;
     let name = text(alloc, name)?;
     let attributes = parse_pairs(alloc, pairs)?;

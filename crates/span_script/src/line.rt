@@ -4,7 +4,7 @@ ghost use Rattle.std.specs.Prelude.{◌≡◌, map, ok_or};
 ghost use Rattle.otlp_span.specs.Parts.{limits_view};
 ghost use Rattle.batch_desk.specs.Views.{config_view};
 ghost use Rattle.script_words.specs.Words.{Gives};
-ghost use Rattle.span_script.specs.Lines.{line_view, sampler_of, length_of, limits_of, words_line, sampler_line, limits_line, resource_line, scope_line, scope_attribute_line, size_to, desk_of, desk_line, entry, line_of};
+ghost use Rattle.span_script.specs.Lines.{line_view, sampler_of, length_of, limits_of, words_line, sampler_line, limits_line, resource_line, scope_line_of, scope_line, scope_attribute_line_of, scope_attribute_line, size_to, desk_of, desk_line, entry, line_of};
 ghost use Rattle.script_words.specs.declared.WordFault.TheVariants.{Bad};
 
 use crate::outcome::parse_outcome;
@@ -55,7 +55,7 @@ pub(crate) enum Line<A: Allocator> {
         value: Value<A>,
     },
     /// What comes of an attempt to send a batch.
-    Answer(Outcome),
+    Outcome(Outcome),
     /// A step.
     Step(Step<A>),
 }
@@ -92,7 +92,7 @@ fn parse_entry<A: Allocator + Copy>(
         "resource" => parse_resource(alloc, arguments),
         "scope" => parse_scope(alloc, arguments),
         "sattr" => parse_scope_attribute(alloc, arguments),
-        "answer" => Ok(Line::Answer(parse_outcome(arguments)?)),
+        "answer" => Ok(Line::Outcome(parse_outcome(arguments)?)),
         _ => Ok(Line::Step(parse_step(alloc, name, arguments)?)),
     }
 }
@@ -201,6 +201,21 @@ fn parse_scope<A: Allocator + Copy>(alloc: A, arguments: &[&[u8]]) -> Result<Lin
     let [number, name, version, schema_url] = arguments else {
         return Err(WordFault::Bad);
     };
+    parse_numbered_scope(alloc, number, name, version, schema_url)
+}
+
+/// A scope under its number, a word for each of its parts.
+#[tactic(auto, unfolding(crate::specs::Lines::scope_line_of))]
+fn parse_numbered_scope<A: Allocator + Copy>(
+    alloc: A,
+    number: &[u8],
+    name: &[u8],
+    version: &[u8],
+    schema_url: &[u8],
+) -> Result<Line<A>, WordFault>
+    ensures { Gives line_view result
+        (scope_line_of number.now name.now version.now schema_url.now) }
+{
     let number = small_number(number)?;
     let name = text(alloc, name)?;
     let version = text(alloc, version)?;
@@ -224,6 +239,19 @@ fn parse_scope_attribute<A: Allocator + Copy>(
     let [number, key, value] = arguments else {
         return Err(WordFault::Bad);
     };
+    parse_attribute_on(alloc, number, key, value)
+}
+
+/// An attribute of the scope with a number.
+#[tactic(auto, unfolding(crate::specs::Lines::scope_attribute_line_of))]
+fn parse_attribute_on<A: Allocator + Copy>(
+    alloc: A,
+    number: &[u8],
+    key: &[u8],
+    value: &[u8],
+) -> Result<Line<A>, WordFault>
+    ensures { Gives line_view result (scope_attribute_line_of number.now key.now value.now) }
+{
     let number = small_number(number)?;
     let (key, value) = parse_pair(alloc, key, value)?;
     Ok(Line::ScopeAttribute { number, key, value })

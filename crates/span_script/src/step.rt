@@ -3,7 +3,7 @@
 ghost use Rattle.std.specs.Prelude.{◌≡◌, map, ok_or};
 ghost use Rattle.trace_history.specs.Steps.{step_view};
 ghost use Rattle.script_words.specs.Words.{Gives};
-ghost use Rattle.span_script.specs.Steps.{attempt_step, bare_step, call_step, end_step, kind_of, reply_step, start_step, step_of, step_on_span, take_step};
+ghost use Rattle.span_script.specs.Steps.{attempt_step, bare_step, call_step, call_step_of, end_step, end_step_of, kind_of, reply_step, reply_step_of, start_step, start_step_of, step_of, step_on_span, take_step};
 ghost use Rattle.script_words.specs.declared.WordFault.TheVariants.{Bad};
 
 use crate::call::parse_call;
@@ -73,6 +73,14 @@ fn parse_reply<A: Allocator>(words: &[&[u8]]) -> Result<Step<A>, WordFault>
     let [at, word] = words else {
         return Err(WordFault::Bad);
     };
+    parse_reply_at(at, word)
+}
+
+/// A reply at a moment, with a random number.
+#[tactic(auto, unfolding(crate::specs::Steps::reply_step_of))]
+fn parse_reply_at<A: Allocator>(at: &[u8], word: &[u8]) -> Result<Step<A>, WordFault>
+    ensures { Gives step_view result (reply_step_of at.now word.now) }
+{
     let at = number(at)?;
     let word = number(word)?;
     Ok(Step::Reply { at, word })
@@ -102,6 +110,21 @@ fn parse_start<A: Allocator + Copy>(alloc: A, words: &[&[u8]]) -> Result<Step<A>
     let [scope, parent, kind, at, name] = words else {
         return Err(WordFault::Bad);
     };
+    parse_start_of(alloc, scope, parent, kind, at, name)
+}
+
+/// A start, a word for each of its parts.
+#[tactic(auto, unfolding(crate::specs::Steps::start_step_of))]
+fn parse_start_of<A: Allocator + Copy>(
+    alloc: A,
+    scope: &[u8],
+    parent: &[u8],
+    kind: &[u8],
+    at: &[u8],
+    name: &[u8],
+) -> Result<Step<A>, WordFault>
+    ensures { Gives step_view result (start_step_of scope.now parent.now kind.now at.now name.now) }
+{
     let scope = small_number(scope)?;
     let parent = parse_parent(alloc, parent)?;
     let kind = parse_kind(kind)?;
@@ -124,6 +147,14 @@ fn parse_end<A: Allocator>(words: &[&[u8]]) -> Result<Step<A>, WordFault>
     let [span, at] = words else {
         return Err(WordFault::Bad);
     };
+    parse_end_of(span, at)
+}
+
+/// An end of the span with a number, at a moment.
+#[tactic(auto, unfolding(crate::specs::Steps::end_step_of))]
+fn parse_end_of<A: Allocator>(span: &[u8], at: &[u8]) -> Result<Step<A>, WordFault>
+    ensures { Gives step_view result (end_step_of span.now at.now) }
+{
     let span = small_number(span)?;
     let at = number(at)?;
     Ok(Step::Call {
@@ -144,6 +175,19 @@ fn parse_call_step<A: Allocator + Copy>(
     let [span, words @ ..] = words else {
         return Err(WordFault::Bad);
     };
+    parse_call_on(alloc, name, span, words)
+}
+
+/// A call of a name on the span with a number.
+#[tactic(auto, unfolding(crate::specs::Steps::call_step_of))]
+fn parse_call_on<A: Allocator + Copy>(
+    alloc: A,
+    name: &str,
+    span: &[u8],
+    words: &[&[u8]],
+) -> Result<Step<A>, WordFault>
+    ensures { Gives step_view result (call_step_of name.now span.now (map (λ w. w.now) words.now)) }
+{
     let span = small_number(span)?;
     let call = parse_call(alloc, name, words)?;
     Ok(Step::Call { span, call })
@@ -154,12 +198,17 @@ fn parse_call_step<A: Allocator + Copy>(
 fn parse_kind(word: &[u8]) -> Result<Kind, WordFault>
     ensures { result ≡ ok_or (kind_of word.now) Bad }
 {
-    match word {
-        b"internal" => Ok(Kind::Internal),
-        b"server" => Ok(Kind::Server),
-        b"client" => Ok(Kind::Client),
-        b"producer" => Ok(Kind::Producer),
-        b"consumer" => Ok(Kind::Consumer),
-        _ => Err(WordFault::Bad),
+    if word == b"internal".as_slice() {
+        Ok(Kind::Internal)
+    } else if word == b"server".as_slice() {
+        Ok(Kind::Server)
+    } else if word == b"client".as_slice() {
+        Ok(Kind::Client)
+    } else if word == b"producer".as_slice() {
+        Ok(Kind::Producer)
+    } else if word == b"consumer".as_slice() {
+        Ok(Kind::Consumer)
+    } else {
+        Err(WordFault::Bad)
     }
 }

@@ -10,7 +10,7 @@ pub use Rattle.span_model.specs.Starts
 pub use Rattle.span_model.specs.Dropped
 pub use Rattle.desk_model.specs.Desks
 pub use Rattle.desk_model.specs.Queue
-pub use Rattle.desk_model.specs.Retries
+pub use Rattle.retry_model.specs.Retries
 pub use Rattle.retry_model.specs.Waits
 pub use Rattle.desk_laws.specs.Queues
 pub use Rattle.run_laws.specs.Laws as RunLaws

@@ -2,13 +2,12 @@
 use Rattle.std.proofs.Common.{◌≡◌, refl, sym, ap, subst, ◌∙◌, ℕ, ◌+◌, ◌≤◌, arith, List, [], ◌∷◌, ◌++◌, length, Bool, true, false, ◌||◌, ◌⊎◌, Option, Some, None, inl, inr}
 use Rattle.std.specs.Prelude.{if◌then◌else◌}
 use Rattle.std.proofs.lemmas.Bool.{ne_eqb, lt-ltb, le-ltb}
-use Rattle.std.specs.Option.{option_to_list}
 use Rattle.rand_core.specs.Stream.{Stream}
 use Rattle.span_model.specs.Sampling.{SamplerMeaning}
 use Rattle.span_model.specs.Spans.{EndedSpan}
 use Rattle.export_model.specs.Export.{groups, body_length}
-use Rattle.desk_model.specs.Retries as retries
-use Rattle.desk_model.specs.Retries.{delivered, Next, Fate, fate_of}
+use Rattle.retry_model.specs.Retries as retries
+use Rattle.retry_model.specs.Retries.{delivered, Next, Fate, fate_of}
 use Rattle.retry_model.specs.Waits.{RetryConfig, next_after}
 use Rattle.desk_model.specs.Queue as queue
 use Rattle.desk_model.specs.Queue.{DeskEvent, last_spans, last_batch, stage, not_out, in_hand, with_exporter}
@@ -17,12 +16,12 @@ use Rattle.desk_model.specs.Desks.{Desk, OutBatch, IsDesk, Does, desk_of, accept
 use Rattle.desk_model.proofs.Steps.{last-kept, sizes-kept}
 use Rattle.history_model.specs.Steps.{Step, is_shutdown, flush, shutdown, take, encode, attempt, reply}
 use Rattle.run_model.specs.Runs as runs
-use Rattle.run_model.specs.Runs.{Answer, Answered, is_refused, span_steps, ended_by, event_by, desk_events}
+use Rattle.run_model.specs.Runs.{Answer, Answered, is_refused, span_steps, event_by, desk_events}
 use Rattle.run_model.specs.Answers as model
-use Rattle.run_model.specs.Answers.{RunConfig, Progress, progress, progress_by, last_attempt, desk_after, Given, IsAnswer, take_answer, encode_answer, attempt_answer, reply_answer}
+use Rattle.run_model.specs.Answers.{RunConfig, Progress, progress, progress_by, last_attempt, desk_after, IsAnswer, take_answer, encode_answer, attempt_answer, reply_answer}
 use Rattle.run_model.specs.Headline as headline
-use Rattle.run_model.specs.Headline.{out_as, out_after}
-use Rattle.run_model.proofs.More.{is_shut, steps-none, ended-none, events-same, progress-some, last_attempt-none, last_attempt-some}
+use Rattle.run_model.specs.Headline.{pending_as}
+use Rattle.run_model.proofs.More.{is_shut, steps-none, ended-none, events-more, progress-some, last_attempt-none, last_attempt-some}
 use Rattle.batch_desk.specs.Batch.{BatchView}
 use Rattle.batch_desk.specs.Desk.{IsOut}
 use Rattle.retry_core.specs.Retries.{outcome_view, next_view}
@@ -31,42 +30,42 @@ use Rattle.trace_history.specs.declared.answer.Answer.{Answer as CodeAnswer}
 use Rattle.trace_history.specs.declared.answer.Answer.TheVariants as answers
 use Rattle.span_exporter.specs.Handed.{Handed}
 use Rattle.span_table.specs.Table.{IsTable, TableWith}
-use Rattle.trace_run.specs.Out.{Stage, to_encode, to_send, to_judge, to_retry, Out, progress_of, attempts_at, is_sent, shown_as, shown, IsTied, IsIdle, Takes, TakesBatch, Encodes, EncodesAt, EncodesBatch, HasBody, Sends, SendsAt, SendsFirst, SendsAgain, IsEarly, SendsNone, Replies, JudgesAt, Judges, Settles, PutsOff, SettlesNone}
+use Rattle.trace_run.specs.Out.{ExportStage, to_encode, to_send, to_judge, to_retry, Out, progress_of, attempts_at, is_sent, shown_as, shown, IsTied, IsIdle, Takes, TakesBatch, Encodes, EncodesAt, EncodesBatch, HasBody, Sends, SendsAt, SendsFirst, SendsAgain, IsEarly, SendsNone, Replies, JudgesAt, Judges, Settles, PutsOff, SettlesNone}
 use Rattle.trace_run.specs.State.{Stands}
 use Rattle.trace_run.proofs.Standing.{IsQuiet, or-false, tied-kept, desk-is, stands-on, out-stays, quiet-on}
 
 -- ---- what is shown of the batch that is out
 
-abbrev pub progress_in : Option headline.OutBatch → Progress
+abbrev pub progress_in : Option headline.PendingBatch → Progress
 progress_in None = model.not_out
 progress_in (Some b) = b.progress
 
-abbrev pub number_in : Option headline.OutBatch → ℕ
+abbrev pub number_in : Option headline.PendingBatch → ℕ
 number_in None = 0
 number_in (Some b) = b.number
 
-abbrev pub spans_in : Option headline.OutBatch → List EndedSpan
+abbrev pub spans_in : Option headline.PendingBatch → List EndedSpan
 spans_in None = []
 spans_in (Some b) = b.spans
 
-abbrev pub attempts_in : Option headline.OutBatch → ℕ
+abbrev pub attempts_in : Option headline.PendingBatch → ℕ
 attempts_in None = 0
 attempts_in (Some b) = b.attempts
 
-pub progress-is : (p : Progress) (spans : List EndedSpan) (number attempts : ℕ) (o : Option headline.OutBatch) → o ≡ out_as p spans number attempts → progress_in o ≡ p
+pub progress-is : (p : Progress) (spans : List EndedSpan) (number attempts : ℕ) (o : Option headline.PendingBatch) → o ≡ pending_as p spans number attempts → progress_in o ≡ p
 progress-is model.not_out spans number attempts o e = ap progress_in e
 progress-is model.to_encode spans number attempts o e = ap progress_in e
 progress-is model.to_send spans number attempts o e = ap progress_in e
 progress-is (model.to_judge outcome) spans number attempts o e = ap progress_in e
 progress-is (model.to_retry moment) spans number attempts o e = ap progress_in e
 
-pub record Shows (b : headline.OutBatch) (p : Progress) (es : List EndedSpan) (n k : ℕ) : Type 0 where
+pub record Shows (b : headline.PendingBatch) (p : Progress) (es : List EndedSpan) (n k : ℕ) : Type 0 where
   pub stage : b.progress ≡ p
   pub number : b.number ≡ n
   pub spans : b.spans ≡ es
   pub attempts : b.attempts ≡ k
 
-pub shows : (b : headline.OutBatch) (p : Progress) (spans : List EndedSpan) (number attempts : ℕ) → Some b ≡ out_as p spans number attempts → Shows b p spans number attempts
+pub shows : (b : headline.PendingBatch) (p : Progress) (spans : List EndedSpan) (number attempts : ℕ) → Some b ≡ pending_as p spans number attempts → Shows b p spans number attempts
 shows b model.not_out spans number attempts e = cc
 shows b model.to_encode spans number attempts e = record { stage = ap progress_in e; number = ap number_in e; spans = ap spans_in e; attempts = ap attempts_in e }
 shows b model.to_send spans number attempts e = record { stage = ap progress_in e; number = ap number_in e; spans = ap spans_in e; attempts = ap attempts_in e }
@@ -119,18 +118,18 @@ module _ {S R : Type 0} (meaning : S → SamplerMeaning) (stream : R → Stream)
   flush-on desk2 is does =
       let x : Answered = record { step = flush; answer = runs.Answer.flush } in
       let same = ended-none run.setup h x refl in
-      stands-on meaning stream run h table desk out at x table desk2 out (Some queue.flush) (same-spans x refl) same (inl refl) refl (does 0 events at.history)
+      stands-on meaning stream run h table desk out at x table desk2 out (Some queue.flush) (same-spans x refl) same refl (does 0 events at.history)
       (ap (λ d. d.config) is) (ap (λ d. d.next_ticket) is) (ap (λ d. d.closed) is ∙ at.closed ∙ sym (or-false (is_shut h))) no-more (tied-kept desk desk2 out (ap (λ d. d.out) is) (ap (λ d. d.config) is) at.tied)
-      (out-stays meaning stream run h table desk out at x (events ++ queue.flush ∷ []) refl (events-same run.setup h x (Some queue.flush) same refl) (last-kept events queue.flush refl refl) (ap length (sizes-kept events queue.flush refl)))
+      (out-stays meaning stream run h table desk out at x (events ++ queue.flush ∷ []) refl (events-more run.setup h x (Some queue.flush) refl) (last-kept events queue.flush refl refl) (ap length (sizes-kept events queue.flush refl)))
       (record { given = record { refused = false; outcome = delivered }; is = refl })
 
   pub shutdown-on : (desk2 : Desk) → desk2 ≡ record desk { asked = accepted_count desk; closed = true } → Does queue.shutdown desk desk2 → Stands meaning stream run (h ++ record { step = shutdown; answer = runs.Answer.shutdown } ∷ []) table desk2 out
   shutdown-on desk2 is does =
       let x : Answered = record { step = shutdown; answer = runs.Answer.shutdown } in
       let same = ended-none run.setup h x refl in
-      stands-on meaning stream run h table desk out at x table desk2 out (Some queue.shutdown) (same-spans x refl) same (inl refl) refl (does 0 events at.history)
+      stands-on meaning stream run h table desk out at x table desk2 out (Some queue.shutdown) (same-spans x refl) same refl (does 0 events at.history)
       (ap (λ d. d.config) is) (ap (λ d. d.next_ticket) is) (ap (λ d. d.closed) is ∙ sym (or-true (is_shut h))) no-more (tied-kept desk desk2 out (ap (λ d. d.out) is) (ap (λ d. d.config) is) at.tied)
-      (out-stays meaning stream run h table desk out at x (events ++ queue.shutdown ∷ []) refl (events-same run.setup h x (Some queue.shutdown) same refl) (last-kept events queue.shutdown refl refl) (ap length (sizes-kept events queue.shutdown refl)))
+      (out-stays meaning stream run h table desk out at x (events ++ queue.shutdown ∷ []) refl (events-more run.setup h x (Some queue.shutdown) refl) (last-kept events queue.shutdown refl refl) (ap length (sizes-kept events queue.shutdown refl)))
       (record { given = record { refused = false; outcome = delivered }; is = refl })
     where
       or-true : (b : Bool) → (b || true) ≡ true
@@ -145,19 +144,19 @@ module _ {S R : Type 0} (meaning : S → SamplerMeaning) (stream : R → Stream)
       let x : Answered = record { step = take now; answer = runs.taken number count } in
       let event : DeskEvent = queue.taken now count in
       let same = ended-none run.setup h x refl in
-      let grown : desk_events run.setup (h ++ x ∷ []) ≡ events ++ event ∷ [] = events-same run.setup h x (Some event) same refl in
+      let grown : desk_events run.setup (h ++ x ∷ []) ≡ events ++ event ∷ [] = events-more run.setup h x (Some event) refl in
       let took = t.takes 0 events at.history in
       let does : IsDesk 0 (events ++ event ∷ []) desk2 = subst (λ n. IsDesk 0 (events ++ queue.taken now n ∷ []) desk2) t.counted took.0 in
       let spans : t.batch.spans ≡ last_spans (events ++ event ∷ []) = took.1 ∙ ap (λ n. last_spans (events ++ queue.taken now n ∷ [])) t.counted in
       let known : last_batch (events ++ event ∷ []) ≡ t.batch.number = out-known (events ++ event ∷ []) desk2 false t.batch does t.in_hand in
-      stands-on meaning stream run h table desk out at x table desk2 out2 (Some event) (same-spans x refl) same (inl refl) refl does
+      stands-on meaning stream run h table desk out at x table desk2 out2 (Some event) (same-spans x refl) same refl does
       t.keeps.config t.keeps.next_ticket (t.keeps.closed ∙ at.closed ∙ sym (or-false (is_shut h))) no-more (subst (IsTied desk2) (sym t.out) t.in_hand)
-      (ap shown t.out ∙ (λ i. out_as (sym (progress-some h x model.to_encode refl) i) ((spans ∙ ap last_spans (sym grown)) i) ((sym known ∙ ap last_batch (sym grown)) i) (sym (last_attempt-some h x 0 refl) i)))
+      (ap shown t.out ∙ (λ i. pending_as (sym (progress-some h x model.to_encode refl) i) ((spans ∙ ap last_spans (sym grown)) i) ((sym known ∙ ap last_batch (sym grown)) i) (sym (last_attempt-some h x 0 refl) i)))
       (record { given = record { refused = false; outcome = delivered }; is = right ∙ ap (λ d. take_answer d now) (desk-is meaning stream run h table desk out at) })
 
   not-taken-on : (now : ℕ) → runs.not_taken ≡ take_answer desk now → Stands meaning stream run (h ++ record { step = take now; answer = runs.not_taken } ∷ []) table desk out
   not-taken-on now right =
-      idle-on (record { step = take now; answer = runs.not_taken }) (record { ticket = refl; event = λ spans. refl; stage = refl; attempt = refl }) refl refl
+      idle-on (record { step = take now; answer = runs.not_taken }) (record { event = λ setup h. refl; stage = refl; attempt = refl }) refl refl
       (record { given = record { refused = false; outcome = delivered }; is = right ∙ ap (λ d. take_answer d now) (desk-is meaning stream run h table desk out at) })
 
   pub take-on : (now : ℕ) (answer : CodeAnswer) (desk2 : Desk) (out2 : Option Out) → answer_view answer ≡ take_answer desk now → Takes now answer desk out desk2 out2
@@ -195,7 +194,7 @@ module _ {S R : Type 0} (meaning : S → SamplerMeaning) (stream : R → Stream)
   nothing-on step answer desk2 out2 idle same f none right =
       let Goal : CodeAnswer → Desk → Option Out → Type 0 = λ a d o. Stands meaning stream run (h ++ record { step = step; answer = answer_view a } ∷ []) table d o in
       subst (λ d. Goal answer d out2) (sym same) (subst (λ o. Goal answer desk o) (sym idle.same) (subst (λ a. Goal a desk out) (sym idle.answered)
-      (idle-on (record { step = step; answer = runs.nothing }) (record { ticket = refl; event = λ spans. refl; stage = refl; attempt = refl }) (none false) f right)))
+      (idle-on (record { step = step; answer = runs.nothing }) (record { event = λ setup h. refl; stage = refl; attempt = refl }) (none false) f right)))
 
   -- the batch that is out goes on, and the queue knows nothing of it
   encoded-on : (o : Out) → out ≡ Some o → o.stage ≡ to_encode → (number size : ℕ) (out2 : Option Out) → HasBody o.batch number size out2
@@ -204,11 +203,11 @@ module _ {S R : Type 0} (meaning : S → SamplerMeaning) (stream : R → Stream)
       let x : Answered = record { step = encode; answer = runs.encoded number size } in
       let same = ended-none run.setup h x refl in
       let sh = out-shows o e in
-      let grown : desk_events run.setup (h ++ x ∷ []) ≡ events = events-same run.setup h x None same refl ∙ Rattle.std.proofs.lemmas.List.append-nil events in
+      let grown : desk_events run.setup (h ++ x ∷ []) ≡ events = events-more run.setup h x None refl ∙ Rattle.std.proofs.lemmas.List.append-nil events in
       let tied : IsOut (is_sent o.stage) desk o.batch = subst (IsTied desk) e at.tied in
-      stands-on meaning stream run h table desk out at x table desk out2 None (same-spans x refl) same (inl refl) refl (subst (λ es. IsDesk 0 es desk) (sym (Rattle.std.proofs.lemmas.List.append-nil events)) at.history)
+      stands-on meaning stream run h table desk out at x table desk out2 None (same-spans x refl) same refl (subst (λ es. IsDesk 0 es desk) (sym (Rattle.std.proofs.lemmas.List.append-nil events)) at.history)
       refl refl (at.closed ∙ sym (or-false (is_shut h))) no-more (subst (IsTied desk) (sym b.out) (subst (λ g. IsOut (is_sent g) desk o.batch) s tied))
-      (ap shown b.out ∙ (λ i. out_as (sym (progress-some h x model.to_send refl) i) ((sh.spans ∙ ap last_spans (sym grown)) i) ((sh.number ∙ ap last_batch (sym grown)) i) ((sym (ap attempts_at s) ∙ sh.attempts ∙ sym (last_attempt-none h x refl)) i)))
+      (ap shown b.out ∙ (λ i. pending_as (sym (progress-some h x model.to_send refl) i) ((sh.spans ∙ ap last_spans (sym grown)) i) ((sh.number ∙ ap last_batch (sym grown)) i) ((sym (ap attempts_at s) ∙ sh.attempts ∙ sym (last_attempt-none h x refl)) i)))
       (record {
         given = record { refused = false; outcome = delivered };
         is =
@@ -222,7 +221,7 @@ module _ {S R : Type 0} (meaning : S → SamplerMeaning) (stream : R → Stream)
   refused-on : (o : Out) → out ≡ Some o → o.stage ≡ to_encode → Stands meaning stream run (h ++ record { step = encode; answer = runs.out_of_memory } ∷ []) table desk out
   refused-on o e s =
       let sh = out-shows o e in
-      idle-on (record { step = encode; answer = runs.out_of_memory }) (record { ticket = refl; event = λ spans. refl; stage = refl; attempt = refl }) refl refl
+      idle-on (record { step = encode; answer = runs.out_of_memory }) (record { event = λ setup h. refl; stage = refl; attempt = refl }) refl refl
       (record { given = record { refused = true; outcome = delivered }; is = ap (encode_answer h (desk_after run h) run.setup true) (sym (sym sh.stage ∙ ap progress_of s)) })
 
   encodes-batch : (o : Out) → out ≡ Some o → o.stage ≡ to_encode → (answer : CodeAnswer) (out2 : Option Out) → EncodesBatch o.batch answer out2
@@ -255,7 +254,7 @@ module _ {S R : Type 0} (meaning : S → SamplerMeaning) (stream : R → Stream)
       idle : (o : Option Out) → out ≡ o → (p : Progress) → progress h ≡ p → ((d : Desk) → encode_answer h d run.setup false p ≡ runs.nothing) → IsIdle o answer out2 → Stands meaning stream run (h ++ record { step = encode; answer = answer_view answer } ∷ []) table desk out2
       idle o e p q f i = nothing-on encode answer desk out2 (subst (λ b. IsIdle b answer out2) (sym e) i) refl refl (λ refused. refl) (idle-encode p q f)
 
-      staged : (o : Out) → out ≡ Some o → (s : Stage) → o.stage ≡ s → EncodesAt s o answer out2 → Stands meaning stream run (h ++ record { step = encode; answer = answer_view answer } ∷ []) table desk out2
+      staged : (o : Out) → out ≡ Some o → (s : ExportStage) → o.stage ≡ s → EncodesAt s o answer out2 → Stands meaning stream run (h ++ record { step = encode; answer = answer_view answer } ∷ []) table desk out2
       staged o e to_encode s t = encodes-batch o e s answer out2 t
       staged o e (to_send body) s t = let sh = out-shows o e in idle (Some o) e model.to_send (sym sh.stage ∙ ap progress_of s) (λ d. refl) t
       staged o e (to_judge body k outcome) s t = let sh = out-shows o e in idle (Some o) e (model.to_judge outcome) (sym sh.stage ∙ ap progress_of s) (λ d. refl) t
@@ -277,11 +276,11 @@ module _ {S R : Type 0} (meaning : S → SamplerMeaning) (stream : R → Stream)
       let x : Answered = record { step = attempt now; answer = runs.sent o.batch.number 1 told } in
       let same = ended-none run.setup h x refl in
       let sh = out-shows o e in
-      let grown : desk_events run.setup (h ++ x ∷ []) ≡ events ++ queue.handed ∷ [] = events-same run.setup h x (Some queue.handed) same refl in
+      let grown : desk_events run.setup (h ++ x ∷ []) ≡ events ++ queue.handed ∷ [] = events-more run.setup h x (Some queue.handed) refl in
       subst (λ a. Stands meaning stream run (h ++ record { step = attempt now; answer = answer_view a } ∷ []) table desk2 out2) (sym t.sends.answered)
-      (stands-on meaning stream run h table desk out at x table desk2 out2 (Some queue.handed) (same-spans x refl) same (inl refl) refl (t.does 0 events at.history)
+      (stands-on meaning stream run h table desk out at x table desk2 out2 (Some queue.handed) (same-spans x refl) same refl (t.does 0 events at.history)
       t.keeps.config t.keeps.next_ticket (t.keeps.closed ∙ at.closed ∙ sym (or-false (is_shut h))) no-more (subst (IsTied desk2) (sym t.sends.out) t.with_exporter)
-      (ap shown t.sends.out ∙ (λ i. out_as (sym (progress-some h x (model.to_judge told) refl) i) ((sh.spans ∙ sym (last-kept events queue.handed refl refl) ∙ ap last_spans (sym grown)) i)
+      (ap shown t.sends.out ∙ (λ i. pending_as (sym (progress-some h x (model.to_judge told) refl) i) ((sh.spans ∙ sym (last-kept events queue.handed refl refl) ∙ ap last_spans (sym grown)) i)
       ((sh.number ∙ sym (ap length (sizes-kept events queue.handed refl)) ∙ ap last_batch (sym grown)) i) (sym (last_attempt-some h x 1 refl) i)))
       (record {
         given = record { refused = false; outcome = told };
@@ -301,14 +300,14 @@ module _ {S R : Type 0} (meaning : S → SamplerMeaning) (stream : R → Stream)
         let x : Answered = record { step = attempt now; answer = runs.sent o.batch.number (attempts + 1) told } in
         let same = ended-none run.setup h x refl in
         let sh = out-shows o e in
-        let none : event_by (ended_by run.setup h) x.answer x.step ≡ None = ap (λ b. if b then Some queue.handed else None) (ne_eqb (attempts + 1) 1 (λ k. let l = t.some in absurd (omega (arith, k, l)))) in
-        let grown : desk_events run.setup (h ++ x ∷ []) ≡ events = events-same run.setup h x None same none ∙ Rattle.std.proofs.lemmas.List.append-nil events in
+        let none : event_by run.setup h x.answer x.step ≡ None = ap (λ b. if b then Some queue.handed else None) (ne_eqb (attempts + 1) 1 (λ k. let l = t.some in absurd (omega (arith, k, l)))) in
+        let grown : desk_events run.setup (h ++ x ∷ []) ≡ events = events-more run.setup h x None none ∙ Rattle.std.proofs.lemmas.List.append-nil events in
         let tied : IsOut (is_sent o.stage) desk o.batch = subst (IsTied desk) e at.tied in
         subst (λ a. Stands meaning stream run (h ++ record { step = attempt now; answer = answer_view a } ∷ []) table desk2 out2) (sym t.sends.answered)
         (subst (λ d. Stands meaning stream run (h ++ x ∷ []) table d out2) (sym t.desk_same)
-        (stands-on meaning stream run h table desk out at x table desk out2 None (same-spans x refl) same (inl refl) none (subst (λ es. IsDesk 0 es desk) (sym (Rattle.std.proofs.lemmas.List.append-nil events)) at.history)
+        (stands-on meaning stream run h table desk out at x table desk out2 None (same-spans x refl) same none (subst (λ es. IsDesk 0 es desk) (sym (Rattle.std.proofs.lemmas.List.append-nil events)) at.history)
         refl refl (at.closed ∙ sym (or-false (is_shut h))) no-more (subst (IsTied desk) (sym t.sends.out) (subst (λ g. IsOut (is_sent g) desk o.batch) s tied))
-        (ap shown t.sends.out ∙ (λ i. out_as (sym (progress-some h x (model.to_judge told) refl) i) ((sh.spans ∙ ap last_spans (sym grown)) i) ((sh.number ∙ ap last_batch (sym grown)) i) (sym (last_attempt-some h x (attempts + 1) refl) i)))
+        (ap shown t.sends.out ∙ (λ i. pending_as (sym (progress-some h x (model.to_judge told) refl) i) ((sh.spans ∙ ap last_spans (sym grown)) i) ((sh.number ∙ ap last_batch (sym grown)) i) (sym (last_attempt-some h x (attempts + 1) refl) i)))
         (record {
           given = record { refused = false; outcome = told };
           is =
@@ -321,7 +320,7 @@ module _ {S R : Type 0} (meaning : S → SamplerMeaning) (stream : R → Stream)
     early-on t =
         let Goal : CodeAnswer → Desk → Option Out → Type 0 = λ a d o. Stands meaning stream run (h ++ record { step = attempt now; answer = answer_view a } ∷ []) table d o in
         subst (λ d. Goal answer d out2) (sym t.desk_same) (subst (λ o. Goal answer desk o) (sym (t.same ∙ sym e)) (subst (λ a. Goal a desk out) (sym t.answered)
-        (idle-on (record { step = attempt now; answer = runs.early }) (record { ticket = refl; event = λ spans. refl; stage = refl; attempt = refl }) refl refl
+        (idle-on (record { step = attempt now; answer = runs.early }) (record { event = λ setup h. refl; stage = refl; attempt = refl }) refl refl
         (record {
           given = record { refused = false; outcome = delivered };
           is = ap (λ b. if b then runs.early else runs.sent (desk_after run h).batches (last_attempt h + 1) delivered) (sym (lt-ltb now moment t.early)) ∙ ap (attempt_answer h (desk_after run h) delivered now) (sym stage-is);
@@ -339,7 +338,7 @@ module _ {S R : Type 0} (meaning : S → SamplerMeaning) (stream : R → Stream)
       idle o e p q f i = nothing-on (attempt now) answer desk2 out2 (subst (λ b. IsIdle b answer out2) (sym e) i.idle) i.desk_same refl (λ refused. refl)
           (record { given = record { refused = false; outcome = delivered }; is = sym (ap (attempt_answer h (desk_after run h) delivered now) q ∙ f (desk_after run h)) })
 
-      staged : (o : Out) → out ≡ Some o → (s : Stage) → o.stage ≡ s → SendsAt now s o answer desk desk2 out2 before after → Stands meaning stream run (h ++ record { step = attempt now; answer = answer_view answer } ∷ []) table desk2 out2
+      staged : (o : Out) → out ≡ Some o → (s : ExportStage) → o.stage ≡ s → SendsAt now s o answer desk desk2 out2 before after → Stands meaning stream run (h ++ record { step = attempt now; answer = answer_view answer } ∷ []) table desk2 out2
       staged o e to_encode s t = let sh = out-shows o e in idle (Some o) e model.to_encode (sym sh.stage ∙ ap progress_of s) (λ d. refl) t
       staged o e (to_send body) s t = first-on now o e body s answer desk2 out2 before after t
       staged o e (to_judge body k outcome) s t = let sh = out-shows o e in idle (Some o) e (model.to_judge outcome) (sym sh.stage ∙ ap progress_of s) (λ d. refl) t
@@ -372,12 +371,12 @@ module _ {S R : Type 0} (meaning : S → SamplerMeaning) (stream : R → Stream)
         let x : Answered = record { step = reply now word; answer = runs.replied o.batch.number (next_view t.next) } in
         let event : DeskEvent = queue.settled t.fate in
         let same = ended-none run.setup h x refl in
-        let is_event : event_by (ended_by run.setup h) x.answer x.step ≡ Some event = ap (Rattle.std.specs.Prelude.option_map queue.settled) (ap fate_of t.is ∙ t.ends) in
+        let is_event : event_by run.setup h x.answer x.step ≡ Some event = ap (Rattle.std.specs.Prelude.option_map queue.settled) (ap fate_of t.is ∙ t.ends) in
         let over : progress_by x.answer ≡ Some model.not_out = ends-batch o.batch.number (next_view t.next) t.fate (ap fate_of t.is ∙ t.ends) in
         subst (λ a. Stands meaning stream run (h ++ record { step = reply now word; answer = answer_view a } ∷ []) table desk2 out2) (sym t.answered)
-        (stands-on meaning stream run h table desk out at x table desk2 out2 (Some event) (same-spans x refl) same (inl refl) is_event (t.does 0 events at.history)
+        (stands-on meaning stream run h table desk out at x table desk2 out2 (Some event) (same-spans x refl) same is_event (t.does 0 events at.history)
         t.keeps.config t.keeps.next_ticket (t.keeps.closed ∙ at.closed ∙ sym (or-false (is_shut h))) no-more (subst (IsTied desk2) (sym t.out) t.gone)
-        (ap shown t.out ∙ ap (λ p. out_as p (last_spans (desk_events run.setup (h ++ x ∷ []))) (last_batch (desk_events run.setup (h ++ x ∷ []))) (last_attempt (h ++ x ∷ []))) (sym (progress-some h x model.not_out over)))
+        (ap shown t.out ∙ ap (λ p. pending_as p (last_spans (desk_events run.setup (h ++ x ∷ []))) (last_batch (desk_events run.setup (h ++ x ∷ []))) (last_attempt (h ++ x ∷ []))) (sym (progress-some h x model.not_out over)))
         (is-decided (next_view t.next) t.is))
 
     put-off-on : (answer : CodeAnswer) (desk2 : Desk) (out2 : Option Out) → PutsOff decided body k o.batch answer desk desk2 out2 → Stands meaning stream run (h ++ record { step = reply now word; answer = answer_view answer } ∷ []) table desk2 out2
@@ -385,14 +384,14 @@ module _ {S R : Type 0} (meaning : S → SamplerMeaning) (stream : R → Stream)
         let x : Answered = record { step = reply now word; answer = runs.replied o.batch.number (retries.again t.moment) } in
         let same = ended-none run.setup h x refl in
         let sh = out-shows o e in
-        let grown : desk_events run.setup (h ++ x ∷ []) ≡ events = events-same run.setup h x None same refl ∙ Rattle.std.proofs.lemmas.List.append-nil events in
+        let grown : desk_events run.setup (h ++ x ∷ []) ≡ events = events-more run.setup h x None refl ∙ Rattle.std.proofs.lemmas.List.append-nil events in
         let tied : IsOut (is_sent o.stage) desk o.batch = subst (IsTied desk) e at.tied in
         let said : answer_view answer ≡ x.answer = ap answer_view t.answered ∙ ap (runs.replied o.batch.number) (t.is ∙ t.again) in
         subst (λ a. Stands meaning stream run (h ++ record { step = reply now word; answer = a } ∷ []) table desk2 out2) (sym said)
         (subst (λ d. Stands meaning stream run (h ++ x ∷ []) table d out2) (sym t.desk_same)
-        (stands-on meaning stream run h table desk out at x table desk out2 None (same-spans x refl) same (inl refl) refl (subst (λ es. IsDesk 0 es desk) (sym (Rattle.std.proofs.lemmas.List.append-nil events)) at.history)
+        (stands-on meaning stream run h table desk out at x table desk out2 None (same-spans x refl) same refl (subst (λ es. IsDesk 0 es desk) (sym (Rattle.std.proofs.lemmas.List.append-nil events)) at.history)
         refl refl (at.closed ∙ sym (or-false (is_shut h))) no-more (subst (IsTied desk) (sym t.out) (subst (λ g. IsOut (is_sent g) desk o.batch) s tied))
-        (ap shown t.out ∙ (λ i. out_as (sym (progress-some h x (model.to_retry t.moment) refl) i) ((sh.spans ∙ ap last_spans (sym grown)) i) ((sh.number ∙ ap last_batch (sym grown)) i)
+        (ap shown t.out ∙ (λ i. pending_as (sym (progress-some h x (model.to_retry t.moment) refl) i) ((sh.spans ∙ ap last_spans (sym grown)) i) ((sh.number ∙ ap last_batch (sym grown)) i)
         ((sym (ap attempts_at s) ∙ sh.attempts ∙ sym (last_attempt-none h x refl)) i)))
         (is-decided (retries.again t.moment) (sym t.again))))
 
@@ -408,7 +407,7 @@ module _ {S R : Type 0} (meaning : S → SamplerMeaning) (stream : R → Stream)
       idle o e p q f i = nothing-on (reply now word) answer desk2 out2 (subst (λ b. IsIdle b answer out2) (sym e) i.idle) i.desk_same refl (λ refused. refl)
           (record { given = record { refused = false; outcome = delivered }; is = sym (ap (reply_answer run h (desk_after run h) now word) q ∙ f (desk_after run h)) })
 
-      staged : (o : Out) → out ≡ Some o → (s : Stage) → o.stage ≡ s → JudgesAt run.retry now word s o answer desk desk2 out2 → Stands meaning stream run (h ++ record { step = reply now word; answer = answer_view answer } ∷ []) table desk2 out2
+      staged : (o : Out) → out ≡ Some o → (s : ExportStage) → o.stage ≡ s → JudgesAt run.retry now word s o answer desk desk2 out2 → Stands meaning stream run (h ++ record { step = reply now word; answer = answer_view answer } ∷ []) table desk2 out2
       staged o e to_encode s t = let sh = out-shows o e in idle (Some o) e model.to_encode (sym sh.stage ∙ ap progress_of s) (λ d. refl) t
       staged o e (to_send body) s t = let sh = out-shows o e in idle (Some o) e model.to_send (sym sh.stage ∙ ap progress_of s) (λ d. refl) t
       staged o e (to_judge body k outcome) s t = judged-on now word o e body k outcome s answer desk2 out2 t

@@ -10,18 +10,18 @@ use Rattle.span_model.specs.Sampling.{SamplerMeaning, is_sampled}
 use Rattle.span_model.specs.Spans.{Call, EndedSpan, end, is_end, with_ticket}
 use Rattle.span_model.specs.Starts.{StartedSpan, exported_span}
 use Rattle.span_model.specs.Dropped.{queue_full}
-use Rattle.desk_model.specs.Retries.{delivered}
+use Rattle.retry_model.specs.Retries.{delivered}
 use Rattle.desk_model.specs.Queue as queue
-use Rattle.desk_model.specs.Queue.{DeskEvent, last_spans, last_batch, size_of_take}
+use Rattle.desk_model.specs.Queue.{DeskEvent, last_spans, size_of_take}
 use Rattle.desk_model.specs.Desks.{Desk, IsDesk}
 use Rattle.desk_model.proofs.Steps.{IsWithin, last-kept, last-queued, sizes-kept, allowed-within}
 use Rattle.history_model.specs.Steps.{Step}
 use Rattle.history_model.specs.History.{SpanStep, StartResult, calls_on, start_count, start_results, exported_of, exported_if_sampled, ended_spans, with_tickets}
 use Rattle.history_model.proofs.Histories.{ended-no-more, ended-more, outcomes-many}
 use Rattle.run_model.specs.Runs as runs
-use Rattle.run_model.specs.Runs.{Answer, Answered, is_refused, span_steps, ended_by, event_by, desk_events}
+use Rattle.run_model.specs.Runs.{Answer, Answered, is_refused, span_steps, ended_by, span_of_end, event_by, desk_events}
 use Rattle.run_model.specs.Answers.{RunConfig, call_answer, end_answer, progress_by, desk_after, IsAnswer}
-use Rattle.run_model.proofs.More.{is_shut, shut-more, ended-open, ended-shut, ended-some, ticket_of, AreBelow, below-more, events-same, events-more, answers-more}
+use Rattle.run_model.proofs.More.{is_shut, shut-more, ended-open, ended-shut, ended-some, events-more, span-of-end, answers-more}
 use Rattle.batch_desk.specs.Desk.{admission, admission_event, after_admission}
 use Rattle.batch_desk.specs.declared.admitted.Admitted.{Admitted}
 use Rattle.batch_desk.specs.declared.admitted.Admitted.TheVariants as admitted
@@ -36,10 +36,6 @@ use Rattle.trace_run.specs.Queue.{Admits, ended_as}
 use Rattle.trace_run.specs.Out.{Out}
 use Rattle.trace_run.specs.State.{Stands}
 use Rattle.trace_run.proofs.Standing.{IsQuiet, or-false, tied-kept, desk-is, stands-on, out-stays, quiet-on, spans-on}
-
-get-last : {A : Type 0} (xs : List A) (y : A) → slice_get (xs ++ y ∷ []) (length xs) ≡ Some y
-get-last [] y = refl
-get-last (x ∷ xs) y = get-last xs y
 
 admission-late : (d : Desk) → d.closed ≡ true → admission d ≡ admitted.Late
 admission-late d e = rw e refl
@@ -139,10 +135,10 @@ module _ {S R : Type 0} (meaning : S → SamplerMeaning) (stream : R → Stream)
         let x : Answered = answered (runs.ended runs.late) in
         let events : List DeskEvent = desk_events run.setup h in
         let same : ended_by run.setup (h ++ x ∷ []) ≡ ended_by run.setup h = ended-shut run.setup h x (sym at.closed ∙ shut) in
-        stands-on meaning stream run h table desk out at x table2 desk2 out (Some queue.late) (spans-on meaning stream run h table desk out at x table2 takes) same (inl refl) refl does
+        stands-on meaning stream run h table desk out at x table2 desk2 out (Some queue.late) (spans-on meaning stream run h table desk out at x table2 takes) same refl does
         (ap (λ d. d.config) is) (ap (λ d. d.next_ticket) is) (ap (λ d. d.closed) is ∙ at.closed ∙ sym (or-false (is_shut h))) (omega (arith, many))
         (tied-kept desk desk2 out (ap (λ d. d.out) is) (ap (λ d. d.config) is) at.tied)
-        (out-stays meaning stream run h table desk out at x (events ++ queue.late ∷ []) refl (events-same run.setup h x (Some queue.late) same refl) (last-kept events queue.late refl refl) (ap length (sizes-kept events queue.late refl)))
+        (out-stays meaning stream run h table desk out at x (events ++ queue.late ∷ []) refl (events-more run.setup h x (Some queue.late) refl) (last-kept events queue.late refl refl) (ap length (sizes-kept events queue.late refl)))
         (right-by x.answer (Some s) there (ap runs.ended (sym (by (length desk.waiting == desk.config.queue) refl))))
       where
         by : (f : Bool) → (length desk.waiting == desk.config.queue) ≡ f → end_answer run h (desk_after run h) n s ≡ runs.late
@@ -164,17 +160,17 @@ module _ {S R : Type 0} (meaning : S → SamplerMeaning) (stream : R → Stream)
           ∙ ap (λ es. es ++ with_ticket (length es) span ∷ []) (sym before)
 
       -- with an event at the queue
-      ticket-on : (answer : Answer) (event : DeskEvent) (table2 : TableWith S R) (desk2 : Desk) → is_refused answer ≡ false → ticket_of answer ≡ Some k → event_by (ended_by run.setup h ++ with_ticket k span ∷ []) answer step ≡ Some event
+      ticket-on : (answer : Answer) (event : DeskEvent) (table2 : TableWith S R) (desk2 : Desk) → is_refused answer ≡ false → event_by run.setup h answer step ≡ Some event
           → progress_by answer ≡ None → IsDesk 0 (desk_events run.setup h ++ event ∷ []) desk2 → desk2.config ≡ desk.config → desk2.out ≡ desk.out → desk2.next_ticket ≡ desk.next_ticket + 1 → desk2.closed ≡ (desk.next_ticket + 1 == 2 ^ 64 - 1)
           → last_spans (desk_events run.setup h ++ event ∷ []) ≡ last_spans (desk_events run.setup h) → size_of_take event ≡ None
           → TakesStep meaning stream step answer table table2 → length table2.spans ≡ length table.spans → length h < 2 ^ 64 - 1 → IsAnswer run h (answered answer)
           → Stands meaning stream run (h ++ answered answer ∷ []) table2 desk2 out
-      ticket-on answer event table2 desk2 r ticket is stage does config same-out next closed last size takes many small right =
+      ticket-on answer event table2 desk2 r is stage does config same-out next closed last size takes many small right =
           let x : Answered = answered answer in
           let spans2 : List EndedSpan = ended_by run.setup h ++ with_ticket k span ∷ [] in
           let grown : ended_by run.setup (h ++ x ∷ []) ≡ spans2 = ended-is answer r in
           let one : length spans2 ≡ k + 1 = length_push (ended_by run.setup h) (with_ticket k span) in
-          let events : desk_events run.setup (h ++ x ∷ []) ≡ desk_events run.setup h ++ event ∷ [] = events-more run.setup h x (with_ticket k span ∷ []) (Some event) grown at.below is in
+          let events : desk_events run.setup (h ++ x ∷ []) ≡ desk_events run.setup h ++ event ∷ [] = events-more run.setup h x (Some event) is in
           let room : 0 < length table.spans = some-span in
           let few : desk.next_ticket + 1 < 2 ^ 64 - 1 = omega (arith, room, at.bound, small) in
           record {
@@ -182,7 +178,6 @@ module _ {S R : Type 0} (meaning : S → SamplerMeaning) (stream : R → Stream)
             history = subst (λ es. IsDesk 0 es desk2) (sym events) does;
             config = config ∙ at.config;
             tickets = next ∙ ap (λ t. t + 1) at.tickets ∙ sym one ∙ ap length (sym grown);
-            below = subst (λ m. AreBelow m (h ++ x ∷ [])) (sym (ap length grown ∙ one)) (below-more k (k + 1) h x (omega arith) at.below (rw ticket (omega arith)));
             bound = omega (arith, next, many, at.bound, length_push h x);
             closed = closed ∙ by (desk.next_ticket + 1 == 2 ^ 64 - 1) refl few ∙ sym (shut-more h x ∙ rw unshut refl);
             tied = tied-kept desk desk2 out same-out config at.tied;
@@ -197,20 +192,20 @@ module _ {S R : Type 0} (meaning : S → SamplerMeaning) (stream : R → Stream)
       within-events : IsWithin (desk_events run.setup h)
       within-events = allowed-within desk.config 0 (desk_events run.setup h) at.history.allowed
 
-      got : slice_get (ended_by run.setup h ++ with_ticket k span ∷ []) k ≡ Some (with_ticket k span)
-      got = get-last (ended_by run.setup h) (with_ticket k span)
+      got : span_of_end run.setup h step k ≡ Some (with_ticket k span)
+      got = span-of-end run.setup h n (end now) k s there sampled
 
       queued-on : (table2 : TableWith S R) (desk2 : Desk) → (length desk.waiting == desk.config.queue) ≡ false → desk2 ≡ after_admission (admitted.Queued k) span desk
           → IsDesk 0 (desk_events run.setup h ++ queue.queued (with_ticket k span) ∷ []) desk2 → TakesStep meaning stream step (runs.ended (runs.queued k)) table table2 → length table2.spans ≡ length table.spans → length h < 2 ^ 64 - 1
           → Stands meaning stream run (h ++ answered (runs.ended (runs.queued k)) ∷ []) table2 desk2 out
-      queued-on table2 desk2 room is does takes many small = ticket-on (runs.ended (runs.queued k)) (queue.queued (with_ticket k span)) table2 desk2 refl refl (ap (option_map queue.queued) got) refl does
+      queued-on table2 desk2 room is does takes many small = ticket-on (runs.ended (runs.queued k)) (queue.queued (with_ticket k span)) table2 desk2 refl (ap (option_map queue.queued) got) refl does
           (ap (λ d. d.config) is) (ap (λ d. d.out) is) (ap (λ d. d.next_ticket) is) (ap (λ d. d.closed) is) (last-queued (desk_events run.setup h) (with_ticket k span) within-events) refl takes many small
           (right-by (runs.ended (runs.queued k)) (Some s) there (ap runs.ended (sym (end-is false admits_more false room))))
 
       full-on : (table2 : TableWith S R) (desk2 : Desk) → (length desk.waiting == desk.config.queue) ≡ true → desk2 ≡ after_admission (admitted.Full k) span desk
           → IsDesk 0 (desk_events run.setup h ++ queue.full (with_ticket k span) ∷ []) desk2 → TakesStep meaning stream step (runs.ended (runs.Ended.dropped k queue_full)) table table2 → length table2.spans ≡ length table.spans → length h < 2 ^ 64 - 1
           → Stands meaning stream run (h ++ answered (runs.ended (runs.Ended.dropped k queue_full)) ∷ []) table2 desk2 out
-      full-on table2 desk2 full is does takes many small = ticket-on (runs.ended (runs.Ended.dropped k queue_full)) (queue.full (with_ticket k span)) table2 desk2 refl refl (ap (option_map queue.full) got) refl does
+      full-on table2 desk2 full is does takes many small = ticket-on (runs.ended (runs.Ended.dropped k queue_full)) (queue.full (with_ticket k span)) table2 desk2 refl (ap (option_map queue.full) got) refl does
           (ap (λ d. d.config) is) (ap (λ d. d.out) is) (ap (λ d. d.next_ticket) is) (ap (λ d. d.closed) is) (last-kept (desk_events run.setup h) (queue.full (with_ticket k span)) refl refl) refl takes many small
           (right-by (runs.ended (runs.Ended.dropped k queue_full)) (Some s) there (ap runs.ended (sym (end-is false admits_more true full))))
 
@@ -254,11 +249,11 @@ module _ {S R : Type 0} (meaning : S → SamplerMeaning) (stream : R → Stream)
 
       some : (s : StartedSpan) → span_numbered run.setup steps n ≡ Some s → (b : Bool) → list_any is_end calls ≡ b → (c : Bool) → is_sampled s.decision ≡ c → EndsBy Admits b c (exported_span s later-calls) desk answer desk2
           → Stands meaning stream run (h ++ answered (answer_view answer) ∷ []) table2 desk2 out
-      some s e true f c g a = alone (answers.Ended ends.AlreadyEnded) a (λ t. alone-on (runs.ended runs.already_ended) (Some s) table2 (record { ticket = refl; event = λ spans. refl; stage = refl; attempt = refl }) refl e (inl f) (rw f refl) t many)
-      some s e false f false g a = alone (answers.Ended ends.NotSampled) a (λ t. alone-on (runs.ended runs.not_sampled) (Some s) table2 (record { ticket = refl; event = λ spans. refl; stage = refl; attempt = refl }) refl e (inr (rw g refl)) (rw (f, g) refl) t many)
+      some s e true f c g a = alone (answers.Ended ends.AlreadyEnded) a (λ t. alone-on (runs.ended runs.already_ended) (Some s) table2 (record { event = λ setup h. refl; stage = refl; attempt = refl }) refl e (inl f) (rw f refl) t many)
+      some s e false f false g a = alone (answers.Ended ends.NotSampled) a (λ t. alone-on (runs.ended runs.not_sampled) (Some s) table2 (record { event = λ setup h. refl; stage = refl; attempt = refl }) refl e (inr (rw g refl)) (rw (f, g) refl) t many)
       some s e false f true g a = (subst (λ b. TakesStep meaning stream step (answer_view b) table table2 → Stands meaning stream run (h ++ answered (answer_view b) ∷ []) table2 desk2 out) (sym a.answered)
           (λ t. admitted-on s e f g table2 desk2 a.said a.asked t many small)) takes
 
       by : (o : Option StartedSpan) → span_numbered run.setup steps n ≡ o → EndsAs Admits o calls now desk answer desk2 → Stands meaning stream run (h ++ answered (answer_view answer) ∷ []) table2 desk2 out
-      by None e a = alone answers.NoSpan a (λ t. alone-on runs.no_span None table2 (record { ticket = refl; event = λ spans. refl; stage = refl; attempt = refl }) refl e (inr refl) refl t many)
+      by None e a = alone answers.NoSpan a (λ t. alone-on runs.no_span None table2 (record { event = λ setup h. refl; stage = refl; attempt = refl }) refl e (inr refl) refl t many)
       by (Some s) e a = some s e (list_any is_end calls) refl (is_sampled s.decision) refl a

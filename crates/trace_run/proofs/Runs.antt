@@ -1,5 +1,5 @@
 -- A whole run: where it stands behind its first steps, and behind all.
-use Rattle.std.proofs.Common.{◌≡◌, refl, sym, ap, subst, ◌∙◌, ℕ, suc, ◌+◌, ◌<◌, arith, List, [], ◌∷◌, ◌++◌, length, take, append_assoc, Option, Some, None, option_map, nat_lt, if◌then◌else◌, get_or}
+use Rattle.std.proofs.Common.{◌≡◌, refl, sym, ap, subst, ◌∙◌, ℕ, suc, ◌+◌, ◌<◌, arith, List, [], ◌∷◌, ◌++◌, length, take, append_assoc, Option, Some, None, option_map, get_or}
 use Rattle.std.proofs.Math.Seq.{take-suc}
 use Rattle.std.specs.Option.{option_to_list}
 use Rattle.std.specs.List.{AllByRecursion}
@@ -7,12 +7,11 @@ use Rattle.std.proofs.lemmas.List.{append-nil, map-append, length-take-le}
 use Rattle.std.proofs.lemmas.List.Elements.{filter_map-append}
 use Rattle.rand_core.specs.Stream.{Stream}
 use Rattle.span_model.specs.Sampling.{SamplerMeaning}
-use Rattle.desk_model.specs.Desks.{Desk, IsDesk, AreAllowed, desk_of, new_desk}
-use Rattle.desk_laws.specs.Queues.{EachTicketOnce}
+use Rattle.desk_model.specs.Desks.{Desk, IsDesk, AreAllowed, new_desk}
 use Rattle.run_model.specs.Runs.{Answered, ended_by, desk_events}
-use Rattle.run_model.specs.Answers.{RunConfig, AreAnswers, desk_after}
-use Rattle.run_model.specs.Headline.{EachOnce, Attempt, attempt_by, attempts}
-use Rattle.run_laws.specs.Laws.{IsAllowed}
+use Rattle.run_model.specs.Answers.{RunConfig, AreAnswers}
+use Rattle.run_model.specs.Headline.{Attempt, attempt_by, attempts}
+use Rattle.run_laws.specs.Laws.{OfRuns, IsAllowed}
 use Rattle.span_exporter.specs.Handed.{Handed}
 use Rattle.span_table.specs.Table.{IsTable, TableWith}
 use Rattle.trace_history.specs.Answers.{answer_view, history_view}
@@ -21,7 +20,7 @@ use Rattle.trace_history.specs.declared.answer.Answer.{Answer as CodeAnswer}
 use Rattle.trace_history.specs.declared.step.Step.{Step as CodeStep}
 use Rattle.trace_run.specs.Out.{Out}
 use Rattle.trace_run.specs.State.{Stands, TellsAll}
-use Rattle.trace_run.specs.Headline.{attempt_of}
+use Rattle.trace_run.specs.Headline.{told_attempt}
 
 -- ---- histories
 
@@ -63,7 +62,7 @@ pub tells-more : (told more : List Attempt) (means : Handed → Type 0) (first s
 tells-more told more means first second third a b = record {
   more = a.more ++ b.more;
   gains = b.gains ∙ ap (option_map (λ had. had ++ b.more)) a.gains ∙ by first;
-  are = map-append attempt_of a.more b.more ∙ (λ i. a.are i ++ b.are i);
+  are = map-append told_attempt a.more b.more ∙ (λ i. a.are i ++ b.are i);
   bodies = all-append means a.more b.more a.bodies b.bodies;
 }
   where
@@ -88,7 +87,6 @@ module _ {S R : Type 0} (meaning : S → SamplerMeaning) (stream : R → Stream)
     history = history;
     config = ap (λ d. d.config) is;
     tickets = ap (λ d. d.next_ticket) is;
-    below = tt;
     bound = let z = ap (λ d. d.next_ticket) is in let y = ap length none in omega (arith, z, y);
     closed = ap (λ d. d.closed) is;
     tied = ap (λ d. d.out) is;
@@ -99,11 +97,9 @@ module _ {S R : Type 0} (meaning : S → SamplerMeaning) (stream : R → Stream)
   pub is-allowed : (h : List Answered) (table : TableWith S R) (desk : Desk) (out : Option Out) → Stands meaning stream run h table desk out → IsAllowed run h
   is-allowed h table desk out at = subst (λ config. AreAllowed config 0 (desk_events run.setup h)) at.config at.history.allowed
 
-  pub each-once : (h : List Answered) (table : TableWith S R) (desk : Desk) (out : Option Out) → Stands meaning stream run h table desk out → EachTicketOnce → EachOnce run.setup h
-  unfolding desk_of
-  each-once h table desk out at law ticket =
-      law desk.config 0 (desk_events run.setup h) at.history.allowed ticket
-      ∙ ap (λ n. if nat_lt ticket n then 1 else 0) (sym (ap (λ d. d.next_ticket) at.history.is) ∙ at.tickets)
+-- what holds of each run holds of one that has taken all its steps
+pub of-law : {A : Type 0} (holds : RunConfig → List Answered → Type 0) → OfRuns holds → (run : RunConfig) (steps first : List (CodeStep A)) (answers : List CodeAnswer) → first ≡ steps → AreAnswers run (history_view first answers) → holds run (history_view steps answers)
+of-law holds law run steps first answers all w = subst (λ xs. holds run (history_view xs answers)) all (law run (history_view first answers) w)
 
 -- ---- the first steps of a list
 

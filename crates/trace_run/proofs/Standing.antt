@@ -1,11 +1,11 @@
 -- One more step of a run: where it stands behind it.
-use Rattle.std.proofs.Common.{◌≡◌, refl, sym, ap, subst, ◌∙◌, ℕ, ◌+◌, ◌≤◌, arith, List, [], ◌∷◌, ◌++◌, length, Bool, true, false, cond, ◌||◌, ◌&&◌, Option, Some, None, inl, inr, ◌⊎◌}
+use Rattle.std.proofs.Common.{◌≡◌, refl, sym, ap, subst, ◌∙◌, ℕ, ◌+◌, ◌≤◌, arith, List, [], ◌∷◌, ◌++◌, length, Bool, true, false, cond, ◌||◌, ◌&&◌, Option, Some, None}
 use Rattle.std.specs.Option.{option_to_list}
 use Rattle.std.proofs.lemmas.List.{append-nil, length_push}
 use Rattle.std.proofs.lemmas.List.Elements.{filter_map-append}
 use Rattle.rand_core.specs.Stream.{Stream}
 use Rattle.span_model.specs.Sampling.{SamplerMeaning}
-use Rattle.span_model.specs.Spans.{Kind, Call, EndedSpan, is_end}
+use Rattle.span_model.specs.Spans.{Kind, Call, is_end}
 use Rattle.span_model.specs.Starts.{StartedSpan}
 use Rattle.desk_model.specs.Queue.{DeskEvent, last_spans, last_batch}
 use Rattle.desk_model.specs.Desks.{Desk, IsDesk, desk_of}
@@ -14,9 +14,9 @@ use Rattle.history_model.specs.History.{SpanStep, Setup, calls_on}
 use Rattle.history_model.proofs.Histories.{ended-start, ended-no-more}
 use Rattle.run_model.specs.Runs.{Answer, started, out_of_memory, done, Answered, is_refused, span_steps, ended_by, event_by, desk_events}
 use Rattle.run_model.specs.Answers.{RunConfig, start_answer, call_answer, takes_memory, is_live, progress_by, desk_after, IsAnswer}
-use Rattle.run_model.specs.Headline.{out_as, out_after, attempt_by}
-use Rattle.run_model.proofs.More.{is_shut, shut-more, ended-open, ended-shut, ended-none, ended-some, ticket_of, IsBelow, AreBelow, below-more, events-same, progress-none, quiet-attempts, last_attempt-none, answers-more}
-use Rattle.desk_model.specs.Retries.{delivered}
+use Rattle.run_model.specs.Headline.{pending_as, pending_after, attempt_by}
+use Rattle.run_model.proofs.More.{is_shut, shut-more, ended-open, ended-shut, ended-none, ended-some, events-more, progress-none, quiet-attempts, last_attempt-none, answers-more}
+use Rattle.retry_model.specs.Retries.{delivered}
 use Rattle.span_table.specs.Table.{IsTable, TableWith, TakesStep, answer_to_start, answer_to_call, span_numbered}
 use Rattle.trace_run.specs.Out.{Out, shown, IsTied}
 use Rattle.trace_run.specs.State.{Stands}
@@ -28,30 +28,26 @@ or-false false = refl
 -- ---- answers that the queue and the batch that is out don't see
 
 pub record IsQuiet (answer : Answer) (step : Step) : Type 0 where
-  pub ticket : ticket_of answer ≡ None
-  pub event : (spans : List EndedSpan) → event_by spans answer step ≡ None
+  pub event : (setup : Setup) (h : List Answered) → event_by setup h answer step ≡ None
   pub stage : progress_by answer ≡ None
   pub attempt : attempt_by answer ≡ None
 
 pub quiet-start : (there refused : Bool) (s : Option StartedSpan) (step : Step) → IsQuiet (start_answer there refused s) step
-quiet-start true refused None step = record { ticket = refl; event = λ spans. refl; stage = refl; attempt = refl }
-quiet-start false refused None step = record { ticket = refl; event = λ spans. refl; stage = refl; attempt = refl }
+quiet-start true refused None step = record { event = λ setup h. refl; stage = refl; attempt = refl }
+quiet-start false refused None step = record { event = λ setup h. refl; stage = refl; attempt = refl }
 quiet-start there refused (Some s) step = by (refused && takes_memory s)
   where
     by : (b : Bool) → IsQuiet (cond b out_of_memory (started (record { trace = s.start.context.trace; span = s.start.context.span }))) step
-    by true = record { ticket = refl; event = λ spans. refl; stage = refl; attempt = refl }
-    by false = record { ticket = refl; event = λ spans. refl; stage = refl; attempt = refl }
+    by true = record { event = λ setup h. refl; stage = refl; attempt = refl }
+    by false = record { event = λ setup h. refl; stage = refl; attempt = refl }
 
 pub quiet-call : (refused : Bool) (calls : List Call) (s : Option StartedSpan) (step : Step) → IsQuiet (answer_to_call refused calls s) step
-quiet-call refused calls None step = record { ticket = refl; event = λ spans. refl; stage = refl; attempt = refl }
+quiet-call refused calls None step = record { event = λ setup h. refl; stage = refl; attempt = refl }
 quiet-call refused calls (Some s) step = by (refused && is_live s calls)
   where
     by : (b : Bool) → IsQuiet (cond b out_of_memory done) step
-    by true = record { ticket = refl; event = λ spans. refl; stage = refl; attempt = refl }
-    by false = record { ticket = refl; event = λ spans. refl; stage = refl; attempt = refl }
-
-pub none-below : (n : ℕ) (answer : Answer) → ticket_of answer ≡ None → IsBelow n answer
-none-below n answer e = rw e tt
+    by true = record { event = λ setup h. refl; stage = refl; attempt = refl }
+    by false = record { event = λ setup h. refl; stage = refl; attempt = refl }
 
 pub tied-kept : (old new : Desk) (out : Option Out) → new.out ≡ old.out → new.config ≡ old.config → IsTied old out → IsTied new out
 tied-kept old new None o c t = o ∙ t
@@ -65,41 +61,33 @@ module _ {S R : Type 0} (meaning : S → SamplerMeaning) (stream : R → Stream)
 
   -- where no span more ends that is admitted
   pub stands-on : (x : Answered) (table2 : TableWith S R) (desk2 : Desk) (out2 : Option Out) (o : Option DeskEvent) → IsTable meaning stream run.setup (span_steps (h ++ x ∷ [])) table2
-      → ended_by run.setup (h ++ x ∷ []) ≡ ended_by run.setup h → ticket_of x.answer ≡ None ⊎ IsBelow (length (ended_by run.setup h)) x.answer → event_by (ended_by run.setup h) x.answer x.step ≡ o
+      → ended_by run.setup (h ++ x ∷ []) ≡ ended_by run.setup h → event_by run.setup h x.answer x.step ≡ o
       → IsDesk 0 (desk_events run.setup h ++ option_to_list o) desk2 → desk2.config ≡ desk.config → desk2.next_ticket ≡ desk.next_ticket → desk2.closed ≡ (is_shut h || is_shutdown x.step)
-      → length table2.spans ≤ length table.spans + 1 → IsTied desk2 out2 → shown out2 ≡ out_after run.setup (h ++ x ∷ []) → IsAnswer run h x
+      → length table2.spans ≤ length table.spans + 1 → IsTied desk2 out2 → shown out2 ≡ pending_after run.setup (h ++ x ∷ []) → IsAnswer run h x
       → Stands meaning stream run (h ++ x ∷ []) table2 desk2 out2
-  stands-on x table2 desk2 out2 o spans same below event history config tickets closed few tied is right = record {
+  stands-on x table2 desk2 out2 o spans same event history config tickets closed few tied is right = record {
     spans = spans;
-    history = subst (λ es. IsDesk 0 es desk2) (sym (events-same run.setup h x o same event)) history;
+    history = subst (λ es. IsDesk 0 es desk2) (sym (events-more run.setup h x o event)) history;
     config = config ∙ at.config;
     tickets = tickets ∙ at.tickets ∙ ap length (sym same);
-    below =
-        let k : ℕ = length (ended_by run.setup h) in
-        let here : IsBelow k x.answer = by below in
-        subst (λ es. AreBelow (length es) (h ++ x ∷ [])) (sym same) (below-more k k h x (omega arith) at.below here);
     bound = omega (arith, tickets, few, at.bound, length_push h x);
     closed = closed ∙ sym (shut-more h x);
     tied = tied;
     out_is = is;
     answers = answers-more run h x at.answers right;
   }
-    where
-      by : ticket_of x.answer ≡ None ⊎ IsBelow (length (ended_by run.setup h)) x.answer → IsBelow (length (ended_by run.setup h)) x.answer
-      by (inl e) = none-below (length (ended_by run.setup h)) x.answer e
-      by (inr b) = b
 
   -- the batch that is out stays so
   pub out-stays : (x : Answered) (events : List DeskEvent) → progress_by x.answer ≡ None → desk_events run.setup (h ++ x ∷ []) ≡ events → last_spans events ≡ last_spans (desk_events run.setup h) → last_batch events ≡ last_batch (desk_events run.setup h)
-      → shown out ≡ out_after run.setup (h ++ x ∷ [])
-  out-stays x events p e s b = at.out_is ∙ (λ i. out_as (sym (progress-none h x p) i) (sym (ap last_spans e ∙ s) i) (sym (ap last_batch e ∙ b) i) (sym (last_attempt-none h x (quiet-attempts x.answer p)) i))
+      → shown out ≡ pending_after run.setup (h ++ x ∷ [])
+  out-stays x events p e s b = at.out_is ∙ (λ i. pending_as (sym (progress-none h x p) i) (sym (ap last_spans e ∙ s) i) (sym (ap last_batch e ∙ b) i) (sym (last_attempt-none h x (quiet-attempts x.answer p)) i))
 
   -- a step that only the spans see
   pub quiet-on : (x : Answered) (table2 : TableWith S R) → IsQuiet x.answer x.step → IsTable meaning stream run.setup (span_steps (h ++ x ∷ [])) table2 → ended_by run.setup (h ++ x ∷ []) ≡ ended_by run.setup h
       → is_shutdown x.step ≡ false → length table2.spans ≤ length table.spans + 1 → IsAnswer run h x → Stands meaning stream run (h ++ x ∷ []) table2 desk out
   quiet-on x table2 q spans same unshut few right =
-      let events : desk_events run.setup (h ++ x ∷ []) ≡ desk_events run.setup h = events-same run.setup h x None same (q.event (ended_by run.setup h)) ∙ append-nil (desk_events run.setup h) in
-      stands-on x table2 desk out None spans same (inl q.ticket) (q.event (ended_by run.setup h)) (subst (λ es. IsDesk 0 es desk) (sym (append-nil (desk_events run.setup h))) at.history)
+      let events : desk_events run.setup (h ++ x ∷ []) ≡ desk_events run.setup h = events-more run.setup h x None (q.event run.setup h) ∙ append-nil (desk_events run.setup h) in
+      stands-on x table2 desk out None spans same (q.event run.setup h) (subst (λ es. IsDesk 0 es desk) (sym (append-nil (desk_events run.setup h))) at.history)
       refl refl (at.closed ∙ sym (ap (λ b. is_shut h || b) unshut ∙ or-false (is_shut h))) few at.tied (out-stays x (desk_events run.setup h) q.stage events refl refl) right
 
   -- the spans behind a step that a table has taken

@@ -7,7 +7,7 @@ use Rattle.rand_core.specs.Stream.{Stream}
 use Rattle.span_model.specs.Sampling.{SamplerMeaning, is_sampled}
 use Rattle.span_model.specs.Spans.{Call, end, is_end}
 use Rattle.span_model.specs.Starts.{StartedSpan, exported_span}
-use Rattle.desk_model.specs.Retries.{Outcome}
+use Rattle.retry_model.specs.Retries.{Outcome}
 use Rattle.desk_model.specs.Queue.{DeskEvent, batch_spans, last_batch, last_spans}
 use Rattle.desk_model.specs.Desks.{Desk, is_due}
 use Rattle.run_model.specs.Runs.{Answer, Answered, desk_events}
@@ -22,9 +22,8 @@ use Rattle.span_exporter.specs.Handed.{Handed}
 use Rattle.span_table.specs.Table.{TableWith}
 use Rattle.span_table.specs.Ends.{EndsAs, EndsBy}
 use Rattle.trace_run.specs.Queue.{Admits}
-use Rattle.trace_run.specs.Out.{Stage, to_encode, to_send, to_judge, to_retry, Out, Encodes, EncodesAt, EncodesBatch, Sends, SendsAt, SendsBody, IsBody, SendsNone, IsBodyOf, Replies, JudgesAt}
-use Rattle.trace_run.specs.State.{Stands, TellsAll, Tells}
-use Rattle.trace_run.specs.Headline.{MeansItsBatch}
+use Rattle.trace_run.specs.Out.{ExportStage, to_encode, to_send, to_judge, to_retry, Out, Encodes, EncodesAt, EncodesBatch, Sends, SendsAt, SendsBody, IsBody, SendsNone, IsBodyOf, Replies, JudgesAt}
+use Rattle.trace_run.specs.State.{Stands, HasItsBody, TellsAll, Tells}
 use Rattle.trace_run.proofs.Batches.{shows}
 use Rattle.trace_run.proofs.Runs.{tells-none}
 
@@ -77,7 +76,7 @@ pub encode-tells : (out later : Option Out) (answer : CodeAnswer) → Encodes ou
 encode-tells None later answer t = told-by answers.Nothing answer refl t.answered
 encode-tells (Some o) later answer t = by o.stage t
   where
-    by : (s : Stage) → EncodesAt s o answer later → attempt_by (answer_view answer) ≡ None
+    by : (s : ExportStage) → EncodesAt s o answer later → attempt_by (answer_view answer) ≡ None
     by to_encode u = encode-batch-tells o.batch answer later u
     by (to_send body) u = told-by answers.Nothing answer refl u.answered
     by (to_judge body attempt outcome) u = told-by answers.Nothing answer refl u.answered
@@ -86,43 +85,40 @@ encode-tells (Some o) later answer t = by o.stage t
 -- The batch that is out is the last one.
 body-of-last : {S R : Type 0} {meaning : S → SamplerMeaning} {stream : R → Stream} (run : RunConfig) (h : List Answered) {table : TableWith S R} {desk : Desk} (o : Out) → Stands meaning stream run h table desk (Some o)
     → (body : List ℕ) (attempt : ℕ) (outcome : Outcome) → IsBody body o.batch
-    → MeansItsBatch run.setup h (record { number = o.batch.number; attempt = attempt; body = body; outcome = outcome })
+    → HasItsBody run.setup h (record { number = o.batch.number; attempt = attempt; body = body; outcome = outcome })
 body-of-last run h o at body attempt outcome b =
     let events : List DeskEvent = desk_events run.setup h in
     let sh = shows _ _ (last_spans events) (last_batch events) (last_attempt h) at.out_is in
-    record {
-      numbered = b.numbered;
-      taken = let n = sh.number in omega (arith, n);
-      body = subst (λ spans. IsBodyOf spans body) (sh.spans ∙ ap (batch_spans events) (sym sh.number)) b.is;
-    }
+    let is : IsBodyOf (batch_spans events o.batch.number) body = subst (λ spans. IsBodyOf spans body) (sh.spans ∙ ap (batch_spans events) (sym sh.number)) b.is in
+    record { means = record { numbered = b.numbered; taken = let n = sh.number in omega (arith, n); body = is.means }; bytes = is.bytes }
 
 pub send-tells : {S R : Type 0} {meaning : S → SamplerMeaning} {stream : R → Stream} (run : RunConfig) (h : List Answered) {table : TableWith S R} (now : ℕ) (out later : Option Out) (answer : CodeAnswer) (old new : Desk) (before after : Option (List Handed))
-    → Stands meaning stream run h table old out → Sends now out answer old new later before after → Tells (answer_view answer) (MeansItsBatch run.setup h) before after
-send-tells run h now None later answer old new before after at t = tells-nothing (answer_view answer) (MeansItsBatch run.setup h) before after (told-by answers.Nothing answer refl t.idle.answered) t.told
+    → Stands meaning stream run h table old out → Sends now out answer old new later before after → Tells (answer_view answer) (HasItsBody run.setup h) before after
+send-tells run h now None later answer old new before after at t = tells-nothing (answer_view answer) (HasItsBody run.setup h) before after (told-by answers.Nothing answer refl t.idle.answered) t.told
 send-tells run h now (Some o) later answer old new before after at t = by o.stage t
   where
     Told : Type 0
-    Told = Tells (answer_view answer) (MeansItsBatch run.setup h) before after
+    Told = Tells (answer_view answer) (HasItsBody run.setup h) before after
 
     none : SendsNone (Some o) answer old new later before after → Told
-    none u = tells-nothing (answer_view answer) (MeansItsBatch run.setup h) before after (told-by answers.Nothing answer refl u.idle.answered) u.told
+    none u = tells-nothing (answer_view answer) (HasItsBody run.setup h) before after (told-by answers.Nothing answer refl u.idle.answered) u.told
 
     sent : (body : List ℕ) (attempt : ℕ) → SendsBody body attempt o.batch answer later before after → IsBody body o.batch → Told
-    sent body attempt u b = subst (λ a. Tells (answer_view a) (MeansItsBatch run.setup h) before after) (sym u.answered)
+    sent body attempt u b = subst (λ a. Tells (answer_view a) (HasItsBody run.setup h) before after) (sym u.answered)
         (record { more = _; gains = u.told; are = refl; bodies = (body-of-last run h o at body attempt _ b, tt) })
 
-    by : (s : Stage) → SendsAt now s o answer old new later before after → Told
+    by : (s : ExportStage) → SendsAt now s o answer old new later before after → Told
     by to_encode u = none u
     by (to_judge body attempt outcome) u = none u
     by (to_send body) u = sent body 1 u.sends u.of_batch
     by (to_retry body attempts moment) (inl u) = sent body (attempts + 1) u.sends u.of_batch
-    by (to_retry body attempts moment) (inr u) = tells-nothing (answer_view answer) (MeansItsBatch run.setup h) before after (told-by answers.Early answer refl u.answered) u.told
+    by (to_retry body attempts moment) (inr u) = tells-nothing (answer_view answer) (HasItsBody run.setup h) before after (told-by answers.Early answer refl u.answered) u.told
 
 pub reply-tells : (retry : RetryConfig) (now word : ℕ) (out later : Option Out) (answer : CodeAnswer) (old new : Desk) → Replies retry now word out answer old new later → attempt_by (answer_view answer) ≡ None
 reply-tells retry now word None later answer old new t = told-by answers.Nothing answer refl t.idle.answered
 reply-tells retry now word (Some o) later answer old new t = by o.stage t
   where
-    by : (s : Stage) → JudgesAt retry now word s o answer old new later → attempt_by (answer_view answer) ≡ None
+    by : (s : ExportStage) → JudgesAt retry now word s o answer old new later → attempt_by (answer_view answer) ≡ None
     by to_encode u = told-by answers.Nothing answer refl u.idle.answered
     by (to_send body) u = told-by answers.Nothing answer refl u.idle.answered
     by (to_retry body attempts moment) u = told-by answers.Nothing answer refl u.idle.answered

@@ -2,17 +2,21 @@
 -- Specification, OTLP/HTTP; profile)
 use Rattle.std.specs.Prelude.{◌≡◌, ℕ, ◌<◌, ◌≤◌, List, map, slice_get, Option, Some}
 use Rattle.std.specs.List.{AllByRecursion}
+use Rattle.message_model.specs.Reading.{Reads}
+use Rattle.message_model.specs.Messages.{body_meaning}
+use Rattle.export_model.specs.Export.{groups, grouped_triples}
 use Rattle.desk_model.specs.Queue.{batch_spans, last_batch}
 use Rattle.history_model.specs.History.{Setup}
 use Rattle.run_model.specs.Runs.{Answered, desk_events}
 use Rattle.run_model.specs.Answers.{RunConfig}
-use Rattle.run_model.specs.Headline.{EachOnce, Attempt, attempts}
-use Rattle.run_laws.specs.Laws.{HandedAreTheBatches, WaitingAreEnded, BatchesAreEnded, DropsNameEnded}
+use Rattle.run_model.specs.Headline.{EachOnce, Attempt, attempts, AreNumbered}
+use Rattle.run_laws.specs.Laws.{HandedAreTheBatches, WaitingAreEnded, BatchesAreEnded, DropsNameEnded, LedgerNamesTheDropped}
+use Rattle.otlp_proto.specs.Bodies.{body_bytes}
 use Rattle.span_exporter.specs.Handed.{Handed, Gains}
-use Rattle.trace_run.specs.Out.{IsBodyOf}
 
-abbrev pub attempt_of : Handed → Attempt
-attempt_of handed = record {
+-- the attempt that an exporter tells, without its body
+abbrev pub told_attempt : Handed → Attempt
+told_attempt handed = record {
   number = handed.number;
   attempt = handed.attempt;
   outcome = handed.outcome;
@@ -23,7 +27,8 @@ attempt_of handed = record {
 pub record MeansItsBatch (setup : Setup) (h : List Answered) (handed : Handed) : Type 0 where
   pub numbered : 0 < handed.number
   pub taken : handed.number ≤ last_batch (desk_events setup h)
-  pub body : IsBodyOf (batch_spans (desk_events setup h) handed.number) handed.body
+  pub body : Reads (body_meaning handed.body)
+      (grouped_triples (batch_spans (desk_events setup h) handed.number))
 
 -- Two attempts of one batch have the same bytes. (OTLP Specification, Retryable Response Codes)
 abbrev pub RepeatsBytes : List Handed → Type 0
@@ -42,18 +47,35 @@ pub record AreAsEnded (setup : Setup) (history : List Answered) : Type 0 where
 pub record IsTold (history : List Answered) (old new : Option (List Handed)) (more : List Handed)
     : Type 0 where
   pub gains : Gains more old new
-  pub are : map attempt_of more ≡ attempts history
+  pub are : map told_attempt more ≡ attempts history
 
--- The batches that were handed to the exporter, with the spans still queued and those that the
--- ledger names as dropped, are exactly the sampled spans that the history ended before the
--- shutdown, each once, as the history means them; each body means its batch, and each retry repeats
--- it. (profile)
+-- The distinct batches that were handed to the exporter, read by what OTLP means, with the spans
+-- still queued and those that the ledger names as dropped, are exactly the sampled spans that the
+-- history ended before the shutdown, each once, as the history means them; the attempts of a batch
+-- are numbered 1, 2, and so on, and each has the same bytes. (profile)
 pub record Headline (run : RunConfig) (history : List Answered) (old new : Option (List Handed))
     : Type 0 where
   pub each_once : EachOnce run.setup history
-  pub handed : HandedAreTheBatches run.setup history
   pub values : AreAsEnded run.setup history
+  pub ledger : LedgerNamesTheDropped run history
   pub more : List Handed
   pub told : IsTold history old new more
+  pub handed : HandedAreTheBatches run.setup history (map told_attempt more)
   pub bodies : AllByRecursion (MeansItsBatch run.setup history) more
+  pub numbered : AreNumbered (map told_attempt more)
   pub repeats : RepeatsBytes more
+
+-- ---- the bytes
+
+-- Its body is written as the canon has it: by this the length is known, and one batch has one body.
+-- (profile)
+abbrev pub IsCanonical : Setup → List Answered → Handed → Type 0
+IsCanonical setup h handed =
+    handed.body ≡ body_bytes (groups (batch_spans (desk_events setup h) handed.number))
+
+-- So are all that an exporter that tells has gained.
+pub record AreCanonical (run : RunConfig) (history : List Answered)
+    (old new : Option (List Handed)) : Type 0 where
+  pub more : List Handed
+  pub told : IsTold history old new more
+  pub bytes : AllByRecursion (IsCanonical run.setup history) more

@@ -4,8 +4,8 @@ use Rattle.message_model.specs.Reading.{Reads}
 use Rattle.message_model.specs.Messages.{body_meaning}
 use Rattle.span_model.specs.Spans.{EndedSpan}
 use Rattle.export_model.specs.Export.{groups, body_length, grouped_triples}
-use Rattle.desk_model.specs.Retries as retries
-use Rattle.desk_model.specs.Retries.{Fate, fate_of}
+use Rattle.retry_model.specs.Retries as retries
+use Rattle.retry_model.specs.Retries.{Fate, fate_of}
 use Rattle.desk_model.specs.Queue as desk
 use Rattle.desk_model.specs.Desks.{Desk, Does, TakesSpans}
 use Rattle.retry_model.specs.Waits.{RetryConfig, IsRetryConfig, next_after}
@@ -24,38 +24,38 @@ use Rattle.run_model.specs.Headline as headline
 -- how far the batch is: it is to be encoded, or this body is to be sent, or it was sent in this
 -- attempt, and this came of it, or it had so many attempts and is to be sent again, from this
 -- moment on
-pub data Stage : Type 0 where
-  to_encode : Stage
-  to_send : List ℕ → Stage
-  to_judge : List ℕ → ℕ → retries.Outcome → Stage
-  to_retry : List ℕ → ℕ → ℕ → Stage
+pub data ExportStage : Type 0 where
+  to_encode : ExportStage
+  to_send : List ℕ → ExportStage
+  to_judge : List ℕ → ℕ → retries.Outcome → ExportStage
+  to_retry : List ℕ → ℕ → ℕ → ExportStage
 
 -- a batch that is out
 pub record Out : Type 0 where
   pub batch : BatchView
-  pub stage : Stage
+  pub stage : ExportStage
 
-abbrev pub progress_of : Stage → model.Progress
+abbrev pub progress_of : ExportStage → model.Progress
 progress_of to_encode = model.to_encode
 progress_of (to_send body) = model.to_send
 progress_of (to_judge body attempt outcome) = model.to_judge outcome
 progress_of (to_retry body attempts moment) = model.to_retry moment
 
 -- how many attempts it had
-abbrev pub attempts_at : Stage → ℕ
+abbrev pub attempts_at : ExportStage → ℕ
 attempts_at to_encode = 0
 attempts_at (to_send body) = 0
 attempts_at (to_judge body attempt outcome) = attempt
 attempts_at (to_retry body attempts moment) = attempts
 
 -- it is with the exporter
-abbrev pub is_sent : Stage → Bool
+abbrev pub is_sent : ExportStage → Bool
 is_sent to_encode = false
 is_sent (to_send body) = false
 is_sent (to_judge body attempt outcome) = true
 is_sent (to_retry body attempts moment) = true
 
-abbrev pub shown_as : Out → headline.OutBatch
+abbrev pub shown_as : Out → headline.PendingBatch
 shown_as o = record {
   number = o.batch.number;
   spans = o.batch.spans;
@@ -63,7 +63,7 @@ shown_as o = record {
   attempts = attempts_at o.stage;
 }
 
-abbrev pub shown : Option Out → Option headline.OutBatch
+abbrev pub shown : Option Out → Option headline.PendingBatch
 shown None = None
 shown (Some o) = Some (shown_as o)
 
@@ -88,7 +88,7 @@ pub record HasRoom (retry : RetryConfig) (room : ℕ → ℕ) (spans : List Ende
   pub enough : retry.attempts ≤ room (length body) + attempts
   pub is : IsBodyOf spans body
 
-abbrev pub IsReadyAt : RetryConfig → (ℕ → ℕ) → List EndedSpan → Stage → Type 0
+abbrev pub IsReadyAt : RetryConfig → (ℕ → ℕ) → List EndedSpan → ExportStage → Type 0
 IsReadyAt retry room spans to_encode = Unit {0}
 IsReadyAt retry room spans (to_send body) = HasRoom retry room spans body 0
 IsReadyAt retry room spans (to_judge body attempt outcome) = HasRoom retry room spans body attempt
@@ -96,7 +96,7 @@ IsReadyAt retry room spans (to_retry body attempts moment) = HasRoom retry room 
 
 -- An attempt that was made is one of those configured, and where there is another, it was not the
 -- last.
-abbrev pub IsCountedAt : RetryConfig → Stage → Type 0
+abbrev pub IsCountedAt : RetryConfig → ExportStage → Type 0
 IsCountedAt retry (to_judge body attempt outcome) = (1 ≤ attempt) × (attempt ≤ retry.attempts)
 IsCountedAt retry (to_retry body attempts moment) = (1 ≤ attempts) × (attempts < retry.attempts)
 IsCountedAt retry _ = Unit {0}
@@ -161,7 +161,7 @@ EncodesBatch batch answers.OutOfMemory later =
     later ≡ Some (record { batch = batch; stage = to_encode })
 EncodesBatch batch _ later = ⊥
 
-abbrev pub EncodesAt : Stage → Out → Answer → Option Out → Type 0
+abbrev pub EncodesAt : ExportStage → Out → Answer → Option Out → Type 0
 EncodesAt to_encode o answer later = EncodesBatch o.batch answer later
 EncodesAt _ o answer later = IsIdle (Some o) answer later
 
@@ -218,7 +218,7 @@ pub record SendsNone (out : Option Out) (answer : Answer) (old new : Desk) (late
   pub desk_same : new ≡ old
   pub told : after ≡ before
 
-abbrev pub SendsAt : ℕ → Stage → Out → Answer → Desk → Desk → Option Out
+abbrev pub SendsAt : ℕ → ExportStage → Out → Answer → Desk → Desk → Option Out
     → Option (List Handed) → Option (List Handed) → Type 0
 SendsAt now (to_send body) o answer old new later before after =
     SendsFirst body o.batch answer old new later before after
@@ -272,7 +272,7 @@ Judges decided body attempt batch answer old new later =
     Settles decided batch answer old new later
     ⊎ PutsOff decided body attempt batch answer old new later
 
-abbrev pub JudgesAt : RetryConfig → ℕ → ℕ → Stage → Out → Answer → Desk → Desk → Option Out
+abbrev pub JudgesAt : RetryConfig → ℕ → ℕ → ExportStage → Out → Answer → Desk → Desk → Option Out
     → Type 0
 JudgesAt retry now word (to_judge body attempt outcome) o answer old new later =
     Judges (next_after retry attempt outcome now word) body attempt o.batch answer old new later

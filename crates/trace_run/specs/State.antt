@@ -7,14 +7,14 @@ use Rattle.span_model.specs.Sampling.{SamplerMeaning}
 use Rattle.desk_model.specs.Desks.{Desk, IsDesk}
 use Rattle.retry_model.specs.Waits.{RetryConfig}
 use Rattle.history_model.specs.Steps.{is_shutdown}
+use Rattle.history_model.specs.History.{Setup}
 use Rattle.run_model.specs.Runs.{Answer, Answered, span_steps, ended_by, desk_events}
 use Rattle.run_model.specs.Answers.{RunConfig, AreAnswers}
-use Rattle.run_model.specs.Headline.{Attempt, attempt_by, out_after}
-use Rattle.run_model.proofs.More.{AreBelow}
+use Rattle.run_model.specs.Headline.{Attempt, attempt_by, pending_after}
 use Rattle.span_exporter.specs.Handed.{Handed, Gains}
 use Rattle.span_table.specs.Table.{IsTable, TableWith}
 use Rattle.trace_run.specs.Out.{Out, shown, IsTied}
-use Rattle.trace_run.specs.Headline.{attempt_of}
+use Rattle.trace_run.specs.Headline.{told_attempt, MeansItsBatch, IsCanonical}
 
 -- Behind these steps, the spans, the queue and the batch that is out are what the steps mean.
 pub record Stands {S R : Type 0} (meaning : S → SamplerMeaning) (stream : R → Stream)
@@ -24,11 +24,10 @@ pub record Stands {S R : Type 0} (meaning : S → SamplerMeaning) (stream : R �
   pub history : IsDesk 0 (desk_events run.setup h) desk
   pub config : desk.config ≡ run.desk
   pub tickets : desk.next_ticket ≡ length (ended_by run.setup h)
-  pub below : AreBelow (length (ended_by run.setup h)) h
   pub bound : desk.next_ticket + length table.spans ≤ length h
   pub closed : desk.closed ≡ list_any (λ x. is_shutdown x.step) h
   pub tied : IsTied desk out
-  pub out_is : shown out ≡ out_after run.setup h
+  pub out_is : shown out ≡ pending_after run.setup h
   pub answers : AreAnswers run h
 
 -- One more step: whatever steps were before, it stands behind these and this one.
@@ -41,12 +40,17 @@ GoesOn meaning stream retry x table desk out table2 desk2 out2 =
 
 -- ---- what the exporter tells of a step
 
+-- an attempt whose body is that of its batch
+pub record HasItsBody (setup : Setup) (h : List Answered) (handed : Handed) : Type 0 where
+  pub means : MeansItsBatch setup h handed
+  pub bytes : IsCanonical setup h handed
+
 -- an exporter that tells has gained these attempts, each with a body that means this
 pub record TellsAll (told : List Attempt) (means : Handed → Type 0)
     (old new : Option (List Handed)) : Type 0 where
   pub more : List Handed
   pub gains : Gains more old new
-  pub are : map attempt_of more ≡ told
+  pub are : map told_attempt more ≡ told
   pub bodies : AllByRecursion means more
 
 -- the attempt that this answer speaks of, if it does

@@ -2,9 +2,10 @@
 ghost use Rattle.std.specs.Prelude.{◌≡◌, option_map};
 ghost use Rattle.trace_run.specs.Report.{after_close};
 
-use crate::sending::{OutBatch, Stage};
-use batch_desk::{Batch, Desk, Fate};
+use crate::sending::{BatchExport, ExportStage};
+use batch_desk::{Batch, Desk};
 use otlp_span::Reason;
+use retry_core::Fate;
 use std::alloc::{Allocator, Global};
 use std::marker::Model;
 use trace_history::Answer;
@@ -15,7 +16,7 @@ use trace_history::Answer;
 pub struct RunReport<A: Allocator = Global> {
     pub(crate) answers: Vec<Answer, A>,
     pub(crate) desk: Desk<A>,
-    pub(crate) out: Option<OutBatch<A>>,
+    pub(crate) out: Option<BatchExport<A>>,
 }
 
 impl<A: Allocator> Model for RunReport<A> {
@@ -66,9 +67,11 @@ impl<A: Allocator> RunReport<A> {
         let Some(out) = out else {
             return desk;
         };
-        let OutBatch { batch, stage } = out;
+        let BatchExport { batch, stage } = out;
         match stage {
-            Stage::ToJudge { .. } | Stage::ToRetry { .. } => desk.settle(batch, Fate::Abandoned),
+            ExportStage::ToJudge { .. } | ExportStage::ToRetry { .. } => {
+                desk.settle(batch, Fate::Abandoned);
+            }
             _ => desk.drop_batch(batch, Reason::Abandoned),
         }
         desk

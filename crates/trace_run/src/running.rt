@@ -5,11 +5,10 @@ ghost use Rattle.run_model.specs.Runs.{Answered};
 ghost use Rattle.trace_history.specs.Answers.{answer_view};
 ghost use Rattle.trace_history.specs.Steps.{step_view};
 ghost use Rattle.trace_run.specs.Out.{IsReady, IsTied};
-ghost use Rattle.trace_run.specs.State.{GoesOn, Stands, Tells};
-ghost use Rattle.trace_run.specs.Headline.{MeansItsBatch};
+ghost use Rattle.trace_run.specs.State.{GoesOn, HasItsBody, Stands, Tells};
 
 use crate::queue::SpanQueue;
-use crate::sending::{OutBatch, encode_batch, judge_batch, send_batch, take_batch};
+use crate::sending::{BatchExport, encode_batch, judge_batch, send_batch, take_batch};
 use otlp_sampler::Sampler;
 use rand_core::Rng;
 use retry_core::RetryConfig;
@@ -31,10 +30,10 @@ impl<'a, S: Sampler, R: Rng, A: Allocator + Copy> Running<'a, S, R, A> {
     /// Takes a step. The batch that is out, if one is, is handed in and given back.
     pub(crate) fn take_step<E: Exporter>(
         &mut self,
-        out: Option<OutBatch<A>>,
+        out: Option<BatchExport<A>>,
         step: &Step<A>,
         exporter: &mut E,
-    ) -> (Answer, Option<OutBatch<A>>)
+    ) -> (Answer, Option<BatchExport<A>>)
         requires room { length self.old.table.spans < self.old.table.room }
         requires tied { IsTied self.old.queue out }
         requires ready { IsReady self.old.retry (E.room exporter.old) out }
@@ -44,7 +43,7 @@ impl<'a, S: Sampler, R: Rng, A: Allocator + Copy> Running<'a, S, R, A> {
             self.new.table self.new.queue result.1 }
         ensures told { (run : model.RunConfig) (h : List Answered) →
             Stands S.meaning R.stream run h self.old.table self.old.queue out
-            → Tells (answer_view result.0) (MeansItsBatch run.setup h)
+            → Tells (answer_view result.0) (HasItsBody run.setup h)
             (E.handed exporter.old) (E.handed exporter.new) }
         ensures ready { IsReady self.old.retry (E.room exporter.new) result.1 }
         ensures room { self.new.table.room ≡ self.old.table.room }

@@ -1,27 +1,24 @@
 //! The batch that is out: it is taken, encoded, sent, and judged by what came of that.
-ghost use Rattle.std.specs.Prelude.{◌≡◌, ◌<◌, ◌≤◌, ◌+◌, ℕ, Some, IfOk, length, is_some, true};
+ghost use Rattle.std.specs.Prelude.{◌≡◌, ◌<◌, ◌≤◌, ◌+◌, ℕ, IfOk, length};
 ghost use Rattle.export_model.specs.Export.{groups, body_length};
-ghost use Rattle.desk_model.specs.Retries as model;
 ghost use Rattle.retry_model.specs.Waits.{IsRetryConfig, RetryConfig};
-ghost use Rattle.retry_core.specs.Retries.{next_view, outcome_view};
-ghost use Rattle.batch_desk.specs.Views.{fate_view};
 ghost use Rattle.run_model.specs.Answers.{take_answer};
 ghost use Rattle.trace_history.specs.Answers.{answer_view};
 ghost use Rattle.trace_run.specs.Out.{Encodes, EncodesBatch, IsBodyOf, IsCounted, IsReady, IsTied, Replies, Sends, SendsBody, Takes};
 
-use batch_desk::{Batch, Desk, Fate};
+use batch_desk::{Batch, Desk};
 use otlp_ids::OutOfMemory;
 use otlp_proto::body_of;
-use retry_core::{Cause, Next, Outcome, RetryConfig, decide};
+use retry_core::{Next, Outcome, RetryConfig, decide};
 use span_exporter::Exporter;
 use std::alloc::Allocator;
 use std::marker::Model;
 use trace_history::Answer;
 
-/// How far a batch is that is out.
+/// How far the export of a batch is.
 #[derive(Drop)]
 #[derive_where(Debug)]
-pub(crate) enum Stage<A: Allocator> {
+pub(crate) enum ExportStage<A: Allocator> {
     /// It is to be encoded.
     ToEncode,
     /// This body of it is to be sent.
@@ -42,14 +39,14 @@ pub(crate) enum Stage<A: Allocator> {
     },
 }
 
-/// A batch that is out.
+/// The export of a batch that is out.
 #[derive_where(Debug)]
-pub(crate) struct OutBatch<A: Allocator> {
+pub(crate) struct BatchExport<A: Allocator> {
     pub(crate) batch: Batch<A>,
-    pub(crate) stage: Stage<A>,
+    pub(crate) stage: ExportStage<A>,
 }
 
-impl<A: Allocator> Model for OutBatch<A> {
+impl<A: Allocator> Model for BatchExport<A> {
     ghost use Rattle.trace_run.specs.Out.{Out};
     ghost use Rattle.trace_run.specs.Views.{stage_view};
 
@@ -61,9 +58,9 @@ impl<A: Allocator> Model for OutBatch<A> {
 /// Takes the next batch, if it is due and none is out.
 pub(crate) fn take_batch<A: Allocator>(
     desk: &mut Desk<A>,
-    out: Option<OutBatch<A>>,
+    out: Option<BatchExport<A>>,
     at: u64,
-) -> (Answer, Option<OutBatch<A>>)
+) -> (Answer, Option<BatchExport<A>>)
     requires { IsTied desk.old out }
     ensures answered { answer_view result.0 ≡ take_answer desk.old at }
     ensures takes { Takes at result.0 desk.old out desk.new result.1 }
@@ -80,9 +77,9 @@ pub(crate) fn take_batch<A: Allocator>(
         batch: batch.number(),
         spans: batch.spans().len(),
     };
-    let out = OutBatch {
+    let out = BatchExport {
         batch,
-        stage: Stage::ToEncode,
+        stage: ExportStage::ToEncode,
     };
     (answer, Some(out))
 }
@@ -92,9 +89,9 @@ pub(crate) fn take_batch<A: Allocator>(
 pub(crate) fn encode_batch<E: Exporter, A: Allocator + Copy>(
     alloc: A,
     retry: &RetryConfig,
-    out: Option<OutBatch<A>>,
+    out: Option<BatchExport<A>>,
     exporter: &mut E,
-) -> (Answer, Option<OutBatch<A>>)
+) -> (Answer, Option<BatchExport<A>>)
     requires ready { IsReady retry.now (E.room exporter.old) out }
     ensures encodes { Encodes out result.0 result.1 }
     ensures ready { IsReady retry.now (E.room exporter.new) result.1 }
@@ -103,10 +100,10 @@ pub(crate) fn encode_batch<E: Exporter, A: Allocator + Copy>(
     let Some(out) = out else {
         return (Answer::Nothing, None);
     };
-    let OutBatch { batch, stage } = out;
+    let BatchExport { batch, stage } = out;
     match stage {
-        Stage::ToEncode => encode_spans(alloc, retry, batch, exporter),
-        stage => (Answer::Nothing, Some(OutBatch { batch, stage })),
+        ExportStage::ToEncode => encode_spans(alloc, retry, batch, exporter),
+        stage => (Answer::Nothing, Some(BatchExport { batch, stage })),
     }
 }
 
@@ -116,7 +113,7 @@ fn encode_spans<E: Exporter, A: Allocator + Copy>(
     retry: &RetryConfig,
     batch: Batch<A>,
     exporter: &mut E,
-) -> (Answer, Option<OutBatch<A>>)
+) -> (Answer, Option<BatchExport<A>>)
     requires { 0 < batch.number }
     ensures encodes { EncodesBatch batch result.0 result.1 }
     ensures ready { IsReady retry.now (E.room exporter.new) result.1 }
@@ -128,12 +125,12 @@ fn encode_spans<E: Exporter, A: Allocator + Copy>(
                 batch: batch.number(),
                 length: body.len(),
             };
-            let stage = Stage::ToSend { body };
-            (answer, Some(OutBatch { batch, stage }))
+            let stage = ExportStage::ToSend { body };
+            (answer, Some(BatchExport { batch, stage }))
         }
         Err(OutOfMemory) => {
-            let stage = Stage::ToEncode;
-            (Answer::OutOfMemory, Some(OutBatch { batch, stage }))
+            let stage = ExportStage::ToEncode;
+            (Answer::OutOfMemory, Some(BatchExport { batch, stage }))
         }
     }
 }
@@ -166,10 +163,10 @@ fn prepare_body<E: Exporter, A: Allocator + Copy>(
 pub(crate) fn send_batch<E: Exporter, A: Allocator>(
     retry: &RetryConfig,
     desk: &mut Desk<A>,
-    out: Option<OutBatch<A>>,
+    out: Option<BatchExport<A>>,
     exporter: &mut E,
     at: u64,
-) -> (Answer, Option<OutBatch<A>>)
+) -> (Answer, Option<BatchExport<A>>)
     requires tied { IsTied desk.old out }
     requires ready { IsReady retry.now (E.room exporter.old) out }
     ensures sends { Sends at out result.0 desk.old desk.new result.1
@@ -179,28 +176,28 @@ pub(crate) fn send_batch<E: Exporter, A: Allocator>(
     let Some(out) = out else {
         return (Answer::Nothing, None);
     };
-    let OutBatch { batch, stage } = out;
+    let BatchExport { batch, stage } = out;
     match stage {
-        Stage::ToSend { body } => {
+        ExportStage::ToSend { body } => {
             desk.handed(batch.number());
             send_body(batch, body, 1, exporter)
         }
-        Stage::ToRetry {
+        ExportStage::ToRetry {
             body,
             attempts,
             from,
         } => {
             if at < from {
-                let stage = Stage::ToRetry {
+                let stage = ExportStage::ToRetry {
                     body,
                     attempts,
                     from,
                 };
-                return (Answer::Early, Some(OutBatch { batch, stage }));
+                return (Answer::Early, Some(BatchExport { batch, stage }));
             }
             send_body(batch, body, attempts + 1, exporter)
         }
-        stage => (Answer::Nothing, Some(OutBatch { batch, stage })),
+        stage => (Answer::Nothing, Some(BatchExport { batch, stage })),
     }
 }
 
@@ -210,7 +207,7 @@ fn send_body<E: Exporter, A: Allocator>(
     body: Vec<u8, A>,
     attempt: u32,
     exporter: &mut E,
-) -> (Answer, Option<OutBatch<A>>)
+) -> (Answer, Option<BatchExport<A>>)
     requires { 0 < E.room exporter.old (length body.items) }
     ensures sends { SendsBody body.items attempt batch result.0 result.1
         (E.handed exporter.old) (E.handed exporter.new) }
@@ -223,12 +220,12 @@ fn send_body<E: Exporter, A: Allocator>(
         attempt,
         outcome,
     };
-    let stage = Stage::ToJudge {
+    let stage = ExportStage::ToJudge {
         body,
         attempt,
         outcome,
     };
-    (answer, Some(OutBatch { batch, stage }))
+    (answer, Some(BatchExport { batch, stage }))
 }
 
 /// Judges what came of the last attempt, if the batch that is out was sent: it is settled, or it is
@@ -236,10 +233,10 @@ fn send_body<E: Exporter, A: Allocator>(
 pub(crate) fn judge_batch<A: Allocator>(
     retry: &RetryConfig,
     desk: &mut Desk<A>,
-    out: Option<OutBatch<A>>,
+    out: Option<BatchExport<A>>,
     at: u64,
     word: u64,
-) -> (Answer, Option<OutBatch<A>>)
+) -> (Answer, Option<BatchExport<A>>)
     requires tied { IsTied desk.old out }
     requires counted { IsCounted retry.now out }
     ensures replies { Replies retry.now at word out result.0 desk.old desk.new result.1 }
@@ -249,9 +246,9 @@ pub(crate) fn judge_batch<A: Allocator>(
     let Some(out) = out else {
         return (Answer::Nothing, None);
     };
-    let OutBatch { batch, stage } = out;
+    let BatchExport { batch, stage } = out;
     match stage {
-        Stage::ToJudge {
+        ExportStage::ToJudge {
             body,
             attempt,
             outcome,
@@ -262,31 +259,16 @@ pub(crate) fn judge_batch<A: Allocator>(
                 next,
             };
             if let Next::Again(from) = next {
-                let stage = Stage::ToRetry {
+                let stage = ExportStage::ToRetry {
                     body,
                     attempts: attempt,
                     from,
                 };
-                return (answer, Some(OutBatch { batch, stage }));
+                return (answer, Some(BatchExport { batch, stage }));
             }
-            desk.settle(batch, fate_of(next));
+            desk.settle(batch, next.fate().unwrap());
             (answer, None)
         }
-        stage => (Answer::Nothing, Some(OutBatch { batch, stage })),
-    }
-}
-
-/// How the batch ends, of which there is no other attempt.
-fn fate_of(next: Next) -> Fate
-    requires { is_some (model.fate_of (next_view next)) ≡ true }
-    ensures { Some (fate_view result) ≡ model.fate_of (next_view next) }
-{
-    match next {
-        Next::Done => Fate::Delivered,
-        Next::Partial(rejected) => Fate::Partial(rejected),
-        Next::GiveUp(Cause::Refused(status)) => Fate::Refused(status),
-        Next::GiveUp(Cause::BadReply) => Fate::BadReply,
-        Next::GiveUp(Cause::Attempts) => Fate::GivenUp,
-        Next::Again(_) => unreachable!(),
+        stage => (Answer::Nothing, Some(BatchExport { batch, stage })),
     }
 }

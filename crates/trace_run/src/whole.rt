@@ -1,28 +1,29 @@
 //! Runs of whole programs.
 ghost use Rattle.std.specs.Prelude.{◌≡◌, IfOk, OnErr, length};
+ghost use Rattle.retry_model.specs.Waits.{IsRetryConfig};
 ghost use Rattle.span_ring.specs.SpanRing.{IsRingSize};
 ghost use Rattle.run_model.specs.Answers.{AreAnswers, desk_after};
-ghost use Rattle.run_model.specs.Headline.{out_after};
+ghost use Rattle.run_model.specs.Headline.{pending_after};
 ghost use Rattle.trace_history.specs.Answers.{history_view};
 ghost use Rattle.trace_run.specs.Out.{shown};
-ghost use Rattle.run_laws.specs.Laws.{LateBehindShutdown, DroppedWhereFull, QueuedWhereRoom, TakenWhereDue, TakesTheFirst, TakenBehindShutdown, OneBatchIsOut, AttemptsAreNumbered, AttemptsAreFew, NoAttemptIsEarly, RepliesAreDecided, HandedAreNotDropped, LedgerNamesTheDropped};
+ghost use Rattle.run_laws.specs.Laws.{LateBehindShutdown, DroppedWhereFull, QueuedWhereRoom, TakenWhereDue, TakesTheFirst, TakenBehindShutdown, OneBatchIsOut, AttemptsAreNumbered, AttemptsAreFew, AttemptsAreFiveAtMost, NoAttemptIsEarly, RepliesAreDecided, HandedAreNotDropped, LedgerNamesTheDropped};
 ghost use Rattle.trace_run.specs.Report.{OfRun};
 ghost use Rattle.trace_run.specs.Run.{run_config};
-ghost use Rattle.trace_run.specs.Headline.{Headline};
+ghost use Rattle.trace_run.specs.Headline.{AreCanonical, Headline};
 
 use crate::config::RunConfig;
 use crate::queue::SpanQueue;
 use crate::report::RunReport;
 use crate::running::Running;
-use crate::sending::OutBatch;
+use crate::sending::BatchExport;
 use batch_desk::Desk;
-use desk_laws::{batches_are_slices, no_ticket_is_lost};
+use desk_laws::batches_are_slices;
 use otlp_ids::OutOfMemory;
 use otlp_sampler::Sampler;
 use rand_core::Rng;
 use run_laws::{
-    attempts_are_answered, ended_spans_stay, ends_are_answered, none_is_unaccounted_for,
-    one_batch_is_out, takes_are_answered,
+    attempts_are_answered, ends_are_answered, none_is_unaccounted_for, one_batch_is_out,
+    queued_spans_are_ended, takes_are_answered,
 };
 use span_exporter::Exporter;
 use span_table::SpanTable;
@@ -77,6 +78,9 @@ pub fn run<S: Sampler + Drop, R: Rng + Drop, E: Exporter, A: Allocator + Copy>(
     // or is named, once, as it ended; each body means its batch, and each retry repeats it.
     ensures headline { IfOk result (OfRun S.meaning R.stream config steps.now (λ run history.
         Headline run history (E.handed exporter.old) (E.handed exporter.new))) }
+    // The bytes of a body are those of the canon.
+    ensures canon { IfOk result (OfRun S.meaning R.stream config steps.now (λ run history.
+        AreCanonical run history (E.handed exporter.old) (E.handed exporter.new))) }
     ensures not_named { IfOk result (OfRun S.meaning R.stream config steps.now
         (λ run. HandedAreNotDropped run.setup)) }
     ensures ledger { IfOk result
@@ -88,13 +92,16 @@ pub fn run<S: Sampler + Drop, R: Rng + Drop, E: Exporter, A: Allocator + Copy>(
         report.desk ≡ desk_after run (history_view steps.now report.answers)) }
     ensures out { let run = run_config S.meaning R.stream config in
         IfOk result (λ report.
-        shown report.out ≡ out_after run.setup (history_view steps.now report.answers)) }
+        shown report.out ≡ pending_after run.setup (history_view steps.now report.answers)) }
 
-    // The attempts of a batch are numbered from 1 on, as many as are configured at most, none
-    // before its moment; what follows from a reply is decided by the last outcome.
+    // The attempts of a batch are numbered from 1 on, as many as are configured at most, and so
+    // five, none before its moment; what follows from a reply is decided by the last outcome.
+    ensures settings { IsRetryConfig config.retry }
     ensures numbered { IfOk result
         (OfRun S.meaning R.stream config steps.now (λ run. AttemptsAreNumbered)) }
     ensures few { IfOk result (OfRun S.meaning R.stream config steps.now AttemptsAreFew) }
+    ensures five { IfOk result
+        (OfRun S.meaning R.stream config steps.now (λ run. AttemptsAreFiveAtMost)) }
     ensures early { IfOk result
         (OfRun S.meaning R.stream config steps.now (λ run. NoAttemptIsEarly)) }
     ensures decided { IfOk result (OfRun S.meaning R.stream config steps.now RepliesAreDecided) }
@@ -111,6 +118,8 @@ pub fn run<S: Sampler + Drop, R: Rng + Drop, E: Exporter, A: Allocator + Copy>(
         retry,
         rng,
     } = config;
+    // It tells that its numbers are those that `RetryConfig::new` takes.
+    retry.attempts();
     let mut answers = Vec::with_capacity(alloc, steps.len())?;
     let resource = Arc::new(alloc, resource)?;
     let provider = Provider::new(sampler, resource, limits);
@@ -125,20 +134,19 @@ pub fn run<S: Sampler + Drop, R: Rng + Drop, E: Exporter, A: Allocator + Copy>(
         table,
         queue,
     };
-    let mut out: Option<OutBatch<A>> = None;
+    let mut out: Option<BatchExport<A>> = None;
     batches_are_slices();
-    ended_spans_stay();
     for step in steps {
         let (answer, later) = running.take_step(out, step, exporter);
         out = later;
         answers.push_reserved(answer);
     }
-    no_ticket_is_lost();
     ends_are_answered();
     takes_are_answered();
     attempts_are_answered();
     one_batch_is_out();
     none_is_unaccounted_for();
+    queued_spans_are_ended();
     let Running { queue, .. } = running;
     let SpanQueue { desk } = queue;
     Ok(RunReport { answers, desk, out })

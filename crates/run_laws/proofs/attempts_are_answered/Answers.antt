@@ -1,10 +1,12 @@
-use Rattle.run_laws.proofs.Attempts.{attempts-are-numbered, attempts-are-few, no-attempt-is-early, replies-are-decided}
+use Rattle.run_laws.proofs.Attempts.{attempts-are-numbered, attempts-are-in-order, attempts-are-few, attempts-are-five, no-attempt-is-early, replies-are-decided}
 use Rattle.run_laws.proofs.attempts_are_answered.Goals as goal
 
 pub returns : goal.returns
 returns c = record {
   numbered = attempts-are-numbered;
+  in_order = attempts-are-in-order;
   few = attempts-are-few;
+  five = attempts-are-five;
   early = no-attempt-is-early;
   decided = replies-are-decided;
 }

@@ -4,14 +4,14 @@ use Rattle.span_model.specs.Identifiers.{first_valid}
 use Rattle.span_model.specs.Spans.{span}
 use Rattle.span_model.specs.Starts.{started_span, ids_of, ids_words}
 use Rattle.export_model.specs.Export.{groups, body_length}
-use Rattle.desk_model.specs.Retries.{Outcome}
+use Rattle.retry_model.specs.Retries.{Outcome}
 use Rattle.desk_model.specs.Desks.{desk_of}
 use Rattle.history_model.specs.Steps.{Step}
 use Rattle.history_model.specs.History.{start_results_behind}
 use Rattle.run_model.specs.Runs.{Answer, taken, not_taken, encoded, sent, nothing, out_of_memory, ended_by, desk_events}
 use Rattle.run_model.specs.Answers.{progress, desk_after, IsAnswer, AreAnswers}
 use Rattle.run_examples.specs.Worked.{queue_of, worked, told, ends, queued, full, late}
-use Rattle.run_examples.proofs.Histories.{answer-at}
+use Rattle.run_model.proofs.More.{answer-at}
 use Rattle.run_examples.proofs.wrong.answers.Goals as goal
 
 -- the wrong answer at a place is right behind the steps before it

@@ -1,7 +1,7 @@
 use Rattle.std.proofs.Common.{refl, sym, ap, ◌∙◌, inl, inr}
-use Rattle.desk_model.specs.Retries.{fate_of}
-use Rattle.batch_desk.specs.Views.{fate_view}
-use Rattle.retry_core.specs.Retries.{next_view}
+use Rattle.std.specs.Prelude.{option_map}
+use Rattle.retry_model.specs.Retries.{fate_of}
+use Rattle.retry_core.specs.Retries.{fate_view, next_view}
 use Rattle.trace_history.specs.declared.answer.Answer.TheVariants.{Replied}
 use Rattle.trace_run.proofs.sending.judge_batch.Goals as goal
 
@@ -26,8 +26,8 @@ returns-in_default-next g c =
         next = c.decide-next.result;
         answered = ap (λ n. Replied n c.decide-next.result) c.number.ensures;
         is = decided;
-        fate = fate_view c.fate_of.result;
-        ends = ap fate_of (sym decided) ∙ sym c.fate_of.ensures;
+        fate = fate_view c.unwrap.result;
+        ends = ap fate_of (sym decided) ∙ sym c.fate.ensures ∙ ap (option_map fate_view) c.unwrap.ensures;
         does = c.settle.ensures.history;
         out = refl;
         gone = ap (λ d. d.out) c.settle.ensures.desk;

@@ -1,12 +1,13 @@
 use Rattle.std.proofs.Common.{◌<◌, ◌+◌, ◌-◌, ◌^◌, refl, sym, ap, ◌∙◌, arith, length, take, take_all}
 use Rattle.std.proofs.lemmas.List.{length_push}
 use Rattle.run_model.specs.Runs.{Answered}
+use Rattle.run_laws.specs.Laws.{OfSettings, LateBehindShutdown, DroppedWhereFull, QueuedWhereRoom, TakenWhereDue, TakesTheFirst, TakenBehindShutdown, OneBatchIsOut, AttemptsAreNumbered, AttemptsAreFew, AttemptsAreFiveAtMost, NoAttemptIsEarly, RepliesAreDecided}
 use Rattle.trace_history.specs.Answers.{answer_view, history_view}
 use Rattle.trace_history.specs.Steps.{step_view}
 use Rattle.trace_run.specs.Run.{run_config}
 use Rattle.trace_run.proofs.Standing.{desk-is}
-use Rattle.trace_run.proofs.Bodies.{body-stays, headline}
-use Rattle.trace_run.proofs.Runs.{stands-first, tells-none, tells-more, tells-still, attempts-push, is-allowed, each-once, behind-length, behind-push}
+use Rattle.trace_run.proofs.Bodies.{body-stays, headline, canonical}
+use Rattle.trace_run.proofs.Runs.{stands-first, tells-none, tells-more, tells-still, attempts-push, is-allowed, of-law, behind-length, behind-push}
 use Rattle.trace_run.proofs.whole.run.Goals as goal
 
 pub loop-step-init : goal.loop-step-init
@@ -36,7 +37,7 @@ loop-step-preserved g c =
     let pushed = behind-push c.args.steps.now c.loop-step.answers.items c.loop-step.step-index c.step-item.result c.take_step-answer.result.0 i.count c.loop-step-test.true c.step-item.is in
     let x : Answered = record { step = step_view c.step-item.result; answer = answer_view c.take_step-answer.result.0 } in
     let stands = c.take_step-answer.ensures.goes_on run h small (sym i.retry) i.stands in
-    let still = body-stays c.batches_are_slices.ensures.stay c.ended_spans_stay.ensures.stay run.setup h x _ i.stands.below stands.history in
+    let still = body-stays c.batches_are_slices.ensures.stay run.setup h x _ stands.history in
     record {
       stands = rw (c.push_reserved.ensures.items, pushed) stands;
       told = rw (c.push_reserved.ensures.items, pushed, attempts-push h x)
@@ -53,13 +54,19 @@ returns-clause-headline g c =
     let i = c.loop-step.invariant in
     let run = run_config g.S.Sampler.meaning g.R.Rng.stream c.args.config in
     let all = take_all c.loop-step.step-index c.args.steps.now c.loop-step-test.false in
-    let h = history_view c.args.steps.now c.loop-step.answers.items in
-    let stay = c.ended_spans_stay.ensures in
-    headline run h _ _
-    (rw all at (each-once g.S.Sampler.meaning g.R.Rng.stream run _ _ _ _ i.stands c.no_ticket_is_lost.ensures.once))
-    (rw all at (c.none_is_unaccounted_for.ensures.batches run _ i.stands.answers (is-allowed g.S.Sampler.meaning g.R.Rng.stream run _ _ _ _ i.stands)))
-    (record { waiting = stay.waiting run.setup h; batches = stay.batches run.setup h; named = stay.drops run.setup h })
-    (rw all at i.told)
+    let right = i.stands.answers in
+    let allowed = is-allowed g.S.Sampler.meaning g.R.Rng.stream run _ _ _ _ i.stands in
+    let law = c.none_is_unaccounted_for.ensures in
+    let values = c.queued_spans_are_ended.ensures in
+    rw all at (headline run _ _ _ i.told (law.once run _ right allowed)
+    (record { waiting = values.waiting run _ right; batches = values.batches run _ right; named = values.drops run _ right })
+    (law.named run _) (law.batches run _ right allowed) (c.attempts_are_answered.ensures.in_order run _ right))
+
+pub returns-clause-canon : goal.returns-clause-canon
+returns-clause-canon g c =
+    let i = c.loop-step.invariant in
+    let all = take_all c.loop-step.step-index c.args.steps.now c.loop-step-test.false in
+    rw all at (canonical (run_config g.S.Sampler.meaning g.R.Rng.stream c.args.config) _ _ _ i.told)
 
 pub returns-clause-desk : goal.returns-clause-desk
 returns-clause-desk g c =
@@ -70,41 +77,6 @@ returns-clause-desk g c =
 pub returns-clause-out : goal.returns-clause-out
 returns-clause-out g c = rw (take_all c.loop-step.step-index c.args.steps.now c.loop-step-test.false) at c.loop-step.invariant.stands.out_is
 
-pub returns-clause-late : goal.returns-clause-late
-returns-clause-late g c =
-    let run = run_config g.S.Sampler.meaning g.R.Rng.stream c.args.config in
-    rw (take_all c.loop-step.step-index c.args.steps.now c.loop-step-test.false) at (c.ends_are_answered.ensures.late run _ c.loop-step.invariant.stands.answers)
-
-pub returns-clause-full : goal.returns-clause-full
-returns-clause-full g c =
-    let run = run_config g.S.Sampler.meaning g.R.Rng.stream c.args.config in
-    rw (take_all c.loop-step.step-index c.args.steps.now c.loop-step-test.false) at (c.ends_are_answered.ensures.full run _ c.loop-step.invariant.stands.answers)
-
-pub returns-clause-queued : goal.returns-clause-queued
-returns-clause-queued g c =
-    let run = run_config g.S.Sampler.meaning g.R.Rng.stream c.args.config in
-    rw (take_all c.loop-step.step-index c.args.steps.now c.loop-step-test.false) at (c.ends_are_answered.ensures.queued run _ c.loop-step.invariant.stands.answers)
-
-pub returns-clause-due : goal.returns-clause-due
-returns-clause-due g c =
-    let run = run_config g.S.Sampler.meaning g.R.Rng.stream c.args.config in
-    rw (take_all c.loop-step.step-index c.args.steps.now c.loop-step-test.false) at (c.takes_are_answered.ensures.due run _ c.loop-step.invariant.stands.answers)
-
-pub returns-clause-first : goal.returns-clause-first
-returns-clause-first g c =
-    let run = run_config g.S.Sampler.meaning g.R.Rng.stream c.args.config in
-    rw (take_all c.loop-step.step-index c.args.steps.now c.loop-step-test.false) at (c.takes_are_answered.ensures.first run _ c.loop-step.invariant.stands.answers)
-
-pub returns-clause-shutdown : goal.returns-clause-shutdown
-returns-clause-shutdown g c =
-    let run = run_config g.S.Sampler.meaning g.R.Rng.stream c.args.config in
-    rw (take_all c.loop-step.step-index c.args.steps.now c.loop-step-test.false) at (c.takes_are_answered.ensures.shutdown run _ c.loop-step.invariant.stands.answers)
-
-pub returns-clause-one_out : goal.returns-clause-one_out
-returns-clause-one_out g c =
-    let run = run_config g.S.Sampler.meaning g.R.Rng.stream c.args.config in
-    rw (take_all c.loop-step.step-index c.args.steps.now c.loop-step-test.false) at (c.one_batch_is_out.ensures.one run _ c.loop-step.invariant.stands.answers)
-
 pub returns-clause-not_named : goal.returns-clause-not_named
 returns-clause-not_named g c =
     let run = run_config g.S.Sampler.meaning g.R.Rng.stream c.args.config in
@@ -112,26 +84,42 @@ returns-clause-not_named g c =
     c.none_is_unaccounted_for.ensures.handed run.setup (history_view c.args.steps.now c.loop-step.answers.items) whole.each_once
 
 pub returns-clause-ledger : goal.returns-clause-ledger
-returns-clause-ledger g c =
-    let run = run_config g.S.Sampler.meaning g.R.Rng.stream c.args.config in
-    c.none_is_unaccounted_for.ensures.named run (history_view c.args.steps.now c.loop-step.answers.items)
+returns-clause-ledger g c = c.none_is_unaccounted_for.ensures.named (run_config g.S.Sampler.meaning g.R.Rng.stream c.args.config) (history_view c.args.steps.now c.loop-step.answers.items)
+
+-- ---- laws of each run
+
+pub returns-clause-late : goal.returns-clause-late
+returns-clause-late g c = of-law LateBehindShutdown c.ends_are_answered.ensures.late (run_config g.S.Sampler.meaning g.R.Rng.stream c.args.config) _ _ _ (take_all c.loop-step.step-index c.args.steps.now c.loop-step-test.false) c.loop-step.invariant.stands.answers
+
+pub returns-clause-full : goal.returns-clause-full
+returns-clause-full g c = of-law DroppedWhereFull c.ends_are_answered.ensures.full (run_config g.S.Sampler.meaning g.R.Rng.stream c.args.config) _ _ _ (take_all c.loop-step.step-index c.args.steps.now c.loop-step-test.false) c.loop-step.invariant.stands.answers
+
+pub returns-clause-queued : goal.returns-clause-queued
+returns-clause-queued g c = of-law QueuedWhereRoom c.ends_are_answered.ensures.queued (run_config g.S.Sampler.meaning g.R.Rng.stream c.args.config) _ _ _ (take_all c.loop-step.step-index c.args.steps.now c.loop-step-test.false) c.loop-step.invariant.stands.answers
+
+pub returns-clause-due : goal.returns-clause-due
+returns-clause-due g c = of-law TakenWhereDue c.takes_are_answered.ensures.due (run_config g.S.Sampler.meaning g.R.Rng.stream c.args.config) _ _ _ (take_all c.loop-step.step-index c.args.steps.now c.loop-step-test.false) c.loop-step.invariant.stands.answers
+
+pub returns-clause-first : goal.returns-clause-first
+returns-clause-first g c = of-law TakesTheFirst c.takes_are_answered.ensures.first (run_config g.S.Sampler.meaning g.R.Rng.stream c.args.config) _ _ _ (take_all c.loop-step.step-index c.args.steps.now c.loop-step-test.false) c.loop-step.invariant.stands.answers
+
+pub returns-clause-shutdown : goal.returns-clause-shutdown
+returns-clause-shutdown g c = of-law TakenBehindShutdown c.takes_are_answered.ensures.shutdown (run_config g.S.Sampler.meaning g.R.Rng.stream c.args.config) _ _ _ (take_all c.loop-step.step-index c.args.steps.now c.loop-step-test.false) c.loop-step.invariant.stands.answers
+
+pub returns-clause-one_out : goal.returns-clause-one_out
+returns-clause-one_out g c = of-law (λ run. OneBatchIsOut) c.one_batch_is_out.ensures.one (run_config g.S.Sampler.meaning g.R.Rng.stream c.args.config) _ _ _ (take_all c.loop-step.step-index c.args.steps.now c.loop-step-test.false) c.loop-step.invariant.stands.answers
 
 pub returns-clause-numbered : goal.returns-clause-numbered
-returns-clause-numbered g c =
-    let run = run_config g.S.Sampler.meaning g.R.Rng.stream c.args.config in
-    rw (take_all c.loop-step.step-index c.args.steps.now c.loop-step-test.false) at (c.attempts_are_answered.ensures.numbered run _ c.loop-step.invariant.stands.answers)
+returns-clause-numbered g c = of-law (λ run. AttemptsAreNumbered) c.attempts_are_answered.ensures.numbered (run_config g.S.Sampler.meaning g.R.Rng.stream c.args.config) _ _ _ (take_all c.loop-step.step-index c.args.steps.now c.loop-step-test.false) c.loop-step.invariant.stands.answers
 
 pub returns-clause-few : goal.returns-clause-few
-returns-clause-few g c =
-    let run = run_config g.S.Sampler.meaning g.R.Rng.stream c.args.config in
-    rw (take_all c.loop-step.step-index c.args.steps.now c.loop-step-test.false) at (c.attempts_are_answered.ensures.few run _ c.loop-step.invariant.stands.answers)
+returns-clause-few g c = of-law (OfSettings AttemptsAreFew) c.attempts_are_answered.ensures.few (run_config g.S.Sampler.meaning g.R.Rng.stream c.args.config) _ _ _ (take_all c.loop-step.step-index c.args.steps.now c.loop-step-test.false) c.loop-step.invariant.stands.answers c.attempts.ensures.valid
+
+pub returns-clause-five : goal.returns-clause-five
+returns-clause-five g c = of-law (OfSettings (λ run. AttemptsAreFiveAtMost)) c.attempts_are_answered.ensures.five (run_config g.S.Sampler.meaning g.R.Rng.stream c.args.config) _ _ _ (take_all c.loop-step.step-index c.args.steps.now c.loop-step-test.false) c.loop-step.invariant.stands.answers c.attempts.ensures.valid
 
 pub returns-clause-early : goal.returns-clause-early
-returns-clause-early g c =
-    let run = run_config g.S.Sampler.meaning g.R.Rng.stream c.args.config in
-    rw (take_all c.loop-step.step-index c.args.steps.now c.loop-step-test.false) at (c.attempts_are_answered.ensures.early run _ c.loop-step.invariant.stands.answers)
+returns-clause-early g c = of-law (λ run. NoAttemptIsEarly) c.attempts_are_answered.ensures.early (run_config g.S.Sampler.meaning g.R.Rng.stream c.args.config) _ _ _ (take_all c.loop-step.step-index c.args.steps.now c.loop-step-test.false) c.loop-step.invariant.stands.answers
 
 pub returns-clause-decided : goal.returns-clause-decided
-returns-clause-decided g c =
-    let run = run_config g.S.Sampler.meaning g.R.Rng.stream c.args.config in
-    rw (take_all c.loop-step.step-index c.args.steps.now c.loop-step-test.false) at (c.attempts_are_answered.ensures.decided run _ c.loop-step.invariant.stands.answers)
+returns-clause-decided g c = of-law RepliesAreDecided c.attempts_are_answered.ensures.decided (run_config g.S.Sampler.meaning g.R.Rng.stream c.args.config) _ _ _ (take_all c.loop-step.step-index c.args.steps.now c.loop-step-test.false) c.loop-step.invariant.stands.answers

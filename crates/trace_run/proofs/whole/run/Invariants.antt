@@ -3,15 +3,14 @@ use Rattle.run_model.specs.Headline.{attempts}
 use Rattle.trace_history.specs.Answers.{history_view}
 use Rattle.trace_run.specs.Out.{IsReady}
 use Rattle.trace_run.specs.Run.{run_config}
-use Rattle.trace_run.specs.State.{Stands, TellsAll}
-use Rattle.trace_run.specs.Headline.{MeansItsBatch}
+use Rattle.trace_run.specs.State.{Stands, HasItsBody, TellsAll}
 use Rattle.trace_run.proofs.whole.run.Given as goal
 
 -- It stands behind the steps so far, and the exporter tells their attempts.
 abbrev pub invariant-loop-step : goal.invariant-loop-step
 invariant-loop-step g l = record {
   stands : Stands g.S.Sampler.meaning g.R.Rng.stream (run_config g.S.Sampler.meaning g.R.Rng.stream l.fn.config) (history_view (take l.step-index l.steps) l.answers.items) l.running.table l.running.queue l.out;
-  told : TellsAll (attempts (history_view (take l.step-index l.steps) l.answers.items)) (MeansItsBatch (run_config g.S.Sampler.meaning g.R.Rng.stream l.fn.config).setup (history_view (take l.step-index l.steps) l.answers.items)) (g.E.Exporter.handed l.fn.exporter) (g.E.Exporter.handed l.exporter);
+  told : TellsAll (attempts (history_view (take l.step-index l.steps) l.answers.items)) (HasItsBody (run_config g.S.Sampler.meaning g.R.Rng.stream l.fn.config).setup (history_view (take l.step-index l.steps) l.answers.items)) (g.E.Exporter.handed l.fn.exporter) (g.E.Exporter.handed l.exporter);
   ready : IsReady l.fn.config.retry (g.E.Exporter.room l.exporter) l.out;
   retry : l.running.retry ≡ l.fn.config.retry;
   count : length l.answers.items ≡ l.step-index;
