@@ -7,6 +7,8 @@ mod ends;
 #[cfg(test)]
 mod fixture;
 #[cfg(test)]
+mod flushes;
+#[cfg(test)]
 mod memory;
 mod neighbors;
 #[cfg(test)]
