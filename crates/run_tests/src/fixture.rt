@@ -90,7 +90,7 @@ fn remote<A: Allocator>(rt: &impl Abort, alloc: A) -> Parent<A> {
     Parent::Given(SpanContext {
         trace: TraceId([7; 16]),
         span: SpanId([8; 8]),
-        flags: TraceFlags(1),
+        flags: TraceFlags::SAMPLED,
         remote: true,
         state: text(rt, alloc, "k=v"),
     })
@@ -146,22 +146,13 @@ pub(crate) fn config<S: Sampler, A: Allocator + Copy>(
     desk: DeskConfig,
     rng: WordsRng<A>,
 ) -> RunConfig<S, WordsRng<A>, A> {
-    let resource = Resource {
-        attributes: Vec::new(alloc),
-        schema_url: String::new(alloc),
-    };
     let mut scopes = Vec::new(alloc);
-    let scope = Scope {
-        name: text(rt, alloc, "s"),
-        version: String::new(alloc),
-        attributes: Vec::new(alloc),
-        schema_url: String::new(alloc),
-    };
+    let scope = Scope::named(alloc, "s").expect(rt, "memory");
     scopes.push(scope).expect(rt, "memory");
     RunConfig {
         sampler,
         limits: SpanLimits::default(),
-        resource,
+        resource: Resource::new(alloc, Vec::new(alloc)),
         scopes,
         desk,
         retry: RetryConfig::default(),

@@ -102,3 +102,19 @@ fn a_child_of_elsewhere_is_in_its_trace(rt: HostRuntime) {
     let report = run_program(&rt, alloc, config, &mut exporter, &program);
     assert_left(&rt, report, 1, &[], 0);
 }
+
+#[test]
+fn what_a_run_begins_with_is_written(rt: HostRuntime) {
+    let alloc = rt.alloc();
+    let config = config(&rt, alloc, AlwaysOn, desk(4, 2), words(&rt, alloc, &[7]));
+    let written = format!(in alloc; "{config:?}").expect(&rt, "memory");
+    let text = written.as_str();
+    assert!(rt;
+        text.starts_with("RunConfig { sampler: AlwaysOn, limits: SpanLimits {"),
+        "{text}"
+    );
+    assert!(rt;
+        text.contains("scopes: [Scope { name: \"s\", version: \"\", attributes: [],"),
+        "{text}"
+    );
+}

@@ -39,11 +39,7 @@ pub fn spans_of_script<A: Allocator + Copy>(
         outcomes: _,
         steps,
     } = script;
-    let resource = Resource {
-        attributes: resource,
-        schema_url: String::new(alloc),
-    };
-    let resource = Arc::new(alloc, resource)?;
+    let resource = Arc::new(alloc, Resource::new(alloc, resource))?;
     let provider = Provider::new(ScriptSampler(sampler), resource, limits);
     let room = count_starts(steps.as_slice());
     let mut spans = SpanTable::new(alloc, &provider, scopes, WordsRng::new(words), room)?;

@@ -43,10 +43,7 @@ pub fn text_of_script<A: Allocator + Copy>(
     let config = RunConfig {
         sampler: ScriptSampler(sampler),
         limits,
-        resource: Resource {
-            attributes: resource,
-            schema_url: String::new(alloc),
-        },
+        resource: Resource::new(alloc, resource),
         scopes,
         desk,
         retry: RetryConfig::default(),

@@ -10,6 +10,7 @@ use simple_processor::{
     SimpleProcessor,
 };
 use std::alloc::Global;
+use std::fmt::Debug;
 use std::marker::Brand;
 use std::process::Abort;
 use std::sync::Wait;
@@ -26,6 +27,15 @@ const OUTCOMES: [Outcome; 6] = [
     Outcome::NoReply,
     Outcome::Bad,
 ];
+
+const PARTS: &str = concat!(
+    "SimpleParts { processor: SimpleProcessor { passes: 1, .. }, ",
+    "passes: [SimplePass { .. }] }",
+);
+
+const MISSING: &str = "SimpleMissing { processor: SimpleProcessor { passes: 1, .. }, passes: [] }";
+
+const ACCOUNTS: &str = "SimpleAccounts { exporter: MemoryExporter { handed: [], ";
 
 /// Hands over a span for each outcome: each is sent once, and ends as that one attempt says.
 fn count_outcomes<J: Naming, R: Wait + Abort + Copy>(rt: R, alloc: Global, blank: SimpleBlank)
@@ -67,6 +77,38 @@ fn count_outcomes<J: Naming, R: Wait + Abort + Copy>(rt: R, alloc: Global, blank
 #[test]
 fn each_outcome_is_counted(rt: HostRuntime) {
     count_outcomes::<Brand, HostRuntime>(rt, rt.alloc(), SimpleBlank::new());
+}
+
+/// Asserts how what a value writes of itself begins.
+fn assert_written<T: Debug>(rt: &impl Abort, alloc: Global, value: &T, want: &str) {
+    let written = format!(in alloc; "{value:?}").expect(rt, "memory");
+    assert!(rt; written.as_str().starts_with(want), "{written}");
+}
+
+/// What is under the lock isn't written, nor what has no bytes.
+fn write_parts<J: Naming, R: Wait + Abort + Copy>(rt: R, alloc: Global, blank: SimpleBlank)
+    requires { blank ≡ J.name }
+{
+    assert_written(&rt, alloc, &blank, "SimpleBlank { .. }");
+    let exporter = exporter(&rt, alloc, &[]);
+    let made = SimpleProcessor::<J, _, R>::new(alloc, rt, blank, exporter, 1);
+    let parts = made.expect(&rt, "a processor");
+    assert_written(&rt, alloc, &parts, PARTS);
+    let SimpleParts { processor, passes } = parts;
+    let missing = processor.close_out(Vec::new(alloc)).err();
+    let missing = missing.expect(&rt, "a pass is missing");
+    assert_written(&rt, alloc, &missing, MISSING);
+    let SimpleMissing {
+        processor,
+        passes: _,
+    } = missing;
+    let accounts = processor.close_out(passes).ok();
+    assert_written(&rt, alloc, &accounts.expect(&rt, "accounts"), ACCOUNTS);
+}
+
+#[test]
+fn a_processor_writes_how_many_passes_it_has(rt: HostRuntime) {
+    write_parts::<Brand, HostRuntime>(rt, rt.alloc(), SimpleBlank::default());
 }
 
 /// Ends spans before and after a shutdown by the other pass, one that isn't sampled, and one twice.

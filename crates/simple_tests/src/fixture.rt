@@ -37,17 +37,8 @@ pub(crate) fn root<S: Sampler + Drop, A: Allocator + Copy>(
     alloc: A,
     sampler: S,
 ) -> Span<A> {
-    let resource = Resource {
-        attributes: Vec::new(alloc),
-        schema_url: String::new(alloc),
-    };
-    let scope = Scope {
-        name: text(rt, alloc, "s"),
-        version: String::new(alloc),
-        attributes: Vec::new(alloc),
-        schema_url: String::new(alloc),
-    };
-    let resource = Arc::new(alloc, resource).expect(rt, "memory");
+    let resource = Arc::new(alloc, Resource::new(alloc, Vec::new(alloc))).expect(rt, "memory");
+    let scope = Scope::named(alloc, "s").expect(rt, "memory");
     let scope = Arc::new(alloc, scope).expect(rt, "memory");
     let provider = Provider::new(sampler, resource, SpanLimits::default());
     let tracer = provider.tracer(scope);

@@ -107,3 +107,11 @@ fn a_good_body_that_is_cut(rt: HostRuntime) {
         assert_eq!(rt; fields.next(), fault, "of {size} bytes");
     }
 }
+
+#[test]
+fn a_reader_writes_the_bytes_that_are_left(rt: HostRuntime) {
+    let mut fields = Fields::new(b"\x08\x00\x08\x01");
+    assert!(rt; fields.next().is_some());
+    let written = format!(in rt.alloc(); "{fields:?}").expect(&rt, "memory");
+    assert_eq!(rt; written.as_str(), "Fields { unread: [8, 1] }");
+}
