@@ -79,10 +79,6 @@ module _ {V : Type 0} where
   closes_step old [] left v left' c r = (left', subst (λ (vs : List V). Removes vs v left') c r, refl)
   closes_step old (u ∷ closed) left v left' c r = (c.0, c.1, closes_step c.0 closed left v left' c.2 r)
 
-  pub length_closed : (old closed new : List V) → Closes old closed new → length old ≡ length closed + length new
-  length_closed old [] new c = let x = ap length c in omega arith
-  length_closed old (v ∷ closed) new c = let a = length_removed old v c.0 c.1 in let b = length_closed c.0 closed new c.2 in omega arith
-
   pub sum_closed : (f : V → ℕ) (old closed new : List V) → Closes old closed new → sum_by f old ≡ sum_by f closed + sum_by f new
   sum_closed f old [] new c = let x = ap (sum_by f) c in omega arith
   sum_closed f old (v ∷ closed) new c = let a = sum_removed f old v c.0 c.1 in let b = sum_closed f c.0 closed new c.2 in let d = sum_by-cons f v closed in omega arith

@@ -62,9 +62,6 @@ one-more {n} {t} {rs} {r} {bs} {old} {mid} p w e =
 pub through-index : {X Y : Type 0} (f : X → Y) (xs : List X) (i : ℕ) (x : X) → i < length xs → x ≡ get_or xs i x → map f (take (i + 1) xs) ≡ map f (take i xs) ++ f x ∷ []
 through-index f xs i x l e = rw (add-one, take-suc xs i x l) (map-append f (take i xs) (get_or xs i x ∷ []) ∙ ap (λ y. map f (take i xs) ++ f y ∷ []) (sym e))
 
-pub through-item : {X Y : Type 0} (f : X → Y) (xs : List X) (i : ℕ) (d : X) → i < length xs → map f (take (i + 1) xs) ≡ map f (take i xs) ++ f (get_or xs i d) ∷ []
-through-item f xs i d l = rw (add-one, take-suc xs i d l) (map-append f (take i xs) (get_or xs i d ∷ []))
-
 pub through-index-2 : {X Y Z : Type 0} (f : Y → Z) (g : X → Y) (xs : List X) (i : ℕ) (x : X) → i < length xs → x ≡ get_or xs i x →
     map f (map g (take (i + 1) xs)) ≡ map f (map g (take i xs)) ++ f (g x) ∷ []
 through-index-2 f g xs i x l e = ap (map f) (through-index g xs i x l e) ∙ map-append f (map g (take i xs)) (g x ∷ [])
@@ -82,10 +79,9 @@ on-ok (Ok x) f h = f h
 on-ok (Err e) f h = tt
 
 -- a tag, and the payload behind it
-pub tagged : (f : Field) (tag : ℕ) (old mid new : List ℕ) → tag ≡ f.number * 8 + wire_type f.payload →
-    mid ≡ old ++ payload_bytes (varint tag) → new ≡ mid ++ payload_bytes f.payload → new ≡ old ++ field_bytes f
-unfolding field_bytes payload_bytes
-tagged f tag old mid new e p q = q ∙ ap (λ bs. bs ++ payload_bytes f.payload) (p ∙ ap (λ n. old ++ shortest n) e) ∙ append_assoc old (shortest (f.number * 8 + wire_type f.payload)) (payload_bytes f.payload)
+pub tagged : (f : Field) (old mid new : List ℕ) → mid ≡ old ++ shortest (f.number * 8 + wire_type f.payload) → new ≡ mid ++ payload_bytes f.payload → new ≡ old ++ field_bytes f
+unfolding field_bytes
+tagged f old mid new p q = q ∙ ap (λ bs. bs ++ payload_bytes f.payload) p ∙ append_assoc old (shortest (f.number * 8 + wire_type f.payload)) (payload_bytes f.payload)
 
 -- one field, where the shape has just this one to write
 one : {n : ℕ} {s : Shape} {x : ValueOf s} {old new : List ℕ} (f : Field) → shape_fields n s x ≡ f ∷ [] → IsWhole s x → new ≡ old ++ field_bytes f → Puts n s x old new

@@ -1,2 +1,3 @@
 pub mod Encode
 pub mod Bodies
+pub mod WireTypes

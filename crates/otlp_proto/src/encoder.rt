@@ -11,17 +11,18 @@ ghost use Rattle.otlp_proto.specs.Bodies.{body_bytes};
 ghost use Rattle.otlp_proto.specs.Encode.{Puts, IsWritten};
 
 mod fields;
+mod messages;
 mod parts;
 mod values;
 
 use fields::{put_bytes, put_enum, put_fixed64, put_len, put_text, put_uint32};
+use messages::put_messages;
 use otlp_ids::{OutOfMemory, SpanId};
 use otlp_span::{Kind, Resource, Scope, SpanData};
-use parts::{put_events, put_links, put_status};
+use parts::put_status;
 use scope_group::{ResourceGroup, ScopeGroup};
 use std::alloc::Allocator;
 use thiserror::Error;
-use values::put_attributes;
 
 /// The message of a resource.
 fn encode_resource<A: Allocator + Copy>(
@@ -32,7 +33,7 @@ fn encode_resource<A: Allocator + Copy>(
         IsWritten Tables.resource (model.resource_message (resource_view resource.now)) v.items) }
 {
     let mut out = Vec::new(alloc);
-    put_attributes(alloc, &mut out, 1, resource.attributes.as_slice())?;
+    put_messages(alloc, &mut out, 1, resource.attributes.as_slice())?;
     Ok(out)
 }
 
@@ -44,7 +45,7 @@ fn encode_scope<A: Allocator + Copy>(alloc: A, scope: &Scope<A>) -> Result<Vec<u
     let mut out = Vec::new(alloc);
     put_text(&mut out, 1, scope.name.as_str())?;
     put_text(&mut out, 2, scope.version.as_str())?;
-    put_attributes(alloc, &mut out, 3, scope.attributes.as_slice())?;
+    put_messages(alloc, &mut out, 3, scope.attributes.as_slice())?;
     Ok(out)
 }
 
@@ -91,11 +92,11 @@ fn encode_span<A: Allocator + Copy>(alloc: A, span: &SpanData<A>) -> Result<Vec<
     put_enum(&mut out, 6, kind_number(span.kind()))?;
     put_fixed64(&mut out, 7, span.start_time())?;
     put_fixed64(&mut out, 8, span.end_time())?;
-    put_attributes(alloc, &mut out, 9, span.attributes())?;
+    put_messages(alloc, &mut out, 9, span.attributes())?;
     put_uint32(&mut out, 10, span.dropped_attributes_count())?;
-    put_events(alloc, &mut out, 11, span.events())?;
+    put_messages(alloc, &mut out, 11, span.events())?;
     put_uint32(&mut out, 12, span.dropped_events_count())?;
-    put_links(alloc, &mut out, 13, span.links())?;
+    put_messages(alloc, &mut out, 13, span.links())?;
     put_uint32(&mut out, 14, span.dropped_links_count())?;
     put_status(alloc, &mut out, 15, span.status())?;
     Ok(out)

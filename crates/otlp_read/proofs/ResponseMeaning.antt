@@ -1,18 +1,16 @@
 -- What a response means, by its row and the joined rows of its partial successes.
-use Rattle.std.proofs.Common.{◌≡◌, refl, sym, ap, subst, ◌∙◌, ℕ, List, [], ◌∷◌, ◌++◌, Bool, true, false, cond, append-nil, append_assoc, arith, length, ◌<◌}
+use Rattle.std.proofs.Common.{◌≡◌, refl, sym, ap, subst, ◌∙◌, ℕ, List, [], ◌∷◌, ◌++◌, Bool, true, false, cond, append-nil, append_assoc, arith, length}
 use Rattle.std.specs.Int.{w64, cast_signed}
 use Rattle.std.specs.Str.{IsUtf8, is_utf8}
 use Rattle.std.specs.List.{Contains}
 use Rattle.std.proofs.lemmas.List.Elements.{Contains-append_left, Contains-append_right, Contains-push}
-use Rattle.std.proofs.lemmas.Bool.{true≢false}
 use Rattle.std.proofs.lemmas.Str.{IsUtf8-from_is_utf8, is_utf8-from_IsUtf8}
-use Rattle.span_model.specs.Attributes.{is_empty}
 use Rattle.message_model.specs.Reading.{Fault, bad_utf8, Reads}
 use Rattle.message_model.specs.Wire.{row}
 use Rattle.message_model.specs.Tables
 use Rattle.message_model.specs.Tables.{◌▸◌, text}
 use Rattle.message_model.specs.Messages.{meaning, read, utf8, payloads, last_bytes}
-use Rattle.otlp_read.specs.Response.{Counts, partial_row, message_text}
+use Rattle.otlp_read.specs.Response.{Counts, partial_row}
 use Rattle.otlp_read.specs.declared.response.PartialFields.{PartialFields}
 
 meaning-value : (body : List ℕ) (counted : PartialFields) → Counts counted (partial_row (row body).value).value →
@@ -51,8 +49,3 @@ no-fault body counted c e h = meaning-faults body ∙ ap (λ l. l ++ (utf8 (last
 pub is-read : (body : List ℕ) (counted : PartialFields) (message : List ℕ) → Counts counted (partial_row (row body).value).value → row_faults body ≡ [] → IsUtf8 counted.error_message.now → message ≡ counted.error_message.now →
     Reads (meaning Tables.response body) ((cast_signed w64 counted.rejected_spans ▸ message ▸ tt) ▸ tt)
 is-read body counted message c e h same = (no-fault body counted c e h, meaning-value body counted c ∙ ap (λ t. (cast_signed w64 counted.rejected_spans ▸ t ▸ tt) ▸ tt) (sym same))
-
--- the text that is copied
-pub text-value : (body : List ℕ) (counted : PartialFields) (message : List ℕ) → Counts counted (partial_row (row body).value).value → message ≡ counted.error_message.now → is_empty message ≡ false → message_text (meaning Tables.response body).value ≡ [] → ⊥
-text-value body counted message c same some none =
-    true≢false (sym (ap is_empty (same ∙ sym (ap message_text (meaning-value body counted c)) ∙ none)) ∙ some)

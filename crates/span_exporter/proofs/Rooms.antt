@@ -15,11 +15,6 @@ pub one_attempt : (fits : Bool) (attempts left : ℕ) → left + 1 ≡ attempts
 one_attempt true attempts left h = omega arith
 one_attempt false attempts left h = omega arith
 
--- what is no longer than the size has its room
-pub full_room : (len size attempts : ℕ) → len ≤ size
-    → attempts ≤ (if nat_le len size then attempts else 0)
-full_room len size attempts h = grind (arith, nat_tests)
-
 -- one buffer more behind the others, and one fewer
 pub one_more : {A : Type 0} (least : ℕ) (buffers : List (Vec ℕ A)) (buffer : Vec ℕ A)
     → AreBuffers least buffers → IsBuffer least buffer → AreBuffers least (buffers ++ buffer ∷ [])

@@ -1,13 +1,52 @@
 //! Fields of messages, appended to a vector (Protocol Buffers, "Encoding").
-ghost use Rattle.std.specs.Prelude.{◌≡◌, ◌++◌, ◌<◌, ◌^◌, OnOk, pos};
+ghost use Rattle.std.specs.Prelude.{◌≡◌, ◌+◌, ◌*◌, ◌++◌, ◌<◌, ◌^◌, OnOk, pos};
 ghost use Rattle.message_model.specs.Wire;
 ghost use Rattle.message_model.specs.Tables;
-ghost use Rattle.message_model.specs.Canon.{field_bytes};
+ghost use Rattle.message_model.specs.Canon.{field_bytes, shortest};
 ghost use Rattle.otlp_proto.specs.Encode.{Puts};
+ghost use Rattle.otlp_proto.specs.WireTypes.{wire_type_number};
 
 use otlp_ids::OutOfMemory;
 use otlp_wire::{write_fixed64, write_len, write_varint};
 use std::alloc::Allocator;
+
+/// How the payload of a field is spelled (Protocol Buffers, Encoding, "Message Structure").
+#[derive(Clone, Copy)]
+enum WireType {
+    /// A varint.
+    Varint,
+    /// Eight bytes.
+    SixtyFourBit,
+    /// A length, and so many bytes.
+    LengthDelimited,
+}
+
+impl WireType {
+    /// Its number in a tag.
+    fn number(self) -> u64
+        ensures value { result ≡ wire_type_number self }
+        ensures small { result < 8 }
+    {
+        match self {
+            WireType::Varint => 0,
+            WireType::SixtyFourBit => 1,
+            WireType::LengthDelimited => 2,
+        }
+    }
+}
+
+/// Appends the tag of a field: its number and its wire type.
+fn put_key<A: Allocator>(
+    out: &mut Vec<u8, A>,
+    number: u32,
+    wire_type: WireType,
+) -> Result<(), OutOfMemory>
+    requires { number < 2 ^ 29 }
+    ensures { OnOk result (out.new.items
+        ≡ out.old.items ++ shortest (number * 8 + wire_type_number wire_type)) }
+{
+    write_varint(out, number as u64 * 8 + wire_type.number())
+}
 
 /// Appends a field that holds a number, whatever number it is.
 pub fn put_varint<A: Allocator>(
@@ -19,7 +58,7 @@ pub fn put_varint<A: Allocator>(
     ensures { OnOk result (out.new.items
         ≡ out.old.items ++ field_bytes (record { number = number; payload = Wire.varint value })) }
 {
-    write_varint(out, number as u64 * 8)?;
+    put_key(out, number, WireType::Varint)?;
     write_varint(out, value)
 }
 
@@ -33,7 +72,7 @@ pub fn put_len<A: Allocator>(
     ensures { OnOk result (out.new.items
         ≡ out.old.items ++ field_bytes (record { number = number; payload = Wire.len bytes.now })) }
 {
-    write_varint(out, number as u64 * 8 + 2)?;
+    put_key(out, number, WireType::LengthDelimited)?;
     write_len(out, bytes)
 }
 
@@ -107,7 +146,7 @@ pub fn put_fixed64<A: Allocator>(
     ensures { OnOk result (Puts number Tables.fixed64 value out.old.items out.new.items) }
 {
     if value != 0 {
-        write_varint(out, number as u64 * 8 + 1)?;
+        put_key(out, number, WireType::SixtyFourBit)?;
         write_fixed64(out, value)?;
     }
     Ok(())

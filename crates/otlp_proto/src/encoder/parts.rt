@@ -1,81 +1,65 @@
 //! Events, links and the status of a span (opentelemetry-proto, trace.proto: Span.Event, Span.Link,
 //! Status).
-ghost use Rattle.std.specs.Prelude.{◌≡◌, ◌<◌, ◌^◌, IfOk, OnOk, map, pos};
+ghost use Rattle.std.specs.Prelude.{◌≡◌, ◌<◌, ◌^◌, IfOk, OnOk, pos};
 ghost use Rattle.message_model.specs.Tables;
 ghost use Rattle.export_model.specs.Export as model;
-ghost use Rattle.otlp_span.specs.Parts.{event_view, link_view, status_view};
+ghost use Rattle.otlp_span.specs.Parts.{status_view};
 ghost use Rattle.otlp_proto.specs.Encode.{Puts, IsWritten};
 
 use crate::encoder::fields::{put_bytes, put_enum, put_fixed64, put_len, put_text, put_uint32};
-use crate::encoder::values::put_attributes;
+use crate::encoder::messages::{Submessage, put_messages};
 use otlp_ids::OutOfMemory;
 use otlp_span::{Event, Link, Status};
 use std::alloc::Allocator;
 
-/// The message of an event.
-fn encode_event<A: Allocator + Copy>(alloc: A, event: &Event<A>) -> Result<Vec<u8, A>, OutOfMemory>
-    ensures { IfOk result
-        (λ v. IsWritten Tables.event (model.event_message (event_view event.now)) v.items) }
-{
-    let mut out = Vec::new(alloc);
-    put_fixed64(&mut out, 1, event.timestamp)?;
-    put_text(&mut out, 2, event.name.as_str())?;
-    put_attributes(alloc, &mut out, 3, event.attributes.as_slice())?;
-    put_uint32(&mut out, 4, event.dropped_attributes_count)?;
-    Ok(out)
-}
+impl<B: Allocator> Submessage for Event<B> {
+    ghost use Rattle.message_model.specs.Tables;
+    ghost use Rattle.span_model.specs.Spans as spans;
+    ghost use Rattle.export_model.specs.Export as model;
+    ghost use Rattle.otlp_span.specs.Parts.{event_view};
 
-/// Appends events, each as a field of this number.
-#[tactic(auto, using(crate::proofs::Writing::none_yet))]
-pub fn put_events<A: Allocator + Copy>(
-    alloc: A,
-    out: &mut Vec<u8, A>,
-    number: u32,
-    events: &[Event<A>],
-) -> Result<(), OutOfMemory>
-    requires { number < 2 ^ 29 }
-    ensures { OnOk result (Puts number (Tables.repeated (Tables.message Tables.event))
-        (map model.event_message (map event_view events.now)) out.old.items out.new.items) }
-{
-    for event in events {
-        let message = encode_event(alloc, event)?;
-        put_len(out, number, message.as_slice())?;
+    ghost viewed = { spans.Event };
+
+    ghost view = { event_view };
+
+    ghost table = { Tables.event };
+
+    ghost message = { model.event_message };
+
+    fn encode<A: Allocator + Copy>(&self, alloc: A) -> Result<Vec<u8, A>, OutOfMemory> {
+        let mut out = Vec::new(alloc);
+        put_fixed64(&mut out, 1, self.timestamp)?;
+        put_text(&mut out, 2, self.name.as_str())?;
+        put_messages(alloc, &mut out, 3, self.attributes.as_slice())?;
+        put_uint32(&mut out, 4, self.dropped_attributes_count)?;
+        Ok(out)
     }
-    Ok(())
 }
 
-/// The message of a link.
-fn encode_link<A: Allocator + Copy>(alloc: A, link: &Link<A>) -> Result<Vec<u8, A>, OutOfMemory>
-    ensures { IfOk result
-        (λ v. IsWritten Tables.link (model.link_message (link_view link.now)) v.items) }
-{
-    let mut out = Vec::new(alloc);
-    let context = &link.span_context;
-    put_bytes(&mut out, 1, &context.trace.0)?;
-    put_bytes(&mut out, 2, &context.span.0)?;
-    put_text(&mut out, 3, context.state.as_str())?;
-    put_attributes(alloc, &mut out, 4, link.attributes.as_slice())?;
-    put_uint32(&mut out, 5, link.dropped_attributes_count)?;
-    Ok(out)
-}
+impl<B: Allocator> Submessage for Link<B> {
+    ghost use Rattle.message_model.specs.Tables;
+    ghost use Rattle.span_model.specs.Spans as spans;
+    ghost use Rattle.export_model.specs.Export as model;
+    ghost use Rattle.otlp_span.specs.Parts.{link_view};
 
-/// Appends links, each as a field of this number.
-#[tactic(auto, using(crate::proofs::Writing::none_yet))]
-pub fn put_links<A: Allocator + Copy>(
-    alloc: A,
-    out: &mut Vec<u8, A>,
-    number: u32,
-    links: &[Link<A>],
-) -> Result<(), OutOfMemory>
-    requires { number < 2 ^ 29 }
-    ensures { OnOk result (Puts number (Tables.repeated (Tables.message Tables.link))
-        (map model.link_message (map link_view links.now)) out.old.items out.new.items) }
-{
-    for link in links {
-        let message = encode_link(alloc, link)?;
-        put_len(out, number, message.as_slice())?;
+    ghost viewed = { spans.Link };
+
+    ghost view = { link_view };
+
+    ghost table = { Tables.link };
+
+    ghost message = { model.link_message };
+
+    fn encode<A: Allocator + Copy>(&self, alloc: A) -> Result<Vec<u8, A>, OutOfMemory> {
+        let mut out = Vec::new(alloc);
+        let context = &self.span_context;
+        put_bytes(&mut out, 1, &context.trace.0)?;
+        put_bytes(&mut out, 2, &context.span.0)?;
+        put_text(&mut out, 3, context.state.as_str())?;
+        put_messages(alloc, &mut out, 4, self.attributes.as_slice())?;
+        put_uint32(&mut out, 5, self.dropped_attributes_count)?;
+        Ok(out)
     }
-    Ok(())
 }
 
 /// The description of an error; another status has none.

@@ -1,12 +1,12 @@
 //! Attributes and their values (opentelemetry-proto, common.proto: KeyValue, AnyValue, ArrayValue).
-ghost use Rattle.std.specs.Prelude.{◌<◌, ◌^◌, IfOk, OnOk, map, string_bytes};
+ghost use Rattle.std.specs.Prelude.{OnOk, map, string_bytes};
 ghost use Rattle.message_model.specs.AnyValue.{AnyValue, as_values};
-ghost use Rattle.message_model.specs.Tables;
 ghost use Rattle.export_model.specs.Export as model;
-ghost use Rattle.otlp_value.specs.Value.{value_view, attribute_view, attributes_view};
-ghost use Rattle.otlp_proto.specs.Encode.{Puts, IsWritten, PutsMember};
+ghost use Rattle.otlp_value.specs.Value.{value_view};
+ghost use Rattle.otlp_proto.specs.Encode.{PutsMember};
 
 use crate::encoder::fields::{put_len, put_text, put_varint};
+use crate::encoder::messages::Submessage;
 use otlp_ids::OutOfMemory;
 use otlp_value::Value;
 use std::alloc::Allocator;
@@ -66,10 +66,10 @@ fn put_array<T: Scalar, A: Allocator + Copy>(
 
 /// Appends the one member that a value has, also where that is the default. An empty array is one
 /// without values.
-fn put_member<A: Allocator + Copy>(
+fn put_member<A: Allocator + Copy, B: Allocator>(
     alloc: A,
     out: &mut Vec<u8, A>,
-    value: &Value<A>,
+    value: &Value<B>,
 ) -> Result<(), OutOfMemory>
     ensures { OnOk result
         (PutsMember 2 (model.value_message (value_view value.now)) out.old.items out.new.items) }
@@ -84,38 +84,28 @@ fn put_member<A: Allocator + Copy>(
     }
 }
 
-/// The message of an attribute: its key, and its value.
-fn encode_key_value<A: Allocator + Copy>(
-    alloc: A,
-    pair: &(String<A>, Value<A>),
-) -> Result<Vec<u8, A>, OutOfMemory>
-    ensures { IfOk result (λ v.
-        IsWritten Tables.key_value (model.attribute_message (attribute_view pair.now)) v.items) }
-{
-    let (key, value) = pair;
-    let mut out = Vec::new(alloc);
-    put_text(&mut out, 1, key.as_str())?;
-    let mut member = Vec::new(alloc);
-    put_member(alloc, &mut member, value)?;
-    put_len(&mut out, 2, member.as_slice())?;
-    Ok(out)
-}
+impl<B: Allocator> Submessage for (String<B>, Value<B>) {
+    ghost use Rattle.message_model.specs.Tables;
+    ghost use Rattle.span_model.specs.Attributes as attributes;
+    ghost use Rattle.export_model.specs.Export as model;
+    ghost use Rattle.otlp_value.specs.Value.{attribute_view};
 
-/// Appends attributes, each as a field of this number.
-#[tactic(auto, using(crate::proofs::Writing::none_yet))]
-pub fn put_attributes<A: Allocator + Copy>(
-    alloc: A,
-    out: &mut Vec<u8, A>,
-    number: u32,
-    pairs: &[(String<A>, Value<A>)],
-) -> Result<(), OutOfMemory>
-    requires { number < 2 ^ 29 }
-    ensures { OnOk result (Puts number (Tables.repeated (Tables.message Tables.key_value))
-        (model.attribute_messages (attributes_view pairs.now)) out.old.items out.new.items) }
-{
-    for pair in pairs {
-        let message = encode_key_value(alloc, pair)?;
-        put_len(out, number, message.as_slice())?;
+    ghost viewed = { attributes.Attribute };
+
+    ghost view = { attribute_view };
+
+    ghost table = { Tables.key_value };
+
+    ghost message = { model.attribute_message };
+
+    /// The message of an attribute: its key, and its value.
+    fn encode<A: Allocator + Copy>(&self, alloc: A) -> Result<Vec<u8, A>, OutOfMemory> {
+        let (key, value) = self;
+        let mut out = Vec::new(alloc);
+        put_text(&mut out, 1, key.as_str())?;
+        let mut member = Vec::new(alloc);
+        put_member(alloc, &mut member, value)?;
+        put_len(&mut out, 2, member.as_slice())?;
+        Ok(out)
     }
-    Ok(())
 }

@@ -10,11 +10,11 @@ returns g c =
     let kind = rw (c.kind_number.ensures, c.kind.ensures) at c.in_ok-put_enum.ensures in
     let start = rw c.start_time.ensures at c.in_ok-put_fixed64.ensures in
     let end = rw c.end_time.ensures at c.in_ok-put_fixed64-2.ensures in
-    let attributes = rw c.attributes.ensures at c.in_ok-put_attributes.ensures in
+    let attributes = rw c.attributes.ensures at c.in_ok-put_messages.ensures in
     let dropped = rw c.dropped_attributes_count.ensures at c.in_ok-put_uint32.ensures in
-    let events = rw c.events.ensures at c.in_ok-put_events.ensures in
+    let events = rw c.events.ensures at c.in_ok-put_messages-2.ensures in
     let dropped_events = rw c.dropped_events_count.ensures at c.in_ok-put_uint32-2.ensures in
-    let links = rw c.links.ensures at c.in_ok-put_links.ensures in
+    let links = rw c.links.ensures at c.in_ok-put_messages-3.ensures in
     let dropped_links = rw c.dropped_links_count.ensures at c.in_ok-put_uint32-3.ensures in
     let status = rw c.status.ensures at c.in_ok-put_status.ensures in
     rw (← c.context-context.ensures)

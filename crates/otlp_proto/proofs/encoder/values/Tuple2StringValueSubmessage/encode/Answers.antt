@@ -1,6 +1,6 @@
 use Rattle.otlp_proto.proofs.Writing.{no-field, and-field}
 use Rattle.otlp_proto.proofs.Values.{put-value}
-use Rattle.otlp_proto.proofs.encoder.values.encode_key_value.Goals as goal
+use Rattle.otlp_proto.proofs.encoder.values.Tuple2StringValueSubmessage.encode.Goals as goal
 
 pub returns : goal.returns
 returns g c =

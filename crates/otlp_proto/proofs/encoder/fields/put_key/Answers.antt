@@ -1,0 +1,6 @@
+use Rattle.message_model.specs.Canon.{payload_bytes}
+use Rattle.otlp_proto.proofs.encoder.fields.put_key.Goals as goal
+
+pub returns : goal.returns
+unfolding payload_bytes
+returns g c = rw (← c.number.ensures.value) c.write_varint.ensures.canonical
