@@ -10,8 +10,10 @@ run: ## Build trace-script without its proofs and print what the examples' steps
 	@echo '# trace-script, built before it is proved (make test proves), on each of examples/*.script' >&2
 	@cd crates/trace_script && rt try --cases ../../examples
 
-test: docs ## The gate: documents, every proof from nothing, must-fail edits, tests, programs, stored runs and what must not compile (tens of minutes)
+test: docs ## The gate: documents, every proof from nothing, wrong bodies, tests, programs, stored runs and what must not compile (tens of minutes)
 	rt ci
+	tools/wrong-bodies
+	tools/wrong-bodies-test
 	tools/runs
 	tools/wont-compile
 
@@ -19,7 +21,7 @@ docs: ## Compare the documents with the sources
 	tools/check-docs
 
 times: ## The gate, and what each crate took of the processors
-	tools/times rt ci
+	tools/times $(MAKE) test
 
 install: ## Prove and build the programs, and put them into PREFIX/bin
 	cd crates/trace_script && rt run -- --body < stdin

@@ -1,15 +1,11 @@
 -- How the counts of a desk hang together.
 use Rattle.std.specs.Prelude.{◌≡◌, ℕ, ◌+◌, ◌-◌, ◌^◌, ◌<◌, ◌≤◌, true, false, length, Option, None, Some}
-use Rattle.desk_model.specs.Desks.{Desk, DropCounts, FateCounts, OutBatch, accepted_count, in_hand_size, out_size, worker_drops}
+use Rattle.desk_model.specs.Desks.{Desk, FateCounts, OutBatch, accepted_count, in_hand_size, out_size, worker_drops}
 
 -- how many batches are out
 abbrev pub out_count : Option OutBatch → ℕ
 out_count None = 0
 out_count (Some batch) = 1
-
--- how many spans were dropped
-abbrev pub drop_count : DropCounts → ℕ
-drop_count c = c.queue_full + worker_drops c
 
 -- how many batches have ended that were handed
 abbrev pub fate_count : FateCounts → ℕ

@@ -2,7 +2,8 @@
 use Rattle.std.specs.Prelude.{◌≡◌, option_map, is_some}
 use Rattle.desk_model.specs.Desks as model
 use Rattle.batch_desk.specs.Counts.{AreCounts}
-use Rattle.batch_desk.specs.Views.{out_view, drop_counts_view, fate_counts_view}
+use Rattle.drop_ledger.specs.Counts.{drop_counts_view}
+use Rattle.batch_desk.specs.Views.{out_view, fate_counts_view}
 use Rattle.batch_desk.specs.declared.desk.Desk.TheInside.{Inside}
 
 abbrev pub desk_view : {A : Type 0} → Inside A → model.Desk

@@ -1,23 +1,14 @@
 -- What sizes and counts are in the model.
 use Rattle.desk_model.specs.Desks as desks
 use Rattle.batch_desk.specs.declared.config.DeskConfig.{DeskConfig}
-use Rattle.batch_desk.specs.declared.desk.OutBatch.{OutBatch}
-use Rattle.batch_desk.specs.declared.totals.DropCounts.{DropCounts}
+use Rattle.batch_desk.specs.declared.desk.TakenBatch.{TakenBatch}
 use Rattle.batch_desk.specs.declared.totals.FateCounts.{FateCounts}
 
 abbrev pub config_view : DeskConfig → desks.DeskConfig
 config_view c = record { queue = c.queue; batch = c.batch; delay_ms = c.delay_ms }
 
-abbrev pub out_view : OutBatch → desks.OutBatch
+abbrev pub out_view : TakenBatch → desks.OutBatch
 out_view b = record { number = b.number; size = b.size; is_handed = b.is_handed }
-
-abbrev pub drop_counts_view : DropCounts → desks.DropCounts
-drop_counts_view c = record {
-  queue_full = c.queue_full;
-  encode_memory = c.encode_memory;
-  too_large = c.too_large;
-  abandoned = c.abandoned;
-}
 
 abbrev pub fate_counts_view : FateCounts → desks.FateCounts
 fate_counts_view c = record {

@@ -7,14 +7,15 @@ ghost use Rattle.desk_model.specs.Desks.{Does, DropsSpans, IsDesk, TakesSpans, a
 ghost use Rattle.otlp_span.specs.Dropped.{entry_view, reason_view};
 ghost use Rattle.retry_core.specs.Retries.{fate_view};
 ghost use Rattle.batch_desk.specs.Desk.{IsOut, admission, admission_event, after_admission, after_drop, after_take, next_batch, out_state};
-ghost use Rattle.batch_desk.specs.Views.{config_view, drop_counts_view, fate_counts_view, out_view};
+ghost use Rattle.drop_ledger.specs.Counts.{drop_counts_view};
+ghost use Rattle.batch_desk.specs.Views.{config_view, fate_counts_view, out_view};
 
 use crate::admitted::Admitted;
 use crate::batch::Batch;
 use crate::config::DeskConfig;
 use crate::mark::Mark;
-use crate::totals::{DropCounts, FateCounts, Totals};
-use drop_ledger::Ledger;
+use crate::totals::{FateCounts, Totals};
+use drop_ledger::{DropCounts, Ledger};
 use otlp_span::{Entry, Reason, SpanData};
 use retry_core::Fate;
 use span_ring::{RingFault, Run, SpanRing};
@@ -24,7 +25,7 @@ use std::marker::Model;
 /// The batch that is out: its number, how many spans it has, and whether it was handed to an
 /// exporter.
 #[derive(Clone, Copy, Debug)]
-struct OutBatch {
+struct TakenBatch {
     number: u64,
     size: u64,
     is_handed: bool,
@@ -38,7 +39,7 @@ pub struct Desk<A: Allocator = Global> {
     ring: SpanRing<SpanData<A>, A>,
     ledger: Ledger<A>,
     delay_ms: u32,
-    out: Option<OutBatch>,
+    out: Option<TakenBatch>,
     next_ticket: u64,
     taken: u64,
     asked: u64,
@@ -201,7 +202,7 @@ impl<A: Allocator> Desk<A> {
         self.taken += size;
         self.batches = number;
         self.last_moment = now;
-        self.out = Some(OutBatch {
+        self.out = Some(TakenBatch {
             number,
             size,
             is_handed: false,
@@ -257,7 +258,7 @@ impl<A: Allocator> Desk<A> {
     {
         let size = size_of(self.out);
         self.handed += size;
-        self.out = Some(OutBatch {
+        self.out = Some(TakenBatch {
             number,
             size,
             is_handed: true,
@@ -359,7 +360,7 @@ fn has_passed(since: u64, delay_ms: u32, now: u64) -> bool
 }
 
 /// How many spans the batch has that is out.
-fn size_of(out: Option<OutBatch>) -> u64
+fn size_of(out: Option<TakenBatch>) -> u64
     ensures { result ≡ out_size (option_map out_view out) }
 {
     out.map_or(0, |out| out.size)

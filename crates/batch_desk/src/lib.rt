@@ -18,4 +18,4 @@ pub use batch::Batch;
 pub use config::DeskConfig;
 pub use desk::Desk;
 pub use mark::Mark;
-pub use totals::{DropCounts, FateCounts, Totals};
+pub use totals::{FateCounts, Totals};

@@ -1,58 +1,14 @@
 ghost use Rattle.std.specs.Prelude.{◌≡◌, ◌+◌, ◌-◌, ◌^◌, ◌<◌};
-ghost use Rattle.desk_model.specs.Desks.{with_drops, with_fate};
-ghost use Rattle.otlp_span.specs.Dropped.{reason_view};
+ghost use Rattle.desk_model.specs.Desks.{no_fates, with_fate};
 ghost use Rattle.retry_core.specs.Retries.{fate_view};
-ghost use Rattle.batch_desk.specs.Counts.{drop_count, fate_count};
-ghost use Rattle.batch_desk.specs.Views.{drop_counts_view, fate_counts_view};
+ghost use Rattle.batch_desk.specs.Counts.{fate_count};
+ghost use Rattle.batch_desk.specs.Views.{fate_counts_view};
 
-use otlp_span::Reason;
+use drop_ledger::DropCounts;
 use retry_core::Fate;
 
-/// How many spans were dropped for each reason, those whose entry was popped from the ledger too
-/// (profile).
-#[derive(Debug, Clone, Copy, PartialEq, Eq)]
-pub struct DropCounts {
-    /// As many waited as the queue holds.
-    pub queue_full: u64,
-    /// Memory was refused while their batch was encoded.
-    pub encode_memory: u64,
-    /// Their batch was larger than a body may be.
-    pub too_large: u64,
-    /// They were given up: who was to hand them on has left.
-    pub abandoned: u64,
-}
-
-impl DropCounts {
-    /// None for any.
-    pub(crate) fn new() -> DropCounts
-        ensures { result
-            ≡ record { queue_full = 0; encode_memory = 0; too_large = 0; abandoned = 0 } }
-    {
-        DropCounts {
-            queue_full: 0,
-            encode_memory: 0,
-            too_large: 0,
-            abandoned: 0,
-        }
-    }
-
-    /// Counts so many more for this reason.
-    pub(crate) fn add(&mut self, reason: Reason, count: u64)
-        requires { drop_count (drop_counts_view self.old) + count < 2 ^ 64 }
-        ensures { drop_counts_view self.new
-            ≡ with_drops (reason_view reason) count (drop_counts_view self.old) }
-    {
-        match reason {
-            Reason::QueueFull => self.queue_full += count,
-            Reason::EncodeMemory => self.encode_memory += count,
-            Reason::TooLarge => self.too_large += count,
-            Reason::Abandoned => self.abandoned += count,
-        }
-    }
-}
-
 /// How many batches ended in each way, of those that were handed to an exporter.
-#[derive(Debug, Clone, Copy, PartialEq, Eq)]
+#[derive(Debug, Clone, Copy, Default, PartialEq, Eq)]
 pub struct FateCounts {
     /// They were taken whole.
     pub delivered: u64,
@@ -71,14 +27,7 @@ pub struct FateCounts {
 impl FateCounts {
     /// None in any way.
     pub fn new() -> FateCounts
-        ensures { result ≡ record {
-          delivered = 0;
-          partial = 0;
-          refused = 0;
-          bad_reply = 0;
-          given_up = 0;
-          abandoned = 0;
-        } }
+        ensures { fate_counts_view result ≡ no_fates }
     {
         FateCounts {
             delivered: 0,
@@ -107,8 +56,8 @@ impl FateCounts {
     }
 }
 
-/// The counts of a desk.
-#[derive(Debug, Clone, Copy, PartialEq, Eq)]
+/// The counts of a desk. By default they are those of a desk at which nothing was done.
+#[derive(Debug, Clone, Copy, Default, PartialEq, Eq)]
 pub struct Totals {
     /// Spans that were queued.
     pub accepted: u64,
@@ -120,7 +69,7 @@ pub struct Totals {
     pub left: u64,
     /// Spans that came behind the shutdown. It stops at 2^64 - 1.
     pub late: u64,
-    /// Spans that were dropped, by reason.
+    /// Spans that were dropped, by reason, those whose entry was popped from the ledger too.
     pub dropped: DropCounts,
     /// Batches that were handed and have ended, by how.
     pub fates: FateCounts,

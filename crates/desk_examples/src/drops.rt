@@ -4,6 +4,7 @@ ghost use Rattle.std.specs.Prelude.{◌≡◌, [], ◌∷◌, ◌++◌, pos, Non
 ghost use Rattle.span_model.specs.Dropped.{queue_full, too_large, encode_memory};
 ghost use Rattle.retry_model.specs.Retries.{Fate};
 ghost use Rattle.desk_model.specs.Queue.{flush, shutdown, late, taken, handed, dropped, settled, popped, drops, ledger_entries, popped_entries};
+ghost use Rattle.desk_model.specs.Desks.{no_drops, no_fates};
 ghost use Rattle.desk_examples.specs.Histories.{four, ends, ends_full, named, five_ends, ledger_tickets, popped_tickets, span_at, shown, AllAllowed};
 
 /// The ledger names the dropped spans, the newest first, and a pop takes the newest.
@@ -46,15 +47,8 @@ pub fn desks()
           last_moment = 20;
           handed = 2;
           late = 0;
-          dropped = record { queue_full = 1; encode_memory = 2; too_large = 0; abandoned = 0 };
-          fates = record {
-            delivered = 0;
-            partial = 1;
-            refused = 0;
-            bad_reply = 0;
-            given_up = 0;
-            abandoned = 0;
-          };
+          dropped = record no_drops { queue_full = 1; encode_memory = 2 };
+          fates = record no_fates { partial = 1 };
         } }
     ensures allowed { AllAllowed four
         (five_ends ++ taken 10 2 ∷ handed ∷ settled (Fate.partial (pos 1)) ∷ taken 20 2 ∷

@@ -40,14 +40,14 @@ record Adds (config : DeskConfig) (made : ℕ) (h : List DeskEvent) : Type 0 whe
 adds-step : (config : DeskConfig) (made : ℕ) (h : List DeskEvent) (x : DeskEvent) → IsWithin h → AddsUp (desk_of config made h) → Allowed (desk_of config made h) x → AddsUp (desk_of config made (h ++ x ∷ []))
 unfolding desk_of
 adds-step config made h (queued s) w k a = subst AddsUp (sym (queued-makes config made h s w a.0)) k
-adds-step config made h (full s) w k a = subst AddsUp (sym (full-makes config made h s a.0)) k
-adds-step config made h late w k a = subst AddsUp (sym (late-makes config made h)) k
+adds-step config made h (full s) w k a = subst AddsUp (sym (full-makes config made h s w a.0)) k
+adds-step config made h late w k a = subst AddsUp (sym (late-makes config made h w)) k
 adds-step config made h flush w k a = subst AddsUp (sym (flush-makes config made h w)) k
 adds-step config made h shutdown w k a = subst AddsUp (sym (shutdown-makes config made h w)) k
 adds-step config made h (taken now size) w k a =
     let none : in_hand_size (out_as (stage h) (last_batch h) (last_size h)) ≡ 0 = ap in_hand_size a.1 in
     let sums : taken_count h + size ≡ length (handed_spans h) + worker_drops (drop_counts (drops h)) + size = omega (arith, none, k) in
-    subst AddsUp (sym (taken-makes config made h now size)) sums
+    subst AddsUp (sym (taken-makes config made h now size w)) sums
 adds-step config made h handed w k a =
     let all : in_hand_size (out_as (stage h) (last_batch h) (last_size h)) ≡ last_size h = in-hand-of (stage h) (last_batch h) (last_size h) a in
     let sums : taken_count h ≡ length (handed_spans h) + last_size h + worker_drops (drop_counts (drops h)) + 0 = omega (arith, all, k) in
@@ -56,12 +56,12 @@ adds-step config made h (dropped reason) w k a =
     let all : in_hand_size (out_as (stage h) (last_batch h) (last_size h)) ≡ last_size h = in-hand-of (stage h) (last_batch h) (last_size h) a.0 in
     let more : worker_drops (with_drops reason (length (last_spans h)) (drop_counts (drops h))) ≡ worker_drops (drop_counts (drops h)) + length (last_spans h) = worker-more reason (length (last_spans h)) (drop_counts (drops h)) a.1 in
     let sums : taken_count h ≡ length (handed_spans h) + worker_drops (with_drops reason (length (last_spans h)) (drop_counts (drops h))) + 0 = omega (arith, all, more, length-last h w, k) in
-    subst AddsUp (sym (dropped-makes config made h reason)) sums
+    subst AddsUp (sym (dropped-makes config made h reason w)) sums
 adds-step config made h (settled fate) w k a =
     let none : in_hand_size (out_as (stage h) (last_batch h) (last_size h)) ≡ 0 = handed-none (stage h) (last_batch h) (last_size h) a in
     let sums : taken_count h ≡ length (handed_spans h) + worker_drops (drop_counts (drops h)) + 0 = omega (arith, none, k) in
-    subst AddsUp (sym (settled-makes config made h fate)) sums
-adds-step config made h popped w k a = subst AddsUp (sym (popped-makes config made h)) k
+    subst AddsUp (sym (settled-makes config made h fate w)) sums
+adds-step config made h popped w k a = subst AddsUp (sym (popped-makes config made h w)) k
 
 adds-none : (config : DeskConfig) (made : ℕ) → Adds config made []
 unfolding desk_of
@@ -95,16 +95,16 @@ unfolding desk_of
 given-step config made h (queued s) w k a =
     let one : length (accepted_spans (h ++ queued s ∷ [])) ≡ length (accepted_spans h) + 1 = ap length (accepted-queued h s) ∙ length-append (accepted_spans h) (s ∷ []) in
     subst (Given (accepted_spans (h ++ queued s ∷ []))) (sym (queued-makes config made h s w a.0)) (omega (arith, one, k))
-given-step config made h (full s) w k a = given-same config made h (full s) _ (accepted-kept h (full s) refl) (full-makes config made h s a.0) (omega (arith, k))
-given-step config made h late w k a = given-same config made h late _ (accepted-kept h late refl) (late-makes config made h) k
+given-step config made h (full s) w k a = given-same config made h (full s) _ (accepted-kept h (full s) refl) (full-makes config made h s w a.0) (omega (arith, k))
+given-step config made h late w k a = given-same config made h late _ (accepted-kept h late refl) (late-makes config made h w) k
 given-step config made h flush w k a = given-same config made h flush _ (accepted-kept h flush refl) (flush-makes config made h w) k
 given-step config made h shutdown w k a = given-same config made h shutdown _ (accepted-kept h shutdown refl) (shutdown-makes config made h w) k
-given-step config made h (taken now size) w k a = given-same config made h (taken now size) _ (accepted-kept h (taken now size) refl) (taken-makes config made h now size) k
+given-step config made h (taken now size) w k a = given-same config made h (taken now size) _ (accepted-kept h (taken now size) refl) (taken-makes config made h now size w) k
 given-step config made h handed w k a = given-same config made h handed _ (accepted-kept h handed refl) (handed-makes config made h w) k
-given-step config made h (dropped reason) w k a = given-same config made h (dropped reason) _ (accepted-kept h (dropped reason) refl) (dropped-makes config made h reason)
+given-step config made h (dropped reason) w k a = given-same config made h (dropped reason) _ (accepted-kept h (dropped reason) refl) (dropped-makes config made h reason w)
     (k ∙ ap (λ (n : ℕ). length (accepted_spans h) + n) (sym (queue-full-same reason (length (last_spans h)) (drop_counts (drops h)) a.1)))
-given-step config made h (settled fate) w k a = given-same config made h (settled fate) _ (accepted-kept h (settled fate) refl) (settled-makes config made h fate) k
-given-step config made h popped w k a = given-same config made h popped _ (accepted-kept h popped refl) (popped-makes config made h) k
+given-step config made h (settled fate) w k a = given-same config made h (settled fate) _ (accepted-kept h (settled fate) refl) (settled-makes config made h fate w) k
+given-step config made h popped w k a = given-same config made h popped _ (accepted-kept h popped refl) (popped-makes config made h w) k
 
 gives-none : (config : DeskConfig) (made : ℕ) → Gives config made []
 unfolding desk_of

@@ -39,6 +39,81 @@ count-more p xs y = sum_by_push (λ z. cond (p z) 1 0) xs y
 pub sum-more : (ns : List ℕ) (n : ℕ) → sum (ns ++ n ∷ []) ≡ sum ns + n
 sum-more ns n = sum_by_push (λ (k : ℕ). k) ns n
 
+-- ---- one more element, by what it is taken for
+
+-- a list with this behind it, a list without so many, one more, so many more, if it is taken for some
+abbrev pub push_as : {A : Type 0} → Option A → List A → List A
+push_as None xs = xs
+push_as (Some y) xs = xs ++ y ∷ []
+
+abbrev pub drop_as : {A : Type 0} → Option ℕ → List A → List A
+drop_as None xs = xs
+drop_as (Some n) xs = drop n xs
+
+abbrev pub one_as : {A : Type 0} → Option A → ℕ → ℕ
+one_as None n = n
+one_as (Some y) n = n + 1
+
+abbrev pub plus_as : Option ℕ → ℕ → ℕ
+plus_as None n = n
+plus_as (Some k) n = n + k
+
+module _ {A B : Type 0} (f : A → Option B) (xs : List A) (x : A) where
+  pub pushed-behind : filter_map f (xs ++ x ∷ []) ≡ push_as (f x) (filter_map f xs)
+  pushed-behind = go (f x) refl
+    where
+      go : (o : Option B) → f x ≡ o → filter_map f (xs ++ x ∷ []) ≡ push_as o (filter_map f xs)
+      go None e = none-more f xs x e
+      go (Some y) e = some-more f xs x y e
+
+  pub one-behind : length (filter_map f (xs ++ x ∷ [])) ≡ one_as (f x) (length (filter_map f xs))
+  one-behind = ap length pushed-behind ∙ go (f x)
+    where
+      go : (o : Option B) → length (push_as o (filter_map f xs)) ≡ one_as o (length (filter_map f xs))
+      go None = refl
+      go (Some y) = length-append (filter_map f xs) (y ∷ [])
+
+  pub last-behind : (d : B) → last_or d (filter_map f (xs ++ x ∷ [])) ≡ unwrap_or (f x) (last_or d (filter_map f xs))
+  last-behind d = ap (last_or d) pushed-behind ∙ go (f x)
+    where
+      go : (o : Option B) → last_or d (push_as o (filter_map f xs)) ≡ unwrap_or o (last_or d (filter_map f xs))
+      go None = refl
+      go (Some y) = last-more d (filter_map f xs) y
+
+pub sum-behind : {A : Type 0} (f : A → Option ℕ) (xs : List A) (x : A) → sum (filter_map f (xs ++ x ∷ [])) ≡ plus_as (f x) (sum (filter_map f xs))
+sum-behind f xs x = ap sum (pushed-behind f xs x) ∙ go (f x)
+  where
+    go : (o : Option ℕ) → sum (push_as o (filter_map f xs)) ≡ plus_as o (sum (filter_map f xs))
+    go None = refl
+    go (Some k) = sum-more (filter_map f xs) k
+
+-- what is left behind a front that is dropped, where the front and the list may grow
+pub drop-behind : {A : Type 0} (o : Option ℕ) (p : Option A) (ns : List ℕ) (xs : List A) → sum ns ≤ length xs → drop (sum (push_as o ns)) (push_as p xs) ≡ drop_as o (push_as p (drop (sum ns) xs))
+drop-behind None None ns xs w = refl
+drop-behind None (Some y) ns xs w = drop-append-le (sum ns) xs (y ∷ []) w
+drop-behind (Some n) None ns xs w = ap (λ k. drop k xs) (sum-more ns n) ∙ sym (drop-drop n (sum ns) xs)
+drop-behind (Some n) (Some y) ns xs w = ap (λ k. drop k (xs ++ y ∷ [])) (sum-more ns n) ∙ sym (drop-drop n (sum ns) (xs ++ y ∷ [])) ∙ ap (drop n) (drop-append-le (sum ns) xs (y ∷ []) w)
+
+-- a list with these behind it, if there are some, and its length
+abbrev pub behind_as : {A : Type 0} → List A → List A → List A
+behind_as [] xs = xs
+behind_as (y ∷ ys) xs = xs ++ y ∷ ys
+
+abbrev pub length_as : {A : Type 0} → List A → ℕ → ℕ
+length_as [] n = n
+length_as (y ∷ ys) n = n + length (y ∷ ys)
+
+pub behind-is : {A : Type 0} (ys xs : List A) → behind_as ys xs ≡ xs ++ ys
+behind-is [] xs = sym (append-nil xs)
+behind-is (y ∷ ys) xs = refl
+
+pub length-as-is : {A : Type 0} (ys : List A) (n : ℕ) → length_as ys n ≡ n + length ys
+length-as-is [] n = omega arith
+length-as-is (y ∷ ys) n = refl
+
+pub length-behind : {A : Type 0} (xs ys : List A) → length (xs ++ ys) ≡ length_as ys (length xs)
+length-behind xs ys = length-append xs ys ∙ sym (length-as-is ys (length xs))
+
 -- ---- what is gathered
 
 gather-append : {A : Type 0} (f : List DeskEvent → DeskEvent → List A) (before xs ys : List DeskEvent) → gather f before (xs ++ ys) ≡ gather f before xs ++ gather f (before ++ xs) ys

@@ -1,13 +1,13 @@
 -- One more event: what a desk then shows.
-use Rattle.std.proofs.Common.{◌≡◌, refl, sym, ap, ◌∙◌, subst, ℕ, ◌+◌, ◌-◌, ◌^◌, ◌≤◌, min, arith, List, [], ◌∷◌, ◌++◌, length, take, drop, append_assoc, Bool, true, false, cond, ◌||◌, Some, None, length-drop, length-append}
-use Rattle.std.specs.Prelude.{◌==◌, sum}
+use Rattle.std.proofs.Common.{◌≡◌, refl, sym, ap, ◌∙◌, subst, ℕ, ◌+◌, ◌-◌, ◌≤◌, min, arith, List, [], ◌∷◌, ◌++◌, length, take, drop, append_assoc, Bool, true, false, cond, ◌||◌, Some, None, length-drop, length-append}
+use Rattle.std.specs.Prelude.{if◌then◌else◌, sum}
 use Rattle.std.specs.List.{list_any, filter_map}
 use Rattle.std.proofs.lemmas.List.{append-nil, drop-append-le, drop-drop}
 use Rattle.span_model.specs.Attributes.{last_or}
 use Rattle.span_model.specs.Spans.{EndedSpan}
-use Rattle.desk_model.specs.Queue.{DeskEvent, queued, full, late, flush, shutdown, taken, handed, dropped, settled, popped, gather, ticket_of, tickets, queued_span, accepted_spans, size_of_take, batch_sizes, taken_count, waiting_spans, last_batch, last_spans, last_size, Stage, not_out, in_hand, stage_by, stage, moment_of, last_moment, spans_handed_by, handed_spans, fate_by, fates, entries_by, drops, stack_on, ledger_steps_by, ledger_entries, is_late, late_count, asks, marks_by, asked_count, is_shutdown, is_closed}
-use Rattle.desk_model.specs.Desks.{DeskConfig, out_as, desk_of, Allowed, AreAllowedBehind, AreAllowed}
-use Rattle.desk_model.proofs.Lists.{none-more, some-more, last-more, any-more, count-more, sum-more, gather-more, stack-append, last_slice, last-slice-stays, last-slice-more, length-last-slice}
+use Rattle.desk_model.specs.Queue.{DeskEvent, queued, full, late, flush, shutdown, taken, handed, dropped, settled, popped, gather, ticket_of, tickets, queued_span, accepted_spans, size_of_take, batch_sizes, taken_count, waiting_spans, last_batch, last_spans, last_size, Stage, not_out, stage_by, stage, spans_handed_by, handed_spans, entries_by, drops, stack_on, ledger_steps_by, ledger_entries, asks, marks_by, asked_count, is_shutdown}
+use Rattle.desk_model.specs.Desks.{DeskConfig, desk_of, Allowed, AreAllowedBehind, AreAllowed}
+use Rattle.desk_model.proofs.Lists.{none-more, some-more, last-more, any-more, sum-more, gather-more, stack-append, push_as, drop_as, pushed-behind, drop-behind, last_slice, last-slice-stays, last-slice-more, length-last-slice}
 
 -- ---- what an event leaves as it was
 
@@ -33,12 +33,6 @@ module _ (h : List DeskEvent) (x : DeskEvent) where
   pub stage-told : (s : Stage) → stage_by x ≡ Some s → stage (h ++ x ∷ []) ≡ s
   stage-told s e = ap (last_or not_out) (some-more stage_by h x s e) ∙ last-more not_out (filter_map stage_by h) s
 
-  pub moment-kept : (made : ℕ) → moment_of x ≡ None → last_moment made (h ++ x ∷ []) ≡ last_moment made h
-  moment-kept made e = ap (last_or made) (none-more moment_of h x e)
-
-  pub fates-kept : fate_by x ≡ None → fates (h ++ x ∷ []) ≡ fates h
-  fates-kept e = none-more fate_by h x e
-
   pub handed-kept : spans_handed_by h x ≡ [] → handed_spans (h ++ x ∷ []) ≡ handed_spans h
   handed-kept e = gather-more spans_handed_by h x ∙ ap (λ l. handed_spans h ++ l) e ∙ append-nil (handed_spans h)
 
@@ -49,14 +43,30 @@ module _ (h : List DeskEvent) (x : DeskEvent) where
   pub ledger-more : ledger_entries (h ++ x ∷ []) ≡ stack_on (ledger_entries h) (ledger_steps_by h x)
   ledger-more = ap (stack_on []) (gather-more ledger_steps_by h x) ∙ stack-append [] (gather ledger_steps_by [] h) (ledger_steps_by h x)
 
-  pub ledger-kept : ledger_steps_by h x ≡ [] → ledger_entries (h ++ x ∷ []) ≡ ledger_entries h
-  ledger-kept e = ledger-more ∙ ap (stack_on (ledger_entries h)) e
-
   pub asked-kept : asks x ≡ false → asked_count (h ++ x ∷ []) ≡ asked_count h
   asked-kept e = ap (last_or 0) (gather-more marks_by h x ∙ ap (λ b. gather marks_by [] h ++ cond b (length (accepted_spans h) ∷ []) []) e ∙ append-nil (gather marks_by [] h))
 
   pub asked-told : asks x ≡ true → asked_count (h ++ x ∷ []) ≡ length (accepted_spans h)
   asked-told e = ap (last_or 0) (gather-more marks_by h x ∙ ap (λ b. gather marks_by [] h ++ cond b (length (accepted_spans h) ∷ []) []) e) ∙ last-more 0 (gather marks_by [] h) (length (accepted_spans h))
+
+  pub asked-more : asked_count (h ++ x ∷ []) ≡ if asks x then length (accepted_spans h) else asked_count h
+  asked-more = go (asks x) refl
+    where
+      go : (b : Bool) → asks x ≡ b → asked_count (h ++ x ∷ []) ≡ if b then length (accepted_spans h) else asked_count h
+      go true e = asked-told e
+      go false e = asked-kept e
+
+  pub shut-more : list_any is_shutdown (h ++ x ∷ []) ≡ (is_shutdown x || list_any is_shutdown h)
+  shut-more = any-more is_shutdown h x ∙ go (list_any is_shutdown h) (is_shutdown x)
+    where
+      go : (b c : Bool) → (b || c) ≡ (c || b)
+      go true true = refl
+      go true false = refl
+      go false true = refl
+      go false false = refl
+
+  pub waiting-more : IsWithin h → waiting_spans (h ++ x ∷ []) ≡ drop_as (size_of_take x) (push_as (queued_span x) (waiting_spans h))
+  waiting-more w = (λ i. drop (sum (pushed-behind size_of_take h x i)) (pushed-behind queued_span h x i)) ∙ drop-behind (size_of_take x) (queued_span x) (batch_sizes h) (accepted_spans h) w
 
   pub shut-kept : is_shutdown x ≡ false → list_any is_shutdown (h ++ x ∷ []) ≡ list_any is_shutdown h
   shut-kept e = any-more is_shutdown h x ∙ ap (λ b. list_any is_shutdown h || b) e ∙ or-false (list_any is_shutdown h)
@@ -64,19 +74,6 @@ module _ (h : List DeskEvent) (x : DeskEvent) where
       or-false : (b : Bool) → (b || false) ≡ b
       or-false true = refl
       or-false false = refl
-
-  pub closed-kept : is_shutdown x ≡ false → ticket_of x ≡ None → is_closed (h ++ x ∷ []) ≡ is_closed h
-  closed-kept e t = λ i. shut-kept e i || (length (tickets-kept t i) == 2 ^ 64 - 1)
-
-  pub late-kept : is_late x ≡ false → late_count (h ++ x ∷ []) ≡ late_count h
-  late-kept e = count-more is_late h x ∙ ap (λ b. late_count h + cond b 1 0) e ∙ (let z : late_count h + 0 ≡ late_count h = omega arith in z)
-
-  -- the batch that is out
-  pub out-kept : size_of_take x ≡ None → stage_by x ≡ None → out_as (stage (h ++ x ∷ [])) (last_batch (h ++ x ∷ [])) (last_size (h ++ x ∷ [])) ≡ out_as (stage h) (last_batch h) (last_size h)
-  out-kept e s = λ i. out_as (stage-kept s i) (length (sizes-kept e i)) (last_or 0 (sizes-kept e i))
-
-  pub out-told : (s : Stage) → size_of_take x ≡ None → stage_by x ≡ Some s → out_as (stage (h ++ x ∷ [])) (last_batch (h ++ x ∷ [])) (last_size (h ++ x ∷ [])) ≡ out_as s (last_batch h) (last_size h)
-  out-told s e t = λ i. out_as (stage-told s t i) (length (sizes-kept e i)) (last_or 0 (sizes-kept e i))
 
   -- the spans of the last batch
   pub last-kept : size_of_take x ≡ None → queued_span x ≡ None → last_spans (h ++ x ∷ []) ≡ last_spans h
@@ -117,9 +114,6 @@ module _ (h : List DeskEvent) (now size : ℕ) where
 
   pub size-taken : last_size (h ++ taken now size ∷ []) ≡ size
   size-taken = ap (last_or 0) sizes-taken ∙ last-more 0 (batch_sizes h) size
-
-  pub out-taken : out_as (stage (h ++ taken now size ∷ [])) (last_batch (h ++ taken now size ∷ [])) (last_size (h ++ taken now size ∷ [])) ≡ out_as in_hand (last_batch h + 1) size
-  out-taken = λ i. out_as (stage-told h (taken now size) in_hand refl i) (number-taken i) (size-taken i)
 
 -- ---- allowed events
 

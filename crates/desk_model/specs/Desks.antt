@@ -65,6 +65,21 @@ pub record Desk : Type 0 where
 
 -- ---- counts
 
+-- nothing was dropped
+abbrev pub no_drops : DropCounts
+no_drops = record { queue_full = 0; encode_memory = 0; too_large = 0; abandoned = 0 }
+
+-- no batch has a fate
+abbrev pub no_fates : FateCounts
+no_fates = record {
+  delivered = 0;
+  partial = 0;
+  refused = 0;
+  bad_reply = 0;
+  given_up = 0;
+  abandoned = 0;
+}
+
 abbrev pub drop_counts : List Entry → DropCounts
 drop_counts entries = record {
   queue_full = count_of_reason Reason.queue_full entries;
@@ -162,15 +177,8 @@ new_desk config made = record {
   last_moment = made;
   handed = 0;
   late = 0;
-  dropped = record { queue_full = 0; encode_memory = 0; too_large = 0; abandoned = 0 };
-  fates = record {
-    delivered = 0;
-    partial = 0;
-    refused = 0;
-    bad_reply = 0;
-    given_up = 0;
-    abandoned = 0;
-  };
+  dropped = no_drops;
+  fates = no_fates;
 }
 
 -- ---- due and flushed

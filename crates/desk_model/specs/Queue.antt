@@ -109,13 +109,13 @@ abbrev pub stage : List DeskEvent → Stage
 stage events = last_or not_out (filter_map stage_by events)
 
 -- the moment of a take
-abbrev pub moment_of : DeskEvent → Option ℕ
-moment_of (taken now size) = Some now
-moment_of _ = None
+abbrev pub moment_of_take : DeskEvent → Option ℕ
+moment_of_take (taken now size) = Some now
+moment_of_take _ = None
 
 -- the moment of the last take, or that at which the queue was made
 abbrev pub last_moment : ℕ → List DeskEvent → ℕ
-last_moment made events = last_or made (filter_map moment_of events)
+last_moment made events = last_or made (filter_map moment_of_take events)
 
 -- ---- what was handed, and what came of it
 

@@ -1,29 +1,29 @@
-ghost use Rattle.std.specs.Prelude.{◌≡◌, ◌-◌, ◌^◌, ◌<◌};
+ghost use Rattle.std.specs.Prelude.{◌≡◌, ◌+◌, ◌^◌, ◌<◌};
+ghost use Rattle.desk_model.specs.Desks.{no_drops, with_drops};
 ghost use Rattle.otlp_span.specs.Dropped.{reason_view};
-ghost use Rattle.drop_ledger.specs.Counts.{count_in, one_more};
+ghost use Rattle.drop_ledger.specs.Counts.{count_in, drop_counts_view};
 
 use otlp_span::Reason;
 
-/// How many names there are of each reason.
-#[derive(Debug, Clone, Copy, PartialEq, Eq)]
-pub(crate) struct Counts {
-    queue_full: u64,
-    encode_memory: u64,
-    too_large: u64,
-    abandoned: u64,
+/// How many spans were dropped for each reason (profile).
+#[derive(Debug, Clone, Copy, Default, PartialEq, Eq)]
+pub struct DropCounts {
+    /// As many waited as the queue holds.
+    pub queue_full: u64,
+    /// Memory was refused while their batch was encoded.
+    pub encode_memory: u64,
+    /// Their batch was larger than a body may be.
+    pub too_large: u64,
+    /// They were given up: who was to hand them on has left.
+    pub abandoned: u64,
 }
 
-impl Counts {
-    /// None of any.
-    pub(crate) fn new() -> Counts
-        ensures { result ≡ record {
-          queue_full = 0;
-          encode_memory = 0;
-          too_large = 0;
-          abandoned = 0;
-        } }
+impl DropCounts {
+    /// None for any.
+    pub fn new() -> DropCounts
+        ensures { drop_counts_view result ≡ no_drops }
     {
-        Counts {
+        DropCounts {
             queue_full: 0,
             encode_memory: 0,
             too_large: 0,
@@ -31,9 +31,9 @@ impl Counts {
         }
     }
 
-    /// How many there are of this reason.
-    pub(crate) fn of(&self, reason: Reason) -> u64
-        ensures { result ≡ count_in self.now (reason_view reason) }
+    /// How many were dropped for this reason.
+    pub fn of(&self, reason: Reason) -> u64
+        ensures { result ≡ count_in (drop_counts_view self.now) (reason_view reason) }
     {
         match reason {
             Reason::QueueFull => self.queue_full,
@@ -43,23 +43,25 @@ impl Counts {
         }
     }
 
-    /// Counts one more.
-    pub(crate) fn add(&mut self, reason: Reason)
-        requires { count_in self.old (reason_view reason) < 2 ^ 64 - 1 }
-        ensures { self.new ≡ one_more (reason_view reason) self.old }
+    /// Counts so many more for this reason.
+    pub fn add(&mut self, reason: Reason, count: u64)
+        requires { count_in (drop_counts_view self.old) (reason_view reason) + count < 2 ^ 64 }
+        ensures { drop_counts_view self.new
+            ≡ with_drops (reason_view reason) count (drop_counts_view self.old) }
     {
         match reason {
-            Reason::QueueFull => self.queue_full += 1,
-            Reason::EncodeMemory => self.encode_memory += 1,
-            Reason::TooLarge => self.too_large += 1,
-            Reason::Abandoned => self.abandoned += 1,
+            Reason::QueueFull => self.queue_full += count,
+            Reason::EncodeMemory => self.encode_memory += count,
+            Reason::TooLarge => self.too_large += count,
+            Reason::Abandoned => self.abandoned += count,
         }
     }
 
-    /// Counts one less.
+    /// Counts one less for this reason.
     pub(crate) fn remove(&mut self, reason: Reason)
-        requires { 0 < count_in self.old (reason_view reason) }
-        ensures { self.old ≡ one_more (reason_view reason) self.new }
+        requires { 0 < count_in (drop_counts_view self.old) (reason_view reason) }
+        ensures { drop_counts_view self.old
+            ≡ with_drops (reason_view reason) 1 (drop_counts_view self.new) }
     {
         match reason {
             Reason::QueueFull => self.queue_full -= 1,

@@ -2,7 +2,7 @@ ghost use Rattle.std.specs.Prelude.{◌≡◌, ◌-◌, ◌^◌, ◌<◌, ◌∷
 ghost use Rattle.span_model.specs.Dropped.{count_of_reason};
 ghost use Rattle.otlp_span.specs.Dropped.{entry_view, reason_view};
 
-use crate::counts::Counts;
+use crate::counts::DropCounts;
 use otlp_span::{Entries, Entry, Reason, Slip};
 use std::alloc::{Allocator, Global};
 use std::marker::Model;
@@ -15,7 +15,7 @@ use std::marker::Model;
 pub struct Ledger<A: Allocator = Global> {
     newest: Option<Slip<A>>,
     len: u64,
-    counts: Counts,
+    counts: DropCounts,
 }
 
 impl<A: Allocator> Model for Ledger<A> {
@@ -31,6 +31,17 @@ impl<A: Allocator> Model for Ledger<A> {
     ghost invariant = { λ l. IsLedger l.newest l.len l.counts };
 }
 
+impl<A: Allocator> Default for Ledger<A> {
+    ghost use Rattle.std.specs.Prelude.{◌≡◌, []};
+
+    ghost is_default = { λ ledger. ledger ≡ [] };
+
+    /// As `Ledger::new`: no names.
+    fn default() -> Ledger<A> {
+        Ledger::new()
+    }
+}
+
 impl<A: Allocator> Ledger<A> {
     /// No names.
     pub fn new() -> Ledger<A>
@@ -39,7 +50,7 @@ impl<A: Allocator> Ledger<A> {
         Ledger {
             newest: None,
             len: 0,
-            counts: Counts::new(),
+            counts: DropCounts::new(),
         }
     }
 
@@ -88,7 +99,7 @@ impl<A: Allocator> Ledger<A> {
         ensures { self.new ≡ entry_view entry ∷ self.old }
     {
         self.len += 1;
-        self.counts.add(entry.reason);
+        self.counts.add(entry.reason, 1);
         let below = self.newest.take();
         self.newest = Some(slip.link(entry, below));
     }

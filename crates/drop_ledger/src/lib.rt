@@ -5,4 +5,5 @@
 mod counts;
 mod ledger;
 
+pub use counts::DropCounts;
 pub use ledger::Ledger;

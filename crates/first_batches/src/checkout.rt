@@ -3,9 +3,10 @@ use std::alloc::Global;
 use std::io::{self, Write};
 use std::sync::Arc;
 use thiserror::Error;
-use trace_kit::{
-    Desk, DeskConfig, Fate, Kind, Open, OutOfMemory, Resource, RingFault, Scope, SpanContext,
-    SpanData, SpanId, SpanLimits, SpanRecord, TraceFlags, TraceId,
+use trace_kit::queue::{Desk, DeskConfig, Fate, RingFault};
+use trace_kit::trace::{
+    Kind, Open, OutOfMemory, Resource, Scope, SpanContext, SpanData, SpanId, SpanLimits,
+    SpanRecord, TraceFlags, TraceId,
 };
 
 /// Why not all was printed.

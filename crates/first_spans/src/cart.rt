@@ -7,10 +7,10 @@ ghost use Rattle.trace_kit.specs.Spans.{EndedSpan};
 
 use std::alloc::Global;
 use std::sync::Arc;
-use trace_kit::{
-    AlwaysOn, BodyPass, DEFAULT_MAX_BODY, EncodeFault, Kind, OutOfMemory, ParentBased, Provider,
-    Resource, Sampler, Scope, Span, SpanLimits, StartFault, Status, Tracer, Value, WordsRng,
-    body_of,
+use trace_kit::export::{DEFAULT_MAX_BODY, EncodeFault, body_of};
+use trace_kit::trace::{
+    AlwaysOn, BodyPass, Kind, OutOfMemory, ParentBased, Provider, Resource, Sampler, Scope, Span,
+    SpanLimits, StartFault, Status, Tracer, Value, WordsRng,
 };
 
 /// Why there is no body.

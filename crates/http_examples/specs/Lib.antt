@@ -1,2 +1,3 @@
 pub mod Collectors
 pub mod Meanings
+pub mod Replied

@@ -8,5 +8,6 @@
 pub mod devices;
 pub mod fields;
 pub mod outcomes;
+pub mod replies;
 pub mod requests;
 pub mod targets;

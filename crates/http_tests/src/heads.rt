@@ -9,7 +9,7 @@ use std::alloc::Global;
 use std::process::Abort;
 
 /// What the fields of a reply without a body ask for.
-fn wait_of(rt: &impl Abort, alloc: Global, fields: &str) -> Option<RetryAfter> {
+fn asked_wait(rt: &impl Abort, alloc: Global, fields: &str) -> Option<RetryAfter> {
     let text = format!(in alloc; "HTTP/1.1 503 Busy\r\n{fields}\r\n").expect(rt, "memory");
     let reply = reply_of(rt, alloc, text.as_bytes());
     assert_eq!(rt; reply.status, 503);
@@ -64,20 +64,20 @@ fn a_head_has_a_status(rt: HostRuntime) {
 #[test]
 fn the_first_wait_counts(rt: HostRuntime) {
     let alloc = rt.alloc();
-    let two = wait_of(&rt, alloc, "Retry-After: 7\r\nRetry-After: 9\r\n");
+    let two = asked_wait(&rt, alloc, "Retry-After: 7\r\nRetry-After: 9\r\n");
     assert_eq!(rt; two, Some(RetryAfter::Seconds(7)));
-    let spaces = wait_of(&rt, alloc, "retry-AFTER:\t 007 \t\r\n");
+    let spaces = asked_wait(&rt, alloc, "retry-AFTER:\t 007 \t\r\n");
     assert_eq!(rt; spaces, Some(RetryAfter::Seconds(7)));
-    let most = wait_of(&rt, alloc, "Retry-After: 18446744073709551614\r\n");
+    let most = asked_wait(&rt, alloc, "Retry-After: 18446744073709551614\r\n");
     assert_eq!(rt; most, Some(RetryAfter::Seconds(u64::MAX - 1)));
-    let over = wait_of(&rt, alloc, "Retry-After: 18446744073709551616\r\n");
+    let over = asked_wait(&rt, alloc, "Retry-After: 18446744073709551616\r\n");
     assert_eq!(rt; over, Some(RetryAfter::Seconds(u64::MAX)));
-    let date = wait_of(&rt, alloc, "Retry-After: Sun, 06 Nov 1994 08:49:37 GMT\r\n");
+    let date = asked_wait(&rt, alloc, "Retry-After: Sun, 06 Nov 1994 08:49:37 GMT\r\n");
     assert_eq!(rt; date, Some(RetryAfter::Date(784_111_777)));
     for other in ["soon", "", "-1", "+1", "1.5", "1, 2", "Sun, 06 Nov 1994"] {
         let fields = format!(in alloc; "Retry-After: {other}\r\nRetry-After: 9\r\n");
         let fields = fields.expect(&rt, "memory");
-        assert_eq!(rt; wait_of(&rt, alloc, fields.as_str()), None, "{other}");
+        assert_eq!(rt; asked_wait(&rt, alloc, fields.as_str()), None, "{other}");
     }
 }
 

@@ -53,12 +53,12 @@ content_length (value ∷ values) =
 
 -- what a value of Retry-After says: so many seconds, 2^64 - 1 where they are more (profile), or a
 -- date; any other value says nothing
-abbrev pub wait_of : List ℕ → Option RetryAfter
-wait_of value =
+abbrev pub asked_wait : List ℕ → Option RetryAfter
+asked_wait value =
     if is_digits value then Some (Seconds (min (digits_value 10 value) (2 ^ 64 - 1)))
     else option_map Date (parse_secs value)
 
 -- what the first value of Retry-After says (profile)
 abbrev pub retry_after : List (List ℕ) → Option RetryAfter
 retry_after [] = None
-retry_after (value ∷ values) = wait_of value
+retry_after (value ∷ values) = asked_wait value

@@ -8,7 +8,7 @@ ghost use Rattle.http_header.specs.FieldValue.{plain_value};
 ghost use Rattle.http_header.specs.HeaderMap.{append, get_all, RefusesAppend};
 ghost use Rattle.http_header.specs.Token.{lowercase};
 ghost use Rattle.httparse.specs.Spans.{header_bytes, IsHeaderWithin};
-ghost use Rattle.otlp_http.specs.Fields.{content_length, is_digits, is_length, retry_after, wait_of, IsTaken};
+ghost use Rattle.otlp_http.specs.Fields.{content_length, is_digits, is_length, retry_after, asked_wait, IsTaken};
 ghost use Rattle.otlp_http.specs.Parses.{KeepsFields, RefusesFields};
 
 use crate::fault::HttpFault;
@@ -132,8 +132,8 @@ pub(crate) fn content_length(kept: &HeaderMap) -> Result<Option<u64>, HttpFault>
 }
 
 /// What a value of Retry-After says.
-fn wait_of(value: &[u8]) -> Option<RetryAfter>
-    ensures { result ≡ wait_of value.now }
+fn asked_wait(value: &[u8]) -> Option<RetryAfter>
+    ensures { result ≡ asked_wait value.now }
 {
     if is_digits(value) {
         return Some(RetryAfter::Seconds(read_length(value).unwrap_or(u64::MAX)));
@@ -151,7 +151,7 @@ pub(crate) fn retry_after(kept: &HeaderMap) -> Option<RetryAfter>
 {
     let mut values = kept.get_all("retry-after").iter();
     match values.next() {
-        Some(first) => wait_of(first.as_bytes()),
+        Some(first) => asked_wait(first.as_bytes()),
         None => None,
     }
 }

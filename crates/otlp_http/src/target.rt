@@ -13,6 +13,9 @@ use thiserror::Error;
 /// "OTLP/HTTP Default Port")
 pub const DEFAULT_PORT: u16 = 4318;
 
+// No clause says the number itself.
+const _: () = prove!(DEFAULT_PORT == 4318);
+
 /// The path at which they take traces unless another is named. (OTLP Specification, "OTLP/HTTP
 /// Request")
 pub const DEFAULT_PATH: &str = "/v1/traces";

@@ -275,6 +275,9 @@ impl fmt::Display for SpanId {
 pub struct TraceFlags(pub u8);
 
 impl TraceFlags {
+    /// The sampled flag alone (W3C Trace Context, "sampled flag").
+    pub const SAMPLED: TraceFlags = TraceFlags(1);
+
     /// Whether the span is sampled (W3C Trace Context, "sampled flag").
     pub fn sampled(&self) -> bool
         ensures { result ≡ has_sampled_flag self.now.0 }

@@ -163,6 +163,9 @@ fn encode_request<A: Allocator + Copy>(
 /// receiver takes by default (profile).
 pub const DEFAULT_MAX_BODY: usize = 4_194_304;
 
+// No clause says the number itself.
+const _: () = prove!(DEFAULT_MAX_BODY == 4_194_304);
+
 /// Why there is no body.
 #[derive(Debug, Clone, Copy, PartialEq, Eq, Error)]
 pub enum EncodeFault {

@@ -1,6 +1,6 @@
 ghost use Rattle.std.specs.Prelude.{◌≡◌, None};
 
-use otlp_ids::{SpanContext, SpanId};
+use otlp_ids::{OutOfMemory, SpanContext, SpanId, copy_text};
 use otlp_value::{AttributeList, Limits, Value};
 use std::alloc::{Allocator, Global};
 use std::sync::Arc;
@@ -120,6 +120,24 @@ pub struct Resource<A: Allocator = Global> {
     pub schema_url: String<A>,
 }
 
+impl<A: Allocator> Resource<A> {
+    ghost use Rattle.std.specs.Prelude.{[]};
+    ghost use Rattle.otlp_value.specs.Value.{attributes_view};
+    ghost use Rattle.otlp_span.specs.Parts.{resource_view};
+
+    /// A resource with these attributes, whose keys are distinct, and without a schema. It takes no
+    /// memory.
+    pub fn new(alloc: A, attributes: Vec<(String<A>, Value<A>), A>) -> Resource<A>
+        ensures { resource_view result
+            ≡ record { attributes = attributes_view attributes.items; schema = [] } }
+    {
+        Resource {
+            attributes,
+            schema_url: String::new(alloc),
+        }
+    }
+}
+
 /// The part of a program that makes spans (Common, "Instrumentation Scope").
 #[derive(Drop)]
 #[derive_where(Debug, PartialEq, Eq, Hash)]
@@ -133,6 +151,35 @@ pub struct Scope<A: Allocator = Global> {
     pub attributes: Vec<(String<A>, Value<A>), A>,
     /// The schema that its telemetry follows, or an empty text.
     pub schema_url: String<A>,
+}
+
+impl<A: Allocator + Copy> Scope<A> {
+    ghost use Rattle.std.specs.Prelude.{[], IfOk, OnErr, false};
+    ghost use Rattle.span_model.specs.Attributes.{is_empty};
+    ghost use Rattle.otlp_span.specs.Parts.{scope_view};
+
+    /// A scope with this name, on memory of its own, and without a version, attributes or a schema.
+    /// An empty name takes no memory.
+    ///
+    /// # Errors
+    ///
+    /// `OutOfMemory` where the name could not be stored.
+    pub fn named(alloc: A, name: &str) -> Result<Scope<A>, OutOfMemory>
+        ensures value { IfOk result (λ scope. scope_view scope ≡ record {
+          name = name.now;
+          version = [];
+          attributes = [];
+          schema = [];
+        }) }
+        ensures refused { OnErr result (is_empty name.now ≡ false) }
+    {
+        Ok(Scope {
+            name: copy_text(alloc, name)?,
+            version: String::new(alloc),
+            attributes: Vec::new(alloc),
+            schema_url: String::new(alloc),
+        })
+    }
 }
 
 /// How a span starts (Trace API, "Span Creation").

@@ -2,8 +2,9 @@
 //! Limits").
 #![tactic(auto)]
 
-ghost use Rattle.std.specs.Prelude.{◌≡◌, ◌<◌, ◌∷◌, ◌++◌, IfOk, OnErr, OnOk, Some, [], length, map, position, string_bytes};
-ghost use Rattle.span_model.specs.Attributes.{SetsPair, attribute_list, cut, first_chars, has_key};
+ghost use Rattle.std.specs.Prelude.{◌≡◌, ◌<◌, ◌∷◌, ◌++◌, IfOk, OnErr, OnOk, Some, [], false, length, map, position, string_bytes};
+ghost use Rattle.span_model.specs.Attributes as model;
+ghost use Rattle.span_model.specs.Attributes.{SetsPair, attribute_list, cut, first_chars, has_key, is_empty};
 ghost use Rattle.otlp_value.specs.AttributeList.{TakesPlace};
 ghost use Rattle.otlp_value.specs.Value.{CopyTakesMemory, attribute_view, attributes_view, limits_view, value_view};
 
@@ -30,6 +31,18 @@ pub enum Value<A: Allocator = Global> {
 }
 
 impl<A: Allocator> Value<A> {
+    /// A text, on memory of its own. An empty one takes none.
+    ///
+    /// # Errors
+    ///
+    /// `OutOfMemory` where the text could not be stored.
+    pub fn text(alloc: A, text: &str) -> Result<Value<A>, OutOfMemory>
+        ensures value { IfOk result (λ v. value_view v ≡ model.text text.now) }
+        ensures refused { OnErr result (is_empty text.now ≡ false) }
+    {
+        Ok(Value::Text(copy_text(alloc, text)?))
+    }
+
     /// The value with its text, or each text of its array by itself, cut to so many Unicode scalar
     /// values. The others stay as they are, and without a limit all do. It takes no memory.
     fn cut(self, length: Option<u32>) -> Value<A>

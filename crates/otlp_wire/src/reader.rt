@@ -129,7 +129,7 @@ fn read_field(bytes: &[u8]) -> Result<(Field<'_>, &[u8]), WireFault>
 /// # Errors
 ///
 /// A `WireFault` in the place of the first field that doesn't stand. Nothing comes after it.
-#[derive(Drop)]
+#[derive(Debug, Drop)]
 pub struct Fields<'a> {
     unread: &'a [u8],
 }

@@ -1,11 +1,11 @@
 //! The program on command lines, in scarce memory, and with readers and writers that fail.
 use linked_list_allocator::LocalHeap;
+use script_program::{script, trace_script};
 use std::alloc::{AllocError, Allocator, Global};
 use std::io;
 use std::io::{Read, Write};
 use std::process::Abort;
 use std::test::Fail;
-use trace_kit::{script, trace_script};
 
 const TWO_SPANS: &str = "words 0102030405060708 090a0b0c0d0e0f10 1112131415161718 2122232425262728
 scope 0 s % %

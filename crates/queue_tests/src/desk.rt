@@ -1,6 +1,7 @@
 //! Desks, driven by hand.
 use crate::spans::{Spans, TRACE};
-use batch_desk::{Admitted, Batch, Desk, DeskConfig, DropCounts, FateCounts, Totals};
+use batch_desk::{Admitted, Batch, Desk, DeskConfig, FateCounts, Totals};
+use drop_ledger::DropCounts;
 use linked_list_allocator::LocalHeap;
 use otlp_ids::SpanId;
 use otlp_span::{Entry, Reason};
@@ -96,22 +97,6 @@ fn name(number: u64, reason: Reason) -> Entry {
     }
 }
 
-const NO_DROPS: DropCounts = DropCounts {
-    queue_full: 0,
-    encode_memory: 0,
-    too_large: 0,
-    abandoned: 0,
-};
-
-const NO_FATES: FateCounts = FateCounts {
-    delivered: 0,
-    partial: 0,
-    refused: 0,
-    bad_reply: 0,
-    given_up: 0,
-    abandoned: 0,
-};
-
 #[test]
 fn a_full_queue_drops_the_span_that_ends(rt: HostRuntime) -> Result<(), Fail> {
     let spans = Spans::new(&rt, rt.alloc());
@@ -133,11 +118,11 @@ fn a_full_queue_drops_the_span_that_ends(rt: HostRuntime) -> Result<(), Fail> {
         late: 0,
         dropped: DropCounts {
             queue_full: 1,
-            ..NO_DROPS
+            ..DropCounts::default()
         },
         fates: FateCounts {
             delivered: 2,
-            ..NO_FATES
+            ..FateCounts::default()
         },
         closed: false,
     };
@@ -207,10 +192,10 @@ fn a_shutdown_asks_for_all_and_closes(rt: HostRuntime) -> Result<(), Fail> {
         handed: 2,
         left: 0,
         late: 1,
-        dropped: NO_DROPS,
+        dropped: DropCounts::default(),
         fates: FateCounts {
             partial: 1,
-            ..NO_FATES
+            ..FateCounts::default()
         },
         closed: true,
     };

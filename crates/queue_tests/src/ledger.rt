@@ -9,6 +9,14 @@ use std::test::Fail;
 /// More names than a recursion could let go.
 const MANY: u64 = 70_000;
 
+/// Two slips that are linked, as `Debug` shows them.
+const CHAIN: &str = concat!(
+    "[Entry { trace: TraceId([1, 1, 1, 1, 1, 1, 1, 1, 1, 1, 1, 1, 1, 1, 1, 1]), ",
+    "span: SpanId([0, 0, 0, 0, 0, 0, 0, 2]), ticket: 9, reason: Abandoned }, ",
+    "Entry { trace: TraceId([1, 1, 1, 1, 1, 1, 1, 1, 1, 1, 1, 1, 1, 1, 1, 1]), ",
+    "span: SpanId([0, 0, 0, 0, 0, 0, 0, 1]), ticket: 0, reason: TooLarge }]",
+);
+
 /// The name of the span of this number and ticket.
 fn name(number: u64, ticket: u64, reason: Reason) -> Entry {
     Entry {
@@ -35,6 +43,8 @@ fn unlink_gives_back_what_was_linked(rt: HostRuntime) -> Result<(), Fail> {
     let chain = second.into_slip().link(high, Some(below));
     assert_eq!(rt; chain.newest().copied(), Some(high));
     assert_eq!(rt; chain.iter().count(), 2);
+    let shown = format!(in rt.alloc(); "{chain:?}").expect(&rt, "memory");
+    assert_eq!(rt; shown.as_str(), CHAIN);
     let (newest, below) = chain.unlink();
     assert_eq!(rt; newest, high);
     let (oldest, none) = below.expect(&rt, "a slip below").unlink();

@@ -1,5 +1,5 @@
 //! A desk as plain lists, to compare desks with.
-use batch_desk::{Admitted, DeskConfig, DropCounts, FateCounts, Totals};
+use batch_desk::{Admitted, DeskConfig, Totals};
 use otlp_span::Reason;
 use retry_core::Fate;
 use std::alloc::Global;
@@ -39,28 +39,7 @@ impl Plain {
             next_ticket: 0,
             asked: 0,
             last_take: 0,
-            totals: Totals {
-                accepted: 0,
-                taken: 0,
-                handed: 0,
-                left: 0,
-                late: 0,
-                dropped: DropCounts {
-                    queue_full: 0,
-                    encode_memory: 0,
-                    too_large: 0,
-                    abandoned: 0,
-                },
-                fates: FateCounts {
-                    delivered: 0,
-                    partial: 0,
-                    refused: 0,
-                    bad_reply: 0,
-                    given_up: 0,
-                    abandoned: 0,
-                },
-                closed: false,
-            },
+            totals: Totals::default(),
         }
     }
 

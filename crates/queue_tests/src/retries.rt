@@ -5,6 +5,10 @@ use std::process::Abort;
 /// 1994-11-06 08:49:37 UTC, in seconds since 1970.
 const DATE: u64 = 784_111_777;
 
+/// How refused settings are told.
+const BAD_RETRY: &str =
+    "bad retry settings: 1 to 5 attempts, a wait of 1 to 30000 ms, the longest to 300000 ms";
+
 /// What follows from this attempt, which there has to be.
 fn follows(
     rt: &impl Abort,
@@ -163,6 +167,8 @@ fn settings_have_ranges(rt: HostRuntime) {
         let refused = RetryConfig::new(attempts, initial_ms, max_ms);
         assert_eq!(rt; refused, Err(BadRetry));
     }
+    let told = format!(in rt.alloc(); "{BadRetry}").expect(&rt, "memory");
+    assert_eq!(rt; told.as_str(), BAD_RETRY);
     assert_eq!(rt;
         RetryConfig::new(5, 1000, 30_000),
         Ok(RetryConfig::default())

@@ -3,8 +3,9 @@ ghost use Rattle.std.specs.Prelude.{◌≡◌, false};
 
 use linked_list_allocator::LocalHeap;
 use span_ring::{MAX_QUEUE, RingFault, Run, SpanRing};
-use std::alloc::Allocator;
+use std::alloc::{Allocator, Global};
 use std::cell::Cell;
+use std::fmt::Debug;
 use std::marker::Send;
 use std::ops::Range;
 use std::process::Abort;
@@ -84,6 +85,26 @@ fn expect_run(rt: &impl Abort, ring: &mut SpanRing<u32>, want: &[u32])
         }
         None => assert_eq!(rt; want.len(), 0),
     }
+}
+
+/// Asserts what `Debug` shows.
+fn assert_shown(rt: &impl Abort, alloc: Global, shown: &impl Debug, text: &str) {
+    let told = format!(in alloc; "{shown:?}").expect(rt, "memory");
+    assert_eq!(rt; told.as_str(), text);
+}
+
+#[test]
+fn rings_and_runs_are_shown(rt: HostRuntime) {
+    let alloc = rt.alloc();
+    let mut ring = SpanRing::new(alloc, 5, 2).expect(&rt, "memory");
+    fill(&rt, &mut ring, 0..3);
+    let text = "SpanRing { items: [0, 1, 2], queue: 5, batch: 2, run_out: false }";
+    assert_shown(&rt, alloc, &ring, text);
+    let run = ring.take_run().expect(&rt, "items wait");
+    assert_shown(&rt, alloc, &run, "[0, 1]");
+    let text = "SpanRing { items: [2], queue: 5, batch: 2, run_out: true }";
+    assert_shown(&rt, alloc, &ring, text);
+    ring.give_back(run);
 }
 
 #[test]

@@ -8,7 +8,7 @@ ghost use Rattle.retry_core.specs.Retries.{fate_view, next_view, outcome_view, r
 use crate::config::RetryConfig;
 use crate::fate::Fate;
 use crate::outcome::{Outcome, RetryAfter};
-use crate::wait::wait_of;
+use crate::wait::wait_ns;
 
 /// Why a batch is given up. (profile)
 #[derive(Clone, Copy, Debug, PartialEq, Eq)]
@@ -100,6 +100,6 @@ pub fn decide(config: &RetryConfig, attempt: u32, outcome: &Outcome, now: u64, w
     }
     match retried(outcome) {
         None => last_next(outcome),
-        Some(after) => Next::Again(now.saturating_add(wait_of(config, attempt, after, now, word))),
+        Some(after) => Next::Again(now.saturating_add(wait_ns(config, attempt, after, now, word))),
     }
 }

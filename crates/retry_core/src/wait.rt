@@ -1,7 +1,7 @@
 //! How long the waits between the attempts of a batch are.
 
 ghost use Rattle.std.specs.Prelude.{◌≡◌, ◌≤◌, min, option_map};
-ghost use Rattle.retry_model.specs.Waits.{backoff_ms, greatest_wait, wait_of};
+ghost use Rattle.retry_model.specs.Waits.{backoff_ms, greatest_wait, wait_ns};
 ghost use Rattle.retry_core.specs.Retries.{retry_after_view};
 
 use crate::config::RetryConfig;
@@ -36,7 +36,7 @@ fn capped(wait: u128) -> u64
 
 /// The wait behind this attempt, from `now` on, in nanoseconds: what the collector asks for, or
 /// else the backoff.
-pub(crate) fn wait_of(
+pub(crate) fn wait_ns(
     config: &RetryConfig,
     attempt: u32,
     after: Option<RetryAfter>,
@@ -45,7 +45,7 @@ pub(crate) fn wait_of(
 ) -> u64
     requires first { 1 ≤ attempt }
     requires last { attempt ≤ config.now.attempts }
-    ensures { result ≡ wait_of config.now attempt (option_map retry_after_view after) now word }
+    ensures { result ≡ wait_ns config.now attempt (option_map retry_after_view after) now word }
 {
     match after {
         None => backoff_ms(config, attempt, word) * MILLISECOND,

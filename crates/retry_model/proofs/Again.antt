@@ -3,8 +3,8 @@ use Rattle.std.proofs.Common.{◌≡◌, refl, ℕ, ◌+◌, ◌<◌, nat_lt, mi
 use Rattle.std.specs.Prelude.{if◌then◌else◌}
 use Rattle.std.specs.Option.{option_map_or}
 use Rattle.std.proofs.lemmas.Bool.{ltb-true}
-use Rattle.retry_model.specs.Retries.{Outcome, Next, again, next_of}
-use Rattle.retry_model.specs.Waits.{RetryConfig, retried, next_after, wait_of, last_moment}
+use Rattle.retry_model.specs.Retries.{Outcome, again, next_of}
+use Rattle.retry_model.specs.Waits.{RetryConfig, retried, next_after, wait_ns, greatest_moment}
 
 never-again : (outcome : Outcome) (moment : ℕ) → next_of outcome ≡ again moment → ⊥
 never-again Outcome.delivered moment e = cc
@@ -19,7 +19,7 @@ pub again-few : (config : RetryConfig) (attempt : ℕ) (outcome : Outcome) (now 
 again-few config attempt outcome now word moment e = by (nat_lt attempt config.attempts) refl e
   where
     by : (b : Bool) → nat_lt attempt config.attempts ≡ b
-        → (if b then option_map_or (λ after. again (min (now + wait_of config attempt after now word) last_moment)) (retried outcome) (next_of outcome) else next_of outcome) ≡ again moment
+        → (if b then option_map_or (λ after. again (min (now + wait_ns config attempt after now word) greatest_moment)) (retried outcome) (next_of outcome) else next_of outcome) ≡ again moment
         → attempt < config.attempts
     by true k e = ltb-true attempt config.attempts k
     by false k e = absurd (never-again outcome moment e)

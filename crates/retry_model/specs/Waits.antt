@@ -43,14 +43,14 @@ greatest_wait = 300 * second
 -- nanoseconds since 1970: as the reply asks, in so many seconds or until a date, or else the
 -- backoff. (OTLP Specification, OTLP/HTTP Throttling; RFC 9110, Retry-After; with each status that
 -- is tried again: profile)
-abbrev pub wait_of : RetryConfig → ℕ → Option RetryAfter → ℕ → ℕ → ℕ
-wait_of config attempt None now word = backoff_ms config attempt word * 1000000
-wait_of config attempt (Some (seconds n)) now word = min (n * second) greatest_wait
-wait_of config attempt (Some (date d)) now word = min (d * second - now) greatest_wait
+abbrev pub wait_ns : RetryConfig → ℕ → Option RetryAfter → ℕ → ℕ → ℕ
+wait_ns config attempt None now word = backoff_ms config attempt word * 1000000
+wait_ns config attempt (Some (seconds n)) now word = min (n * second) greatest_wait
+wait_ns config attempt (Some (date d)) now word = min (d * second - now) greatest_wait
 
 -- the last moment that 64 bits tell (profile)
-abbrev pub last_moment : ℕ
-last_moment = 2 ^ 64 - 1
+abbrev pub greatest_moment : ℕ
+greatest_moment = 2 ^ 64 - 1
 
 -- Whether an outcome is to be tried again, and what its reply asks for: a status that says so, or
 -- no reply. (OTLP Specification, Retryable Response Codes; no reply: All Other Responses)
@@ -65,6 +65,6 @@ abbrev pub next_after : RetryConfig → ℕ → Outcome → ℕ → ℕ → Next
 next_after config attempt outcome now word =
     if nat_lt attempt config.attempts
     then option_map_or
-    (λ after. again (min (now + wait_of config attempt after now word) last_moment))
+    (λ after. again (min (now + wait_ns config attempt after now word) greatest_moment))
     (retried outcome) (next_of outcome)
     else next_of outcome

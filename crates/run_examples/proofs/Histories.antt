@@ -9,7 +9,7 @@ use Rattle.run_model.specs.Answers.{RunConfig, Given, answer_to, AreAnswers}
 use Rattle.run_model.proofs.More.{answers-more}
 use Rattle.run_examples.specs.Worked.{is_sent, history_behind, history}
 
-history-behind-right : (run : RunConfig) (scarce : List ℕ) (before : List Answered) (outcomes : List Outcome) (steps : List Step) → AreAnswers run before → AreAnswers run (history_behind run scarce before outcomes steps)
+pub history-behind-right : (run : RunConfig) (scarce : List ℕ) (before : List Answered) (outcomes : List Outcome) (steps : List Step) → AreAnswers run before → AreAnswers run (history_behind run scarce before outcomes steps)
 unfolding history_behind AreAnswers
 history-behind-right run scarce before outcomes [] w = w
 history-behind-right run scarce before outcomes (step ∷ later) w =

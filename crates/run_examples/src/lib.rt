@@ -9,6 +9,7 @@
 
 pub mod batches;
 pub mod ends;
+pub mod retried;
 pub mod retries;
 pub mod starts;
 pub mod takes;

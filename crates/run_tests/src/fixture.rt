@@ -178,7 +178,7 @@ pub(crate) fn desk(queue: usize, batch: usize) -> DeskConfig {
     }
 }
 
-/// An exporter with these outcomes.
+/// An exporter that gives these outcomes.
 pub(crate) fn exporter<A: Allocator + Copy>(
     rt: &impl Abort,
     alloc: A,

@@ -28,8 +28,8 @@ last-some (Some x) xs = last-more 0 xs x
 
 sent-more : (before : List Answered) (x : Answered) → length (attempts (before ++ x ∷ [])) ≡ length (attempts before) + cond (is_some (attempt_by x.answer)) 1 0
 sent-more before x =
-    let attempt_of : Answered → Option _ = λ (y : Answered). attempt_by y.answer in
-    ap length (filter_map-append attempt_of before (x ∷ [])) ∙ length-some (attempt_by x.answer) (attempts before)
+    let attempted : Answered → Option _ = λ (y : Answered). attempt_by y.answer in
+    ap length (filter_map-append attempted before (x ∷ [])) ∙ length-some (attempt_by x.answer) (attempts before)
 
 batch-more : (before : List Answered) (x : Answered) → last_taken (before ++ x ∷ []) ≡ unwrap_or (batch_by x.answer) (last_taken before)
 batch-more before x =

@@ -57,7 +57,7 @@ pub fn trace_script<R: Read, W: Write, F: Write>(
 
 /// Runs a script. Nothing happens before the whole script is read.
 ///
-/// Without `body` its steps are run over an exporter that keeps what it is handed and has the
+/// Without `body` its steps are run over an exporter that keeps what it is handed and gives the
 /// script's outcomes. A line is printed for each step, and behind the last one the report: how many
 /// spans wait or are in a batch that was not handed over, the names of the dropped ones, and how
 /// many were late (`run_text`). Memory that is refused to a step is its answer.

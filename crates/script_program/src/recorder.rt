@@ -36,7 +36,7 @@ pub fn spans_of_script<A: Allocator + Copy>(
         desk: _,
         resource,
         scopes,
-        answers: _,
+        outcomes: _,
         steps,
     } = script;
     let resource = Resource {

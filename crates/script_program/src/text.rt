@@ -20,8 +20,8 @@ use trace_history::Step;
 use trace_run::{RunConfig, RunReport, run};
 use words_rng::WordsRng;
 
-/// Runs the steps of a script over an exporter with the script's outcomes. The text has a line for
-/// each step, and the report behind them. Then the run is closed.
+/// Runs the steps of a script over an exporter that gives the script's outcomes. The text has a
+/// line for each step, and the report behind them. Then the run is closed.
 pub fn text_of_script<A: Allocator + Copy>(
     alloc: A,
     script: Script<A>,
@@ -37,7 +37,7 @@ pub fn text_of_script<A: Allocator + Copy>(
         desk,
         resource,
         scopes,
-        answers,
+        outcomes,
         steps,
     } = script;
     let config = RunConfig {
@@ -52,7 +52,7 @@ pub fn text_of_script<A: Allocator + Copy>(
         retry: RetryConfig::default(),
         rng: WordsRng::new(words),
     };
-    let mut exporter = MemoryExporter::new(alloc, answers);
+    let mut exporter = MemoryExporter::new(alloc, outcomes);
     let report = run(alloc, config, steps.as_slice(), &mut exporter)?;
     let text = text_of_run(alloc, steps.as_slice(), &report, exporter.handed());
     report.close();

@@ -86,7 +86,7 @@ fn reads_outcomes_in_order(rt: HostRuntime) -> Result<(), Fail> {
         Outcome::NoReply,
         Outcome::Bad,
     ];
-    assert_eq!(rt; script.answers.as_slice(), outcomes.as_slice());
+    assert_eq!(rt; script.outcomes.as_slice(), outcomes.as_slice());
     assert_eq!(rt; script.steps.len(), 2);
     Ok(())
 }

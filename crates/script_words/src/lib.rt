@@ -17,13 +17,16 @@ ghost use Rattle.script_words.specs.declared.WordFault.TheVariants.{Bad, OutOfMe
 use hex::FromHex;
 use std::alloc::{AllocError, AllocFailed, Allocator};
 use std::str;
+use thiserror::Error;
 
 /// Why a word was not read.
-#[derive(Debug, Clone, Copy, PartialEq, Eq)]
+#[derive(Debug, Clone, Copy, PartialEq, Eq, Error)]
 pub enum WordFault {
     /// It spells nothing that may stand there.
+    #[error("bad word")]
     Bad,
     /// Memory was refused.
+    #[error("out of memory")]
     OutOfMemory,
 }
 

@@ -6,20 +6,16 @@ use Rattle.std.proofs.lemmas.List.{append_assoc, map-append, length-append}
 use Rattle.std.proofs.lemmas.List.Elements.{filter_map-append}
 use Rattle.std.proofs.lemmas.List.Sorted.{length_permutation, sum_by-IsPermutation}
 use Rattle.span_model.specs.Dropped.{Entry, Reason, count_of_reason}
-use Rattle.desk_model.specs.Desks.{DropCounts, capped, drop_counts, fate_counts}
+use Rattle.desk_model.specs.Desks.{capped, drop_counts, fate_counts}
 use Rattle.span_exporter.specs.Handed.{Handed, Gains}
 use Rattle.account_book.specs.Accounts.{Replaces}
 use Rattle.account_book.proofs.Facts.{sum_replaced, length_replaced, gathered_replaced, each_at, each_map, each_replaced, part_replaced}
 use Rattle.simple_processor.specs.Accounts.{SpanEnd, PassAccount, Rises, all_dropped, all_handed, all_popped, all_tickets, dropped_entries, dropped_entry, handed_span, handed_spans, late_count, shutdown_count, ticket_of, tickets}
-use Rattle.simple_processor.specs.Bodies.{attempt_in, attempt_of, fates_of}
-use Rattle.simple_processor.specs.Desk.{State, ticket_count}
+use Rattle.simple_processor.specs.Bodies.{attempt_in, attempt_of_span, fates_of}
+use Rattle.simple_processor.specs.Desk.{State, memory_drops, ticket_count}
 use Rattle.simple_processor.specs.Holders.{Origin, Holder, account_in, on_pass, pass, pass_account, pass_accounts}
 use Rattle.simple_processor.specs.Kept.{Agrees, IsOf, IsShared, Kept, numbers_below}
 use Rattle.simple_processor.proofs.Lists.{images_more, names_more, same_more, still-below}
-
--- drops for want of memory alone
-abbrev pub only : ℕ → DropCounts
-only n = record { queue_full = 0; encode_memory = n; too_large = 0; abandoned = 0 }
 
 abbrev pub closed_by : ℕ → ℕ → Bool
 closed_by count shutdowns = nat_lt 0 shutdowns || (count == 2 ^ 64 - 1)
@@ -37,7 +33,7 @@ pub record Step (told told' : Option (List Handed)) (s s' : State) (a b : PassAc
   pub late : b.late ≡ a.late + lates
   pub shutdowns : b.shutdowns ≡ a.shutdowns + shuts
   pub gains : Gains bodies told told'
-  pub sent : map attempt_of (filter_map handed_span es) ≡ map attempt_in bodies
+  pub sent : map attempt_of_span (filter_map handed_span es) ≡ map attempt_in bodies
   pub fates : (had : List Handed) → s.fates ≡ fate_counts (fates_of had) → s'.fates ≡ fate_counts (fates_of (had ++ bodies))
   pub handed : s'.handed ≡ s.handed + length (filter_map handed_span es)
   pub numbers : numbers_below (ticket_count s') ≡ numbers_below (ticket_count s) ++ map ticket_of es
@@ -45,7 +41,7 @@ pub record Step (told told' : Option (List Handed)) (s s' : State) (a b : PassAc
   pub below : (ts : List ℕ) → AllByRecursion (λ t. t < ticket_count s) ts → AllByRecursion (λ t. t < ticket_count s') (ts ++ map ticket_of es)
   pub rising : (ts : List ℕ) → AllByRecursion (λ t. t < ticket_count s) ts → Rises ts → Rises (ts ++ map ticket_of es)
   pub names : IsPermutation (filter_map dropped_entry es ++ s.ledger) (s'.ledger ++ ps)
-  pub dropped : (had : List Entry) → drop_counts had ≡ only s.dropped → drop_counts (had ++ filter_map dropped_entry es) ≡ only s'.dropped
+  pub dropped : (had : List Entry) → drop_counts had ≡ memory_drops s.dropped → drop_counts (had ++ filter_map dropped_entry es) ≡ memory_drops s'.dropped
   pub counted : (n : ℕ) → s.late ≡ capped n → s'.late ≡ capped (n + lates)
   pub late_if_closed : (n : ℕ) → (0 < n → s.closed ≡ true) → 0 < n + lates → s'.closed ≡ true
   pub closed : (n : ℕ) → s.closed ≡ closed_by (ticket_count s) n → s'.closed ≡ closed_by (ticket_count s') (n + shuts)
@@ -98,7 +94,7 @@ module _ (had told told' : Option (List Handed)) (s s' : State) (old new : List 
   count_is : length (all_handed new) ≡ length (all_handed old) + length (filter_map handed_span st.es)
   count_is = sym (length_permutation (all_handed new) (all_handed old ++ filter_map handed_span st.es) all_handed_is) ∙ length-append (all_handed old) (filter_map handed_span st.es)
 
-  drops_is : drop_counts (all_dropped new) ≡ only s'.dropped
+  drops_is : drop_counts (all_dropped new) ≡ memory_drops s'.dropped
   drops_is = sym (counts_permuted (all_dropped new) (all_dropped old ++ filter_map dropped_entry st.es) all_dropped_is) ∙ st.dropped (all_dropped old) k.dropped
 
   below_new : AllByRecursion (λ (x : PassAccount). AllByRecursion (λ t. t < ticket_count s') (tickets x)) new
@@ -119,7 +115,7 @@ module _ (had told told' : Option (List Handed)) (s s' : State) (old new : List 
   agrees_step = record {
     bodies = k.bodies ++ st.bodies;
     gains = gains_more k.bodies st.bodies had told told' k.gains st.gains;
-    sent = images_more attempt_of attempt_in (all_handed old) (all_handed new) (filter_map handed_span st.es) k.bodies st.bodies all_handed_is k.sent st.sent;
+    sent = images_more attempt_of_span attempt_in (all_handed old) (all_handed new) (filter_map handed_span st.es) k.bodies st.bodies all_handed_is k.sent st.sent;
     fates = st.fates k.bodies k.fates;
     handed = let e = count_is in let f = st.handed in let h = k.handed in omega arith;
     given_once = subst (λ (ns : List ℕ). IsPermutation (all_tickets new) ns) (sym st.numbers) (same_more (all_tickets old) (all_tickets new) (map ticket_of st.es) (numbers_below (ticket_count s)) all_tickets_is k.given_once);

@@ -13,7 +13,7 @@ use Rattle.span_exporter.specs.Handed.{Handed, Gains}
 use Rattle.account_book.specs.Accounts.{Replaces, Removes, Closes}
 use Rattle.account_book.proofs.Facts.{each_closed, each_removed, gathered_closed, length_removed, part_kept, sum_closed}
 use Rattle.simple_processor.specs.Accounts.{PassAccount, all_dropped, all_handed, all_popped, all_tickets, dropped_entries, handed_spans, late_count, new_account, shutdown_count, tickets}
-use Rattle.simple_processor.specs.Bodies.{attempt_in, attempt_of, fates_of, told_since}
+use Rattle.simple_processor.specs.Bodies.{attempt_in, attempt_of_span, fates_of, told_since}
 use Rattle.simple_processor.specs.Desk.{State, new_state, ticket_count}
 use Rattle.simple_processor.specs.Holders.{Origin, Holder, new_origin, pass, pass_account, pass_accounts, processor}
 use Rattle.simple_processor.specs.Kept.{Agrees, IsAccountOf, IsOf, Kept, given_tickets, is_closed, numbers_below}
@@ -38,7 +38,7 @@ agrees_new : (had : Option (List Handed)) (accounts : List PassAccount) → AllB
 agrees_new had accounts all = record {
   bodies = [];
   gains = gains_nothing had had refl;
-  sent = subst (λ (spans : List _). IsPermutation (map attempt_of spans) []) (sym (nothing_of handed_spans refl accounts all)) (IsPermutation-refl []);
+  sent = subst (λ (spans : List _). IsPermutation (map attempt_of_span spans) []) (sym (nothing_of handed_spans refl accounts all)) (IsPermutation-refl []);
   fates = refl;
   handed = ap length (sym (nothing_of handed_spans refl accounts all));
   given_once = subst (λ (ns : List ℕ). IsPermutation ns []) (sym (nothing_of tickets refl accounts all)) (IsPermutation-refl []);
@@ -101,7 +101,7 @@ agrees_closed had told s old done k c =
     record {
       bodies = k.bodies;
       gains = k.gains;
-      sent = IsPermutation-trans (map attempt_of (all_handed done)) (map attempt_of (all_handed old)) (map attempt_in k.bodies) (IsPermutation-map attempt_of (all_handed done) (all_handed old) spans) k.sent;
+      sent = IsPermutation-trans (map attempt_of_span (all_handed done)) (map attempt_of_span (all_handed old)) (map attempt_in k.bodies) (IsPermutation-map attempt_of_span (all_handed done) (all_handed old) spans) k.sent;
       fates = k.fates;
       handed = k.handed ∙ length_permutation (all_handed done) (all_handed old) spans;
       given_once = IsPermutation-trans (all_tickets done) (all_tickets old) (numbers_below (ticket_count s)) (same_elements tickets old done c) k.given_once;
@@ -151,8 +151,8 @@ module _ (had told : Option (List Handed)) (t : Totals) (ledger : List Entry) (a
   pub count_is : ticket_count x.state ≡ given_tickets t
   count_is = let a = x.totals.handed in let b = ap (λ d. d.encode_memory) x.totals.dropped in omega arith
 
-  pub spans_are : OnSome told (IsPermutation (map attempt_of (all_handed accounts)) (map attempt_in (told_since had told)))
-  spans_are = on_told (λ bodies. IsPermutation (map attempt_of (all_handed accounts)) (map attempt_in bodies)) had told x.agrees.bodies x.agrees.gains x.agrees.sent
+  pub spans_are : OnSome told (IsPermutation (map attempt_of_span (all_handed accounts)) (map attempt_in (told_since had told)))
+  spans_are = on_told (λ bodies. IsPermutation (map attempt_of_span (all_handed accounts)) (map attempt_in bodies)) had told x.agrees.bodies x.agrees.gains x.agrees.sent
 
   pub fates_are : OnSome told (fate_counts_view t.fates ≡ fate_counts (fates_of (told_since had told)))
   fates_are = on_told (λ bodies. fate_counts_view t.fates ≡ fate_counts (fates_of bodies)) had told x.agrees.bodies x.agrees.gains (x.totals.fates ∙ x.agrees.fates)

@@ -16,10 +16,10 @@ use Rattle.trace_api.specs.declared.pass.Ended.TheVariants as answers
 use Rattle.span_exporter.specs.Handed.{Handed, Gains}
 use Rattle.simple_processor.specs.Accounts.{handed, dropped, PassAccount, Rises, after_end, after_pop, after_shutdown, is_simple_answer}
 use Rattle.simple_processor.specs.Bodies.{fates_of}
-use Rattle.simple_processor.specs.Desk.{State, Answers, IsDropped, IsHanded, IsLate, Pops, is_last_ticket, ticket_count}
+use Rattle.simple_processor.specs.Desk.{State, Answers, IsDropped, IsHanded, IsLate, Pops, is_last_ticket, memory_drops, ticket_count}
 use Rattle.simple_processor.specs.Kept.{numbers_below}
 use Rattle.simple_processor.proofs.Lists.{below-more, rises-more, still-below}
-use Rattle.simple_processor.proofs.Agree.{Step, closed_by, only}
+use Rattle.simple_processor.proofs.Agree.{Step, closed_by}
 use Rattle.account_book.proofs.Facts.{each_append}
 
 pub gains_nothing : (told told' : Option (List Handed)) → told' ≡ told → Gains [] told told'
@@ -55,7 +55,7 @@ module _ (told told' : Option (List Handed)) (s s' : State) (a b : PassAccount) 
     below = λ ts all. subst (AllByRecursion (λ t. t < ticket_count s')) (sym (append-nil ts)) (still-below ts (ticket_count s) (ticket_count s') (let e = count_same in omega arith) all);
     rising = λ ts all r. subst Rises (sym (append-nil ts)) r;
     names = names;
-    dropped = λ had is. ap drop_counts (append-nil had) ∙ is ∙ ap only (sym dropped_same);
+    dropped = λ had is. ap drop_counts (append-nil had) ∙ is ∙ ap memory_drops (sym dropped_same);
     counted = counted;
     late_if_closed = late_if_closed;
     closed = λ n is. closed n is ∙ ap (λ (m : ℕ). closed_by m (n + shuts)) (sym count_same);
@@ -139,7 +139,7 @@ handed_step told told' s s' span ticket a h =
       below = λ ts all. each_append (λ t. t < ticket_count s') ts (ticket ∷ []) (still-below ts (ticket_count s) (ticket_count s') (let e = count in omega arith) all) ((let e = count in let f = h.is_next in omega arith), tt);
       rising = λ ts all r. rises-more ts ticket r (subst (λ (n : ℕ). AllByRecursion (λ t. t < n) ts) (sym h.is_next) all);
       names = subst (λ (es : List Entry). IsPermutation s.ledger es) (sym (append-nil s'.ledger ∙ ap (λ (x : State). x.ledger) h.state)) (IsPermutation-refl s.ledger);
-      dropped = λ had is. ap drop_counts (append-nil had) ∙ is ∙ ap only (sym (ap (λ (x : State). x.dropped) h.state));
+      dropped = λ had is. ap drop_counts (append-nil had) ∙ is ∙ ap memory_drops (sym (ap (λ (x : State). x.dropped) h.state));
       counted = λ n l. ap (λ (x : State). x.late) h.state ∙ l ∙ ap capped (sym (none_more n));
       late_if_closed = λ n was some. absurd (none-late s n h.admits was some);
       closed = λ n is. ap (λ (x : State). x.closed) h.state ∙ ap is_last_ticket h.is_next ∙ closes-last s (ticket_count s) n h.admits is ∙ ap (λ (m : ℕ). closed_by m (n + 0)) (sym count);
@@ -168,7 +168,7 @@ dropped_step told told' s s' span ticket a d =
       below = λ ts all. each_append (λ t. t < ticket_count s') ts (ticket ∷ []) (still-below ts (ticket_count s) (ticket_count s') (let e = count in omega arith) all) ((let e = count in let f = d.is_next in omega arith), tt);
       rising = λ ts all r. rises-more ts ticket r (subst (λ (n : ℕ). AllByRecursion (λ t. t < n) ts) (sym d.is_next) all);
       names = subst (λ (es : List Entry). IsPermutation (entry ∷ s.ledger) es) (sym (append-nil s'.ledger ∙ ap (λ (x : State). x.ledger) d.state)) (IsPermutation-refl (entry ∷ s.ledger));
-      dropped = λ had is. counts-more encode_memory had (with_ticket ticket span ∷ []) ∙ ap (with_drops encode_memory 1) is ∙ ap only (sym (ap (λ (x : State). x.dropped) d.state));
+      dropped = λ had is. counts-more encode_memory had (with_ticket ticket span ∷ []) ∙ ap (with_drops encode_memory 1) is ∙ ap memory_drops (sym (ap (λ (x : State). x.dropped) d.state));
       counted = λ n l. ap (λ (x : State). x.late) d.state ∙ l ∙ ap capped (sym (none_more n));
       late_if_closed = λ n was some. absurd (none-late s n d.admits was some);
       closed = λ n is. ap (λ (x : State). x.closed) d.state ∙ ap is_last_ticket d.is_next ∙ closes-last s (ticket_count s) n d.admits is ∙ ap (λ (m : ℕ). closed_by m (n + 0)) (sym count);

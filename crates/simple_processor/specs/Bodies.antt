@@ -15,8 +15,8 @@ pub record Attempt : Type 0 where
   pub meaning : Reading (List Triple)
 
 -- The one attempt of a span: under its ticket and 1, the first, with a body that means this span.
-abbrev pub attempt_of : EndedSpan → Attempt
-attempt_of span = record {
+abbrev pub attempt_of_span : EndedSpan → Attempt
+attempt_of_span span = record {
   number = span.ticket + 1;
   attempt = 1;
   meaning = done (grouped_triples (span ∷ []));

@@ -4,15 +4,16 @@ use Rattle.std.specs.Prelude.{◌≡◌, ℕ, ◌+◌, ◌-◌, ◌^◌, ◌<◌
 use Rattle.span_model.specs.Spans.{EndedSpan, with_ticket}
 use Rattle.span_model.specs.Dropped.{Entry, encode_memory, entry_of}
 use Rattle.retry_model.specs.Retries.{Fate, Outcome, fate_of, next_of}
-use Rattle.desk_model.specs.Desks.{FateCounts, capped, with_fate}
+use Rattle.desk_model.specs.Desks.{DropCounts, FateCounts, capped, no_drops, no_fates, with_fate}
 use Rattle.otlp_span.specs.declared.reason.Reason.TheVariants as reasons
 use Rattle.trace_api.specs.declared.pass.Ended.{Ended}
 use Rattle.trace_api.specs.declared.pass.Ended.TheVariants as answers
 use Rattle.batch_desk.specs.Counts.{fate_count}
-use Rattle.batch_desk.specs.Views.{drop_counts_view, fate_counts_view}
+use Rattle.drop_ledger.specs.Counts.{drop_counts_view}
+use Rattle.batch_desk.specs.Views.{fate_counts_view}
 use Rattle.batch_desk.specs.declared.totals.Totals.{Totals}
 use Rattle.span_exporter.specs.Handed.{Handed, Gains}
-use Rattle.simple_processor.specs.Bodies.{attempt_in, attempt_of}
+use Rattle.simple_processor.specs.Bodies.{attempt_in, attempt_of_span}
 
 -- The ledger, the newest entry first; how many spans were handed to the exporter, were dropped, and
 -- were late; whether none is admitted any more; and how the attempts ended.
@@ -36,15 +37,12 @@ new_state = record {
   dropped = 0;
   late = 0;
   closed = false;
-  fates = record {
-    delivered = 0;
-    partial = 0;
-    refused = 0;
-    bad_reply = 0;
-    given_up = 0;
-    abandoned = 0;
-  };
+  fates = no_fates;
 }
+
+-- so many were dropped, each for want of memory
+abbrev pub memory_drops : ℕ → DropCounts
+memory_drops n = record no_drops { encode_memory = n }
 
 -- how many tickets were given, which is the next one
 abbrev pub ticket_count : State → ℕ
@@ -66,7 +64,7 @@ pub record IsSent (told told' : Option (List Handed)) (span : EndedSpan) (outcom
     : Type 0 where
   pub body : Handed
   pub gains : Gains (body ∷ []) told told'
-  pub means : attempt_in body ≡ attempt_of span
+  pub means : attempt_in body ≡ attempt_of_span span
   pub answered : body.outcome ≡ outcome
 
 -- The span was handed to the exporter under the next ticket, and its attempt ended so.
@@ -125,11 +123,6 @@ pub record AreTotals (t : Totals) (s : State) : Type 0 where
   pub handed : t.handed ≡ s.handed
   pub left : t.left ≡ 0
   pub late : t.late ≡ s.late
-  pub dropped : drop_counts_view t.dropped ≡ record {
-    queue_full = 0;
-    encode_memory = s.dropped;
-    too_large = 0;
-    abandoned = 0;
-  }
+  pub dropped : drop_counts_view t.dropped ≡ memory_drops s.dropped
   pub fates : fate_counts_view t.fates ≡ s.fates
   pub closed : t.closed ≡ s.closed

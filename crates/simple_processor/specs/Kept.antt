@@ -5,8 +5,8 @@ use Rattle.span_model.specs.Dropped.{Entry}
 use Rattle.desk_model.specs.Desks.{capped, drop_counts, fate_counts}
 use Rattle.span_exporter.specs.Handed.{Handed, Gains}
 use Rattle.simple_processor.specs.Accounts.{PassAccount, Rises, all_dropped, all_handed, all_popped, all_tickets, late_count, shutdown_count, tickets}
-use Rattle.simple_processor.specs.Bodies.{attempt_in, attempt_of, fates_of}
-use Rattle.simple_processor.specs.Desk.{State, AreTotals, ticket_count}
+use Rattle.simple_processor.specs.Bodies.{attempt_in, attempt_of_span, fates_of}
+use Rattle.simple_processor.specs.Desk.{State, AreTotals, memory_drops, ticket_count}
 use Rattle.batch_desk.specs.declared.totals.Totals.{Totals}
 use Rattle.simple_processor.specs.Holders.{Origin, Holder, processor, pass, pass_accounts}
 
@@ -29,7 +29,7 @@ pub record Agrees (had told : Option (List Handed)) (s : State) (accounts : List
     : Type 0 where
   pub bodies : List Handed
   pub gains : Gains bodies had told
-  pub sent : IsPermutation (map attempt_of (all_handed accounts)) (map attempt_in bodies)
+  pub sent : IsPermutation (map attempt_of_span (all_handed accounts)) (map attempt_in bodies)
   pub fates : s.fates ≡ fate_counts (fates_of bodies)
   pub handed : s.handed ≡ length (all_handed accounts)
   pub given_once : IsPermutation (all_tickets accounts) (numbers_below (ticket_count s))
@@ -37,12 +37,7 @@ pub record Agrees (had told : Option (List Handed)) (s : State) (accounts : List
       (λ (a : PassAccount). AllByRecursion (λ t. t < ticket_count s) (tickets a)) accounts
   pub rising : AllByRecursion (λ (a : PassAccount). Rises (tickets a)) accounts
   pub names : IsPermutation (all_dropped accounts) (s.ledger ++ all_popped accounts)
-  pub dropped : drop_counts (all_dropped accounts) ≡ record {
-    queue_full = 0;
-    encode_memory = s.dropped;
-    too_large = 0;
-    abandoned = 0;
-  }
+  pub dropped : drop_counts (all_dropped accounts) ≡ memory_drops s.dropped
   pub late : s.late ≡ capped (late_count accounts)
   pub late_if_closed : 0 < late_count accounts → s.closed ≡ true
   pub closed : s.closed ≡ is_closed (ticket_count s) accounts

@@ -8,8 +8,8 @@ ghost use Rattle.simple_processor.specs.Desk.{Answers, AreTotals, IsSent, Pops, 
 
 use crate::encoder::Encoder;
 use crate::processor::SimpleAccounts;
-use batch_desk::{DropCounts, FateCounts, Totals};
-use drop_ledger::Ledger;
+use batch_desk::{FateCounts, Totals};
+use drop_ledger::{DropCounts, Ledger};
 use otlp_ids::OutOfMemory;
 use otlp_span::{Entry, Reason, SpanData};
 use retry_core::{Fate, Outcome, RetryConfig, decide};
@@ -145,10 +145,8 @@ impl<E: Exporter, A: Allocator + Copy> Desk<E, A> {
             left: 0,
             late,
             dropped: DropCounts {
-                queue_full: 0,
                 encode_memory: dropped,
-                too_large: 0,
-                abandoned: 0,
+                ..DropCounts::new()
             },
             fates,
             closed,

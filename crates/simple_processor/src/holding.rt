@@ -5,6 +5,7 @@ use account_book::{Blank, Book, Change, Naming, Opening};
 use otlp_span::{Entry, SpanData};
 use span_exporter::Exporter;
 use std::alloc::Allocator;
+use std::fmt;
 use std::marker::{Model, PhantomData};
 use std::snapshot::Snapshot;
 use trace_api::Ended;
@@ -110,6 +111,20 @@ impl Model for SimpleBlank {
     ghost Value = { ℕ };
 
     ghost view = { λ b. b.blank };
+}
+
+/// Writes the name of the type alone, since a blank has no bytes.
+impl fmt::Debug for SimpleBlank {
+    fn fmt<W: fmt::Write>(&self, f: &mut fmt::Formatter<W>) -> fmt::Result {
+        f.debug_struct("SimpleBlank").finish_non_exhaustive()
+    }
+}
+
+impl Default for SimpleBlank {
+    /// As `SimpleBlank::new`.
+    fn default() -> SimpleBlank {
+        SimpleBlank::new()
+    }
 }
 
 impl SimpleBlank {

@@ -9,6 +9,7 @@ use account_book::{Account, Naming};
 use otlp_span::{Entry, SpanData};
 use span_exporter::Exporter;
 use std::alloc::{Allocator, Global};
+use std::fmt;
 use std::marker::Model;
 use std::sync::{Arc, Mutex, Wait};
 use trace_api::{EndPass, Ended};
@@ -39,6 +40,13 @@ impl<J: Naming, E: Exporter, R, A: Allocator> Model for SimplePass<J, E, R, A> {
     ghost view = { λ p. account_in p.account };
 
     ghost invariant = { λ p. p.account ≡ pass (account_in p.account) };
+}
+
+/// Writes the name of the type alone: what a pass shares lies under the lock, and isn't looked at.
+impl<J: Naming, E: Exporter, R, A: Allocator> fmt::Debug for SimplePass<J, E, R, A> {
+    fn fmt<W: fmt::Write>(&self, f: &mut fmt::Formatter<W>) -> fmt::Result {
+        f.debug_struct("SimplePass").finish_non_exhaustive()
+    }
 }
 
 impl<J: Naming, E: Exporter, R: Wait, A: Allocator + Copy> SimplePass<J, E, R, A> {

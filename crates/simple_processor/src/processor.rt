@@ -3,9 +3,10 @@ ghost use Rattle.std.specs.Prelude.{◌≡◌, ◌-◌, ◌^◌, ◌<◌, ◌≤
 ghost use Rattle.std.specs.List.{AllByRecursion};
 ghost use Rattle.span_exporter.specs.Handed.{Gains};
 ghost use Rattle.desk_model.specs.Desks.{capped, drop_counts, fate_counts};
-ghost use Rattle.batch_desk.specs.Views.{drop_counts_view, fate_counts_view};
+ghost use Rattle.drop_ledger.specs.Counts.{drop_counts_view};
+ghost use Rattle.batch_desk.specs.Views.{fate_counts_view};
 ghost use Rattle.simple_processor.specs.Accounts.{PassAccount, Rises, all_dropped, all_handed, all_popped, all_tickets, late_count, new_account, shutdown_count, tickets};
-ghost use Rattle.simple_processor.specs.Bodies.{attempt_in, attempt_of, fates_of, told_since};
+ghost use Rattle.simple_processor.specs.Bodies.{attempt_in, attempt_of_span, fates_of, told_since};
 ghost use Rattle.simple_processor.specs.Holders.{pass};
 ghost use Rattle.simple_processor.specs.Kept.{given_tickets, is_closed, numbers_below};
 ghost use Rattle.simple_processor.specs.declared.processor.TheConstants.{MAX_PASSES};
@@ -21,12 +22,16 @@ use batch_desk::Totals;
 use drop_ledger::Ledger;
 use span_exporter::Exporter;
 use std::alloc::{AllocError, Allocator, Global};
+use std::fmt;
 use std::marker::Model;
 use std::snapshot::Snapshot;
 use std::sync::{Arc, Mutex, Wait};
 
 /// The most passes that a processor may have (profile).
 pub const MAX_PASSES: usize = 64;
+
+// No clause says the number itself.
+const _: () = prove!(MAX_PASSES == 64);
 
 /// A simple processor (Trace SDK, "Simple processor"): an exporter that threads share under a lock,
 /// each by a pass of its own. In contracts it is what it began with: how many passes it has, and
@@ -51,8 +56,18 @@ impl<J: Naming, E: Exporter, R, A: Allocator> Model for SimpleProcessor<J, E, R,
         × (p.passes ≡ (origin_in p.account).passes) };
 }
 
+/// Writes how many passes there are. What lies under the lock isn't looked at.
+impl<J: Naming, E: Exporter, R, A: Allocator> fmt::Debug for SimpleProcessor<J, E, R, A> {
+    fn fmt<W: fmt::Write>(&self, f: &mut fmt::Formatter<W>) -> fmt::Result {
+        f.debug_struct("SimpleProcessor")
+            .field("passes", &self.passes)
+            .finish_non_exhaustive()
+    }
+}
+
 /// A new processor, and its passes.
 #[derive(Drop)]
+#[derive_where(Debug)]
 pub struct SimpleParts<J: Naming, E: Exporter, R, A: Allocator = Global> {
     /// The processor.
     pub processor: SimpleProcessor<J, E, R, A>,
@@ -62,6 +77,7 @@ pub struct SimpleParts<J: Naming, E: Exporter, R, A: Allocator = Global> {
 
 /// What a processor comes to.
 #[derive(Drop)]
+#[derive_where(Debug; E)]
 pub struct SimpleAccounts<E, A: Allocator = Global> {
     /// The exporter.
     pub exporter: E,
@@ -74,6 +90,7 @@ pub struct SimpleAccounts<E, A: Allocator = Global> {
 
 /// A pass is missing: all that was to be closed out.
 #[derive(Drop)]
+#[derive_where(Debug)]
 pub struct SimpleMissing<J: Naming, E: Exporter, R, A: Allocator = Global> {
     /// The processor, as it was.
     pub processor: SimpleProcessor<J, E, R, A>,
@@ -159,7 +176,7 @@ impl<J: Naming, E: Exporter, R: Wait + Copy, A: Allocator + Copy> SimpleProcesso
         ensures keeps { IfOk result (λ a.
             Gains (told_since self.had (E.handed a.exporter)) self.had (E.handed a.exporter)) }
         ensures spans { IfOk result (λ a. OnSome (E.handed a.exporter)
-            (IsPermutation (map attempt_of (all_handed passes.items))
+            (IsPermutation (map attempt_of_span (all_handed passes.items))
             (map attempt_in (told_since self.had (E.handed a.exporter))))) }
         ensures fates { IfOk result (λ a. OnSome (E.handed a.exporter)
             (fate_counts_view a.totals.fates

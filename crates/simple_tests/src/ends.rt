@@ -2,7 +2,7 @@
 ghost use Rattle.std.specs.Prelude.{◌≡◌};
 
 use crate::fixture::{END, assert_handed, exporter, root, sampled};
-use batch_desk::{DropCounts, FateCounts, Totals};
+use batch_desk::{FateCounts, Totals};
 use otlp_sampler::AlwaysOff;
 use retry_core::Outcome;
 use simple_processor::{
@@ -26,25 +26,6 @@ const OUTCOMES: [Outcome; 6] = [
     Outcome::NoReply,
     Outcome::Bad,
 ];
-
-/// The totals of a processor to which nothing happened.
-fn nothing() -> Totals {
-    Totals {
-        accepted: 0,
-        taken: 0,
-        handed: 0,
-        left: 0,
-        late: 0,
-        dropped: DropCounts {
-            queue_full: 0,
-            encode_memory: 0,
-            too_large: 0,
-            abandoned: 0,
-        },
-        fates: FateCounts::new(),
-        closed: false,
-    }
-}
 
 /// Hands over a span for each outcome: each is sent once, and ends as that one attempt says.
 fn count_outcomes<J: Naming, R: Wait + Abort + Copy>(rt: R, alloc: Global, blank: SimpleBlank)
@@ -78,7 +59,7 @@ fn count_outcomes<J: Naming, R: Wait + Abort + Copy>(rt: R, alloc: Global, blank
             given_up: 2,
             abandoned: 0,
         },
-        ..nothing()
+        ..Totals::default()
     };
     assert_eq!(rt; accounts.totals, want);
 }
@@ -128,10 +109,10 @@ fn shut_down<J: Naming, R: Wait + Abort + Copy>(rt: R, alloc: Global, blank: Sim
         late: 2,
         fates: FateCounts {
             delivered: 1,
-            ..FateCounts::new()
+            ..FateCounts::default()
         },
         closed: true,
-        ..nothing()
+        ..Totals::default()
     };
     assert_eq!(rt; accounts.totals, want);
 }

@@ -63,7 +63,7 @@ pub(crate) fn sampled<A: Allocator + Copy>(rt: &impl Abort, alloc: A) -> Span<A>
     root(rt, alloc, AlwaysOn)
 }
 
-/// An exporter that answers these outcomes.
+/// An exporter that gives these outcomes.
 pub(crate) fn exporter<A: Allocator + Copy>(
     rt: &impl Abort,
     alloc: A,

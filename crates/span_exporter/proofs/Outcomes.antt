@@ -1,4 +1,4 @@
--- What is cited of outcomes that are answered one after the other.
+-- What is cited of outcomes that are given one after the other.
 use Rattle.std.proofs.Common.{◌≡◌, ℕ, zero, suc, ◌+◌, ◌<◌, List, [], ◌∷◌, map, drop, length, get_or, add-one, ap, sym, arith}
 
 first_of : {T U : Type 0} (view : T → U) (xs : List T) (n : ℕ) (x : T) → n < length xs

@@ -4,7 +4,7 @@ use Rattle.retry_model.specs.Retries.{Outcome}
 use Rattle.span_exporter.specs.Handed.{Handed}
 use Rattle.span_exporter.specs.Room.{Room}
 
--- what it was handed, what it answers next, and its room
+-- what it was handed, the outcomes that come next, and its room
 pub record Memory : Type 0 where
   pub handed : List Handed
   pub outcomes : List Outcome

@@ -31,7 +31,7 @@ pub trait Exporter {
         ensures refused { OnErr result (self.new ≡ self.old) };
 
     /// Attempts to send a body, for which there is room: the batch's number, which attempt of this
-    /// batch it is, from 1 on, and the bytes. The answer is what came of it. It takes up the room
+    /// batch it is, from 1 on, and the bytes. The outcome is what came of it. It takes up the room
     /// of one attempt. (Trace SDK, "Export(batch)")
     fn export(&mut self, number: u64, attempt: u32, body: &[u8]) -> Outcome
         requires { 0 < room self.old (length body.now) }

@@ -2,9 +2,9 @@
 //! once for each attempt to send it.
 #![tactic(auto)]
 
-mod answers;
 mod exporter;
 mod handed;
+mod listed;
 mod memory;
 mod room;
 

@@ -6,22 +6,22 @@ ghost use Rattle.span_exporter.specs.Memory.{next_outcome};
 ghost use Rattle.span_exporter.specs.Room.{room_for};
 ghost use Rattle.span_exporter.specs.Views.{handed_view};
 
-use crate::answers::Answers;
 use crate::exporter::Exporter;
 use crate::handed::Handed;
+use crate::listed::ListedOutcomes;
 use crate::room::Room;
 use otlp_ids::OutOfMemory;
 use retry_core::Outcome;
 use std::alloc::{Allocator, Global};
 use std::marker::Model;
 
-/// Keeps what it is handed, and answers listed outcomes. It sends nothing, so it is for tests, and
+/// Keeps what it is handed, and gives listed outcomes. It sends nothing, so it is for tests, and
 /// for programs that look at their own batches.
 #[derive(Drop)]
 #[derive_where(Debug)]
 pub struct MemoryExporter<A: Allocator = Global> {
     handed: Vec<Handed<A>, A>,
-    answers: Answers<A>,
+    outcomes: ListedOutcomes<A>,
     room: Room<A>,
 }
 
@@ -34,7 +34,7 @@ impl<A: Allocator> Model for MemoryExporter<A> {
 
     ghost view = { λ m. record {
       handed = map handed_view m.handed.items;
-      outcomes = m.answers;
+      outcomes = m.outcomes;
       room = m.room;
     } };
 
@@ -43,8 +43,8 @@ impl<A: Allocator> Model for MemoryExporter<A> {
 }
 
 impl<A: Allocator + Copy> MemoryExporter<A> {
-    /// Was handed nothing yet, and has room for nothing. It answers these outcomes, the first one
-    /// first, and then always `Delivered`. It takes no memory.
+    /// Was handed nothing yet, and has room for nothing. Its attempts have these outcomes, the
+    /// first one first, and then always `Delivered`. It takes no memory.
     pub fn new(alloc: A, outcomes: Vec<Outcome, A>) -> MemoryExporter<A>
         ensures { result ≡ record {
           handed = [];
@@ -54,7 +54,7 @@ impl<A: Allocator + Copy> MemoryExporter<A> {
     {
         MemoryExporter {
             handed: Vec::new(alloc),
-            answers: Answers::new(outcomes),
+            outcomes: ListedOutcomes::new(outcomes),
             room: Room::none(alloc),
         }
     }
@@ -95,7 +95,7 @@ impl<A: Allocator + Copy> Exporter for MemoryExporter<A> {
         Ok(())
     }
 
-    /// Keeps what it is handed, and answers the next outcome. It takes no memory.
+    /// Keeps what it is handed, and gives the next outcome. It takes no memory.
     fn export(&mut self, number: u64, attempt: u32, body: &[u8]) -> Outcome
         requires { 0 < room_for self.old.room (length body.now) }
         ensures handed { self.new.handed ≡
@@ -106,7 +106,7 @@ impl<A: Allocator + Copy> Exporter for MemoryExporter<A> {
             room_for self.old.room len ≤ room_for self.new.room len + 1 }
     {
         let body = self.room.fill(body);
-        let outcome = self.answers.next();
+        let outcome = self.outcomes.next();
         self.handed.push_reserved(Handed {
             number,
             attempt,

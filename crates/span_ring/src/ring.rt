@@ -11,6 +11,9 @@ use std::marker::Model;
 /// The most items that a ring may have room for (profile).
 pub const MAX_QUEUE: usize = 65_536;
 
+// No clause says the number itself.
+const _: () = prove!(MAX_QUEUE == 65_536);
+
 /// A bounded ring of items, which leave it in runs, first come, first out.
 ///
 /// At most `queue` items wait in it, and a run takes at most `batch` of them. One run may be out at

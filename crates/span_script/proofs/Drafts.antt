@@ -18,7 +18,7 @@ use Rattle.span_script.specs.declared.sampler.SamplerName.{SamplerName}
 use Rattle.trace_history.specs.declared.step.Step.{Step as CodeStep}
 use Rattle.span_script.specs.declared.draft.Draft.{Draft}
 use Rattle.trace_history.specs.Steps.{step_view}
-use Rattle.span_script.specs.Lines.{words, sampler, limits, desk, resource, scope, scope_attribute, answer, step}
+use Rattle.span_script.specs.Lines.{words, sampler, limits, desk, resource, scope, scope_attribute, outcome, step}
 use Rattle.span_script.specs.declared.scope.ScopeDraft.{ScopeDraft}
 use Rattle.span_script.specs.Scripts.{Script, all_kept, with_attributes}
 use Rattle.span_script.specs.Drafts.{Holds, scope_draft_view, scope_draft, no_items, set_on, with_line}
@@ -27,25 +27,25 @@ pub add_words : {A : Type 0} (d : Draft A) (after : Vec ℕ A) (s : Script) (mor
     → (t : Script) × (with_line s (words more) ≡ Some t) × Holds (record d { words = after }) t
 unfolding with_line
 add_words d after s more first e h =
-    (record s { words = s.words ++ more }, rw first refl, record { words = e ∙ ap (λ l. l ++ more) h.words; sampler = h.sampler; limits = h.limits; desk = h.desk; resource_limits = h.resource_limits; resource = h.resource; scopes = h.scopes; answers = h.answers; steps = h.steps })
+    (record s { words = s.words ++ more }, rw first refl, record { words = e ∙ ap (λ l. l ++ more) h.words; sampler = h.sampler; limits = h.limits; desk = h.desk; resource_limits = h.resource_limits; resource = h.resource; scopes = h.scopes; outcomes = h.outcomes; steps = h.steps })
 
 pub set_sampler : {A : Type 0} (d : Draft A) (s : Script) (name : SamplerName) → no_items s.steps ≡ true → is_some s.sampler ≡ false → Holds d s
     → (t : Script) × (with_line s (sampler name) ≡ Some t) × Holds (record d { sampler = Some name }) t
 unfolding with_line
 set_sampler d s name first none h =
-    (record s { sampler = Some name }, rw (first, none) refl, record { words = h.words; sampler = refl; limits = h.limits; desk = h.desk; resource_limits = h.resource_limits; resource = h.resource; scopes = h.scopes; answers = h.answers; steps = h.steps })
+    (record s { sampler = Some name }, rw (first, none) refl, record { words = h.words; sampler = refl; limits = h.limits; desk = h.desk; resource_limits = h.resource_limits; resource = h.resource; scopes = h.scopes; outcomes = h.outcomes; steps = h.steps })
 
 pub set_limits : {A : Type 0} (d : Draft A) (s : Script) (values : SpanLimits) → no_items s.steps ≡ true → is_some s.limits ≡ false → Holds d s
     → (t : Script) × (with_line s (limits (limits_view values)) ≡ Some t) × Holds (record d { limits = Some values }) t
 unfolding with_line
 set_limits d s values first none h =
-    (record s { limits = Some (limits_view values) }, rw (first, none) refl, record { words = h.words; sampler = h.sampler; limits = refl; desk = h.desk; resource_limits = h.resource_limits; resource = h.resource; scopes = h.scopes; answers = h.answers; steps = h.steps })
+    (record s { limits = Some (limits_view values) }, rw (first, none) refl, record { words = h.words; sampler = h.sampler; limits = refl; desk = h.desk; resource_limits = h.resource_limits; resource = h.resource; scopes = h.scopes; outcomes = h.outcomes; steps = h.steps })
 
 pub set_desk : {A : Type 0} (d : Draft A) (s : Script) (config : DeskConfig) → no_items s.steps ≡ true → is_some s.desk ≡ false → Holds d s
     → (t : Script) × (with_line s (desk (config_view config)) ≡ Some t) × Holds (record d { desk = Some config }) t
 unfolding with_line
 set_desk d s config first none h =
-    (record s { desk = Some (config_view config) }, rw (first, none) refl, record { words = h.words; sampler = h.sampler; limits = h.limits; desk = refl; resource_limits = h.resource_limits; resource = h.resource; scopes = h.scopes; answers = h.answers; steps = h.steps })
+    (record s { desk = Some (config_view config) }, rw (first, none) refl, record { words = h.words; sampler = h.sampler; limits = h.limits; desk = refl; resource_limits = h.resource_limits; resource = h.resource; scopes = h.scopes; outcomes = h.outcomes; steps = h.steps })
 
 pub add_attribute : {A : Type 0} (d : Draft A) (after : AttributeList) (s : Script) (p : attributes.Attribute) → no_items s.steps ≡ true → SetsPair p d.resource after → Holds d s
     → (t : Script) × (with_line s (resource p) ≡ Some t) × Holds (record d { resource = after }) t
@@ -61,7 +61,7 @@ add_attribute d after s p first set h = (
     resource_limits = set.limits ∙ h.resource_limits;
     resource = rw h.resource_limits at (set.value s.resource (rw h.resource_limits h.resource));
     scopes = h.scopes;
-    answers = h.answers;
+    outcomes = h.outcomes;
     steps = h.steps;
   },
 )
@@ -88,7 +88,7 @@ add_scope d after s number x more first next is e h = (
         ap (map scope_draft_view) e ∙ map_push scope_draft_view d.scopes.items more ∙ ap (λ y. map scope_draft_view d.scopes.items ++ y ∷ []) is
         ∙ ap (λ l. l ++ scope_draft (with_attributes [] x) ∷ []) h.scopes
         ∙ sym (map_push scope_draft s.scopes (with_attributes [] x));
-    answers = h.answers;
+    outcomes = h.outcomes;
     steps = h.steps;
   },
 )
@@ -143,17 +143,17 @@ add_scope_attribute d after s n c list p first found set e h =
         resource_limits = h.resource_limits;
         resource = h.resource;
         scopes = ap (map scope_draft_view) e ∙ set_there d.scopes.items s.scopes n c list p found h.scopes set;
-        answers = h.answers;
+        outcomes = h.outcomes;
         steps = h.steps;
       },
     )
 
-pub add_answer : {A : Type 0} (d : Draft A) (after : Vec Outcome A) (s : Script) (more : Outcome)
-    → after.items ≡ d.answers.items ++ more ∷ [] → Holds d s
-    → (t : Script) × (with_line s (answer (outcome_view more)) ≡ Some t) × Holds (record d { answers = after }) t
+pub add_outcome : {A : Type 0} (d : Draft A) (after : Vec Outcome A) (s : Script) (more : Outcome)
+    → after.items ≡ d.outcomes.items ++ more ∷ [] → Holds d s
+    → (t : Script) × (with_line s (outcome (outcome_view more)) ≡ Some t) × Holds (record d { outcomes = after }) t
 unfolding with_line
-add_answer d after s more e h = (
-  record s { answers = s.answers ++ outcome_view more ∷ [] },
+add_outcome d after s more e h = (
+  record s { outcomes = s.outcomes ++ outcome_view more ∷ [] },
   refl,
   record {
     words = h.words;
@@ -163,7 +163,7 @@ add_answer d after s more e h = (
     resource_limits = h.resource_limits;
     resource = h.resource;
     scopes = h.scopes;
-    answers = ap (map outcome_view) e ∙ map_push outcome_view d.answers.items more ∙ ap (λ l. l ++ outcome_view more ∷ []) h.answers;
+    outcomes = ap (map outcome_view) e ∙ map_push outcome_view d.outcomes.items more ∙ ap (λ l. l ++ outcome_view more ∷ []) h.outcomes;
     steps = h.steps;
   },
 )
@@ -183,7 +183,7 @@ add_step d after s more e h = (
     resource_limits = h.resource_limits;
     resource = h.resource;
     scopes = h.scopes;
-    answers = h.answers;
+    outcomes = h.outcomes;
     steps = ap (map step_view) e ∙ map_push step_view d.steps.items more ∙ ap (λ l. l ++ step_view more ∷ []) h.steps;
   },
 )

@@ -8,8 +8,8 @@ use Rattle.std.proofs.lemmas.List.Elements.{filter_map-append}
 use Rattle.std.proofs.lemmas.List.Concat.{flat_map-append}
 use Rattle.span_model.specs.Attributes as attributes
 use Rattle.span_model.specs.Spans as spans
-use Rattle.span_script.specs.Lines.{Line, words, sampler, limits, desk, resource, scope, scope_attribute, answer, step}
-use Rattle.span_script.specs.Scripts.{with_attributes, is_step, is_setting, words_in, sampler_in, limits_in, desk_in, attribute_in, scope_in, attribute_on, answer_in, step_in, settings_first, at_most_one, numbered_from, on_scopes_before, is_script, first_of, scopes_of, contents_of}
+use Rattle.span_script.specs.Lines.{Line, words, sampler, limits, desk, resource, scope, scope_attribute, outcome, step}
+use Rattle.span_script.specs.Scripts.{with_attributes, is_step, is_setting, words_in, sampler_in, limits_in, desk_in, attribute_in, scope_in, attribute_on, outcome_in, step_in, settings_first, at_most_one, numbered_from, on_scopes_before, is_script, first_of, scopes_of, contents_of}
 use Rattle.span_script.specs.Drafts.{no_items, fits, set_on, extended_script}
 
 -- ---- truth values
@@ -86,7 +86,7 @@ others_last (desk c ∷ ls) l e = others_last ls l e
 others_last (resource p ∷ ls) l e = others_last ls l e
 others_last (scope n x ∷ ls) l e = others_last ls l e
 others_last (scope_attribute n p ∷ ls) l e = others_last ls l e
-others_last (answer o ∷ ls) l e = others_last ls l e
+others_last (outcome o ∷ ls) l e = others_last ls l e
 others_last (step x ∷ ls) l e = all_last ls l ∙ ap (λ b. list_all may_follow ls && not b) e ∙ and_true (list_all may_follow ls)
 
 setting_last : (ls : List Line) (l : Line) → is_setting l ≡ true → settings_first (ls ++ l ∷ []) ≡ (settings_first ls && no_items (filter_map step_in ls))
@@ -98,7 +98,7 @@ setting_last (desk c ∷ ls) l e = setting_last ls l e
 setting_last (resource p ∷ ls) l e = setting_last ls l e
 setting_last (scope n x ∷ ls) l e = setting_last ls l e
 setting_last (scope_attribute n p ∷ ls) l e = setting_last ls l e
-setting_last (answer o ∷ ls) l e = setting_last ls l e
+setting_last (outcome o ∷ ls) l e = setting_last ls l e
 setting_last (step x ∷ ls) l e = all_last ls l ∙ ap (λ b. list_all may_follow ls && not b) e
 
 two_if_some : {X : Type 0} (xs : List X) (x : X) → at_most_one (xs ++ x ∷ []) ≡ no_items xs
@@ -126,7 +126,7 @@ before_last n (scope m x ∷ ls) l = before_last (n + 1) ls l ∙ ap (λ k. on_s
 before_last n (scope_attribute m p ∷ ls) l =
     ap (λ b. ltb m n && b) (before_last n ls l)
     ∙ and_assoc (ltb m n) (on_scopes_before n ls) (on_scopes_before (n + length (filter_map scope_in ls)) (l ∷ []))
-before_last n (answer o ∷ ls) l = before_last n ls l
+before_last n (outcome o ∷ ls) l = before_last n ls l
 before_last n (step x ∷ ls) l = before_last n ls l
 
 -- no attribute of a scope is added
@@ -180,8 +180,8 @@ is_last ls (scope_attribute n p) =
     let l = scope_attribute n p in
     rw (setting_last ls l refl, none_more sampler_in ls l refl, none_more limits_in ls l refl, none_more desk_in ls l refl, none_more scope_in ls l refl, before_last 0 ls l, scope_count ls)
     (behind (settings_first ls) (no_items (filter_map step_in ls)) (at_most_one (filter_map sampler_in ls)) _ _ _ (behind (settings_first ls) (no_items (filter_map step_in ls)) (at_most_one (filter_map limits_in ls)) _ _ _ (behind (settings_first ls) (no_items (filter_map step_in ls)) (at_most_one (filter_map desk_in ls)) _ _ _ (behind (settings_first ls) (no_items (filter_map step_in ls)) (numbered_from 0 (filter_map scope_in ls)) _ _ _ (behind_others (settings_first ls) (no_items (filter_map step_in ls)) (on_scopes_before 0 ls) _)))))
-is_last ls (answer o) =
-    let l = answer o in
+is_last ls (outcome o) =
+    let l = outcome o in
     rw (others_last ls l refl, none_more sampler_in ls l refl, none_more limits_in ls l refl, none_more desk_in ls l refl, none_more scope_in ls l refl, same_before ls l refl)
     (sym (and_true (is_script ls)))
 is_last ls (step x) =
@@ -219,7 +219,7 @@ nothing_on m n (scope_attribute k p ∷ ls) e h =
     let both = and_parts (ltb k m) (on_scopes_before m ls) e in
     let small : k < m = ltb-true k m both.0 in
     rw (ne_eqb k n (λ same. omega (arith, small, same, h))) (nothing_on m n ls both.1 h)
-nothing_on m n (answer o ∷ ls) e h = nothing_on m n ls e h
+nothing_on m n (outcome o ∷ ls) e h = nothing_on m n ls e h
 nothing_on m n (step x ∷ ls) e h = nothing_on m n ls e h
 
 record ScopesPlaced (ls : List Line) : Type 0 where
@@ -296,32 +296,32 @@ next_attribute ls k p numbers =
 pub contents_last : (ls : List Line) (l : Line) → is_script ls ≡ true → fits (contents_of ls) l ≡ true → contents_of (ls ++ l ∷ []) ≡ extended_script (contents_of ls) l
 contents_last ls (words ws) is e =
     let l = words ws in
-    rw (words_more ls l, none_more sampler_in ls l refl, none_more limits_in ls l refl, none_more desk_in ls l refl, none_more attribute_in ls l refl, same_scopes ls l refl (λ n. refl), none_more answer_in ls l refl, none_more step_in ls l refl) refl
+    rw (words_more ls l, none_more sampler_in ls l refl, none_more limits_in ls l refl, none_more desk_in ls l refl, none_more attribute_in ls l refl, same_scopes ls l refl (λ n. refl), none_more outcome_in ls l refl, none_more step_in ls l refl) refl
 contents_last ls (sampler name) is e =
     let l = sampler name in
     let only = first_last (filter_map sampler_in ls) name (and_parts _ _ e).1 in
-    rw (no_words_more ls l refl, one_more sampler_in ls l name refl, only, none_more limits_in ls l refl, none_more desk_in ls l refl, none_more attribute_in ls l refl, same_scopes ls l refl (λ n. refl), none_more answer_in ls l refl, none_more step_in ls l refl) refl
+    rw (no_words_more ls l refl, one_more sampler_in ls l name refl, only, none_more limits_in ls l refl, none_more desk_in ls l refl, none_more attribute_in ls l refl, same_scopes ls l refl (λ n. refl), none_more outcome_in ls l refl, none_more step_in ls l refl) refl
 contents_last ls (limits x) is e =
     let l = limits x in
     let only = first_last (filter_map limits_in ls) x (and_parts _ _ e).1 in
-    rw (no_words_more ls l refl, none_more sampler_in ls l refl, one_more limits_in ls l x refl, only, none_more desk_in ls l refl, none_more attribute_in ls l refl, same_scopes ls l refl (λ n. refl), none_more answer_in ls l refl, none_more step_in ls l refl) refl
+    rw (no_words_more ls l refl, none_more sampler_in ls l refl, one_more limits_in ls l x refl, only, none_more desk_in ls l refl, none_more attribute_in ls l refl, same_scopes ls l refl (λ n. refl), none_more outcome_in ls l refl, none_more step_in ls l refl) refl
 contents_last ls (desk c) is e =
     let l = desk c in
     let only = first_last (filter_map desk_in ls) c (and_parts _ _ e).1 in
-    rw (no_words_more ls l refl, none_more sampler_in ls l refl, none_more limits_in ls l refl, one_more desk_in ls l c refl, only, none_more attribute_in ls l refl, same_scopes ls l refl (λ n. refl), none_more answer_in ls l refl, none_more step_in ls l refl) refl
+    rw (no_words_more ls l refl, none_more sampler_in ls l refl, none_more limits_in ls l refl, one_more desk_in ls l c refl, only, none_more attribute_in ls l refl, same_scopes ls l refl (λ n. refl), none_more outcome_in ls l refl, none_more step_in ls l refl) refl
 contents_last ls (resource p) is e =
     let l = resource p in
-    rw (no_words_more ls l refl, none_more sampler_in ls l refl, none_more limits_in ls l refl, none_more desk_in ls l refl, one_more attribute_in ls l p refl, same_scopes ls l refl (λ n. refl), none_more answer_in ls l refl, none_more step_in ls l refl) refl
+    rw (no_words_more ls l refl, none_more sampler_in ls l refl, none_more limits_in ls l refl, none_more desk_in ls l refl, one_more attribute_in ls l p refl, same_scopes ls l refl (λ n. refl), none_more outcome_in ls l refl, none_more step_in ls l refl) refl
 contents_last ls (scope n x) is e =
     let l = scope n x in
     let next = (and_parts (no_items (filter_map step_in ls)) (eqb n (length (scopes_of ls))) e).1 in
-    rw (no_words_more ls l refl, none_more sampler_in ls l refl, none_more limits_in ls l refl, none_more desk_in ls l refl, none_more attribute_in ls l refl, next_scope ls n x (scopes_placed ls is).before next, none_more answer_in ls l refl, none_more step_in ls l refl) refl
+    rw (no_words_more ls l refl, none_more sampler_in ls l refl, none_more limits_in ls l refl, none_more desk_in ls l refl, none_more attribute_in ls l refl, next_scope ls n x (scopes_placed ls is).before next, none_more outcome_in ls l refl, none_more step_in ls l refl) refl
 contents_last ls (scope_attribute n p) is e =
     let l = scope_attribute n p in
-    rw (no_words_more ls l refl, none_more sampler_in ls l refl, none_more limits_in ls l refl, none_more desk_in ls l refl, none_more attribute_in ls l refl, next_attribute ls n p (scopes_placed ls is).numbers, none_more answer_in ls l refl, none_more step_in ls l refl) refl
-contents_last ls (answer o) is e =
-    let l = answer o in
-    rw (no_words_more ls l refl, none_more sampler_in ls l refl, none_more limits_in ls l refl, none_more desk_in ls l refl, none_more attribute_in ls l refl, same_scopes ls l refl (λ n. refl), one_more answer_in ls l o refl, none_more step_in ls l refl) refl
+    rw (no_words_more ls l refl, none_more sampler_in ls l refl, none_more limits_in ls l refl, none_more desk_in ls l refl, none_more attribute_in ls l refl, next_attribute ls n p (scopes_placed ls is).numbers, none_more outcome_in ls l refl, none_more step_in ls l refl) refl
+contents_last ls (outcome o) is e =
+    let l = outcome o in
+    rw (no_words_more ls l refl, none_more sampler_in ls l refl, none_more limits_in ls l refl, none_more desk_in ls l refl, none_more attribute_in ls l refl, same_scopes ls l refl (λ n. refl), one_more outcome_in ls l o refl, none_more step_in ls l refl) refl
 contents_last ls (step x) is e =
     let l = step x in
-    rw (no_words_more ls l refl, none_more sampler_in ls l refl, none_more limits_in ls l refl, none_more desk_in ls l refl, none_more attribute_in ls l refl, same_scopes ls l refl (λ n. refl), none_more answer_in ls l refl, one_more step_in ls l x refl) refl
+    rw (no_words_more ls l refl, none_more sampler_in ls l refl, none_more limits_in ls l refl, none_more desk_in ls l refl, none_more attribute_in ls l refl, same_scopes ls l refl (λ n. refl), none_more outcome_in ls l refl, one_more step_in ls l x refl) refl

@@ -9,9 +9,9 @@ use Rattle.span_ring.specs.SpanRing.{IsRingSize}
 use Rattle.span_ring.specs.declared.ring.TheConstants.{MAX_QUEUE}
 use Rattle.script_words.specs.Words.{◌>>=◌, each_of, number_below, hex_word, text_of}
 use Rattle.span_script.specs.Values.{pair_of}
-use Rattle.span_script.specs.Outcomes.{outcome_of}
+use Rattle.span_script.specs.Outcomes.{outcome_of_words}
 use Rattle.span_script.specs.Steps.{step_of}
-use Rattle.span_script.specs.Lines.{Line, words, sampler, limits, desk, resource, answer, step, sampler_of, limits_of, size_to, desk_of, words_line, sampler_line, limits_line, desk_line, resource_line, scope_line, scope_attribute_line, entry, entry_of, line_of}
+use Rattle.span_script.specs.Lines.{Line, words, sampler, limits, desk, resource, outcome, step, sampler_of, limits_of, size_to, desk_of, words_line, sampler_line, limits_line, desk_line, resource_line, scope_line, scope_attribute_line, entry, entry_of, line_of}
 
 abbrev pub IsSized : DeskConfig → Type 0
 IsSized c = IsRingSize c.queue c.batch
@@ -129,7 +129,7 @@ sized_entry name arguments =
     (either _ (bytes_eq name (codes "resource")) _ _ (resource_sized arguments)
     (either _ (bytes_eq name (codes "scope")) _ _ (scope_sized arguments)
     (either _ (bytes_eq name (codes "sattr")) _ _ (scope_attribute_sized arguments)
-    (either _ (bytes_eq name (codes "answer")) _ _ (mapped _ answer (outcome_of arguments) (λ _. tt))
+    (either _ (bytes_eq name (codes "answer")) _ _ (mapped _ outcome (outcome_of_words arguments) (λ _. tt))
     (mapped _ step (step_of name arguments) (λ _. tt)))))))))
 
 sized_words : (ws : List (List ℕ)) → IfSome (entry_of ws) IsSizedLine

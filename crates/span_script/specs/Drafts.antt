@@ -7,7 +7,7 @@ use Rattle.batch_desk.specs.Views.{config_view}
 use Rattle.retry_core.specs.Retries.{outcome_view}
 use Rattle.trace_history.specs.Steps.{step_view}
 use Rattle.script_words.specs.Words.{◌>>=◌}
-use Rattle.span_script.specs.Lines.{Line, words, sampler, limits, desk, resource, scope, scope_attribute, answer, step, line_of}
+use Rattle.span_script.specs.Lines.{Line, words, sampler, limits, desk, resource, scope, scope_attribute, outcome, step, line_of}
 use Rattle.span_script.specs.Scripts.{Script, all_kept, with_attributes}
 use Rattle.span_script.specs.declared.draft.Draft.{Draft}
 use Rattle.span_script.specs.declared.scope.ScopeDraft.{ScopeDraft}
@@ -42,7 +42,7 @@ pub record Holds {A : Type 0} (d : Draft A) (s : Script) : Type 0 where
   pub resource_limits : d.resource.limits ≡ all_kept
   pub resource : d.resource.kept ≡ attributes all_kept s.resource
   pub scopes : map scope_draft_view d.scopes.items ≡ map scope_draft s.scopes
-  pub answers : map outcome_view d.answers.items ≡ s.answers
+  pub outcomes : map outcome_view d.outcomes.items ≡ s.outcomes
   pub steps : map step_view d.steps.items ≡ s.steps
 
 -- ---- how a draft goes on: `proofs/Together` has that it comes to what the lines are together
@@ -55,7 +55,7 @@ no_script = record {
   desk = None;
   resource = [];
   scopes = [];
-  answers = [];
+  outcomes = [];
   steps = [];
 }
 
@@ -72,7 +72,7 @@ fits s (desk c) = no_items s.steps && not (is_some s.desk)
 fits s (resource p) = no_items s.steps
 fits s (scope number x) = no_items s.steps && number == length s.scopes
 fits s (scope_attribute number p) = no_items s.steps && nat_lt number (length s.scopes)
-fits s (answer o) = true
+fits s (outcome o) = true
 fits s (step x) = true
 
 -- the scopes, with one more attribute on that of this number
@@ -90,7 +90,7 @@ extended_script s (desk c) = record s { desk = Some c }
 extended_script s (resource p) = record s { resource = s.resource ++ p ∷ [] }
 extended_script s (scope number x) = record s { scopes = s.scopes ++ with_attributes [] x ∷ [] }
 extended_script s (scope_attribute number p) = record s { scopes = set_on number p s.scopes }
-extended_script s (answer o) = record s { answers = s.answers ++ o ∷ [] }
+extended_script s (outcome o) = record s { outcomes = s.outcomes ++ o ∷ [] }
 extended_script s (step x) = record s { steps = s.steps ++ x ∷ [] }
 
 unfoldable pub with_line : Script → Line → Option Script

@@ -15,7 +15,7 @@ use Rattle.retry_core.specs.Retries.{outcome_view}
 use Rattle.trace_history.specs.Steps.{step_view}
 use Rattle.script_words.specs.Words.{◌>>=◌, each_of, number_below, hex_word, text_of}
 use Rattle.span_script.specs.Values.{pair_of}
-use Rattle.span_script.specs.Outcomes.{outcome_of}
+use Rattle.span_script.specs.Outcomes.{outcome_of_words}
 use Rattle.span_script.specs.Steps.{step_of}
 use Rattle.span_script.specs.declared.sampler.SamplerName.{SamplerName}
 use Rattle.span_script.specs.declared.sampler.SamplerName.TheVariants as samplers
@@ -30,7 +30,7 @@ pub data Line : Type 0 where
   resource : attributes.Attribute → Line
   scope : ℕ → spans.Scope → Line
   scope_attribute : ℕ → attributes.Attribute → Line
-  answer : Outcome → Line
+  outcome : Outcome → Line
   step : Step → Line
 
 -- ---- the types of the code
@@ -50,7 +50,7 @@ line_view (lines.Scope number name version schema) =
     })
 line_view (lines.ScopeAttribute number key value) =
     scope_attribute number (attribute_view (key, value))
-line_view (lines.Answer o) = answer (outcome_view o)
+line_view (lines.Outcome o) = outcome (outcome_view o)
 line_view (lines.Step s) = step (step_view s)
 
 -- ---- what the words of a line spell
@@ -156,7 +156,7 @@ entry name arguments =
     else if bytes_eq name (codes "resource") then resource_line arguments
     else if bytes_eq name (codes "scope") then scope_line arguments
     else if bytes_eq name (codes "sattr") then scope_attribute_line arguments
-    else if bytes_eq name (codes "answer") then option_map answer (outcome_of arguments)
+    else if bytes_eq name (codes "answer") then option_map outcome (outcome_of_words arguments)
     else option_map step (step_of name arguments)
 
 abbrev pub entry_of : List (List ℕ) → Option Line

@@ -20,15 +20,15 @@ numbered_outcome_of name number =
     else None
 
 -- when another attempt is welcome: `none`, where nothing is asked for, or in so many seconds
-unfoldable pub wait_of : List ℕ → Option (Option RetryAfter)
-wait_of word =
+unfoldable pub wait_of_word : List ℕ → Option (Option RetryAfter)
+wait_of_word word =
     if bytes_eq word (codes "none") then Some None
     else option_map (λ n. Some (seconds n)) (number_below (2 ^ 64) word)
 
 -- one that is to be tried again: the HTTP status, and when
 unfoldable pub later_of : List ℕ → List ℕ → Option Outcome
 later_of status wait =
-    number_below (2 ^ 16) status >>= λ n. option_map (later n) (wait_of wait)
+    number_below (2 ^ 16) status >>= λ n. option_map (later n) (wait_of_word wait)
 
 unfoldable pub later_outcome_of : List ℕ → List ℕ → List ℕ → Option Outcome
 later_outcome_of name status wait =
@@ -36,8 +36,8 @@ later_outcome_of name status wait =
 
 -- `delivered`, `partial N`, `later STATUS SECONDS`, `later STATUS none`, `refused STATUS`, `none`
 -- or `bad`
-unfoldable pub outcome_of : List (List ℕ) → Option Outcome
-outcome_of (name ∷ []) = plain_outcome_of name
-outcome_of (name ∷ number ∷ []) = numbered_outcome_of name number
-outcome_of (name ∷ status ∷ wait ∷ []) = later_outcome_of name status wait
-outcome_of _ = None
+unfoldable pub outcome_of_words : List (List ℕ) → Option Outcome
+outcome_of_words (name ∷ []) = plain_outcome_of name
+outcome_of_words (name ∷ number ∷ []) = numbered_outcome_of name number
+outcome_of_words (name ∷ status ∷ wait ∷ []) = later_outcome_of name status wait
+outcome_of_words _ = None

@@ -24,7 +24,7 @@ pub record Means {A : Type 0} (c : CodeScript A) (s : Script) : Type 0 where
   pub desk : config_view c.desk ≡ unwrap_or s.desk default_config
   pub resource : attributes_view c.resource.items ≡ (attributes all_kept s.resource).items
   pub scopes : map scope_view c.scopes.items ≡ map kept_scope s.scopes
-  pub answers : map outcome_view c.answers.items ≡ s.answers
+  pub outcomes : map outcome_view c.outcomes.items ≡ s.outcomes
   pub steps : map step_view c.steps.items ≡ s.steps
 
 -- What was parsed is what there is to read, unless memory was refused.

@@ -7,7 +7,7 @@ use Rattle.desk_model.specs.Desks.{DeskConfig}
 use Rattle.retry_model.specs.Retries.{Outcome}
 use Rattle.history_model.specs.Steps.{Step}
 use Rattle.script_words.specs.Words.{◌>>=◌, each_of}
-use Rattle.span_script.specs.Lines.{Line, words, sampler, limits, desk, resource, scope, scope_attribute, answer, step, line_of}
+use Rattle.span_script.specs.Lines.{Line, words, sampler, limits, desk, resource, scope, scope_attribute, outcome, step, line_of}
 use Rattle.span_script.specs.declared.sampler.SamplerName.{SamplerName}
 
 pub record Script : Type 0 where
@@ -24,7 +24,7 @@ pub record Script : Type 0 where
   -- the scopes, each with the attributes that are set on it, in order
   pub scopes : List spans.Scope
   -- what comes of the attempts to send a batch, in order
-  pub answers : List Outcome
+  pub outcomes : List Outcome
   pub steps : List Step
 
 -- a resource or a scope keeps the first 2^32 - 1 of its keys, and texts of any length (profile)
@@ -47,7 +47,7 @@ is_step _ = false
 
 -- Settings say what there is before the first step. (profile)
 abbrev pub is_setting : Line → Bool
-is_setting (answer o) = false
+is_setting (outcome o) = false
 is_setting (step x) = false
 is_setting _ = true
 
@@ -80,9 +80,9 @@ abbrev pub attribute_on : ℕ → Line → Option attributes.Attribute
 attribute_on n (scope_attribute number p) = if number == n then Some p else None
 attribute_on n _ = None
 
-abbrev pub answer_in : Line → Option Outcome
-answer_in (answer o) = Some o
-answer_in _ = None
+abbrev pub outcome_in : Line → Option Outcome
+outcome_in (outcome o) = Some o
+outcome_in _ = None
 
 abbrev pub step_in : Line → Option Step
 step_in (step x) = Some x
@@ -141,7 +141,7 @@ contents_of lines = record {
   desk = first_of (filter_map desk_in lines);
   resource = filter_map attribute_in lines;
   scopes = scopes_of lines;
-  answers = filter_map answer_in lines;
+  outcomes = filter_map outcome_in lines;
   steps = filter_map step_in lines;
 }
 

@@ -6,7 +6,7 @@ ghost use Rattle.otlp_span.specs.Parts.{limits_view};
 ghost use Rattle.batch_desk.specs.Views.{config_view};
 ghost use Rattle.retry_core.specs.Retries.{outcome_view};
 ghost use Rattle.trace_history.specs.Steps.{step_view};
-ghost use Rattle.span_script.specs.Lines.{line_view, words, sampler, limits, desk, resource, scope, scope_attribute, answer, step};
+ghost use Rattle.span_script.specs.Lines.{line_view, words, sampler, limits, desk, resource, scope, scope_attribute, outcome, step};
 ghost use Rattle.span_script.specs.Scripts.{Script};
 ghost use Rattle.span_script.specs.Drafts.{Holds, Follows, no_items, no_script, with_line, line_read};
 
@@ -37,7 +37,7 @@ pub(crate) struct Draft<A: Allocator> {
     /// The scopes.
     pub(crate) scopes: Vec<ScopeDraft<A>, A>,
     /// What comes of the attempts to send a batch.
-    pub(crate) answers: Vec<Outcome, A>,
+    pub(crate) outcomes: Vec<Outcome, A>,
     /// The steps.
     pub(crate) steps: Vec<Step<A>, A>,
 }
@@ -54,7 +54,7 @@ impl<A: Allocator + Copy> Draft<A> {
             desk: None,
             resource: all_attributes(alloc),
             scopes: Vec::new(alloc),
-            answers: Vec::new(alloc),
+            outcomes: Vec::new(alloc),
             steps: Vec::new(alloc),
         }
     }
@@ -95,7 +95,7 @@ impl<A: Allocator + Copy> Draft<A> {
             Line::ScopeAttribute { number, key, value } => {
                 self.add_scope_attribute(number, key, value)
             }
-            Line::Answer(outcome) => self.add_answer(outcome),
+            Line::Outcome(outcome) => self.add_outcome(outcome),
             Line::Step(step) => self.add_step(step),
         }
     }
@@ -217,10 +217,11 @@ impl<A: Allocator + Copy> Draft<A> {
 
     /// Goes on with what comes of a further attempt.
     #[tactic(auto, unfolding(crate::specs::Drafts::with_line))]
-    fn add_answer(&mut self, more: Outcome) -> Result<(), WordFault>
-        ensures { Follows (λ s. with_line s (answer (outcome_view more))) self.old self.new result }
+    fn add_outcome(&mut self, more: Outcome) -> Result<(), WordFault>
+        ensures { Follows (λ s. with_line s (outcome (outcome_view more)))
+            self.old self.new result }
     {
-        self.answers.push(more)?;
+        self.outcomes.push(more)?;
         Ok(())
     }
 

@@ -55,7 +55,7 @@ pub(crate) enum Line<A: Allocator> {
         value: Value<A>,
     },
     /// What comes of an attempt to send a batch.
-    Answer(Outcome),
+    Outcome(Outcome),
     /// A step.
     Step(Step<A>),
 }
@@ -92,7 +92,7 @@ fn parse_entry<A: Allocator + Copy>(
         "resource" => parse_resource(alloc, arguments),
         "scope" => parse_scope(alloc, arguments),
         "sattr" => parse_scope_attribute(alloc, arguments),
-        "answer" => Ok(Line::Answer(parse_outcome(arguments)?)),
+        "answer" => Ok(Line::Outcome(parse_outcome(arguments)?)),
         _ => Ok(Line::Step(parse_step(alloc, name, arguments)?)),
     }
 }

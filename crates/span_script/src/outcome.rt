@@ -3,7 +3,7 @@
 ghost use Rattle.std.specs.Prelude.{◌≡◌, ◌^◌, map, ok_or, option_map};
 ghost use Rattle.retry_core.specs.Retries.{outcome_view, retry_after_view};
 ghost use Rattle.script_words.specs.Words.{Gives, number_below};
-ghost use Rattle.span_script.specs.Outcomes.{later_of, later_outcome_of, numbered_outcome_of, outcome_of, plain_outcome_of, wait_of};
+ghost use Rattle.span_script.specs.Outcomes.{later_of, later_outcome_of, numbered_outcome_of, outcome_of_words, plain_outcome_of, wait_of_word};
 ghost use Rattle.script_words.specs.declared.WordFault.TheVariants.{Bad};
 
 use retry_core::{Outcome, RetryAfter};
@@ -11,9 +11,9 @@ use script_words::{WordFault, integer, number, small_number};
 
 /// Reads `delivered`, `partial N`, `later STATUS SECONDS`, `later STATUS none`, `refused STATUS`,
 /// `none` or `bad`.
-#[tactic(auto, unfolding(crate::specs::Outcomes::outcome_of))]
+#[tactic(auto, unfolding(crate::specs::Outcomes::outcome_of_words))]
 pub(crate) fn parse_outcome(words: &[&[u8]]) -> Result<Outcome, WordFault>
-    ensures { Gives outcome_view result (outcome_of (map (λ w. w.now) words.now)) }
+    ensures { Gives outcome_view result (outcome_of_words (map (λ w. w.now) words.now)) }
 {
     match words {
         [name] => parse_plain_outcome(name),
@@ -70,9 +70,9 @@ fn parse_later(status: &[u8], wait: &[u8]) -> Result<Outcome, WordFault>
 }
 
 /// `none`, or a number of seconds, of 64 bits
-#[tactic(auto, unfolding(crate::specs::Outcomes::wait_of))]
+#[tactic(auto, unfolding(crate::specs::Outcomes::wait_of_word))]
 fn parse_wait(word: &[u8]) -> Result<Option<RetryAfter>, WordFault>
-    ensures { Gives (option_map retry_after_view) result (wait_of word.now) }
+    ensures { Gives (option_map retry_after_view) result (wait_of_word word.now) }
 {
     match word {
         b"none" => Ok(None),

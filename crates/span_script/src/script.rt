@@ -38,7 +38,7 @@ pub struct Script<A: Allocator = Global> {
     /// which these were first set.
     pub scopes: Vec<Scope<A>, A>,
     /// What comes of the attempts to send a batch, in order.
-    pub answers: Vec<Outcome, A>,
+    pub outcomes: Vec<Outcome, A>,
     /// The steps, in order.
     pub steps: Vec<Step<A>, A>,
 }
@@ -106,7 +106,7 @@ impl<A: Allocator + Copy> Script<A> {
             desk,
             resource,
             scopes,
-            answers,
+            outcomes,
             steps,
         } = draft;
         Ok(Script {
@@ -116,7 +116,7 @@ impl<A: Allocator + Copy> Script<A> {
             desk: desk.unwrap_or_default(),
             resource: resource.into_pairs(),
             scopes: finished_scopes(alloc, scopes)?,
-            answers,
+            outcomes,
             steps,
         })
     }

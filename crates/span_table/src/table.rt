@@ -21,6 +21,7 @@ use otlp_sampler::Sampler;
 use otlp_span::{Kind, Scope, SpanCall, SpanData};
 use rand_core::Rng;
 use std::alloc::{Allocator, Global};
+use std::fmt;
 use std::marker::Model;
 use std::sync::Arc;
 use trace_api::{EndPass, Provider, Span, StartFault, Tracer};
@@ -49,6 +50,16 @@ impl<'a, S: Sampler, R: Rng, A: Allocator + Copy> Model for SpanTable<'a, S, R, 
       spans = t.spans.items;
       room = vec_capacity t.spans;
     } };
+}
+
+/// Writes how many tracers and spans there are.
+impl<S: Sampler, R: Rng, A: Allocator + Copy> fmt::Debug for SpanTable<'_, S, R, A> {
+    fn fmt<W: fmt::Write>(&self, f: &mut fmt::Formatter<W>) -> fmt::Result {
+        f.debug_struct("SpanTable")
+            .field("tracers", &self.tracers.len())
+            .field("spans", &self.spans.len())
+            .finish_non_exhaustive()
+    }
 }
 
 impl<'a, S: Sampler, R: Rng + Drop, A: Allocator + Copy> SpanTable<'a, S, R, A> {

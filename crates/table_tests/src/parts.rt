@@ -37,10 +37,7 @@ pub(crate) fn provider<S: Sampler + Drop, A: Allocator + Copy>(
     alloc: A,
     sampler: S,
 ) -> Provider<S, A> {
-    let resource = Resource {
-        attributes: Vec::new(alloc),
-        schema_url: String::new(alloc),
-    };
+    let resource = Resource::new(alloc, Vec::new(alloc));
     let resource = Arc::new(alloc, resource).expect(rt, "memory");
     Provider::new(sampler, resource, SpanLimits::default())
 }
@@ -48,12 +45,7 @@ pub(crate) fn provider<S: Sampler + Drop, A: Allocator + Copy>(
 /// One scope.
 pub(crate) fn scopes<A: Allocator + Copy>(rt: &impl Abort, alloc: A) -> Vec<Scope<A>, A> {
     let mut scopes = Vec::new(alloc);
-    let scope = Scope {
-        name: text(rt, alloc, "library"),
-        version: String::new(alloc),
-        attributes: Vec::new(alloc),
-        schema_url: String::new(alloc),
-    };
+    let scope = Scope::named(alloc, "library").expect(rt, "memory");
     scopes.push(scope).expect(rt, "memory");
     scopes
 }

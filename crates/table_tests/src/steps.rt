@@ -127,3 +127,14 @@ fn a_dropped_span_goes_to_no_pass(rt: HostRuntime) {
     assert_call(&rt, &mut table, &mut pass, 0, SpanCall::End(5), end);
     assert_eq!(rt; pass.spans().len(), 0);
 }
+
+#[test]
+fn a_table_writes_how_many_spans_it_has(rt: HostRuntime) {
+    let alloc = rt.alloc();
+    let provider = provider(&rt, alloc, AlwaysOn);
+    let table = SpanTable::new(alloc, &provider, scopes(&rt, alloc), words(&rt, alloc), 1);
+    let mut table = table.expect(&rt, "memory");
+    assert_start(&rt, &mut table, 1, Parent::Root, Answer::NoSpan);
+    let written = format!(in alloc; "{table:?}").expect(&rt, "memory");
+    assert_eq!(rt; written.as_str(), "SpanTable { tracers: 1, spans: 1, .. }");
+}

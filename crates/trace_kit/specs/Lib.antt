@@ -26,10 +26,13 @@ pub use Rattle.otlp_value.specs.AttributeList
 pub use Rattle.otlp_value.specs.Value
 pub use Rattle.otlp_span.specs.Parts
 pub use Rattle.otlp_span.specs.Recording
+pub use Rattle.otlp_span.specs.Dropped as DroppedViews
+pub use Rattle.otlp_span.specs.Slips
 pub use Rattle.otlp_sampler.specs.Sampling as SamplerViews
 pub use Rattle.scope_group.specs.Group
 pub use Rattle.otlp_proto.specs.Encode
 pub use Rattle.otlp_proto.specs.Bodies
+pub use Rattle.otlp_wire.specs.Fields as WireFields
 pub use Rattle.otlp_read.specs.Response
 pub use Rattle.trace_api.specs.Calls
 pub use Rattle.trace_api.specs.Pass
@@ -37,10 +40,14 @@ pub use Rattle.trace_api.specs.Starts as TracerStarts
 pub use Rattle.trace_history.specs.Answers as AnswerViews
 pub use Rattle.trace_history.specs.Steps as StepViews
 pub use Rattle.span_exporter.specs.Handed
+pub use Rattle.span_exporter.specs.Memory as ExporterMemory
+pub use Rattle.span_exporter.specs.Room as ExporterRoom
 pub use Rattle.span_exporter.specs.Views as ExporterViews
 pub use Rattle.span_ring.specs.SpanRing
+pub use Rattle.span_ring.specs.Run as RingRun
 pub use Rattle.batch_desk.specs.Desk as DeskCalls
 pub use Rattle.batch_desk.specs.Batch
+pub use Rattle.batch_desk.specs.Counts as DeskCounts
 pub use Rattle.batch_desk.specs.Views as DeskViews
 pub use Rattle.retry_core.specs.Retries as RetryViews
 pub use Rattle.simple_processor.specs.Accounts as PassAccounts
@@ -53,10 +60,9 @@ pub use Rattle.trace_run.specs.Run
 pub use Rattle.trace_run.specs.Report
 pub use Rattle.trace_run.specs.State
 pub use Rattle.trace_run.specs.Headline as RunHeadline
-pub use Rattle.script_program.specs.Command
-pub use Rattle.script_program.specs.Printed
 pub use Rattle.otlp_http.specs.Address
 pub use Rattle.otlp_http.specs.Devices
 pub use Rattle.otlp_http.specs.Request
 pub use Rattle.otlp_http.specs.Replies
 pub use Rattle.otlp_http.specs.Outcomes
+pub use Rattle.words_rng.specs.Words

@@ -8,6 +8,7 @@ use std::alloc::{Allocator, Global};
 
 /// What a run has before its first step (Trace SDK, "Tracer Provider", "Batching processor").
 #[derive(Drop)]
+#[derive_where(Debug; S, R)]
 pub struct RunConfig<S: Sampler, R: Rng, A: Allocator = Global> {
     /// What decides on the spans.
     pub sampler: S,

@@ -2,7 +2,6 @@
 ghost use Rattle.std.specs.Prelude.{◌≡◌, ◌<◌, ◌≤◌, ◌+◌, ℕ, IfOk, length};
 ghost use Rattle.export_model.specs.Export.{groups, body_length};
 ghost use Rattle.retry_model.specs.Waits.{IsRetryConfig, RetryConfig};
-ghost use Rattle.retry_core.specs.Retries.{outcome_view};
 ghost use Rattle.run_model.specs.Answers.{take_answer};
 ghost use Rattle.trace_history.specs.Answers.{answer_view};
 ghost use Rattle.trace_run.specs.Out.{Encodes, EncodesBatch, IsBodyOf, IsCounted, IsReady, IsTied, Replies, Sends, SendsBody, Takes};

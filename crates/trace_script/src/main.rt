@@ -3,6 +3,7 @@
 //! ends.
 #![tactic(auto)]
 
+use script_program::trace_script;
 use std::io::{BufReader, BufWriter};
 use std::process::ExitCode;
 use std::{env, io};
@@ -16,6 +17,6 @@ fn main(rt: HostRuntime) -> io::Result<ExitCode> {
     let mut output = BufWriter::new(rt.alloc(), io::writer(&rt))?;
     let mut faults = rt.stderr();
     let words = words.as_slice();
-    let status = trace_kit::trace_script(rt.alloc(), words, &mut input, &mut output, &mut faults);
+    let status = trace_script(rt.alloc(), words, &mut input, &mut output, &mut faults);
     Ok(ExitCode::from(status))
 }

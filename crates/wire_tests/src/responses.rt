@@ -35,6 +35,18 @@ fn reads_a_partial_success(rt: HostRuntime) {
 }
 
 #[test]
+fn reads_a_long_message(rt: HostRuntime) {
+    let alloc = rt.alloc();
+    let message = "x".repeat(alloc, 70_000).expect(&rt, "memory");
+    let mut body = Vec::from_slice(alloc, b"\x0a\xf4\xa2\x04\x12\xf0\xa2\x04").expect(
+        &rt, "memory",
+    );
+    body.extend_from_slice(message.as_bytes())
+        .expect(&rt, "memory");
+    tells(&rt, alloc, body.as_slice(), 0, message.as_str());
+}
+
+#[test]
 fn the_last_payload_counts(rt: HostRuntime) {
     let alloc = rt.alloc();
     tells(&rt, alloc, b"\x0a\x04\x08\x02\x08\x03", 3, "");
@@ -132,8 +144,15 @@ fn assert_told(rt: &impl Abort, alloc: Global, fault: ReadFault, text: &str) {
 #[test]
 fn faults_are_told(rt: HostRuntime) {
     let alloc = rt.alloc();
-    let cut = ReadFault::Wire(WireFault::Truncated);
-    assert_told(&rt, alloc, cut, "a field runs past the end");
+    for (fault, text) in [
+        (WireFault::Truncated, "a field runs past the end"),
+        (WireFault::LongVarint, "a varint has more than ten bytes"),
+        (WireFault::BadNumber, "a field number is out of range"),
+        (WireFault::Group, "a group begins or ends"),
+        (WireFault::BadWireType, "a wire type is unknown"),
+    ] {
+        assert_told(&rt, alloc, ReadFault::Wire(fault), text);
+    }
     assert_told(&rt, alloc, ReadFault::BadUtf8, "a text is not UTF-8");
     assert_told(&rt, alloc, ReadFault::TooDeep, "a value nests too deep");
     assert_told(&rt, alloc, ReadFault::OutOfMemory, "out of memory");

@@ -1,127 +1,115 @@
--- It counts the call, and refuses it or answers what the inner allocator answers. Assumes `Logic`.
-use Rattle.std.proofs.Common.{◌≡◌, ℕ, ◌+◌, ◌^◌, ◌<◌, true, false, Bool, List, [], ◌∷◌, Ok, Err, refl, w64, Bor}
-use seplogic.Ra.Ura.{Ura}
-use mir.Syntax.{Ty, Args, Fn, a_type, dnil, dcons}
-use mir.Val.{Val, vbool, vint, vptr}
-use mir.MapTy.{inst_fn}
-use base.Logic.{SProp, ent, id⊢}
-use base.Fml.{Lft, Share, ftrue, flft}
-use prog.Memory.{Memory, size, align, capped, up}
-use prog.Routine.{Routine}
-use prog.Wp.{WpFn, Tables}
-use types.Logic.{Logic}
-use contract.BorrowLft.{◌⊑◌, ⊑_trans}
-use contract.Monad.{Fun, fact}
-use contract.Running.{tables, tables_of}
-use sound.WpLaws.{fm_of, WpFn-mono}
-use types.Run.{stop, fld, addr, lit, no_more, and_then, first, branches, skips, exec, returns, returns_within, enter}
-use types.Part.{agg}
-use denote.Exit.{yes}
-use denote.RattleType.{owns}
-use denote.Ref.{shr_vals}
-use denote.Opens.{unhide}
-use denote.Param.{bounded, param}
-use denote.Plain.{uint_vals, uint_Tells}
-use denote.Signature.{Slot, plain, types_at}
-use denote.Steps.{heard, nothing}
-use denote.Triple.Clauses.{Ended, Clauses}
-use denote.Triple.Spec.{triple_of}
-use denote.Triple.Statement.{Triple}
-use denote.Triple.Table.{entered, cited}
-use denote.Triple.Walked.{Stays, stay_dropped, walk_of, ends_at, walked, Goes-dropped, walk_Meets}
-use types.Kit.{‵, raw, ◌⊛◌, some, later, given, at_ret, pick, learn, ◌$◌, ◌∵◌, !, qed, move, keep, use0, use1, use2, split, join, fsplit, fjoin, suffices, await, done}
-use types.ByLocal.{alloc_all, pass_all, free_all, look_at, get, through, sets, lands_as, env}
-use denote.RawPtr.{block_ptr}
-use denote.Builtin.{usize, RefOf}
-use denote.Triple.Call.{calls_at}
-use Rattle.std.proofs.alloc.Calls.{Al, α, seen, Answer, answer_val, Answer-typed, Answer-Ok, Answer-err, takes_key, Takes, at_takes, Answered, Takes-goes, Takes-gives, answers}
+-- The call of the index is refused, and each other one asks the allocator that has the memory.
+use Rattle.std.proofs.Common.{◌≡◌, Bool, true, false, List, [], ◌∷◌, refl, ap, w64}
+use Rattle.std.proofs.raw_atomic.Walks.{proved, leaves}
+use Rattle.std.proofs.alloc.Calls.{Al, Answer, answer_val, seen, Takes, Answered, at_takes, Takes-goes, Takes-gives, answers, Answer-Ok, Answer-err, Answer-typed}
 use Rattle.std.proofs.VecSteps.Shapes.{after}
-use Rattle.failing_allocator.proofs.Refusals.{Asks, at_asks, Asks-goes, Asks-gives}
-use Rattle.failing_allocator.proofs.Turns.is_refused.Symbol as asked
-use Rattle.failing_allocator.proofs.Turns.is_refused.Met as asked_met
-use Rattle.failing_allocator.specs.contracts.FailingAllocator as wrapper
-use Rattle.failing_allocator.specs.contracts.FailingAllocatorAllocator.allocate as F
-use Rattle.failing_allocator.specs.contracts.FailingAllocatorAllocator.allocate.Key as key
-use Rattle.failing_allocator.proofs.FailingAllocatorAllocator.allocate.Statement as stated
+use Rattle.std.specs.Prelude.{Ok, Err}
+use Rattle.failing_allocator.specs.contracts.FailingAllocatorAllocator.allocate as f
+use Rattle.failing_allocator.specs.contracts.FailingAllocator.inner as lends
+use Rattle.failing_allocator.specs.contracts.FailingAllocator.is_refused as counts
+use Rattle.failing_allocator.specs.contracts.FailingAllocator as heaps
+use Rattle.failing_allocator.proofs.FailingAllocatorAllocator.allocate.Statement.{statement}
 use Rattle.failing_allocator.proofs.FailingAllocatorAllocator.allocate.Code as code
+use Rattle.failing_allocator.proofs.FailingAllocator.inner.Met.{met as lends_met}
+use Rattle.failing_allocator.proofs.FailingAllocator.is_refused.Met.{met as counts_met}
+use Rattle.failing_allocator.proofs.FailingAllocator.TheLaws.{the_row_laws}
+use mir.Syntax.{a_type, named, dcons, dnil}
+use mir.MapTy.{inst_fn}
+use mir.Val.{Val, vptr}
+use base.Logic.{id⊢, emp}
+use base.Fml.{ftrue, fsep, flft}
+use types.Kit.{‵, raw, at_ret, ◌⊛◌, suffices, rewrite, some, later, ◌$◌, ◌∵◌, !, qed, move, drop, use0, use1, use2, split, join, pick, fsplit, fjoin, feq_i, feq_l, await, done}
+use types.Run.{enter, lit, no_more, and_then, first, branches, skips, exec, returns, returns_within}
+use types.ByLocal.{alloc_all, pass_all, free_all, look_at, get, is, sets, lands_as, env}
+use types.Part.{agg}
+use contract.Monad.{fact, fact_i}
+use contract.Running.{tables}
+use contract.BorrowLft.{⊑_trans}
+use denote.Bor.{Bor}
+use denote.Builtin.{RefOf, usize, bool}
+use denote.Exit.{yes}
+use denote.Opens.{shr_dup}
+use denote.Param.{param, bounded}
+use denote.Param.Laws.{param_laws}
+use denote.Plain.{uint_vals, uint_Tells}
+use denote.RattleType.{owns}
+use denote.RawPtr.{block_ptr}
+use denote.Ref.{shr_vals, shr_Tells}
+use denote.Signature.{plain, type_at, types_at}
+use denote.Steps.{nothing, heard, only}
+use denote.Triple.Call.{calls_at}
+use denote.Triple.Spec.{triple_of}
+use denote.Triple.Table.{framed}
+use denote.Triple.Walked.{Stays, walk_of, stay_dropped, Goes-dropped}
 
-module _ (Z : Al) where
-  abbrev args : Args
-  args = bounded (a_type ∷ []) (Z.row, tt) (dcons Z.d (dcons Z.drops dnil))
-
-  abbrev here : Fn
-  here = inst_fn args code.function
-
-  abbrev self : Slot 2
-  self = RefOf (0 ∷ []) tt (plain (λ _. wrapper.the_row (param 0 Z.row))) (λ _. tt)
-
-  abbrev ended : Ended
-  ended = F.ended Z.row Z.g Z.d Z.drops
-
-  abbrev stayed : Stays ended.signature.params ended.kept
-  stayed = (stay_dropped self yes, (stay_dropped (plain (λ _. usize)) yes, (stay_dropped (plain (λ _. usize)) yes, tt)))
-
-module _ (Z : Al) {M : Type 1} {𝓤 : Ura M} (𝓛 : Logic 𝓤) (at_mem : Memory → SProp 𝓤) (run : Routine → Fun 𝓤) (𝓣 : Tables 𝓤 𝓛.H) (tk : Triple 𝓤 (𝓣.C (takes_key Z)) (Takes Z 𝓛 at_mem run)) (kn : Triple 𝓤 (𝓣.C asked.name) (Asks 𝓛 at_mem run)) where
-  open 𝓛 use {H}
-
-  abbrev held : Clauses 𝓤 (ended Z)
-  held = F.clauses Z.row Z.g Z.d Z.drops 𝓛 at_mem run
-
-  module _ (κ₁ κ₂ : Lft) (q₁ q₂ : Share) (inn : κ₁ ⊑ κ₂) (r : Bor (wrapper.the_row Z.row).Denot) (n a : ℕ) (τ : Ty) where
-    abbrev bound : (walk_of 𝓛 (ended Z) (stayed Z) held).Ghost
-    bound = (((κ₁, (κ₂, tt)), (q₁, (q₂, tt)), (inn, tt), (r, (n, (a, tt))), (shr_vals r, (vint w64 n ∷ [], (vint w64 a ∷ [], tt)))), τ)
-
-    abbrev vs : List Val
-    vs = vptr r.ref_ptr.0 r.ref_ptr.1 ∷ vint w64 n ∷ vint w64 a ∷ []
-
-    abbrev Post : Val → SProp 𝓤
-    Post = (walk_of 𝓛 (ended Z) (stayed Z) held).post bound
-
-    walk : n < 2 ^ 64 → a < 2 ^ 64 → ent 𝓤 ((walk_of 𝓛 (ended Z) (stayed Z) held).pre bound) (WpFn 𝓤 H 𝓣.C 𝓣.Λ (here Z) vs Post)
-    walk fn fa =
-        let h : Z.row.Denot = r.now.inner in
-        let p : ℕ × ℕ = (r.ref_ptr.0, r.ref_ptr.1 + up (align (α Z)) 0) in
-        let c : ℕ × ℕ = (r.ref_ptr.0, r.ref_ptr.1 + up 8 (up (align (α Z)) 0 + size (α Z))) in
-        let t = r.now.turns in
-        let y : (Takes Z 𝓛 at_mem run).Ghost = at_takes Z 𝓛 at_mem run κ₁ q₁ p h n a τ in
-        let Said : Type 0 = (capped (size τ) ≡ n) × (capped (align τ) ≡ a) in
-        qed 𝓛 (((‵ (flft κ₁ q₁) ⊛ ‵ (flft κ₂ q₂) ⊛ ‵ ftrue) ⊛ ‵ (owns (types_at (ended Z).signature.params bound.0.0) bound.0.3 bound.0.4)) ∷ (raw (fact 𝓤 (κ₂ ⊑ Z.row.lives)) ⊛ raw (fact 𝓤 Said)) ∷ []) ∵
-        move ! (1 ∷ []) $ split ! $ heard ! (κ₂ ⊑ Z.row.lives) (λ le. heard ! Said (λ said.
-        split ! $ split ! $ move ! (2 ∷ []) $ fsplit ! $ fsplit ! $ move ! (1 ∷ []) $ unhide ! $ fsplit ! $ fsplit ! $ use1 𝓛 (‵ (seen Z κ₁ p h)) (id⊢ 𝓤 _) $ move ! (1 ∷ []) $ fsplit ! $ keep ! (0 ∷ 6 ∷ 2 ∷ 7 ∷ []) $
-        enter ! 𝓣.C 𝓣.Λ (here Z) vs _ $ alloc_all ! (λ l. pass_all ! refl ((tt, tt), ((tt, record { fits = fn }), ((tt, record { fits = fa }), tt))) $
-        sets ! (addr ! (through ! refl (fld ! refl (stop !)))) refl (tt, tt) $
-        use2 𝓛 (raw ((Asks 𝓛 at_mem run).pre (at_asks 𝓛 at_mem run κ₁ q₁ c t))) (Asks-goes 𝓛 at_mem run κ₁ q₁ c t) $
-        calls_at ! (fm_of 𝓤 H 𝓛.laws 𝓣) (Asks 𝓛 at_mem run) kn (at_asks 𝓛 at_mem run κ₁ q₁ c t) (and_then ! (get ! refl) (no_more !)) (λ u.
-        use1 𝓛 (later (some (λ (y : Bool). given (u ≡ vbool y) (‵ (flft κ₁ q₁))))) (Asks-gives 𝓛 at_mem run κ₁ q₁ c t u) $ await ! tt $ pick ! (λ w. learn ! (λ eu. lands_as ! eu refl (tt, tt) $
-        first ! $ branches ! (get ! refl)
-        (λ _. sets ! (agg ! (no_more !)) refl (tt, tt) $ sets ! (agg ! (and_then ! (lit ! tt) (and_then ! (get ! refl) (no_more !)))) refl (Answer-typed false 0 0) $
-        returns_within ! Post refl (look_at ! 0 refl) $ free_all ! refl $ keep ! (0 ∷ 2 ∷ []) $ nothing ! $
-        suffices ! _ (ends_at 𝓛 (ended Z) (stayed Z) held bound (answer_val false 0 0) (Err (record {})) (tt, (tt, (tt, tt))) (tt, (tt, (tt, tt)))) $
-        use0 𝓛 (‵ (Answer.own_val (Err (record {})) (answer_val false 0 0 ∷ []))) (Answer-err 𝓛) $ nothing ! $ nothing ! $ fjoin ! $ nothing ! $ fjoin ! $ nothing ! $ fjoin ! $ join ! $
-        move ! (2 ∷ 3 ∷ []) $ join ! $ join ! $ done !)
-        (λ _. skips ! $ exec ! 𝓣.C 𝓣.Λ (env (here Z).locals l) (after 3 (here Z).body) (at_ret (env (here Z).locals l) Post) $ move ! (1 ∷ []) $
-        sets ! (addr ! (through ! refl (fld ! refl (stop !)))) refl (tt, tt) $
-        use2 𝓛 (raw ((Takes Z 𝓛 at_mem run).pre y)) (Takes-goes Z 𝓛 at_mem run κ₁ q₁ p h (⊑_trans κ₁ κ₂ Z.row.lives inn le) n a τ said.0 said.1 fn fa) $
-        calls_at ! (fm_of 𝓤 H 𝓛.laws 𝓣) (Takes Z 𝓛 at_mem run) tk y (and_then ! (get ! refl) (and_then ! (get ! refl) (and_then ! (get ! refl) (no_more !)))) (λ v.
-        use1 𝓛 (later (raw (Answered Z 𝓛 at_mem run h τ v) ⊛ ‵ (flft κ₁ q₁))) (Takes-gives Z 𝓛 at_mem run κ₁ q₁ p h n a τ v) $ await ! tt $ split ! $
-        answers Z ! at_mem run h τ v
-        (λ b o e. fjoin ! $ lands_as ! e refl (Answer-typed true b o) $ returns ! (look_at ! 0 refl) $ free_all ! refl $
-        suffices ! _ (ends_at 𝓛 (ended Z) (stayed Z) held bound (answer_val true b o) (Ok (block_ptr b o)) (tt, (tt, (tt, tt))) (tt, (tt, (tt, tt)))) $
-        use0 𝓛 (‵ (Answer.own_val (Ok (block_ptr b o)) (answer_val true b o ∷ []))) (Answer-Ok 𝓛 b o) $ nothing ! $ nothing ! $ fjoin ! $ nothing ! $ fjoin ! $ nothing ! $ fjoin ! $ join ! $
-        move ! (2 ∷ 3 ∷ []) $ join ! $ join ! $ done !)
-        (λ e. nothing ! $ lands_as ! e refl (Answer-typed false 0 0) $ returns ! (look_at ! 0 refl) $ free_all ! refl $
-        suffices ! _ (ends_at 𝓛 (ended Z) (stayed Z) held bound (answer_val false 0 0) (Err (record {})) (tt, (tt, (tt, tt))) (tt, (tt, (tt, tt)))) $
-        use0 𝓛 (‵ (Answer.own_val (Err (record {})) (answer_val false 0 0 ∷ []))) (Answer-err 𝓛) $ nothing ! $ nothing ! $ fjoin ! $ nothing ! $ fjoin ! $ nothing ! $ fjoin ! $ join ! $
-        move ! (2 ∷ 3 ∷ []) $ join ! $ join ! $ done !)))))))))
-
-pub allocate_spec : {M : Type 1} → stated.statement M
-unfolding tables_of
-allocate_spec 𝓤 𝓛 𝓜 𝓡 wired Y L g d d' met _ =
-    let Z : Al = record { row = Y; laws = L; g = g; d = d; drops = d' } in
-    let A = 𝓛.A in
-    let 𝓣 : Tables 𝓤 𝓛.H = tables_of 𝓤 𝓛.H 𝓜 (tables 𝓤 𝓛.H 𝓜 𝓡 𝓡.env) in
-    let c = F.clauses Y g d d' 𝓛 𝓜.mem 𝓡.returns in
-    entered 𝓤 𝓛.H (triple_of 𝓛 (F.signature Y) (F.spec Y g d d' 𝓛 𝓜.mem 𝓡.returns)) 𝓣.C 𝓣.Λ (key.name (args Z)) (here Z) (code.unfolded 𝓤 𝓛.H 𝓜 𝓡 wired (Y, tt) d d')
-    (walk_Meets 𝓛 (ended Z) (stayed Z) (Goes-dropped 𝓛 2 (self Z) yes (λ κs x f. refl), (Goes-dropped 𝓛 2 (plain (λ _. usize)) yes (λ κs x f. refl), (Goes-dropped 𝓛 2 (plain (λ _. usize)) yes (λ κs x f. refl), tt))) c (WpFn 𝓤 𝓛.H 𝓣.C 𝓣.Λ (here Z)) (WpFn-mono 𝓤 𝓛.H 𝓛.laws 𝓣 (here Z))
-    (walked 𝓛 (ended Z) (stayed Z) c (WpFn 𝓤 𝓛.H 𝓣.C 𝓣.Λ (here Z)) (λ κs. (shr_vals, (uint_vals w64, (uint_vals w64, tt)))) (λ κs. ((λ r vs s. s.0), (uint_Tells w64, (uint_Tells w64, tt))))
-    (λ κs qs bounds a τ are. walk Z 𝓛 𝓜.mem 𝓡.returns 𝓣 (met.allocate d') (cited 𝓤 𝓛.H _ 𝓜 𝓡 𝓡.env asked.name (𝓡.env asked.name) refl (asked_met.met 𝓤 𝓛 𝓜 𝓡 (code.calls-failing_allocator::Turns::is_refused 𝓡.env wired))) κs.0 κs.1.0 qs.0 qs.1.0 bounds.0 a.0 a.1.0 a.1.1.0 τ are.1.0.1 are.1.1.0.1)))
+pub allocate_spec : {M : Type 1} → statement M
+allocate_spec 𝓤 𝓛 𝓜 𝓡 wired B laws g d dd met drops =
+    let Z : Al = record { row = B; laws = laws; g = g; d = d; drops = dd } in
+    let T = f.ended B g d dd in
+    let c = f.clauses B g d dd 𝓛 𝓜.mem 𝓡.returns in
+    let 𝓣 = tables 𝓤 𝓛.H 𝓜 𝓡 𝓡.env in
+    let inst = bounded (a_type ∷ []) (B, tt) (dcons d (dcons dd dnil)) in
+    let fn = inst_fn inst code.function in
+    let Heap = heaps.the_row (param 0 B) in
+    let self = RefOf (0 ∷ []) tt (plain (λ _. Heap)) (λ _. tt) in
+    let word = plain (λ _. usize) in
+    let hs : Stays T.signature.params T.kept = (stay_dropped self yes, (stay_dropped word yes, (stay_dropped word yes, tt))) in
+    let goes = Goes-dropped 𝓛 2 word yes (λ κs x w. refl) in
+    proved 𝓛 T hs c 𝓜 𝓡 (Goes-dropped 𝓛 2 self yes (λ κs x w. refl), (goes, (goes, tt)))
+    (f.Key.name inst) fn (code.unfolded 𝓤 𝓛.H 𝓜 𝓡 wired (B, tt) d dd)
+    (λ κs. (shr_vals, (uint_vals w64, (uint_vals w64, tt))))
+    (λ κs. (shr_Tells (named 0) κs.0 Heap, (uint_Tells w64, (uint_Tells w64, tt))))
+    (λ κs qs bounds a τ are.
+    let heap = a.0 in let size = a.1.0 in let align = a.1.1.0 in let held = heap.now.inner in
+    let κ = κs.0 in let q = qs.0 in let others = fsep (flft κs.1.0 qs.1.0) ftrue in let alive = fsep (flft κ q) others in
+    let at_heap = vptr heap.ref_ptr.0 heap.ref_ptr.1 ∷ [] in
+    let y : (walk_of 𝓛 T hs c).Ghost = ((κs, qs, bounds, a, (shr_vals heap, (uint_vals w64 size, (uint_vals w64 align, tt)))), τ) in
+    let Post = (walk_of 𝓛 T hs c).post y in
+    let Counts = triple_of 𝓛 (counts.signature B) (counts.spec B g d dd 𝓛 𝓜.mem 𝓡.returns) in
+    let asks : Counts.Ghost = ((κs, qs, bounds, (heap, tt), (shr_vals heap, tt)), tt) in
+    let Lends = triple_of 𝓛 (lends.signature B) (lends.spec B g d dd 𝓛 𝓜.mem 𝓡.returns) in
+    let lent : Lends.Ghost = ((κs, qs, bounds, (heap, tt), (shr_vals heap, tt)), tt) in
+    qed 𝓛 ((‵ alive ⊛ ‵ (owns (types_at T.signature.params κs) a y.0.4)) ∷ raw (fact 𝓤 _) ∷ raw (fact 𝓤 _) ∷ []) ∵
+    split ! $ move ! (2 ∷ []) $ heard ! _ (λ outlived. move ! (2 ∷ []) $ heard ! _ (λ layout.
+    move ! (1 ∷ []) $ fsplit ! $ move ! (1 ∷ []) $ drop ! $ fsplit ! $ feq_l ! (λ e.
+    shr_dup ! Heap (the_row_laws (param 0 B) (param_laws 0 B laws)).shr_laws heap.now heap.ref_ptr.0 heap.ref_ptr.1 κ $
+    feq_i ! (List Val) at_heap at_heap refl $ fjoin ! $ nothing ! $ move ! (1 ∷ 0 ∷ []) $ fjoin ! $ move ! (2 ∷ 0 ∷ []) $ join ! $
+    nothing ! $ use0 𝓛 (raw (fact 𝓤 _)) (fact_i 𝓤 _ (emp 𝓤) outlived) $ join ! $ move ! (1 ∷ 0 ∷ []) $ use2 𝓛 (raw (Counts.pre asks)) (id⊢ 𝓤 _) $
+    -- [what `is_refused` asks; what a `&` to self has]
+    enter ! _ _ _ _ _ $ alloc_all ! (λ l. pass_all ! refl ((tt, tt), ((tt, record { fits = are.1.0.1 }), ((tt, record { fits = are.1.1.0.1 }), tt))) $
+    calls_at ! (framed 𝓤 𝓛.H 𝓜 𝓣) Counts (counts_met 𝓤 𝓛 𝓜 𝓡 (code.calls-failing_allocator::FailingAllocator::is_refused 𝓡.env wired) B laws g d dd met drops) asks
+    (and_then ! (get ! refl) (no_more !)) (λ v.
+    use1 𝓛 (later (some (λ (r : Bool). (‵ alive ⊛ ‵ (bool.own_val r (v ∷ []))) ⊛ some (λ (ws : Unit {0} × Unit {0}). ‵ (fsep ftrue ftrue) ⊛ ‵ ftrue)))) (id⊢ 𝓤 _) $ await ! tt $ pick ! (λ r.
+    split ! $ split ! $ move ! (2 ∷ []) $ pick ! (λ ws. split ! $ drop ! $ drop ! $ move ! (1 ∷ []) $ feq_l ! (λ e'. lands_as ! (ap only e') refl (tt, tt) $
+    -- [the tokens; what a `&` to self has]
+    first ! $ branches ! (get ! refl)
+    (λ refused. move ! (1 ∷ []) $ drop ! $ sets ! (agg ! (no_more !)) refl (tt, tt) $
+    sets ! (is ! (agg ! (and_then ! (lit ! tt) (and_then ! (get ! refl) (no_more !)))) refl) refl (Answer-typed false 0 0) $
+    returns_within ! Post refl (look_at ! 0 refl) $ free_all ! refl $
+    suffices ! _ (leaves 𝓛 T hs c y (answer_val false 0 0) (Err (record {})) (tt, (tt, (tt, tt))) (tt, (tt, (tt, tt)))) $
+    nothing ! $ use0 𝓛 (‵ (Answer.own_val (Err (record {})) (answer_val false 0 0 ∷ []))) (Answer-err 𝓛) $ join ! $
+    nothing ! $ nothing ! $ fjoin ! $ nothing ! $ fjoin ! $ nothing ! $ fjoin ! $ join ! $ move ! (1 ∷ 0 ∷ []) $ join ! $ done !)
+    (λ served. skips ! $ exec ! 𝓣.C 𝓣.Λ (env fn.locals l) (after 2 fn.body) (at_ret _ Post) $
+    move ! (1 ∷ []) $ feq_i ! (List Val) at_heap at_heap refl $ fjoin ! $ nothing ! $ move ! (1 ∷ 0 ∷ []) $ fjoin ! $ move ! (1 ∷ 0 ∷ []) $ join ! $
+    nothing ! $ use0 𝓛 (raw (fact 𝓤 _)) (fact_i 𝓤 _ (emp 𝓤) outlived) $ join ! $ move ! (1 ∷ 0 ∷ []) $ use2 𝓛 (raw (Lends.pre lent)) (id⊢ 𝓤 _) $
+    calls_at ! (framed 𝓤 𝓛.H 𝓜 𝓣) Lends (lends_met 𝓤 𝓛 𝓜 𝓡 (code.calls-failing_allocator::FailingAllocator::inner 𝓡.env wired) B laws g d dd met drops) lent
+    (and_then ! (get ! refl) (no_more !)) (λ w.
+    use1 𝓛 (later (some (λ (p : Bor B.Denot). (‵ alive ⊛ ‵ ((type_at (lends.signature B).result κs).own_val p (w ∷ []))) ⊛ some (λ (ws : Unit {0} × Unit {0}). ‵ (fsep ftrue ftrue) ⊛ raw (fact 𝓤 (p.now ≡ held)))))) (id⊢ 𝓤 _) $ await ! tt $ pick ! (λ p.
+    split ! $ split ! $ move ! (2 ∷ []) $ pick ! (λ ws'. split ! $ drop ! $ heard ! _ (λ same.
+    move ! (1 ∷ []) $ fsplit ! $ feq_l ! (λ e''. rewrite ! 0 (λ (h : B.Denot). ‵ (seen Z κ p.ref_ptr h)) same refl $ lands_as ! (ap only e'') refl (tt, tt) $
+    -- [the `&` to the allocator that has the memory; the tokens]
+    let takes = at_takes Z 𝓛 𝓜.mem 𝓡.returns κ q p.ref_ptr held size align τ in
+    move ! (1 ∷ []) $ fsplit ! $ move ! (2 ∷ 0 ∷ []) $
+    use2 𝓛 (raw ((Takes Z 𝓛 𝓜.mem 𝓡.returns).pre takes)) (Takes-goes Z 𝓛 𝓜.mem 𝓡.returns κ q p.ref_ptr held (⊑_trans κ κs.1.0 B.lives bounds.0 outlived) size align τ layout.0 layout.1 are.1.0.1 are.1.1.0.1) $
+    calls_at ! (framed 𝓤 𝓛.H 𝓜 𝓣) (Takes Z 𝓛 𝓜.mem 𝓡.returns) (met.allocate dd) takes
+    (and_then ! (get ! refl) (and_then ! (get ! refl) (and_then ! (get ! refl) (no_more !)))) (λ u.
+    use1 𝓛 (later (raw (Answered Z 𝓛 𝓜.mem 𝓡.returns held τ u) ⊛ ‵ (flft κ q))) (Takes-gives Z 𝓛 𝓜.mem 𝓡.returns κ q p.ref_ptr held size align τ u) $ await ! tt $ split ! $
+    answers Z ! 𝓜.mem 𝓡.returns held τ u
+    (λ b o is. lands_as ! is refl (Answer-typed true b o) $ returns ! (look_at ! 0 refl) $ free_all ! refl $
+    suffices ! _ (leaves 𝓛 T hs c y (answer_val true b o) (Ok (block_ptr b o)) (tt, (tt, (tt, tt))) (tt, (tt, (tt, tt)))) $
+    fjoin ! $ use0 𝓛 (‵ (Answer.own_val (Ok (block_ptr b o)) (answer_val true b o ∷ []))) (Answer-Ok 𝓛 b o) $ join ! $
+    nothing ! $ nothing ! $ fjoin ! $ nothing ! $ fjoin ! $ nothing ! $ fjoin ! $ join ! $ move ! (1 ∷ 2 ∷ 0 ∷ []) $ fjoin ! $ join ! $ done !)
+    (λ is. lands_as ! is refl (Answer-typed false 0 0) $ returns ! (look_at ! 0 refl) $ free_all ! refl $
+    suffices ! _ (leaves 𝓛 T hs c y (answer_val false 0 0) (Err (record {})) (tt, (tt, (tt, tt))) (tt, (tt, (tt, tt)))) $
+    nothing ! $ use0 𝓛 (‵ (Answer.own_val (Err (record {})) (answer_val false 0 0 ∷ []))) (Answer-err 𝓛) $ join ! $
+    nothing ! $ nothing ! $ fjoin ! $ nothing ! $ fjoin ! $ nothing ! $ fjoin ! $ join ! $ move ! (1 ∷ 2 ∷ 0 ∷ []) $ fjoin ! $ join ! $ done !)))))))))))))))))

@@ -13,6 +13,6 @@ returns g c = record {
   resource_limits = rw c.all_attributes.ensures refl;
   resource = rw c.all_attributes.ensures refl;
   scopes = ap (map scope_draft_view) c.new-2.ensures.items;
-  answers = ap (map outcome_view) c.new-3.ensures.items;
+  outcomes = ap (map outcome_view) c.new-3.ensures.items;
   steps = ap (map step_view) c.new-4.ensures.items;
 }

@@ -30,6 +30,6 @@ returns g c = λ s h. record {
   desk = or_standard config_view default_config c.args.draft.desk _ _ c.unwrap_or_default-2.ensures (λ is. is) ∙ ap (λ o. unwrap_or o default_config) h.desk;
   resource = c.into_pairs.ensures ∙ ap (λ kept. kept.items) h.resource;
   scopes = c.in_ok-finished_scopes.ensures ∙ ap (map finished_scope) h.scopes ∙ kept_each s.scopes;
-  answers = h.answers;
+  outcomes = h.outcomes;
   steps = h.steps;
 }

@@ -1,0 +1,5 @@
+pub mod Fields
+pub mod Lacks
+pub mod BodiesAgree
+pub mod Interims
+pub mod Agree

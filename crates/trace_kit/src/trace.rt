@@ -1,0 +1,12 @@
+//! Spans as a program makes them (OpenTelemetry Trace API; Trace SDK, "Span Limits", "Sampling"): a
+//! [`Provider`] gives tracers, a [`Tracer`] starts spans, and the end of a [`Span`] hands it to an
+//! [`EndPass`].
+pub use otlp_ids::{IdFault, OutOfMemory, SpanContext, SpanId, TraceFlags, TraceId};
+pub use otlp_sampler::{AlwaysOff, AlwaysOn, Decision, ParentBased, Sampler};
+pub use otlp_span::{
+    Event, Kind, Link, Open, Resource, Scope, SpanCall, SpanData, SpanLimits, SpanRecord, Status,
+    replay,
+};
+pub use otlp_value::{AttributeList, Limits, Value};
+pub use trace_api::{BodyPass, EndPass, Ended, Provider, Span, StartFault, Tracer};
+pub use words_rng::WordsRng;
