@@ -1,15 +1,14 @@
 -- A history in which a batch is sent again, and what it comes to. (OTLP Specification, Retryable
 -- Response Codes, OTLP/HTTP Throttling)
 use Rattle.std.specs.Prelude.{ℕ, List, [], ◌∷◌, ◌++◌, Option, Some, map}
-use Rattle.std.specs.List.{range_with_len}
 use Rattle.span_model.specs.Spans.{EndedSpan}
 use Rattle.retry_model.specs.Retries.{Outcome, Next, later, seconds, again}
 use Rattle.desk_model.specs.Queue.{DeskEvent, handed_spans}
 use Rattle.desk_model.specs.Desks.{Desk}
-use Rattle.desk_laws.specs.Queues.{places, times}
+use Rattle.desk_laws.specs.Queues.{places}
 use Rattle.history_model.specs.Steps.{Step}
 use Rattle.run_model.specs.Runs.{Answer, taken, encoded, sent, replied, Answered, desk_events}
-use Rattle.run_model.specs.Headline.{OutBatch, out_after}
+use Rattle.run_model.specs.Headline.{PendingBatch, pending_after}
 use Rattle.run_model.specs.Answers.{desk_after}
 use Rattle.run_examples.specs.Worked.{queue_of, first, child, ends, started, queued, told, history_behind}
 
@@ -44,9 +43,9 @@ unfolding history_behind
 waiting_desk = desk_after (queue_of 4) waiting
 
 -- the batch that is out meanwhile
-unfoldable pub waiting_out : Option OutBatch
+unfoldable pub waiting_out : Option PendingBatch
 unfolding history_behind
-waiting_out = out_after (queue_of 4).setup waiting
+waiting_out = pending_after (queue_of 4).setup waiting
 
 -- what is done at the queue in all
 unfoldable pub retried_events : List DeskEvent
@@ -58,7 +57,7 @@ unfoldable pub retried_spans : List EndedSpan
 unfolding retried_events
 retried_spans = handed_spans retried_events
 
--- how often each of four tickets is in a place
-unfoldable pub retried_times : List ℕ
+-- the tickets in all places
+unfoldable pub retried_places : List ℕ
 unfolding retried_events
-retried_times = map (λ ticket. times ticket (places retried_events)) (range_with_len 0 4)
+retried_places = places retried_events

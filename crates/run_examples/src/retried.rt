@@ -8,7 +8,7 @@ ghost use Rattle.desk_model.specs.Queue as desk;
 ghost use Rattle.run_model.specs.Answers.{to_retry, AreAnswers};
 ghost use Rattle.run_model.specs.Headline.{EachOnce, attempts};
 ghost use Rattle.run_examples.specs.Worked.{queue_of, first_span, child_span};
-ghost use Rattle.run_examples.specs.Retried.{busy, retried, retried_history, waiting_desk, waiting_out, retried_events, retried_spans, retried_times};
+ghost use Rattle.run_examples.specs.Retried.{busy, retried, retried_history, waiting_desk, waiting_out, retried_events, retried_spans, retried_places};
 
 /// Its answers are the right ones.
 #[tactic(auto, unfolding(crate::specs::Retried::retried_history))]
@@ -34,7 +34,7 @@ pub fn while_it_waits()
 {}
 
 /// The second attempt hands nothing over once more, and the reply to it ends the batch.
-#[tactic(auto, unfolding(crate::specs::Retried::retried_events, crate::specs::Retried::retried_spans, crate::specs::Retried::retried_times))]
+#[tactic(auto, unfolding(crate::specs::Retried::retried_events, crate::specs::Retried::retried_spans, crate::specs::Retried::retried_places))]
 pub fn at_the_end()
     ensures attempts { attempts retried ≡
         record { number = 1; attempt = 1; outcome = busy } ∷
@@ -43,6 +43,6 @@ pub fn at_the_end()
         desk.queued (first_span 0) ∷ desk.flush ∷ desk.taken 10 1 ∷ desk.handed ∷
         desk.queued (child_span 1 4) ∷ desk.settled Fate.delivered ∷ [] }
     ensures handed { retried_spans ≡ first_span 0 ∷ [] }
-    ensures places { retried_times ≡ 1 ∷ 1 ∷ 0 ∷ 0 ∷ [] }
+    ensures places { retried_places ≡ 1 ∷ 0 ∷ [] }
     ensures once { EachOnce (queue_of 4).setup retried }
 {}
