@@ -43,12 +43,7 @@ fn resource<A: Allocator + Copy>(rt: &impl Abort, alloc: A) -> Arc<Resource<A>, 
 
 /// A scope of the name `library`.
 pub(crate) fn scope<A: Allocator + Copy>(rt: &impl Abort, alloc: A) -> Arc<Scope<A>, A> {
-    let scope = Scope {
-        name: text(rt, alloc, "library"),
-        version: String::new(alloc),
-        attributes: Vec::new(alloc),
-        schema_url: String::new(alloc),
-    };
+    let scope = Scope::named(alloc, "library").expect(rt, "memory");
     Arc::new(alloc, scope).expect(rt, "memory")
 }
 

@@ -25,13 +25,18 @@ pub(crate) const PARENT: SpanId = SpanId([3; 8]);
 type Pairs<A> = Vec<(String<A>, Value<A>), A>;
 
 /// A text, where memory is ample.
-fn text<A: Allocator>(rt: &impl Abort, alloc: A, text: &str) -> String<A> {
+pub(crate) fn text<A: Allocator>(rt: &impl Abort, alloc: A, text: &str) -> String<A> {
     String::from_str(alloc, text).expect(rt, "memory")
 }
 
-fn pairs<A: Allocator + Copy>(rt: &impl Abort, alloc: A, key: &str, value: &str) -> Pairs<A> {
+pub(crate) fn pairs<A: Allocator + Copy>(
+    rt: &impl Abort,
+    alloc: A,
+    key: &str,
+    value: &str,
+) -> Pairs<A> {
     let mut all = Vec::new(alloc);
-    let value = Value::Text(text(rt, alloc, value));
+    let value = Value::text(alloc, value).expect(rt, "memory");
     all.push((text(rt, alloc, key), value)).expect(rt, "memory");
     all
 }
@@ -54,12 +59,7 @@ fn resource<A: Allocator + Copy>(rt: &impl Abort, alloc: A) -> Resource<A> {
 }
 
 fn scope<A: Allocator + Copy>(rt: &impl Abort, alloc: A) -> Scope<A> {
-    Scope {
-        name: text(rt, alloc, "library"),
-        version: String::new(alloc),
-        attributes: Vec::new(alloc),
-        schema_url: String::new(alloc),
-    }
+    Scope::named(alloc, "library").expect(rt, "memory")
 }
 
 /// A server's span, from 1,000 on.

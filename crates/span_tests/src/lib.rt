@@ -4,4 +4,6 @@
 #[cfg(test)]
 mod fixture;
 #[cfg(test)]
+mod parts;
+#[cfg(test)]
 mod replays;

@@ -76,6 +76,7 @@ fn ids_and_flags_are_displayed_in_lower_case(rt: HostRuntime) {
 
 #[test]
 fn bit_0_is_the_sampled_flag(rt: HostRuntime) {
+    assert_eq!(rt; TraceFlags::SAMPLED, TraceFlags(1));
     assert!(rt; TraceFlags(255).sampled());
     assert!(rt; !TraceFlags(2).sampled());
     assert_eq!(rt; TraceFlags(2).with_sampled(true), TraceFlags(3));

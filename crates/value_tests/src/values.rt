@@ -9,7 +9,7 @@ fn string<A: Allocator>(rt: &impl Abort, alloc: A, text: &str) -> String<A> {
 }
 
 fn text<A: Allocator>(rt: &impl Abort, alloc: A, text: &str) -> Value<A> {
-    Value::Text(string(rt, alloc, text))
+    Value::text(alloc, text).expect(rt, "memory")
 }
 
 fn texts<A: Allocator + Copy>(rt: &impl Abort, alloc: A, all: &[&str]) -> Value<A> {
@@ -52,6 +52,15 @@ fn unstored<A: Allocator + Copy>(rt: &impl Abort, alloc: A) -> Vec<Value<A>, A> 
         .push(Value::Ints(Vec::new(alloc)))
         .expect(rt, "memory");
     values
+}
+
+#[test]
+fn a_text_is_made_where_memory_is_given(rt: HostRuntime) {
+    let made = text(&rt, rt.alloc(), "café");
+    assert_eq!(rt; made, Value::Text(string(&rt, rt.alloc(), "café")));
+    let scarce = LocalHeap::new(rt.alloc(), 16).expect(&rt, "memory");
+    assert_eq!(rt; text(&rt, &scarce, ""), Value::Text(String::new(&scarce)));
+    assert!(rt; Value::text(&scarce, "longer than sixteen bytes").is_err());
 }
 
 /// Copies the values into some memory, and answers how many were refused.
