@@ -1,14 +1,14 @@
 -- What each call of a desk makes of a history, by what it leaves of the desk.
 use Rattle.std.proofs.Common.{◌≡◌, refl, sym, ap, ◌∙◌, subst, ℕ, ◌+◌, ◌<◌, min, Bool, true, false, not, List, [], ◌∷◌, ◌++◌, length, take, drop, Option, Some, None}
-use Rattle.std.specs.Prelude.{option_map}
-use Rattle.std.proofs.lemmas.List.{take_min, drop_min}
+use Rattle.std.specs.Prelude.{map, option_map, reverse}
+use Rattle.std.proofs.lemmas.List.{take_min, drop_min, length-map}
 use Rattle.span_model.specs.Spans.{EndedSpan}
-use Rattle.span_model.specs.Dropped.{Reason, queue_full, entry_of, is_reason}
+use Rattle.span_model.specs.Dropped.{Entry, Reason, queue_full, entry_of, is_reason}
 use Rattle.retry_model.specs.Retries.{Fate}
 use Rattle.desk_model.specs.Queue.{queued, full, late, flush, shutdown, handed, settled, popped}
 use Rattle.desk_model.specs.Desks.{DeskConfig, Desk, OutBatch, Does, DropsSpans, IsDesk, TakesSpans, accepted_count, capped, handed_out, is_due, is_in_hand, is_with_exporter, new_desk, out_size, with_drops, with_fate}
 use Rattle.desk_model.proofs.Events.{new_desk_is, queued_does, full_does, late_does, flush_does, shutdown_does, taken_does, handed_does, dropped_does, settled_does, popped_does}
-use Rattle.batch_desk.specs.Desk.{after_drop, after_take, with_next_ticket}
+use Rattle.batch_desk.specs.Desk.{after_drop, after_names, after_take, with_next_ticket}
 
 pub new_follows : (config : DeskConfig) (made : ℕ) (new : Desk) → new ≡ new_desk config made → IsDesk made [] new
 new_follows config made new e = subst (IsDesk made []) (sym e) (new_desk_is config made)
@@ -43,6 +43,11 @@ module _ (old new : Desk) where
   pub dropped_follows : (reason : Reason) (spans : List EndedSpan) → is_in_hand old.out ≡ true → is_reason queue_full reason ≡ false → new ≡ after_drop reason spans old → DropsSpans reason spans old new
   dropped_follows reason spans a r e = subst (λ d. DropsSpans reason spans old d) (sym e) (dropped_does old reason spans (a, r))
 
+  pub named_follows : (reason : Reason) (entries : List Entry) (spans : List EndedSpan) → is_in_hand old.out ≡ true → is_reason queue_full reason ≡ false → map (entry_of reason) spans ≡ entries → new ≡ after_names reason entries old → DropsSpans reason spans old new
+  named_follows reason entries spans a r same e =
+      let count : length entries ≡ length spans = sym (ap length same) ∙ length-map spans (entry_of reason) in
+      dropped_follows reason spans a r (e ∙ ap (λ names. record old { out = None; ledger = reverse names ++ old.ledger; dropped = with_drops reason (length entries) old.dropped }) (sym same) ∙ ap (λ n. record old { out = None; ledger = reverse (map (entry_of reason) spans) ++ old.ledger; dropped = with_drops reason n old.dropped }) count)
+
   pub settled_follows : (fate : Fate) → is_with_exporter old.out ≡ true → new ≡ record old { out = None; fates = with_fate fate old.fates } → Does (settled fate) old new
   settled_follows fate a e = subst (λ d. Does (settled fate) old d) (sym e) (settled_does old fate a)
 
@@ -60,3 +65,8 @@ is_in_hand-state (Some b) n e = let p : (b.number, b.is_handed) ≡ (n, false) =
 pub handed_out-state : (o : Option OutBatch) (n : ℕ) → option_map {U = ℕ × Bool} (λ (b : OutBatch). (b.number, b.is_handed)) o ≡ Some (n, false) → Some (record { number = n; size = out_size o; is_handed = true }) ≡ handed_out o
 handed_out-state None n e = cc
 handed_out-state (Some b) n e = let p : (n, false) ≡ (b.number, b.is_handed) = cc in ap (λ (q : ℕ × Bool). Some (record b { number = q.0; is_handed = true })) p
+
+-- one that is out with this number, and was handed, is with the exporter
+pub is_with_exporter-state : (o : Option OutBatch) (n : ℕ) → option_map {U = ℕ × Bool} (λ (b : OutBatch). (b.number, b.is_handed)) o ≡ Some (n, true) → is_with_exporter o ≡ true
+is_with_exporter-state None n e = cc
+is_with_exporter-state (Some b) n e = let p : (b.number, b.is_handed) ≡ (n, true) = cc in ap (λ (q : ℕ × Bool). q.1) p

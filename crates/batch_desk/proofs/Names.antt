@@ -1,5 +1,5 @@
 -- The names of spans that go onto the ledger one after the other.
-use Rattle.std.proofs.Common.{◌≡◌, ◌≢◌, refl, sym, ap, ◌∙◌, ℕ, suc, ◌+◌, ◌<◌, arith, false, List, [], ◌∷◌, ◌++◌, length, drop, append_assoc, Some, add-one}
+use Rattle.std.proofs.Common.{◌≡◌, ◌≢◌, refl, sym, ap, ◌∙◌, suc, ◌+◌, false, List, [], ◌∷◌, ◌++◌, length, drop, append_assoc, Some, add-one}
 use Rattle.std.specs.Prelude.{map, reverse, slice_get}
 use Rattle.std.proofs.lemmas.Grind.{reverse_onto}
 use Rattle.span_model.specs.Dropped.{queue_full, is_reason}
@@ -18,13 +18,10 @@ names-first f (y ∷ ys) rest x below above e r a =
     ∙ sym (append_assoc (reverse (map f ys)) (f y ∷ []) below)
     ∙ ap (λ zs. zs ++ below) (sym onto)
 
-length-first : {X : Type 0} (items rest : List X) (x : X) → slice_get items 0 ≡ Some x → rest ≡ drop 1 items → length items ≡ length rest + 1
+-- one fewer is left
+pub length-first : {X : Type 0} (items rest : List X) (x : X) → slice_get items 0 ≡ Some x → rest ≡ drop 1 items → length items ≡ length rest + 1
 length-first [] rest x e r = cc
 length-first (y ∷ ys) rest x e r = ap (λ zs. suc (length zs)) (sym r) ∙ sym (add-one (length rest))
-
--- and all have room, as before
-pub names-fit : {X Y : Type 0} (items rest : List X) (x : X) (below above : List Y) (y : Y) (n : ℕ) → slice_get items 0 ≡ Some x → rest ≡ drop 1 items → above ≡ y ∷ below → length below + length items < n → length above + length rest < n
-names-fit items rest x below above y n e r a h = let l : length above ≡ length below + 1 = ap length a ∙ sym (add-one (length below)) in omega (arith, length-first items rest x e r)
 
 -- any other reason
 pub not-queue_full : (reason : Reason) → reason ≢ QueueFull → is_reason queue_full (reason_view reason) ≡ false

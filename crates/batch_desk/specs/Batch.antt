@@ -1,9 +1,27 @@
--- What a contract sees of a `Batch`.
-use Rattle.std.specs.Prelude.{ℕ, List}
+-- What a contract sees of a `Batch` and of a `NamedBatch`.
+use Rattle.std.specs.Prelude.{ℕ, List, map}
 use Rattle.span_model.specs.Spans.{EndedSpan}
+use Rattle.span_model.specs.Dropped.{Entry, Reason, entry_of}
 
 -- its number, its spans in queue order, and how many it has room for
 pub record BatchView : Type 0 where
   pub number : ℕ
   pub spans : List EndedSpan
   pub room : ℕ
+
+-- its number, the names of its spans in queue order, why they are dropped, and how many it had
+-- room for
+pub record NamedView : Type 0 where
+  pub number : ℕ
+  pub entries : List Entry
+  pub reason : Reason
+  pub room : ℕ
+
+-- this batch, its spans named as dropped for this reason
+abbrev pub named_batch : Reason → BatchView → NamedView
+named_batch reason batch = record {
+  number = batch.number;
+  entries = map (entry_of reason) batch.spans;
+  reason = reason;
+  room = batch.room;
+}

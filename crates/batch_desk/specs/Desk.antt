@@ -1,10 +1,10 @@
 -- What the calls of a desk answer, and what they leave of it.
-use Rattle.std.specs.Prelude.{◌≡◌, ℕ, ◌+◌, ◌-◌, ◌^◌, ◌==◌, Bool, false, if◌then◌else◌, List, [], ◌∷◌, ◌++◌, length, take, drop, map, reverse, min, Option, None, Some, option_map}
+use Rattle.std.specs.Prelude.{◌≡◌, ℕ, ◌+◌, ◌-◌, ◌^◌, ◌==◌, Bool, true, false, if◌then◌else◌, List, [], ◌∷◌, ◌++◌, length, take, drop, map, reverse, min, Option, None, Some, option_map}
 use Rattle.span_model.specs.Spans.{EndedSpan, with_ticket}
-use Rattle.span_model.specs.Dropped.{Reason, queue_full, entry_of}
+use Rattle.span_model.specs.Dropped.{Entry, Reason, queue_full, entry_of}
 use Rattle.desk_model.specs.Queue.{DeskEvent, queued, full, late}
 use Rattle.desk_model.specs.Desks.{DeskConfig, Desk, with_drops, capped}
-use Rattle.batch_desk.specs.Batch.{BatchView}
+use Rattle.batch_desk.specs.Batch.{BatchView, NamedView}
 use Rattle.batch_desk.specs.declared.admitted.Admitted.{Admitted}
 use Rattle.batch_desk.specs.declared.admitted.Admitted.TheVariants as admitted
 
@@ -20,6 +20,11 @@ admission desk =
     if desk.closed then admitted.Late
     else if length desk.waiting == desk.config.queue then admitted.Full desk.next_ticket
     else admitted.Queued desk.next_ticket
+
+-- whether it waits from then on
+abbrev pub is_queued : Admitted → Bool
+is_queued (admitted.Queued ticket) = true
+is_queued _ = false
 
 -- a span that came, and what came of it
 abbrev pub admission_event : Admitted → EndedSpan → DeskEvent
@@ -66,6 +71,12 @@ pub record IsOut (is_handed : Bool) (desk : Desk) (batch : BatchView) : Type 0 w
       ≡ Some (record { number = batch.number; size = length batch.spans; is_handed = is_handed })
   pub room : batch.room ≡ desk.config.batch
 
+-- this batch, whose spans are named, is out, and was not handed to an exporter
+pub record IsNamedOut (desk : Desk) (batch : NamedView) : Type 0 where
+  pub out : desk.out
+      ≡ Some (record { number = batch.number; size = length batch.entries; is_handed = false })
+  pub room : batch.room ≡ desk.config.batch
+
 -- the desk behind this take
 abbrev pub after_take : ℕ → Desk → Desk
 after_take now desk =
@@ -84,4 +95,12 @@ after_drop reason spans desk = record desk {
   out = None;
   ledger = reverse (map (entry_of reason) spans) ++ desk.ledger;
   dropped = with_drops reason (length spans) desk.dropped;
+}
+
+-- the desk behind the drop of the batch that is out, whose spans have these names in queue order
+abbrev pub after_names : Reason → List Entry → Desk → Desk
+after_names reason entries desk = record desk {
+  out = None;
+  ledger = reverse entries ++ desk.ledger;
+  dropped = with_drops reason (length entries) desk.dropped;
 }

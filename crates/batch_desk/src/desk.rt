@@ -1,12 +1,13 @@
-ghost use Rattle.std.specs.Prelude.{◌≡◌, ◌≢◌, ◌+◌, ◌-◌, ◌^◌, ◌<◌, ◌≤◌, ◌↔◌, ◌⊎◌, ◌&&◌, ◌++◌, ◌∷◌, [], length, drop, map, reverse, true, false, is_some, is_none, option_map, slice_get, if◌then◌else◌, nat_le, ◌*◌, Some, None, IfNone, IfOk, IfSome, IsErrOf, IsTrue};
+ghost use Rattle.std.specs.Prelude.{List, ◌≡◌, ◌≢◌, ◌+◌, ◌-◌, ◌^◌, ◌<◌, ◌≤◌, ◌↔◌, ◌⊎◌, ◌&&◌, ◌++◌, ◌∷◌, [], length, drop, map, reverse, true, false, is_some, is_none, option_map, slice_get, if◌then◌else◌, nat_le, ◌*◌, Some, None, IfNone, IfOk, IfSome, IsErrOf, IsTrue};
 ghost use Rattle.span_ring.specs.SpanRing.{IsRingSize};
 ghost use Rattle.span_ring.specs.declared.ring.TheConstants.{MAX_QUEUE};
+ghost use Rattle.span_model.specs.Spans.{EndedSpan};
 ghost use Rattle.span_model.specs.Dropped.{entry_of};
 ghost use Rattle.desk_model.specs.Queue as events;
 ghost use Rattle.desk_model.specs.Desks.{Does, DropsSpans, IsDesk, TakesSpans, accepted_count, handed_out, in_hand_size, is_due, is_flushed, new_desk, out_size, with_fate, worker_drops};
 ghost use Rattle.otlp_span.specs.Dropped.{entry_view, reason_view};
 ghost use Rattle.retry_core.specs.Retries.{fate_view};
-ghost use Rattle.batch_desk.specs.Desk.{IsOut, admission, admission_event, after_admission, after_drop, after_take, next_batch, out_state};
+ghost use Rattle.batch_desk.specs.Desk.{IsNamedOut, IsOut, admission, admission_event, after_admission, after_drop, after_names, after_take, is_queued, next_batch, out_state};
 ghost use Rattle.drop_ledger.specs.Counts.{drop_counts_view};
 ghost use Rattle.batch_desk.specs.Views.{config_view, fate_counts_view, out_view};
 
@@ -14,11 +15,12 @@ use crate::admitted::Admitted;
 use crate::batch::Batch;
 use crate::config::DeskConfig;
 use crate::mark::Mark;
+use crate::named::{NamedBatch, name_span};
 use crate::totals::{FateCounts, Totals};
 use drop_ledger::{DropCounts, Ledger};
-use otlp_span::{Entry, Reason, SpanData};
+use otlp_span::{Entry, Reason, SpanData, SpanRemains};
 use retry_core::Fate;
-use span_ring::{RingFault, Run, SpanRing};
+use span_ring::{RingFault, SpanRing};
 use std::alloc::{Allocator, Global};
 use std::marker::Model;
 
@@ -110,25 +112,38 @@ impl<A: Allocator> Desk<A> {
     /// as the queue holds, it is dropped itself: the ledger names it, as `QueueFull`. Behind a
     /// shutdown it is only counted, up to 2^64 - 1. Where the next ticket would be 2^64 - 1, the
     /// desk closes as by a shutdown (profile: tickets, the ledger, late spans).
-    pub fn admit(&mut self, mut span: SpanData<A>) -> Admitted
+    pub fn admit(&mut self, span: SpanData<A>) -> Admitted
         ensures answer { result ≡ admission self.old }
         ensures desk { self.new ≡ after_admission result span self.old }
         ensures history { Does (admission_event result span) self.old self.new }
     {
+        let (answer, _) = self.offer(span);
+        answer
+    }
+
+    /// Queues a span that has ended, as `admit` does, and frees no memory: what is left of a span
+    /// that doesn't wait is handed back, so that who calls under a lock lets it go behind that
+    /// (profile).
+    pub fn offer(&mut self, mut span: SpanData<A>) -> (Admitted, Option<SpanRemains<A>>)
+        ensures answer { result.0 ≡ admission self.old }
+        ensures desk { self.new ≡ after_admission result.0 span self.old }
+        ensures history { Does (admission_event result.0 span) self.old self.new }
+        ensures remains { is_none result.1 ≡ is_queued result.0 }
+    {
         if self.closed {
             self.late = self.late.saturating_add(1);
-            return Admitted::Late;
+            return (Admitted::Late, Some(span.into_remains()));
         }
         let ticket = self.next_ticket;
         span.set_ticket(ticket);
         self.next_ticket += 1;
         self.closed = self.next_ticket == u64::MAX;
         match self.ring.push(span) {
-            Ok(()) => Admitted::Queued(ticket),
+            Ok(()) => (Admitted::Queued(ticket), None),
             Err(span) => {
-                name_span(&mut self.ledger, span, Reason::QueueFull);
+                let remains = name_span(&mut self.ledger, span, Reason::QueueFull);
                 self.dropped.add(Reason::QueueFull, 1);
-                Admitted::Full(ticket)
+                (Admitted::Full(ticket), Some(remains))
             }
         }
     }
@@ -265,25 +280,69 @@ impl<A: Allocator> Desk<A> {
         });
     }
 
+    /// Whether this batch is out and was handed to an exporter, be it that it was cleared.
+    pub fn can_settle(&self, batch: &Batch<A>) -> bool
+        ensures { IsTrue result ↔ (out_state self.now ≡ Some (batch.now.number, true))
+            × (batch.now.room ≡ self.now.config.batch) }
+    {
+        self.out() == Some((batch.number, true)) && batch.run.room() == self.ring.batch()
+    }
+
+    /// Whether this batch, whose spans are named, is out and was not handed to an exporter.
+    pub fn can_drop(&self, batch: &NamedBatch<A>) -> bool
+        ensures { IsTrue result ↔ IsNamedOut self.now batch.now }
+    {
+        match &self.out {
+            Some(out) => {
+                out.number == batch.number
+                    && !out.is_handed
+                    && out.size == batch.names.len()
+                    && batch.run.room() == self.ring.batch()
+            }
+            None => false,
+        }
+    }
+
     /// Drops this batch, which is out and was not handed, as `is_in_hand` tells: the ledger names
     /// its spans, in their order, each as dropped for this reason. It isn't `QueueFull`, which is
-    /// that of spans that end where the queue is full (profile).
+    /// that of spans that end where the queue is full (profile). Its spans are freed here; under a
+    /// lock take `drop_named`.
     pub fn drop_batch(&mut self, batch: Batch<A>, reason: Reason)
         requires out { IsOut false self.old batch }
         requires reason { reason ≢ Reason.QueueFull }
         ensures desk { self.new ≡ after_drop (reason_view reason) batch.spans self.old }
         ensures history { DropsSpans (reason_view reason) batch.spans self.old self.new }
     {
-        let Batch { number: _, mut run } = batch;
-        self.dropped.add(reason, run.len() as u64);
-        name_run(&mut self.ledger, &mut run, reason);
+        self.drop_named(batch.into_named(reason));
+    }
+
+    /// Drops this batch, whose spans are named (`Batch::into_named`) and which is out and was not
+    /// handed, as `can_drop` tells: its names go onto the ledger, in their order. No span is freed
+    /// (profile).
+    pub fn drop_named(&mut self, batch: NamedBatch<A>)
+        requires { IsNamedOut self.old batch }
+        ensures desk { self.new ≡ after_names batch.reason batch.entries self.old }
+        ensures history { (spans : List EndedSpan)
+            → map (entry_of batch.reason) spans ≡ batch.entries
+            → DropsSpans batch.reason spans self.old self.new }
+    {
+        let NamedBatch {
+            number: _,
+            run,
+            names,
+            reason,
+        } = batch;
+        self.dropped.add(reason, names.len());
+        self.ledger.append_reversed(names);
         self.ring.give_back(run);
         self.out = None;
     }
 
-    /// Ends this batch, which is out and was handed, as `is_handed` tells, and drops its spans.
+    /// Ends this batch, which is out and was handed, as `can_settle` tells, and drops the spans
+    /// that it still has: none where it was cleared (`Batch::clear`).
     pub fn settle(&mut self, batch: Batch<A>, fate: Fate)
-        requires { IsOut true self.old batch }
+        requires out { out_state self.old ≡ Some (batch.number, true) }
+        requires room { batch.room ≡ self.old.config.batch }
         ensures desk { self.new ≡ record self.old {
           out = None;
           fates = with_fate (fate_view fate) self.old.fates;
@@ -318,6 +377,20 @@ impl<A: Allocator> Desk<A> {
         ensures { result.now ≡ self.now.ledger }
     {
         &self.ledger
+    }
+
+    /// How many spans wait.
+    pub fn waiting(&self) -> usize
+        ensures { result ≡ length self.now.waiting }
+    {
+        self.ring.len()
+    }
+
+    /// Whether the desk is closed: spans that end now are late.
+    pub fn is_closed(&self) -> bool
+        ensures { result ≡ self.now.closed }
+    {
+        self.closed
     }
 
     /// The counts of all that came so far.
@@ -364,25 +437,4 @@ fn size_of(out: Option<TakenBatch>) -> u64
     ensures { result ≡ out_size (option_map out_view out) }
 {
     out.map_or(0, |out| out.size)
-}
-
-/// Names a span on the ledger, in the memory that it brought for this.
-fn name_span<A: Allocator>(ledger: &mut Ledger<A>, span: SpanData<A>, reason: Reason)
-    requires { length ledger.old < 2 ^ 64 - 1 }
-    ensures { ledger.new ≡ entry_of (reason_view reason) span ∷ ledger.old }
-{
-    let entry = span.entry(reason);
-    ledger.push(span.into_slip(), entry);
-}
-
-/// Names the spans of a run on the ledger, the first one first.
-fn name_run<A: Allocator>(ledger: &mut Ledger<A>, run: &mut Run<SpanData<A>, A>, reason: Reason)
-    requires { length ledger.old + length run.old.items < 2 ^ 64 }
-    ensures ledger { ledger.new
-        ≡ reverse (map (entry_of (reason_view reason)) run.old.items) ++ ledger.old }
-    ensures room { run.new.room ≡ run.old.room }
-{
-    while let Some(span) = run.pop_front() {
-        name_span(ledger, span, reason);
-    }
 }

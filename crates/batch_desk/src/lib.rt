@@ -11,6 +11,7 @@ mod batch;
 mod config;
 mod desk;
 mod mark;
+mod named;
 mod totals;
 
 pub use admitted::Admitted;
@@ -18,4 +19,5 @@ pub use batch::Batch;
 pub use config::DeskConfig;
 pub use desk::Desk;
 pub use mark::Mark;
+pub use named::NamedBatch;
 pub use totals::{FateCounts, Totals};

@@ -1,13 +1,17 @@
 -- Counts of the names of a list that grows by one, or shrinks by one.
-use Rattle.std.proofs.Common.{◌≡◌, refl, sym, ap, subst, ◌∙◌, Option, Some, IsTrue, ◌-◌, ℕ, ◌+◌, List, ◌∷◌, length, cond, arith}
-use Rattle.std.proofs.lemmas.List.Sums.{sum_by-cons}
+use Rattle.std.proofs.Common.{◌≡◌, refl, sym, ap, subst, ◌∙◌, Option, Some, IsTrue, ◌-◌, ℕ, suc, ◌+◌, ◌<◌, ◌≤◌, ◌^◌, List, [], ◌∷◌, ◌++◌, drop, length, cond, arith}
+use Rattle.std.proofs.lemmas.Bool.{false≢true}
+use Rattle.std.specs.Prelude.{reverse}
+use Rattle.std.proofs.lemmas.List.Sums.{count_by-le-length, sum_by-append, sum_by-cons}
+use Rattle.std.proofs.lemmas.List.Sorted.{IsPermutation-reverse, sum_by-IsPermutation}
+use Rattle.std.proofs.lemmas.List.{length-append, length-reverse}
 use Rattle.span_model.specs.Dropped.{Reason, Entry, queue_full, encode_memory, too_large, abandoned, count_of_reason, is_reason}
 use Rattle.desk_model.specs.Desks as model
 use Rattle.desk_model.specs.Desks.{with_drops}
 use Rattle.drop_ledger.specs.declared.counts.DropCounts.{DropCounts}
 use Rattle.otlp_span.specs.Slips.{entries_of, is_named}
 use Rattle.std.specs.Option.{ForSome}
-use Rattle.drop_ledger.specs.Counts.{IsLedger, IsTally, count_in, drop_counts_view}
+use Rattle.drop_ledger.specs.Counts.{FitTogether, IsLedger, IsTally, count_in, drop_counts_view, sum_of}
 
 -- one more is counted for its own reason alone
 count-one_more : (counts : model.DropCounts) (added r : Reason) → count_in (with_drops added 1 counts) r ≡ cond (is_reason r added) 1 0 + count_in counts r
@@ -64,3 +68,60 @@ popped newest below slip len counts after e h took unlinked named counted =
       length = omega (arith, h.length, ap length all);
       tally = tally-fewer (drop_counts_view after) e (entries_of below) tally;
     }
+
+-- what two count together is the sum for each reason
+count-sum : (b c : model.DropCounts) (r : Reason) → count_in (sum_of b c) r ≡ count_in b r + count_in c r
+count-sum b c queue_full = refl
+count-sum b c encode_memory = refl
+count-sum b c too_large = refl
+count-sum b c abandoned = refl
+
+-- as often among the names of two lists, of which one is turned round
+count-turned : (r : Reason) (above below : List Entry) → count_of_reason r (reverse above ++ below) ≡ count_of_reason r below + count_of_reason r above
+count-turned r above below =
+    let one : Entry → ℕ = λ x. cond (is_reason r x.reason) 1 0 in
+    let both : count_of_reason r (reverse above ++ below) ≡ count_of_reason r (reverse above) + count_of_reason r below = sum_by-append one (reverse above) below in
+    let turned : count_of_reason r (reverse above) ≡ count_of_reason r above = sum_by-IsPermutation one above (reverse above) (IsPermutation-reverse above) in
+    omega (arith, both, turned)
+
+tally-turned : (b c : model.DropCounts) (below above : List Entry) → IsTally b below → IsTally c above → IsTally (sum_of b c) (reverse above ++ below)
+tally-turned b c below above h k = record {
+  exact = λ r. let each : count_in b r ≡ count_of_reason r below = h.exact r in
+      let more : count_in c r ≡ count_of_reason r above = k.exact r in
+      omega (arith, count-sum b c r, count-turned r above below, each, more);
+}
+
+-- each reason is counted no more often than there are names
+tally-fits : (b c : model.DropCounts) (below above : List Entry) (r : Reason) → IsTally b below → IsTally c above → length below + length above < 2 ^ 64 → count_in b r + count_in c r < 2 ^ 64
+tally-fits b c below above r h k fits =
+    let is_r = λ (x : Entry). is_reason r x.reason in
+    let each : count_in b r ≡ count_of_reason r below = h.exact r in
+    let more : count_in c r ≡ count_of_reason r above = k.exact r in
+    let few : count_of_reason r below ≤ length below = count_by-le-length is_r below in
+    let fewer : count_of_reason r above ≤ length above = count_by-le-length is_r above in
+    omega (arith, each, more, few, fewer, fits)
+
+pub fit-together : (b c : model.DropCounts) (below above : List Entry) → IsTally b below → IsTally c above → length below + length above < 2 ^ 64 → FitTogether b c
+fit-together b c below above h k fits = record {
+  queue_full = tally-fits b c below above queue_full h k fits;
+  encode_memory = tally-fits b c below above encode_memory h k fits;
+  too_large = tally-fits b c below above too_large h k fits;
+  abandoned = tally-fits b c below above abandoned h k fits;
+}
+
+-- the ledger after another one was put onto it
+pub appended : (newest other turned : Option (List Entry)) (len more : ℕ) (counts others after : DropCounts) → IsLedger newest len counts → IsLedger other more others →
+    entries_of turned ≡ reverse (entries_of other) ++ entries_of newest → ForSome turned (λ es. IsTrue (is_named es)) → drop_counts_view after ≡ sum_of (drop_counts_view counts) (drop_counts_view others) → IsLedger turned (len + more) after
+appended newest other turned len more counts others after h k all named counted = record {
+  named = named;
+  length = omega (arith, h.length, k.length, ap length all, length-append (reverse (entries_of other)) (entries_of newest), length-reverse (entries_of other));
+  tally = subst (λ es. IsTally (drop_counts_view after) es) (sym all) (subst (λ c. IsTally c (reverse (entries_of other) ++ entries_of newest)) (sym counted) (tally-turned (drop_counts_view counts) (drop_counts_view others) (entries_of newest) (entries_of other) h.tally k.tally));
+}
+
+-- below a slip that names something there are fewer names
+pub fewer-below : (rest below : Option (List Entry)) (slip : List Entry) → ForSome rest (λ es. IsTrue (is_named es)) → rest ≡ Some slip → entries_of below ≡ drop 1 slip → length (entries_of below) < length (entries_of rest)
+fewer-below rest below [] named e b = absurd (false≢true (named [] e))
+fewer-below rest below (x ∷ xs) named e b =
+    let left : length (entries_of below) ≡ length xs = ap length b in
+    let all : length (entries_of rest) ≡ suc (length xs) = ap (λ o. length (entries_of o)) e in
+    omega (arith, left, all)

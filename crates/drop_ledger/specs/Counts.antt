@@ -1,5 +1,5 @@
 -- How many names there are of each reason.
-use Rattle.std.specs.Prelude.{◌≡◌, ℕ, List, length, IsTrue, Option}
+use Rattle.std.specs.Prelude.{◌≡◌, ℕ, ◌+◌, ◌^◌, ◌<◌, List, length, IsTrue, Option}
 use Rattle.std.specs.Option.{ForSome}
 use Rattle.span_model.specs.Dropped.{Reason, Entry, queue_full, encode_memory, too_large, abandoned, count_of_reason}
 use Rattle.desk_model.specs.Desks as model
@@ -20,6 +20,22 @@ count_in c queue_full = c.queue_full
 count_in c encode_memory = c.encode_memory
 count_in c too_large = c.too_large
 count_in c abandoned = c.abandoned
+
+-- what two count together
+abbrev pub sum_of : model.DropCounts → model.DropCounts → model.DropCounts
+sum_of b c = record {
+  queue_full = b.queue_full + c.queue_full;
+  encode_memory = b.encode_memory + c.encode_memory;
+  too_large = b.too_large + c.too_large;
+  abandoned = b.abandoned + c.abandoned;
+}
+
+-- what two count together is within 64 bits
+pub record FitTogether (b c : model.DropCounts) : Type 0 where
+  pub queue_full : b.queue_full + c.queue_full < 2 ^ 64
+  pub encode_memory : b.encode_memory + c.encode_memory < 2 ^ 64
+  pub too_large : b.too_large + c.too_large < 2 ^ 64
+  pub abandoned : b.abandoned + c.abandoned < 2 ^ 64
 
 -- Each reason is counted as often as it stands in the list.
 pub record IsTally (counts : model.DropCounts) (entries : List Entry) : Type 0 where

@@ -1,7 +1,7 @@
 ghost use Rattle.std.specs.Prelude.{◌≡◌, ◌+◌, ◌^◌, ◌<◌};
 ghost use Rattle.desk_model.specs.Desks.{no_drops, with_drops};
 ghost use Rattle.otlp_span.specs.Dropped.{reason_view};
-ghost use Rattle.drop_ledger.specs.Counts.{count_in, drop_counts_view};
+ghost use Rattle.drop_ledger.specs.Counts.{FitTogether, count_in, drop_counts_view, sum_of};
 
 use otlp_span::Reason;
 
@@ -55,6 +55,18 @@ impl DropCounts {
             Reason::TooLarge => self.too_large += count,
             Reason::Abandoned => self.abandoned += count,
         }
+    }
+
+    /// Counts all that others count.
+    pub(crate) fn add_all(&mut self, others: DropCounts)
+        requires { FitTogether (drop_counts_view self.old) (drop_counts_view others) }
+        ensures { drop_counts_view self.new
+            ≡ sum_of (drop_counts_view self.old) (drop_counts_view others) }
+    {
+        self.queue_full += others.queue_full;
+        self.encode_memory += others.encode_memory;
+        self.too_large += others.too_large;
+        self.abandoned += others.abandoned;
     }
 
     /// Counts one less for this reason.

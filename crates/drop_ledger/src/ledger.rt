@@ -1,6 +1,8 @@
-ghost use Rattle.std.specs.Prelude.{◌≡◌, ◌-◌, ◌^◌, ◌<◌, ◌∷◌, ◌==◌, [], IfNone, IfSome, length, option_map, slice_get};
+ghost use Rattle.std.specs.Prelude.{◌≡◌, ◌+◌, ◌-◌, ◌^◌, ◌<◌, ◌∷◌, ◌++◌, ◌==◌, [], IfNone, IfSome, IsTrue, length, option_map, reverse, slice_get};
+ghost use Rattle.std.specs.Option.{ForSome};
 ghost use Rattle.span_model.specs.Dropped.{count_of_reason};
 ghost use Rattle.otlp_span.specs.Dropped.{entry_view, reason_view};
+ghost use Rattle.otlp_span.specs.Slips.{entries_of, is_named};
 
 use crate::counts::DropCounts;
 use otlp_span::{Entries, Entry, Reason, Slip};
@@ -104,6 +106,23 @@ impl<A: Allocator> Ledger<A> {
         self.newest = Some(slip.link(entry, below));
     }
 
+    /// Moves the names of another ledger onto this one, its newest first: so they stand here the
+    /// other way round. Each slip is linked anew; no memory is taken or freed.
+    pub fn append_reversed(&mut self, other: Ledger<A>)
+        requires { length self.old + length other < 2 ^ 64 }
+        ensures { self.new ≡ reverse other ++ self.old }
+    {
+        let Ledger {
+            newest,
+            len,
+            counts,
+        } = other;
+        let below = self.newest.take();
+        self.newest = turned_onto(newest, below);
+        self.len += len;
+        self.counts.add_all(counts);
+    }
+
     /// Takes the name out that was pushed last, if there is one. Its slip's memory is freed.
     pub fn pop(&mut self) -> Option<Entry>
         ensures some { IfSome result (λ entry. self.old ≡ entry_view entry ∷ self.new) }
@@ -117,4 +136,19 @@ impl<A: Allocator> Ledger<A> {
         self.counts.remove(entry.reason);
         Some(entry)
     }
+}
+
+/// Links the slips of a chain onto another one, the first of them first.
+fn turned_onto<A: Allocator>(chain: Option<Slip<A>>, onto: Option<Slip<A>>) -> Option<Slip<A>>
+    requires chain_named { ForSome chain (λ slip. IsTrue (is_named slip)) }
+    requires onto_named { ForSome onto (λ slip. IsTrue (is_named slip)) }
+    ensures all { entries_of result ≡ reverse (entries_of chain) ++ entries_of onto }
+    ensures named { ForSome result (λ slip. IsTrue (is_named slip)) }
+{
+    let (mut rest, mut turned) = (chain, onto);
+    while let Some(mut slip) = rest {
+        rest = slip.relink(turned);
+        turned = Some(slip);
+    }
+    turned
 }

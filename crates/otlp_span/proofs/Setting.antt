@@ -1,14 +1,10 @@
 -- Several pairs, set one after the other.
-use Rattle.std.proofs.Common.{◌≡◌, refl, sym, ap, subst, ◌∙◌, List, [], ◌∷◌, ◌++◌, append_assoc, String}
-use Rattle.std.proofs.lemmas.List.{append-nil, map-append}
+use Rattle.std.proofs.Common.{◌≡◌, sym, ap, subst, ◌∙◌, List, [], ◌∷◌, ◌++◌, append_assoc, String}
+use Rattle.std.proofs.lemmas.List.{map-append}
 use Rattle.span_model.specs.Attributes.{Attribute, AttributeList, Kept, Limits, SetsPair, attribute_list, attributes}
 use Rattle.otlp_value.specs.declared.Value.{Value}
 use Rattle.otlp_value.specs.Value.{attribute_view, attributes_view}
 use Rattle.otlp_span.specs.Pairs.{SetsPairs}
-
--- none at all
-pub sets-none : (list : AttributeList) → SetsPairs [] list list
-sets-none list = record { limits = refl; value = λ pairs is. is ∙ ap (attributes list.limits) (sym (append-nil pairs)) }
 
 -- some, and then others
 pub sets-more : {xs ys : List Attribute} {a b c : AttributeList} → SetsPairs xs a b → SetsPairs ys b c → SetsPairs (xs ++ ys) a c

@@ -1,5 +1,5 @@
 -- What the body of a span is in the model.
-use Rattle.std.specs.Prelude.{◌≡◌, ℕ, map, string_bytes}
+use Rattle.std.specs.Prelude.{◌≡◌, ℕ, is_some, map, string_bytes, true}
 use Rattle.std.specs.Arc.{arc_value}
 use Rattle.span_model.specs.Attributes.{Kept}
 use Rattle.span_model.specs.Spans as model
@@ -45,3 +45,7 @@ recording_view b = record {
 -- the attributes are kept under the limits of the span
 abbrev pub IsLimited : {A : Type 0} → SpanBody A → Type 0
 IsLimited b = b.attributes.limits ≡ model.attribute_limits (limits_view b.limits)
+
+-- the memory in which the span is named is still there
+abbrev pub HasSlip : {A : Type 0} → SpanBody A → Type 0
+HasSlip b = is_some b.slip ≡ true

@@ -23,15 +23,16 @@ pub(crate) struct SpanBody<A: Allocator> {
     pub(crate) limits: SpanLimits,
     pub(crate) context: SpanContext<A>,
     pub(crate) parent: Option<SpanId>,
+    pub(crate) kind: Kind,
     pub(crate) resource: Arc<Resource<A>, A>,
     pub(crate) scope: Arc<Scope<A>, A>,
     pub(crate) name: String<A>,
-    pub(crate) kind: Kind,
     pub(crate) start: u64,
     pub(crate) end: u64,
     pub(crate) attributes: AttributeList<A>,
     pub(crate) events: Kept<Event<A>, A>,
     pub(crate) links: Kept<Link<A>, A>,
     pub(crate) status: Status<A>,
-    pub(crate) slip: BlankSlip<A>,
+    // `None` once it was taken out.
+    pub(crate) slip: Option<BlankSlip<A>>,
 }

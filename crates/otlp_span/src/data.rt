@@ -6,7 +6,7 @@ ghost use Rattle.otlp_value.specs.Value.{attributes_view};
 ghost use Rattle.otlp_span.specs.Dropped.{entry_view, reason_view};
 ghost use Rattle.otlp_span.specs.Parts.{event_view, kind_view, link_view, parent_id_view, resource_view, scope_view, status_view};
 
-use crate::body::SpanBody;
+use crate::body::{BlankSlip, SpanBody};
 use crate::parts::{Event, Kind, Link, Resource, Scope, Status};
 use crate::reason::Reason;
 use crate::slip::{Entry, Slip};
@@ -25,14 +25,25 @@ pub struct SpanData<A: Allocator = Global> {
     pub(crate) ticket: u64,
 }
 
+/// What is left of a span that was dropped, in its memory: it is only to be let go, which frees
+/// that, where it suits (profile). With an allocator of no size, as `Global`, it is as large as a
+/// pointer.
+#[derive(Drop)]
+#[derive_where(Debug)]
+pub struct SpanRemains<A: Allocator = Global> {
+    body: Box<SpanBody<A>, A>,
+}
+
 impl<A: Allocator> Model for SpanData<A> {
     ghost use Rattle.span_model.specs.Spans.{EndedSpan};
 
     ghost Value = { EndedSpan };
 
-    ghost use Rattle.otlp_span.specs.Body.{ended_view};
+    ghost use Rattle.otlp_span.specs.Body.{HasSlip, ended_view};
 
     ghost view = { λ s. ended_view s.ticket s.body.value };
+
+    ghost invariant = { λ s. HasSlip s.body.value };
 }
 
 impl<A: Allocator> SpanData<A> {
@@ -171,8 +182,26 @@ impl<A: Allocator> SpanData<A> {
     pub fn into_slip(self) -> Slip<A>
         ensures { result ≡ [] }
     {
-        let body = Box::into_inner(self.body);
-        body.slip.slip
+        let (slip, _) = self.split();
+        slip
+    }
+
+    /// The memory in which the span is named once it is dropped, which names nothing yet, and all
+    /// else that the span has: nothing is dropped yet, and no memory is freed (profile).
+    pub fn split(self) -> (Slip<A>, SpanRemains<A>)
+        ensures { result.0 ≡ [] }
+    {
+        let SpanData {
+            mut body,
+            ticket: _,
+        } = self;
+        let BlankSlip { slip } = body.slip.take().unwrap();
+        (slip, SpanRemains { body })
+    }
+
+    /// All that the span has, only to be dropped (profile).
+    pub fn into_remains(self) -> SpanRemains<A> {
+        SpanRemains { body: self.body }
     }
 
     /// What came of the operation (Trace API, "Set Status").

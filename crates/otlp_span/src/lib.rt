@@ -13,7 +13,7 @@ mod record;
 mod slip;
 
 pub use calls::replay;
-pub use data::SpanData;
+pub use data::{SpanData, SpanRemains};
 pub use parts::{Event, Kind, Link, Open, Resource, Scope, SpanCall, SpanLimits, Status};
 pub use reason::Reason;
 pub use record::SpanRecord;

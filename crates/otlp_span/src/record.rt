@@ -32,11 +32,11 @@ impl<A: Allocator> Model for SpanRecord<A> {
 
     ghost Value = { Recording };
 
-    ghost use Rattle.otlp_span.specs.Body.{IsLimited, recording_view};
+    ghost use Rattle.otlp_span.specs.Body.{HasSlip, IsLimited, recording_view};
 
     ghost view = { λ r. recording_view r.body.value };
 
-    ghost invariant = { λ r. IsLimited r.body.value };
+    ghost invariant = { λ r. IsLimited r.body.value × HasSlip r.body.value };
 }
 
 impl<A: Allocator + Copy> SpanRecord<A> {
@@ -83,7 +83,7 @@ impl<A: Allocator + Copy> SpanRecord<A> {
                 events: Kept::new(alloc),
                 links: Kept::new(alloc),
                 status: Status::Unset,
-                slip,
+                slip: Some(slip),
             },
         )?;
         Ok(SpanRecord { body })

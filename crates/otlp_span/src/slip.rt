@@ -1,4 +1,4 @@
-ghost use Rattle.std.specs.Prelude.{◌≡◌, ◌≤◌, ◌∷◌, [], IfOk, IsTrue, length, option_map, slice_get};
+ghost use Rattle.std.specs.Prelude.{◌≡◌, ◌≤◌, ◌∷◌, ◌++◌, [], IfOk, IsTrue, drop, length, option_map, slice_get, take};
 ghost use Rattle.std.specs.Option.{ForSome, option_copied};
 ghost use Rattle.otlp_span.specs.Dropped.{entry_view};
 ghost use Rattle.otlp_span.specs.Slips.{entries_of, is_named, slip_count};
@@ -6,9 +6,9 @@ ghost use Rattle.otlp_span.specs.Slips.{entries_of, is_named, slip_count};
 use crate::reason::Reason;
 use otlp_ids::{OutOfMemory, SpanId, TraceId};
 use std::alloc::{Allocator, Global};
-use std::fmt;
 use std::iter::FusedIterator;
 use std::marker::Model;
+use std::{fmt, mem};
 
 /// The name of a span that was dropped (profile).
 #[derive(Debug, Clone, Copy, PartialEq, Eq)]
@@ -96,6 +96,21 @@ impl<A: Allocator> Slip<A> {
         let Slip { note } = self;
         match Box::into_inner(note) {
             Note::Named(entry, below) => (entry, below),
+            Note::Blank => unreachable!(),
+        }
+    }
+
+    /// Links a slip that names a span above other ones, and gives back what was linked below it. No
+    /// memory is taken or freed.
+    pub fn relink(&mut self, below: Option<Slip<A>>) -> Option<Slip<A>>
+        requires named { IsTrue (is_named self.old) }
+        requires below_named { ForSome below (λ slip. IsTrue (is_named slip)) }
+        ensures slip { self.new ≡ take 1 self.old ++ entries_of below }
+        ensures below { entries_of result ≡ drop 1 self.old }
+        ensures was_named { ForSome result (λ slip. IsTrue (is_named slip)) }
+    {
+        match &mut *self.note {
+            Note::Named(_, linked) => mem::replace(linked, below),
             Note::Blank => unreachable!(),
         }
     }

@@ -16,7 +16,7 @@ use std::test::Fail;
 const DELAY: u64 = 5_000_000_000;
 
 /// A desk made at moment 0.
-fn desk_of(rt: &impl Abort, alloc: Global, queue: usize, batch: usize) -> Desk {
+pub(crate) fn desk_of(rt: &impl Abort, alloc: Global, queue: usize, batch: usize) -> Desk {
     let config = DeskConfig {
         queue,
         batch,
@@ -26,7 +26,7 @@ fn desk_of(rt: &impl Abort, alloc: Global, queue: usize, batch: usize) -> Desk {
 }
 
 /// Queues spans with these numbers, which are their tickets.
-fn queue(rt: &impl Abort, desk: &mut Desk, spans: &Spans, numbers: Range<u64>) {
+pub(crate) fn queue(rt: &impl Abort, desk: &mut Desk, spans: &Spans, numbers: Range<u64>) {
     for number in numbers {
         let admitted = desk.admit(spans.ended(rt, number));
         assert_eq!(rt; admitted, Admitted::Queued(number));
@@ -34,7 +34,13 @@ fn queue(rt: &impl Abort, desk: &mut Desk, spans: &Spans, numbers: Range<u64>) {
 }
 
 /// Takes a batch of these tickets.
-fn take(rt: &impl Abort, desk: &mut Desk, now: u64, number: u64, tickets: &[u64]) -> Batch {
+pub(crate) fn take(
+    rt: &impl Abort,
+    desk: &mut Desk,
+    now: u64,
+    number: u64,
+    tickets: &[u64],
+) -> Batch {
     let batch = desk.take(now).expect(rt, "a batch is due");
     assert_eq!(rt; batch.number(), number);
     assert_eq!(rt; batch.spans().len(), tickets.len());
@@ -54,7 +60,7 @@ fn take_none(rt: &impl Abort, desk: &mut Desk, now: u64) {
 }
 
 /// Hands the batch over that is in hand.
-fn hand(rt: &impl Abort, desk: &mut Desk, batch: &Batch) {
+pub(crate) fn hand(rt: &impl Abort, desk: &mut Desk, batch: &Batch) {
     assert!(rt; desk.is_in_hand(batch));
     assert!(rt; !desk.is_handed(batch));
     match desk.out() {
@@ -88,7 +94,7 @@ fn drop_batch(rt: &impl Abort, desk: &mut Desk, batch: Batch) {
 }
 
 /// The name of the span with this number, which is its ticket.
-fn name(number: u64, reason: Reason) -> Entry {
+pub(crate) fn name(number: u64, reason: Reason) -> Entry {
     Entry {
         trace: TRACE,
         span: SpanId(number.to_be_bytes()),

@@ -97,6 +97,46 @@ fn a_long_ledger_is_counted_and_let_go(rt: HostRuntime) -> Result<(), Fail> {
 }
 
 #[test]
+fn a_chain_is_linked_anew(rt: HostRuntime) -> Result<(), Fail> {
+    let spans = Spans::new(&rt, rt.alloc());
+    let slip = |number: u64| {
+        let span = spans.ended(&rt, number);
+        let entry = span.entry(Reason::TooLarge);
+        let (slip, _) = span.split();
+        (slip, entry)
+    };
+    let ((first, one), (second, two), (third, three)) = (slip(1), slip(2), slip(3));
+    let below = first.link(one, None);
+    let other = second.link(two, None);
+    let mut chain = third.link(three, Some(below));
+    let was = chain.relink(Some(other)).expect(&rt, "a slip was below");
+    assert_eq!(rt; was.newest().copied(), Some(one));
+    assert_eq!(rt; chain.iter().count(), 2);
+    let (newest, below) = chain.unlink();
+    assert_eq!(rt; newest, three);
+    assert_eq!(rt; below.expect(&rt, "a slip below").unlink().0, two);
+    Ok(())
+}
+
+#[test]
+fn a_ledger_goes_onto_another_the_other_way_round(rt: HostRuntime) -> Result<(), Fail> {
+    let spans = Spans::new(&rt, rt.alloc());
+    let (mut ledger, mut more) = (Ledger::new(), Ledger::new());
+    drop_span(&rt, &spans, &mut ledger, 0);
+    for number in 1..4u64 {
+        drop_span(&rt, &spans, &mut more, number);
+    }
+    assert!(rt; ledger.len().checked_add(more.len()).is_some());
+    ledger.append_reversed(more);
+    assert_eq!(rt; (ledger.len(), ledger.count(Reason::EncodeMemory)), (4, 2));
+    for number in [1, 2, 3, 0] {
+        assert_eq!(rt; ledger.pop(), Some(name(number, number, reason_of(number))));
+    }
+    assert!(rt; ledger.is_empty());
+    Ok(())
+}
+
+#[test]
 fn the_newest_name_is_popped_first(rt: HostRuntime) -> Result<(), Fail> {
     let spans = Spans::new(&rt, rt.alloc());
     let mut ledger = Ledger::new();

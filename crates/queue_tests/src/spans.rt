@@ -1,7 +1,7 @@
 //! Spans of one resource and one scope, each with its number as its identifier.
 use otlp_ids::{SpanContext, SpanId, TraceFlags, TraceId};
 use otlp_span::{Kind, Open, Resource, Scope, SpanData, SpanLimits, SpanRecord};
-use std::alloc::Global;
+use std::alloc::{Allocator, Global};
 use std::process::Abort;
 use std::sync::Arc;
 
@@ -9,14 +9,14 @@ pub(crate) const TRACE: TraceId = TraceId([1; 16]);
 
 /// What the spans share.
 #[derive(Drop)]
-pub(crate) struct Spans {
-    alloc: Global,
-    resource: Arc<Resource>,
-    scope: Arc<Scope>,
+pub(crate) struct Spans<A: Allocator = Global> {
+    alloc: A,
+    resource: Arc<Resource<A>, A>,
+    scope: Arc<Scope<A>, A>,
 }
 
-impl Spans {
-    pub(crate) fn new(rt: &impl Abort, alloc: Global) -> Spans {
+impl<A: Allocator + Copy> Spans<A> {
+    pub(crate) fn new(rt: &impl Abort, alloc: A) -> Spans<A> {
         let resource = Resource {
             attributes: Vec::new(alloc),
             schema_url: String::new(alloc),
@@ -35,7 +35,7 @@ impl Spans {
     }
 
     /// A span that has ended.
-    pub(crate) fn ended(&self, rt: &impl Abort, number: u64) -> SpanData {
+    pub(crate) fn ended(&self, rt: &impl Abort, number: u64) -> SpanData<A> {
         let context = SpanContext {
             trace: TRACE,
             span: SpanId(number.to_be_bytes()),

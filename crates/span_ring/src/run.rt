@@ -89,7 +89,7 @@ impl<T, A: Allocator> Run<T, A> {
     }
 
     /// Drops the items.
-    pub(crate) fn clear(&mut self)
+    pub fn clear(&mut self)
     where
         T: Drop,
         ensures { self.new ≡ record self.old { items = [] } }

@@ -1,7 +1,7 @@
 use Rattle.std.proofs.Common.{arith, rules}
 use Rattle.std.proofs.lemmas.Grind.{common_steps}
 use Rattle.batch_desk.proofs.Histories.{full_follows, late_follows, queued_follows}
-use Rattle.batch_desk.proofs.desk.Desk.admit.Goals as goal
+use Rattle.batch_desk.proofs.desk.Desk.offer.Goals as goal
 
 pub returns-then-self-clause-history : goal.returns-then-self-clause-history
 returns-then-self-clause-history g c = late_follows _ _ (search rules) (grind (arith, common_steps))
