@@ -1,0 +1,58 @@
+-- The accounts of the examples: a queue of 2 spans and batches of 2; the spans with the tickets 0, 1
+-- and 2 end on the first pass, where 2 finds the queue full; a flush is answered; then 3 ends on the
+-- second pass, which pops the entry of 2 and shuts down, and one that ends behind that is late.
+use Rattle.std.specs.Prelude.{ℕ, List, [], ◌∷◌, Option, Some, None, false}
+use Rattle.span_model.specs.Dropped.{Reason}
+use Rattle.retry_model.specs.Retries.{Outcome, later, Fate}
+use Rattle.retry_model.specs.Waits.{RetryConfig}
+use Rattle.desk_examples.specs.Histories.{named, span_at}
+use Rattle.batch_model.specs.Passes.{PassAccount, Drop, queued, dropped}
+use Rattle.batch_model.specs.Worker.{WorkerAccount, OutBatch, settled}
+
+-- ticket 2 found the queue full, on a pass that had no floor yet
+abbrev pub drop_of_2 : Drop
+drop_of_2 = record { entry = named Reason.queue_full 2; floor = 0 }
+
+abbrev pub first : PassAccount
+first = record {
+  ends = queued (span_at 0) ∷ queued (span_at 1) ∷ dropped drop_of_2 ∷ [];
+  popped = [];
+  late = 1;
+  shutdowns = 0;
+  asked = record { ticket = 3; mark = 2 };
+  floor = 3;
+}
+
+abbrev pub second : PassAccount
+second = record {
+  ends = queued (span_at 3) ∷ [];
+  popped = named Reason.queue_full 2 ∷ [];
+  late = 0;
+  shutdowns = 1;
+  asked = record { ticket = 4; mark = 3 };
+  floor = 0;
+}
+
+abbrev pub both : List PassAccount
+both = first ∷ second ∷ []
+
+-- two attempts at most
+abbrev pub twice : RetryConfig
+twice = record { attempts = 2; initial_ms = 1000; max_ms = 30000 }
+
+-- the batch of ticket 3 is out, and was handed or not
+abbrev pub out_with : Option (List ℕ) → List Outcome → OutBatch
+out_with body outcomes =
+    record { number = 2; spans = span_at 3 ∷ []; body = body; outcomes = outcomes }
+
+-- The first batch was delivered by its second attempt, and the second one is out.
+abbrev pub worker_with : OutBatch → WorkerAccount
+worker_with out = record {
+  ended = record {
+    number = 1;
+    spans = span_at 0 ∷ span_at 1 ∷ [];
+    ending = settled (7 ∷ []) (later 503 None ∷ Outcome.delivered ∷ []) Fate.delivered;
+  } ∷ [];
+  out = Some out;
+  drained = false;
+}

@@ -1,0 +1,2 @@
+-- What the examples are about.
+pub mod Accounts

@@ -1,0 +1,46 @@
+//! What a worker knows (profile), and what its outcomes lead to (OTLP Specification, OTLP/HTTP
+//! Response).
+
+ghost use Rattle.std.specs.Prelude.{◌≡◌, [], ◌∷◌, Some, None};
+ghost use Rattle.span_model.specs.Dropped as names;
+ghost use Rattle.retry_model.specs.Retries.{Fate, Outcome, given_up, later, no_reply};
+ghost use Rattle.desk_examples.specs.Histories.{named};
+ghost use Rattle.batch_model.specs.Worker.{dropped_spans, fates, handed_spans, numbers, taken_spans, worker_entries};
+ghost use Rattle.batch_model.specs.Clauses.{EachLeadsOn, LeadsTo, abandon, tickets_of};
+ghost use Rattle.batch_examples.specs.Accounts.{out_with, twice, worker_with};
+
+/// Two batches, of which one is out.
+pub fn two()
+    ensures numbers { numbers (worker_with (out_with None [])) ≡ 1 ∷ 2 ∷ [] }
+    ensures taken { tickets_of (taken_spans (worker_with (out_with None []))) ≡ 0 ∷ 1 ∷ 3 ∷ [] }
+    // A batch that is out has no fate yet.
+    ensures fates { fates (worker_with (out_with None [])) ≡ Fate.delivered ∷ [] }
+{}
+
+/// The batch that is out is abandoned, before it was handed and after that.
+pub fn abandoned()
+    ensures named { worker_entries (abandon (worker_with (out_with None []))) ≡
+        named names.abandoned 3 ∷ [] }
+    ensures dropped { tickets_of (dropped_spans (abandon (worker_with (out_with None [])))) ≡
+        3 ∷ [] }
+    ensures unnamed { worker_entries
+        (abandon (worker_with (out_with (Some (8 ∷ [])) (no_reply ∷ [])))) ≡ [] }
+    ensures handed { tickets_of
+        (handed_spans (abandon (worker_with (out_with (Some (8 ∷ [])) (no_reply ∷ []))))) ≡
+        0 ∷ 1 ∷ 3 ∷ [] }
+    ensures settled { fates
+        (abandon (worker_with (out_with (Some (8 ∷ [])) (no_reply ∷ [])))) ≡
+        Fate.delivered ∷ Fate.abandoned ∷ [] }
+    ensures still_numbered { numbers (abandon (worker_with (out_with None []))) ≡ 1 ∷ 2 ∷ [] }
+{}
+
+/// What outcomes lead to, where there are two attempts.
+pub fn outcomes()
+    ensures again { LeadsTo twice 1 (later 503 None) None }
+    ensures last { LeadsTo twice 2 (later 503 None) (Some given_up) }
+    ensures no_reply { LeadsTo twice 2 no_reply (Some given_up) }
+    ensures delivered { LeadsTo twice 2 Outcome.delivered (Some Fate.delivered) }
+    ensures refused { LeadsTo twice 1 (Outcome.refused 400) (Some (Fate.refused 400)) }
+    ensures bad { LeadsTo twice 1 Outcome.bad (Some Fate.bad_reply) }
+    ensures each { EachLeadsOn twice 1 (no_reply ∷ []) }
+{}

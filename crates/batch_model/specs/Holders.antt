@@ -1,0 +1,142 @@
+-- What the accounts of a batch processor say. (profile)
+use Rattle.std.specs.Prelude.{◌≡◌, ℕ, ◌+◌, List, [], ◌∷◌, ◌++◌, filter_map, Option, Some, None, Bool, true}
+use Rattle.desk_model.specs.Desks.{DeskConfig}
+use Rattle.retry_model.specs.Retries.{Outcome, Fate}
+use Rattle.span_model.specs.Spans.{EndedSpan, with_ticket}
+use Rattle.span_model.specs.Dropped.{Reason, queue_full, Entry, entry_of}
+use Rattle.batch_model.specs.Passes.{PassAccount, new_account, queued, dropped}
+use Rattle.batch_model.specs.Worker as batches
+use Rattle.batch_model.specs.Worker.{WorkerAccount, OutBatch, EndedBatch, BatchEnd, new_worker}
+use Rattle.batch_model.specs.Clauses.{Origin}
+
+-- the processor's own account, that of a pass, or that of the worker
+pub data Holder : Type 0 where
+  processor : Origin → Holder
+  pass : PassAccount → Holder
+  worker : Origin → WorkerAccount → Holder
+
+abbrev pub new_origin : Origin
+new_origin = record {
+  passes = 0;
+  desk = record { queue = 0; batch = 0; delay_ms = 0 };
+  retry = record { attempts = 0; initial_ms = 0; max_ms = 0 };
+}
+
+abbrev pub origin_in : Holder → Origin
+origin_in (processor origin) = origin
+origin_in (pass account) = new_origin
+origin_in (worker origin account) = origin
+
+abbrev pub account_in : Holder → PassAccount
+account_in (pass account) = account
+account_in _ = new_account
+
+abbrev pub worker_in : Holder → WorkerAccount
+worker_in (worker origin account) = account
+worker_in _ = new_worker
+
+abbrev pub pass_account : Holder → Option PassAccount
+pass_account (pass account) = Some account
+pass_account _ = None
+
+abbrev pub worker_account : Holder → Option WorkerAccount
+worker_account (worker origin account) = Some account
+worker_account _ = None
+
+-- the accounts of the passes, and those of the workers
+abbrev pub pass_accounts : List Holder → List PassAccount
+pass_accounts holders = filter_map pass_account holders
+
+abbrev pub worker_accounts : List Holder → List WorkerAccount
+worker_accounts holders = filter_map worker_account holders
+
+-- what is told to a pass's account, or to the worker's, changes it alone
+abbrev pub on_pass : (PassAccount → PassAccount) → Holder → Holder
+on_pass f (pass account) = pass (f account)
+on_pass f holder = holder
+
+abbrev pub on_worker : (WorkerAccount → WorkerAccount) → Holder → Holder
+on_worker f (worker origin account) = worker origin (f account)
+on_worker f holder = holder
+
+-- ---- what a hold of the lock tells a pass
+
+-- a span was queued under this ticket, or dropped under it
+abbrev pub after_queued : ℕ → EndedSpan → PassAccount → PassAccount
+after_queued ticket span account =
+    record account { ends = account.ends ++ queued (with_ticket ticket span) ∷ [] }
+
+abbrev pub after_full : ℕ → EndedSpan → PassAccount → PassAccount
+after_full ticket span account = record account {
+  ends = account.ends ++ dropped (record {
+    entry = entry_of queue_full (with_ticket ticket span);
+    floor = account.floor;
+  }) ∷ [];
+}
+
+-- a span was late
+abbrev pub after_late : PassAccount → PassAccount
+after_late account = record account { late = account.late + 1 }
+
+-- a flush asked, where this ticket was the next one, and so many spans were accepted
+abbrev pub after_flush : ℕ → ℕ → PassAccount → PassAccount
+after_flush ticket mark account =
+    record account { asked = record { ticket = ticket; mark = mark } }
+
+-- and a shutdown
+abbrev pub after_shutdown : ℕ → ℕ → PassAccount → PassAccount
+after_shutdown ticket mark account = record account {
+  asked = record { ticket = ticket; mark = mark };
+  shutdowns = account.shutdowns + 1;
+}
+
+-- what was asked for is flushed
+abbrev pub after_flushed : PassAccount → PassAccount
+after_flushed account = record account { floor = account.asked.ticket }
+
+-- an entry of the ledger was popped
+abbrev pub after_pop : Entry → PassAccount → PassAccount
+after_pop entry account = record account { popped = account.popped ++ entry ∷ [] }
+
+-- ---- what a hold of the lock tells the worker
+
+-- a batch was taken
+abbrev pub after_take : ℕ → List EndedSpan → WorkerAccount → WorkerAccount
+after_take number spans account = record account {
+  out = Some (record { number = number; spans = spans; body = None; outcomes = [] });
+}
+
+abbrev pub handed_with : List ℕ → Option OutBatch → Option OutBatch
+handed_with body None = None
+handed_with body (Some batch) = Some (record batch { body = Some body })
+
+-- it was handed, with this body
+abbrev pub after_handed : List ℕ → WorkerAccount → WorkerAccount
+after_handed body account = record account { out = handed_with body account.out }
+
+abbrev pub ended_with : (OutBatch → BatchEnd) → Option OutBatch → List EndedBatch
+ended_with f None = []
+ended_with f (Some batch) =
+    record { number = batch.number; spans = batch.spans; ending = f batch } ∷ []
+
+-- it was dropped
+abbrev pub after_drop : Reason → WorkerAccount → WorkerAccount
+after_drop reason account = record account {
+  ended = account.ended ++ ended_with (λ _. batches.dropped reason) account.out;
+  out = None;
+}
+
+abbrev pub settled_with : List Outcome → Fate → Option (List ℕ) → BatchEnd
+settled_with outcomes fate None = batches.settled [] outcomes fate
+settled_with outcomes fate (Some body) = batches.settled body outcomes fate
+
+-- it was settled so, after these outcomes
+abbrev pub after_settle : List Outcome → Fate → WorkerAccount → WorkerAccount
+after_settle outcomes fate account = record account {
+  ended = account.ended ++ ended_with (λ b. settled_with outcomes fate b.body) account.out;
+  out = None;
+}
+
+-- all is drained
+abbrev pub after_drained : WorkerAccount → WorkerAccount
+after_drained account = record account { drained = true }

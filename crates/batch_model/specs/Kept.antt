@@ -1,0 +1,104 @@
+-- How what lies under the lock stands to the accounts. (profile)
+use Rattle.std.specs.Prelude.{◌≡◌, ℕ, ◌+◌, ◌<◌, ◌≤◌, Bool, true, List, [], ◌∷◌, ◌++◌, length, drop, IsPermutation, Option, Some, None, is_some}
+use Rattle.std.specs.List.{AllByRecursion, range_with_len}
+use Rattle.span_model.specs.Spans.{EndedSpan}
+use Rattle.desk_model.specs.Desks as desks
+use Rattle.desk_model.specs.Desks.{Desk}
+use Rattle.batch_model.specs.Passes.{Asked, PassAccount, Rises, tickets, all_queued, late_count}
+use Rattle.batch_model.specs.Worker.{WorkerAccount, OutBatch, taken_spans, handed_spans, handed_out_spans, numbers}
+use Rattle.batch_model.specs.Clauses.{Origin, AreFrom, DropsAreCounted, DropsAreNamed, DropsFoundItFull, FatesAreCounted, LateAreCounted, TicketsAreGivenOnce, TicketsRise, is_closed, tickets_of}
+use Rattle.batch_model.specs.Holders.{Holder, processor, pass, worker, pass_accounts, worker_accounts}
+
+-- what a desk shows of the batch that is out
+abbrev pub shown_out : Option OutBatch → Option desks.OutBatch
+shown_out None = None
+shown_out (Some batch) =
+    Some (record { number = batch.number; size = length batch.spans; is_handed = is_some batch.body })
+
+-- the spans that were accepted, in order
+abbrev pub accepted : Desk → WorkerAccount → List EndedSpan
+accepted desk account = taken_spans account ++ desk.waiting
+
+-- of queued spans, in the order in which they were accepted, where this ticket is the next one
+pub record Queues (queue next : ℕ) (passes : List PassAccount) (spans : List EndedSpan)
+    : Type 0 where
+  pub queued : IsPermutation (all_queued passes) spans
+  pub rising : Rises (tickets_of spans)
+  pub below : AllByRecursion (λ (s : EndedSpan). s.ticket < next) spans
+  pub full : DropsFoundItFull queue passes
+
+-- of tickets
+pub record GivesTickets (next : ℕ) (passes : List PassAccount) : Type 0 where
+  pub given_once : TicketsAreGivenOnce next passes
+  pub below : AllByRecursion
+      (λ (a : PassAccount). AllByRecursion (λ t. t < next) (tickets a)) passes
+  pub rising : TicketsRise passes
+
+-- of late spans
+pub record CountsLate (late next : ℕ) (closed : Bool) (passes : List PassAccount) : Type 0 where
+  pub counted : LateAreCounted late passes
+  pub late_if_closed : 0 < late_count passes → closed ≡ true
+  pub closed_is : closed ≡ is_closed next passes
+
+-- Of a floor: none that waits is below it. And of what was asked for: behind so many accepted
+-- spans, all have that ticket or a later one.
+pub record KeepsFloor (next : ℕ) (waiting spans : List EndedSpan) (floor : ℕ) (asked : Asked)
+    : Type 0 where
+  pub above : AreFrom floor waiting
+  pub floor_given : floor ≤ next
+  pub asked_given : asked.ticket ≤ next
+  pub mark_given : asked.mark ≤ length spans
+  pub behind : AreFrom asked.ticket (drop asked.mark spans)
+
+abbrev pub KeepsFloors : ℕ → List EndedSpan → List EndedSpan → List PassAccount → Type 0
+KeepsFloors next waiting spans passes =
+    AllByRecursion (λ (a : PassAccount). KeepsFloor next waiting spans a.floor a.asked) passes
+
+-- of the batches
+pub record Batches (desk : Desk) (account : WorkerAccount) : Type 0 where
+  pub out : desk.out ≡ shown_out account.out
+  pub taken : desk.taken ≡ length (taken_spans account)
+  pub numbered : numbers account ≡ range_with_len 1 desk.batches
+  pub handed : desk.handed
+      ≡ length (handed_spans account) + length (handed_out_spans account.out)
+  pub fates_are : FatesAreCounted desk.fates account
+  pub drained : account.drained ≡ true → (desk.closed ≡ true) × (desk.waiting ≡ [])
+
+-- what is so of all
+pub record Agrees (desk : Desk) (passes : List PassAccount) (account : WorkerAccount) : Type 0 where
+  pub queues : Queues desk.config.queue desk.next_ticket passes (accepted desk account)
+  pub tickets : GivesTickets desk.next_ticket passes
+  pub named : DropsAreNamed desk.ledger passes account
+  pub counted : DropsAreCounted desk.dropped passes account
+  pub late : CountsLate desk.late desk.next_ticket desk.closed passes
+  pub floors : KeepsFloors desk.next_ticket desk.waiting (accepted desk account) passes
+  pub batches : Batches desk account
+
+-- the account says what the processor began with
+abbrev pub IsOf : Origin → Holder → Type 0
+IsOf origin (processor said) = said ≡ origin
+IsOf origin (pass account) = Unit {0}
+IsOf origin (worker said account) = said ≡ origin
+
+-- What the lock keeps of the accounts of a processor that began so.
+pub record Kept (origin : Origin) (desk : Desk) (holders : List Holder) : Type 0 where
+  pub few : length holders ≤ origin.passes + 2
+  pub origins : AllByRecursion (IsOf origin) holders
+  pub config : desk.config ≡ origin.desk
+  pub sizes : 1 ≤ origin.desk.batch
+  pub account : WorkerAccount
+  pub one_worker : worker_accounts holders ≡ account ∷ []
+  pub agrees : Agrees desk (pass_accounts holders) account
+
+-- the same, and that no account is left where nothing lies there any more
+abbrev pub IsShared : Origin → Option Desk → List Holder → Type 0
+IsShared origin None holders = holders ≡ []
+IsShared origin (Some desk) holders = Kept origin desk holders
+
+-- ---- what is told in the end
+
+-- What is left, and what the passes and the worker know, agree.
+pub record IsAccountOf (origin : Origin) (desk : Desk) (passes : List PassAccount)
+    (account : WorkerAccount) : Type 0 where
+  pub config : desk.config ≡ origin.desk
+  pub agrees : Agrees desk passes account
