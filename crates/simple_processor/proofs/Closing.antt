@@ -1,5 +1,5 @@
 -- How the accounts of a processor begin, and what they come to.
-use Rattle.std.proofs.Common.{◌≡◌, ℕ, zero, suc, ◌+◌, ◌-◌, ◌^◌, ◌<◌, ◌≤◌, true, List, [], ◌∷◌, ◌++◌, length, sym, refl, ap, ◌∙◌, subst, arith}
+use Rattle.std.proofs.Common.{◌≡◌, ℕ, ◌+◌, ◌≤◌, List, [], ◌∷◌, ◌++◌, length, sym, refl, ap, ◌∙◌, subst, arith}
 use Rattle.std.specs.Prelude.{IsPermutation, Option, Some, None, OnSome, map, drop}
 use Rattle.std.specs.List.{AllByRecursion, flat_map, sum_by}
 use Rattle.std.proofs.lemmas.List.{append-nil, length-append, nil_from_length, drop_at}
@@ -12,11 +12,11 @@ use Rattle.batch_desk.specs.declared.totals.Totals.{Totals}
 use Rattle.span_exporter.specs.Handed.{Handed, Gains}
 use Rattle.account_book.specs.Accounts.{Replaces, Removes, Closes}
 use Rattle.account_book.proofs.Facts.{each_closed, each_removed, gathered_closed, length_removed, part_kept, sum_closed}
-use Rattle.simple_processor.specs.Accounts.{PassAccount, all_dropped, all_handed, all_popped, all_tickets, dropped_entries, handed_spans, late_count, new_account, shutdown_count, tickets}
+use Rattle.simple_processor.specs.Accounts.{PassAccount, all_dropped, all_handed, all_popped, all_tickets, dropped_entries, handed_spans, late_count, new_account, tickets}
 use Rattle.simple_processor.specs.Bodies.{attempt_in, attempt_of_span, fates_of, told_since}
 use Rattle.simple_processor.specs.Desk.{State, new_state, ticket_count}
 use Rattle.simple_processor.specs.Holders.{Origin, Holder, new_origin, pass, pass_account, pass_accounts, processor}
-use Rattle.simple_processor.specs.Kept.{Agrees, IsAccountOf, IsOf, Kept, given_tickets, is_closed, numbers_below}
+use Rattle.simple_processor.specs.Kept.{Agrees, IsAccountOf, IsOf, Kept, given_tickets, numbers_below}
 use Rattle.simple_processor.proofs.Agree.{closed_by, counts_permuted}
 use Rattle.simple_processor.proofs.Ends.{gains_nothing}
 
@@ -157,21 +157,5 @@ module _ (had told : Option (List Handed)) (t : Totals) (ledger : List Entry) (a
   pub fates_are : OnSome told (fate_counts_view t.fates ≡ fate_counts (fates_of (told_since had told)))
   fates_are = on_told (λ bodies. fate_counts_view t.fates ≡ fate_counts (fates_of bodies)) had told x.agrees.bodies x.agrees.gains (x.totals.fates ∙ x.agrees.fates)
 
-  pub tickets_are : IsPermutation (all_tickets accounts) (numbers_below (given_tickets t))
-  tickets_are = subst (λ (n : ℕ). IsPermutation (all_tickets accounts) (numbers_below n)) count_is x.agrees.given_once
-
-  pub closed_is : t.closed ≡ is_closed (given_tickets t) accounts
-  closed_is = x.totals.closed ∙ x.agrees.closed ∙ ap (λ (n : ℕ). is_closed n accounts) count_is
-
   pub late_is : t.late ≡ capped (late_count accounts)
   late_is = x.totals.late ∙ x.agrees.late
-
-  pub late_after : 0 < t.late → given_tickets t < 2 ^ 64 - 1 → 0 < shutdown_count accounts
-  late_after some few =
-      let lates = late_is in
-      let closed : t.closed ≡ true = x.totals.closed ∙ x.agrees.late_if_closed (omega arith) in
-      shut (shutdown_count accounts) (given_tickets t) few (sym closed_is ∙ closed)
-    where
-      shut : (n count : ℕ) → count < 2 ^ 64 - 1 → closed_by count n ≡ true → 0 < n
-      shut zero count few is = grind (arith)
-      shut (suc n) count few is = omega arith

@@ -54,6 +54,13 @@ pub use Rattle.simple_processor.specs.Accounts as PassAccounts
 pub use Rattle.simple_processor.specs.Bodies as PassBodies
 pub use Rattle.simple_processor.specs.Kept as PassKept
 pub use Rattle.simple_processor.specs.Holders as PassHolders
+pub use Rattle.batch_model.specs.Passes as BatchPasses
+pub use Rattle.batch_model.specs.Worker as BatchWorker
+pub use Rattle.batch_model.specs.Holders as BatchHolders
+pub use Rattle.batch_model.specs.Clauses as BatchClauses
+pub use Rattle.batch_processor.specs.Views as BatchViews
+pub use Rattle.batch_processor.specs.Answers as BatchAnswers
+pub use Rattle.batch_processor.specs.Working as BatchWorking
 pub use Rattle.run_text.specs.Lines
 pub use Rattle.trace_run.specs.Out
 pub use Rattle.trace_run.specs.Run

@@ -1,7 +1,14 @@
-//! A simple processor (OpenTelemetry Trace SDK, "Simple processor"): each thread ends its spans on
-//! a [`SimplePass`] of its own, and each span is encoded alone and handed to one exporter, under a
-//! lock.
+//! What ended spans go to: a batch processor or a simple one, with a pass for each thread.
+//!
+//! A [`BatchProcessor`] (OpenTelemetry Trace SDK, "Batching processor") queues spans, which the
+//! [`WorkerPass`] of one thread hands to an exporter in batches. A [`SimpleProcessor`] ("Simple
+//! processor") encodes each span alone and hands it over at once, under a lock. Either has at most
+//! [`MAX_PASSES`] passes.
+pub use batch_processor::{
+    Accounts, BatchBlank, BatchConfig, BatchProcessor, Clock, Flushed, MAX_PASSES, ManualClock,
+    Missing, Naming, NewFault, Parts, Pass, SystemClock, WorkEnd, WorkerPass,
+};
 pub use simple_processor::{
-    Flushed, MAX_PASSES, Naming, SimpleAccounts, SimpleBlank, SimpleFault, SimpleMissing,
-    SimpleParts, SimplePass, SimpleProcessor,
+    Flushed as SimpleFlushed, SimpleAccounts, SimpleBlank, SimpleFault, SimpleMissing, SimpleParts,
+    SimplePass, SimpleProcessor,
 };

@@ -1,0 +1,15 @@
+-- A body is the one that is meant.
+use Rattle.std.proofs.Common.{◌≡◌, ℕ, List, refl, ◌∙◌}
+use Rattle.message_model.specs.Reading.{Reads}
+use Rattle.message_model.specs.Messages.{body_meaning}
+use Rattle.span_model.specs.Spans.{EndedSpan}
+use Rattle.export_model.specs.Export.{groups, grouped_triples}
+use Rattle.otlp_proto.specs.Bodies.{body_bytes}
+use Rattle.batch_model.specs.Clauses.{IsBodyOf, canonical_body}
+
+same_bytes : (spans : List EndedSpan) → body_bytes (groups spans) ≡ canonical_body spans
+unfolding body_bytes canonical_body
+same_bytes spans = refl
+
+pub body_is : (spans : List EndedSpan) (body : List ℕ) → Reads (body_meaning body) (grouped_triples spans) → body ≡ body_bytes (groups spans) → IsBodyOf spans body
+body_is spans body means is = record { means = means; canonical = is ∙ same_bytes spans }

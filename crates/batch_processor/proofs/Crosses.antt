@@ -1,0 +1,67 @@
+-- A pass may go to another thread where its runtime may, with all memory on the heap, and so may the
+-- worker's pass: each part that they hold names no thread.
+use denote.RattleType.{RattleType}
+use denote.Struct.Field.{row_field}
+use denote.Param.Send.{IsSend, IsSync, sendable, view_send}
+use denote.Param.SendFields.{FieldsHave, declared_send, variants_send, as_row_send}
+use Rattle.std.proofs.Crossing as heap
+use Rattle.std.specs.contracts.alloc.Global as Heap
+use Rattle.std.below.std_heap.specs.contracts.GlobalAllocator.TheImpl.{ghosts}
+use Rattle.batch_desk.proofs.Crosses.{batch_send, desk_send}
+use Rattle.account_book.specs.declared.book.Naming as naming
+use Rattle.account_book.proofs.book.Account.TheSendSync as account
+use Rattle.account_book.proofs.book.Book.TheSendSync as book
+use Rattle.batch_processor.specs.contracts.holding.Holding as Holding
+use Rattle.batch_processor.specs.contracts.lock.Lock as Lock
+use Rattle.batch_processor.specs.contracts.pass.Pass as Pass
+use Rattle.batch_processor.specs.contracts.pass.Pass.TheInside as pass
+use Rattle.batch_processor.specs.contracts.shared.Shared as Shared
+use Rattle.batch_processor.specs.contracts.shared.Shared.TheInside as shared
+use Rattle.batch_processor.specs.contracts.config.Setup as Setup
+use Rattle.batch_processor.specs.contracts.worker.InHand as InHand
+use Rattle.batch_processor.specs.contracts.worker.InHand.TheInside as in_hand
+use Rattle.batch_processor.specs.contracts.worker.Stage as Stage
+use Rattle.batch_processor.specs.contracts.worker.WorkerPass as WorkerPass
+use Rattle.batch_processor.specs.contracts.worker.WorkerPass.TheInside as worker
+use Rattle.retry_core.specs.contracts.outcome.Outcome as Outcome
+
+-- the batch in hand of a worker, and what came of its attempts
+outcome_send : IsSend Outcome.the_row
+outcome_send = search (sendable, variants_send, as_row_send) depth 60 fits 20000
+
+stage_send : IsSend (Stage.the_row Heap.the_row ghosts)
+stage_send = search (sendable, variants_send, as_row_send, outcome_send, heap.crosses) depth 60 fits 20000
+
+in_hand_send : IsSend (InHand.the_row Heap.the_row ghosts)
+in_hand_send =
+    let fields : FieldsHave IsSend (in_hand.the_type Heap.the_row ghosts).parts = search (sendable, batch_send, stage_send) depth 60 fits 20000 in
+    view_send _ _ _ _ _ (declared_send (in_hand.the_type Heap.the_row ghosts) fields)
+
+setup_send : IsSend Setup.the_row
+setup_send = search (sendable, declared_send, as_row_send, heap.crosses) depth 60 fits 20000
+
+module _ (J : RattleType) (g : naming.Ghosts J.Denot) where
+  shared_send : IsSend (Shared.the_row J Heap.the_row g ghosts)
+  shared_send =
+      let fields : FieldsHave IsSend (shared.the_type J Heap.the_row g ghosts).parts = search (sendable, as_row_send, variants_send, declared_send, desk_send, book.the_send, heap.crosses) depth 60 fits 20000 in
+      view_send _ _ _ _ _ (declared_send (shared.the_type J Heap.the_row g ghosts) fields)
+
+  lock_send : IsSend (Lock.the_row J Heap.the_row g ghosts)
+  lock_send = search (sendable, shared_send, heap.crosses) depth 60 fits 20000
+
+  lock_sync : IsSync (Lock.the_row J Heap.the_row g ghosts)
+  lock_sync = search (sendable, shared_send, heap.crosses) depth 60 fits 20000
+
+  pub pass_send : (R : RattleType) → IsSend R → IsSend (Pass.the_row J R Heap.the_row g ghosts)
+  pass_send R r = view_send _ _ _ _ _ (
+      declared_send (pass.the_type J R Heap.the_row g ghosts)
+      (heap.Arc-send (Lock.the_row J Heap.the_row g ghosts) lock_send lock_sync, (account.the_send J Holding.the_row g, (as_row_send (row_field R) r, tt)))
+      )
+
+  pub worker_send : (R : RattleType) → IsSend R → IsSend (WorkerPass.the_row J R Heap.the_row g ghosts)
+  worker_send R r =
+      let kept = heap.Vec-send Outcome.the_row outcome_send in
+      view_send _ _ _ _ _ (
+      declared_send (worker.the_type J R Heap.the_row g ghosts)
+      (heap.Arc-send (Lock.the_row J Heap.the_row g ghosts) lock_send lock_sync, (account.the_send J Holding.the_row g, (search (sendable, as_row_send, variants_send, in_hand_send) depth 60 fits 20000, (kept, (setup_send, (as_row_send (row_field Heap.the_row) heap.send, (as_row_send (row_field R) r, tt)))))))
+      )

@@ -1,0 +1,4 @@
+pub mod Holds
+pub mod Turns
+pub mod Crosses
+pub mod Bodies

@@ -1,0 +1,341 @@
+-- What each turn of the worker's pass does.
+use Rattle.std.proofs.Common.{◌≡◌, ℕ, ◌+◌, ◌<◌, ◌≤◌, min, Bool, true, false, List, [], ◌∷◌, ◌++◌, length, sym, refl, ap, ◌∙◌, subst, arith}
+use Rattle.std.specs.Prelude.{IfSome, Option, Some, None, option_map, nat_lt, if◌then◌else◌}
+use Rattle.std.specs.List.{AllByRecursion, flat_map}
+use Rattle.std.specs.Option.{option_map_or}
+use Rattle.std.proofs.lemmas.Bool.{ltb-true}
+use Rattle.std.proofs.lemmas.List.{append-nil, append_assoc, length-append}
+use Rattle.std.proofs.lemmas.Grind.{flat_map-append}
+use Rattle.account_book.proofs.Facts.{each_append}
+use Rattle.span_model.specs.Spans.{EndedSpan}
+use Rattle.retry_model.specs.Retries.{Outcome, Fate, Next, again, fate_of, next_of}
+use Rattle.retry_model.specs.Retries as retries
+use Rattle.retry_model.specs.Waits.{RetryConfig, next_after, retried, wait_ns, greatest_moment}
+use Rattle.retry_model.proofs.Again.{again-few}
+use Rattle.span_exporter.specs.Handed.{Handed, Gains, handing}
+use Rattle.batch_desk.specs.Batch.{BatchView}
+use Rattle.batch_model.specs.Worker.{EndedBatch, OutBatch, WorkerAccount, settled}
+use Rattle.batch_model.specs.Clauses.{EachLeadsOn, IsBodyOf, IsByWork, IsOutByWork, IsSent, IsSentSoFar, LeadsTo, Origin}
+use Rattle.batch_model.specs.Holders.{Holder, after_drained, after_handed, after_settle, after_take, ended_with, handed_with, on_worker, settled_with, worker, worker_in}
+use Rattle.batch_processor.specs.Holds.{IsBatchSize}
+use Rattle.batch_processor.specs.Working.{GoesOn, Hand, HandStage, IsEncoded, IsPrepared, IsInHand, IsStage, IsWorking, Work, attempts_by, attempts_from, attempts_of, attempts_out, attempts_with, handed_at, in_hand, pending_at, to_encode, to_judge, to_retry, to_send, with_outcomes, work_of}
+
+-- ---- attempts
+
+pub attempts-more : (number attempt : ℕ) (body : List ℕ) (outcomes : List Outcome) (o : Outcome) → attempts_from number attempt body (outcomes ++ o ∷ []) ≡ attempts_from number attempt body outcomes ++ handing number (attempt + length outcomes) body o
+attempts-more number attempt body [] o = ap (λ (n : ℕ). handing number n body o) (let e : attempt ≡ attempt + 0 = omega arith in e)
+attempts-more number attempt body (p ∷ outcomes) o =
+    let first : Handed = record { number = number; attempt = attempt; body = body; outcome = p } in
+    ap (λ (l : List Handed). first ∷ l) (attempts-more number (attempt + 1) body outcomes o ∙ ap (λ (n : ℕ). attempts_from number (attempt + 1) body outcomes ++ handing number n body o) (let e : (attempt + 1) + length outcomes ≡ attempt + length (p ∷ outcomes) = omega arith in e))
+
+pub leads-more : (retry : RetryConfig) (attempt : ℕ) (outcomes : List Outcome) (o : Outcome) → EachLeadsOn retry attempt outcomes → LeadsTo retry (attempt + length outcomes) o None → EachLeadsOn retry attempt (outcomes ++ o ∷ [])
+leads-more retry attempt [] o all one = ((λ now word. let e : attempt ≡ attempt + 0 = omega arith in ap (λ (n : ℕ). fate_of (next_after retry n o now word)) e ∙ one now word), tt)
+leads-more retry attempt (p ∷ outcomes) o all one =
+    (all.0, leads-more retry (attempt + 1) outcomes o all.1 (λ now word. let e : (attempt + 1) + length outcomes ≡ attempt + length (p ∷ outcomes) = omega arith in ap (λ (n : ℕ). fate_of (next_after retry n o now word)) e ∙ one now word))
+
+-- ---- what an outcome leads to does not hang on the moment, nor on the word
+
+lead_of : (retry : RetryConfig) (attempt : ℕ) (o : Outcome) (now word now' word' : ℕ) (b : Bool) (r : Option (Option retries.RetryAfter))
+    → fate_of (if b then option_map_or (λ after. again (min (now + wait_ns retry attempt after now word) greatest_moment)) r (next_of o) else next_of o)
+    ≡ fate_of (if b then option_map_or (λ after. again (min (now' + wait_ns retry attempt after now' word') greatest_moment)) r (next_of o) else next_of o)
+lead_of retry attempt o now word now' word' true None = refl
+lead_of retry attempt o now word now' word' true (Some after) = refl
+lead_of retry attempt o now word now' word' false r = refl
+
+pub same_lead : (retry : RetryConfig) (attempt : ℕ) (o : Outcome) (now word now' word' : ℕ) → fate_of (next_after retry attempt o now word) ≡ fate_of (next_after retry attempt o now' word')
+same_lead retry attempt o now word now' word' = lead_of retry attempt o now word now' word' (nat_lt attempt retry.attempts) (retried o)
+
+-- ---- nothing is sent
+
+gains_none : (told told' : Option (List Handed)) → told' ≡ told → Gains [] told told'
+gains_none None told' same = same
+gains_none (Some had) told' same = same ∙ ap Some (sym (append-nil had))
+
+gains_more : (xs ys : List Handed) (a b d : Option (List Handed)) → Gains xs a b → Gains ys b d → Gains (xs ++ ys) a d
+gains_more xs ys None b d first second = second ∙ ap (option_map (λ (had : List Handed). had ++ ys)) first
+gains_more xs ys (Some had) b d first second = second ∙ ap (option_map (λ (all : List Handed). all ++ ys)) first ∙ ap Some (append_assoc had xs ys)
+
+pub goes_quiet : (told told' : Option (List Handed)) (old new : Work) → told' ≡ told → new.origin ≡ old.origin → attempts_of new.account ≡ attempts_of old.account → new.account.ended ≡ old.account.ended → GoesOn told told' old new
+goes_quiet told told' old new same origin attempts ended = record {
+  origin = origin;
+  more = [];
+  gains = gains_none told told' same;
+  attempts = attempts ∙ sym (append-nil (attempts_of old.account));
+  batches = [];
+  ended = ended ∙ sym (append-nil old.account.ended);
+  by_work = tt;
+}
+
+pub goes_on : (told told' told'' : Option (List Handed)) (old mid new : Work) → GoesOn told told' old mid → GoesOn told' told'' mid new → GoesOn told told'' old new
+goes_on told told' told'' old mid new a b = record {
+  origin = b.origin ∙ a.origin;
+  more = a.more ++ b.more;
+  gains = gains_more a.more b.more told told' told'' a.gains b.gains;
+  attempts = b.attempts ∙ ap (λ (l : List Handed). l ++ b.more) a.attempts ∙ append_assoc (attempts_of old.account) a.more b.more;
+  batches = a.batches ++ b.batches;
+  ended = b.ended ∙ ap (λ (l : List EndedBatch). l ++ b.batches) a.ended ∙ append_assoc old.account.ended a.batches b.batches;
+  by_work = each_append (IsByWork old.origin) a.batches b.batches a.by_work (subst (λ (o : Origin). AllByRecursion (IsByWork o) b.batches) a.origin b.by_work);
+}
+
+-- the attempts of the batches that have ended
+abbrev before : WorkerAccount → List Handed
+before w = flat_map (λ (b : EndedBatch). attempts_by b.number b.ending) w.ended
+
+attempts_at : (origin : Origin) (w : WorkerAccount) (outcomes : List Outcome) (hand : Option Hand) (b : OutBatch) → w.out ≡ Some b → attempts_of (work_of origin w outcomes hand).account ≡ before w ++ attempts_with b.number b.body (outcomes ++ in_hand [] pending_at hand)
+attempts_at origin w outcomes hand b out = ap (λ (o : Option OutBatch). before w ++ attempts_out (with_outcomes (outcomes ++ in_hand [] pending_at hand) o)) out
+
+attempts_none : (origin : Origin) (w : WorkerAccount) (outcomes : List Outcome) (hand : Option Hand) → w.out ≡ None → attempts_of (work_of origin w outcomes hand).account ≡ before w
+attempts_none origin w outcomes hand none = ap (λ (o : Option OutBatch). before w ++ attempts_out (with_outcomes (outcomes ++ in_hand [] pending_at hand) o)) none ∙ append-nil (before w)
+
+module _ (origin : Origin) (w : WorkerAccount) (outcomes : List Outcome) where
+  -- a batch is taken
+  module _ (k : IsWorking origin w outcomes None) (batch : BatchView) (room : batch.room ≡ origin.desk.batch) (size : IsBatchSize origin batch.spans) where
+    pub taken_works : IsWorking origin (after_take batch.number batch.spans w) outcomes (Some (record { batch = batch; stage = to_encode }))
+    taken_works = record {
+      retry = k.retry;
+      by_work = k.by_work;
+      again = k.again;
+      tied = record { out = refl; room = room; some = size.0; few = size.1; stage = k.tied.1 };
+    }
+
+    pub taken_goes : (told : Option (List Handed)) → GoesOn told told (work_of origin w outcomes None) (work_of origin (after_take batch.number batch.spans w) outcomes (Some (record { batch = batch; stage = to_encode })))
+    taken_goes told = goes_quiet told told (work_of origin w outcomes None) (work_of origin (after_take batch.number batch.spans w) outcomes (Some (record { batch = batch; stage = to_encode }))) refl refl
+        (append-nil (before w) ∙ sym (attempts_none origin w outcomes None k.tied.0)) refl
+
+  -- all is drained
+  module _ (k : IsWorking origin w outcomes None) where
+    pub drained_works : IsWorking origin (after_drained w) outcomes None
+    drained_works = record { retry = k.retry; by_work = k.by_work; again = k.again; tied = k.tied }
+
+    pub drained_goes : (told : Option (List Handed)) → GoesOn told told (work_of origin w outcomes None) (work_of origin (after_drained w) outcomes None)
+    drained_goes told = goes_quiet told told (work_of origin w outcomes None) (work_of origin (after_drained w) outcomes None) refl refl refl refl
+
+  -- a batch is encoded, or is to be encoded later
+  module _ (batch : BatchView) (k : IsWorking origin w outcomes (Some (record { batch = batch; stage = to_encode }))) where
+    pub encoded_works : (room : ℕ → ℕ) (stage : HandStage) → IsEncoded origin.retry room batch.spans stage → IsWorking origin w outcomes (Some (record { batch = batch; stage = stage }))
+    encoded_works room to_encode e = k
+    encoded_works room (to_send body) e = record { retry = k.retry; by_work = k.by_work; again = k.again; tied = record { out = k.tied.out; room = k.tied.room; some = k.tied.some; few = k.tied.few; stage = (k.tied.stage, e.0) } }
+    encoded_works room (to_judge body o) e = absurd e
+    encoded_works room (to_retry body) e = absurd e
+
+    pub encoded_goes : (told told' : Option (List Handed)) (room : ℕ → ℕ) (stage : HandStage) → told' ≡ told → IsEncoded origin.retry room batch.spans stage → GoesOn told told' (work_of origin w outcomes (Some (record { batch = batch; stage = to_encode }))) (work_of origin w outcomes (Some (record { batch = batch; stage = stage })))
+    encoded_goes told told' room to_encode same e = goes_quiet told told' _ _ same refl refl refl
+    encoded_goes told told' room (to_send body) same e = goes_quiet told told' _ _ same refl refl refl
+    encoded_goes told told' room (to_judge body o) same e = absurd e
+    encoded_goes told told' room (to_retry body) same e = absurd e
+
+    pub encoded_room : (room : ℕ → ℕ) (stage : HandStage) → IsEncoded origin.retry room batch.spans stage → IsPrepared room (work_of origin w outcomes (Some (record { batch = batch; stage = stage })))
+    encoded_room room to_encode e = tt
+    encoded_room room (to_send body) e = let f = e.1 in omega arith
+    encoded_room room (to_judge body o) e = absurd e
+    encoded_room room (to_retry body) e = absurd e
+
+  -- a body is handed to the exporter for the first time
+  module _ (batch : BatchView) (body : List ℕ) (o : Outcome) (k : IsWorking origin w outcomes (Some (record { batch = batch; stage = to_send body }))) where
+    abbrev sent_hand : Hand
+    sent_hand = record { batch = batch; stage = to_judge body o }
+
+    none_yet : outcomes ≡ []
+    none_yet = k.tied.stage.0
+
+    out_after : (after_handed body w).out ≡ Some (record { number = batch.number; spans = batch.spans; body = Some body; outcomes = [] })
+    out_after = ap (handed_with body) k.tied.out
+
+    pub sent_works : IsWorking origin (after_handed body w) outcomes (Some sent_hand)
+    sent_works = record {
+      retry = k.retry;
+      by_work = k.by_work;
+      again = k.again;
+      tied = record { out = out_after; room = k.tied.room; some = k.tied.some; few = k.tied.few; stage = ((let n = ap length none_yet in let s = k.retry.some in omega arith), k.tied.stage.1) };
+    }
+
+    pub sent_goes : (told told' : Option (List Handed)) → Gains (handing batch.number 1 body o) told told' → GoesOn told told' (work_of origin w outcomes (Some (record { batch = batch; stage = to_send body }))) (work_of origin (after_handed body w) outcomes (Some sent_hand))
+    sent_goes told told' gains = record {
+      origin = refl;
+      more = handing batch.number 1 body o;
+      gains = gains;
+      attempts =
+          attempts_at origin (after_handed body w) outcomes (Some sent_hand) (record { number = batch.number; spans = batch.spans; body = Some body; outcomes = [] }) out_after
+          ∙ ap (λ (os : List Outcome). before w ++ attempts_from batch.number 1 body (os ++ o ∷ [])) none_yet
+          ∙ ap (λ (l : List Handed). l ++ handing batch.number 1 body o) (sym (attempts_at origin w outcomes (Some (record { batch = batch; stage = to_send body })) (record { number = batch.number; spans = batch.spans; body = None; outcomes = [] }) k.tied.out ∙ append-nil (before w)));
+      batches = [];
+      ended = sym (append-nil w.ended);
+      by_work = tt;
+    }
+
+  -- and again
+  module _ (batch : BatchView) (body : List ℕ) (o : Outcome) (k : IsWorking origin w outcomes (Some (record { batch = batch; stage = to_retry body }))) where
+    pub resent_works : IsWorking origin w outcomes (Some (record { batch = batch; stage = to_judge body o }))
+    resent_works = record { retry = k.retry; by_work = k.by_work; again = k.again; tied = record { out = k.tied.out; room = k.tied.room; some = k.tied.some; few = k.tied.few; stage = (k.tied.stage.0, k.tied.stage.1) } }
+
+    pub resent_goes : (told told' : Option (List Handed)) → Gains (handing batch.number (1 + length outcomes) body o) told told' → GoesOn told told' (work_of origin w outcomes (Some (record { batch = batch; stage = to_retry body }))) (work_of origin w outcomes (Some (record { batch = batch; stage = to_judge body o })))
+    resent_goes told told' gains = record {
+      origin = refl;
+      more = handing batch.number (1 + length outcomes) body o;
+      gains = gains;
+      attempts =
+          let b : OutBatch = record { number = batch.number; spans = batch.spans; body = Some body; outcomes = [] } in
+          attempts_at origin w outcomes (Some (record { batch = batch; stage = to_judge body o })) b k.tied.out
+          ∙ ap (λ (l : List Handed). before w ++ l) (attempts-more batch.number 1 body outcomes o)
+          ∙ sym (append_assoc (before w) (attempts_from batch.number 1 body outcomes) (handing batch.number (1 + length outcomes) body o))
+          ∙ ap (λ (l : List Handed). l ++ handing batch.number (1 + length outcomes) body o)
+          (sym (attempts_at origin w outcomes (Some (record { batch = batch; stage = to_retry body })) b k.tied.out ∙ ap (λ (os : List Outcome). before w ++ attempts_from batch.number 1 body os) (append-nil outcomes)));
+      batches = [];
+      ended = sym (append-nil w.ended);
+      by_work = tt;
+    }
+
+  -- an outcome leads to another attempt
+  module _ (batch : BatchView) (body : List ℕ) (o : Outcome) (k : IsWorking origin w outcomes (Some (record { batch = batch; stage = to_judge body o }))) (now word : ℕ) where
+    pub again_works : (moment : ℕ) → next_after origin.retry (1 + length outcomes) o now word ≡ again moment → IsWorking origin w (outcomes ++ o ∷ []) (Some (record { batch = batch; stage = to_retry body }))
+    again_works moment is = record {
+      retry = k.retry;
+      by_work = k.by_work;
+      again = leads-more origin.retry 1 outcomes o k.again (λ now' word'. same_lead origin.retry (1 + length outcomes) o now' word' now word ∙ ap fate_of is);
+      tied = record {
+        out = k.tied.out;
+        room = k.tied.room;
+        some = k.tied.some;
+        few = k.tied.few;
+        stage = ((let l = length-append outcomes (o ∷ []) in let b = again-few origin.retry (1 + length outcomes) o now word moment is in omega arith), k.tied.stage.1, (let l = length-append outcomes (o ∷ []) in omega arith));
+      };
+    }
+
+    pub again_goes : (told : Option (List Handed)) → GoesOn told told (work_of origin w outcomes (Some (record { batch = batch; stage = to_judge body o }))) (work_of origin w (outcomes ++ o ∷ []) (Some (record { batch = batch; stage = to_retry body })))
+    again_goes told = goes_quiet told told _ _ refl refl (ap (λ (os : List Outcome). attempts_of (record w { out = with_outcomes os w.out })) (append-nil (outcomes ++ o ∷ []))) refl
+
+    -- or settles the batch
+    module _ (fate : Fate) (ends : fate_of (next_after origin.retry (1 + length outcomes) o now word) ≡ Some fate) where
+      abbrev ended_batch : EndedBatch
+      ended_batch = record { number = batch.number; spans = batch.spans; ending = settled body (outcomes ++ o ∷ []) fate }
+
+      ended_is : (after_settle (outcomes ++ o ∷ []) fate w).ended ≡ w.ended ++ ended_batch ∷ []
+      ended_is = ap (λ (x : Option OutBatch). w.ended ++ ended_with (λ b. settled_with (outcomes ++ o ∷ []) fate b.body) x) k.tied.out
+
+      batch_by_work : IsByWork origin ended_batch
+      batch_by_work = record {
+        some = k.tied.some;
+        few = k.tied.few;
+        ending = record {
+          sent = record {
+            means = k.tied.stage.1;
+            earlier = outcomes;
+            last = o;
+            are = refl;
+            few = let l = length-append outcomes (o ∷ []) in let b = k.tied.stage.0 in omega arith;
+            again = k.again;
+          };
+          by_last = λ now' word'.
+              let l : length (outcomes ++ o ∷ []) ≡ 1 + length outcomes = let e = length-append outcomes (o ∷ []) in omega arith in
+              ap (λ (n : ℕ). fate_of (next_after origin.retry n o now' word')) l ∙ same_lead origin.retry (1 + length outcomes) o now' word' now word ∙ ends;
+        };
+      }
+
+      pub settled_works : IsWorking origin (after_settle (outcomes ++ o ∷ []) fate w) [] None
+      settled_works = record {
+        retry = k.retry;
+        by_work = subst (AllByRecursion (IsByWork origin)) (sym ended_is) (each_append (IsByWork origin) w.ended (ended_batch ∷ []) k.by_work (batch_by_work, tt));
+        again = tt;
+        tied = (refl, refl);
+      }
+
+      pub settled_goes : (told : Option (List Handed)) → GoesOn told told (work_of origin w outcomes (Some (record { batch = batch; stage = to_judge body o }))) (work_of origin (after_settle (outcomes ++ o ∷ []) fate w) [] None)
+      settled_goes told = record {
+        origin = refl;
+        more = [];
+        gains = gains_none told told refl;
+        attempts =
+            let b : OutBatch = record { number = batch.number; spans = batch.spans; body = Some body; outcomes = [] } in
+            append-nil (before (after_settle (outcomes ++ o ∷ []) fate w)) ∙ ap (flat_map (λ (x : EndedBatch). attempts_by x.number x.ending)) ended_is
+            ∙ flat_map-append (λ (x : EndedBatch). attempts_by x.number x.ending) w.ended (ended_batch ∷ []) ∙ ap (λ (l : List Handed). before w ++ l) (append-nil (attempts_from batch.number 1 body (outcomes ++ o ∷ [])))
+            ∙ sym (attempts_at origin w outcomes (Some (record { batch = batch; stage = to_judge body o })) b k.tied.out) ∙ sym (append-nil (attempts_of (work_of origin w outcomes (Some (record { batch = batch; stage = to_judge body o }))).account));
+        batches = ended_batch ∷ [];
+        ended = ended_is;
+        by_work = (batch_by_work, tt);
+      }
+
+-- ---- what work leaves out
+
+leads-first : (retry : RetryConfig) (attempt : ℕ) (outcomes more : List Outcome) → EachLeadsOn retry attempt (outcomes ++ more) → EachLeadsOn retry attempt outcomes
+leads-first retry attempt [] more all = tt
+leads-first retry attempt (o ∷ outcomes) more all = (all.0, leads-first retry (attempt + 1) outcomes more all.1)
+
+-- a list that isn't empty has a last one
+last_of : (o : Outcome) (outcomes : List Outcome) → (earlier : List Outcome) × (last : Outcome) × (o ∷ outcomes ≡ earlier ++ last ∷ [])
+last_of o [] = ([], o, refl)
+last_of o (p ∷ outcomes) = let rest = last_of p outcomes in (o ∷ rest.0, rest.1, ap (λ (l : List Outcome). o ∷ l) rest.2)
+
+sent_all : (retry : RetryConfig) (spans : List EndedSpan) (body : List ℕ) (outcomes : List Outcome) → IsBodyOf spans body → 1 ≤ length outcomes → length outcomes ≤ retry.attempts → EachLeadsOn retry 1 outcomes → IsSent retry spans body outcomes
+sent_all retry spans body [] means some few leads = absurd (omega arith)
+sent_all retry spans body (o ∷ outcomes) means some few leads =
+    let parts = last_of o outcomes in record {
+      means = means;
+      earlier = parts.0;
+      last = parts.1;
+      are = parts.2;
+      few = few;
+      again = leads-first retry 1 parts.0 (parts.1 ∷ []) (subst (EachLeadsOn retry 1) parts.2 leads);
+    }
+
+out_at : (origin : Origin) (w : WorkerAccount) (outcomes : List Outcome) (hand : Hand) → IsWorking origin w outcomes (Some hand) → IsSentSoFar origin.retry hand.batch.spans (handed_at hand.stage) (outcomes ++ pending_at hand.stage)
+out_at origin w outcomes hand k = by_stage hand.stage k.tied.stage
+  where
+    by_stage : (stage : HandStage) → IsStage origin.retry hand.batch.spans outcomes stage → IsSentSoFar origin.retry hand.batch.spans (handed_at stage) (outcomes ++ pending_at stage)
+    by_stage to_encode s = append-nil outcomes ∙ s
+    by_stage (to_send body) s = append-nil outcomes ∙ s.0
+    by_stage (to_judge body o) s = record {
+      means = s.1;
+      earlier = outcomes;
+      last = o;
+      are = refl;
+      few = let l = length-append outcomes (o ∷ []) in let b = s.0 in omega arith;
+      again = k.again;
+    }
+    by_stage (to_retry body) s = subst (IsSent origin.retry hand.batch.spans body) (sym (append-nil outcomes)) (sent_all origin.retry hand.batch.spans body outcomes s.1 s.2 (let b = s.0 in omega arith) k.again)
+
+pub out_by_work : (origin : Origin) (w : WorkerAccount) (outcomes : List Outcome) (hand : Option Hand) → IsWorking origin w outcomes hand → IfSome (work_of origin w outcomes hand).account.out (IsOutByWork origin)
+out_by_work origin w outcomes None k = subst (λ (o : Option OutBatch). IfSome (with_outcomes (outcomes ++ []) o) (IsOutByWork origin)) (sym k.tied.0) tt
+out_by_work origin w outcomes (Some hand) k =
+    subst (λ (o : Option OutBatch). IfSome (with_outcomes (outcomes ++ pending_at hand.stage) o) (IsOutByWork origin)) (sym k.tied.out)
+    (record { some = k.tied.some; few = k.tied.few; sent = out_at origin w outcomes hand k })
+
+-- ---- where the parts of a pass are known by equations
+
+module _ (told told' : Option (List Handed)) (origin : Origin) (w w1 w2 : WorkerAccount) (os os1 os2 : List Outcome) (h h0 h1 h2 : Option Hand) where
+  pub goes_at : (old : Work) → work_of origin w os h ≡ old → h ≡ h0 → w2 ≡ w1 → os2 ≡ os1 → h2 ≡ h1
+      → GoesOn told told' (work_of origin w os h0) (work_of origin w1 os1 h1) → GoesOn told told' old (work_of origin w2 os2 h2)
+  goes_at old view was first second third k =
+      subst (λ (x : Work). GoesOn told told' x (work_of origin w2 os2 h2)) view
+      (subst (λ (x : Option Hand). GoesOn told told' (work_of origin w os x) (work_of origin w2 os2 h2)) (sym was)
+      (subst (λ (x : WorkerAccount). GoesOn told told' (work_of origin w os h0) (work_of origin x os2 h2)) (sym first)
+      (subst (λ (x : List Outcome). GoesOn told told' (work_of origin w os h0) (work_of origin w1 x h2)) (sym second)
+      (subst (λ (x : Option Hand). GoesOn told told' (work_of origin w os h0) (work_of origin w1 os1 x)) (sym third) k))))
+
+pub works_at : (origin : Origin) (w w0 : WorkerAccount) (os os0 : List Outcome) (h h0 : Option Hand) → w ≡ w0 → os ≡ os0 → h ≡ h0 → IsWorking origin w0 os0 h0 → IsWorking origin w os h
+works_at origin w w0 os os0 h h0 first second third k =
+    subst (λ (x : WorkerAccount). IsWorking origin x os h) (sym first)
+    (subst (λ (x : List Outcome). IsWorking origin w0 x h) (sym second)
+    (subst (λ (x : Option Hand). IsWorking origin w0 os0 x) (sym third) k))
+
+pub no_turn : (told : Option (List Handed)) (work : Work) → GoesOn told told work work
+no_turn told work = goes_quiet told told work work refl refl refl refl
+
+-- ---- what is told to the worker's account
+
+pub told_worker : (f : WorkerAccount → WorkerAccount) (origin : Origin) (a a' : Holder) → a' ≡ on_worker f a → a ≡ worker origin (worker_in a) → worker_in a' ≡ f (worker_in a)
+told_worker f origin a a' told is = ap worker_in (told ∙ ap (on_worker f) is)
+
+pub told_account : (f : WorkerAccount → WorkerAccount) (origin : Origin) (a a' : Holder) → a' ≡ on_worker f a → a ≡ worker origin (worker_in a) → a' ≡ worker origin (worker_in a')
+told_account f origin a a' told is = told ∙ ap (on_worker f) is ∙ ap (worker origin) (sym (told_worker f origin a a' told is))
+
+pub take_goes : (told : Option (List Handed)) (origin : Origin) (w : WorkerAccount) (os : List Outcome) (batch : BatchView) → w.out ≡ None → GoesOn told told (work_of origin w os None) (work_of origin (after_take batch.number batch.spans w) os (Some (record { batch = batch; stage = to_encode })))
+take_goes told origin w os batch none = goes_quiet told told (work_of origin w os None) (work_of origin (after_take batch.number batch.spans w) os (Some (record { batch = batch; stage = to_encode }))) refl refl
+    (append-nil (before w) ∙ sym (attempts_none origin w os None none)) refl
+
+pub drained_either : (told : Option (List Handed)) (origin : Origin) (a a' : Holder) (os : List Outcome) (b : Bool) → a ≡ worker origin (worker_in a) → (b ≡ true → a' ≡ on_worker after_drained a) → (b ≡ false → a' ≡ a) → GoesOn told told (work_of origin (worker_in a) os None) (work_of origin (worker_in a') os None)
+drained_either told origin a a' os true is yes' no' =
+    subst (λ (w : WorkerAccount). GoesOn told told (work_of origin (worker_in a) os None) (work_of origin w os None)) (sym (told_worker after_drained origin a a' (yes' refl) is))
+    (goes_quiet told told (work_of origin (worker_in a) os None) (work_of origin (after_drained (worker_in a)) os None) refl refl refl refl)
+drained_either told origin a a' os false is yes' no' =
+    subst (λ (w : WorkerAccount). GoesOn told told (work_of origin (worker_in a) os None) (work_of origin w os None)) (sym (ap worker_in (no' refl)))
+    (no_turn told (work_of origin (worker_in a) os None))

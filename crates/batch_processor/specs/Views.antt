@@ -1,0 +1,59 @@
+-- What a processor's settings and answers are in the model.
+use Rattle.std.specs.Prelude.{ℕ, Bool, true, false, List, map}
+use Rattle.span_model.specs.Spans.{EndedSpan}
+use Rattle.retry_model.specs.Retries as retries
+use Rattle.otlp_span.specs.declared.reason.Reason.TheVariants as reasons
+use Rattle.trace_api.specs.declared.pass.Ended.{Ended}
+use Rattle.trace_api.specs.declared.pass.Ended.TheVariants as answers
+use Rattle.retry_core.specs.Retries.{outcome_view}
+use Rattle.retry_core.specs.declared.outcome.Outcome.{Outcome}
+use Rattle.batch_desk.specs.Views.{config_view}
+use Rattle.batch_desk.specs.declared.admitted.Admitted.{Admitted}
+use Rattle.batch_desk.specs.declared.admitted.Admitted.TheVariants as admitted
+use Rattle.batch_processor.specs.declared.config.BatchConfig.{BatchConfig}
+use Rattle.batch_processor.specs.declared.config.Setup.{Setup}
+use Rattle.span_ring.specs.declared.fault.RingFault.{RingFault}
+use Rattle.span_ring.specs.declared.fault.RingFault.TheVariants as rings
+use Rattle.batch_processor.specs.declared.fault.NewFault.{NewFault}
+use Rattle.batch_processor.specs.declared.fault.NewFault.TheVariants as faults
+use Rattle.batch_model.specs.Passes.{PassAccount}
+use Rattle.batch_model.specs.Clauses.{Origin}
+use Rattle.batch_model.specs.Holders.{after_queued, after_full, after_late}
+
+abbrev pub setup_view : Setup → Origin
+setup_view s = record {
+  passes = s.passes;
+  desk = config_view s.config.desk;
+  retry = s.config.retry;
+}
+
+abbrev pub outcomes_view : List Outcome → List retries.Outcome
+outcomes_view outcomes = map outcome_view outcomes
+
+-- what is answered where a span was admitted so
+abbrev pub ended_of : Admitted → Ended
+ended_of (admitted.Queued ticket) = answers.Queued ticket
+ended_of (admitted.Full ticket) = answers.Dropped ticket reasons.QueueFull
+ended_of admitted.Late = answers.Late
+
+-- What a batch processor answers: the span was queued, or the queue was full, or it was late.
+-- (Trace SDK, OnEnd)
+abbrev pub is_batch_answer : Ended → Bool
+is_batch_answer (answers.Queued ticket) = true
+is_batch_answer (answers.Dropped ticket reasons.QueueFull) = true
+is_batch_answer answers.Late = true
+is_batch_answer _ = false
+
+-- a span that ended, and what was answered
+abbrev pub after_end : Ended → EndedSpan → PassAccount → PassAccount
+after_end (answers.Queued ticket) span account = after_queued ticket span account
+after_end (answers.Dropped ticket reason) span account = after_full ticket span account
+after_end answers.Late span account = after_late account
+after_end _ span account = account
+
+-- why a processor is not made, where its queue isn't
+abbrev pub new_fault : RingFault → NewFault
+new_fault rings.ZeroSize = faults.ZeroSize
+new_fault rings.BatchAboveQueue = faults.BatchAboveQueue
+new_fault rings.TooLarge = faults.TooLarge
+new_fault rings.OutOfMemory = faults.OutOfMemory

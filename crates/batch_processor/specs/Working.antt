@@ -1,0 +1,180 @@
+-- What the worker's pass of a batch processor has between two turns, and what a turn does. (Trace
+-- SDK, Batching processor, Span Exporter; OpenTelemetry Protocol Exporter, Retry)
+use Rattle.std.specs.Prelude.{◌≡◌, ℕ, ◌+◌, ◌<◌, ◌≤◌, Bool, true, List, [], ◌∷◌, ◌++◌, length, map, Option, Some, None, option_map}
+use Rattle.std.specs.List.{AllByRecursion, flat_map}
+use Rattle.span_model.specs.Spans.{EndedSpan}
+use Rattle.retry_model.specs.Retries.{Outcome}
+use Rattle.retry_model.specs.Waits.{RetryConfig, IsRetryConfig}
+use Rattle.retry_core.specs.Retries.{outcome_view}
+use Rattle.span_exporter.specs.Handed.{Handed, Gains, handing}
+use Rattle.batch_desk.specs.Batch.{BatchView}
+use Rattle.batch_model.specs.Worker.{BatchEnd, settled, dropped, EndedBatch, OutBatch, WorkerAccount}
+use Rattle.batch_model.specs.Clauses.{EachLeadsOn, IsBodyOf, IsByWork, Origin}
+use Rattle.batch_processor.specs.declared.worker.Stage.{Stage}
+use Rattle.batch_processor.specs.declared.worker.Stage.TheVariants as stages
+
+-- ---- attempts
+
+-- the attempts of a batch, of this body, from this one on, with what they came to
+abbrev pub attempts_from : ℕ → ℕ → List ℕ → List Outcome → List Handed
+attempts_from number attempt body [] = []
+attempts_from number attempt body (outcome ∷ outcomes) =
+    record { number = number; attempt = attempt; body = body; outcome = outcome }
+    ∷ attempts_from number (attempt + 1) body outcomes
+
+abbrev pub attempts_by : ℕ → BatchEnd → List Handed
+attempts_by number (settled body outcomes fate) = attempts_from number 1 body outcomes
+attempts_by number (dropped reason) = []
+
+abbrev pub attempts_with : ℕ → Option (List ℕ) → List Outcome → List Handed
+attempts_with number None outcomes = []
+attempts_with number (Some body) outcomes = attempts_from number 1 body outcomes
+
+abbrev pub attempts_out : Option OutBatch → List Handed
+attempts_out None = []
+attempts_out (Some batch) = attempts_with batch.number batch.body batch.outcomes
+
+-- All attempts that a worker made, in order: those of one batch after the other, numbered from 1 on,
+-- each with the body with which its batch was handed.
+abbrev pub attempts_of : WorkerAccount → List Handed
+attempts_of worker =
+    flat_map (λ (b : EndedBatch). attempts_by b.number b.ending) worker.ended
+    ++ attempts_out worker.out
+
+-- ---- between two turns
+
+-- how far the batch is: it is to be encoded, or this body is to be sent, or it was sent and came to
+-- this, or it is to be sent again
+pub data HandStage : Type 0 where
+  to_encode : HandStage
+  to_send : List ℕ → HandStage
+  to_judge : List ℕ → Outcome → HandStage
+  to_retry : List ℕ → HandStage
+
+abbrev pub stage_view : {A : Type 0} → Stage A → HandStage
+stage_view stages.ToEncode = to_encode
+stage_view (stages.ToSend body) = to_send body.items
+stage_view (stages.ToJudge body outcome) = to_judge body.items (outcome_view outcome)
+stage_view (stages.ToRetry body from) = to_retry body.items
+
+pub record Hand : Type 0 where
+  pub batch : BatchView
+  pub stage : HandStage
+
+-- the body that was encoded, and that with which the batch was handed
+abbrev pub encoded_at : HandStage → Option (List ℕ)
+encoded_at to_encode = None
+encoded_at (to_send body) = Some body
+encoded_at (to_judge body outcome) = Some body
+encoded_at (to_retry body) = Some body
+
+abbrev pub handed_at : HandStage → Option (List ℕ)
+handed_at to_encode = None
+handed_at (to_send body) = None
+handed_at (to_judge body outcome) = Some body
+handed_at (to_retry body) = Some body
+
+-- the outcome that is to be judged
+abbrev pub pending_at : HandStage → List Outcome
+pending_at (to_judge body outcome) = outcome ∷ []
+pending_at _ = []
+
+abbrev pub in_hand : {X : Type 0} → X → (HandStage → X) → Option Hand → X
+in_hand none f None = none
+in_hand none f (Some hand) = f hand.stage
+
+-- A worker's pass, as its contracts see it: what the processor began with, what the worker knows,
+-- with what the attempts of the batch that is out came to, and the body that this batch has.
+pub record Work : Type 0 where
+  pub origin : Origin
+  pub account : WorkerAccount
+  pub encoded : Option (List ℕ)
+
+abbrev pub with_outcomes : List Outcome → Option OutBatch → Option OutBatch
+with_outcomes outcomes None = None
+with_outcomes outcomes (Some batch) = Some (record batch { outcomes = outcomes })
+
+abbrev pub work_of : Origin → WorkerAccount → List Outcome → Option Hand → Work
+work_of origin account outcomes hand = record {
+  origin = origin;
+  account = record account { out = with_outcomes (outcomes ++ in_hand [] pending_at hand) account.out };
+  encoded = in_hand None encoded_at hand;
+}
+
+-- what is so at each stage
+abbrev pub IsStage : RetryConfig → List EndedSpan → List Outcome → HandStage → Type 0
+IsStage retry spans outcomes to_encode = outcomes ≡ []
+IsStage retry spans outcomes (to_send body) = (outcomes ≡ []) × IsBodyOf spans body
+IsStage retry spans outcomes (to_judge body outcome) =
+    (length outcomes < retry.attempts) × IsBodyOf spans body
+IsStage retry spans outcomes (to_retry body) =
+    (length outcomes < retry.attempts) × IsBodyOf spans body × (1 ≤ length outcomes)
+
+-- The batch in hand is the one that the worker's account has out.
+pub record IsInHand (origin : Origin) (account : WorkerAccount) (outcomes : List Outcome)
+    (hand : Hand) : Type 0 where
+  pub out : account.out ≡ Some (record {
+    number = hand.batch.number;
+    spans = hand.batch.spans;
+    body = handed_at hand.stage;
+    outcomes = [];
+  })
+  pub room : hand.batch.room ≡ origin.desk.batch
+  pub some : 1 ≤ length hand.batch.spans
+  pub few : length hand.batch.spans ≤ origin.desk.batch
+  pub stage : IsStage origin.retry hand.batch.spans outcomes hand.stage
+
+abbrev pub IsTied : Origin → WorkerAccount → List Outcome → Option Hand → Type 0
+IsTied origin account outcomes None = (account.out ≡ None) × (outcomes ≡ [])
+IsTied origin account outcomes (Some hand) = IsInHand origin account outcomes hand
+
+-- What is so between two turns: each batch that ended did so by work, and each outcome that was
+-- judged led to another attempt.
+pub record IsWorking (origin : Origin) (account : WorkerAccount) (outcomes : List Outcome)
+    (hand : Option Hand) : Type 0 where
+  pub retry : IsRetryConfig origin.retry
+  pub by_work : AllByRecursion (IsByWork origin) account.ended
+  pub again : EachLeadsOn origin.retry 1 outcomes
+  pub tied : IsTied origin account outcomes hand
+
+-- ---- what work does
+
+abbrev pub outcomes_out : Option OutBatch → List Outcome
+outcomes_out None = []
+outcomes_out (Some batch) = batch.outcomes
+
+-- The exporter has room for what is left of the attempts of an encoded batch.
+abbrev pub HasRoom : RetryConfig → (ℕ → ℕ) → Option (List ℕ) → List Outcome → Type 0
+HasRoom retry room None outcomes = Unit {0}
+HasRoom retry room (Some body) outcomes = retry.attempts ≤ room (length body) + length outcomes
+
+abbrev pub IsPrepared : (ℕ → ℕ) → Work → Type 0
+IsPrepared room work =
+    HasRoom work.origin.retry room work.encoded (outcomes_out work.account.out)
+
+-- An exporter that tells has gained just the attempts that the worker's account gained. Batches
+-- ended by work alone, and none that had ended is changed.
+pub record GoesOn (told told' : Option (List Handed)) (old new : Work) : Type 0 where
+  pub origin : new.origin ≡ old.origin
+  pub more : List Handed
+  pub gains : Gains more told told'
+  pub attempts : attempts_of new.account ≡ attempts_of old.account ++ more
+  pub batches : List EndedBatch
+  pub ended : new.account.ended ≡ old.account.ended ++ batches
+  pub by_work : AllByRecursion (IsByWork old.origin) batches
+
+-- ---- what a turn does
+
+-- The batch is to be sent, with a body that means its spans, or it is to be encoded later.
+abbrev pub IsEncoded : RetryConfig → (ℕ → ℕ) → List EndedSpan → HandStage → Type 0
+IsEncoded retry room spans (to_send body) =
+    IsBodyOf spans body × (retry.attempts ≤ room (length body))
+IsEncoded retry room spans to_encode = Unit {0}
+IsEncoded retry room spans _ = ⊥
+
+-- The body was handed to the exporter, in this attempt, and what came of it is to be judged.
+pub record IsExported (told told' : Option (List Handed)) (batch : BatchView) (body : List ℕ)
+    (attempt : ℕ) (hand : Hand) : Type 0 where
+  pub outcome : Outcome
+  pub gains : Gains (handing batch.number attempt body outcome) told told'
+  pub hand_is : hand ≡ record { batch = batch; stage = to_judge body outcome }

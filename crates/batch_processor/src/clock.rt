@@ -1,0 +1,77 @@
+//! The clocks that a worker goes by.
+use std::sync::atomic::{AtomicU64, Ordering};
+use std::time;
+
+/// Tells the time.
+pub trait Clock {
+    /// The moment now, in nanoseconds since 1970.
+    fn now(&self) -> u64;
+}
+
+/// How far a clock goes on where the system's has no later moment to tell, in nanoseconds.
+const STEP_NS: u64 = 1_000_000;
+
+/// The system's clock, over the runtime's value. It never goes back, and whoever reads it again and
+/// again comes to any moment: where the system's clock can't be read, stands before 1970, is past
+/// 2^64 - 1 nanoseconds or was set back, it goes on from its last answer, or from 1970, by a
+/// millisecond with each reading (profile).
+#[derive(Debug, Drop)]
+pub struct SystemClock<R> {
+    rt: R,
+    last: AtomicU64,
+}
+
+impl<R: time::Clock> SystemClock<R> {
+    /// The clock of this runtime. It isn't read yet.
+    pub fn new(rt: R) -> SystemClock<R> {
+        SystemClock {
+            rt,
+            last: AtomicU64::new(0),
+        }
+    }
+}
+
+impl<R: time::Clock> Clock for SystemClock<R> {
+    fn now(&self) -> u64 {
+        let last = self.last.load(Ordering::SeqCst);
+        let now = match nanos_since_1970(&self.rt) {
+            Some(now) if now >= last => now,
+            _ => last.saturating_add(STEP_NS),
+        };
+        self.last.store(now, Ordering::SeqCst);
+        now
+    }
+}
+
+/// The moment that the system's clock tells, if it can be read and fits.
+fn nanos_since_1970<R: time::Clock>(rt: &R) -> Option<u64> {
+    let since = rt.since_1970().ok()?;
+    u64::try_from(since.as_nanos()).ok()
+}
+
+/// A clock that stands until it is set: for tests, and for programs that lead a worker by hand.
+/// Threads may share it.
+#[derive(Debug, Drop)]
+pub struct ManualClock {
+    now: AtomicU64,
+}
+
+impl ManualClock {
+    /// A clock that stands at this moment, in nanoseconds since 1970.
+    pub fn new(now: u64) -> ManualClock {
+        ManualClock {
+            now: AtomicU64::new(now),
+        }
+    }
+
+    /// Sets the clock to this moment, in nanoseconds since 1970. It may go back.
+    pub fn set(&self, now: u64) {
+        self.now.store(now, Ordering::SeqCst);
+    }
+}
+
+impl Clock for ManualClock {
+    fn now(&self) -> u64 {
+        self.now.load(Ordering::SeqCst)
+    }
+}

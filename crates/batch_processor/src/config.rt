@@ -1,0 +1,38 @@
+use batch_desk::DeskConfig;
+use retry_core::RetryConfig;
+
+/// The settings of a batch processor (Trace SDK, "Batching processor"; OpenTelemetry Protocol
+/// Exporter, "Retry").
+#[derive(Debug, Clone, Copy, PartialEq, Eq)]
+pub struct BatchConfig {
+    /// How many spans wait, how many a batch has, and how long it takes to fill.
+    pub desk: DeskConfig,
+    /// How often a batch is sent, and when again.
+    pub retry: RetryConfig,
+}
+
+impl Default for BatchConfig {
+    ghost use Rattle.std.specs.Prelude.{◌≡◌};
+    ghost use Rattle.batch_desk.specs.Desk.{default_config};
+    ghost use Rattle.batch_desk.specs.Views.{config_view};
+    ghost use Rattle.retry_core.specs.Retries.{default_retry};
+
+    ghost is_default = { λ config. (config_view config.desk ≡ default_config)
+        × (config.retry ≡ default_retry) };
+
+    /// The standard's numbers of a queue, and the retries of `RetryConfig` (Trace SDK, "Batching
+    /// processor").
+    fn default() -> BatchConfig {
+        BatchConfig {
+            desk: DeskConfig::default(),
+            retry: RetryConfig::default(),
+        }
+    }
+}
+
+/// The settings of a processor with so many passes.
+#[derive(Debug, Clone, Copy)]
+pub(crate) struct Setup {
+    pub(crate) passes: usize,
+    pub(crate) config: BatchConfig,
+}

@@ -1,0 +1,238 @@
+//! What the accounts of a processor say, and how that changes. No value of it is made.
+ghost use Rattle.std.specs.Prelude.{◌≡◌, []};
+
+use crate::config::Setup;
+use account_book::{Blank, Book, Change, Naming, Opening};
+use batch_desk::{Batch, Desk, NamedBatch};
+use otlp_span::{Entry, SpanData};
+use retry_core::{Fate, Outcome};
+use std::alloc::Allocator;
+use std::fmt;
+use std::marker::{Model, PhantomData};
+use std::snapshot::Snapshot;
+use trace_api::Ended;
+
+/// What an account says: what a processor began with, or what a pass knows, or the worker.
+pub struct Holding {
+    marker: PhantomData<()>,
+}
+
+impl Model for Holding {
+    ghost use Rattle.batch_model.specs.Passes.{new_account};
+    ghost use Rattle.batch_model.specs.Holders.{Holder, pass};
+
+    ghost Value = { Holder };
+
+    ghost view = { λ _. pass new_account };
+}
+
+/// The account of a pass that has done nothing.
+pub(crate) struct NewPass;
+
+impl Opening<Holding> for NewPass {
+    ghost use Rattle.batch_model.specs.Passes.{new_account};
+    ghost use Rattle.batch_model.specs.Holders.{pass};
+
+    ghost first = { pass new_account };
+}
+
+/// The account of a processor that is told nothing yet.
+pub(crate) struct NewProcessor;
+
+impl Opening<Holding> for NewProcessor {
+    ghost use Rattle.batch_model.specs.Holders.{new_origin, processor};
+
+    ghost first = { processor new_origin };
+}
+
+/// The account of a worker that is told nothing yet.
+pub(crate) struct NewWorker;
+
+impl Opening<Holding> for NewWorker {
+    ghost use Rattle.batch_model.specs.Holders.{new_origin, worker};
+    ghost use Rattle.batch_model.specs.Worker.{new_worker};
+
+    ghost first = { worker new_origin new_worker };
+}
+
+/// A processor begins.
+pub(crate) struct Begins;
+
+impl Change<Holding, Setup> for Begins {
+    ghost use Rattle.batch_model.specs.Holders.{processor};
+    ghost use Rattle.batch_processor.specs.Views.{setup_view};
+
+    ghost after = { λ _ setup. processor (setup_view setup) };
+}
+
+/// Its worker begins.
+pub(crate) struct WorkerBegins;
+
+impl Change<Holding, Setup> for WorkerBegins {
+    ghost use Rattle.batch_model.specs.Holders.{worker};
+    ghost use Rattle.batch_processor.specs.Views.{setup_view};
+    ghost use Rattle.batch_model.specs.Worker.{new_worker};
+
+    ghost after = { λ _ setup. worker (setup_view setup) new_worker };
+}
+
+/// A span that ended, and what was answered.
+#[derive(Drop)]
+pub(crate) struct SpanEnded<A: Allocator> {
+    pub(crate) span: Snapshot<SpanData<A>>,
+    pub(crate) answer: Ended,
+}
+
+/// A span ends.
+pub(crate) struct Ends;
+
+impl<A: Allocator> Change<Holding, SpanEnded<A>> for Ends {
+    ghost use Rattle.batch_processor.specs.Views.{after_end};
+    ghost use Rattle.batch_model.specs.Holders.{on_pass};
+
+    ghost after = { λ holder ended. on_pass (after_end ended.answer ended.span.value) holder };
+}
+
+/// A pass asks for all that was accepted at this desk.
+pub(crate) struct Flushes;
+
+impl<A: Allocator> Change<Holding, Snapshot<Desk<A>>> for Flushes {
+    ghost use Rattle.desk_model.specs.Desks.{accepted_count};
+    ghost use Rattle.batch_model.specs.Holders.{after_flush, on_pass};
+
+    ghost after = { λ holder desk. on_pass
+        (after_flush desk.value.next_ticket (accepted_count desk.value)) holder };
+}
+
+/// A pass asks for all, and shuts the processor down.
+pub(crate) struct ShutsDown;
+
+impl<A: Allocator> Change<Holding, Snapshot<Desk<A>>> for ShutsDown {
+    ghost use Rattle.desk_model.specs.Desks.{accepted_count};
+    ghost use Rattle.batch_model.specs.Holders.{after_shutdown, on_pass};
+
+    ghost after = { λ holder desk. on_pass
+        (after_shutdown desk.value.next_ticket (accepted_count desk.value)) holder };
+}
+
+/// What a pass asked for is flushed.
+pub(crate) struct Flushed;
+
+impl Change<Holding, ()> for Flushed {
+    ghost use Rattle.batch_model.specs.Holders.{after_flushed, on_pass};
+
+    ghost after = { λ holder _. on_pass after_flushed holder };
+}
+
+/// A pass pops an entry of the ledger.
+pub(crate) struct Pops;
+
+impl Change<Holding, Entry> for Pops {
+    ghost use Rattle.otlp_span.specs.Dropped.{entry_view};
+    ghost use Rattle.batch_model.specs.Holders.{after_pop, on_pass};
+
+    ghost after = { λ holder entry. on_pass (after_pop (entry_view entry)) holder };
+}
+
+/// The worker takes a batch.
+pub(crate) struct Takes;
+
+impl<A: Allocator> Change<Holding, Batch<A>> for Takes {
+    ghost use Rattle.batch_model.specs.Holders.{after_take, on_worker};
+
+    ghost after = { λ holder batch. on_worker (after_take batch.number batch.spans) holder };
+}
+
+/// The batch that is out is handed to an exporter, with this body.
+pub(crate) struct Hands;
+
+impl<A: Allocator> Change<Holding, Vec<u8, A>> for Hands {
+    ghost use Rattle.batch_model.specs.Holders.{after_handed, on_worker};
+
+    ghost after = { λ holder body. on_worker (after_handed body.items) holder };
+}
+
+/// The batch that is out is dropped.
+pub(crate) struct Drops;
+
+impl<A: Allocator> Change<Holding, NamedBatch<A>> for Drops {
+    ghost use Rattle.batch_model.specs.Holders.{after_drop, on_worker};
+
+    ghost after = { λ holder batch. on_worker (after_drop batch.reason) holder };
+}
+
+/// What the attempts of a batch came to, and how it is settled.
+#[derive(Drop)]
+pub(crate) struct Settled<A: Allocator> {
+    pub(crate) outcomes: Snapshot<Vec<Outcome, A>>,
+    pub(crate) fate: Fate,
+}
+
+/// The batch that is out is settled.
+pub(crate) struct Settles;
+
+impl<A: Allocator> Change<Holding, Settled<A>> for Settles {
+    ghost use Rattle.retry_core.specs.Retries.{fate_view};
+    ghost use Rattle.batch_processor.specs.Views.{outcomes_view};
+    ghost use Rattle.batch_model.specs.Holders.{after_settle, on_worker};
+
+    ghost after = { λ holder settled. on_worker
+        (after_settle (outcomes_view settled.outcomes.value.items) (fate_view settled.fate))
+        holder };
+}
+
+/// All is drained.
+pub(crate) struct Drains;
+
+impl Change<Holding, ()> for Drains {
+    ghost use Rattle.batch_model.specs.Holders.{after_drained, on_worker};
+
+    ghost after = { λ holder _. on_worker after_drained holder };
+}
+
+/// The accounts of one processor, before it is made: `BatchProcessor::new` opens them. In contracts
+/// it is their name, by which a type parameter stands for this one processor.
+#[derive(Drop)]
+pub struct BatchBlank {
+    blank: Blank<Holding>,
+}
+
+impl Model for BatchBlank {
+    ghost use Rattle.std.specs.Prelude.{ℕ};
+
+    ghost Value = { ℕ };
+
+    ghost view = { λ b. b.blank };
+}
+
+/// Writes the name of the type alone, since a blank has no bytes.
+impl fmt::Debug for BatchBlank {
+    fn fmt<W: fmt::Write>(&self, f: &mut fmt::Formatter<W>) -> fmt::Result {
+        f.debug_struct("BatchBlank").finish_non_exhaustive()
+    }
+}
+
+impl Default for BatchBlank {
+    /// As `BatchBlank::new`.
+    fn default() -> BatchBlank {
+        BatchBlank::new()
+    }
+}
+
+impl BatchBlank {
+    /// No accounts, under a name of their own. It takes no memory.
+    pub fn new() -> BatchBlank {
+        BatchBlank {
+            blank: Blank::new::<NewPass>(),
+        }
+    }
+
+    /// The book without accounts.
+    pub(crate) fn open<J: Naming>(self) -> Book<J, Holding>
+        requires { self ≡ J.name }
+        ensures { result ≡ [] }
+    {
+        let BatchBlank { blank } = self;
+        blank.named::<J>()
+    }
+}

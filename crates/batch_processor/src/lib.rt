@@ -1,0 +1,24 @@
+//! A batch processor (OpenTelemetry Trace SDK, "Batching processor"): threads end their spans on
+//! passes of their own, which queue them under one lock; a worker takes them in batches, encodes
+//! each once, and hands it to an exporter, again as the replies ask.
+#![tactic(auto)]
+
+mod clock;
+mod config;
+mod encoder;
+mod fault;
+mod holding;
+mod lock;
+mod pass;
+mod processor;
+mod shared;
+mod worker;
+
+pub use account_book::Naming;
+pub use clock::{Clock, ManualClock, SystemClock};
+pub use config::BatchConfig;
+pub use fault::NewFault;
+pub use holding::BatchBlank;
+pub use pass::{Flushed, Pass};
+pub use processor::{Accounts, BatchProcessor, MAX_PASSES, Missing, Parts};
+pub use worker::{WorkEnd, WorkerPass};

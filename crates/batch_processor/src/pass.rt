@@ -1,0 +1,95 @@
+//! The passes of a batch processor.
+ghost use Rattle.std.specs.Prelude.{◌≡◌, IfNone, IfSome};
+ghost use Rattle.otlp_span.specs.Dropped.{entry_view};
+ghost use Rattle.batch_model.specs.Holders.{after_pop};
+ghost use Rattle.batch_processor.specs.Answers.{IsFlushed, IsShutDown};
+
+use crate::holding::Holding;
+use crate::lock::Lock;
+use account_book::{Account, Naming};
+use otlp_span::{Entry, SpanData};
+use std::alloc::{Allocator, Global};
+use std::fmt;
+use std::marker::Model;
+use std::sync::{Arc, Wait};
+use trace_api::{EndPass, Ended};
+
+/// All spans that were accepted before the call were handed to the exporter and settled, or
+/// dropped.
+#[derive(Debug, Clone, Copy, PartialEq, Eq)]
+pub struct Flushed;
+
+/// One thread's way to a batch processor: what its spans go to at their end. In contracts it is
+/// what it knows: how each of its spans was answered, what it popped, how often it was late and
+/// called shutdown, and the floor below which all is flushed. An end takes the lock once. On the
+/// heap a pass may go to another thread where the runtime's value may: what `thread::spawn` asks its caller to
+/// show is the lemma `pass_send` of `proofs/Crosses.antt`.
+#[derive(Drop)]
+pub struct Pass<J: Naming, R, A: Allocator = Global> {
+    pub(crate) lock: Arc<Lock<J, A>, A>,
+    pub(crate) account: Account<J, Holding>,
+    pub(crate) rt: R,
+}
+
+impl<J: Naming, R, A: Allocator> Model for Pass<J, R, A> {
+    ghost use Rattle.std.specs.Prelude.{◌≡◌};
+    ghost use Rattle.batch_model.specs.Passes.{PassAccount};
+    ghost use Rattle.batch_model.specs.Holders.{account_in, pass};
+
+    ghost Value = { PassAccount };
+
+    ghost view = { λ p. account_in p.account };
+
+    ghost invariant = { λ p. p.account ≡ pass (account_in p.account) };
+}
+
+/// Writes the name of the type alone: what a pass shares lies under the lock, and isn't looked at.
+impl<J: Naming, R, A: Allocator> fmt::Debug for Pass<J, R, A> {
+    fn fmt<W: fmt::Write>(&self, f: &mut fmt::Formatter<W>) -> fmt::Result {
+        f.debug_struct("Pass").finish_non_exhaustive()
+    }
+}
+
+impl<J: Naming, R: Wait, A: Allocator + Copy> Pass<J, R, A> {
+    /// Waits until all spans that were accepted before are handed to the exporter and settled, or
+    /// dropped (Trace SDK, "ForceFlush").
+    pub fn force_flush(&mut self) -> Flushed
+        ensures { IsFlushed self.old self.new }
+    {
+        let Pass { lock, account, rt } = self;
+        lock.flush(rt, account);
+        Flushed
+    }
+
+    /// Admits no span any more, on any pass, and waits as `force_flush` (Trace SDK, "Shutdown").
+    pub fn shutdown(&mut self) -> Flushed
+        ensures { IsShutDown self.old self.new }
+    {
+        let Pass { lock, account, rt } = self;
+        lock.shutdown(rt, account);
+        Flushed
+    }
+
+    /// Takes the newest entry out of the ledger, if there is one.
+    pub fn pop_entry(&mut self) -> Option<Entry>
+        ensures some { IfSome result (λ entry. self.new ≡ after_pop (entry_view entry) self.old) }
+        ensures none { IfNone result (self.new ≡ self.old) }
+    {
+        let Pass { lock, account, rt } = self;
+        lock.shared.lock(rt).pop_entry(account)
+    }
+}
+
+impl<J: Naming, R: Wait, A: Allocator + Copy> EndPass<SpanData<A>> for Pass<J, R, A> {
+    ghost use Rattle.batch_processor.specs.Answers.{AdmitsSpan};
+
+    ghost admits = { AdmitsSpan };
+
+    /// Queues the span under the next ticket: `Queued`. Where as many wait as may, the ledger names
+    /// it on its own slip: `Dropped`, as `QueueFull`. Behind a shutdown it is only counted: `Late`.
+    /// No memory is taken. (profile: tickets, the ledger, late spans)
+    fn admit(&mut self, span: SpanData<A>) -> Ended {
+        let Pass { lock, account, rt } = self;
+        lock.admit(rt, account, span)
+    }
+}

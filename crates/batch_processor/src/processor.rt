@@ -1,0 +1,279 @@
+//! The batch processor.
+ghost use Rattle.std.specs.Prelude.{◌≡◌, ℕ, ◌-◌, ◌^◌, ◌<◌, ◌≤◌, ◌++◌, ◌↔◌, ◌⊎◌, IfErr, IfOk, IfSome, IsErrOf, MatchResult, OnOk, vec_len, None, true};
+ghost use Rattle.std.specs.List.{AllByRecursion};
+ghost use Rattle.batch_model.specs.Passes.{new_account};
+ghost use Rattle.batch_model.specs.Worker.{new_worker};
+ghost use Rattle.batch_model.specs.Holders.{pass};
+ghost use Rattle.batch_processor.specs.Views.{setup_view};
+ghost use Rattle.batch_processor.specs.declared.processor.TheConstants.{MAX_PASSES};
+ghost use Rattle.batch_model.specs.Clauses.{BatchesAreNumbered, DropsAreCounted, DropsAreNamed, HandedAreCounted, IsByWork, IsOutByWork, is_closed, DropsFoundItFull, DrainedLeavesNone, FatesAreCounted, LateAfterShutdown, LateAreCounted, NoneIsBelowAFloor, QueuedAreAccounted, TicketsAreGivenOnce, TicketsRise, TicketsRiseThrough, abandon};
+
+use crate::config::{BatchConfig, Setup};
+use crate::fault::NewFault;
+use crate::holding::{BatchBlank, Begins, Holding, NewPass, NewProcessor, NewWorker, WorkerBegins};
+use crate::lock::Lock;
+use crate::pass::Pass;
+use crate::shared::Shared;
+use crate::worker::WorkerPass;
+use account_book::{Account, Book, Naming};
+use batch_desk::Desk;
+use std::alloc::{AllocError, Allocator, Global};
+use std::fmt;
+use std::marker::Model;
+use std::sync::{Arc, Condvar, Mutex, Wait};
+
+/// A batch processor (Trace SDK, "Batching processor"). In contracts it is what it began with.
+#[derive(Drop)]
+pub struct BatchProcessor<J: Naming, R, A: Allocator = Global> {
+    lock: Arc<Lock<J, A>, A>,
+    account: Account<J, Holding>,
+    setup: Setup,
+    rt: R,
+}
+
+impl<J: Naming, R, A: Allocator> Model for BatchProcessor<J, R, A> {
+    ghost use Rattle.std.specs.Prelude.{◌≡◌};
+    ghost use Rattle.batch_model.specs.Clauses.{Origin};
+    ghost use Rattle.batch_model.specs.Holders.{processor};
+    ghost use Rattle.batch_processor.specs.Views.{setup_view};
+
+    ghost Value = { Origin };
+
+    ghost view = { λ p. setup_view p.setup };
+
+    ghost invariant = { λ p. p.account ≡ processor (setup_view p.setup) };
+}
+
+/// Writes how many passes there are. What lies under the lock isn't looked at.
+impl<J: Naming, R, A: Allocator> fmt::Debug for BatchProcessor<J, R, A> {
+    fn fmt<W: fmt::Write>(&self, f: &mut fmt::Formatter<W>) -> fmt::Result {
+        f.debug_struct("BatchProcessor")
+            .field("passes", &self.setup.passes)
+            .finish_non_exhaustive()
+    }
+}
+
+/// What a processor comes to: the desk, with its totals and its ledger.
+#[derive(Drop)]
+#[derive_where(Debug)]
+pub struct Accounts<A: Allocator = Global> {
+    /// What is left in the queue, the ledger, and the counts.
+    pub desk: Desk<A>,
+}
+
+/// A pass is missing: all that was to be closed out. Where it is let go, a batch in hand is
+/// abandoned.
+#[derive(Drop)]
+#[derive_where(Debug)]
+pub struct Missing<J: Naming, R: Wait + Drop, A: Allocator + Copy = Global> {
+    /// The processor, as it was.
+    pub processor: BatchProcessor<J, R, A>,
+    /// The passes that were handed in, as they were.
+    pub passes: Vec<Pass<J, R, A>, A>,
+    /// The worker's pass, as it was.
+    pub worker: WorkerPass<J, R, A>,
+}
+
+impl<J: Naming, R: Wait + Drop, A: Allocator + Copy> BatchProcessor<J, R, A> {
+    /// Ends the processor, once all its passes are back. A batch in hand is abandoned first.
+    ///
+    /// # Errors
+    ///
+    /// `Missing` exactly where a pass is missing; it gives all back, as it was.
+    pub fn close_out(
+        self,
+        passes: Vec<Pass<J, R, A>, A>,
+        worker: WorkerPass<J, R, A>,
+    ) -> Result<Accounts<A>, Missing<J, R, A>>
+        ensures missing { MatchResult result
+            (λ _. self.passes ≤ vec_len passes) (λ _. vec_len passes < self.passes) }
+        ensures given_back { IfErr result
+            (λ m. (m.processor ≡ self) × (m.passes ≡ passes) × (m.worker ≡ worker)) }
+        ensures spans { IfOk result (λ a.
+            QueuedAreAccounted a.desk.waiting passes.items (abandon worker.account)) }
+        ensures tickets { IfOk result (λ a. TicketsAreGivenOnce a.desk.next_ticket passes.items) }
+        ensures rising { IfOk result (λ a. TicketsRise passes.items) }
+        ensures full { IfOk result (λ a. DropsFoundItFull self.desk.queue passes.items) }
+        ensures names { IfOk result (λ a.
+            DropsAreNamed a.desk.ledger passes.items (abandon worker.account)) }
+        ensures dropped { IfOk result (λ a.
+            DropsAreCounted a.desk.dropped passes.items (abandon worker.account)) }
+        ensures late { IfOk result (λ a. LateAreCounted a.desk.late passes.items) }
+        ensures late_after { IfOk result
+            (λ a. LateAfterShutdown a.desk.next_ticket passes.items) }
+        ensures closed { IfOk result
+            (λ a. a.desk.closed ≡ is_closed a.desk.next_ticket passes.items) }
+        ensures batches { IfOk result (λ a.
+            TicketsRiseThrough a.desk.waiting (abandon worker.account)) }
+        ensures numbered { OnOk result (BatchesAreNumbered (abandon worker.account)) }
+        ensures handed { IfOk result (λ a.
+            HandedAreCounted a.desk.handed (abandon worker.account)) }
+        ensures fates { IfOk result (λ a.
+            FatesAreCounted a.desk.fates (abandon worker.account)) }
+        ensures by_work { OnOk result
+            (AllByRecursion (IsByWork worker.origin) worker.account.ended) }
+        ensures out { OnOk result (IfSome worker.account.out (IsOutByWork worker.origin)) }
+        ensures floors { IfOk result (λ a. NoneIsBelowAFloor a.desk.waiting passes.items) }
+        ensures drained { IfOk result (λ a.
+            DrainedLeavesNone a.desk.waiting (abandon worker.account)) }
+    {
+        if passes.len() < self.setup.passes {
+            return Err(Missing {
+                processor: self,
+                passes,
+                worker,
+            });
+        }
+        let BatchProcessor {
+            lock,
+            account,
+            setup: _,
+            rt,
+        } = self;
+        let his = worker.abandon();
+        let desk = lock.shared.lock(&rt).close(account, his, passes);
+        Ok(Accounts { desk })
+    }
+}
+
+impl<J: Naming, R: Wait + Drop, A: Allocator + Copy> Missing<J, R, A> {
+    /// Lets all go. A batch in hand is abandoned first: it is dropped where it was not handed to an
+    /// exporter, and else settled.
+    pub fn discard(self) {
+        drop(self);
+    }
+}
+
+/// The most passes that a processor may have (profile).
+pub const MAX_PASSES: usize = 64;
+
+// No clause says the number itself.
+const _: () = prove!(MAX_PASSES == 64);
+
+/// A new processor, its passes, and the worker's.
+#[derive(Drop)]
+#[derive_where(Debug)]
+pub struct Parts<J: Naming, R: Wait + Drop, A: Allocator + Copy = Global> {
+    /// The processor.
+    pub processor: BatchProcessor<J, R, A>,
+    /// Its passes, for a thread each.
+    pub passes: Vec<Pass<J, R, A>, A>,
+    /// The pass of the thread that sends the batches.
+    pub worker: WorkerPass<J, R, A>,
+}
+
+impl<J: Naming, R: Wait + Copy, A: Allocator + Copy> BatchProcessor<J, R, A> {
+    /// A processor with so many passes, 1 to [`MAX_PASSES`], made at a moment, in nanoseconds since
+    /// 1970. The blank becomes its accounts.
+    ///
+    /// # Errors
+    ///
+    /// The first that holds of `BadPasses` and the faults of the queue.
+    pub fn new(
+        alloc: A,
+        rt: R,
+        blank: BatchBlank,
+        config: BatchConfig,
+        passes: usize,
+        now: u64,
+    ) -> Result<Parts<J, R, A>, NewFault>
+        requires { blank ≡ J.name }
+        ensures processor { IfOk result (λ parts.
+            parts.processor ≡ setup_view (record { passes = passes; config = config })) }
+        ensures count { IfOk result (λ parts. vec_len parts.passes ≡ passes) }
+        ensures passes { IfOk result
+            (λ parts. AllByRecursion (λ a. a ≡ new_account) parts.passes.items) }
+        ensures worker { IfOk result (λ parts. parts.worker ≡ record {
+          origin = setup_view (record { passes = passes; config = config });
+          account = new_worker;
+          encoded = None;
+        }) }
+        ensures bad_passes { IsErrOf result NewFault.BadPasses
+            ↔ ((passes ≡ 0) ⊎ (MAX_PASSES < passes)) }
+    {
+        if passes == 0 || passes > MAX_PASSES {
+            return Err(NewFault::BadPasses);
+        }
+        let sizes = config.desk;
+        let desk = Desk::new(alloc, sizes, now)?;
+        let outcomes = Vec::with_capacity(alloc, 5)?;
+        let setup = Setup { passes, config };
+        let mut book = blank.open::<J>();
+        let mut account = book.open::<NewProcessor>();
+        book.record::<Setup, Begins>(&mut account, &setup);
+        let mut his = book.open::<NewWorker>();
+        book.record::<Setup, WorkerBegins>(&mut his, &setup);
+        let accounts = open_accounts(alloc, &mut book, passes)?;
+        let shared = Shared {
+            desk: Some(desk),
+            book,
+            setup,
+        };
+        let lock = Lock {
+            shared: Mutex::new(shared),
+            to_do: Condvar::new(),
+            done: Condvar::new(),
+        };
+        let lock = Arc::new(alloc, lock)?;
+        let all = give_passes(alloc, rt, &lock, accounts)?;
+        let theirs = Arc::try_clone(&lock)?;
+        let worker = WorkerPass {
+            lock: theirs,
+            account: his,
+            in_hand: None,
+            outcomes,
+            setup,
+            alloc,
+            rt,
+        };
+        let processor = BatchProcessor {
+            lock,
+            account,
+            setup,
+            rt,
+        };
+        Ok(Parts {
+            processor,
+            passes: all,
+            worker,
+        })
+    }
+}
+
+/// Opens an account for each of so many passes.
+fn open_accounts<J: Naming, A: Allocator>(
+    alloc: A,
+    book: &mut Book<J, Holding>,
+    passes: usize,
+) -> Result<Vec<Account<J, Holding>, A>, AllocError>
+    ensures book { IfOk result (λ opened. book.new ≡ book.old ++ opened.items) }
+    ensures count { IfOk result (λ opened. vec_len opened ≡ passes) }
+    ensures new { IfOk result
+        (λ opened. AllByRecursion (λ h. h ≡ pass new_account) opened.items) }
+{
+    let mut opened = Vec::with_capacity(alloc, passes)?;
+    for _pass in 0..passes {
+        opened.push_reserved(book.open::<NewPass>());
+    }
+    Ok(opened)
+}
+
+/// A pass for each of these accounts.
+fn give_passes<J: Naming, R: Copy, A: Allocator>(
+    alloc: A,
+    rt: R,
+    lock: &Arc<Lock<J, A>, A>,
+    accounts: Vec<Account<J, Holding>, A>,
+) -> Result<Vec<Pass<J, R, A>, A>, AllocError>
+    requires { AllByRecursion (λ h. h ≡ pass new_account) accounts.items }
+    ensures count { IfOk result (λ passes. vec_len passes ≡ vec_len accounts) }
+    ensures new { IfOk result
+        (λ passes. AllByRecursion (λ a. a ≡ new_account) passes.items) }
+{
+    let mut passes = Vec::with_capacity(alloc, accounts.len())?;
+    for account in accounts {
+        let lock = Arc::try_clone(lock)?;
+        passes.push_reserved(Pass { lock, account, rt });
+    }
+    Ok(passes)
+}

@@ -1,0 +1,285 @@
+//! What threads share, with the accounts of those who share it. Each call is one hold of the lock.
+ghost use Rattle.std.specs.Prelude.{◌≡◌, ℕ, List, ◌≤◌, vec_len, true, false, option_map, IfSome, IfNone, IsTrue, OnSome, Some, None, [], IfErr, is_some};
+ghost use Rattle.desk_model.specs.Desks.{accepted_count, is_due};
+ghost use Rattle.otlp_span.specs.Dropped.{entry_view};
+ghost use Rattle.retry_core.specs.Retries.{fate_view};
+ghost use Rattle.batch_model.specs.Holders.{account_in, after_drained, after_drop, after_flushed, after_handed, after_pop, after_settle, after_take, on_pass, on_worker, origin_in, pass, processor, worker, worker_in};
+ghost use Rattle.batch_processor.specs.Views.{after_end, ended_of, is_batch_answer, outcomes_view};
+ghost use Rattle.batch_processor.specs.Holds.{Asks, IsBatchOf, IsBatchSize, IsHandedBatchOf, IsNamedBatchOf, Shuts};
+ghost use Rattle.batch_model.specs.Kept.{IsAccountOf};
+
+use crate::config::Setup;
+use crate::holding::{
+    Drains, Drops, Ends, Flushed, Flushes, Hands, Holding, Pops, Settled, Settles, ShutsDown,
+    SpanEnded, Takes,
+};
+use crate::pass::Pass;
+use account_book::{Account, Book, Naming};
+use batch_desk::{Admitted, Batch, Desk, Mark, NamedBatch};
+use otlp_span::{Entry, Reason, SpanData, SpanRemains};
+use retry_core::{Fate, Outcome};
+use std::alloc::Allocator;
+use std::marker::Model;
+use std::snapshot::Snapshot;
+use trace_api::Ended;
+
+/// What lies under the lock of a processor, until it is closed out, with the book of its accounts.
+#[derive(Drop)]
+pub(crate) struct Shared<J: Naming, A: Allocator> {
+    pub(crate) desk: Option<Desk<A>>,
+    pub(crate) book: Book<J, Holding>,
+    pub(crate) setup: Setup,
+}
+
+impl<J: Naming, A: Allocator> Model for Shared<J, A> {
+    ghost use Rattle.batch_model.specs.Kept.{IsShared};
+    ghost use Rattle.batch_processor.specs.Views.{setup_view};
+
+    ghost Value = { Unit {0} };
+
+    ghost view = { λ s. tt };
+
+    ghost invariant = { λ s. IsShared (setup_view s.setup) s.desk s.book };
+}
+
+impl<J: Naming, A: Allocator + Copy> Shared<J, A> {
+    /// A span ends on a pass. What is left of it where it doesn't wait is to be freed behind the
+    /// hold.
+    pub(crate) fn admit(
+        &mut self,
+        account: &mut Account<J, Holding>,
+        span: SpanData<A>,
+    ) -> (Ended, Option<SpanRemains<A>>)
+        requires { account.old ≡ pass (account_in account.old) }
+        ensures account { account.new ≡ on_pass (after_end result.0 span) account.old }
+        ensures answer { is_batch_answer result.0 ≡ true }
+    {
+        self.book.recognize(account);
+        let Some(desk) = &mut self.desk else {
+            unreachable!()
+        };
+        let seen = Snapshot::of(&span);
+        let (admitted, remains) = desk.offer(span);
+        let answer = ended_of(admitted);
+        self.book
+            .record::<SpanEnded<A>, Ends>(account, &SpanEnded { span: seen, answer });
+        (answer, remains)
+    }
+
+    /// Whether just as many spans wait as a batch has.
+    pub(crate) fn fills(&self) -> bool {
+        match &self.desk {
+            Some(desk) => desk.waiting() == self.setup.config.desk.batch,
+            None => false,
+        }
+    }
+
+    /// A pass asks for all that was accepted so far.
+    pub(crate) fn flush(&mut self, account: &mut Account<J, Holding>) -> Mark
+        requires { account.old ≡ pass (account_in account.old) }
+        ensures { Asks result account.old account.new }
+    {
+        self.book.recognize(account);
+        let Some(desk) = &mut self.desk else {
+            unreachable!()
+        };
+        let seen = Snapshot::of(&*desk);
+        let mark = desk.flush();
+        self.book
+            .record::<Snapshot<Desk<A>>, Flushes>(account, &seen);
+        mark
+    }
+
+    /// A pass shuts the processor down.
+    pub(crate) fn shutdown(&mut self, account: &mut Account<J, Holding>) -> Mark
+        requires { account.old ≡ pass (account_in account.old) }
+        ensures { Shuts result account.old account.new }
+    {
+        self.book.recognize(account);
+        let Some(desk) = &mut self.desk else {
+            unreachable!()
+        };
+        let seen = Snapshot::of(&*desk);
+        let mark = desk.shutdown();
+        self.book
+            .record::<Snapshot<Desk<A>>, ShutsDown>(account, &seen);
+        mark
+    }
+
+    /// Whether what a pass asked for last is flushed.
+    pub(crate) fn flushed(&mut self, account: &mut Account<J, Holding>, mark: Mark) -> bool
+        requires pass { account.old ≡ pass (account_in account.old) }
+        requires mark { (account_in account.old).asked.mark ≡ mark }
+        ensures yes { IsTrue result → account.new ≡ on_pass after_flushed account.old }
+        ensures no { result ≡ false → account.new ≡ account.old }
+    {
+        self.book.recognize(account);
+        let Some(desk) = &self.desk else {
+            unreachable!()
+        };
+        if !desk.flushed(mark) {
+            return false;
+        }
+        self.book.record::<(), Flushed>(account, &());
+        true
+    }
+
+    /// A pass pops an entry of the ledger.
+    pub(crate) fn pop_entry(&mut self, account: &mut Account<J, Holding>) -> Option<Entry>
+        requires { account.old ≡ pass (account_in account.old) }
+        ensures some { IfSome result
+            (λ entry. account.new ≡ on_pass (after_pop (entry_view entry)) account.old) }
+        ensures none { IfNone result (account.new ≡ account.old) }
+    {
+        self.book.recognize(account);
+        let Some(desk) = &mut self.desk else {
+            unreachable!()
+        };
+        let entry = desk.pop_entry()?;
+        self.book.record::<Entry, Pops>(account, &entry);
+        Some(entry)
+    }
+
+    /// The worker, which has none out, takes the next batch, if it is due.
+    pub(crate) fn take(&mut self, account: &mut Account<J, Holding>, now: u64) -> Option<Batch<A>>
+        requires worker { account.old ≡ worker (origin_in account.old) (worker_in account.old) }
+        requires none_out { (worker_in account.old).out ≡ None }
+        ensures some { IfSome result
+            (λ batch. account.new ≡ on_worker (after_take batch.number batch.spans) account.old) }
+        ensures batch { IfSome result (λ batch. IsBatchOf account.new batch) }
+        ensures size { IfSome result (λ batch. IsBatchSize (origin_in account.old) batch.spans) }
+        ensures none { IfNone result (account.new ≡ account.old) }
+    {
+        self.book.recognize(account);
+        let Some(desk) = &mut self.desk else {
+            unreachable!()
+        };
+        let batch = desk.take(now)?;
+        self.book.record::<Batch<A>, Takes>(account, &batch);
+        Some(batch)
+    }
+
+    /// Whether a batch is due at this moment.
+    pub(crate) fn is_due(&self, now: u64) -> bool {
+        match &self.desk {
+            Some(desk) => desk.due(now),
+            None => false,
+        }
+    }
+
+    /// The worker hands its batch to an exporter, with this body.
+    pub(crate) fn handed(
+        &mut self,
+        account: &mut Account<J, Holding>,
+        batch: &Batch<A>,
+        body: &Vec<u8, A>,
+    )
+        requires worker { account.old ≡ worker (origin_in account.old) (worker_in account.old) }
+        requires out { IsBatchOf account.old batch.now }
+        ensures { account.new ≡ on_worker (after_handed body.now.items) account.old }
+    {
+        self.book.recognize(account);
+        let Some(desk) = &mut self.desk else {
+            unreachable!()
+        };
+        desk.handed(batch.number());
+        self.book.record::<Vec<u8, A>, Hands>(account, body);
+    }
+
+    /// The worker drops its batch, which was not handed, and whose spans are named.
+    pub(crate) fn drop_batch(&mut self, account: &mut Account<J, Holding>, batch: NamedBatch<A>)
+        requires worker { account.old ≡ worker (origin_in account.old) (worker_in account.old) }
+        requires out { IsNamedBatchOf account.old batch }
+        ensures { account.new ≡ on_worker (after_drop batch.reason) account.old }
+    {
+        self.book.recognize(account);
+        let Some(desk) = &mut self.desk else {
+            unreachable!()
+        };
+        self.book.record::<NamedBatch<A>, Drops>(account, &batch);
+        desk.drop_named(batch);
+    }
+
+    /// The worker settles its batch, which was handed, after these outcomes of its attempts.
+    pub(crate) fn settle(
+        &mut self,
+        account: &mut Account<J, Holding>,
+        batch: Batch<A>,
+        outcomes: &Vec<Outcome, A>,
+        fate: Fate,
+    )
+        requires worker { account.old ≡ worker (origin_in account.old) (worker_in account.old) }
+        requires out { IsHandedBatchOf account.old batch }
+        ensures { account.new ≡ on_worker
+            (after_settle (outcomes_view outcomes.now.items) (fate_view fate)) account.old }
+    {
+        self.book.recognize(account);
+        let Some(desk) = &mut self.desk else {
+            unreachable!()
+        };
+        let seen = Snapshot::of(outcomes);
+        desk.settle(batch, fate);
+        let settled = Settled {
+            outcomes: seen,
+            fate,
+        };
+        self.book.record::<Settled<A>, Settles>(account, &settled);
+    }
+
+    /// Whether the processor is shut down, and no span waits: for the worker, which has none out.
+    pub(crate) fn drained(&mut self, account: &mut Account<J, Holding>) -> bool
+        requires worker { account.old ≡ worker (origin_in account.old) (worker_in account.old) }
+        ensures yes { IsTrue result → account.new ≡ on_worker after_drained account.old }
+        ensures no { result ≡ false → account.new ≡ account.old }
+    {
+        self.book.recognize(account);
+        let Some(desk) = &self.desk else {
+            unreachable!()
+        };
+        if !desk.is_closed() || desk.waiting() > 0 {
+            return false;
+        }
+        self.book.record::<(), Drains>(account, &());
+        true
+    }
+
+    /// Takes the desk out, once the processor, the worker and all passes are back.
+    pub(crate) fn close<R: Drop>(
+        &mut self,
+        mut account: Account<J, Holding>,
+        his: Account<J, Holding>,
+        passes: Vec<Pass<J, R, A>, A>,
+    ) -> Desk<A>
+        requires processor { account ≡ processor (origin_in account) }
+        requires worker { his ≡ worker (origin_in his) (worker_in his) }
+        requires all { (origin_in account).passes ≤ vec_len passes }
+        ensures { IsAccountOf (origin_in account) result passes.items (worker_in his) }
+    {
+        self.book.recognize(&mut account);
+        let Some(desk) = self.desk.take() else {
+            unreachable!()
+        };
+        self.book.close(account);
+        self.book.close(his);
+        for pass in passes {
+            let Pass {
+                lock: _,
+                account,
+                rt: _,
+            } = pass;
+            self.book.close(account);
+        }
+        desk
+    }
+}
+
+/// The answer to the end of a span that was admitted so.
+fn ended_of(admitted: Admitted) -> Ended
+    ensures { result ≡ ended_of admitted }
+{
+    match admitted {
+        Admitted::Queued(ticket) => Ended::Queued(ticket),
+        Admitted::Full(ticket) => Ended::Dropped(ticket, Reason::QueueFull),
+        Admitted::Late => Ended::Late,
+    }
+}
