@@ -6,8 +6,10 @@ PREFIX ?= $(HOME)/.local
 help: ## List the targets
 	@grep -E '^[a-z]+:.*##' Makefile | sed -E 's/:.*## /: /'
 
-run: ## Build trace-script without its proofs and print what the examples' steps answer
-	@echo '# trace-script, built before it is proved (make test proves), on each of examples/*.script' >&2
+run: ## Build programs without their proofs: the balance of a service, and what the examples' steps answer
+	@echo '# first_service, built before it is proved (make test proves): what became of its spans' >&2
+	@cd crates/first_service && rt try
+	@echo '# trace-script, on each of examples/*.script' >&2
 	@cd crates/trace_script && rt try --cases ../../examples
 
 test: docs ## The gate: documents, every proof from nothing, wrong bodies, tests, programs, stored runs and what must not compile (tens of minutes)

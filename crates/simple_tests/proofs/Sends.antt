@@ -5,30 +5,17 @@ use mir.Syntax.{Sym}
 use denote.RattleType.{RattleType}
 use denote.Struct.Field.{row_field}
 use denote.Struct.Tuple.{TupleAt, type_at}
-use denote.Param.Send.{IsSend, sendable}
+use denote.Param.Send.{IsSend}
 use denote.Param.SendFields.{declared_send, as_row_send}
-use Rattle.std.proofs.Crossing as heap
 use Rattle.std.specs.contracts.alloc.Global as Heap
 use Rattle.std.below.std_heap.specs.contracts.GlobalAllocator.TheImpl.{ghosts}
-use Rattle.std.below.core.specs.contracts.clone.Clone+copy.TheImpl as copying
-use Rattle.span_exporter.specs.contracts.memory.MemoryExporter as MemoryExporter
-use Rattle.span_exporter.specs.contracts.memory.MemoryExporterExporter.TheImpl as exporting
-use Rattle.span_exporter.specs.declared.exporter.Exporter as exporter
+use Rattle.span_exporter.proofs.Crosses.{memory, memory_send, memory_exports}
 use Rattle.account_book.specs.declared.book.Naming as naming
 use Rattle.simple_processor.specs.contracts.pass.SimplePass as SimplePass
 use Rattle.simple_processor.proofs.Crosses as crosses
 
-abbrev M : RattleType
-M = MemoryExporter.the_row Heap.the_row ghosts
-
-memory_send : IsSend M
-memory_send = search (sendable, declared_send, as_row_send, heap.crosses) depth 60 fits 20000
-
-abbrev exports : exporter.Ghosts M.Denot
-exports = exporting.ghosts Heap.the_row ghosts exporting.no_dict (copying.ghosts Heap.the_row) exporting.no_dict
-
-pub pass_send : (J R : RattleType) (g : naming.Ghosts J.Denot) → IsSend R → IsSend (SimplePass.the_row J M R Heap.the_row g exports ghosts)
-pass_send J R g r = crosses.pass_send J M g exports memory_send R r
+pub pass_send : (J R : RattleType) (g : naming.Ghosts J.Denot) → IsSend R → IsSend (SimplePass.the_row J memory R Heap.the_row g memory_exports ghosts)
+pass_send J R g r = crosses.pass_send J memory g memory_exports memory_send R r
 
 -- what a closure has that captured three values
 pub captures_send : (ν : Sym) (S T U : RattleType) → IsSend S → IsSend T → IsSend U → IsSend (TupleAt ν (S ∷ T ∷ U ∷ []))

@@ -1,0 +1,56 @@
+//! A desk behind a plain mutex, without a worker.
+use anyhow::{Context, Result};
+use batch_desk::{Admitted, Desk, DeskConfig};
+use otlp_span::{Reason, SpanData};
+use retry_core::Fate;
+use std::alloc::Global;
+use std::sync::{Mutex, Wait};
+use trace_api::{EndPass, Ended};
+
+/// What spans go to at their end: a desk behind a mutex.
+#[derive(Drop)]
+pub struct PlainPass<R> {
+    desk: Mutex<Desk>,
+    rt: R,
+}
+
+impl<R: Wait> PlainPass<R> {
+    /// A desk with the standard's numbers.
+    pub fn new(rt: R, alloc: Global) -> Result<PlainPass<R>>
+    where
+        R: Drop,
+    {
+        let desk = Desk::new(alloc, DeskConfig::default(), 0).context("no queue")?;
+        Ok(PlainPass {
+            desk: Mutex::new(desk),
+            rt,
+        })
+    }
+
+    /// Takes a batch of the spans that wait, and settles it. How many it had.
+    pub fn drain(&mut self) -> usize {
+        let mut desk = self.desk.lock(&self.rt);
+        desk.flush();
+        let Some(batch) = desk.take(0) else {
+            return 0;
+        };
+        let count = batch.spans().len();
+        desk.handed(batch.number());
+        desk.settle(batch, Fate::Delivered);
+        count
+    }
+}
+
+impl<R: Wait> EndPass<SpanData> for PlainPass<R> {
+    ghost use Rattle.std.specs.Prelude.{⊤};
+
+    ghost admits = { λ _ _ _ _. ⊤ };
+
+    fn admit(&mut self, span: SpanData) -> Ended {
+        match self.desk.lock(&self.rt).admit(span) {
+            Admitted::Queued(ticket) => Ended::Queued(ticket),
+            Admitted::Full(ticket) => Ended::Dropped(ticket, Reason::QueueFull),
+            Admitted::Late => Ended::Late,
+        }
+    }
+}

@@ -1,0 +1,169 @@
+//! Spans that end while no batch is sent, and processors that are made and closed out.
+ghost use Rattle.std.specs.Prelude.{◌≡◌};
+
+use crate::fixture::{END, close, config, entry, root, sampled};
+use batch_desk::Totals;
+use batch_processor::{
+    BatchBlank, BatchConfig, BatchProcessor, Flushed, MAX_PASSES, Missing, Naming, NewFault, Parts,
+};
+use drop_ledger::DropCounts;
+use otlp_sampler::AlwaysOff;
+use otlp_span::Reason;
+use retry_core::RetryConfig;
+use std::alloc::Global;
+use std::marker::Brand;
+use std::process::Abort;
+use std::sync::Wait;
+use trace_api::Ended;
+
+/// Two spans end where one may wait: the other pass pops the entry of the second.
+fn pop_full<J: Naming, R: Wait + Abort + Copy>(rt: R, alloc: Global, blank: BatchBlank)
+    requires { blank ≡ J.name }
+{
+    let made = BatchProcessor::<J, R>::new(alloc, rt, blank, config(1, 1), 2, 0);
+    let Parts {
+        processor,
+        mut passes,
+        worker,
+    } = made.expect(&rt, "a processor");
+    let mut other = passes.pop().expect(&rt, "a pass");
+    let mut pass = passes.pop().expect(&rt, "another pass");
+    assert_eq!(rt; sampled(&rt, alloc).end(&mut pass, END), Ended::Queued(0));
+    let full = Ended::Dropped(1, Reason::QueueFull);
+    assert_eq!(rt; sampled(&rt, alloc).end(&mut pass, END), full);
+    assert_eq!(rt; other.pop_entry(), Some(entry(1, Reason::QueueFull)));
+    assert_eq!(rt; other.pop_entry(), None);
+    passes.push(pass).expect(&rt, "memory");
+    passes.push(other).expect(&rt, "memory");
+    let desk = close(rt, processor, passes, worker).desk;
+    let want = Totals {
+        accepted: 1,
+        left: 1,
+        dropped: DropCounts {
+            queue_full: 1,
+            ..DropCounts::default()
+        },
+        ..Totals::default()
+    };
+    assert_eq!(rt; desk.totals(), want);
+    assert!(rt; desk.ledger().is_empty());
+}
+
+#[test]
+fn pops(rt: HostRuntime) {
+    pop_full::<Brand, HostRuntime>(rt, rt.alloc(), BatchBlank::new());
+}
+
+/// Nothing was queued, so a shutdown waits for nothing, and the span that ends behind it is late.
+/// With a pass missing, all is given back.
+fn give_back<J: Naming, R: Wait + Abort + Copy>(rt: R, alloc: Global, blank: BatchBlank)
+    requires { blank ≡ J.name }
+{
+    let made = BatchProcessor::<J, R>::new(alloc, rt, blank, config(8, 4), 2, 0);
+    let Parts {
+        processor,
+        mut passes,
+        worker,
+    } = made.expect(&rt, "a processor");
+    let mut last = passes.pop().expect(&rt, "a pass");
+    let mut dropped = root(&rt, alloc, AlwaysOff, "");
+    assert_eq!(rt; dropped.end(&mut last, END), Ended::NotSampled);
+    assert_eq!(rt; last.force_flush(), Flushed);
+    assert_eq!(rt; last.shutdown(), Flushed);
+    let mut span = sampled(&rt, alloc);
+    assert_eq!(rt; span.end(&mut last, END), Ended::Late);
+    assert_eq!(rt; span.end(&mut last, END), Ended::AlreadyEnded);
+    let Missing {
+        processor,
+        mut passes,
+        worker,
+    } = processor
+        .close_out(passes, worker)
+        .err()
+        .expect(&rt, "a pass is missing");
+    assert_eq!(rt; passes.len(), 1);
+    passes.push(last).expect(&rt, "memory");
+    let desk = close(rt, processor, passes, worker).desk;
+    let want = Totals {
+        late: 1,
+        closed: true,
+        ..Totals::default()
+    };
+    assert_eq!(rt; desk.totals(), want);
+}
+
+#[test]
+fn missing(rt: HostRuntime) {
+    give_back::<Brand, HostRuntime>(rt, rt.alloc(), BatchBlank::new());
+}
+
+/// How many passes a processor has that is to have so many, with these settings.
+fn count_passes<J: Naming, R: Wait + Abort + Copy>(
+    rt: R,
+    alloc: Global,
+    blank: BatchBlank,
+    config: BatchConfig,
+    passes: usize,
+) -> Result<usize, NewFault>
+    requires { blank ≡ J.name }
+{
+    match BatchProcessor::<J, R>::new(alloc, rt, blank, config, passes, 0) {
+        Ok(
+            Parts {
+                processor,
+                passes,
+                worker,
+            },
+        ) => {
+            let count = passes.len();
+            close(rt, processor, passes, worker);
+            Ok(count)
+        }
+        Err(fault) => Err(fault),
+    }
+}
+
+#[test]
+fn settings_are_looked_at_first(rt: HostRuntime) {
+    for (passes, queue, batch, want) in [
+        (0, 0, 0, Err(NewFault::BadPasses)),
+        (MAX_PASSES + 1, 8, 4, Err(NewFault::BadPasses)),
+        (1, 0, 0, Err(NewFault::ZeroSize)),
+        (1, 8, 0, Err(NewFault::ZeroSize)),
+        (1, 8, 9, Err(NewFault::BatchAboveQueue)),
+        (1, 65_537, 65_537, Err(NewFault::TooLarge)),
+        (1, 8, 8, Ok(1)),
+        (MAX_PASSES, 65_536, 1, Ok(MAX_PASSES)),
+    ] {
+        let blank = BatchBlank::new();
+        let config = config(queue, batch);
+        let count = count_passes::<Brand, HostRuntime>(rt, rt.alloc(), blank, config, passes);
+        assert_eq!(rt;
+            count,
+            want,
+            "{passes} passes, {queue} wait, {batch} a batch"
+        );
+    }
+    for (fault, want) in [
+        (NewFault::BadPasses, "a processor has 1 to 64 passes"),
+        (
+            NewFault::ZeroSize,
+            "a queue and a batch have room for a span",
+        ),
+        (
+            NewFault::BatchAboveQueue,
+            "a batch is no larger than the queue",
+        ),
+        (
+            NewFault::TooLarge,
+            "a queue has room for 65,536 spans at most",
+        ),
+        (NewFault::OutOfMemory, "out of memory"),
+    ] {
+        let told = format!(in rt.alloc(); "{fault}").expect(&rt, "memory");
+        assert_eq!(rt; told.as_str(), want);
+    }
+    let BatchConfig { desk, retry } = BatchConfig::default();
+    assert_eq!(rt; (desk.queue, desk.batch, desk.delay_ms), (2048, 512, 5000));
+    assert_eq!(rt; retry, RetryConfig::default());
+}

@@ -1,0 +1,148 @@
+//! What the tests start spans with, the clocks that they work by, and how they read bodies.
+use batch_desk::DeskConfig;
+use batch_processor::{Accounts, BatchConfig, BatchProcessor, Naming, Pass, WorkerPass};
+use otlp_ids::{SpanContext, SpanId, TraceId};
+use otlp_sampler::{AlwaysOn, Sampler};
+use otlp_span::{Entry, Kind, Reason, Resource, Scope, SpanLimits};
+use otlp_wire::{Field, Fields, Payload};
+use retry_core::{Outcome, RetryConfig};
+use span_exporter::{Handed, MemoryExporter};
+use std::alloc::{Allocator, Global};
+use std::process::Abort;
+use std::sync::{Arc, Wait};
+use trace_api::{Provider, Span};
+use words_rng::WordsRng;
+
+/// The words of the identifiers of each span.
+const WORDS: [u64; 3] = [0x0807060504030201, 0x100f0e0d0c0b0a09, 0x1817161514131211];
+
+const TRACE: TraceId = TraceId([8, 7, 6, 5, 4, 3, 2, 1, 16, 15, 14, 13, 12, 11, 10, 9]);
+
+const SPAN: SpanId = SpanId([24, 23, 22, 21, 20, 19, 18, 17]);
+
+/// When each span ends.
+pub(crate) const END: u64 = 2;
+
+/// A second, in nanoseconds.
+pub(crate) const SECOND: u64 = 1_000_000_000;
+
+/// Starts a root of the name `a` in the scope `s` of a resource with this schema, at 1, which this
+/// sampler decides on.
+pub(crate) fn root<S: Sampler + Drop, A: Allocator + Copy>(
+    rt: &impl Abort,
+    alloc: A,
+    sampler: S,
+    schema: &str,
+) -> Span<A> {
+    let schema_url = String::from_str(alloc, schema).expect(rt, "memory");
+    let resource = Resource {
+        attributes: Vec::new(alloc),
+        schema_url,
+    };
+    let resource = Arc::new(alloc, resource).expect(rt, "memory");
+    let scope = Scope::named(alloc, "s").expect(rt, "memory");
+    let scope = Arc::new(alloc, scope).expect(rt, "memory");
+    let provider = Provider::new(sampler, resource, SpanLimits::default());
+    let tracer = provider.tracer(scope);
+    let mut words = WordsRng::new(Vec::from_slice(alloc, &WORDS).expect(rt, "memory"));
+    let parent: Option<SpanContext<A>> = None;
+    let name = String::from_str(alloc, "a").expect(rt, "memory");
+    let started = tracer.start(alloc, &mut words, parent.as_ref(), name, Kind::Internal, 1);
+    started.expect(rt, "a root starts")
+}
+
+/// Starts a root that is sampled.
+pub(crate) fn sampled<A: Allocator + Copy>(rt: &impl Abort, alloc: A) -> Span<A> {
+    root(rt, alloc, AlwaysOn, "")
+}
+
+/// The name of such a span, dropped under this ticket for this reason.
+pub(crate) fn entry(ticket: u64, reason: Reason) -> Entry {
+    Entry {
+        trace: TRACE,
+        span: SPAN,
+        ticket,
+        reason,
+    }
+}
+
+/// So many spans wait at most, and a batch has so many. The delay is as long as it can be.
+pub(crate) fn config(queue: usize, batch: usize) -> BatchConfig {
+    BatchConfig {
+        desk: DeskConfig {
+            queue,
+            batch,
+            delay_ms: u32::MAX,
+        },
+        retry: RetryConfig::default(),
+    }
+}
+
+/// An exporter that gives these outcomes.
+pub(crate) fn exporter(rt: &impl Abort, alloc: Global, outcomes: &[Outcome]) -> MemoryExporter {
+    MemoryExporter::new(alloc, Vec::from_slice(alloc, outcomes).expect(rt, "memory"))
+}
+
+/// What the fields with this number hold, of all these messages (Protocol Buffers, "Encoding").
+fn held_by<'a, A: Allocator + Copy>(
+    rt: &impl Abort,
+    alloc: A,
+    messages: &[&'a [u8]],
+    wanted: u32,
+) -> Vec<&'a [u8], A> {
+    let mut held = Vec::new(alloc);
+    for message in messages {
+        for field in Fields::new(message) {
+            let Field { number, payload } = field.expect(rt, "a field");
+            if let Payload::Len(bytes) = payload {
+                if number == wanted {
+                    held.push(bytes).expect(rt, "memory");
+                }
+            }
+        }
+    }
+    held
+}
+
+/// How many resources and how many spans are in a body (opentelemetry-proto,
+/// "ExportTraceServiceRequest": the resources are its fields 1, their scopes the fields 2 of these,
+/// and spans the fields 2 of a scope's).
+pub(crate) fn count_body<A: Allocator + Copy>(
+    rt: &impl Abort,
+    alloc: A,
+    body: &[u8],
+) -> (usize, usize) {
+    let resources = held_by(rt, alloc, &[body], 1);
+    let scopes = held_by(rt, alloc, resources.as_slice(), 2);
+    (
+        resources.len(),
+        held_by(rt, alloc, scopes.as_slice(), 2).len(),
+    )
+}
+
+/// How many spans are in all the batches that were handed over, each counted once.
+pub(crate) fn count_spans<A: Allocator + Copy>(
+    rt: &impl Abort,
+    alloc: A,
+    handed: &[Handed<A>],
+) -> usize {
+    let mut count = 0usize;
+    for attempt in handed {
+        if attempt.attempt == 1 {
+            let (_, spans) = count_body(rt, alloc, attempt.body.as_slice());
+            count = count.saturating_add(spans);
+        }
+    }
+    count
+}
+
+/// What a processor comes to whose passes are all back.
+pub(crate) fn close<J: Naming, R: Wait + Abort + Copy, A: Allocator + Copy>(
+    rt: R,
+    processor: BatchProcessor<J, R, A>,
+    passes: Vec<Pass<J, R, A>, A>,
+    worker: WorkerPass<J, R, A>,
+) -> Accounts<A> {
+    let accounts = processor.close_out(passes, worker).ok();
+    accounts.expect(&rt, "all passes are there")
+}

@@ -1,0 +1,99 @@
+//! Threads that end their spans on passes of one processor, while this one sends them.
+ghost use Rattle.std.specs.Prelude.{◌≡◌};
+
+use crate::carry::{Plan, Task, carry};
+use crate::fixture::{count_spans, exporter};
+use batch_desk::FateCounts;
+use batch_processor::{BatchBlank, Naming};
+use drop_ledger::DropCounts;
+use otlp_span::Reason;
+use std::alloc::Global;
+use std::marker::Brand;
+use std::process::Abort;
+use std::sync::Wait;
+use std::sync::atomic::AtomicU64;
+use std::thread::Threads;
+use std::time::Clock;
+
+/// Does a task with so many passes, in which so many spans end, and one behind the shutdown. Each
+/// was handed over, once, in a body, or dropped since the queue was full, or it was late, and none
+/// is left. Answers how many were handed over, and how many were late.
+fn balance<J, R>(
+    rt: R,
+    alloc: Global,
+    blank: BatchBlank,
+    passes: usize,
+    task: Task,
+    ended: u64,
+) -> (u64, u64)
+where
+    J: Naming + Send + Sync + 'static,
+    R: Threads + Wait + Abort + Clock + Copy + Send + Sync + 'static,
+    requires { blank ≡ J.name }
+{
+    let mut exporter = exporter(&rt, alloc, &[]);
+    let stage = AtomicU64::new(0);
+    let plan = Plan {
+        passes,
+        batch: 16,
+        task,
+        turns: ended.saturating_add(2000),
+    };
+    let accounts = carry::<J, R, _>(rt, alloc, blank, plan, &stage, &mut exporter);
+    let (totals, ledger) = (accounts.desk.totals(), accounts.desk.ledger());
+    assert!(rt; totals.closed);
+    assert_eq!(rt; (totals.left, totals.accepted), (0, totals.handed));
+    assert_eq!(rt; (totals.taken, totals.late >= 1), (totals.handed, true));
+    assert_eq!(rt;
+        count_spans(&rt, alloc, exporter.handed()) as u64,
+        totals.handed
+    );
+    let fates = FateCounts {
+        delivered: exporter.handed().len() as u64,
+        ..FateCounts::default()
+    };
+    assert_eq!(rt; totals.fates, fates);
+    let dropped = DropCounts {
+        queue_full: ledger.len(),
+        ..DropCounts::default()
+    };
+    assert_eq!(rt; totals.dropped, dropped);
+    assert!(rt; ledger.iter().all(|entry| entry.reason == Reason::QueueFull));
+    let counted = totals.handed.saturating_add(ledger.len());
+    assert_eq!(rt;
+        counted.saturating_add(totals.late),
+        ended.saturating_add(1)
+    );
+    (totals.handed, totals.late)
+}
+
+#[test]
+fn four_threads(rt: HostRuntime) {
+    let (blank, task) = (BatchBlank::new(), Task::EndMany(100));
+    let (handed, late) = balance::<Brand, HostRuntime>(rt, rt.alloc(), blank, 4, task, 400);
+    assert!(rt; handed >= 64, "{handed} were handed");
+    assert_eq!(rt; late, 1);
+}
+
+#[test]
+fn each_of_63_000_spans_is_accounted_for(rt: HostRuntime) {
+    let (blank, task) = (BatchBlank::new(), Task::EndMany(1000));
+    let (handed, late) = balance::<Brand, HostRuntime>(rt, rt.alloc(), blank, 63, task, 63_000);
+    assert!(rt; handed >= 64, "{handed} were handed");
+    assert_eq!(rt; late, 1);
+}
+
+#[test]
+fn a_shutdown_while_spans_end_loses_none(rt: HostRuntime) {
+    for _ in 0..100u32 {
+        let (blank, task) = (BatchBlank::new(), Task::EndLate(100));
+        balance::<Brand, HostRuntime>(rt, rt.alloc(), blank, 5, task, 400);
+    }
+}
+
+#[test]
+fn late_only_after(rt: HostRuntime) {
+    let (blank, task) = (BatchBlank::new(), Task::EndThree);
+    let counts = balance::<Brand, HostRuntime>(rt, rt.alloc(), blank, 2, task, 3);
+    assert_eq!(rt; counts, (3, 1));
+}

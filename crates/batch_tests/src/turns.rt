@@ -1,0 +1,308 @@
+//! Turns of work on one thread: what is sent, and when again.
+ghost use Rattle.std.specs.Prelude.{◌≡◌, None};
+ghost use Rattle.batch_processor.specs.Working.{IsPrepared};
+
+use crate::fixture::{
+    END, SECOND, close, config, count_body, count_spans, entry, exporter, root, sampled,
+};
+use batch_processor::{
+    Accounts, BatchBlank, BatchConfig, BatchProcessor, Clock, ManualClock, Naming, Parts, Pass,
+    WorkEnd, WorkerPass,
+};
+use otlp_sampler::AlwaysOn;
+use otlp_span::Reason;
+use retry_core::{Outcome, RetryAfter};
+use span_exporter::{Exporter, MemoryExporter};
+use std::alloc::Global;
+use std::cell::Cell;
+use std::marker::Brand;
+use std::process::Abort;
+use std::sync::Wait;
+use std::time;
+use trace_api::Ended;
+use words_rng::WordsRng;
+
+/// A collector that asks to be tried again in two seconds.
+const LATER: Outcome = Outcome::Later {
+    status: 503,
+    after: Some(RetryAfter::Seconds(2)),
+};
+
+/// A second after the processor was made, the delay has passed, so a batch that isn't full is sent.
+/// Two seconds behind the reply it is sent again.
+fn send_again<J, R>(rt: R, alloc: Global, blank: BatchBlank)
+where
+    J: Naming,
+    R: Wait + Abort + time::Clock + Copy,
+    requires { blank ≡ J.name }
+{
+    let mut exporter = exporter(&rt, alloc, &[LATER]);
+    let mut rng = WordsRng::new(Vec::new(alloc));
+    let mut settings = config(2, 2);
+    settings.desk.delay_ms = 1000;
+    let made = BatchProcessor::<J, R>::new(alloc, rt, blank, settings, 1, SECOND);
+    let Parts {
+        processor,
+        mut passes,
+        mut worker,
+    } = made.expect(&rt, "a processor");
+    let mut pass = passes.pop().expect(&rt, "a pass");
+    assert_eq!(rt; sampled(&rt, alloc).end(&mut pass, END), Ended::Queued(0));
+    passes.push(pass).expect(&rt, "memory");
+    let clock = ManualClock::new(2 * SECOND - 1);
+    let end = worker.work(&mut exporter, &clock, &mut rng, 10);
+    assert_eq!(rt; (end, exporter.handed().len()), (WorkEnd::TurnsSpent, 0));
+    clock.set(2 * SECOND);
+    let end = worker.work(&mut exporter, &clock, &mut rng, 4);
+    assert_eq!(rt; (end, exporter.handed().len()), (WorkEnd::TurnsSpent, 1));
+    clock.set(4 * SECOND - 1);
+    let end = worker.work(&mut exporter, &clock, &mut rng, 100);
+    assert_eq!(rt; (end, exporter.handed().len()), (WorkEnd::TurnsSpent, 1));
+    clock.set(4 * SECOND);
+    let end = worker.work(&mut exporter, &clock, &mut rng, 10);
+    assert_eq!(rt; (end, exporter.handed().len()), (WorkEnd::TurnsSpent, 2));
+    let desk = close(rt, processor, passes, worker).desk;
+    assert_eq!(rt;
+        (desk.totals().handed, desk.totals().fates.delivered),
+        (1, 1)
+    );
+    for (attempt, (number, outcome)) in exporter
+        .handed()
+        .iter()
+        .zip([(1, LATER), (2, Outcome::Delivered)])
+    {
+        assert_eq!(rt; (attempt.number, attempt.attempt), (1, number));
+        assert_eq!(rt; attempt.outcome, outcome);
+        assert_eq!(rt; count_body(&rt, alloc, attempt.body.as_slice()), (1, 1));
+    }
+}
+
+#[test]
+fn waits_again(rt: HostRuntime) {
+    send_again::<Brand, HostRuntime>(rt, rt.alloc(), BatchBlank::new());
+}
+
+/// A batch is in hand while a pass is missing. What was to be closed out is let go, and the missing
+/// pass finds the span's name in the ledger.
+fn let_go<J, R>(rt: R, alloc: Global, blank: BatchBlank)
+where
+    J: Naming,
+    R: Wait + Abort + time::Clock + Copy,
+    requires { blank ≡ J.name }
+{
+    let mut exporter = exporter(&rt, alloc, &[]);
+    let mut rng = WordsRng::new(Vec::new(alloc));
+    let made = BatchProcessor::<J, R>::new(alloc, rt, blank, config(1, 1), 2, 0);
+    let Parts {
+        processor,
+        mut passes,
+        mut worker,
+    } = made.expect(&rt, "a processor");
+    let mut last = passes.pop().expect(&rt, "a pass");
+    assert_eq!(rt; sampled(&rt, alloc).end(&mut last, END), Ended::Queued(0));
+    let end = worker.work(&mut exporter, &ManualClock::new(0), &mut rng, 1);
+    assert_eq!(rt; end, WorkEnd::TurnsSpent);
+    let told = format!(in alloc; "{processor:?} {last:?} {worker:?}").expect(&rt, "memory");
+    let want = "BatchProcessor { passes: 2, .. } Pass { .. } WorkerPass { .. }";
+    assert_eq!(rt; told.as_str(), want);
+    let missing = processor.close_out(passes, worker).err();
+    missing.expect(&rt, "a pass is missing").discard();
+    assert_eq!(rt; last.pop_entry(), Some(entry(0, Reason::Abandoned)));
+    assert_eq!(rt; last.pop_entry(), None);
+}
+
+#[test]
+fn what_is_discarded_is_named(rt: HostRuntime) {
+    let_go::<Brand, HostRuntime>(rt, rt.alloc(), BatchBlank::new());
+}
+
+/// What is done: so many spans end in each of these schemas, and then the worker is called so
+/// often, for so many turns each time, while the collector answers so.
+#[derive(Drop)]
+struct Job<'a> {
+    config: BatchConfig,
+    schemas: &'a [&'a str],
+    spans: u64,
+    calls: u32,
+    turns: u64,
+    outcomes: &'a [Outcome],
+}
+
+/// Goes on by a minute at each look.
+#[derive(Drop)]
+struct Minutes(Cell<u64>);
+
+impl Clock for Minutes {
+    fn now(&self) -> u64 {
+        let moment = self.0.get().saturating_add(60 * SECOND);
+        self.0.set(moment);
+        moment
+    }
+}
+
+/// Ends the spans of a job on a pass. Each is queued.
+fn end_spans<J: Naming, R: Wait + Abort + Copy>(
+    rt: R,
+    alloc: Global,
+    job: &Job<'_>,
+    pass: &mut Pass<J, R>,
+) {
+    let mut ticket = 0u64;
+    for _ in 0..job.spans {
+        for schema in job.schemas {
+            let mut span = root(&rt, alloc, AlwaysOn, schema);
+            assert_eq!(rt; span.end(pass, END), Ended::Queued(ticket));
+            ticket = ticket.saturating_add(1);
+        }
+    }
+}
+
+/// Calls the worker as the job says.
+fn call_worker<J, R, E>(
+    rt: R,
+    alloc: Global,
+    job: &Job<'_>,
+    worker: &mut WorkerPass<J, R>,
+    exporter: &mut E,
+)
+where
+    J: Naming,
+    R: Wait + Abort + time::Clock + Copy,
+    E: Exporter,
+    requires { IsPrepared (E.room exporter.old) worker.old }
+{
+    let clock = Minutes(Cell::new(0));
+    let mut rng = WordsRng::new(Vec::new(alloc));
+    for _ in 0..job.calls {
+        let end = worker.work(exporter, &clock, &mut rng, job.turns);
+        assert_eq!(rt; end, WorkEnd::TurnsSpent);
+    }
+}
+
+/// Does a job with a processor of one pass, and closes it out.
+fn do_job<J, R>(
+    rt: R,
+    alloc: Global,
+    blank: BatchBlank,
+    job: &Job<'_>,
+) -> (Accounts, MemoryExporter)
+where
+    J: Naming,
+    R: Wait + Abort + time::Clock + Copy,
+    requires { blank ≡ J.name }
+{
+    let mut exporter = exporter(&rt, alloc, job.outcomes);
+    let made = BatchProcessor::<J, R>::new(alloc, rt, blank, job.config, 1, 0);
+    let Parts {
+        processor,
+        mut passes,
+        mut worker,
+    } = made.expect(&rt, "a processor");
+    let mut pass = passes.pop().expect(&rt, "a pass");
+    end_spans(rt, alloc, job, &mut pass);
+    passes.push(pass).expect(&rt, "memory");
+    call_worker(rt, alloc, job, &mut worker, &mut exporter);
+    (close(rt, processor, passes, worker), exporter)
+}
+
+#[test]
+fn one_turn_at_a_time_sends_the_same(rt: HostRuntime) {
+    let outcomes = [
+        LATER,
+        Outcome::NoReply,
+        Outcome::Partial(1),
+        Outcome::Refused(400),
+        Outcome::Bad,
+    ];
+    let mut done = Vec::new(rt.alloc());
+    for (calls, turns) in [(1, 1000), (1000, 1)] {
+        let job = Job {
+            config: config(800, 3),
+            schemas: &[""],
+            spans: 800,
+            calls,
+            turns,
+            outcomes: &outcomes,
+        };
+        let blank = BatchBlank::new();
+        let sent = do_job::<Brand, HostRuntime>(rt, rt.alloc(), blank, &job);
+        done.push(sent).expect(&rt, "memory");
+    }
+    let (singly, one_by_one) = done.pop().expect(&rt, "the second job");
+    let (at_once, all) = done.pop().expect(&rt, "the first job");
+    assert_eq!(rt; singly.desk.totals(), at_once.desk.totals());
+    assert!(rt; one_by_one.handed() == all.handed(), "other batches");
+    // The first batch takes 8 turns, for three attempts, and each other one 4.
+    assert_eq!(rt; all.handed().len(), 251);
+    assert_eq!(rt; count_spans(&rt, rt.alloc(), all.handed()), 747);
+}
+
+/// How a batch of two spans ends that is in hand behind so many turns.
+#[test]
+fn a_batch_in_hand_is_abandoned(rt: HostRuntime) {
+    for (turns, attempts, abandoned) in [(1, 0, 2), (2, 0, 2), (3, 1, 0), (4, 1, 0)] {
+        let job = Job {
+            config: config(2, 2),
+            schemas: &[""],
+            spans: 2,
+            calls: 1,
+            turns,
+            outcomes: &[LATER],
+        };
+        let blank = BatchBlank::new();
+        let (accounts, exporter) = do_job::<Brand, HostRuntime>(rt, rt.alloc(), blank, &job);
+        let totals = accounts.desk.totals();
+        assert_eq!(rt; exporter.handed().len(), attempts, "behind {turns}");
+        assert_eq!(rt; totals.dropped.abandoned, abandoned, "behind {turns}");
+        assert_eq!(rt; totals.handed + abandoned, 2, "behind {turns}");
+        assert_eq!(rt; totals.fates.abandoned, attempts as u64, "behind {turns}");
+        let mut ticket = abandoned;
+        for named in accounts.desk.ledger().iter() {
+            ticket = ticket.saturating_sub(1);
+            assert_eq!(rt; *named, entry(ticket, Reason::Abandoned));
+        }
+        assert_eq!(rt; accounts.desk.ledger().len(), abandoned);
+    }
+}
+
+#[test]
+fn two_providers_feed_one_processor(rt: HostRuntime) {
+    let job = Job {
+        config: config(8, 6),
+        schemas: &["first", "second"],
+        spans: 3,
+        calls: 1,
+        turns: 4,
+        outcomes: &[],
+    };
+    let blank = BatchBlank::new();
+    let (accounts, exporter) = do_job::<Brand, HostRuntime>(rt, rt.alloc(), blank, &job);
+    assert_eq!(rt; accounts.desk.totals().fates.delivered, 1);
+    assert_eq!(rt; exporter.handed().len(), 1);
+    let body = exporter.handed()[0].body.as_slice();
+    assert_eq!(rt; count_body(&rt, rt.alloc(), body), (2, 6));
+}
+
+#[test]
+fn large_batches_are_sent_whole(rt: HostRuntime) {
+    let job = Job {
+        config: config(4096, 2048),
+        schemas: &[""],
+        spans: 4096,
+        calls: 1,
+        turns: 8,
+        outcomes: &[],
+    };
+    let blank = BatchBlank::new();
+    let (accounts, exporter) = do_job::<Brand, HostRuntime>(rt, rt.alloc(), blank, &job);
+    let totals = accounts.desk.totals();
+    assert_eq!(rt; (totals.handed, totals.fates.delivered), (4096, 2));
+    assert_eq!(rt; exporter.handed().len(), 2);
+    for attempt in exporter.handed() {
+        assert!(rt; attempt.body.len() > 65_536);
+        assert_eq!(rt;
+            count_body(&rt, rt.alloc(), attempt.body.as_slice()),
+            (1, 2048)
+        );
+    }
+}

@@ -1,0 +1,127 @@
+//! A service of four threads over a batch processor.
+ghost use Rattle.std.specs.Prelude.{◌≡◌, None};
+
+use anyhow::{Context, Result};
+use rand::make_rng;
+use rand::rngs::StdRng;
+use std::alloc::Global;
+use std::random::RandomSource;
+use std::sync::{Arc, Wait};
+use std::thread::{self, JoinHandle, Threads};
+use std::time;
+use trace_kit::export::MemoryExporter;
+use trace_kit::processor::{
+    Accounts, BatchBlank, BatchConfig, BatchProcessor, Clock, Naming, Parts, Pass, SystemClock,
+    WorkerPass,
+};
+use trace_kit::trace::{AlwaysOn, EndPass, Kind, Provider, Resource, Scope, SpanData, SpanLimits};
+
+const THREADS: usize = 4;
+
+/// How many requests each thread serves.
+const REQUESTS: u64 = 250;
+
+/// How many spans end in all.
+pub const SPANS: u64 = THREADS as u64 * REQUESTS;
+
+/// Serves requests, each of them a span that goes to the pass when it ends. A thread has a provider
+/// and a generator of its own: those that share one wait for each other.
+fn serve<R, P>(rt: R, alloc: Global, pass: &mut P) -> Result<()>
+where
+    R: RandomSource + time::Clock + Copy,
+    P: EndPass<SpanData>,
+{
+    let mut rng: StdRng = make_rng(&rt)?;
+    let clock = SystemClock::new(rt);
+    let resource = Arc::new(alloc, Resource::new(alloc, Vec::new(alloc)))?;
+    let provider = Provider::new(AlwaysOn, resource, SpanLimits::default());
+    let tracer = provider.tracer(Arc::new(alloc, Scope::named(alloc, "checkout")?)?);
+    for _ in 0..REQUESTS {
+        let (kind, at) = (Kind::Server, clock.now());
+        let mut request = tracer.start_copied(alloc, &mut rng, None, "GET /cart", kind, at)?;
+        request.end(pass, clock.now());
+    }
+    Ok(())
+}
+
+/// Starts a thread that serves requests on this pass, and gives it back.
+fn start<J, R>(rt: R, alloc: Global, mut pass: Pass<J, R>) -> Result<JoinHandle<Result<Pass<J, R>>>>
+where
+    J: Naming + Send + Sync + 'static,
+    R: Threads + Wait + RandomSource + time::Clock + Copy + Send + Sync + 'static,
+{
+    let started = thread::spawn(&rt, move || -> Result<Pass<J, R>> {
+        serve(rt, alloc, &mut pass)?;
+        Ok(pass)
+    });
+    Ok(started?)
+}
+
+/// Starts the thread of the worker, which hands batches over until all is drained.
+fn start_worker<J, R>(
+    rt: R,
+    alloc: Global,
+    mut worker: WorkerPass<J, R>,
+) -> Result<JoinHandle<Result<WorkerPass<J, R>>>>
+where
+    J: Naming + Send + Sync + 'static,
+    R: Threads + Wait + RandomSource + time::Clock + Copy + Send + Sync + 'static,
+    requires { worker.encoded ≡ None }
+{
+    let started = thread::spawn(
+        &rt,
+        move || -> Result<WorkerPass<J, R>>
+            requires { worker.encoded ≡ None }
+        {
+            let mut rng: StdRng = make_rng(&rt)?;
+            let mut exporter = MemoryExporter::new(alloc, Vec::new(alloc));
+            worker.work(&mut exporter, &SystemClock::new(rt), &mut rng, u64::MAX);
+            Ok(worker)
+        },
+    );
+    Ok(started?)
+}
+
+/// Serves requests on a thread for each pass, and gives the passes back.
+fn serve_all<J, R>(rt: R, alloc: Global, passes: Vec<Pass<J, R>>) -> Result<Vec<Pass<J, R>>>
+where
+    J: Naming + Send + Sync + 'static,
+    R: Threads + Wait + RandomSource + time::Clock + Copy + Send + Sync + 'static,
+{
+    let mut threads = Vec::new(alloc);
+    for pass in passes {
+        threads.push(start(rt, alloc, pass)?)?;
+    }
+    let mut passes = Vec::new(alloc);
+    for thread in threads {
+        passes.push(thread.join(&rt)?)?;
+    }
+    Ok(passes)
+}
+
+/// What becomes of the spans of all threads.
+pub fn run<J, R>(rt: R, alloc: Global, blank: BatchBlank) -> Result<Accounts>
+where
+    J: Naming + Send + Sync + 'static,
+    R: Threads + Wait + RandomSource + time::Clock + Copy + Send + Sync + 'static,
+    requires { blank ≡ J.name }
+{
+    let config = BatchConfig::default();
+    let now = SystemClock::new(rt).now();
+    let parts = BatchProcessor::<J, R>::new(alloc, rt, blank, config, THREADS, now)?;
+    let Parts {
+        processor,
+        passes,
+        worker,
+    } = parts;
+    let worker = start_worker(rt, alloc, worker)?;
+    let mut passes = serve_all(rt, alloc, passes)?;
+    if let Some(pass) = passes.first_mut() {
+        pass.shutdown();
+    }
+    let worker = worker.join(&rt)?;
+    processor
+        .close_out(passes, worker)
+        .ok()
+        .context("a pass is missing")
+}
