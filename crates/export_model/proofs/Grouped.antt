@@ -73,10 +73,6 @@ map-map : {A B C : Type 0} (f : B → C) (g : A → B) (xs : List A) → map f (
 map-map f g [] = refl
 map-map f g (x ∷ xs) = ap (λ l. f (g x) ∷ l) (map-map f g xs)
 
-flat-same : {A B C : Type 0} (f : B → List C) (m : A → B) (g : A → List C) → ((x : A) → f (m x) ≡ g x) → (xs : List A) → flat_map f (map m xs) ≡ flat_map g xs
-flat-same f m g same [] = refl
-flat-same f m g same (x ∷ xs) = ap₂ (λ a b. a ++ b) (same x) (flat-same f m g same xs)
-
 -- ---- a request
 
 scopes-carried : (r : Resource) (hs : List ScopeGroup) → flat_map (scope_triples (resource_message r) r.schema) (map scope_spans_message hs) ≡ flat_map (λ h. map (λ x. triple_in r h.key x.span) h.items) hs

@@ -16,14 +16,10 @@ fn resource(alloc: Global) -> Result<Arc<Resource>, OutOfMemory> {
         ("service.version", "1.0.0"),
         ("host.name", "checkout-1"),
     ] {
-        let value = Value::Text(String::from_str(alloc, text)?);
+        let value = Value::text(alloc, text)?;
         attributes.push((String::from_str(alloc, key)?, value))?;
     }
-    let resource = Resource {
-        attributes,
-        schema_url: String::new(alloc),
-    };
-    Ok(Arc::new(alloc, resource)?)
+    Ok(Arc::new(alloc, Resource::new(alloc, attributes))?)
 }
 
 /// As many scopes, of different names.
@@ -51,7 +47,7 @@ fn ended_span(
         context: SpanContext {
             trace: TraceId([1; 16]),
             span: SpanId([2; 8]),
-            flags: TraceFlags(1),
+            flags: TraceFlags::SAMPLED,
             remote: false,
             state: String::new(alloc),
         },

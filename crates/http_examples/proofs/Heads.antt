@@ -1,20 +1,25 @@
 -- Heads that are written out, and texts that have none.
 use Rattle.std.proofs.Common.{◌≡◌, ℕ, zero, suc, nat_lt, Bool, true, false, ◌&&◌, ◌||◌, ◌==◌, List, [], ◌∷◌, ◌++◌, length, replicate, refl, sym, ap, ◌∙◌, arith, codes}
-use Rattle.std.specs.Prelude.{All, nat_le}
-use Rattle.std.specs.List.{list_all, list_any}
+use Rattle.std.specs.Prelude.{All, Option, Some, Result, nat_le}
+use Rattle.std.specs.List.{list_all, list_any, flat_map}
 use Rattle.std.specs.Char.{is_ascii_digit}
+use Rattle.std.specs.Io.KnownBytes.{Consumes}
 use Rattle.std.proofs.lemmas.List.Sums.{AllPass-from_list_all}
 use Rattle.std.proofs.lemmas.List.Elements.{All-cons, All-nil}
 use Rattle.std.proofs.lemmas.Bool.{leb-true, ltb-true, eqb-true, false≢true}
-use Rattle.httparse.specs.Grammar.{LineEnd, crlf, lf, print_blank, print_version, Field, IsField, is_token, is_token_byte, is_value_byte, ResponseHead, IsResponseHead, print_response, reason_phrase, HasNoResponse, NeverHasResponse}
+use Rattle.httparse.specs.Grammar.{LineEnd, crlf, lf, print_blank, print_version, Field, IsField, is_token, is_token_byte, is_value_byte, ResponseHead, IsResponseHead, print_response, reason_phrase, status_code, HasNoResponse, NeverHasResponse}
 use Rattle.httparse.proofs.GrammarLemmas.{print_response-append}
 use Rattle.http_header.specs.FieldName.{is_field_name}
 use Rattle.http_header.specs.Token.{is_value_byte as is_kept_byte}
 use Rattle.http_header.proofs.TokenLemmas.{IsFieldName-from_test}
+use Rattle.retry_core.specs.declared.outcome.RetryAfter.{RetryAfter}
+use Rattle.otlp_http.specs.declared.fault.HttpFault.{HttpFault}
 use Rattle.otlp_http.specs.declared.limits.HeadLimits.{HeadLimits}
-use Rattle.otlp_http.specs.Fields.{NameAndValue, IsTaken}
-use Rattle.otlp_http.specs.Heads.{IsHeadText}
+use Rattle.otlp_http.specs.Bodies.{framing_of, IsBody}
+use Rattle.otlp_http.specs.Fields.{NameAndValue, IsTaken, fields_of, retry_after, values_of}
+use Rattle.otlp_http.specs.Heads.{IsHeadText, IsInterim}
 use Rattle.otlp_http.proofs.HeadLemmas.{head_ends}
+use Rattle.http_examples.specs.Replied.{AreReply, usual}
 
 both : (a b : Bool) → (a && b) ≡ true → (a ≡ true) × (b ≡ true)
 both true b e = (refl, e)
@@ -77,6 +82,32 @@ taken_is field e =
 
 pub all_taken : (fields : List NameAndValue) → list_all is_taken fields ≡ true → All IsTaken fields
 all_taken fields e = all_of IsTaken is_taken taken_is fields e
+
+-- the head that is `continue`
+abbrev pub interim : ResponseHead
+interim = record { blank = []; minor = 1; digits = codes "100"; reason = Some (codes "Continue"); line_end = crlf; fields = []; last = crlf }
+
+-- a reply whose head is written out, behind interim heads
+pub replied : (interims : List ResponseHead) (head : ResponseHead) (taken : List ℕ) {bytes left : List ℕ} {status : ℕ} {wait : Option RetryAfter} {body : Result (List ℕ) HttpFault}
+    → All (IsInterim usual) interims → nat_le (length interims) 16 ≡ true
+    → Consumes (Some bytes) (Some left) (flat_map print_response interims ++ (print_response head ++ taken))
+    → is_head head ≡ true → nat_le (length (print_response head)) usual.head ≡ true → nat_le (length head.fields) usual.fields ≡ true
+    → nat_le 200 (status_code head) ≡ true → list_all is_taken (fields_of head) ≡ true
+    → status ≡ status_code head → wait ≡ retry_after (values_of (codes "retry-after") (fields_of head))
+    → IsBody (framing_of (status_code head) (fields_of head)) usual.body taken (Some left) ⊥ body
+    → AreReply bytes left status wait body
+replied interims head taken each few comes is bytes fields above kept status wait body = record {
+  interims = interims;
+  head = head;
+  taken = taken;
+  comes = record { each = each; few = leb-true (length interims) 16 few; taken = comes };
+  valid = head_text usual head is bytes fields;
+  final = λ interim. let from = leb-true 200 (status_code head) above in let below = interim.1 in omega (arith, from, below);
+  kept = all_taken (fields_of head) kept;
+  status = status;
+  wait = wait;
+  body = body;
+}
 
 -- ---- no head
 

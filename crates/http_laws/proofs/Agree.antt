@@ -13,7 +13,7 @@ use Rattle.otlp_http.specs.Fields.{fields_of, values_of, IsTaken, retry_after}
 use Rattle.otlp_http.specs.Heads.{ComesAfter, IsHeadText, IsInterimStatus}
 use Rattle.otlp_http.specs.Replies.{HttpReply, IsReply, RefusesHead, HasNoReply}
 use Rattle.http_laws.specs.Meanings.{BytesMeanOneReply, BytesMeanOneFault}
-use Rattle.http_laws.proofs.Lacks.{Lack, lack_of, many, lacks_not, lacks_one}
+use Rattle.http_laws.proofs.Lacks.{Lack, lack_of, lacks_not, lacks_one}
 use Rattle.http_laws.proofs.BodiesAgree.{body_one}
 use Rattle.http_laws.proofs.Interims.{Stands, same, first, second, align}
 

@@ -205,20 +205,7 @@ fn writes_no_group_as_no_byte(rt: HostRuntime) {
 
 /// A scope with a name alone.
 fn named_scope(rt: &impl Abort, alloc: Global, name: &str) -> Scope {
-    Scope {
-        name: text(alloc, name).expect(rt, "memory"),
-        version: String::new(alloc),
-        attributes: Vec::new(alloc),
-        schema_url: String::new(alloc),
-    }
-}
-
-/// A resource with these attributes alone.
-fn resource(alloc: Global, attributes: Vec<(String, Value)>) -> Resource {
-    Resource {
-        attributes,
-        schema_url: String::new(alloc),
-    }
+    Scope::named(alloc, name).expect(rt, "memory")
 }
 
 #[test]
@@ -231,15 +218,15 @@ fn writes_groups_in_their_order(rt: HostRuntime) {
         let group = ScopeGroup { scope, spans };
         without_spans.push(group).expect(&rt, "memory");
     }
-    let value = Value::Text(text(alloc, "v").expect(&rt, "memory"));
+    let value = Value::text(alloc, "v").expect(&rt, "memory");
     let attributes = pair(alloc, "k", value).expect(&rt, "memory");
     let groups = [
         ResourceGroup {
-            resource: &resource(alloc, Vec::new(alloc)),
+            resource: &Resource::new(alloc, Vec::new(alloc)),
             scopes: without_spans,
         },
         ResourceGroup {
-            resource: &resource(alloc, attributes),
+            resource: &Resource::new(alloc, attributes),
             scopes: Vec::new(alloc),
         },
     ];

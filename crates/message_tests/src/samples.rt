@@ -51,7 +51,7 @@ fn context<A: Allocator>(
     Ok(SpanContext {
         trace: TraceId(trace),
         span: SpanId(span),
-        flags: TraceFlags(1),
+        flags: TraceFlags::SAMPLED,
         remote: true,
         state: text(alloc, state)?,
     })
@@ -118,7 +118,7 @@ pub(crate) fn open<A: Allocator + Copy>(
 
 fn full_resource<A: Allocator + Copy>(alloc: A) -> Result<Arc<Resource<A>, A>, OutOfMemory> {
     let resource = Resource {
-        attributes: pair(alloc, "k", Value::Text(text(alloc, "v")?))?,
+        attributes: pair(alloc, "k", Value::text(alloc, "v")?)?,
         schema_url: text(alloc, "r")?,
     };
     Ok(Arc::new(alloc, resource)?)

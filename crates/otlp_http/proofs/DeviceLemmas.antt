@@ -1,12 +1,10 @@
 -- What several reads or writes do.
-use Rattle.std.proofs.Common.{◌≡◌, ℕ, ◌+◌, ◌-◌, ◌<◌, ◌≤◌, List, ◌++◌, length, take, drop, get_or, map, refl, sym, ap, subst, ◌∙◌, Bor, length-append, Option, inl, inr, arith}
-use Rattle.std.proofs.lemmas.Bool.{cases_lt}
+use Rattle.std.proofs.Common.{◌≡◌, ℕ, ◌+◌, ◌-◌, ◌<◌, ◌≤◌, List, ◌++◌, length, take, drop, get_or, map, refl, sym, ap, subst, ◌∙◌, Bor, length-append, Option}
 use Rattle.std.proofs.lemmas.List.{length-drop, take-append-le, drop_more, drop_at, drop-drop}
 use Rattle.std.proofs.Math.Seq.{take-add, take-length}
 use Rattle.std.proofs.KnownBytes.{Appends-trans}
 use Rattle.std.specs.Io.KnownBytes.{Appends}
 use Rattle.std.specs.List.{concat}
-use Rattle.otlp_http.specs.Devices.{greatest_count, one_more, HasFailed}
 
 -- the slice from an index to the end
 pub slice_to_end : {A : Type 0} (xs : List A) (i : ℕ) → take (length xs - i) (drop i xs) ≡ drop i xs
@@ -42,7 +40,3 @@ concat_length pieces i d below = ap length (concat_from pieces i d below) ∙ le
 -- past the next piece
 pub drop_piece : (whole piece rest : List ℕ) (sent : ℕ) → drop sent whole ≡ piece ++ rest → drop (sent + length piece) whole ≡ rest
 drop_piece whole piece rest sent left = sym (drop-drop (length piece) sent whole) ∙ ap (drop (length piece)) left ∙ drop_at piece rest (length piece) refl
-
--- one failure more is a failure in between
-pub failed_since : (old new : ℕ) → new ≡ one_more old → HasFailed old new
-failed_since old new is = elim (cases_lt old greatest_count) [ inl below ↦ inl (omega arith) | inr above ↦ inr above ]

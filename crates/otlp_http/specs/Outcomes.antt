@@ -21,8 +21,8 @@ reply_view reply = record {
   body = result_map_both (λ body. body.items) (λ fault. fault) reply.body;
 }
 
--- the collector took the batch (OTLP Specification, Full Success, Partial Success; statuses from 201
--- on: profile)
+-- the collector took the batch (OTLP Specification, Full Success, Partial Success; statuses from
+-- 201 on: profile)
 abbrev pub is_success : ℕ → Bool
 is_success status = nat_le 200 status && nat_le status 299
 

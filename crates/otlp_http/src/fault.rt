@@ -15,8 +15,8 @@ pub enum HttpFault {
     /// heads came.
     #[error("bad head")]
     BadHead,
-    /// Transfer-Encoding stands (profile), or Content-Length isn't one number of digits that fits 64
-    /// bits (RFC 9112, section 6.3).
+    /// Transfer-Encoding stands (profile), or Content-Length isn't one number of digits that fits
+    /// 64 bits (RFC 9112, section 6.3).
     #[error("bad length")]
     BadLength,
     /// A chunk of the body is bad. It isn't told yet: a body in chunks is `BadLength`.

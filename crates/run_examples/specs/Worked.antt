@@ -142,7 +142,9 @@ is_sent _ = false
 -- exporter has these outcomes, and then delivers.
 unfoldable pub history_behind : RunConfig → List ℕ → List Answered → List Outcome → List Step
     → List Answered
-unfolding desk_after desk_of desk_events ended_by progress last_attempt start_results_behind started_span ids_of ids_words first_valid span chars encode groups body_length canon septets_of
+unfolding desk_after desk_of desk_events ended_by progress last_attempt start_results_behind
+    started_span ids_of ids_words first_valid span chars encode groups body_length canon
+    septets_of
 history_behind run scarce before outcomes [] = before
 history_behind run scarce before outcomes (step ∷ later) =
     let refused = list_any (λ place. place == length before) scarce in

@@ -11,20 +11,12 @@ use std::test::Fail;
 
 /// A span that has ended.
 fn ended(rt: &impl Abort, alloc: Global, span: SpanId) -> SpanData {
-    let resource = Resource {
-        attributes: Vec::new(alloc),
-        schema_url: String::new(alloc),
-    };
-    let scope = Scope {
-        name: String::new(alloc),
-        version: String::new(alloc),
-        attributes: Vec::new(alloc),
-        schema_url: String::new(alloc),
-    };
+    let resource = Resource::new(alloc, Vec::new(alloc));
+    let scope = Scope::named(alloc, "").expect(rt, "memory");
     let context = SpanContext {
         trace: TRACE,
         span,
-        flags: TraceFlags(1),
+        flags: TraceFlags::SAMPLED,
         remote: false,
         state: String::new(alloc),
     };

@@ -1,17 +1,14 @@
-use Rattle.std.proofs.Common.{[], refl, arith, codes, Some, None, replicate, inl, inr}
+use Rattle.std.proofs.Common.{[], refl, arith, codes, None, replicate, inl, inr}
 use Rattle.std.proofs.lemmas.List.Elements.{All-nil}
-use Rattle.httparse.specs.Grammar.{crlf, lf, ResponseHead}
+use Rattle.httparse.specs.Grammar.{lf, ResponseHead}
 use Rattle.httparse.proofs.OnLiterals.{httparse_on_literals}
 use Rattle.otlp_http.specs.Heads.{IsInterim}
 use Rattle.http_examples.specs.Replied.{usual, continue}
-use Rattle.http_examples.proofs.Heads.{head_is, head_text, all_equal, no_line, no_x}
+use Rattle.http_examples.proofs.Heads.{interim, head_is, head_text, all_equal, no_line, no_x}
 use Rattle.http_examples.proofs.replies.none.Goals as goal
 
 abbrev no_content : ResponseHead
 no_content = record { blank = []; minor = 1; digits = codes "204"; reason = None; line_end = lf; fields = []; last = lf }
-
-abbrev interim : ResponseHead
-interim = record { blank = []; minor = 1; digits = codes "100"; reason = Some (codes "Continue"); line_end = crlf; fields = []; last = crlf }
 
 pub returns-clause-cut : goal.returns-clause-cut
 unfolding httparse_on_literals

@@ -2,10 +2,9 @@ use Rattle.std.proofs.Common.{[], ◌∷◌, refl, arith, codes, Some, None}
 use Rattle.std.proofs.lemmas.List.Elements.{All-cons, All-nil}
 use Rattle.httparse.specs.Grammar.{crlf, lf, ResponseHead}
 use Rattle.httparse.proofs.OnLiterals.{httparse_on_literals}
-use Rattle.otlp_http.specs.Fields.{fields_of}
 use Rattle.otlp_http.specs.Heads.{IsInterim}
 use Rattle.http_examples.specs.Replied.{usual, two_rejected}
-use Rattle.http_examples.proofs.Heads.{head_text, all_taken}
+use Rattle.http_examples.proofs.Heads.{interim, head_text, replied}
 use Rattle.http_examples.proofs.replies.replies.Goals as goal
 
 abbrev ok : ResponseHead
@@ -33,84 +32,28 @@ busy = record {
 abbrev no_content : ResponseHead
 no_content = record { blank = []; minor = 0; digits = codes "204"; reason = None; line_end = lf; fields = []; last = lf }
 
-abbrev interim : ResponseHead
-interim = record { blank = []; minor = 1; digits = codes "100"; reason = Some (codes "Continue"); line_end = crlf; fields = []; last = crlf }
-
 pub returns-clause-sized : goal.returns-clause-sized
 unfolding httparse_on_literals
-returns-clause-sized c = record {
-  interims = [];
-  head = ok;
-  taken = two_rejected;
-  comes = record { each = All-nil (IsInterim usual); few = omega arith; taken = refl };
-  valid = head_text usual ok refl refl refl;
-  final = λ is. let above = is.1 in omega (arith, above);
-  kept = all_taken (fields_of ok) refl;
-  status = refl;
-  wait = refl;
-  body = (refl, refl, omega arith);
-}
+returns-clause-sized c =
+    replied [] ok two_rejected (All-nil (IsInterim usual)) refl refl refl refl refl refl refl refl refl (refl, refl, omega arith)
 
 pub returns-clause-between : goal.returns-clause-between
 unfolding httparse_on_literals
-returns-clause-between c = record {
-  interims = interim ∷ [];
-  head = ok;
-  taken = two_rejected;
-  comes = record {
-    each = All-cons (IsInterim usual) interim [] (head_text usual interim refl refl refl, (omega arith, omega arith)) (All-nil (IsInterim usual));
-    few = omega arith;
-    taken = refl;
-  };
-  valid = head_text usual ok refl refl refl;
-  final = λ is. let above = is.1 in omega (arith, above);
-  kept = all_taken (fields_of ok) refl;
-  status = refl;
-  wait = refl;
-  body = (refl, refl, omega arith);
-}
+returns-clause-between c =
+    let between = All-cons (IsInterim usual) interim [] (head_text usual interim refl refl refl, (omega arith, omega arith)) (All-nil (IsInterim usual)) in
+    replied (interim ∷ []) ok two_rejected between refl refl refl refl refl refl refl refl refl (refl, refl, omega arith)
 
 pub returns-clause-to_the_end : goal.returns-clause-to_the_end
 unfolding httparse_on_literals
-returns-clause-to_the_end c = record {
-  interims = [];
-  head = busy;
-  taken = codes "wait";
-  comes = record { each = All-nil (IsInterim usual); few = omega arith; taken = refl };
-  valid = head_text usual busy refl refl refl;
-  final = λ is. let above = is.1 in omega (arith, above);
-  kept = all_taken (fields_of busy) refl;
-  status = refl;
-  wait = refl;
-  body = (refl, refl, omega arith);
-}
+returns-clause-to_the_end c =
+    replied [] busy (codes "wait") (All-nil (IsInterim usual)) refl refl refl refl refl refl refl refl refl (refl, refl, omega arith)
 
 pub returns-clause-without_body : goal.returns-clause-without_body
 unfolding httparse_on_literals
-returns-clause-without_body c = record {
-  interims = [];
-  head = no_content;
-  taken = [];
-  comes = record { each = All-nil (IsInterim usual); few = omega arith; taken = refl };
-  valid = head_text usual no_content refl refl refl;
-  final = λ is. let above = is.1 in omega (arith, above);
-  kept = all_taken [] refl;
-  status = refl;
-  wait = refl;
-  body = (refl, refl);
-}
+returns-clause-without_body c =
+    replied [] no_content [] (All-nil (IsInterim usual)) refl refl refl refl refl refl refl refl refl (refl, refl)
 
 pub returns-clause-cut : goal.returns-clause-cut
 unfolding httparse_on_literals
-returns-clause-cut c = record {
-  interims = [];
-  head = ok;
-  taken = codes "wait";
-  comes = record { each = All-nil (IsInterim usual); few = omega arith; taken = refl };
-  valid = head_text usual ok refl refl refl;
-  final = λ is. let above = is.1 in omega (arith, above);
-  kept = all_taken (fields_of ok) refl;
-  status = refl;
-  wait = refl;
-  body = (refl, omega arith, omega arith);
-}
+returns-clause-cut c =
+    replied [] ok (codes "wait") (All-nil (IsInterim usual)) refl refl refl refl refl refl refl refl refl (refl, omega arith, omega arith)
