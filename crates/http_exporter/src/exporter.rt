@@ -1,0 +1,197 @@
+//! An exporter that posts each body over a link of its own.
+
+ghost use Rattle.std.specs.Prelude.{◌≡◌, ◌≤◌, ◌^◌, ◌-◌, ℕ, true, false, IsOk, Result};
+ghost use Rattle.std.specs.Result.{result_map_both};
+ghost use Rattle.retry_core.specs.Retries.{outcome_view};
+ghost use Rattle.otlp_http.specs.Outcomes.{reply_view};
+ghost use Rattle.otlp_http.specs.Request.{request_text};
+ghost use Rattle.otlp_http.specs.Replies.{HttpReply};
+ghost use Rattle.otlp_http.specs.declared.fault.HttpFault.{HttpFault};
+ghost use Rattle.http_exporter.specs.Attempts.{shown, IsAnswer, IsAttempt, IsPosted, outcome_after_a_stop};
+
+use crate::dial::Dial;
+use otlp_http::{
+    FaultRead, FaultWrite, HeadLimits, HttpFault, Reply, Target, outcome_of, read_reply,
+    write_request,
+};
+use otlp_ids::OutOfMemory;
+use retry_core::Outcome;
+use span_exporter::Exporter;
+use std::alloc::{Allocator, Global};
+use std::fmt;
+use std::marker::Model;
+
+/// An exporter that posts each body to a target, over a link of its own, and goes by the reply
+/// (OTLP Specification, "OTLP/HTTP Request", "OTLP/HTTP Response"). It doesn't tell what it was
+/// handed. In contracts it is an `Exporting`.
+#[derive(Drop)]
+pub struct LinkExporter<D, A: Allocator = Global> {
+    alloc: A,
+    global: Global,
+    dial: D,
+    target: Target<A>,
+    limits: HeadLimits,
+    reads_after_a_stop: bool,
+}
+
+impl<D, A: Allocator> Model for LinkExporter<D, A> {
+    ghost use Rattle.std.specs.Prelude.{◌≤◌};
+    ghost use Rattle.http_exporter.specs.Attempts.{Exporting};
+
+    ghost Value = { Exporting D };
+
+    ghost view = { λ e. record {
+      dial = e.dial;
+      target = e.target;
+      limits = e.limits;
+      reads_after_a_stop = e.reads_after_a_stop;
+    } };
+
+    ghost invariant = { λ e. e.limits.fields ≤ 64 };
+}
+
+/// Writes where requests go, and leaves out what dials.
+impl<D, A: Allocator> fmt::Debug for LinkExporter<D, A> {
+    fn fmt<W: fmt::Write>(&self, f: &mut fmt::Formatter<W>) -> fmt::Result {
+        f.debug_struct("LinkExporter")
+            .field("target", &self.target)
+            .field("limits", &self.limits)
+            .field("reads_after_a_stop", &self.reads_after_a_stop)
+            .finish_non_exhaustive()
+    }
+}
+
+impl<D, A: Allocator + Copy> LinkExporter<D, A> {
+    /// An exporter that posts to this target over the links of this dial. It reads as much of a
+    /// reply as [`HeadLimits::default`] says, and nothing where a write failed. It takes no memory
+    /// but while a reply is read: `alloc` keeps its head and its body, `global` its fields.
+    pub fn over(alloc: A, global: Global, dial: D, target: Target<A>) -> LinkExporter<D, A>
+        ensures { result ≡ record {
+          dial = dial;
+          target = target;
+          limits = record { head = 16_384; fields = 64; body = 65_536 };
+          reads_after_a_stop = false;
+        } }
+    {
+        LinkExporter {
+            alloc,
+            global,
+            dial,
+            target,
+            limits: HeadLimits::default(),
+            reads_after_a_stop: false,
+        }
+    }
+
+    /// The same exporter, which reads so much of a reply, with [`MOST_FIELDS`] fields at most.
+    ///
+    /// [`MOST_FIELDS`]: otlp_http::MOST_FIELDS
+    pub fn within(mut self, limits: HeadLimits) -> LinkExporter<D, A>
+        requires fields { limits.fields ≤ 64 }
+        ensures { result ≡ record self { limits = limits } }
+    {
+        self.limits = limits;
+        self
+    }
+
+    /// The same exporter, which reads what came where a write failed, and goes by a reply if one is
+    /// there: servers that refuse a large body answer before they have read it, and close. By
+    /// default such an attempt has no reply. (RFC 9112, section 9.5; the default: profile)
+    pub fn reading_after_a_stop(mut self) -> LinkExporter<D, A>
+        ensures { result ≡ record self { reads_after_a_stop = true } }
+    {
+        self.reads_after_a_stop = true;
+        self
+    }
+
+    /// Posts a body over this link: writes its request, reads the reply, and answers what that
+    /// means (see [`outcome_of`]).
+    ///
+    /// Where a write failed, a beginning of the request went out, and the outcome is `NoReply`,
+    /// without a byte having been read. By [`LinkExporter::reading_after_a_stop`] what came is read
+    /// then: where it has a whole head that can be used, the outcome is by that, and else `NoReply`.
+    ///
+    /// Memory is taken while the reply is read: where it is refused for the head or its fields, the
+    /// outcome is `NoReply`, and where for the body, it is by the status alone.
+    pub fn post<L: FaultRead + FaultWrite>(&self, link: &mut L, body: &[u8]) -> Outcome
+        ensures { IsPosted
+            (shown L.contents L.remaining L.FaultWrite.failures L.FaultRead.failures)
+            self.now.limits self.now.reads_after_a_stop (request_text self.now.target body.now)
+            link.old link.new (outcome_view result) }
+    {
+        match write_request(link, &self.target, body) {
+            Ok(()) => outcome_of(&self.read(link)),
+            Err(_) if self.reads_after_a_stop => self.read_after_a_stop(link),
+            Err(_) => Outcome::NoReply,
+        }
+    }
+
+    /// What came where a write failed.
+    fn read_after_a_stop<L: FaultRead + FaultWrite>(&self, link: &mut L) -> Outcome
+        ensures { (answer : Result HttpReply HttpFault)
+            × IsAnswer (shown L.contents L.remaining L.FaultWrite.failures L.FaultRead.failures)
+            self.now.limits link.old link.new answer
+            × (outcome_view result ≡ outcome_after_a_stop answer) }
+    {
+        let reply = self.read(link);
+        if reply.is_err() {
+            return Outcome::NoReply;
+        }
+        outcome_of(&reply)
+    }
+
+    /// Reads a reply.
+    fn read<L: FaultRead + FaultWrite>(&self, link: &mut L) -> Result<Reply<A>, HttpFault>
+        ensures { IsAnswer
+            (shown L.contents L.remaining L.FaultWrite.failures L.FaultRead.failures)
+            self.now.limits link.old link.new
+            (result_map_both reply_view (λ fault. fault) result) }
+    {
+        read_reply(self.alloc, self.global, link, &self.limits)
+    }
+}
+
+impl<D: Dial, A: Allocator + Copy> LinkExporter<D, A> {
+    /// Attempts to send a body: dials the target's host and port, posts the body over the link, as
+    /// [`LinkExporter::post`] does, and lets the link go. Where there is no link, the outcome is
+    /// `NoReply`.
+    pub fn attempt(&mut self, body: &[u8]) -> Outcome
+        ensures outcome { IsAttempt D.dials
+            (shown D.Link.contents D.Link.remaining D.Link.FaultWrite.failures D.Link.FaultRead.failures)
+            body.now self.old self.new.dial (outcome_view result) }
+        ensures others { self.new ≡ record self.old { dial = self.new.dial } }
+    {
+        match self.dial.dial(self.target.host(), self.target.port()) {
+            Some(mut link) => self.post(&mut link, body),
+            None => Outcome::NoReply,
+        }
+    }
+}
+
+impl<D: Dial, A: Allocator + Copy> Exporter for LinkExporter<D, A> {
+    ghost use Rattle.std.specs.Prelude.{None, ◌^◌, ◌-◌};
+
+    ghost handed = { λ _. None };
+
+    ghost room = { λ _ _. 2 ^ 32 - 1 };
+
+    /// Nothing has to be made ready: there is room for any number of attempts of any body. It takes
+    /// no memory, and is never refused.
+    fn prepare(&mut self, size: usize, attempts: u32) -> Result<(), OutOfMemory>
+        ensures ready { IsOk result }
+        ensures unchanged { self.new ≡ self.old }
+        ensures room { (len : ℕ) → len ≤ size → attempts ≤ 2 ^ 32 - 1 }
+    {
+        Ok(())
+    }
+
+    /// Attempts to send the body, as [`LinkExporter::attempt`] does: the numbers go nowhere.
+    fn export(&mut self, _number: u64, _attempt: u32, body: &[u8]) -> Outcome
+        ensures outcome { IsAttempt D.dials
+            (shown D.Link.contents D.Link.remaining D.Link.FaultWrite.failures D.Link.FaultRead.failures)
+            body.now self.old self.new.dial (outcome_view result) }
+        ensures others { self.new ≡ record self.old { dial = self.new.dial } }
+    {
+        self.attempt(body)
+    }
+}

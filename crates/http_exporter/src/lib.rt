@@ -1,0 +1,12 @@
+//! Batches that are sent over HTTP (OTLP Specification, "OTLP/HTTP"; RFC 9112): an exporter that
+//! posts each body over a link of its own, which a [`Dial`] gives. Over TCP it is the
+//! [`HttpExporter`].
+#![tactic(auto)]
+
+mod dial;
+mod exporter;
+mod tcp;
+
+pub use dial::Dial;
+pub use exporter::LinkExporter;
+pub use tcp::{HttpExporter, TcpDial};
