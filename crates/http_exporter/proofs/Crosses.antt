@@ -1,6 +1,5 @@
 -- An exporter over TCP, with all memory on the heap, may go to another thread where its runtime may.
 use denote.RattleType.{RattleType}
-use denote.Struct.Field.{row_field}
 use denote.Param.Send.{IsSend, sendable, view_send}
 use denote.Param.SendFields.{FieldsHave, declared_send, as_row_send}
 use Rattle.std.proofs.Crossing as heap

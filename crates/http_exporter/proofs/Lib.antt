@@ -1,2 +1,2 @@
-pub mod Posts
 pub mod Crosses
+pub mod FrontLemmas

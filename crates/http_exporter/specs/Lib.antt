@@ -1,2 +1,3 @@
 pub mod Attempts
 pub mod Tcp
+pub mod Fronts

@@ -10,9 +10,9 @@ ghost use Rattle.otlp_http.specs.declared.fault.HttpFault.{HttpFault};
 ghost use Rattle.http_exporter.specs.Attempts.{shown, IsAnswer, IsAttempt, IsPosted, outcome_after_a_stop};
 
 use crate::dial::Dial;
+use crate::front::send;
 use otlp_http::{
     FaultRead, FaultWrite, HeadLimits, HttpFault, Reply, Target, outcome_of, read_reply,
-    write_request,
 };
 use otlp_ids::OutOfMemory;
 use retry_core::Outcome;
@@ -105,7 +105,9 @@ impl<D, A: Allocator + Copy> LinkExporter<D, A> {
     }
 
     /// Posts a body over this link: writes its request, reads the reply, and answers what that
-    /// means (see [`outcome_of`]).
+    /// means (see [`outcome_of`]). A link that takes all that it is given gets the head together
+    /// with the beginning of the body, 1,024 bytes at most, and then the rest of the body, which is
+    /// not copied.
     ///
     /// Where a write failed, a beginning of the request went out, and the outcome is `NoReply`,
     /// without a byte having been read. By [`LinkExporter::reading_after_a_stop`] what came is read
@@ -119,7 +121,7 @@ impl<D, A: Allocator + Copy> LinkExporter<D, A> {
             self.now.limits self.now.reads_after_a_stop (request_text self.now.target body.now)
             link.old link.new (outcome_view result) }
     {
-        match write_request(link, &self.target, body) {
+        match send(link, &self.target, body) {
             Ok(()) => outcome_of(&self.read(link)),
             Err(_) if self.reads_after_a_stop => self.read_after_a_stop(link),
             Err(_) => Outcome::NoReply,

@@ -5,6 +5,7 @@
 
 mod dial;
 mod exporter;
+mod front;
 mod tcp;
 
 pub use dial::Dial;
