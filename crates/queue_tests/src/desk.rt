@@ -1,4 +1,5 @@
 //! Desks, driven by hand.
+use crate::equal::{assert_equal, assert_equal_at};
 use crate::spans::{Spans, TRACE};
 use batch_desk::{Admitted, Batch, Desk, DeskConfig, FateCounts, Totals};
 use drop_ledger::DropCounts;
@@ -29,7 +30,7 @@ pub(crate) fn desk_of(rt: &impl Abort, alloc: Global, queue: usize, batch: usize
 pub(crate) fn queue(rt: &impl Abort, desk: &mut Desk, spans: &Spans, numbers: Range<u64>) {
     for number in numbers {
         let admitted = desk.admit(spans.ended(rt, number));
-        assert_eq!(rt; admitted, Admitted::Queued(number));
+        assert_equal(rt, admitted, Admitted::Queued(number));
     }
 }
 
@@ -42,10 +43,10 @@ pub(crate) fn take(
     tickets: &[u64],
 ) -> Batch {
     let batch = desk.take(now).expect(rt, "a batch is due");
-    assert_eq!(rt; batch.number(), number);
-    assert_eq!(rt; batch.spans().len(), tickets.len());
+    assert_equal(rt, batch.number(), number);
+    assert_equal(rt, batch.spans().len(), tickets.len());
     for (span, ticket) in batch.spans().iter().zip(tickets) {
-        assert_eq!(rt; span.ticket(), *ticket);
+        assert_equal(rt, span.ticket(), *ticket);
     }
     batch
 }
@@ -65,19 +66,19 @@ pub(crate) fn hand(rt: &impl Abort, desk: &mut Desk, batch: &Batch) {
     assert!(rt; !desk.is_handed(batch));
     match desk.out() {
         Some((number, false)) => {
-            assert_eq!(rt; number, batch.number());
+            assert_equal(rt, number, batch.number());
             desk.handed(number);
         }
         _ => panic!(rt; "a batch is in hand"),
     }
-    assert_eq!(rt; desk.out(), Some((batch.number(), true)));
+    assert_equal(rt, desk.out(), Some((batch.number(), true)));
 }
 
 /// Ends the batch that is out, which was handed.
 fn settle(rt: &impl Abort, desk: &mut Desk, batch: Batch, fate: Fate) {
     assert!(rt; desk.is_handed(&batch));
     desk.settle(batch, fate);
-    assert_eq!(rt; desk.out(), None);
+    assert_equal(rt, desk.out(), None);
 }
 
 /// Hands the batch over, and settles it.
@@ -90,7 +91,7 @@ fn deliver(rt: &impl Abort, desk: &mut Desk, batch: Batch) {
 fn drop_batch(rt: &impl Abort, desk: &mut Desk, batch: Batch) {
     assert!(rt; desk.is_in_hand(&batch));
     desk.drop_batch(batch, Reason::EncodeMemory);
-    assert_eq!(rt; desk.out(), None);
+    assert_equal(rt, desk.out(), None);
 }
 
 /// The name of the span with this number, which is its ticket.
@@ -108,9 +109,13 @@ fn a_full_queue_drops_the_span_that_ends(rt: HostRuntime) -> Result<(), Fail> {
     let spans = Spans::new(&rt, rt.alloc());
     let mut desk = desk_of(&rt, rt.alloc(), 4, 2);
     queue(&rt, &mut desk, &spans, 0..4);
-    assert_eq!(rt; desk.admit(spans.ended(&rt, 4)), Admitted::Full(4));
-    assert_eq!(rt; desk.ledger().len(), 1);
-    assert_eq!(rt; desk.ledger().newest(), Some(&name(4, Reason::QueueFull)));
+    assert_equal(&rt, desk.admit(spans.ended(&rt, 4)), Admitted::Full(4));
+    assert_equal(&rt, desk.ledger().len(), 1);
+    assert_equal(
+        &rt,
+        desk.ledger().newest(),
+        Some(&name(4, Reason::QueueFull)),
+    );
     let batch = take(&rt, &mut desk, 0, 1, &[0, 1]);
     deliver(&rt, &mut desk, batch);
     let batch = take(&rt, &mut desk, 0, 2, &[2, 3]);
@@ -132,7 +137,7 @@ fn a_full_queue_drops_the_span_that_ends(rt: HostRuntime) -> Result<(), Fail> {
         },
         closed: false,
     };
-    assert_eq!(rt; desk.totals(), totals);
+    assert_equal(&rt, desk.totals(), totals);
     Ok(())
 }
 
@@ -147,7 +152,7 @@ fn a_flush_asks_for_those_that_wait(rt: HostRuntime) -> Result<(), Fail> {
     assert!(rt; !desk.flushed(mark));
     let batch = take(&rt, &mut desk, 0, 2, &[2]);
     queue(&rt, &mut desk, &spans, 3..8);
-    assert_eq!(rt; desk.admit(spans.ended(&rt, 8)), Admitted::Full(8));
+    assert_equal(&rt, desk.admit(spans.ended(&rt, 8)), Admitted::Full(8));
     assert!(rt; !desk.flushed(mark));
     deliver(&rt, &mut desk, batch);
     assert!(rt; desk.flushed(mark));
@@ -156,7 +161,7 @@ fn a_flush_asks_for_those_that_wait(rt: HostRuntime) -> Result<(), Fail> {
     let batch = take(&rt, &mut desk, 0, 4, &[5, 6]);
     deliver(&rt, &mut desk, batch);
     take_none(&rt, &mut desk, 0);
-    assert_eq!(rt; desk.totals().left, 1);
+    assert_equal(&rt, desk.totals().left, 1);
     Ok(())
 }
 
@@ -173,7 +178,7 @@ fn a_batch_is_due_after_the_delay(rt: HostRuntime) -> Result<(), Fail> {
     take_none(&rt, &mut desk, 2 * DELAY - 1);
     let batch = take(&rt, &mut desk, 2 * DELAY, 2, &[1]);
     drop_batch(&rt, &mut desk, batch);
-    assert_eq!(rt; desk.totals().fates.refused, 1);
+    assert_equal(&rt, desk.totals().fates.refused, 1);
     Ok(())
 }
 
@@ -184,9 +189,9 @@ fn a_shutdown_asks_for_all_and_closes(rt: HostRuntime) -> Result<(), Fail> {
     queue(&rt, &mut desk, &spans, 0..2);
     assert!(rt; !desk.due(0));
     let mark = desk.shutdown();
-    assert_eq!(rt; desk.admit(spans.ended(&rt, 2)), Admitted::Late);
-    assert_eq!(rt; desk.flush(), mark);
-    assert_eq!(rt; desk.shutdown(), mark);
+    assert_equal(&rt, desk.admit(spans.ended(&rt, 2)), Admitted::Late);
+    assert_equal(&rt, desk.flush(), mark);
+    assert_equal(&rt, desk.shutdown(), mark);
     let batch = take(&rt, &mut desk, 0, 1, &[0, 1]);
     hand(&rt, &mut desk, &batch);
     assert!(rt; !desk.flushed(mark));
@@ -205,7 +210,7 @@ fn a_shutdown_asks_for_all_and_closes(rt: HostRuntime) -> Result<(), Fail> {
         },
         closed: true,
     };
-    assert_eq!(rt; desk.totals(), totals);
+    assert_equal(&rt, desk.totals(), totals);
     Ok(())
 }
 
@@ -214,14 +219,14 @@ fn a_dropped_batch_is_named_in_its_order(rt: HostRuntime) -> Result<(), Fail> {
     let spans = Spans::new(&rt, rt.alloc());
     let mut desk = desk_of(&rt, rt.alloc(), 3, 2);
     queue(&rt, &mut desk, &spans, 0..3);
-    assert_eq!(rt; desk.admit(spans.ended(&rt, 3)), Admitted::Full(3));
+    assert_equal(&rt, desk.admit(spans.ended(&rt, 3)), Admitted::Full(3));
     let batch = take(&rt, &mut desk, 0, 1, &[0, 1]);
     drop_batch(&rt, &mut desk, batch);
-    assert_eq!(rt; desk.pop_entry(), Some(name(1, Reason::EncodeMemory)));
-    assert_eq!(rt; desk.pop_entry(), Some(name(0, Reason::EncodeMemory)));
-    assert_eq!(rt; desk.pop_entry(), Some(name(3, Reason::QueueFull)));
-    assert_eq!(rt; desk.pop_entry(), None);
-    assert_eq!(rt; desk.totals().dropped.encode_memory, 2);
+    assert_equal(&rt, desk.pop_entry(), Some(name(1, Reason::EncodeMemory)));
+    assert_equal(&rt, desk.pop_entry(), Some(name(0, Reason::EncodeMemory)));
+    assert_equal(&rt, desk.pop_entry(), Some(name(3, Reason::QueueFull)));
+    assert_equal(&rt, desk.pop_entry(), None);
+    assert_equal(&rt, desk.totals().dropped.encode_memory, 2);
     Ok(())
 }
 
@@ -230,13 +235,13 @@ fn a_desk_goes_with_what_it_has(rt: HostRuntime) -> Result<(), Fail> {
     let spans = Spans::new(&rt, rt.alloc());
     let mut desk = desk_of(&rt, rt.alloc(), 2, 1);
     queue(&rt, &mut desk, &spans, 0..2);
-    assert_eq!(rt; desk.admit(spans.ended(&rt, 2)), Admitted::Full(2));
+    assert_equal(&rt, desk.admit(spans.ended(&rt, 2)), Admitted::Full(2));
     // A batch that is out is handed back first: nothing else takes it.
     let batch = take(&rt, &mut desk, 0, 1, &[0]);
     queue(&rt, &mut desk, &spans, 3..4);
     drop_batch(&rt, &mut desk, batch);
-    assert_eq!(rt; desk.totals().left, 2);
-    assert_eq!(rt; desk.ledger().len(), 2);
+    assert_equal(&rt, desk.totals().left, 2);
+    assert_equal(&rt, desk.ledger().len(), 2);
     drop(desk);
     Ok(())
 }
@@ -255,7 +260,7 @@ fn new_tells_the_first_fault(rt: HostRuntime) -> Result<(), Fail> {
             delay_ms: 0,
         };
         let made = Desk::new(rt.alloc(), config, 0);
-        assert_eq!(rt; made.err(), Some(want), "at {queue}, {batch}");
+        assert_equal_at(&rt, made.err(), Some(want), (queue, batch));
     }
     Ok(())
 }
@@ -278,12 +283,12 @@ fn each_memory_that_new_wants_may_be_refused(rt: HostRuntime) -> Result<(), Fail
         let scarce = LocalHeap::new(rt.alloc(), size)?;
         match fault_of(&scarce) {
             Some(fault) => {
-                assert_eq!(rt; fault, RingFault::OutOfMemory);
+                assert_equal(&rt, fault, RingFault::OutOfMemory);
                 refused = refused.saturating_add(1);
             }
             None => made = made.saturating_add(1),
         }
-        assert_eq!(rt; scarce.used(), 0);
+        assert_equal(&rt, scarce.used(), 0);
     }
     assert!(rt; refused > 4 && made > 4, "{refused} refused, {made} made");
     Ok(())

@@ -1,5 +1,6 @@
 //! What the calls of a desk free, and what they leave to be freed by who calls them.
 use crate::desk::{desk_of, hand, name, queue, take};
+use crate::equal::assert_equal;
 use crate::spans::Spans;
 use batch_desk::{Admitted, Batch, Desk, DeskConfig};
 use linked_list_allocator::LocalHeap;
@@ -16,13 +17,14 @@ const MANY: u64 = 2048;
 fn drop_named<A: Allocator>(rt: &impl Abort, desk: &mut Desk<A>, batch: Batch<A>) {
     let number = batch.number();
     let named = batch.into_named(Reason::Abandoned);
-    assert_eq!(rt;
+    assert_equal(
+        rt,
         (named.number(), named.reason()),
-        (number, Reason::Abandoned)
+        (number, Reason::Abandoned),
     );
     assert!(rt; desk.can_drop(&named));
     desk.drop_named(named);
-    assert_eq!(rt; desk.out(), None);
+    assert_equal(rt, desk.out(), None);
 }
 
 #[test]
@@ -31,24 +33,29 @@ fn what_is_left_of_a_span_is_handed_back(rt: HostRuntime) -> Result<(), Fail> {
     let mut desk = desk_of(&rt, rt.alloc(), 2, 1);
     for number in 0..2 {
         let (answer, remains) = desk.offer(spans.ended(&rt, number));
-        assert_eq!(rt;
+        assert_equal(
+            &rt,
             (answer, remains.is_none()),
-            (Admitted::Queued(number), true)
+            (Admitted::Queued(number), true),
         );
     }
-    assert_eq!(rt; (desk.waiting(), desk.is_closed()), (2, false));
+    assert_equal(&rt, (desk.waiting(), desk.is_closed()), (2, false));
     let (answer, remains) = desk.offer(spans.ended(&rt, 2));
-    assert_eq!(rt; (answer, remains.is_some()), (Admitted::Full(2), true));
-    assert_eq!(rt; desk.ledger().newest(), Some(&name(2, Reason::QueueFull)));
+    assert_equal(&rt, (answer, remains.is_some()), (Admitted::Full(2), true));
+    assert_equal(
+        &rt,
+        desk.ledger().newest(),
+        Some(&name(2, Reason::QueueFull)),
+    );
     let shown = format!(in rt.alloc(); "{remains:?}").expect(&rt, "memory");
     assert!(rt; shown.as_str().starts_with("Some(SpanRemains"));
     drop(remains);
     desk.shutdown();
     let (answer, remains) = desk.offer(spans.ended(&rt, 3));
-    assert_eq!(rt; (answer, remains.is_some()), (Admitted::Late, true));
+    assert_equal(&rt, (answer, remains.is_some()), (Admitted::Late, true));
     drop(remains);
-    assert_eq!(rt; (desk.waiting(), desk.is_closed()), (2, true));
-    assert_eq!(rt; (desk.ledger().len(), desk.totals().late), (1, 1));
+    assert_equal(&rt, (desk.waiting(), desk.is_closed()), (2, true));
+    assert_equal(&rt, (desk.ledger().len(), desk.totals().late), (1, 1));
     Ok(())
 }
 
@@ -61,13 +68,13 @@ fn a_cleared_batch_is_settled(rt: HostRuntime) -> Result<(), Fail> {
     assert!(rt; !desk.can_settle(&batch));
     hand(&rt, &mut desk, &batch);
     batch.clear();
-    assert_eq!(rt; (batch.number(), batch.spans().len()), (1, 0));
+    assert_equal(&rt, (batch.number(), batch.spans().len()), (1, 0));
     assert!(rt; !desk.is_handed(&batch));
     assert!(rt; desk.can_settle(&batch));
     desk.settle(batch, Fate::Delivered);
-    assert_eq!(rt; (desk.out(), desk.waiting()), (None, 1));
+    assert_equal(&rt, (desk.out(), desk.waiting()), (None, 1));
     let totals = desk.totals();
-    assert_eq!(rt; (totals.handed, totals.fates.delivered), (2, 1));
+    assert_equal(&rt, (totals.handed, totals.fates.delivered), (2, 1));
     assert!(rt; desk.ledger().is_empty());
     Ok(())
 }
@@ -77,7 +84,7 @@ fn with_batch(rt: &impl Abort, alloc: Global) -> (Desk, Batch) {
     let spans = Spans::new(rt, alloc);
     let mut desk = desk_of(rt, alloc, 3, 2);
     queue(rt, &mut desk, &spans, 0..3);
-    assert_eq!(rt; desk.admit(spans.ended(rt, 3)), Admitted::Full(3));
+    assert_equal(rt, desk.admit(spans.ended(rt, 3)), Admitted::Full(3));
     let batch = take(rt, &mut desk, 0, 1, &[0, 1]);
     (desk, batch)
 }
@@ -92,17 +99,17 @@ fn a_named_batch_is_dropped_as_another(rt: HostRuntime) -> Result<(), Fail> {
     let mut names: Vec<Entry> = Vec::new(rt.alloc());
     names.extend(named.names().copied()).expect(&rt, "memory");
     let want = [name(0, Reason::TooLarge), name(1, Reason::TooLarge)];
-    assert_eq!(rt; names.as_slice(), want.as_slice());
+    assert_equal(&rt, names.as_slice(), want.as_slice());
     assert!(rt; desk.can_drop(&named));
     desk.drop_named(named);
-    assert_eq!(rt; (desk.out(), desk.totals()), (None, plain.totals()));
+    assert_equal(&rt, (desk.out(), desk.totals()), (None, plain.totals()));
     for number in [1, 0] {
-        assert_eq!(rt; desk.pop_entry(), Some(name(number, Reason::TooLarge)));
+        assert_equal(&rt, desk.pop_entry(), Some(name(number, Reason::TooLarge)));
     }
-    assert_eq!(rt; desk.pop_entry(), Some(name(3, Reason::QueueFull)));
-    assert_eq!(rt; desk.pop_entry(), None);
+    assert_equal(&rt, desk.pop_entry(), Some(name(3, Reason::QueueFull)));
+    assert_equal(&rt, desk.pop_entry(), None);
     for number in [1, 0] {
-        assert_eq!(rt; plain.pop_entry(), Some(name(number, Reason::TooLarge)));
+        assert_equal(&rt, plain.pop_entry(), Some(name(number, Reason::TooLarge)));
     }
     Ok(())
 }
@@ -114,12 +121,12 @@ fn a_batch_of_thousands_is_named(rt: HostRuntime) -> Result<(), Fail> {
     queue(&rt, &mut desk, &spans, 0..MANY);
     let batch = desk.take(0).expect(&rt, "a batch is due");
     drop_named(&rt, &mut desk, batch);
-    assert_eq!(rt; desk.ledger().len(), MANY);
-    assert_eq!(rt; desk.ledger().count(Reason::Abandoned), MANY);
+    assert_equal(&rt, desk.ledger().len(), MANY);
+    assert_equal(&rt, desk.ledger().count(Reason::Abandoned), MANY);
     for number in (0..MANY).rev() {
-        assert_eq!(rt; desk.pop_entry(), Some(name(number, Reason::Abandoned)));
+        assert_equal(&rt, desk.pop_entry(), Some(name(number, Reason::Abandoned)));
     }
-    assert_eq!(rt; desk.pop_entry(), None);
+    assert_equal(&rt, desk.pop_entry(), None);
     Ok(())
 }
 
@@ -134,10 +141,10 @@ fn offer<A: Allocator>(
 ) {
     let used = heap.used();
     let (answer, remains) = desk.offer(span);
-    assert_eq!(rt; (answer, heap.used()), (want, used));
+    assert_equal(rt, (answer, heap.used()), (want, used));
     let is_left = remains.is_some();
     drop(remains);
-    assert_eq!(rt; heap.used() < used, is_left);
+    assert_equal(rt, heap.used() < used, is_left);
 }
 
 /// On this heap the calls that a lock is held for neither take nor free memory.
@@ -154,13 +161,13 @@ fn hold_nothing_up<A: Allocator + Copy>(rt: &impl Abort, alloc: A, heap: &LocalH
     offer(rt, heap, &mut desk, spans.ended(rt, 2), Admitted::Full(2));
     let used = heap.used();
     let batch = desk.take(0).expect(rt, "a batch is due");
-    assert_eq!(rt; heap.used(), used);
+    assert_equal(rt, heap.used(), used);
     let named = batch.into_named(Reason::TooLarge);
     let named_used = heap.used();
     assert!(rt; named_used < used);
     assert!(rt; desk.can_drop(&named));
     desk.drop_named(named);
-    assert_eq!(rt; heap.used(), named_used);
+    assert_equal(rt, heap.used(), named_used);
     offer(rt, heap, &mut desk, spans.ended(rt, 3), Admitted::Queued(3));
     desk.shutdown();
     offer(rt, heap, &mut desk, spans.ended(rt, 4), Admitted::Late);
@@ -173,14 +180,14 @@ fn hold_nothing_up<A: Allocator + Copy>(rt: &impl Abort, alloc: A, heap: &LocalH
     assert!(rt; cleared_used < used);
     assert!(rt; desk.can_settle(&batch));
     desk.settle(batch, Fate::Delivered);
-    assert_eq!(rt; heap.used(), cleared_used);
-    assert_eq!(rt; desk.ledger().len(), 3);
+    assert_equal(rt, heap.used(), cleared_used);
+    assert_equal(rt, desk.ledger().len(), 3);
 }
 
 #[test]
 fn no_call_under_a_lock_takes_or_frees_memory(rt: HostRuntime) -> Result<(), Fail> {
     let heap = LocalHeap::new(rt.alloc(), 16_384)?;
     hold_nothing_up(&rt, &heap, &heap);
-    assert_eq!(rt; heap.used(), 0);
+    assert_equal(&rt, heap.used(), 0);
     Ok(())
 }

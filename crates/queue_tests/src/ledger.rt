@@ -1,4 +1,5 @@
 //! Names of dropped spans: slips that are linked, and ledgers.
+use crate::equal::assert_equal;
 use crate::spans::{Spans, TRACE};
 use drop_ledger::Ledger;
 use otlp_ids::SpanId;
@@ -37,18 +38,18 @@ fn unlink_gives_back_what_was_linked(rt: HostRuntime) -> Result<(), Fail> {
         first.entry(Reason::TooLarge),
         second.entry(Reason::Abandoned),
     );
-    assert_eq!(rt; low, name(1, 0, Reason::TooLarge));
-    assert_eq!(rt; high, name(2, 9, Reason::Abandoned));
+    assert_equal(&rt, low, name(1, 0, Reason::TooLarge));
+    assert_equal(&rt, high, name(2, 9, Reason::Abandoned));
     let below = first.into_slip().link(low, None);
     let chain = second.into_slip().link(high, Some(below));
-    assert_eq!(rt; chain.newest().copied(), Some(high));
-    assert_eq!(rt; chain.iter().count(), 2);
+    assert_equal(&rt, chain.newest().copied(), Some(high));
+    assert_equal(&rt, chain.iter().count(), 2);
     let shown = format!(in rt.alloc(); "{chain:?}").expect(&rt, "memory");
-    assert_eq!(rt; shown.as_str(), CHAIN);
+    assert_equal(&rt, shown.as_str(), CHAIN);
     let (newest, below) = chain.unlink();
-    assert_eq!(rt; newest, high);
+    assert_equal(&rt, newest, high);
     let (oldest, none) = below.expect(&rt, "a slip below").unlink();
-    assert_eq!(rt; (oldest, none.is_none()), (low, true));
+    assert_equal(&rt, (oldest, none.is_none()), (low, true));
     Ok(())
 }
 
@@ -77,20 +78,21 @@ fn a_long_ledger_is_counted_and_let_go(rt: HostRuntime) -> Result<(), Fail> {
     for number in 0..MANY {
         drop_span(&rt, &spans, &mut ledger, number);
     }
-    assert_eq!(rt; (ledger.len(), ledger.is_empty()), (MANY, false));
-    assert_eq!(rt; ledger.count(Reason::QueueFull), MANY / 2);
-    assert_eq!(rt; ledger.count(Reason::TooLarge), 0);
+    assert_equal(&rt, (ledger.len(), ledger.is_empty()), (MANY, false));
+    assert_equal(&rt, ledger.count(Reason::QueueFull), MANY / 2);
+    assert_equal(&rt, ledger.count(Reason::TooLarge), 0);
     let newest = name(MANY - 1, MANY - 1, Reason::EncodeMemory);
-    assert_eq!(rt; ledger.newest().copied(), Some(newest));
+    assert_equal(&rt, ledger.newest().copied(), Some(newest));
     let mut names = 0u64;
     let mut oldest = None;
     for entry in ledger.iter() {
         names = names.saturating_add(1);
         oldest = Some(*entry);
     }
-    assert_eq!(rt;
+    assert_equal(
+        &rt,
         (names, oldest),
-        (MANY, Some(name(0, 0, Reason::QueueFull)))
+        (MANY, Some(name(0, 0, Reason::QueueFull))),
     );
     drop(ledger);
     Ok(())
@@ -110,11 +112,11 @@ fn a_chain_is_linked_anew(rt: HostRuntime) -> Result<(), Fail> {
     let other = second.link(two, None);
     let mut chain = third.link(three, Some(below));
     let was = chain.relink(Some(other)).expect(&rt, "a slip was below");
-    assert_eq!(rt; was.newest().copied(), Some(one));
-    assert_eq!(rt; chain.iter().count(), 2);
+    assert_equal(&rt, was.newest().copied(), Some(one));
+    assert_equal(&rt, chain.iter().count(), 2);
     let (newest, below) = chain.unlink();
-    assert_eq!(rt; newest, three);
-    assert_eq!(rt; below.expect(&rt, "a slip below").unlink().0, two);
+    assert_equal(&rt, newest, three);
+    assert_equal(&rt, below.expect(&rt, "a slip below").unlink().0, two);
     Ok(())
 }
 
@@ -128,9 +130,17 @@ fn a_ledger_goes_onto_another_the_other_way_round(rt: HostRuntime) -> Result<(),
     }
     assert!(rt; ledger.len().checked_add(more.len()).is_some());
     ledger.append_reversed(more);
-    assert_eq!(rt; (ledger.len(), ledger.count(Reason::EncodeMemory)), (4, 2));
+    assert_equal(
+        &rt,
+        (ledger.len(), ledger.count(Reason::EncodeMemory)),
+        (4, 2),
+    );
     for number in [1, 2, 3, 0] {
-        assert_eq!(rt; ledger.pop(), Some(name(number, number, reason_of(number))));
+        assert_equal(
+            &rt,
+            ledger.pop(),
+            Some(name(number, number, reason_of(number))),
+        );
     }
     assert!(rt; ledger.is_empty());
     Ok(())
@@ -140,18 +150,23 @@ fn a_ledger_goes_onto_another_the_other_way_round(rt: HostRuntime) -> Result<(),
 fn the_newest_name_is_popped_first(rt: HostRuntime) -> Result<(), Fail> {
     let spans = Spans::new(&rt, rt.alloc());
     let mut ledger = Ledger::new();
-    assert_eq!(rt; (ledger.pop(), ledger.is_empty()), (None, true));
+    assert_equal(&rt, (ledger.pop(), ledger.is_empty()), (None, true));
     for number in 0..3u64 {
         drop_span(&rt, &spans, &mut ledger, number);
     }
     for number in [2, 1, 0] {
-        assert_eq!(rt; ledger.count(reason_of(number)), number / 2 + 1);
-        assert_eq!(rt; ledger.pop(), Some(name(number, number, reason_of(number))));
-        assert_eq!(rt; ledger.len(), number);
+        assert_equal(&rt, ledger.count(reason_of(number)), number / 2 + 1);
+        assert_equal(
+            &rt,
+            ledger.pop(),
+            Some(name(number, number, reason_of(number))),
+        );
+        assert_equal(&rt, ledger.len(), number);
     }
-    assert_eq!(rt;
+    assert_equal(
+        &rt,
         (ledger.newest().is_none(), ledger.iter().count()),
-        (true, 0)
+        (true, 0),
     );
     Ok(())
 }

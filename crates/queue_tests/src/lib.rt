@@ -5,6 +5,8 @@
 #[cfg(test)]
 mod desk;
 #[cfg(test)]
+mod equal;
+#[cfg(test)]
 mod freed;
 #[cfg(test)]
 mod ledger;

@@ -1,6 +1,7 @@
 //! Random calls of desks, each compared with plain lists.
 ghost use Rattle.std.specs.Prelude.{◌<◌, ◌≢◌};
 
+use crate::equal::assert_equal;
 use crate::plain::Plain;
 use crate::spans::Spans;
 use batch_desk::{Batch, Desk, DeskConfig, Mark};
@@ -85,7 +86,7 @@ impl Pair {
 
     fn admit(&mut self, rt: &impl Abort, spans: &Spans) {
         let admitted = self.desk.admit(spans.ended(rt, 7));
-        assert_eq!(rt; admitted, self.plain.admit(rt));
+        assert_equal(rt, admitted, self.plain.admit(rt));
     }
 
     fn flush(&mut self) {
@@ -105,7 +106,7 @@ impl Pair {
             .desk
             .pop_entry()
             .map(|entry| (entry.ticket, entry.reason));
-        assert_eq!(rt; popped, self.plain.ledger.pop());
+        assert_equal(rt, popped, self.plain.ledger.pop());
     }
 
     fn take(&mut self, rt: &impl Abort) -> Option<Batch> {
@@ -116,10 +117,10 @@ impl Pair {
         };
         assert!(rt; is_due);
         self.plain.take(rt, self.now);
-        assert_eq!(rt; batch.number(), self.plain.number);
-        assert_eq!(rt; batch.spans().len(), self.plain.out.len());
+        assert_equal(rt, batch.number(), self.plain.number);
+        assert_equal(rt, batch.spans().len(), self.plain.out.len());
         for (span, want) in batch.spans().iter().zip(&self.plain.out) {
-            assert_eq!(rt; span.ticket(), want.ticket);
+            assert_equal(rt, span.ticket(), want.ticket);
         }
         Some(batch)
     }
@@ -184,17 +185,18 @@ impl Pair {
 
     /// The desk shows what the lists have.
     fn compare(&self, rt: &impl Abort) {
-        assert_eq!(rt; self.desk.totals(), self.plain.totals);
-        assert_eq!(rt; self.desk.out(), self.plain.out_state());
-        assert_eq!(rt; self.desk.due(self.now), self.plain.is_due(self.now));
-        assert_eq!(rt;
+        assert_equal(rt, self.desk.totals(), self.plain.totals);
+        assert_equal(rt, self.desk.out(), self.plain.out_state());
+        assert_equal(rt, self.desk.due(self.now), self.plain.is_due(self.now));
+        assert_equal(
+            rt,
             self.desk.flushed(self.mark),
-            self.plain.is_flushed(self.marked)
+            self.plain.is_flushed(self.marked),
         );
         let ledger = self.desk.ledger();
-        assert_eq!(rt; ledger.len(), self.plain.ledger.len() as u64);
+        assert_equal(rt, ledger.len(), self.plain.ledger.len() as u64);
         let newest = ledger.newest().map(|entry| (entry.ticket, entry.reason));
-        assert_eq!(rt; newest, self.plain.ledger.last().copied());
+        assert_equal(rt, newest, self.plain.ledger.last().copied());
     }
 
     /// The whole ledger.
@@ -205,7 +207,7 @@ impl Pair {
             .iter()
             .zip(self.plain.ledger.iter().rev())
         {
-            assert_eq!(rt; (entry.ticket, entry.reason), *want);
+            assert_equal(rt, (entry.ticket, entry.reason), *want);
         }
     }
 }

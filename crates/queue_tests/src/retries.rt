@@ -1,4 +1,5 @@
 //! What follows from an attempt to send a batch, and how long is waited.
+use crate::equal::assert_equal;
 use retry_core::{BadRetry, Cause, Next, Outcome, RetryAfter, RetryConfig, decide};
 use std::process::Abort;
 
@@ -43,7 +44,7 @@ fn waits_double_and_words_shorten_them(rt: HostRuntime) {
         (4, 4001, 8_000_000_000),
     ] {
         let next = follows(&rt, &config, attempt, Outcome::NoReply, 0, word);
-        assert_eq!(rt; next, Next::Again(moment));
+        assert_equal(&rt, next, Next::Again(moment));
     }
 }
 
@@ -57,7 +58,7 @@ fn waits_stop_at_the_greatest(rt: HostRuntime) {
         (4, 50_000, 50_000_000_000),
     ] {
         let next = follows(&rt, &config, attempt, Outcome::NoReply, 0, word);
-        assert_eq!(rt; next, Next::Again(moment));
+        assert_equal(&rt, next, Next::Again(moment));
     }
 }
 
@@ -82,7 +83,7 @@ fn collectors_are_waited_for_as_they_ask(rt: HostRuntime) {
         (RetryAfter::Date(u64::MAX), 5, 300_000_000_005),
     ] {
         let next = follows(&rt, &config, 1, unavailable(after), now, 9);
-        assert_eq!(rt; next, Next::Again(moment));
+        assert_equal(&rt, next, Next::Again(moment));
     }
 }
 
@@ -95,7 +96,7 @@ fn moments_stop_at_the_last_one(rt: HostRuntime) {
         (unavailable(RetryAfter::Date(u64::MAX)), u64::MAX),
     ] {
         let next = follows(&rt, &config, 1, outcome, now, 0);
-        assert_eq!(rt; next, Next::Again(18_446_744_073_709_551_615));
+        assert_equal(&rt, next, Next::Again(18_446_744_073_709_551_615));
     }
 }
 
@@ -128,17 +129,17 @@ fn each_outcome_is_followed(rt: &impl Abort, config: &RetryConfig, attempt: u32,
         (Outcome::NoReply, again),
         (Outcome::Bad, Next::GiveUp(Cause::BadReply)),
     ] {
-        assert_eq!(rt; follows(rt, config, attempt, outcome, 3, 0), next);
+        assert_equal(rt, follows(rt, config, attempt, outcome, 3, 0), next);
     }
 }
 
 #[test]
 fn a_batch_of_one_attempt_is_not_sent_again(rt: HostRuntime) {
     let config = RetryConfig::single_attempt();
-    assert_eq!(rt; config.attempts(), 1);
+    assert_equal(&rt, config.attempts(), 1);
     let outcome = unavailable(RetryAfter::Seconds(7));
     let next = follows(&rt, &config, 1, outcome, 0, 0);
-    assert_eq!(rt; next, Next::GiveUp(Cause::Attempts));
+    assert_equal(&rt, next, Next::GiveUp(Cause::Attempts));
 }
 
 #[test]
@@ -152,9 +153,9 @@ fn settings_have_ranges(rt: HostRuntime) {
         (5, 30_000, 300_000),
     ] {
         let config = RetryConfig::new(attempts, initial_ms, max_ms).expect(&rt, "settings");
-        assert_eq!(rt; config.attempts(), attempts);
-        assert_eq!(rt; config.initial_ms(), initial_ms);
-        assert_eq!(rt; config.max_ms(), max_ms);
+        assert_equal(&rt, config.attempts(), attempts);
+        assert_equal(&rt, config.initial_ms(), initial_ms);
+        assert_equal(&rt, config.max_ms(), max_ms);
     }
     for (attempts, initial_ms, max_ms) in [
         (0, 1000, 30_000),
@@ -165,12 +166,13 @@ fn settings_have_ranges(rt: HostRuntime) {
         (5, 1000, 300_001),
     ] {
         let refused = RetryConfig::new(attempts, initial_ms, max_ms);
-        assert_eq!(rt; refused, Err(BadRetry));
+        assert_equal(&rt, refused, Err(BadRetry));
     }
     let told = format!(in rt.alloc(); "{BadRetry}").expect(&rt, "memory");
-    assert_eq!(rt; told.as_str(), BAD_RETRY);
-    assert_eq!(rt;
+    assert_equal(&rt, told.as_str(), BAD_RETRY);
+    assert_equal(
+        &rt,
         RetryConfig::new(5, 1000, 30_000),
-        Ok(RetryConfig::default())
+        Ok(RetryConfig::default()),
     );
 }

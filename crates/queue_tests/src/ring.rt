@@ -1,6 +1,7 @@
 //! Rings, their runs, and what drops the items.
 ghost use Rattle.std.specs.Prelude.{◌≡◌, false};
 
+use crate::equal::{assert_equal, assert_equal_at};
 use linked_list_allocator::LocalHeap;
 use span_ring::{MAX_QUEUE, RingFault, Run, SpanRing};
 use std::alloc::{Allocator, Global};
@@ -23,7 +24,7 @@ fn the_first_fault_is_told(rt: HostRuntime) -> Result<(), Fail> {
     ];
     for (queue, batch, want) in cases {
         let made: Result<SpanRing<u32>, RingFault> = SpanRing::new(rt.alloc(), queue, batch);
-        assert_eq!(rt; made.err(), Some(want), "at {queue}, {batch}");
+        assert_equal_at(&rt, made.err(), Some(want), (queue, batch));
     }
     Ok(())
 }
@@ -41,12 +42,12 @@ fn each_memory_that_new_wants_may_be_refused(rt: HostRuntime) -> Result<(), Fail
         let scarce = LocalHeap::new(rt.alloc(), size)?;
         match fault_of(&scarce) {
             Some(fault) => {
-                assert_eq!(rt; fault, RingFault::OutOfMemory);
+                assert_equal(&rt, fault, RingFault::OutOfMemory);
                 refused = refused.saturating_add(1);
             }
             None => made = made.saturating_add(1),
         }
-        assert_eq!(rt; scarce.used(), 0);
+        assert_equal(&rt, scarce.used(), 0);
     }
     // Room for the items that wait alone doesn't do: those of the run are wanted besides.
     assert!(rt; refused > 4 && made > 4, "{refused} refused, {made} made");
@@ -56,8 +57,8 @@ fn each_memory_that_new_wants_may_be_refused(rt: HostRuntime) -> Result<(), Fail
 #[test]
 fn the_largest_is_made(rt: HostRuntime) -> Result<(), Fail> {
     let ring: SpanRing<u32> = SpanRing::new(rt.alloc(), MAX_QUEUE, MAX_QUEUE)?;
-    assert_eq!(rt; ring.queue(), 65_536);
-    assert_eq!(rt; ring.batch(), 65_536);
+    assert_equal(&rt, ring.queue(), 65_536);
+    assert_equal(&rt, ring.batch(), 65_536);
     assert!(rt; ring.is_empty());
     Ok(())
 }
@@ -68,7 +69,7 @@ fn fill(rt: &impl Abort, ring: &mut SpanRing<u32>, items: Range<u32>)
     ensures run_out { ring.new.run_out ≡ ring.old.run_out }
 {
     for item in items {
-        assert_eq!(rt; ring.push(item), Ok(()));
+        assert_equal(rt, ring.push(item), Ok(()));
     }
 }
 
@@ -79,18 +80,18 @@ fn expect_run(rt: &impl Abort, ring: &mut SpanRing<u32>, want: &[u32])
 {
     match ring.take_run() {
         Some(run) => {
-            assert_eq!(rt; run.as_slice(), want);
-            assert_eq!(rt; run.len(), want.len());
+            assert_equal(rt, run.as_slice(), want);
+            assert_equal(rt, run.len(), want.len());
             ring.give_back(run);
         }
-        None => assert_eq!(rt; want.len(), 0),
+        None => assert_equal(rt, want.len(), 0),
     }
 }
 
 /// Asserts what `Debug` shows.
 fn assert_shown(rt: &impl Abort, alloc: Global, shown: &impl Debug, text: &str) {
     let told = format!(in alloc; "{shown:?}").expect(rt, "memory");
-    assert_eq!(rt; told.as_str(), text);
+    assert_equal(rt, told.as_str(), text);
 }
 
 #[test]
@@ -111,18 +112,18 @@ fn rings_and_runs_are_shown(rt: HostRuntime) {
 fn runs_leave_in_order(rt: HostRuntime) -> Result<(), Fail> {
     let mut ring = SpanRing::new(rt.alloc(), 5, 2)?;
     fill(&rt, &mut ring, 0..3);
-    assert_eq!(rt; ring.len(), 3);
+    assert_equal(&rt, ring.len(), 3);
     assert!(rt; !ring.run_out());
     expect_run(&rt, &mut ring, &[0, 1]);
     let mut run = ring.take_run().expect(&rt, "item 2 waits");
     fill(&rt, &mut ring, 3..8);
-    assert_eq!(rt; ring.push(8), Err(8));
+    assert_equal(&rt, ring.push(8), Err(8));
     assert!(rt; ring.run_out());
-    assert_eq!(rt; run.as_slice(), [2].as_slice());
-    assert_eq!(rt; run.room(), 2);
-    assert_eq!(rt; run.pop_front(), Some(2));
+    assert_equal(&rt, run.as_slice(), [2].as_slice());
+    assert_equal(&rt, run.room(), 2);
+    assert_equal(&rt, run.pop_front(), Some(2));
     assert!(rt; run.is_empty());
-    assert_eq!(rt; run.pop_front(), None);
+    assert_equal(&rt, run.pop_front(), None);
     ring.give_back(run);
     expect_run(&rt, &mut ring, &[3, 4]);
     expect_run(&rt, &mut ring, &[5, 6]);
@@ -134,12 +135,12 @@ fn runs_leave_in_order(rt: HostRuntime) -> Result<(), Fail> {
 #[test]
 fn a_run_leaves_its_place_in_the_queue(rt: HostRuntime) -> Result<(), Fail> {
     let mut ring = SpanRing::new(rt.alloc(), 1, 1)?;
-    assert_eq!(rt; ring.push('x'), Ok(()));
+    assert_equal(&rt, ring.push('x'), Ok(()));
     let run = ring.take_run().expect(&rt, "x waits");
-    assert_eq!(rt; ring.push('y'), Ok(()));
-    assert_eq!(rt; ring.push('z'), Err('z'));
+    assert_equal(&rt, ring.push('y'), Ok(()));
+    assert_equal(&rt, ring.push('z'), Err('z'));
     assert_both_send(&ring, &run);
-    assert_eq!(rt; run.as_slice(), ['x'].as_slice());
+    assert_equal(&rt, run.as_slice(), ['x'].as_slice());
     ring.give_back(run);
     Ok(())
 }
@@ -173,17 +174,17 @@ fn each_item_is_dropped_once(rt: HostRuntime) -> Result<(), Fail> {
         assert!(rt; ring.push(Counted(&drops)).is_ok());
         let mut run = ring.take_run().expect(&rt, "three items wait");
         drop(run.pop_front());
-        assert_eq!(rt; drops.get(), 1);
+        assert_equal(&rt, drops.get(), 1);
         ring.give_back(run);
-        assert_eq!(rt; drops.get(), 3);
+        assert_equal(&rt, drops.get(), 3);
     }
-    assert_eq!(rt; drops.get(), 3);
+    assert_equal(&rt, drops.get(), 3);
     {
         let mut ring = SpanRing::new(rt.alloc(), 5, 2)?;
         for _ in 0..5 {
             assert!(rt; ring.push(Counted(&drops)).is_ok());
         }
     }
-    assert_eq!(rt; drops.get(), 8);
+    assert_equal(&rt, drops.get(), 8);
     Ok(())
 }
