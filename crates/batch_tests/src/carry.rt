@@ -2,6 +2,7 @@
 ghost use Rattle.std.specs.Prelude.{◌≡◌};
 ghost use Rattle.batch_processor.specs.Working.{IsPrepared};
 
+use crate::equal::assert_equal;
 use crate::fixture::{END, close, config, sampled};
 use batch_processor::{
     Accounts, BatchBlank, BatchProcessor, Flushed, ManualClock, Naming, Parts, Pass, WorkEnd,
@@ -114,14 +115,18 @@ fn do_first<J: Naming, R: Wait + Abort + Clock + Copy>(
 ) {
     let spans = if matches!(task, Task::EndThree) { 3 } else { 1 };
     for ticket in 0..spans {
-        assert_eq!(rt; sampled(&rt, alloc).end(pass, END), Ended::Queued(ticket));
+        assert_equal(
+            &rt,
+            sampled(&rt, alloc).end(pass, END),
+            Ended::Queued(ticket),
+        );
     }
     if matches!(task, Task::EndWhileSending) {
         assert!(rt; is_reached(&rt, stage, SENDING, LOOKS), "nothing is sent");
-        assert_eq!(rt; sampled(&rt, alloc).end(pass, END), Ended::Queued(1));
+        assert_equal(&rt, sampled(&rt, alloc).end(pass, END), Ended::Queued(1));
     }
     if matches!(task, Task::Flush) {
-        assert_eq!(rt; pass.force_flush(), Flushed);
+        assert_equal(&rt, pass.force_flush(), Flushed);
     }
     stage.store(ANSWERED, Ordering::SeqCst);
 }
@@ -151,9 +156,9 @@ where
         }
     }
     let last = passes.last_mut().expect(&rt, "a pass");
-    assert_eq!(rt; last.shutdown(), Flushed);
+    assert_equal(&rt, last.shutdown(), Flushed);
     let first = passes.first_mut().expect(&rt, "a pass");
-    assert_eq!(rt; sampled(&rt, alloc).end(first, END), Ended::Late);
+    assert_equal(&rt, sampled(&rt, alloc).end(first, END), Ended::Late);
     passes
 }
 
@@ -167,7 +172,7 @@ where
 {
     let mut rng = WordsRng::new(Vec::new(alloc));
     let end = worker.work(exporter, &ManualClock::new(0), &mut rng, turns);
-    assert_eq!(rt; end, WorkEnd::Drained);
+    assert_equal(&rt, end, WorkEnd::Drained);
 }
 
 /// Other threads have the passes, while this one sends what they end. Then all is closed out.

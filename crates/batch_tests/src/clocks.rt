@@ -1,4 +1,5 @@
 //! The clock of the system, over readings that are listed.
+use crate::equal::assert_equal;
 use batch_processor::{Clock, ManualClock, SystemClock};
 use std::cell::Cell;
 use std::time::Duration;
@@ -40,7 +41,7 @@ fn a_clock_never_goes_back(rt: HostRuntime) {
         5_002_000_007,
         u64::MAX,
     ] {
-        assert_eq!(rt; clock.now(), want);
+        assert_equal(&rt, clock.now(), want);
     }
     let clock = SystemClock::new(rt);
     let first = clock.now();
@@ -50,9 +51,9 @@ fn a_clock_never_goes_back(rt: HostRuntime) {
 #[test]
 fn a_clock_stands_until_it_is_set(rt: HostRuntime) {
     let clock = ManualClock::new(3);
-    assert_eq!(rt; (clock.now(), clock.now()), (3, 3));
+    assert_equal(&rt, (clock.now(), clock.now()), (3, 3));
     for moment in [5, 4] {
         clock.set(moment);
-        assert_eq!(rt; clock.now(), moment);
+        assert_equal(&rt, clock.now(), moment);
     }
 }

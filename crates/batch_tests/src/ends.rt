@@ -1,6 +1,7 @@
 //! Spans that end while no batch is sent, and processors that are made and closed out.
 ghost use Rattle.std.specs.Prelude.{◌≡◌};
 
+use crate::equal::{assert_equal, assert_equal_at};
 use crate::fixture::{END, close, config, entry, root, sampled};
 use batch_desk::Totals;
 use batch_processor::{
@@ -28,11 +29,15 @@ fn pop_full<J: Naming, R: Wait + Abort + Copy>(rt: R, alloc: Global, blank: Batc
     } = made.expect(&rt, "a processor");
     let mut other = passes.pop().expect(&rt, "a pass");
     let mut pass = passes.pop().expect(&rt, "another pass");
-    assert_eq!(rt; sampled(&rt, alloc).end(&mut pass, END), Ended::Queued(0));
+    assert_equal(
+        &rt,
+        sampled(&rt, alloc).end(&mut pass, END),
+        Ended::Queued(0),
+    );
     let full = Ended::Dropped(1, Reason::QueueFull);
-    assert_eq!(rt; sampled(&rt, alloc).end(&mut pass, END), full);
-    assert_eq!(rt; other.pop_entry(), Some(entry(1, Reason::QueueFull)));
-    assert_eq!(rt; other.pop_entry(), None);
+    assert_equal(&rt, sampled(&rt, alloc).end(&mut pass, END), full);
+    assert_equal(&rt, other.pop_entry(), Some(entry(1, Reason::QueueFull)));
+    assert_equal(&rt, other.pop_entry(), None);
     passes.push(pass).expect(&rt, "memory");
     passes.push(other).expect(&rt, "memory");
     let desk = close(rt, processor, passes, worker).desk;
@@ -45,7 +50,7 @@ fn pop_full<J: Naming, R: Wait + Abort + Copy>(rt: R, alloc: Global, blank: Batc
         },
         ..Totals::default()
     };
-    assert_eq!(rt; desk.totals(), want);
+    assert_equal(&rt, desk.totals(), want);
     assert!(rt; desk.ledger().is_empty());
 }
 
@@ -67,12 +72,12 @@ fn give_back<J: Naming, R: Wait + Abort + Copy>(rt: R, alloc: Global, blank: Bat
     } = made.expect(&rt, "a processor");
     let mut last = passes.pop().expect(&rt, "a pass");
     let mut dropped = root(&rt, alloc, AlwaysOff, "");
-    assert_eq!(rt; dropped.end(&mut last, END), Ended::NotSampled);
-    assert_eq!(rt; last.force_flush(), Flushed);
-    assert_eq!(rt; last.shutdown(), Flushed);
+    assert_equal(&rt, dropped.end(&mut last, END), Ended::NotSampled);
+    assert_equal(&rt, last.force_flush(), Flushed);
+    assert_equal(&rt, last.shutdown(), Flushed);
     let mut span = sampled(&rt, alloc);
-    assert_eq!(rt; span.end(&mut last, END), Ended::Late);
-    assert_eq!(rt; span.end(&mut last, END), Ended::AlreadyEnded);
+    assert_equal(&rt, span.end(&mut last, END), Ended::Late);
+    assert_equal(&rt, span.end(&mut last, END), Ended::AlreadyEnded);
     let Missing {
         processor,
         mut passes,
@@ -81,7 +86,7 @@ fn give_back<J: Naming, R: Wait + Abort + Copy>(rt: R, alloc: Global, blank: Bat
         .close_out(passes, worker)
         .err()
         .expect(&rt, "a pass is missing");
-    assert_eq!(rt; passes.len(), 1);
+    assert_equal(&rt, passes.len(), 1);
     passes.push(last).expect(&rt, "memory");
     let desk = close(rt, processor, passes, worker).desk;
     let want = Totals {
@@ -89,7 +94,7 @@ fn give_back<J: Naming, R: Wait + Abort + Copy>(rt: R, alloc: Global, blank: Bat
         closed: true,
         ..Totals::default()
     };
-    assert_eq!(rt; desk.totals(), want);
+    assert_equal(&rt, desk.totals(), want);
 }
 
 #[test]
@@ -138,11 +143,7 @@ fn settings_are_looked_at_first(rt: HostRuntime) {
         let blank = BatchBlank::new();
         let config = config(queue, batch);
         let count = count_passes::<Brand, HostRuntime>(rt, rt.alloc(), blank, config, passes);
-        assert_eq!(rt;
-            count,
-            want,
-            "{passes} passes, {queue} wait, {batch} a batch"
-        );
+        assert_equal_at(&rt, count, want, (passes, queue, batch));
     }
     for (fault, want) in [
         (NewFault::BadPasses, "a processor has 1 to 64 passes"),
@@ -161,9 +162,13 @@ fn settings_are_looked_at_first(rt: HostRuntime) {
         (NewFault::OutOfMemory, "out of memory"),
     ] {
         let told = format!(in rt.alloc(); "{fault}").expect(&rt, "memory");
-        assert_eq!(rt; told.as_str(), want);
+        assert_equal(&rt, told.as_str(), want);
     }
     let BatchConfig { desk, retry } = BatchConfig::default();
-    assert_eq!(rt; (desk.queue, desk.batch, desk.delay_ms), (2048, 512, 5000));
-    assert_eq!(rt; retry, RetryConfig::default());
+    assert_equal(
+        &rt,
+        (desk.queue, desk.batch, desk.delay_ms),
+        (2048, 512, 5000),
+    );
+    assert_equal(&rt, retry, RetryConfig::default());
 }

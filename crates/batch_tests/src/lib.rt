@@ -10,6 +10,8 @@ mod clocks;
 #[cfg(test)]
 mod ends;
 #[cfg(test)]
+mod equal;
+#[cfg(test)]
 mod fixture;
 #[cfg(test)]
 mod memory;

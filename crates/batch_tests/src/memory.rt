@@ -1,6 +1,7 @@
 //! Processors to which memory is refused once, at each place in turn.
 ghost use Rattle.std.specs.Prelude.{◌≡◌};
 
+use crate::equal::{assert_equal, assert_equal_at};
 use crate::fixture::{END, close, config, count_spans, sampled};
 use batch_desk::FateCounts;
 use batch_processor::{BatchBlank, BatchProcessor, ManualClock, Naming, NewFault, Parts, WorkEnd};
@@ -48,32 +49,36 @@ where
     } = match made {
         Ok(parts) => parts,
         Err(fault) => {
-            assert_eq!(rt; fault, NewFault::OutOfMemory);
+            assert_equal(&rt, fault, NewFault::OutOfMemory);
             return Refused::New;
         }
     };
     let mut pass = passes.pop().expect(&rt, "a pass");
     for ticket in 0..2u64 {
         let mut span = sampled(&rt, ample);
-        assert_eq!(rt; span.end(&mut pass, END), Ended::Queued(ticket));
+        assert_equal(&rt, span.end(&mut pass, END), Ended::Queued(ticket));
     }
     passes.push(pass).expect(&rt, "room for a pass");
     let end = worker.work(&mut exporter, &ManualClock::new(0), &mut rng, FEWEST);
-    assert_eq!(rt; end, WorkEnd::TurnsSpent);
+    assert_equal(&rt, end, WorkEnd::TurnsSpent);
     let refused = match exporter.handed().len() {
         0 => Refused::Turn,
         _ => Refused::Nothing,
     };
     let end = worker.work(&mut exporter, &ManualClock::new(0), &mut rng, FEWEST);
-    assert_eq!(rt; end, WorkEnd::TurnsSpent);
+    assert_equal(&rt, end, WorkEnd::TurnsSpent);
     let totals = close(rt, processor, passes, worker).desk.totals();
-    assert_eq!(rt; (totals.accepted, totals.handed, totals.left), (2, 2, 0));
+    assert_equal(
+        &rt,
+        (totals.accepted, totals.handed, totals.left),
+        (2, 2, 0),
+    );
     let fates = FateCounts {
         delivered: 1,
         ..FateCounts::default()
     };
-    assert_eq!(rt; totals.fates, fates);
-    assert_eq!(rt; count_spans(&rt, ample, exporter.handed()), 2);
+    assert_equal(&rt, totals.fates, fates);
+    assert_equal(&rt, count_spans(&rt, ample, exporter.handed()), 2);
     refused
 }
 
@@ -93,7 +98,7 @@ fn what_memory_is_refused_is_done_later(rt: HostRuntime) {
             Refused::Turn => turns = turns.saturating_add(1),
             Refused::Nothing => nothing = nothing.saturating_add(1),
         }
-        assert_eq!(rt; heap.used(), 0, "{fail_index}");
+        assert_equal_at(&rt, heap.used(), 0, fail_index);
     }
     assert!(rt;
         new > 4 && turns > 4 && nothing > 4,

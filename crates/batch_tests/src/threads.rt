@@ -2,6 +2,7 @@
 ghost use Rattle.std.specs.Prelude.{◌≡◌};
 
 use crate::carry::{Plan, Task, carry};
+use crate::equal::assert_equal;
 use crate::fixture::{count_spans, exporter};
 use batch_desk::FateCounts;
 use batch_processor::{BatchBlank, Naming};
@@ -42,27 +43,29 @@ where
     let accounts = carry::<J, R, _>(rt, alloc, blank, plan, &stage, &mut exporter);
     let (totals, ledger) = (accounts.desk.totals(), accounts.desk.ledger());
     assert!(rt; totals.closed);
-    assert_eq!(rt; (totals.left, totals.accepted), (0, totals.handed));
-    assert_eq!(rt; (totals.taken, totals.late >= 1), (totals.handed, true));
-    assert_eq!(rt;
+    assert_equal(&rt, (totals.left, totals.accepted), (0, totals.handed));
+    assert_equal(&rt, (totals.taken, totals.late >= 1), (totals.handed, true));
+    assert_equal(
+        &rt,
         count_spans(&rt, alloc, exporter.handed()) as u64,
-        totals.handed
+        totals.handed,
     );
     let fates = FateCounts {
         delivered: exporter.handed().len() as u64,
         ..FateCounts::default()
     };
-    assert_eq!(rt; totals.fates, fates);
+    assert_equal(&rt, totals.fates, fates);
     let dropped = DropCounts {
         queue_full: ledger.len(),
         ..DropCounts::default()
     };
-    assert_eq!(rt; totals.dropped, dropped);
+    assert_equal(&rt, totals.dropped, dropped);
     assert!(rt; ledger.iter().all(|entry| entry.reason == Reason::QueueFull));
     let counted = totals.handed.saturating_add(ledger.len());
-    assert_eq!(rt;
+    assert_equal(
+        &rt,
         counted.saturating_add(totals.late),
-        ended.saturating_add(1)
+        ended.saturating_add(1),
     );
     (totals.handed, totals.late)
 }
@@ -72,7 +75,7 @@ fn four_threads(rt: HostRuntime) {
     let (blank, task) = (BatchBlank::new(), Task::EndMany(100));
     let (handed, late) = balance::<Brand, HostRuntime>(rt, rt.alloc(), blank, 4, task, 400);
     assert!(rt; handed >= 64, "{handed} were handed");
-    assert_eq!(rt; late, 1);
+    assert_equal(&rt, late, 1);
 }
 
 #[test]
@@ -80,7 +83,7 @@ fn each_of_63_000_spans_is_accounted_for(rt: HostRuntime) {
     let (blank, task) = (BatchBlank::new(), Task::EndMany(1000));
     let (handed, late) = balance::<Brand, HostRuntime>(rt, rt.alloc(), blank, 63, task, 63_000);
     assert!(rt; handed >= 64, "{handed} were handed");
-    assert_eq!(rt; late, 1);
+    assert_equal(&rt, late, 1);
 }
 
 #[test]
@@ -95,5 +98,5 @@ fn a_shutdown_while_spans_end_loses_none(rt: HostRuntime) {
 fn late_only_after(rt: HostRuntime) {
     let (blank, task) = (BatchBlank::new(), Task::EndThree);
     let counts = balance::<Brand, HostRuntime>(rt, rt.alloc(), blank, 2, task, 3);
-    assert_eq!(rt; counts, (3, 1));
+    assert_equal(&rt, counts, (3, 1));
 }

@@ -2,6 +2,7 @@
 ghost use Rattle.std.specs.Prelude.{◌≡◌, None};
 ghost use Rattle.batch_processor.specs.Working.{IsPrepared};
 
+use crate::equal::{assert_equal, assert_equal_at};
 use crate::fixture::{
     END, SECOND, close, config, count_body, count_spans, entry, exporter, root, sampled,
 };
@@ -47,33 +48,54 @@ where
         mut worker,
     } = made.expect(&rt, "a processor");
     let mut pass = passes.pop().expect(&rt, "a pass");
-    assert_eq!(rt; sampled(&rt, alloc).end(&mut pass, END), Ended::Queued(0));
+    assert_equal(
+        &rt,
+        sampled(&rt, alloc).end(&mut pass, END),
+        Ended::Queued(0),
+    );
     passes.push(pass).expect(&rt, "memory");
     let clock = ManualClock::new(2 * SECOND - 1);
     let end = worker.work(&mut exporter, &clock, &mut rng, 10);
-    assert_eq!(rt; (end, exporter.handed().len()), (WorkEnd::TurnsSpent, 0));
+    assert_equal(
+        &rt,
+        (end, exporter.handed().len()),
+        (WorkEnd::TurnsSpent, 0),
+    );
     clock.set(2 * SECOND);
     let end = worker.work(&mut exporter, &clock, &mut rng, 4);
-    assert_eq!(rt; (end, exporter.handed().len()), (WorkEnd::TurnsSpent, 1));
+    assert_equal(
+        &rt,
+        (end, exporter.handed().len()),
+        (WorkEnd::TurnsSpent, 1),
+    );
     clock.set(4 * SECOND - 1);
     let end = worker.work(&mut exporter, &clock, &mut rng, 100);
-    assert_eq!(rt; (end, exporter.handed().len()), (WorkEnd::TurnsSpent, 1));
+    assert_equal(
+        &rt,
+        (end, exporter.handed().len()),
+        (WorkEnd::TurnsSpent, 1),
+    );
     clock.set(4 * SECOND);
     let end = worker.work(&mut exporter, &clock, &mut rng, 10);
-    assert_eq!(rt; (end, exporter.handed().len()), (WorkEnd::TurnsSpent, 2));
+    assert_equal(
+        &rt,
+        (end, exporter.handed().len()),
+        (WorkEnd::TurnsSpent, 2),
+    );
     let desk = close(rt, processor, passes, worker).desk;
-    assert_eq!(rt;
+    assert_equal(
+        &rt,
         (desk.totals().handed, desk.totals().fates.delivered),
-        (1, 1)
+        (1, 1),
     );
     for (attempt, (number, outcome)) in exporter
         .handed()
         .iter()
         .zip([(1, LATER), (2, Outcome::Delivered)])
     {
-        assert_eq!(rt; (attempt.number, attempt.attempt), (1, number));
-        assert_eq!(rt; attempt.outcome, outcome);
-        assert_eq!(rt; count_body(&rt, alloc, attempt.body.as_slice()), (1, 1));
+        assert_equal(&rt, (attempt.number, attempt.attempt), (1, number));
+        assert_equal(&rt, attempt.outcome, outcome);
+        assert_equal(&rt, count_body(&rt, alloc, attempt.body.as_slice()), (1, 1));
     }
 }
 
@@ -99,16 +121,20 @@ where
         mut worker,
     } = made.expect(&rt, "a processor");
     let mut last = passes.pop().expect(&rt, "a pass");
-    assert_eq!(rt; sampled(&rt, alloc).end(&mut last, END), Ended::Queued(0));
+    assert_equal(
+        &rt,
+        sampled(&rt, alloc).end(&mut last, END),
+        Ended::Queued(0),
+    );
     let end = worker.work(&mut exporter, &ManualClock::new(0), &mut rng, 1);
-    assert_eq!(rt; end, WorkEnd::TurnsSpent);
+    assert_equal(&rt, end, WorkEnd::TurnsSpent);
     let told = format!(in alloc; "{processor:?} {last:?} {worker:?}").expect(&rt, "memory");
     let want = "BatchProcessor { passes: 2, .. } Pass { .. } WorkerPass { .. }";
-    assert_eq!(rt; told.as_str(), want);
+    assert_equal(&rt, told.as_str(), want);
     let missing = processor.close_out(passes, worker).err();
     missing.expect(&rt, "a pass is missing").discard();
-    assert_eq!(rt; last.pop_entry(), Some(entry(0, Reason::Abandoned)));
-    assert_eq!(rt; last.pop_entry(), None);
+    assert_equal(&rt, last.pop_entry(), Some(entry(0, Reason::Abandoned)));
+    assert_equal(&rt, last.pop_entry(), None);
 }
 
 #[test]
@@ -151,7 +177,7 @@ fn end_spans<J: Naming, R: Wait + Abort + Copy>(
     for _ in 0..job.spans {
         for schema in job.schemas {
             let mut span = root(&rt, alloc, AlwaysOn, schema);
-            assert_eq!(rt; span.end(pass, END), Ended::Queued(ticket));
+            assert_equal(&rt, span.end(pass, END), Ended::Queued(ticket));
             ticket = ticket.saturating_add(1);
         }
     }
@@ -175,7 +201,7 @@ where
     let mut rng = WordsRng::new(Vec::new(alloc));
     for _ in 0..job.calls {
         let end = worker.work(exporter, &clock, &mut rng, job.turns);
-        assert_eq!(rt; end, WorkEnd::TurnsSpent);
+        assert_equal(&rt, end, WorkEnd::TurnsSpent);
     }
 }
 
@@ -230,11 +256,11 @@ fn one_turn_at_a_time_sends_the_same(rt: HostRuntime) {
     }
     let (singly, one_by_one) = done.pop().expect(&rt, "the second job");
     let (at_once, all) = done.pop().expect(&rt, "the first job");
-    assert_eq!(rt; singly.desk.totals(), at_once.desk.totals());
+    assert_equal(&rt, singly.desk.totals(), at_once.desk.totals());
     assert!(rt; one_by_one.handed() == all.handed(), "other batches");
     // The first batch takes 8 turns, for three attempts, and each other one 4.
-    assert_eq!(rt; all.handed().len(), 251);
-    assert_eq!(rt; count_spans(&rt, rt.alloc(), all.handed()), 747);
+    assert_equal(&rt, all.handed().len(), 251);
+    assert_equal(&rt, count_spans(&rt, rt.alloc(), all.handed()), 747);
 }
 
 /// How a batch of two spans ends that is in hand behind so many turns.
@@ -252,16 +278,16 @@ fn a_batch_in_hand_is_abandoned(rt: HostRuntime) {
         let blank = BatchBlank::new();
         let (accounts, exporter) = do_job::<Brand, HostRuntime>(rt, rt.alloc(), blank, &job);
         let totals = accounts.desk.totals();
-        assert_eq!(rt; exporter.handed().len(), attempts, "behind {turns}");
-        assert_eq!(rt; totals.dropped.abandoned, abandoned, "behind {turns}");
-        assert_eq!(rt; totals.handed + abandoned, 2, "behind {turns}");
-        assert_eq!(rt; totals.fates.abandoned, attempts as u64, "behind {turns}");
+        assert_equal_at(&rt, exporter.handed().len(), attempts, turns);
+        assert_equal_at(&rt, totals.dropped.abandoned, abandoned, turns);
+        assert_equal_at(&rt, totals.handed.saturating_add(abandoned), 2, turns);
+        assert_equal_at(&rt, totals.fates.abandoned, attempts as u64, turns);
         let mut ticket = abandoned;
         for named in accounts.desk.ledger().iter() {
             ticket = ticket.saturating_sub(1);
-            assert_eq!(rt; *named, entry(ticket, Reason::Abandoned));
+            assert_equal(&rt, *named, entry(ticket, Reason::Abandoned));
         }
-        assert_eq!(rt; accounts.desk.ledger().len(), abandoned);
+        assert_equal(&rt, accounts.desk.ledger().len(), abandoned);
     }
 }
 
@@ -277,10 +303,10 @@ fn two_providers_feed_one_processor(rt: HostRuntime) {
     };
     let blank = BatchBlank::new();
     let (accounts, exporter) = do_job::<Brand, HostRuntime>(rt, rt.alloc(), blank, &job);
-    assert_eq!(rt; accounts.desk.totals().fates.delivered, 1);
+    assert_equal(&rt, accounts.desk.totals().fates.delivered, 1);
     assert_eq!(rt; exporter.handed().len(), 1);
     let body = exporter.handed()[0].body.as_slice();
-    assert_eq!(rt; count_body(&rt, rt.alloc(), body), (2, 6));
+    assert_equal(&rt, count_body(&rt, rt.alloc(), body), (2, 6));
 }
 
 #[test]
@@ -296,13 +322,14 @@ fn large_batches_are_sent_whole(rt: HostRuntime) {
     let blank = BatchBlank::new();
     let (accounts, exporter) = do_job::<Brand, HostRuntime>(rt, rt.alloc(), blank, &job);
     let totals = accounts.desk.totals();
-    assert_eq!(rt; (totals.handed, totals.fates.delivered), (4096, 2));
-    assert_eq!(rt; exporter.handed().len(), 2);
+    assert_equal(&rt, (totals.handed, totals.fates.delivered), (4096, 2));
+    assert_equal(&rt, exporter.handed().len(), 2);
     for attempt in exporter.handed() {
         assert!(rt; attempt.body.len() > 65_536);
-        assert_eq!(rt;
+        assert_equal(
+            &rt,
             count_body(&rt, rt.alloc(), attempt.body.as_slice()),
-            (1, 2048)
+            (1, 2048),
         );
     }
 }

@@ -2,6 +2,7 @@
 ghost use Rattle.std.specs.Prelude.{◌≡◌};
 
 use crate::carry::{ANSWERED, LOOKS, Plan, SENDING, Task, carry, is_reached};
+use crate::equal::assert_equal;
 use batch_processor::{BatchBlank, Naming};
 use otlp_ids::OutOfMemory;
 use retry_core::Outcome;
@@ -76,7 +77,7 @@ where
         turns: 2000,
     };
     let accounts = carry::<J, R, _>(rt, alloc, blank, plan, &stage, &mut exporter);
-    assert_eq!(rt; accounts.desk.totals().late, 1);
+    assert_equal(&rt, accounts.desk.totals().late, 1);
     (exporter.sent, exporter.seen)
 }
 
@@ -84,12 +85,12 @@ where
 fn end_while_sending(rt: HostRuntime) {
     let (blank, task) = (BatchBlank::new(), Task::EndWhileSending);
     let seen = watch::<Brand, HostRuntime>(rt, rt.alloc(), blank, 1, task, LOOKS);
-    assert_eq!(rt; seen, (2, 2));
+    assert_equal(&rt, seen, (2, 2));
 }
 
 #[test]
 fn flush_waits(rt: HostRuntime) {
     let (blank, task) = (BatchBlank::new(), Task::Flush);
     let seen = watch::<Brand, HostRuntime>(rt, rt.alloc(), blank, 4, task, 10_000);
-    assert_eq!(rt; seen, (1, 0));
+    assert_equal(&rt, seen, (1, 0));
 }
