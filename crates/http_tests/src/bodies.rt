@@ -1,5 +1,6 @@
 //! Bodies of replies, and replies that are cut, fail or find no memory.
 
+use crate::equal::assert_equal;
 use crate::fixture::{BODY, HEAD, assert_body, assert_no_body, joined, read, reply_of, wire};
 use failing_allocator::FailingAllocator;
 use linked_list_allocator::LocalHeap;
@@ -11,7 +12,7 @@ use std::process::Abort;
 fn assert_refused(rt: &impl Abort, alloc: Global, fields: &str, cause: HttpFault) {
     let text = format!(in alloc; "HTTP/1.1 200 OK\r\n{fields}\r\nabc").expect(rt, "memory");
     let reply = reply_of(rt, alloc, text.as_bytes());
-    assert_eq!(rt; reply.status, 200);
+    assert_equal(rt, reply.status, 200);
     assert_no_body(rt, &reply, cause);
 }
 
@@ -91,7 +92,7 @@ fn a_body_has_a_limit(rt: HostRuntime) {
     let mut over = wire(&rt, alloc, &text, 65_536, FailingCalls::Never);
     let reply = read(alloc, &mut over).expect(&rt, "a reply");
     assert_no_body(&rt, &reply, HttpFault::TooLarge);
-    assert_eq!(rt; over.left().len(), 9);
+    assert_equal(&rt, over.left().len(), 9);
 }
 
 #[test]
@@ -100,7 +101,7 @@ fn a_body_that_is_cut_has_ended(rt: HostRuntime) {
     for size in 0..BODY.len() {
         let front = BODY.get(..size).expect(&rt, "a front");
         let reply = reply_of(&rt, alloc, &joined(&rt, alloc, HEAD, front));
-        assert_eq!(rt; reply.status, 200);
+        assert_equal(&rt, reply.status, 200);
         assert_no_body(&rt, &reply, HttpFault::Ended);
     }
 }
@@ -158,7 +159,7 @@ fn is_refused(rt: &impl Abort, alloc: Global, fail_index: u64) -> bool {
         },
         Err(fault) => fault == HttpFault::OutOfMemory,
     };
-    assert_eq!(rt; is_refused, scarce.has_failed());
+    assert_equal(rt, is_refused, scarce.has_failed());
     is_refused
 }
 
@@ -187,6 +188,6 @@ fn a_fault_is_told(rt: HostRuntime) {
     ];
     for (fault, text) in faults {
         let told = format!(in rt.alloc(); "{fault}").expect(&rt, "memory");
-        assert_eq!(rt; told.as_str(), text);
+        assert_equal(&rt, told.as_str(), text);
     }
 }

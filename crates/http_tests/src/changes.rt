@@ -1,5 +1,6 @@
 //! Replies in which a seeded generator has changed bytes.
 
+use crate::equal::assert_equal;
 use crate::fixture::{BODY, are_same, joined, read, wire};
 use otlp_http::{FailingCalls, HttpFault, Reply};
 use rand_core::Rng;
@@ -51,6 +52,6 @@ fn a_changed_reply_is_read_the_same_in_parts(rt: HostRuntime) {
         let answer = read(alloc, &mut whole);
         assert!(rt; is_named(&answer));
         assert!(rt; are_same(&answer, &read(alloc, &mut parts)));
-        assert_eq!(rt; whole.left().len(), parts.left().len());
+        assert_equal(&rt, whole.left().len(), parts.left().len());
     }
 }

@@ -1,5 +1,6 @@
 //! Readers and writers that count their failures.
 
+use crate::equal::assert_equal;
 use failing_allocator::FailingAllocator;
 use linked_list_allocator::LocalHeap;
 use otlp_http::{Counted, DeviceFailed, FailingCalls, FailingWire, FaultRead, FaultWrite};
@@ -47,8 +48,8 @@ fn a_reader_of_std_counts_its_failures(rt: HostRuntime) {
         let mut reader = Counted::new(Broken::new(kind));
         for count in 1..3u64 {
             let failed = FaultRead::read(&mut reader, &mut [0; 4]);
-            assert_eq!(rt; failed, Err(DeviceFailed));
-            assert_eq!(rt; FaultRead::failures(&reader), count);
+            assert_equal(&rt, failed, Err(DeviceFailed));
+            assert_equal(&rt, FaultRead::failures(&reader), count);
         }
     }
 }
@@ -58,10 +59,10 @@ fn a_write_of_no_byte_is_a_failure(rt: HostRuntime) {
     for kind in KINDS {
         let mut writer = Counted::new(Broken::new(kind));
         for count in 1..3u64 {
-            assert_eq!(rt; FaultWrite::write(&mut writer, b"a"), Err(DeviceFailed));
-            assert_eq!(rt; FaultWrite::failures(&writer), count);
+            assert_equal(&rt, FaultWrite::write(&mut writer, b"a"), Err(DeviceFailed));
+            assert_equal(&rt, FaultWrite::failures(&writer), count);
         }
-        assert_eq!(rt; writer.into_inner().writes, 2);
+        assert_equal(&rt, writer.into_inner().writes, 2);
     }
 }
 
@@ -69,15 +70,15 @@ fn a_write_of_no_byte_is_a_failure(rt: HostRuntime) {
 fn bytes_pass_through(rt: HostRuntime) {
     let mut reader = Counted::new(b"abc".as_slice());
     let mut room = [0; 2];
-    assert_eq!(rt; FaultRead::read(&mut reader, &mut room), Ok(2));
-    assert_eq!(rt; room, *b"ab");
-    assert_eq!(rt; FaultRead::read(&mut reader, &mut room), Ok(1));
-    assert_eq!(rt; room, *b"cb");
-    assert_eq!(rt; FaultRead::read(&mut reader, &mut room), Ok(0));
-    assert_eq!(rt; FaultRead::failures(&reader), 0);
+    assert_equal(&rt, FaultRead::read(&mut reader, &mut room), Ok(2));
+    assert_equal(&rt, room, *b"ab");
+    assert_equal(&rt, FaultRead::read(&mut reader, &mut room), Ok(1));
+    assert_equal(&rt, room, *b"cb");
+    assert_equal(&rt, FaultRead::read(&mut reader, &mut room), Ok(0));
+    assert_equal(&rt, FaultRead::failures(&reader), 0);
     let mut writer = Counted::new(Vec::new(rt.alloc()));
-    assert_eq!(rt; FaultWrite::write(&mut writer, b"xy"), Ok(2));
-    assert_eq!(rt; FaultWrite::failures(&writer), 0);
+    assert_equal(&rt, FaultWrite::write(&mut writer, b"xy"), Ok(2));
+    assert_equal(&rt, FaultWrite::failures(&writer), 0);
     assert!(rt; writer.into_inner().as_slice() == b"xy".as_slice());
 }
 
@@ -86,18 +87,18 @@ fn a_wire_gives_its_bytes_and_fails_as_told(rt: HostRuntime) {
     let input = Vec::from_slice(rt.alloc(), b"abcde").expect(&rt, "memory");
     let mut wire = FailingWire::new(input, Vec::new(rt.alloc()), 2, FailingCalls::Once(1));
     let mut room = [0; 4];
-    assert_eq!(rt; wire.read(&mut room), Ok(2));
-    assert_eq!(rt; room, *b"ab\0\0");
-    assert_eq!(rt; wire.read(&mut room), Err(DeviceFailed));
+    assert_equal(&rt, wire.read(&mut room), Ok(2));
+    assert_equal(&rt, room, *b"ab\0\0");
+    assert_equal(&rt, wire.read(&mut room), Err(DeviceFailed));
     assert!(rt; wire.left() == b"cde".as_slice());
-    assert_eq!(rt; wire.write(b"xyz"), Ok(2));
+    assert_equal(&rt, wire.write(b"xyz"), Ok(2));
     assert!(rt; wire.taken() == b"xy".as_slice());
-    assert_eq!(rt; wire.read(&mut [0; 1]), Ok(1));
-    assert_eq!(rt; wire.read(&mut room), Ok(2));
-    assert_eq!(rt; room, *b"de\0\0");
-    assert_eq!(rt; wire.read(&mut room), Ok(0));
-    assert_eq!(rt; FaultRead::failures(&wire), 1);
-    assert_eq!(rt; FaultWrite::failures(&wire), 1);
+    assert_equal(&rt, wire.read(&mut [0; 1]), Ok(1));
+    assert_equal(&rt, wire.read(&mut room), Ok(2));
+    assert_equal(&rt, room, *b"de\0\0");
+    assert_equal(&rt, wire.read(&mut room), Ok(0));
+    assert_equal(&rt, FaultRead::failures(&wire), 1);
+    assert_equal(&rt, FaultWrite::failures(&wire), 1);
 }
 
 #[test]
@@ -106,16 +107,16 @@ fn a_write_without_memory_is_a_failure(rt: HostRuntime) {
     let scarce = FailingAllocator::new(&heap, 0);
     let output = Vec::new(&scarce);
     let mut wire = FailingWire::new(Vec::new(&scarce), output, 4, FailingCalls::Never);
-    assert_eq!(rt; wire.write(b"ab"), Err(DeviceFailed));
+    assert_equal(&rt, wire.write(b"ab"), Err(DeviceFailed));
     assert!(rt; wire.taken().is_empty());
-    assert_eq!(rt; wire.write(b"ab"), Ok(2));
+    assert_equal(&rt, wire.write(b"ab"), Ok(2));
     assert!(rt; wire.taken() == b"ab".as_slice());
-    assert_eq!(rt; FaultWrite::failures(&wire), 1);
+    assert_equal(&rt, FaultWrite::failures(&wire), 1);
 }
 
 #[test]
 fn a_failure_is_told(rt: HostRuntime) {
     let failed = DeviceFailed;
     let told = format!(in rt.alloc(); "{failed}").expect(&rt, "memory");
-    assert_eq!(rt; told.as_str(), "the device failed");
+    assert_equal(&rt, told.as_str(), "the device failed");
 }

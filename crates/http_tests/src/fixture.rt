@@ -1,5 +1,6 @@
 //! Replies that tests read.
 
+use crate::equal::assert_equal;
 use otlp_http::{FailingCalls, FailingWire, HeadLimits, HttpFault, Reply, read_reply};
 use std::alloc::Global;
 use std::process::Abort;
@@ -43,7 +44,7 @@ pub(crate) fn read_text(rt: &impl Abort, alloc: Global, text: &[u8]) -> Result<R
     let answer = read(alloc, &mut whole);
     let other = read(alloc, &mut bytes);
     assert!(rt; are_same(&answer, &other));
-    assert_eq!(rt; whole.left().len(), bytes.left().len());
+    assert_equal(rt, whole.left().len(), bytes.left().len());
     answer
 }
 
@@ -100,6 +101,6 @@ pub(crate) fn assert_body(rt: &impl Abort, reply: &Reply, body: &[u8]) {
 pub(crate) fn assert_no_body(rt: &impl Abort, reply: &Reply, cause: HttpFault) {
     match &reply.body {
         Ok(_) => panic!(rt; "a body"),
-        Err(fault) => assert_eq!(rt; *fault, cause),
+        Err(fault) => assert_equal(rt, *fault, cause),
     }
 }

@@ -1,5 +1,6 @@
 //! Heads of replies, whole and broken.
 
+use crate::equal::{assert_equal, assert_equal_at};
 use crate::fixture::{
     BODY, HEAD, assert_body, assert_no_body, fault_of, joined, read, reply_of, wire,
 };
@@ -12,7 +13,7 @@ use std::process::Abort;
 fn asked_wait(rt: &impl Abort, alloc: Global, fields: &str) -> Option<RetryAfter> {
     let text = format!(in alloc; "HTTP/1.1 503 Busy\r\n{fields}\r\n").expect(rt, "memory");
     let reply = reply_of(rt, alloc, text.as_bytes());
-    assert_eq!(rt; reply.status, 503);
+    assert_equal(rt, reply.status, 503);
     reply.retry_after
 }
 
@@ -54,30 +55,30 @@ fn a_head_has_a_status(rt: HostRuntime) {
     for status in [200u16, 204, 299, 304, 400, 429, 503, 999, 99] {
         let text = format!(in alloc; "HTTP/1.1 {status:03} Any\r\n\r\n").expect(&rt, "memory");
         let reply = reply_of(&rt, alloc, text.as_bytes());
-        assert_eq!(rt; reply.status, status);
+        assert_equal(&rt, reply.status, status);
         assert!(rt; reply.retry_after.is_none());
         assert_body(&rt, &reply, b"");
     }
-    assert_eq!(rt; reply_of(&rt, alloc, b"HTTP/1.0 200\n\n").status, 200);
+    assert_equal(&rt, reply_of(&rt, alloc, b"HTTP/1.0 200\n\n").status, 200);
 }
 
 #[test]
 fn the_first_wait_counts(rt: HostRuntime) {
     let alloc = rt.alloc();
     let two = asked_wait(&rt, alloc, "Retry-After: 7\r\nRetry-After: 9\r\n");
-    assert_eq!(rt; two, Some(RetryAfter::Seconds(7)));
+    assert_equal(&rt, two, Some(RetryAfter::Seconds(7)));
     let spaces = asked_wait(&rt, alloc, "retry-AFTER:\t 007 \t\r\n");
-    assert_eq!(rt; spaces, Some(RetryAfter::Seconds(7)));
+    assert_equal(&rt, spaces, Some(RetryAfter::Seconds(7)));
     let most = asked_wait(&rt, alloc, "Retry-After: 18446744073709551614\r\n");
-    assert_eq!(rt; most, Some(RetryAfter::Seconds(u64::MAX - 1)));
+    assert_equal(&rt, most, Some(RetryAfter::Seconds(u64::MAX - 1)));
     let over = asked_wait(&rt, alloc, "Retry-After: 18446744073709551616\r\n");
-    assert_eq!(rt; over, Some(RetryAfter::Seconds(u64::MAX)));
+    assert_equal(&rt, over, Some(RetryAfter::Seconds(u64::MAX)));
     let date = asked_wait(&rt, alloc, "Retry-After: Sun, 06 Nov 1994 08:49:37 GMT\r\n");
-    assert_eq!(rt; date, Some(RetryAfter::Date(784_111_777)));
+    assert_equal(&rt, date, Some(RetryAfter::Date(784_111_777)));
     for other in ["soon", "", "-1", "+1", "1.5", "1, 2", "Sun, 06 Nov 1994"] {
         let fields = format!(in alloc; "Retry-After: {other}\r\nRetry-After: 9\r\n");
         let fields = fields.expect(&rt, "memory");
-        assert_eq!(rt; asked_wait(&rt, alloc, fields.as_str()), None, "{other}");
+        assert_equal_at(&rt, asked_wait(&rt, alloc, fields.as_str()), None, other);
     }
 }
 
@@ -86,12 +87,12 @@ fn sixteen_interim_heads_are_skipped(rt: HostRuntime) {
     let alloc = rt.alloc();
     for count in [0usize, 1, 16] {
         let reply = reply_of(&rt, alloc, &after_interims(&rt, alloc, count));
-        assert_eq!(rt; reply.status, 200);
+        assert_equal(&rt, reply.status, 200);
         assert!(rt; reply.retry_after.is_none());
         assert_body(&rt, &reply, BODY);
     }
     let fault = fault_of(&rt, alloc, &after_interims(&rt, alloc, 17));
-    assert_eq!(rt; fault, HttpFault::BadHead);
+    assert_equal(&rt, fault, HttpFault::BadHead);
 }
 
 #[test]
@@ -106,7 +107,7 @@ fn what_begins_no_head_is_bad(rt: HostRuntime) {
         b"HTTP/1.1 200 OK\r\n folded\r\n\r\n",
     ];
     for text in texts {
-        assert_eq!(rt; fault_of(&rt, alloc, text), HttpFault::BadHead);
+        assert_equal(&rt, fault_of(&rt, alloc, text), HttpFault::BadHead);
     }
 }
 
@@ -115,24 +116,25 @@ fn a_head_that_is_cut_has_ended(rt: HostRuntime) {
     let alloc = rt.alloc();
     for size in 0..HEAD.len() {
         let front = HEAD.get(..size).expect(&rt, "a front");
-        assert_eq!(rt; fault_of(&rt, alloc, front), HttpFault::Ended);
+        assert_equal(&rt, fault_of(&rt, alloc, front), HttpFault::Ended);
     }
 }
 
 #[test]
 fn a_head_has_limits(rt: HostRuntime) {
     let alloc = rt.alloc();
-    assert_eq!(rt;
+    assert_equal(
+        &rt,
         reply_of(&rt, alloc, &with_fields(&rt, alloc, 64)).status,
-        204
+        204,
     );
     let fields = fault_of(&rt, alloc, &with_fields(&rt, alloc, 65));
-    assert_eq!(rt; fields, HttpFault::TooLarge);
+    assert_equal(&rt, fields, HttpFault::TooLarge);
     let most = with_bytes(&rt, alloc, 16_384);
-    assert_eq!(rt; most.len(), 16_384);
-    assert_eq!(rt; reply_of(&rt, alloc, &most).status, 204);
+    assert_equal(&rt, most.len(), 16_384);
+    assert_equal(&rt, reply_of(&rt, alloc, &most).status, 204);
     let bytes = fault_of(&rt, alloc, &with_bytes(&rt, alloc, 16_385));
-    assert_eq!(rt; bytes, HttpFault::TooLarge);
+    assert_equal(&rt, bytes, HttpFault::TooLarge);
 }
 
 #[test]
@@ -163,7 +165,7 @@ fn limits_may_be_lower(rt: HostRuntime) {
             Err(HttpFault::TooLarge)
         )
     );
-    assert_eq!(rt; bytes.left().len(), 8);
+    assert_equal(&rt, bytes.left().len(), 8);
     let body = HeadLimits {
         head: 38,
         fields: 1,
@@ -184,6 +186,6 @@ fn nothing_behind_a_reply_is_read(rt: HostRuntime) {
         let reply = read(alloc, &mut wire).expect(&rt, "a reply");
         assert_body(&rt, &reply, BODY);
         assert!(rt; wire.left() == b"HTTP".as_slice());
-        assert_eq!(rt; FaultRead::failures(&wire), 0);
+        assert_equal(&rt, FaultRead::failures(&wire), 0);
     }
 }

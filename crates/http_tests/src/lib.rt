@@ -8,6 +8,8 @@ mod changes;
 #[cfg(test)]
 mod devices;
 #[cfg(test)]
+mod equal;
+#[cfg(test)]
 mod fixture;
 #[cfg(test)]
 mod heads;

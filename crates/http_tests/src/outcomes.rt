@@ -1,5 +1,6 @@
 //! What comes of attempts, by replies that are read.
 
+use crate::equal::assert_equal;
 use crate::fixture::{BODY, HEAD, joined, read_text};
 use otlp_http::outcome_of;
 use retry_core::{Outcome, RetryAfter};
@@ -8,7 +9,7 @@ use std::process::Abort;
 
 /// Checks what a text that is read as a reply means.
 fn assert_means(rt: &impl Abort, alloc: Global, text: &[u8], outcome: Outcome) {
-    assert_eq!(rt; outcome_of(&read_text(rt, alloc, text)), outcome);
+    assert_equal(rt, outcome_of(&read_text(rt, alloc, text)), outcome);
 }
 
 /// Checks what a reply with status 503 and these fields asks for.

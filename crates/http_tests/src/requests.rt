@@ -1,5 +1,6 @@
 //! Requests that are written whole, and requests whose writer fails.
 
+use crate::equal::{assert_equal, assert_equal_at};
 use otlp_http::{
     Counted, DEFAULT_PATH, DEFAULT_PORT, FailingCalls, FailingWire, FaultWrite, Stopped, Target,
     write_request,
@@ -34,7 +35,7 @@ fn local(rt: &impl Abort, alloc: Global) -> Target {
 fn request(rt: &impl Abort, alloc: Global) -> Vec<u8> {
     let mut text = Vec::from_slice(alloc, HEAD.as_bytes()).expect(rt, "memory");
     text.extend_from_slice(BODY).expect(rt, "memory");
-    assert_eq!(rt; text.len(), 191);
+    assert_equal(rt, text.len(), 191);
     text
 }
 
@@ -51,9 +52,9 @@ fn a_request_is_its_head_and_the_body(rt: HostRuntime) {
     let text = request(&rt, alloc);
     for most in [1usize, 2, 64, 65_536] {
         let mut wire = wire(&rt, alloc, most, FailingCalls::Never);
-        assert_eq!(rt; write_request(&mut wire, &target, BODY), Ok(()));
+        assert_equal(&rt, write_request(&mut wire, &target, BODY), Ok(()));
         assert!(rt; wire.taken() == text.as_slice(), "{most}");
-        assert_eq!(rt; FaultWrite::failures(&wire), 0);
+        assert_equal(&rt, FaultWrite::failures(&wire), 0);
     }
 }
 
@@ -62,7 +63,7 @@ fn an_empty_body_has_length_0(rt: HostRuntime) {
     let alloc = rt.alloc();
     let target = Target::new(alloc, "a", 80, "/").expect(&rt, "a target");
     let mut output = Counted::new(Vec::new(alloc));
-    assert_eq!(rt; write_request(&mut output, &target, b""), Ok(()));
+    assert_equal(&rt, write_request(&mut output, &target, b""), Ok(()));
     let text = output.into_inner();
     let head = concat!(
         "POST / HTTP/1.1\r\nHost: a:80\r\nContent-Type: application/x-protobuf\r\n",
@@ -80,13 +81,13 @@ fn a_request_stops_at_each_write_that_fails(rt: HostRuntime) {
         for failing in [FailingCalls::Once(at), FailingCalls::From(at)] {
             let mut wire = wire(&rt, alloc, 1, failing);
             let stopped = write_request(&mut wire, &target, BODY);
-            assert_eq!(rt; stopped, Err(Stopped { sent: at }));
+            assert_equal(&rt, stopped, Err(Stopped { sent: at }));
             assert!(rt; text.get(..at as usize) == Some(wire.taken()), "{at}");
-            assert_eq!(rt; FaultWrite::failures(&wire), 1);
+            assert_equal(&rt, FaultWrite::failures(&wire), 1);
         }
     }
     let mut wire = wire(&rt, alloc, 1, FailingCalls::Once(191));
-    assert_eq!(rt; write_request(&mut wire, &target, BODY), Ok(()));
+    assert_equal(&rt, write_request(&mut wire, &target, BODY), Ok(()));
 }
 
 /// Writes the request to a wire that takes at most so many bytes a call and fails one call.
@@ -98,8 +99,8 @@ fn stops(rt: &impl Abort, alloc: Global, most: usize, at: u64) -> bool {
     let sent = wire.taken().len();
     assert!(rt; text.get(..sent) == Some(wire.taken()), "{most} {at}");
     match answer {
-        Ok(()) => assert_eq!(rt; sent, 191, "{most} {at}"),
-        Err(stopped) => assert_eq!(rt; stopped.sent, sent as u64, "{most} {at}"),
+        Ok(()) => assert_equal_at(rt, sent, 191, (most, at)),
+        Err(stopped) => assert_equal_at(rt, stopped.sent, sent as u64, (most, at)),
     }
     answer.is_err()
 }
@@ -120,5 +121,5 @@ fn a_request_stops_where_more_bytes_go_at_once(rt: HostRuntime) {
 fn a_stop_is_told(rt: HostRuntime) {
     let stopped = Stopped { sent: 2 };
     let told = format!(in rt.alloc(); "{stopped}").expect(&rt, "memory");
-    assert_eq!(rt; told.as_str(), "the device failed after 2 bytes");
+    assert_equal(&rt, told.as_str(), "the device failed after 2 bytes");
 }

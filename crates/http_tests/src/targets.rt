@@ -1,5 +1,6 @@
 //! Targets that are taken and refused, and memory that is refused to one.
 
+use crate::equal::{assert_equal, assert_equal_at};
 use failing_allocator::FailingAllocator;
 use linked_list_allocator::LocalHeap;
 use otlp_http::{Target, TargetFault};
@@ -14,9 +15,9 @@ fn a_target_tells_its_parts(rt: HostRuntime) {
         ("-", 65_535, "/a?b=%20!~"),
     ] {
         let target = Target::new(rt.alloc(), host, port, path).expect(&rt, "a target");
-        assert_eq!(rt; target.host(), host);
-        assert_eq!(rt; target.port(), port);
-        assert_eq!(rt; target.path(), path);
+        assert_equal(&rt, target.host(), host);
+        assert_equal(&rt, target.port(), port);
+        assert_equal(&rt, target.path(), path);
     }
 }
 
@@ -24,7 +25,7 @@ fn a_target_tells_its_parts(rt: HostRuntime) {
 fn a_target_may_be_long(rt: HostRuntime) {
     let text = "/".repeat(rt.alloc(), 4096).expect(&rt, "memory");
     let target = Target::new(rt.alloc(), "a", 80, text.as_str()).expect(&rt, "a target");
-    assert_eq!(rt; target.path(), text.as_str());
+    assert_equal(&rt, target.path(), text.as_str());
 }
 
 #[test]
@@ -46,7 +47,7 @@ fn a_bad_host_is_told_before_a_bad_path(rt: HostRuntime) {
         ("a", "/é", TargetFault::BadPath),
     ] {
         let refused = Target::new(rt.alloc(), host, 80, path).err();
-        assert_eq!(rt; refused, Some(fault), "{host:?} {path:?}");
+        assert_equal_at(&rt, refused, Some(fault), (host, path));
     }
 }
 
@@ -60,20 +61,21 @@ fn each_copy_may_be_refused_memory(rt: HostRuntime) {
     ] {
         let scarce = FailingAllocator::new(&heap, fail_index);
         let fault_told = Target::new(&scarce, "collector.example", 4318, "/v1/traces").err();
-        assert_eq!(rt; fault_told, fault, "{fail_index}");
-        assert_eq!(rt;
+        assert_equal_at(&rt, fault_told, fault, fail_index);
+        assert_equal_at(
+            &rt,
             scarce.calls(),
             fail_index.saturating_add(1).min(2),
-            "{fail_index}"
+            fail_index,
         );
-        assert_eq!(rt; heap.used(), 0, "{fail_index}");
+        assert_equal_at(&rt, heap.used(), 0, fail_index);
     }
 }
 
 /// Asserts how a fault is told.
 fn assert_told(rt: &impl Abort, alloc: Global, fault: TargetFault, text: &str) {
     let told = format!(in alloc; "{fault}").expect(rt, "memory");
-    assert_eq!(rt; told.as_str(), text);
+    assert_equal(rt, told.as_str(), text);
 }
 
 #[test]
