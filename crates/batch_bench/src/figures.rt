@@ -16,9 +16,9 @@ pub fn median(mut values: Vec<u64>) -> Result<u64> {
     Ok(values.get(values.len() / 2).copied().unwrap_or(0))
 }
 
-/// How long ends took, in nanoseconds: 0 where none was timed.
+/// How long something took each time, in nanoseconds: 0 where nothing was timed.
 #[derive(Debug, Clone, Copy)]
-pub struct Ends {
+pub struct Spread {
     /// The middle one.
     pub p50: u64,
     /// The one that a thousandth of them took longer than.
@@ -27,13 +27,13 @@ pub struct Ends {
     pub longest: u64,
 }
 
-impl Ends {
-    /// Those that took so long each.
-    pub fn new(mut nanos: Vec<u64>) -> Result<Ends> {
+impl Spread {
+    /// Of what took so long each time.
+    pub fn new(mut nanos: Vec<u64>) -> Result<Spread> {
         nanos.sort()?;
         let count = nanos.len();
         let late = count.saturating_sub(count / 1000 + 1);
-        Ok(Ends {
+        Ok(Spread {
             p50: nanos.get(count / 2).copied().unwrap_or(0),
             p999: nanos.get(late).copied().unwrap_or(0),
             longest: nanos.last().copied().unwrap_or(0),

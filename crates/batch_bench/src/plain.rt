@@ -1,11 +1,23 @@
 //! A desk behind a plain mutex, without a worker.
 use anyhow::{Context, Result};
 use batch_desk::{Admitted, Desk, DeskConfig};
+use batch_processor::Clock;
 use otlp_span::{Reason, SpanData};
 use retry_core::Fate;
 use std::alloc::Global;
 use std::sync::{Mutex, Wait};
 use trace_api::{EndPass, Ended};
+
+/// How long a lock is held round what is done with whole batches, in nanoseconds.
+#[derive(Debug, Clone, Copy)]
+pub struct Holds {
+    /// A batch is taken.
+    pub take: u64,
+    /// It is settled: its spans are gone by then.
+    pub settle: u64,
+    /// Another one is dropped: its spans are named by then.
+    pub drop: u64,
+}
 
 /// What spans go to at their end: a desk behind a mutex.
 #[derive(Drop)]
@@ -38,6 +50,30 @@ impl<R: Wait> PlainPass<R> {
         desk.handed(batch.number());
         desk.settle(batch, Fate::Delivered);
         count
+    }
+
+    /// Takes two batches of the spans that wait, settles the first, and drops the second, each as a
+    /// worker does. How long each of these took; nothing where fewer batches wait.
+    pub fn time_holds(&mut self, clock: &impl Clock) -> Option<Holds> {
+        let mut desk = self.desk.lock(&self.rt);
+        desk.flush();
+        let began = clock.now();
+        let mut batch = desk.take(0)?;
+        let taken = clock.now();
+        desk.handed(batch.number());
+        batch.clear();
+        let cleared = clock.now();
+        desk.settle(batch, Fate::Delivered);
+        let settled = clock.now();
+        let named = desk.take(0)?.into_named(Reason::Abandoned);
+        let emptied = clock.now();
+        desk.drop_named(named);
+        let dropped = clock.now();
+        Some(Holds {
+            take: taken.saturating_sub(began),
+            settle: settled.saturating_sub(cleared),
+            drop: dropped.saturating_sub(emptied),
+        })
     }
 }
 

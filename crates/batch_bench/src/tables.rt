@@ -1,12 +1,12 @@
 //! What is printed.
 ghost use Rattle.std.specs.Prelude.{◌≡◌};
 
-use crate::figures::{Ends, median, nanos_since};
+use crate::figures::{Spread, median, nanos_since};
 use crate::load::{Load, Times, end_spans};
 use crate::plain::PlainPass;
 use crate::threads::{Round, idle_share, run_round};
 use anyhow::Result;
-use batch_processor::BatchBlank;
+use batch_processor::{BatchBlank, SystemClock};
 use std::alloc::Global;
 use std::io::Write;
 use std::marker::Brand;
@@ -29,6 +29,9 @@ const FEW: u64 = 100;
 
 /// How many spans are taken from a desk without a worker at a time.
 const BATCH: u64 = 512;
+
+/// How many times two batches are taken from such a desk to time how long it is held.
+const BURSTS: u32 = 200;
 
 /// How long an idle worker is watched, in milliseconds.
 const WATCH_MS: u64 = 2000;
@@ -111,7 +114,7 @@ where
             ..load
         };
         let ended = one_round(rt, alloc, threads, timed)?;
-        let ends = Ends::new(all_ends(alloc, ended.times)?)?;
+        let ends = Spread::new(all_ends(alloc, ended.times)?)?;
         p50s.push(ends.p50)?;
         p999s.push(ends.p999)?;
         longest = longest.max(ends.longest);
@@ -170,6 +173,48 @@ where
     Ok(())
 }
 
+/// Prints how long the lock of a desk is held round what a worker does with a batch.
+fn print_hold_row<R, W: Write>(
+    rt: R,
+    alloc: Global,
+    output: &mut W,
+    attributes: usize,
+) -> Result<()>
+where
+    R: Wait + RandomSource + Clock + Copy + Drop,
+{
+    let load = Load {
+        spans: 2 * BATCH,
+        attributes,
+        is_timed: false,
+        pauses: false,
+    };
+    let clock = SystemClock::new(rt);
+    let mut pass = PlainPass::new(rt, alloc)?;
+    let (mut takes, mut settles, mut drops) = (Vec::new(alloc), Vec::new(alloc), Vec::new(alloc));
+    for _burst in 0..BURSTS {
+        end_spans(&rt, alloc, load, &mut pass)?;
+        if let Some(holds) = pass.time_holds(&clock) {
+            takes.push(holds.take)?;
+            settles.push(holds.settle)?;
+            drops.push(holds.drop)?;
+        }
+    }
+    let (take, settle, drop) = (
+        Spread::new(takes)?,
+        Spread::new(settles)?,
+        Spread::new(drops)?,
+    );
+    write!(
+        output,
+        "{BATCH} spans under the lock, {attributes} attributes: "
+    )?;
+    write!(output, "take {} {} ns, ", take.p50, take.longest)?;
+    write!(output, "settle {} {} ns, ", settle.p50, settle.longest)?;
+    writeln!(output, "drop {} {} ns", drop.p50, drop.longest)?;
+    Ok(())
+}
+
 /// Measures how long spans take, and prints it.
 pub fn print_times<R, W: Write>(rt: R, alloc: Global, output: &mut W) -> Result<()>
 where
@@ -177,6 +222,7 @@ where
 {
     for attributes in [0usize, 5] {
         print_plain_row(rt, alloc, output, attributes)?;
+        print_hold_row(rt, alloc, output, attributes)?;
         for threads in [1usize, 2, 4] {
             let load = Load {
                 spans: SPANS,
