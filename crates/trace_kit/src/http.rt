@@ -1,5 +1,8 @@
-//! Requests and replies of OTLP over HTTP (OTLP Specification, "OTLP/HTTP"; RFC 9110, RFC 9112):
-//! [`write_request`] to a [`Target`], [`read_reply`], and [`outcome_of`] for what a reply means.
+//! Batches over HTTP (OTLP Specification, "OTLP/HTTP"; RFC 9110, RFC 9112): the [`HttpExporter`],
+//! which posts each body to a [`Target`] over TCP, and [`LinkExporter`], which does the same over
+//! any [`Dial`]; below them the requests and replies, [`write_request`], [`read_reply`], and
+//! [`outcome_of`] for what a reply means.
+pub use http_exporter::{Dial, HttpExporter, LinkExporter, TcpDial};
 pub use otlp_http::{
     Counted, DEFAULT_PATH, DEFAULT_PORT, DeviceFailed, FaultRead, FaultWrite, HeadLimits,
     HttpFault, MOST_FIELDS, Reply, Stopped, Target, TargetFault, outcome_of, read_reply,

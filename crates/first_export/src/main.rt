@@ -1,0 +1,42 @@
+//! Records two spans and exports them over TCP to the collector at a host and a port, which are the
+//! arguments. Prints what became of the spans, and of the batch that they went out in; the status
+//! is 0 where the collector took it.
+#![tactic(auto)]
+
+mod balance;
+mod service;
+
+use anyhow::Result;
+use std::env;
+use std::io::Write;
+use std::marker::Brand;
+use std::process::ExitCode;
+use trace_kit::http::{DEFAULT_PATH, HttpExporter, Target};
+use trace_kit::processor::BatchBlank;
+
+/// How long a connection, a read and a write may each take, in milliseconds.
+const TIMEOUT_MS: u64 = 10_000;
+
+fn main(rt: HostRuntime) -> Result<ExitCode> {
+    let alloc = rt.alloc();
+    let mut words = env::args(&rt)?.skip(1);
+    let (Some(host), Some(port), None) = (words.next(), words.next(), words.next()) else {
+        writeln!(rt.stderr(), "usage: first_export HOST PORT")?;
+        return Ok(ExitCode::from(2));
+    };
+    let target = Target::new(
+        alloc,
+        host.as_str(),
+        port.as_str().parse::<u16>()?,
+        DEFAULT_PATH,
+    )?;
+    let exporter = HttpExporter::new(alloc, rt, target, TIMEOUT_MS).reading_after_a_stop();
+    // `Brand` stands for the name of this one processor, which the types of its passes have.
+    let accounts = service::run::<Brand, HostRuntime>(rt, alloc, BatchBlank::new(), exporter)?;
+    balance::write_balance(&mut rt.stdout(), &accounts)?;
+    Ok(if balance::is_delivered(&accounts) {
+        ExitCode::SUCCESS
+    } else {
+        ExitCode::FAILURE
+    })
+}

@@ -1,0 +1,109 @@
+//! Two spans that go to a collector by way of a batch processor.
+ghost use Rattle.std.specs.Prelude.{◌≡◌, None};
+
+use anyhow::{Context, Result};
+use rand::make_rng;
+use rand::rngs::StdRng;
+use std::alloc::Global;
+use std::net::{Net, TcpListener, TcpStream};
+use std::random::RandomSource;
+use std::sync::{Arc, Wait};
+use std::thread::{self, JoinHandle, Threads};
+use std::time;
+use trace_kit::export::RetryConfig;
+use trace_kit::http::HttpExporter;
+use trace_kit::processor::{
+    Accounts, BatchBlank, BatchConfig, BatchProcessor, Clock, Naming, Parts, SystemClock,
+    WorkerPass,
+};
+use trace_kit::trace::{
+    AlwaysOn, EndPass, Kind, Provider, Resource, Scope, SpanData, SpanLimits, Value,
+};
+
+/// Traces a request for a cart and the query that it makes.
+fn trace<R, P>(rt: R, alloc: Global, pass: &mut P) -> Result<()>
+where
+    R: RandomSource + time::Clock + Copy,
+    P: EndPass<SpanData>,
+{
+    let mut rng: StdRng = make_rng(&rt)?;
+    let clock = SystemClock::new(rt);
+    let service = (
+        "service.name".to_string(alloc)?,
+        Value::text(alloc, "shop")?,
+    );
+    let resource = Arc::new(alloc, Resource::new(alloc, vec![in alloc; service]?))?;
+    let provider = Provider::new(AlwaysOn, resource, SpanLimits::default());
+    let tracer = provider.tracer(Arc::new(alloc, Scope::named(alloc, "checkout")?)?);
+    let (kind, at) = (Kind::Server, clock.now());
+    let mut request = tracer.start_copied(alloc, &mut rng, None, "GET /cart", kind, at)?;
+    let (kind, at) = (Kind::Client, clock.now());
+    let parent = Some(request.context());
+    let mut query = tracer.start_copied(alloc, &mut rng, parent, "SELECT", kind, at)?;
+    query.end(pass, clock.now());
+    request.end(pass, clock.now());
+    Ok(())
+}
+
+/// Starts the thread of the worker, which posts batches to the collector until all is drained.
+fn start_worker<J, R>(
+    rt: R,
+    mut exporter: HttpExporter<R>,
+    mut worker: WorkerPass<J, R>,
+) -> Result<JoinHandle<Result<WorkerPass<J, R>>>>
+where
+    J: Naming + Send + Sync + 'static,
+    R: Net<Listener = TcpListener, Stream = TcpStream> + RandomSource + time::Clock,
+    R: Threads + Wait + Copy + Send + Sync + 'static,
+    requires { worker.encoded ≡ None }
+{
+    let started = thread::spawn(
+        &rt,
+        move || -> Result<WorkerPass<J, R>>
+            requires { worker.encoded ≡ None }
+        {
+            let mut rng: StdRng = make_rng(&rt)?;
+            worker.work(&mut exporter, &SystemClock::new(rt), &mut rng, u64::MAX);
+            Ok(worker)
+        },
+    );
+    Ok(started?)
+}
+
+/// Traces the request, and answers what became of its spans. A batch is sent three times at most,
+/// with short waits.
+pub fn run<J, R>(
+    rt: R,
+    alloc: Global,
+    blank: BatchBlank,
+    exporter: HttpExporter<R>,
+) -> Result<Accounts>
+where
+    J: Naming + Send + Sync + 'static,
+    R: Net<Listener = TcpListener, Stream = TcpStream> + RandomSource + time::Clock,
+    R: Threads + Wait + Copy + Send + Sync + 'static,
+    requires { blank ≡ J.name }
+{
+    let retry = RetryConfig::new(3, 200, 1000)?;
+    let config = BatchConfig {
+        retry,
+        ..BatchConfig::default()
+    };
+    let now = SystemClock::new(rt).now();
+    let parts = BatchProcessor::<J, R>::new(alloc, rt, blank, config, 1, now)?;
+    let Parts {
+        processor,
+        mut passes,
+        worker,
+    } = parts;
+    let worker = start_worker(rt, exporter, worker)?;
+    if let Some(pass) = passes.first_mut() {
+        trace(rt, alloc, pass)?;
+        pass.shutdown();
+    }
+    let worker = worker.join(&rt)?;
+    processor
+        .close_out(passes, worker)
+        .ok()
+        .context("a pass is missing")
+}
