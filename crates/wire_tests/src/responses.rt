@@ -1,6 +1,7 @@
 //! Responses that are read, with bytes that were written out by hand (opentelemetry-proto,
 //! trace_service.proto; Protocol Buffers, "Encoding").
 
+use crate::equal::{assert_equal, assert_equal_at};
 use failing_allocator::FailingAllocator;
 use linked_list_allocator::LocalHeap;
 use otlp_read::{ReadFault, read_rejected_spans, read_response};
@@ -12,15 +13,15 @@ use std::process::Abort;
 fn tells(rt: &impl Abort, alloc: Global, body: &[u8], rejected: i64, message: &str) {
     let response = read_response(alloc, body).expect(rt, "a response");
     let partial = response.partial_success();
-    assert_eq!(rt; partial.rejected_spans(), rejected, "{body:?}");
-    assert_eq!(rt; partial.error_message(), message, "{body:?}");
-    assert_eq!(rt; read_rejected_spans(body).ok(), Some(rejected), "{body:?}");
+    assert_equal_at(rt, partial.rejected_spans(), rejected, body);
+    assert_equal_at(rt, partial.error_message(), message, body);
+    assert_equal_at(rt, read_rejected_spans(body).ok(), Some(rejected), body);
 }
 
 /// Asserts why a body is no response.
 fn fails(rt: &impl Abort, alloc: Global, body: &[u8], fault: ReadFault) {
     let told = read_response(alloc, body).err();
-    assert_eq!(rt; told, Some(fault), "{body:?}");
+    assert_equal_at(rt, told, Some(fault), body);
 }
 
 #[test]
@@ -126,19 +127,19 @@ fn memory_that_is_refused(rt: HostRuntime) {
     for (fail_index, fault) in [(0, Some(ReadFault::OutOfMemory)), (1, None)] {
         let scarce = FailingAllocator::new(&heap, fail_index);
         let told = read_response(&scarce, b"\x0a\x05\x08\x02\x12\x01x").err();
-        assert_eq!(rt; told, fault, "{fail_index}");
-        assert_eq!(rt; scarce.calls(), 1, "{fail_index}");
-        assert_eq!(rt; heap.used(), 0, "{fail_index}");
+        assert_equal_at(&rt, told, fault, fail_index);
+        assert_equal_at(&rt, scarce.calls(), 1, fail_index);
+        assert_equal_at(&rt, heap.used(), 0, fail_index);
     }
     let scarce = FailingAllocator::new(&heap, 0);
     assert!(rt; read_response(&scarce, b"\x0a\x02\x08\x02").is_ok());
-    assert_eq!(rt; scarce.calls(), 0);
+    assert_equal(&rt, scarce.calls(), 0);
 }
 
 /// Asserts how a fault is told.
 fn assert_told(rt: &impl Abort, alloc: Global, fault: ReadFault, text: &str) {
     let told = format!(in alloc; "{fault}").expect(rt, "memory");
-    assert_eq!(rt; told.as_str(), text);
+    assert_equal(rt, told.as_str(), text);
 }
 
 #[test]

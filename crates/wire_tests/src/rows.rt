@@ -1,5 +1,6 @@
 //! Fields that are read, with bytes that were written out by hand (Protocol Buffers, "Encoding").
 
+use crate::equal::{assert_equal, assert_equal_at};
 use otlp_wire::{Field, Fields, Payload, WireFault};
 use std::process::Abort;
 
@@ -7,16 +8,16 @@ use std::process::Abort;
 fn holds(rt: &impl Abort, bytes: &[u8], number: u32, payload: Payload<'_>) {
     let mut fields = Fields::new(bytes);
     let field = Field { number, payload };
-    assert_eq!(rt; fields.next(), Some(Ok(field)), "{bytes:?}");
-    assert_eq!(rt; fields.next(), None, "behind {bytes:?}");
+    assert_equal_at(rt, fields.next(), Some(Ok(field)), bytes);
+    assert_equal_at(rt, fields.next(), None, bytes);
 }
 
 /// Asserts that the fault stands there, and nothing behind it.
 fn fails(rt: &impl Abort, bytes: &[u8], fault: WireFault) {
     let mut fields = Fields::new(bytes);
-    assert_eq!(rt; fields.next(), Some(Err(fault)), "{bytes:?}");
-    assert_eq!(rt; fields.next(), None, "behind {bytes:?}");
-    assert_eq!(rt; fields.next(), None, "again behind {bytes:?}");
+    assert_equal_at(rt, fields.next(), Some(Err(fault)), bytes);
+    assert_equal_at(rt, fields.next(), None, bytes);
+    assert_equal_at(rt, fields.next(), None, bytes);
 }
 
 #[test]
@@ -104,7 +105,7 @@ fn a_good_body_that_is_cut(rt: HostRuntime) {
         } else {
             Some(Err(WireFault::Truncated))
         };
-        assert_eq!(rt; fields.next(), fault, "of {size} bytes");
+        assert_equal_at(&rt, fields.next(), fault, size);
     }
 }
 
@@ -113,5 +114,5 @@ fn a_reader_writes_the_bytes_that_are_left(rt: HostRuntime) {
     let mut fields = Fields::new(b"\x08\x00\x08\x01");
     assert!(rt; fields.next().is_some());
     let written = format!(in rt.alloc(); "{fields:?}").expect(&rt, "memory");
-    assert_eq!(rt; written.as_str(), "Fields { unread: [8, 1] }");
+    assert_equal(&rt, written.as_str(), "Fields { unread: [8, 1] }");
 }
