@@ -1,3 +1,4 @@
+use crate::equal::assert_equal;
 use linked_list_allocator::LocalHeap;
 use otlp_ids::{IdFault, OutOfMemory, SpanContext, SpanId, TraceFlags, TraceId, copy_text};
 use std::alloc::{Allocator, Global};
@@ -28,59 +29,65 @@ fn ids_are_drawn_high_byte_first_and_zeros_again(rt: HostRuntime) {
     ];
     let words = Vec::from_slice(rt.alloc(), &words).expect(&rt, "memory");
     let mut rng = WordsRng::new(words);
-    assert_eq!(rt; TraceId::draw(&mut rng), Ok(TRACE));
-    assert_eq!(rt; SpanId::draw(&mut rng), Ok(SPAN));
-    assert_eq!(rt; TraceId::draw(&mut rng), Err(IdFault::NoRandomness));
-    assert_eq!(rt; SpanId::draw(&mut rng), Err(IdFault::NoRandomness));
+    assert_equal(&rt, TraceId::draw(&mut rng), Ok(TRACE));
+    assert_equal(&rt, SpanId::draw(&mut rng), Ok(SPAN));
+    assert_equal(&rt, TraceId::draw(&mut rng), Err(IdFault::NoRandomness));
+    assert_equal(&rt, SpanId::draw(&mut rng), Err(IdFault::NoRandomness));
 }
 
 #[test]
 fn ids_are_read_in_either_case(rt: HostRuntime) {
-    assert_eq!(rt;
+    assert_equal(
+        &rt,
         TraceId::from_hex("0102030405060708090A0b0C0d0E0f10"),
-        Ok(TRACE)
+        Ok(TRACE),
     );
-    assert_eq!(rt; SpanId::from_hex("aBcDeF000000000f"), Ok(SPAN));
+    assert_equal(&rt, SpanId::from_hex("aBcDeF000000000f"), Ok(SPAN));
 }
 
 #[test]
 fn a_length_is_bad_before_a_digit_is(rt: HostRuntime) {
     let long = "0102030405060708090a0b0c0d0e0f10g";
-    assert_eq!(rt; TraceId::from_hex(long), Err(IdFault::BadLength));
-    assert_eq!(rt; SpanId::from_hex("0g"), Err(IdFault::BadLength));
+    assert_equal(&rt, TraceId::from_hex(long), Err(IdFault::BadLength));
+    assert_equal(&rt, SpanId::from_hex("0g"), Err(IdFault::BadLength));
     let signed = "0x02030405060708090a0b0c0d0e0f10";
-    assert_eq!(rt; TraceId::from_hex(signed), Err(IdFault::BadDigit));
-    assert_eq!(rt; SpanId::from_hex("11121314151617é"), Err(IdFault::BadDigit));
+    assert_equal(&rt, TraceId::from_hex(signed), Err(IdFault::BadDigit));
+    assert_equal(
+        &rt,
+        SpanId::from_hex("11121314151617é"),
+        Err(IdFault::BadDigit),
+    );
 }
 
 #[test]
 fn ids_are_written_in_lower_case(rt: HostRuntime) {
     let mut text = [0; 32];
     TRACE.write_hex(&mut text);
-    assert_eq!(rt; text, *b"0102030405060708090a0b0c0d0e0f10");
+    assert_equal(&rt, text, *b"0102030405060708090a0b0c0d0e0f10");
     let mut text = [0; 16];
     SPAN.write_hex(&mut text);
-    assert_eq!(rt; text, *b"abcdef000000000f");
+    assert_equal(&rt, text, *b"abcdef000000000f");
 }
 
 #[test]
 fn ids_and_flags_are_displayed_in_lower_case(rt: HostRuntime) {
     let told = format!(in rt.alloc(); "{TRACE}-{SPAN}-{}", TraceFlags(0x0b)).expect(&rt, "memory");
-    assert_eq!(rt;
+    assert_equal(
+        &rt,
         told.as_str(),
-        "0102030405060708090a0b0c0d0e0f10-abcdef000000000f-0b"
+        "0102030405060708090a0b0c0d0e0f10-abcdef000000000f-0b",
     );
     let padded = format!(in rt.alloc(); "{SPAN:>18}").expect(&rt, "memory");
-    assert_eq!(rt; padded.as_str(), "  abcdef000000000f");
+    assert_equal(&rt, padded.as_str(), "  abcdef000000000f");
 }
 
 #[test]
 fn bit_0_is_the_sampled_flag(rt: HostRuntime) {
-    assert_eq!(rt; TraceFlags::SAMPLED, TraceFlags(1));
+    assert_equal(&rt, TraceFlags::SAMPLED, TraceFlags(1));
     assert!(rt; TraceFlags(255).sampled());
     assert!(rt; !TraceFlags(2).sampled());
-    assert_eq!(rt; TraceFlags(2).with_sampled(true), TraceFlags(3));
-    assert_eq!(rt; TraceFlags(255).with_sampled(false), TraceFlags(254));
+    assert_equal(&rt, TraceFlags(2).with_sampled(true), TraceFlags(3));
+    assert_equal(&rt, TraceFlags(255).with_sampled(false), TraceFlags(254));
 }
 
 /// A context from another process, with this trace state.
@@ -99,10 +106,10 @@ fn copies_a_context(rt: HostRuntime) {
     let alloc = rt.alloc();
     let whole = context(&rt, alloc, "k=v");
     assert!(rt; whole.is_valid());
-    assert_eq!(rt; whole.copy(alloc).expect(&rt, "memory"), whole);
+    assert_equal(&rt, &whole.copy(alloc).expect(&rt, "memory"), &whole);
     assert_ne!(rt; whole, context(&rt, alloc, "k=w"));
     let copied = copy_text(alloc, "café").expect(&rt, "memory");
-    assert_eq!(rt; copied.as_str(), "café");
+    assert_equal(&rt, copied.as_str(), "café");
 }
 
 /// Whether a copy of a context with this trace state is refused where there is no memory for it.
@@ -122,7 +129,7 @@ fn a_context_without_a_state_takes_no_memory(rt: HostRuntime) {
 /// Asserts how a fault is told.
 fn assert_told(rt: &impl Abort, alloc: Global, fault: IdFault, text: &str) {
     let told = format!(in alloc; "{fault}").expect(rt, "memory");
-    assert_eq!(rt; told.as_str(), text);
+    assert_equal(rt, told.as_str(), text);
 }
 
 #[test]
@@ -136,5 +143,5 @@ fn faults_are_told(rt: HostRuntime) {
     assert_told(&rt, alloc, IdFault::BadDigit, text);
     let refused = OutOfMemory;
     let told = format!(in alloc; "{refused}").expect(&rt, "memory");
-    assert_eq!(rt; told.as_str(), "out of memory");
+    assert_equal(&rt, told.as_str(), "out of memory");
 }

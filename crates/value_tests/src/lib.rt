@@ -3,6 +3,8 @@
 #![tactic(auto)]
 
 #[cfg(test)]
+mod equal;
+#[cfg(test)]
 mod ids;
 #[cfg(test)]
 mod samplers;

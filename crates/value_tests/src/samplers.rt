@@ -5,6 +5,7 @@ ghost use Rattle.span_model.specs.Spans.{internal};
 ghost use Rattle.otlp_ids.specs.SpanContext.{parent_view};
 ghost use Rattle.otlp_sampler.specs.Sampling.{decision_view};
 
+use crate::equal::{assert_equal, assert_equal_at};
 use linked_list_allocator::LocalHeap;
 use otlp_ids::{SpanContext, SpanId, TraceFlags, TraceId};
 use otlp_sampler::{AlwaysOff, AlwaysOn, Decision, ParentBased, Sampler};
@@ -47,8 +48,8 @@ fn a_decision_is_recording_and_sampled_as_it_says(rt: HostRuntime) {
         (Decision::RecordOnly, true, false),
         (Decision::RecordAndSample, true, true),
     ] {
-        assert_eq!(rt; decision.is_recording(), recording, "{decision:?}");
-        assert_eq!(rt; decision.is_sampled(), sampled, "{decision:?}");
+        assert_equal_at(&rt, decision.is_recording(), recording, decision);
+        assert_equal_at(&rt, decision.is_sampled(), sampled, decision);
     }
 }
 
@@ -56,14 +57,19 @@ fn a_decision_is_recording_and_sampled_as_it_says(rt: HostRuntime) {
 fn a_child_is_as_its_parent_and_a_root_as_its_sampler_says(rt: HostRuntime) {
     let sampler = ParentBased::new(AlwaysOff);
     let parent = context(rt.alloc(), 1, true, 3);
-    assert_eq!(rt;
+    assert_equal(
+        &rt,
         ask(&sampler, Some(&parent), "a"),
-        Decision::RecordAndSample
+        Decision::RecordAndSample,
     );
     let invalid = context(rt.alloc(), 0, false, 1);
-    assert_eq!(rt; ask(&sampler, Some(&invalid), "a"), Decision::Drop);
+    assert_equal(&rt, ask(&sampler, Some(&invalid), "a"), Decision::Drop);
     let root = ParentBased::new(AlwaysOn);
-    assert_eq!(rt; ask(&root, Some(&invalid), "a"), Decision::RecordAndSample);
+    assert_equal(
+        &rt,
+        ask(&root, Some(&invalid), "a"),
+        Decision::RecordAndSample,
+    );
 }
 
 #[test]
@@ -71,9 +77,10 @@ fn a_parent_may_stand_in_any_memory(rt: HostRuntime) {
     let heap = LocalHeap::new(rt.alloc(), 0).expect(&rt, "memory");
     let parent = context(&heap, 1, true, 1);
     let sampler = ParentBased::new(AlwaysOff);
-    assert_eq!(rt;
+    assert_equal(
+        &rt,
         ask(&sampler, Some(&parent), "a"),
-        Decision::RecordAndSample
+        Decision::RecordAndSample,
     );
 }
 
@@ -93,8 +100,8 @@ fn each_of_the_five_decides_for_its_own_parents(rt: HostRuntime) {
         (false, 0, Decision::RecordAndSample),
     ] {
         let parent = context(rt.alloc(), 1, remote, flags);
-        assert_eq!(rt; ask(&sampler, Some(&parent), "a"), decision, "{flags}");
+        assert_equal_at(&rt, ask(&sampler, Some(&parent), "a"), decision, flags);
     }
     let root: Option<SpanContext> = None;
-    assert_eq!(rt; ask(&sampler, root.as_ref(), "a"), Decision::Drop);
+    assert_equal(&rt, ask(&sampler, root.as_ref(), "a"), Decision::Drop);
 }

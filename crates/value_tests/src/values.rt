@@ -1,3 +1,4 @@
+use crate::equal::assert_equal;
 use linked_list_allocator::LocalHeap;
 use otlp_ids::OutOfMemory;
 use otlp_value::{AttributeList, Limits, Value};
@@ -57,9 +58,13 @@ fn unstored<A: Allocator + Copy>(rt: &impl Abort, alloc: A) -> Vec<Value<A>, A> 
 #[test]
 fn a_text_is_made_where_memory_is_given(rt: HostRuntime) {
     let made = text(&rt, rt.alloc(), "café");
-    assert_eq!(rt; made, Value::Text(string(&rt, rt.alloc(), "café")));
+    assert_equal(&rt, made, Value::Text(string(&rt, rt.alloc(), "café")));
     let scarce = LocalHeap::new(rt.alloc(), 16).expect(&rt, "memory");
-    assert_eq!(rt; text(&rt, &scarce, ""), Value::Text(String::new(&scarce)));
+    assert_equal(
+        &rt,
+        text(&rt, &scarce, ""),
+        Value::Text(String::new(&scarce)),
+    );
     assert!(rt; Value::text(&scarce, "longer than sixteen bytes").is_err());
 }
 
@@ -68,7 +73,7 @@ fn refused_copies<A: Allocator + Copy>(rt: &impl Abort, values: &[Value<A>], all
     let mut refused = 0usize;
     for value in values {
         if let Ok(copied) = value.copy(alloc) {
-            assert_eq!(rt; &copied, value);
+            assert_equal(rt, &copied, value);
         } else {
             refused = refused.saturating_add(1);
         }
@@ -79,14 +84,14 @@ fn refused_copies<A: Allocator + Copy>(rt: &impl Abort, values: &[Value<A>], all
 /// Copies a value of each kind into some memory, and answers how many were refused.
 fn refused_kinds<A: Allocator + Copy>(rt: &impl Abort, ample: A, alloc: A) -> usize {
     let unstored = unstored(rt, ample);
-    assert_eq!(rt; refused_copies(rt, unstored.as_slice(), alloc), 0);
+    assert_equal(rt, refused_copies(rt, unstored.as_slice(), alloc), 0);
     let stored = stored(rt, ample);
     refused_copies(rt, stored.as_slice(), alloc)
 }
 
 #[test]
 fn copies_each_kind(rt: HostRuntime) {
-    assert_eq!(rt; refused_kinds(&rt, rt.alloc(), rt.alloc()), 0);
+    assert_equal(&rt, refused_kinds(&rt, rt.alloc(), rt.alloc()), 0);
 }
 
 #[test]
@@ -148,9 +153,9 @@ fn keeps_the_first_keys_with_their_last_values(rt: HostRuntime) {
         set(&rt, &mut list, alloc, key, number).expect(&rt, "memory");
     }
     let kept = numbers(&rt, alloc, &[("a", 4), ("b", 2)]);
-    assert_eq!(rt; list.pairs(), kept.as_slice());
-    assert_eq!(rt; list.dropped(), 2);
-    assert_eq!(rt; list.into_pairs(), kept);
+    assert_equal(&rt, list.pairs(), kept.as_slice());
+    assert_equal(&rt, list.dropped(), 2);
+    assert_equal(&rt, list.into_pairs(), kept);
 }
 
 /// Asserts what is kept of a value, in a list with this limit on lengths.
@@ -172,7 +177,7 @@ fn assert_kept<A: Allocator + Copy>(
     wanted
         .push((string(rt, alloc, "key"), cut))
         .expect(rt, "memory");
-    assert_eq!(rt; list.into_pairs(), wanted);
+    assert_equal(rt, list.into_pairs(), wanted);
 }
 
 #[test]
@@ -189,7 +194,7 @@ fn a_text_is_cut_to_its_first_characters(rt: HostRuntime) {
         let (whole, cut) = (text(&rt, alloc, whole), text(&rt, alloc, cut));
         assert_kept(&rt, alloc, length, whole, cut);
     }
-    assert_eq!(rt; "éé".as_bytes(), [0xc3u8, 0xa9, 0xc3, 0xa9].as_slice());
+    assert_equal(&rt, "éé".as_bytes(), [0xc3u8, 0xa9, 0xc3, 0xa9].as_slice());
 }
 
 #[test]
@@ -207,7 +212,7 @@ fn assert_pairs<A: Allocator + Copy>(
     list: &AttributeList<A>,
     pairs: &[(&str, i64)],
 ) {
-    assert_eq!(rt; list.pairs(), numbers(rt, ample, pairs).as_slice());
+    assert_equal(rt, list.pairs(), numbers(rt, ample, pairs).as_slice());
 }
 
 /// Sets ten numbers in a list on scarce memory, and answers how many there are in front of the
@@ -229,7 +234,7 @@ fn count_set<A: Allocator + Copy>(rt: &impl Abort, ample: A, scarce: A) -> usize
     for (place, (key, number)) in pairs.iter().enumerate() {
         if set(rt, &mut list, ample, key, *number).is_err() {
             assert_pairs(rt, ample, &list, &pairs[..place]);
-            assert_eq!(rt; list.dropped(), 0);
+            assert_equal(rt, list.dropped(), 0);
             return place;
         }
     }
