@@ -27,35 +27,41 @@ fn drop_named<A: Allocator>(rt: &impl Abort, desk: &mut Desk<A>, batch: Batch<A>
     assert_equal(rt, desk.out(), None);
 }
 
+/// Offers a span: the answer, and whether something of it is left, which is freed.
+fn offered(desk: &mut Desk, span: SpanData) -> (Admitted, bool) {
+    let (answer, remains) = desk.offer(span);
+    (answer, remains.is_some())
+}
+
+/// How what is left of a span is shown.
+fn shown(rt: &impl Abort, alloc: Global, desk: &mut Desk, span: SpanData) -> String {
+    let (_, remains) = desk.offer(span);
+    format!(in alloc; "{remains:?}").expect(rt, "memory")
+}
+
 #[test]
 fn what_is_left_of_a_span_is_handed_back(rt: HostRuntime) -> Result<(), Fail> {
     let spans = Spans::new(&rt, rt.alloc());
     let mut desk = desk_of(&rt, rt.alloc(), 2, 1);
     for number in 0..2 {
-        let (answer, remains) = desk.offer(spans.ended(&rt, number));
-        assert_equal(
-            &rt,
-            (answer, remains.is_none()),
-            (Admitted::Queued(number), true),
-        );
+        let queued = offered(&mut desk, spans.ended(&rt, number));
+        assert_equal(&rt, queued, (Admitted::Queued(number), false));
     }
     assert_equal(&rt, (desk.waiting(), desk.is_closed()), (2, false));
-    let (answer, remains) = desk.offer(spans.ended(&rt, 2));
-    assert_equal(&rt, (answer, remains.is_some()), (Admitted::Full(2), true));
+    let full = offered(&mut desk, spans.ended(&rt, 2));
+    assert_equal(&rt, full, (Admitted::Full(2), true));
     assert_equal(
         &rt,
         desk.ledger().newest(),
         Some(&name(2, Reason::QueueFull)),
     );
-    let shown = format!(in rt.alloc(); "{remains:?}").expect(&rt, "memory");
-    assert!(rt; shown.as_str().starts_with("Some(SpanRemains"));
-    drop(remains);
     desk.shutdown();
-    let (answer, remains) = desk.offer(spans.ended(&rt, 3));
-    assert_equal(&rt, (answer, remains.is_some()), (Admitted::Late, true));
-    drop(remains);
+    let late = offered(&mut desk, spans.ended(&rt, 3));
+    assert_equal(&rt, late, (Admitted::Late, true));
     assert_equal(&rt, (desk.waiting(), desk.is_closed()), (2, true));
     assert_equal(&rt, (desk.ledger().len(), desk.totals().late), (1, 1));
+    let shown = shown(&rt, rt.alloc(), &mut desk, spans.ended(&rt, 4));
+    assert!(rt; shown.as_str().starts_with("Some(SpanRemains"));
     Ok(())
 }
 
