@@ -1,5 +1,6 @@
 //! Scripts of more than 64 KiB: size alone is no want of memory.
 
+use crate::equal::assert_equal;
 use otlp_span::SpanCall;
 use span_script::Script;
 use std::alloc::{AllocError, Global};
@@ -29,7 +30,7 @@ fn reads_many_lines(rt: HostRuntime) -> Result<(), Fail> {
     let text = many_lines(rt.alloc(), 5000)?;
     assert!(rt; text.len() > 65536);
     let script = Script::parse(rt.alloc(), text.as_bytes())?;
-    assert_eq!(rt; script.steps.len(), 5000);
+    assert_equal(&rt, script.steps.len(), 5000);
     Ok(())
 }
 
@@ -46,6 +47,6 @@ fn reads_a_long_line(rt: HostRuntime) -> Result<(), Fail> {
     else {
         return Err(Fail::from("one call"));
     };
-    assert_eq!(rt; name.len(), 70000);
+    assert_equal(&rt, name.len(), 70000);
     Ok(())
 }

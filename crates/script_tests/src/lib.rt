@@ -3,6 +3,8 @@
 #![tactic(auto)]
 
 #[cfg(test)]
+mod equal;
+#[cfg(test)]
 mod large;
 #[cfg(test)]
 mod memory;

@@ -1,5 +1,6 @@
 //! Scripts for which each call for memory is refused once.
 
+use crate::equal::assert_equal_at;
 use crate::scripts::REMOTE;
 use failing_allocator::FailingAllocator;
 use linked_list_allocator::LocalHeap;
@@ -40,15 +41,15 @@ fn is_refused(rt: &impl Abort, alloc: Global, text: &str, steps: usize) -> Resul
         let scarce = FailingAllocator::new(&heap, fail_index);
         match Script::parse(&scarce, text.as_bytes()) {
             Ok(script) => {
-                assert_eq!(rt; script.steps.len(), steps, "{fail_index}");
+                assert_equal_at(rt, script.steps.len(), steps, fail_index);
                 read = read.saturating_add(1);
             }
             Err(error) => {
-                assert_eq!(rt; error, ScriptError::OutOfMemory, "{fail_index}");
+                assert_equal_at(rt, error, ScriptError::OutOfMemory, fail_index);
                 refused = refused.saturating_add(1);
             }
         }
-        assert_eq!(rt; heap.used(), 0, "{fail_index}");
+        assert_equal_at(rt, heap.used(), 0, fail_index);
     }
     assert!(rt; refused > 2 && read > 2, "{refused} {read}");
     Ok(())

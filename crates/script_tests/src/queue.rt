@@ -1,5 +1,6 @@
 //! The lines of a script that drive the batch processor.
 
+use crate::equal::{assert_equal, assert_equal_at};
 use batch_desk::DeskConfig;
 use retry_core::{Outcome, RetryAfter};
 use span_script::{Script, ScriptError};
@@ -28,32 +29,34 @@ fn reads_steps(rt: HostRuntime) -> Result<(), Fail> {
             word: u64::MAX,
         },
     ];
-    assert_eq!(rt; script.steps.as_slice(), steps.as_slice());
+    assert_equal(&rt, script.steps.as_slice(), steps.as_slice());
     Ok(())
 }
 
 #[test]
 fn reads_sizes_and_a_delay(rt: HostRuntime) -> Result<(), Fail> {
     let script = Script::parse(rt.alloc(), b"desk 65536 65536 4294967295")?;
-    assert_eq!(rt;
+    assert_equal(
+        &rt,
         script.desk,
         DeskConfig {
             queue: 65536,
             batch: 65536,
             delay_ms: u32::MAX,
-        }
+        },
     );
     let script = Script::parse(rt.alloc(), b"desk 1 1 0\nflush\n")?;
-    assert_eq!(rt;
+    assert_equal(
+        &rt,
         script.desk,
         DeskConfig {
             queue: 1,
             batch: 1,
             delay_ms: 0,
-        }
+        },
     );
     let script = Script::parse(rt.alloc(), b"")?;
-    assert_eq!(rt; script.desk, DeskConfig::default());
+    assert_equal(&rt, script.desk, DeskConfig::default());
     Ok(())
 }
 
@@ -86,8 +89,8 @@ fn reads_outcomes_in_order(rt: HostRuntime) -> Result<(), Fail> {
         Outcome::NoReply,
         Outcome::Bad,
     ];
-    assert_eq!(rt; script.outcomes.as_slice(), outcomes.as_slice());
-    assert_eq!(rt; script.steps.len(), 2);
+    assert_equal(&rt, script.outcomes.as_slice(), outcomes.as_slice());
+    assert_equal(&rt, script.steps.len(), 2);
     Ok(())
 }
 
@@ -138,7 +141,7 @@ fn tells_bad_lines(rt: HostRuntime) {
         "max 1",
     ] {
         let script = Script::parse(rt.alloc(), line.as_bytes());
-        assert_eq!(rt; script.err(), Some(ScriptError::BadLine(1)), "{line}");
+        assert_equal_at(&rt, script.err(), Some(ScriptError::BadLine(1)), line);
     }
 }
 
@@ -151,6 +154,6 @@ fn tells_lines_that_may_not_follow(rt: HostRuntime) {
         "answer bad\nanswer good",
     ] {
         let script = Script::parse(rt.alloc(), text.as_bytes());
-        assert_eq!(rt; script.err(), Some(ScriptError::BadLine(2)), "{text}");
+        assert_equal_at(&rt, script.err(), Some(ScriptError::BadLine(2)), text);
     }
 }

@@ -1,5 +1,6 @@
 //! The lines of scopes and of their attributes.
 
+use crate::equal::{assert_equal, assert_equal_at};
 use otlp_span::Scope;
 use otlp_value::Value;
 use span_script::{Script, ScriptError};
@@ -31,7 +32,7 @@ fn reads_scopes_in_order(rt: HostRuntime) -> Result<(), Fail> {
         scope(alloc, "t", "1", "u")?,
         scope(alloc, "s", "", "")?,
     ];
-    assert_eq!(rt; script.scopes.as_slice(), scopes.as_slice());
+    assert_equal(&rt, script.scopes.as_slice(), scopes.as_slice());
     Ok(())
 }
 
@@ -55,9 +56,9 @@ fn reads_attributes_of_scopes(rt: HostRuntime) -> Result<(), Fail> {
         (text(alloc, "k")?, Value::Bool(true)),
         (text(alloc, "l")?, Value::Int(2)),
     ];
-    assert_eq!(rt; first.attributes.as_slice(), pairs.as_slice());
+    assert_equal(&rt, first.attributes.as_slice(), pairs.as_slice());
     let pairs = [(text(alloc, "k")?, Value::Int(1))];
-    assert_eq!(rt; second.attributes.as_slice(), pairs.as_slice());
+    assert_equal(&rt, second.attributes.as_slice(), pairs.as_slice());
     Ok(())
 }
 
@@ -78,7 +79,7 @@ fn tells_bad_scopes(rt: HostRuntime) {
         ("scope 0 s % %\nflush\nscope 1 s % %", 3),
     ] {
         let script = Script::parse(rt.alloc(), text.as_bytes());
-        assert_eq!(rt; script.err(), Some(ScriptError::BadLine(line)), "{text}");
+        assert_equal_at(&rt, script.err(), Some(ScriptError::BadLine(line)), text);
     }
 }
 
@@ -98,6 +99,6 @@ fn tells_bad_attributes_of_scopes(rt: HostRuntime) {
         ("scope 0 s % %\nflush\nsattr 0 k i:1", 3),
     ] {
         let script = Script::parse(rt.alloc(), text.as_bytes());
-        assert_eq!(rt; script.err(), Some(ScriptError::BadLine(line)), "{text}");
+        assert_equal_at(&rt, script.err(), Some(ScriptError::BadLine(line)), text);
     }
 }
