@@ -43,7 +43,8 @@ fn an_exporter_tells_its_target(rt: HostRuntime) {
     let told = format!(in alloc; "{exporter:?}").expect(&rt, "memory");
     let text = concat!(
         "LinkExporter { target: Target { host: \"127.0.0.1\", port: 4318, path: \"/v1/traces\" }, ",
-        "limits: HeadLimits { head: 16384, fields: 64, body: 65536 }, reads_after_a_stop: false, .. }",
+        "limits: HeadLimits { head: 16384, fields: 64, body: 65536 }, ",
+        "reads_after_a_stop: false, .. }",
     );
     assert_eq!(rt; told.as_str(), text);
 }

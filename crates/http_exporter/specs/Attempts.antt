@@ -38,12 +38,14 @@ pub record Exporting (Dial : Type 0) : Type 0 where
   pub reads_after_a_stop : Bool
 
 -- the whole text went out, and no write failed
-pub record IsSent {Link : Type 0} (shown : Shown Link) (text : List ℕ) (old new : Link) : Type 0 where
+pub record IsSent {Link : Type 0} (shown : Shown Link) (text : List ℕ)
+    (old new : Link) : Type 0 where
   pub written : Appends (shown.contents old) (shown.contents new) text
   pub counted : shown.failed_writes new ≡ shown.failed_writes old
 
 -- a write failed, before which so many bytes of the text went out, and not all
-pub record IsStopped {Link : Type 0} (shown : Shown Link) (text : List ℕ) (old new : Link) : Type 0 where
+pub record IsStopped {Link : Type 0} (shown : Shown Link) (text : List ℕ)
+    (old new : Link) : Type 0 where
   pub count : ℕ
   pub short : count < length text
   pub written : Appends (shown.contents old) (shown.contents new) (take count text)
@@ -59,13 +61,13 @@ IsAnswer shown limits old new (Err fault) =
     HasNoReply limits (shown.remaining old) (shown.remaining new)
     (HasFailed (shown.failed_reads old) (shown.failed_reads new)) fault
 
--- where a write failed, a reply counts that came whole, or up to its body, and nothing else (profile)
+-- where a write failed, a reply counts that came with a whole head, and nothing else (profile)
 abbrev pub outcome_after_a_stop : Result HttpReply HttpFault → Outcome
 outcome_after_a_stop (Ok reply) = outcome_of_reply reply
 outcome_after_a_stop (Err fault) = no_reply
 
--- What came of a text that was posted over a link: what the reply says; that there is none, since a
--- write failed; or, where that is asked for, what a reply says that came all the same.
+-- What came of a text that was posted over a link: what the reply says; that there is none, since
+-- a write failed; or, where that is asked for, what a reply says that came all the same.
 pub data IsPosted {Link : Type 0} (shown : Shown Link) (limits : HeadLimits)
     (reads_after_a_stop : Bool) (text : List ℕ) (old new : Link) (outcome : Outcome) : Type 0 where
   replied : (sent : Link) (answer : Result HttpReply HttpFault)

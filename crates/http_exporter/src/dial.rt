@@ -12,7 +12,8 @@ pub trait Dial {
     /// A way to a collector and back, which counts its failures.
     type Link: FaultRead + FaultWrite + Drop;
 
-    // From this state, a dial of this host and port may give this link, or none, and leave that state.
+    // From this state, a dial of this host and port may give this link, or none, and leave that
+    // state.
     ghost dials: { Self → List ℕ → ℕ → Option Self.Link → Self → Type 0 } = { λ _ _ _ _ _. ⊤ };
 
     /// A fresh link to this host and port, or none where none can be had.

@@ -111,7 +111,7 @@ impl<D, A: Allocator + Copy> LinkExporter<D, A> {
     ///
     /// Where a write failed, a beginning of the request went out, and the outcome is `NoReply`,
     /// without a byte having been read. By [`LinkExporter::reading_after_a_stop`] what came is read
-    /// then: where it has a whole head that can be used, the outcome is by that, and else `NoReply`.
+    /// then: the outcome is by a whole head that can be used, if it has one, and else `NoReply`.
     ///
     /// Memory is taken while the reply is read: where it is refused for the head or its fields, the
     /// outcome is `NoReply`, and where for the body, it is by the status alone.
@@ -159,7 +159,8 @@ impl<D: Dial, A: Allocator + Copy> LinkExporter<D, A> {
     /// `NoReply`.
     pub fn attempt(&mut self, body: &[u8]) -> Outcome
         ensures outcome { IsAttempt D.dials
-            (shown D.Link.contents D.Link.remaining D.Link.FaultWrite.failures D.Link.FaultRead.failures)
+            (shown D.Link.contents D.Link.remaining
+            D.Link.FaultWrite.failures D.Link.FaultRead.failures)
             body.now self.old self.new.dial (outcome_view result) }
         ensures others { self.new ≡ record self.old { dial = self.new.dial } }
     {
@@ -190,7 +191,8 @@ impl<D: Dial, A: Allocator + Copy> Exporter for LinkExporter<D, A> {
     /// Attempts to send the body, as [`LinkExporter::attempt`] does: the numbers go nowhere.
     fn export(&mut self, _number: u64, _attempt: u32, body: &[u8]) -> Outcome
         ensures outcome { IsAttempt D.dials
-            (shown D.Link.contents D.Link.remaining D.Link.FaultWrite.failures D.Link.FaultRead.failures)
+            (shown D.Link.contents D.Link.remaining
+            D.Link.FaultWrite.failures D.Link.FaultRead.failures)
             body.now self.old self.new.dial (outcome_view result) }
         ensures others { self.new ≡ record self.old { dial = self.new.dial } }
     {
