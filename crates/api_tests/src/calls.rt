@@ -1,4 +1,5 @@
 //! Calls on a span, each by its own name and as a `SpanCall`.
+use crate::equal::assert_equal;
 use crate::spans::{CALLS, END, PARENT_TRACE, START, call, context, start_root, text};
 use otlp_sampler::AlwaysOn;
 use otlp_span::{Event, Kind, Link, SpanCall, SpanData, Status};
@@ -30,15 +31,15 @@ fn add_all<A: Allocator + Copy>(rt: &impl Abort, span: &mut Span<A>, alloc: A) {
 
 /// Asserts what these calls make of the root's name and status.
 fn assert_named<A: Allocator>(rt: &impl Abort, span: &SpanData<A>) {
-    assert_eq!(rt; (span.name(), span.kind()), ("x", Kind::Server));
+    assert_equal(rt, (span.name(), span.kind()), ("x", Kind::Server));
     assert!(rt; matches!(span.status(), Status::Error(why) if why.as_str() == "x"));
 }
 
 /// Asserts where the root is from, and its times.
 fn assert_placed<A: Allocator>(rt: &impl Abort, span: &SpanData<A>) {
-    assert_eq!(rt; (span.start_time(), span.end_time()), (START, END));
-    assert_eq!(rt; span.resource().schema_url.as_str(), "urn:resource");
-    assert_eq!(rt; span.scope().name.as_str(), "library");
+    assert_equal(rt, (span.start_time(), span.end_time()), (START, END));
+    assert_equal(rt, span.resource().schema_url.as_str(), "urn:resource");
+    assert_equal(rt, span.scope().name.as_str(), "library");
 }
 
 /// Asserts that the root has the attribute that these calls set first.
@@ -46,7 +47,7 @@ fn assert_attribute<A: Allocator>(rt: &impl Abort, span: &SpanData<A>) {
     let attributes = span.attributes();
     assert_eq!(rt; (attributes.len(), span.dropped_attributes_count()), (1, 1));
     let (key, value) = &attributes[0];
-    assert_eq!(rt; key.as_str(), "a");
+    assert_equal(rt, key.as_str(), "a");
     assert!(rt; matches!(value, Value::Int(1)));
 }
 
@@ -55,21 +56,22 @@ fn assert_events<A: Allocator>(rt: &impl Abort, events: &[Event<A>]) {
     assert_eq!(rt; events.len(), 2);
     assert_event(rt, &events[0], "x", 5);
     assert_event(rt, &events[1], "exception", 6);
-    assert_eq!(rt; events[1].attributes.len(), 2);
+    assert_equal(rt, events[1].attributes.len(), 2);
 }
 
 fn assert_event<A: Allocator>(rt: &impl Abort, event: &Event<A>, name: &str, timestamp: u64) {
-    assert_eq!(rt; event.name.as_str(), name);
-    assert_eq!(rt; event.timestamp, timestamp);
+    assert_equal(rt, event.name.as_str(), name);
+    assert_equal(rt, event.timestamp, timestamp);
 }
 
 /// Asserts the link that these calls add.
 fn assert_links<A: Allocator>(rt: &impl Abort, links: &[Link<A>]) {
     assert_eq!(rt; links.len(), 1);
     let linked = &links[0].span_context;
-    assert_eq!(rt;
+    assert_equal(
+        rt,
         (linked.trace, linked.state.as_str()),
-        (PARENT_TRACE, "k=v")
+        (PARENT_TRACE, "k=v"),
     );
 }
 
@@ -92,7 +94,7 @@ fn each_call_counts_until_the_first_end(rt: HostRuntime) {
     let mut span = start_root(&rt, alloc, AlwaysOn);
     set_all(&rt, &mut span, alloc);
     add_all(&rt, &mut span, alloc);
-    assert_eq!(rt; span.end(&mut pass, END), Ended::Queued(0));
+    assert_equal(&rt, span.end(&mut pass, END), Ended::Queued(0));
     add_all(&rt, &mut span, alloc);
     assert_kept(&rt, &pass);
 }
@@ -105,7 +107,7 @@ fn assert_answer<A: Allocator + Copy>(
     call: SpanCall<A>,
     answer: Option<Ended>,
 ) {
-    assert_eq!(rt; span.call(pass, call).expect(rt, "memory"), answer);
+    assert_equal(rt, span.call(pass, call).expect(rt, "memory"), answer);
 }
 
 #[test]

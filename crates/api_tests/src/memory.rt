@@ -1,4 +1,5 @@
 //! Starts, passes and calls on scarce memory.
+use crate::equal::{assert_equal, assert_equal_at};
 use crate::spans::{ADDING, END, WORDS, call, provider, scope, start, words};
 use linked_list_allocator::LocalHeap;
 use otlp_ids::SpanContext;
@@ -37,7 +38,7 @@ fn count_kept<A: Allocator + Copy>(rt: &impl Abort, ample: A, scarce: A) -> Opti
             kept = kept.saturating_add(1);
         }
     }
-    assert_eq!(rt; span.end(&mut pass, END), Ended::Queued(0));
+    assert_equal(rt, span.end(&mut pass, END), Ended::Queued(0));
     assert_count(rt, &pass, kept);
     Some(kept)
 }
@@ -60,7 +61,7 @@ fn start_scarce<A: Allocator + Copy>(
 fn assert_count<A: Allocator>(rt: &impl Abort, pass: &BodyPass<A>, count: usize) {
     let spans = pass.spans();
     assert_eq!(rt; spans.len(), 1);
-    assert_eq!(rt; count_items(&spans[0]), count);
+    assert_equal(rt, count_items(&spans[0]), count);
 }
 
 /// How many attributes, events and links a span has.
@@ -81,7 +82,7 @@ fn what_is_refused_is_not_kept(rt: HostRuntime) {
             Some(4) => all = all.saturating_add(1),
             Some(_) => some = some.saturating_add(1),
         }
-        assert_eq!(rt; (ample.used(), scarce.used()), (0, 0), "{size}");
+        assert_equal_at(&rt, (ample.used(), scarce.used()), (0, 0), size);
     }
     assert!(rt; none > 0 && some > 0 && all > 0, "{none} {some} {all}");
 }

@@ -1,6 +1,7 @@
 //! Contexts of spans that start, and what becomes of spans at their end.
 ghost use Rattle.std.specs.Prelude.{◌≡◌};
 
+use crate::equal::{assert_equal, assert_equal_at};
 use crate::spans::{
     END, PARENT, PARENT_TRACE, SPAN, TRACE, WORDS, context, provider, scope, start, start_root,
     text, words,
@@ -46,7 +47,7 @@ fn assert_context<A: Allocator + Copy>(
         remote: false,
         state: text(rt, alloc, state),
     };
-    assert_eq!(rt; context, &wanted);
+    assert_equal(rt, context, &wanted);
 }
 
 #[test]
@@ -73,11 +74,11 @@ fn assert_child<S: Sampler, A: Allocator + Copy>(
     let started = start(rt, tracer, alloc, &mut words, Some(&parent), alloc);
     let mut child = started.expect(rt, "a child starts");
     assert_context(rt, alloc, child.context(), PARENT_TRACE, flags, "k=v");
-    assert_eq!(rt; words.next_u64(), 5);
+    assert_equal(rt, words.next_u64(), 5);
     let mut pass = BodyPass::new(alloc, 1).expect(rt, "memory");
-    assert_eq!(rt; child.end(&mut pass, END), ended, "{flags}");
+    assert_equal_at(rt, child.end(&mut pass, END), ended, flags);
     for span in pass.spans() {
-        assert_eq!(rt; span.parent_span_id(), Some(PARENT));
+        assert_equal(rt, span.parent_span_id(), Some(PARENT));
     }
 }
 
@@ -98,14 +99,14 @@ fn only_zeros_are_no_randomness(rt: HostRuntime) {
     // Eight draws of a span's identifier, one word each, behind a trace's.
     let mut words = words(&rt, alloc, &[1, 2, 0, 0, 0, 0, 0, 0, 0, 0, 6]);
     let fault = start(&rt, &tracer, alloc, &mut words, None, alloc).err();
-    assert_eq!(rt; fault, Some(StartFault::NoRandomness));
-    assert_eq!(rt; words.next_u64(), 6);
+    assert_equal(&rt, fault, Some(StartFault::NoRandomness));
+    assert_equal(&rt, words.next_u64(), 6);
 }
 
 /// Asserts how a fault is told.
 fn assert_told(rt: &impl Abort, alloc: Global, fault: StartFault, text: &str) {
     let told = format!(in alloc; "{fault}").expect(rt, "memory");
-    assert_eq!(rt; told.as_str(), text);
+    assert_equal(rt, told.as_str(), text);
 }
 
 #[test]
@@ -119,9 +120,9 @@ fn faults_are_told(rt: HostRuntime) {
 fn a_pass_may_be_of_ones_own(rt: HostRuntime) {
     let mut pass = Closed { late: 0 };
     let mut sampled = start_root(&rt, rt.alloc(), AlwaysOn);
-    assert_eq!(rt; sampled.end(&mut pass, END), Ended::Late);
-    assert_eq!(rt; sampled.end(&mut pass, END), Ended::AlreadyEnded);
-    assert_eq!(rt; pass.late, 1);
+    assert_equal(&rt, sampled.end(&mut pass, END), Ended::Late);
+    assert_equal(&rt, sampled.end(&mut pass, END), Ended::AlreadyEnded);
+    assert_equal(&rt, pass.late, 1);
 }
 
 /// Starts a root and ends it at this moment, and asserts what the end answers.
@@ -133,7 +134,7 @@ fn assert_end<A: Allocator + Copy>(
     answer: Ended,
 ) {
     let mut span = start_root(rt, alloc, AlwaysOn);
-    assert_eq!(rt; span.end(pass, end), answer);
+    assert_equal(rt, span.end(pass, end), answer);
 }
 
 #[test]
@@ -146,6 +147,6 @@ fn a_pass_keeps_spans_while_there_is_room(rt: HostRuntime) {
     assert_end(&rt, alloc, &mut pass, 7, full);
     let spans = pass.spans();
     assert_eq!(rt; spans.len(), 2);
-    assert_eq!(rt; (spans[0].end_time(), spans[0].ticket()), (5, 0));
-    assert_eq!(rt; (spans[1].end_time(), spans[1].ticket()), (6, 1));
+    assert_equal(&rt, (spans[0].end_time(), spans[0].ticket()), (5, 0));
+    assert_equal(&rt, (spans[1].end_time(), spans[1].ticket()), (6, 1));
 }
