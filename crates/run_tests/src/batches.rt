@@ -1,4 +1,5 @@
 //! Batches, from the queue to what came of them.
+use crate::equal::assert_equal;
 use crate::fixture::{
     Do, assert_handed, assert_left, config, desk, encoded, exporter, full, name, queued, replied,
     roots, run_program, sent, started, taken, words,
@@ -263,10 +264,10 @@ fn each_outcome_of_the_last_attempt_has_its_reply(rt: HostRuntime) {
 /// when the report is closed.
 fn assert_abandoned<A: Allocator>(rt: &impl Abort, report: RunReport<A>, is_handed: bool) {
     let batch = report.out().expect(rt, "a batch that is out");
-    assert_eq!(rt; (batch.number(), batch.spans().len()), (1, 1));
-    assert_eq!(rt; report.desk().out(), Some((1, is_handed)));
+    assert_equal(rt, (batch.number(), batch.spans().len()), (1, 1));
+    assert_equal(rt, report.desk().out(), Some((1, is_handed)));
     let desk = report.close();
-    assert_eq!(rt; desk.out(), None);
+    assert_equal(rt, desk.out(), None);
     let totals = desk.totals();
     let (drops, fates) = (totals.dropped.abandoned, totals.fates.abandoned);
     let abandoned = Entry {
@@ -274,11 +275,11 @@ fn assert_abandoned<A: Allocator>(rt: &impl Abort, report: RunReport<A>, is_hand
         ..name(0, 0)
     };
     if is_handed {
-        assert_eq!(rt; (drops, fates), (0, 1));
+        assert_equal(rt, (drops, fates), (0, 1));
         assert!(rt; desk.ledger().is_empty());
     } else {
-        assert_eq!(rt; (drops, fates), (1, 0));
-        assert_eq!(rt; desk.ledger().newest(), Some(&abandoned));
+        assert_equal(rt, (drops, fates), (1, 0));
+        assert_equal(rt, desk.ledger().newest(), Some(&abandoned));
     }
 }
 

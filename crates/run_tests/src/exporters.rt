@@ -1,4 +1,5 @@
 //! An exporter over memory.
+use crate::equal::{assert_equal, assert_equal_at};
 use crate::fixture::exporter;
 use failing_allocator::FailingAllocator;
 use linked_list_allocator::LocalHeap;
@@ -17,9 +18,9 @@ fn assert_kept<A: Allocator>(
     body: &[u8],
     outcome: Outcome,
 ) {
-    assert_eq!(rt; (handed.number, handed.attempt), (number, attempt));
-    assert_eq!(rt; handed.body.as_slice(), body);
-    assert_eq!(rt; handed.outcome, outcome);
+    assert_equal(rt, (handed.number, handed.attempt), (number, attempt));
+    assert_equal(rt, handed.body.as_slice(), body);
+    assert_equal(rt, handed.outcome, outcome);
 }
 
 #[test]
@@ -28,10 +29,10 @@ fn what_is_handed_is_kept(rt: HostRuntime) {
     let mut exporter = exporter(&rt, rt.alloc(), &outcomes);
     assert!(rt; exporter.handed().is_empty());
     exporter.prepare(3, 2).expect(&rt, "memory");
-    assert_eq!(rt; exporter.export(7, 1, b"abc"), Outcome::Refused(400));
-    assert_eq!(rt; exporter.export(7, 2, b"de"), Outcome::NoReply);
+    assert_equal(&rt, exporter.export(7, 1, b"abc"), Outcome::Refused(400));
+    assert_equal(&rt, exporter.export(7, 2, b"de"), Outcome::NoReply);
     exporter.prepare(0, 1).expect(&rt, "memory");
-    assert_eq!(rt; exporter.export(8, 1, b""), Outcome::Delivered);
+    assert_equal(&rt, exporter.export(8, 1, b""), Outcome::Delivered);
     let handed = exporter.handed();
     assert_eq!(rt; handed.len(), 3);
     assert_kept(&rt, &handed[0], 7, 1, b"abc", Outcome::Refused(400));
@@ -61,7 +62,7 @@ fn count_handed<A: Allocator + Copy>(rt: &impl Abort, ample: A, scarce: A) -> us
             assert_kept(rt, last, number, 1, b"abcd", Outcome::Delivered);
             count = count.saturating_add(1);
         }
-        assert_eq!(rt; exporter.handed().len(), count);
+        assert_equal(rt, exporter.handed().len(), count);
     }
     count
 }
@@ -78,7 +79,7 @@ fn each_memory_that_prepare_wants_may_be_refused(rt: HostRuntime) {
             8 => granted = granted.saturating_add(1),
             handed => panic!(rt; "{handed} of 8 are handed, at {fail_index}"),
         }
-        assert_eq!(rt; heap.used(), 0, "{fail_index}");
+        assert_equal_at(&rt, heap.used(), 0, fail_index);
     }
     assert!(rt;
         refused >= 16 && granted > 0,

@@ -2,6 +2,7 @@
 ghost use Rattle.std.specs.Prelude.{◌≤◌, length};
 ghost use Rattle.span_ring.specs.SpanRing.{IsRingSize};
 
+use crate::equal::{assert_equal, assert_equal_at};
 use batch_desk::DeskConfig;
 use otlp_ids::{SpanContext, SpanId, TraceFlags, TraceId};
 use otlp_sampler::Sampler;
@@ -262,9 +263,9 @@ pub(crate) fn run_program<S: Sampler + Drop, A: Allocator + Copy>(
 
 /// Asserts that the answers are those of the program.
 pub(crate) fn assert_answers(rt: &impl Abort, answers: &[Answer], program: &[(Do, Answer)]) {
-    assert_eq!(rt; answers.len(), program.len());
+    assert_equal(rt, answers.len(), program.len());
     for (place, (answer, (_, want))) in answers.iter().zip(program).enumerate() {
-        assert_eq!(rt; answer, want, "step {place}");
+        assert_equal_at(rt, answer, want, place);
     }
 }
 
@@ -279,12 +280,12 @@ pub(crate) fn assert_left<A: Allocator>(
 ) {
     assert!(rt; report.out().is_none());
     let totals = report.desk().totals();
-    assert_eq!(rt; (totals.left, totals.late), (left, late));
+    assert_equal(rt, (totals.left, totals.late), (left, late));
     let desk = report.close();
-    assert_eq!(rt; desk.totals(), totals);
-    assert_eq!(rt; desk.ledger().len(), names.len() as u64);
+    assert_equal(rt, desk.totals(), totals);
+    assert_equal(rt, desk.ledger().len(), names.len() as u64);
     for (entry, want) in desk.ledger().iter().zip(names) {
-        assert_eq!(rt; entry, want);
+        assert_equal(rt, entry, want);
     }
 }
 
@@ -295,11 +296,11 @@ pub(crate) fn assert_handed<A: Allocator + Copy>(
     exporter: &MemoryExporter<A>,
     want: &[(u64, Outcome, &str)],
 ) {
-    assert_eq!(rt; exporter.handed().len(), want.len());
+    assert_equal(rt, exporter.handed().len(), want.len());
     for (handed, (batch, outcome, digits)) in exporter.handed().iter().zip(want) {
         let body = hex::encode(alloc, handed.body.as_slice()).expect(rt, "memory");
-        assert_eq!(rt; (handed.number, handed.attempt), (*batch, 1));
-        assert_eq!(rt; handed.outcome, *outcome);
-        assert_eq!(rt; body.as_str(), *digits);
+        assert_equal(rt, (handed.number, handed.attempt), (*batch, 1));
+        assert_equal(rt, handed.outcome, *outcome);
+        assert_equal(rt, body.as_str(), *digits);
     }
 }

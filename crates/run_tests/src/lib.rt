@@ -7,6 +7,8 @@ mod batches;
 #[cfg(test)]
 mod ends;
 #[cfg(test)]
+mod equal;
+#[cfg(test)]
 mod exporters;
 #[cfg(test)]
 mod fixture;

@@ -1,4 +1,5 @@
 //! Runs to which memory is refused once, at each place in turn.
+use crate::equal::{assert_equal, assert_equal_at};
 use crate::fixture::{
     Do, assert_answers, assert_runs, config, desk, encoded, full, queued, replied, roots, sent,
     started, steps, taken,
@@ -117,7 +118,7 @@ fn drop_waiting<A: Allocator>(rt: &impl Abort, desk: &mut Desk<A>) {
             desk.drop_batch(batch, Reason::Abandoned);
         }
     }
-    assert_eq!(rt; desk.totals().left, 0);
+    assert_equal(rt, desk.totals().left, 0);
 }
 
 /// Asserts that each ticket is accounted for: it was accepted or dropped, and waits, or is in the
@@ -131,14 +132,14 @@ fn assert_accounted<A: Allocator + Copy>(
     let tickets = tickets(rt, ample, report.answers());
     let totals = report.desk().totals();
     let ended = totals.accepted.saturating_add(totals.dropped.queue_full);
-    assert_eq!(rt; ended, tickets.len() as u64);
+    assert_equal(rt, ended, tickets.len() as u64);
     let mut desk = report.close();
-    assert_eq!(rt; desk.out(), None);
+    assert_equal(rt, desk.out(), None);
     drop_waiting(rt, &mut desk);
     for (ticket, span) in &tickets {
         let named = count_named(desk.ledger(), *ticket);
         let handed = count_handed(handed, *span);
-        assert_eq!(rt; named.saturating_add(handed), 1, "{ticket}");
+        assert_equal_at(rt, named.saturating_add(handed), 1, ticket);
     }
 }
 
@@ -182,7 +183,7 @@ fn each_refusal_of_memory_leaves_all_spans_accounted_for(rt: HostRuntime) {
             1 => refused = refused.saturating_add(1),
             told => panic!(rt; "{told} refusals are told for one, at {fail_index}"),
         }
-        assert_eq!(rt; heap.used(), 0, "{fail_index}");
+        assert_equal_at(&rt, heap.used(), 0, fail_index);
     }
     assert!(rt;
         refused > 40 && granted > 20,

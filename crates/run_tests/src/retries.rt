@@ -1,5 +1,6 @@
 //! Batches that are sent again (OTLP Specification, "Retryable Response Codes", "OTLP/HTTP
 //! Throttling").
+use crate::equal::assert_equal;
 use crate::fixture::{
     Do, assert_left, config, desk, encoded, exporter, queued, replied, roots, run_program, sent,
     sent_again, started, taken,
@@ -24,14 +25,15 @@ const UNAVAILABLE: Outcome = Outcome::Later {
 fn assert_repeats<A: Allocator>(rt: &impl Abort, exporter: &MemoryExporter<A>, attempts: u32) {
     let handed = exporter.handed();
     let first = handed.first().expect(rt, "an attempt");
-    assert_eq!(rt; first.body.len(), 64);
-    assert_eq!(rt; handed.len(), attempts as usize);
+    assert_equal(rt, first.body.len(), 64);
+    assert_equal(rt, handed.len(), attempts as usize);
     for (place, attempt) in handed.iter().enumerate() {
-        assert_eq!(rt;
+        assert_equal(
+            rt,
             (attempt.number, attempt.attempt as usize),
-            (1, place.wrapping_add(1))
+            (1, place.wrapping_add(1)),
         );
-        assert_eq!(rt; attempt.body.as_slice(), first.body.as_slice());
+        assert_equal(rt, attempt.body.as_slice(), first.body.as_slice());
     }
 }
 
@@ -116,8 +118,8 @@ fn a_batch_that_waits_to_be_sent_again_ends_with_the_report(rt: HostRuntime) {
         (Do::ReplyAt(0, 0), replied(1, Next::Again(2 * SECOND))),
     ];
     let report = run_program(&rt, alloc, config, &mut exporter, &program);
-    assert_eq!(rt; report.desk().out(), Some((1, true)));
+    assert_equal(&rt, report.desk().out(), Some((1, true)));
     let desk = report.close();
-    assert_eq!(rt; desk.totals().fates.abandoned, 1);
+    assert_equal(&rt, desk.totals().fates.abandoned, 1);
     assert!(rt; desk.ledger().is_empty());
 }
