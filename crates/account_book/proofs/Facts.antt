@@ -3,10 +3,10 @@
 use Rattle.std.proofs.Common.{◌≡◌, ℕ, ◌+◌, List, [], ◌∷◌, ◌++◌, length, sym, refl, ap, ◌∙◌, subst, arith}
 use Rattle.std.specs.Prelude.{Contains, IsPermutation, Option, Some, None}
 use Rattle.std.specs.List.{sum_by, flat_map, filter_map, AllByRecursion}
-use Rattle.std.proofs.lemmas.List.{append-nil, append_assoc, length-append}
+use Rattle.std.proofs.lemmas.List.{append-nil, append_assoc, length-append, nil_from_length}
 use Rattle.std.proofs.lemmas.List.Elements.{Contains-append_right, filter_map-append}
 use Rattle.std.proofs.lemmas.List.Sums.{sum_by-append, sum_by-cons}
-use Rattle.std.proofs.lemmas.List.Sorted.{IsPermutation-refl, IsPermutation-trans, IsPermutation-append_left, IsPermutation-append_right, IsPermutation-append_comm}
+use Rattle.std.proofs.lemmas.List.Sorted.{IsPermutation-refl, IsPermutation-sym, IsPermutation-trans, IsPermutation-append_left, IsPermutation-append_right, IsPermutation-append_comm}
 use Rattle.std.proofs.lemmas.Grind.{flat_map-append}
 use Rattle.account_book.specs.Accounts.{Replaces, Removes, Closes}
 
@@ -83,6 +83,13 @@ module _ {V : Type 0} where
   sum_closed f old [] new c = let x = ap (sum_by f) c in omega arith
   sum_closed f old (v ∷ closed) new c = let a = sum_removed f old v c.0 c.1 in let b = sum_closed f c.0 closed new c.2 in let d = sum_by-cons f v closed in omega arith
 
+  -- all of them were
+  pub gathered_all : {X : Type 0} (f : V → List X) (old closed : List V) → Closes old closed [] → IsPermutation (flat_map f closed) (flat_map f old)
+  gathered_all {X} f old closed c = IsPermutation-sym (flat_map f old) (flat_map f closed) (subst (λ (xs : List X). IsPermutation (flat_map f old) xs) (append-nil (flat_map f closed)) (gathered_closed f old closed [] c))
+
+  pub sum_all : (f : V → ℕ) (old closed : List V) → Closes old closed [] → sum_by f old ≡ sum_by f closed
+  sum_all f old closed c = let e = sum_closed f old closed [] c in omega arith
+
   -- ---- facts of each
 
   module _ (P : V → Type 0) where
@@ -115,6 +122,42 @@ module _ {V : Type 0} where
   pub each_map : (P Q : V → Type 0) (xs : List V) → ((x : V) → P x → Q x) → AllByRecursion P xs → AllByRecursion Q xs
   each_map P Q [] f all = tt
   each_map P Q (x ∷ xs) f all = (f x all.0, each_map P Q xs f all.1)
+
+  -- ---- accounts that say the same
+
+  module _ (u : V) where
+    pub nothing_of : {X : Type 0} (f : V → List X) → f u ≡ [] → (vs : List V) → AllByRecursion (λ v. v ≡ u) vs → flat_map f vs ≡ []
+    nothing_of f none [] all = refl
+    nothing_of f none (v ∷ vs) all = ap (λ (x : V). f x ++ flat_map f vs) all.0 ∙ ap (λ xs. xs ++ flat_map f vs) none ∙ nothing_of f none vs all.1
+
+    pub zero_of : (f : V → ℕ) → f u ≡ 0 → (vs : List V) → AllByRecursion (λ v. v ≡ u) vs → sum_by f vs ≡ 0
+    zero_of f none [] all = refl
+    zero_of f none (v ∷ vs) all = let e = sum_by-cons f v vs in let h = ap f all.0 in let r = zero_of f none vs all.1 in let z = none in omega arith
+
+    pub each_same : (P : V → Type 0) → P u → (vs : List V) → AllByRecursion (λ v. v ≡ u) vs → AllByRecursion P vs
+    each_same P one [] all = tt
+    each_same P one (v ∷ vs) all = (subst P (sym all.0) one, each_same P one vs all.1)
+
+  -- ---- the only account
+
+  pub one_replaced : (x v w : V) (new : List V) → Replaces (x ∷ []) v w new → (v ≡ x) × (new ≡ w ∷ [])
+  one_replaced x v w new r =
+      let long = ap length r.2 in let parts = length-append r.0 (v ∷ r.1) in
+      let front : r.0 ≡ [] = nil_from_length r.0 (omega arith) in let back : r.1 ≡ [] = nil_from_length r.1 (omega arith) in
+      let whole : x ∷ [] ≡ v ∷ [] = r.2 ∙ ap (λ (xs : List V). xs ++ v ∷ r.1) front ∙ ap (λ (xs : List V). v ∷ xs) back in
+      ((cc), r.3 ∙ ap (λ (xs : List V). xs ++ w ∷ r.1) front ∙ ap (λ (xs : List V). w ∷ xs) back)
+
+  pub one_removed : (x v : V) (new : List V) → Removes (x ∷ []) v new → v ≡ x
+  one_removed x v new r = (one_replaced x v v (r.0 ++ v ∷ r.1) (r.0, r.1, r.2, refl)).0
+
+  -- ---- an account that was recognized
+
+  pub replaces_told : (old known new : List V) (known_v w a b : V) → known ≡ old → known_v ≡ a → w ≡ b → Replaces known known_v w new → Replaces old a b new
+  replaces_told old known new known_v w a b same now told r =
+      subst (λ (vs : List V). Replaces vs a b new) same (subst (λ (x : V). Replaces known x b new) now (subst (λ (x : V). Replaces known known_v x new) told r))
+
+  pub removes_told : (old known new : List V) (known_v a : V) → known ≡ old → known_v ≡ a → Removes known known_v new → Removes old a new
+  removes_told old known new known_v a same now r = subst (λ (vs : List V). Removes vs a new) same (subst (λ (x : V). Removes known x new) now r)
 
   -- ---- accounts of one kind
 
@@ -160,3 +203,16 @@ module _ {V : Type 0} where
   pub yields_each : (P : V → Type 0) (yielded rest rest' all : List V) (v : V) → yielded ++ rest ≡ all → rest ≡ v ∷ rest' → AllByRecursion P all → P v
   yields_each P yielded rest rest' all v so next each =
       (each_split P yielded (v ∷ rest') (subst (AllByRecursion P) (sym (ap (λ (l : List V). yielded ++ l) (sym next) ∙ so)) each)).1.0
+
+-- ---- the accounts of a kind are closed, one after the other
+
+module _ {V W : Type 0} (part : V → Option W) where
+  pub closes_part : (first before after : List V) (yielded rest rest' all : List W) (v : V) (w : W) → part v ≡ Some w → Removes before v after → rest ≡ w ∷ rest'
+      → Closes (filter_map part first) yielded (filter_map part before) → length first ≡ length before + length yielded → yielded ++ rest ≡ all
+      → Closes (filter_map part first) (yielded ++ w ∷ []) (filter_map part after) × (length first ≡ length after + length (yielded ++ w ∷ [])) × ((yielded ++ w ∷ []) ++ rest' ≡ all)
+  closes_part first before after yielded rest rest' all v w is gone next closed counted so =
+      let fewer = length_removed before v after gone in let longer = length-append yielded (w ∷ []) in (
+        closes_step (filter_map part first) yielded (filter_map part before) w (filter_map part after) closed (part_removed part before v after w gone is),
+        omega arith,
+        yields_step yielded rest rest' all w so next,
+      )

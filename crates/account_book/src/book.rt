@@ -1,8 +1,11 @@
 //! Accounts under a name, as what they say.
-ghost use Rattle.std.specs.Prelude.{◌≡◌, ℕ, List, [], ◌∷◌, ◌++◌, Contains, true};
+ghost use Rattle.std.specs.Prelude.{◌≡◌, ℕ, List, [], ◌∷◌, ◌++◌, Contains, IfOk, OnErr, true, vec_len};
+ghost use Rattle.std.specs.List.{AllByRecursion};
 ghost use Rattle.account_book.specs.Accounts.{open_of, Removes, Replaces};
 
 use crate::rows::{Change, Opening, Row, Rows};
+use std::alloc::{AllocError, Allocator};
+use std::fmt;
 use std::marker::{Brand, Model, PhantomData};
 
 /// Which book it is. A program picks the name where it calls, with `Brand`, the function that works
@@ -61,15 +64,31 @@ impl<V> Model for Blank<V> {
     ghost invariant = { λ b. b.rows.rows ≡ [] };
 }
 
-impl<V> Blank<V> {
-    /// A book without accounts, under a name of its own. That its accounts can say something at all
-    /// is shown by what one may say first.
-    pub fn new<O: Opening<V>>() -> Blank<V> {
+/// Writes the name of the type alone, since a blank has no bytes.
+impl<V> fmt::Debug for Blank<V> {
+    fn fmt<W: fmt::Write>(&self, f: &mut fmt::Formatter<W>) -> fmt::Result {
+        f.debug_struct("Blank").finish_non_exhaustive()
+    }
+}
+
+impl<V: Opening<V>> Default for Blank<V> {
+    /// As `Blank::new`.
+    fn default() -> Blank<V> {
+        Blank::new()
+    }
+}
+
+impl<V: Opening<V>> Blank<V> {
+    /// A book without accounts, under a name of its own. It takes no memory. That its accounts can
+    /// say something at all is shown by what one may say first.
+    pub fn new() -> Blank<V> {
         Blank {
-            rows: Rows::new::<Opened<O>>(),
+            rows: Rows::new::<Opened<V>>(),
         }
     }
+}
 
+impl<V> Blank<V> {
     /// The book, as the one that `J` names.
     pub fn named<J: Naming>(self) -> Book<J, V>
         requires { self ≡ J.name }
@@ -124,6 +143,29 @@ impl<J: Naming, V> Book<J, V> {
             row: self.rows.open::<Opened<O>>(),
             of: PhantomData,
         }
+    }
+
+    /// Opens so many accounts, which say the same.
+    ///
+    /// # Errors
+    ///
+    /// `AllocError` where memory was refused; none was opened then.
+    pub fn open_all<O: Opening<V>, A: Allocator>(
+        &mut self,
+        alloc: A,
+        count: usize,
+    ) -> Result<Vec<Account<J, V>, A>, AllocError>
+        ensures book { IfOk result (λ opened. self.new ≡ self.old ++ opened.items) }
+        ensures count { IfOk result (λ opened. vec_len opened ≡ count) }
+        ensures first { IfOk result
+            (λ opened. AllByRecursion (λ v. v ≡ O.first) opened.items) }
+        ensures refused { OnErr result (self.new ≡ self.old) }
+    {
+        let mut opened = Vec::with_capacity(alloc, count)?;
+        for _account in 0..count {
+            opened.push_reserved(self.open::<O>());
+        }
+        Ok(opened)
     }
 
     /// Changes what an account says, by what it is told. The account is one of the open ones.

@@ -6,7 +6,7 @@ use Rattle.span_model.specs.Dropped.{Reason}
 use Rattle.retry_model.specs.Retries.{Outcome, later, Fate}
 use Rattle.retry_model.specs.Waits.{RetryConfig}
 use Rattle.desk_examples.specs.Histories.{named, span_at}
-use Rattle.batch_model.specs.Passes.{PassAccount, Drop, queued, dropped}
+use Rattle.pass_model.specs.Passes.{PassAccount, Drop, accepted, dropped}
 use Rattle.batch_model.specs.Worker.{WorkerAccount, OutBatch, settled}
 
 -- ticket 2 found the queue full, on a pass that had no floor yet
@@ -15,7 +15,7 @@ drop_of_2 = record { entry = named Reason.queue_full 2; floor = 0 }
 
 abbrev pub first : PassAccount
 first = record {
-  ends = queued (span_at 0) ∷ queued (span_at 1) ∷ dropped drop_of_2 ∷ [];
+  ends = accepted (span_at 0) ∷ accepted (span_at 1) ∷ dropped drop_of_2 ∷ [];
   popped = [];
   late = 1;
   shutdowns = 0;
@@ -25,7 +25,7 @@ first = record {
 
 abbrev pub second : PassAccount
 second = record {
-  ends = queued (span_at 3) ∷ [];
+  ends = accepted (span_at 3) ∷ [];
   popped = named Reason.queue_full 2 ∷ [];
   late = 0;
   shutdowns = 1;

@@ -3,13 +3,14 @@
 ghost use Rattle.std.specs.Prelude.{◌≡◌, ◌-◌, ◌^◌, [], ◌∷◌, true, false};
 ghost use Rattle.span_model.specs.Dropped.{queue_full};
 ghost use Rattle.desk_examples.specs.Histories.{named, span_at};
-ghost use Rattle.batch_model.specs.Passes.{all_dropped, all_popped, all_queued, all_tickets, drops, late_count, shutdown_count, tickets};
-ghost use Rattle.batch_model.specs.Clauses.{count_between, is_closed, numbers_below, tickets_of};
+ghost use Rattle.pass_model.specs.Passes.{all_dropped, all_popped, all_accepted, all_tickets, drops, late_count, shutdown_count, tickets};
+ghost use Rattle.pass_model.specs.Clauses.{is_closed, numbers_below};
+ghost use Rattle.batch_model.specs.Clauses.{count_between, tickets_of};
 ghost use Rattle.batch_examples.specs.Accounts.{both, drop_of_2, first, second};
 
 /// What two passes know together.
 pub fn together()
-    ensures queued { all_queued both ≡ span_at 0 ∷ span_at 1 ∷ span_at 3 ∷ [] }
+    ensures queued { all_accepted both ≡ span_at 0 ∷ span_at 1 ∷ span_at 3 ∷ [] }
     ensures dropped { all_dropped both ≡ named queue_full 2 ∷ [] }
     ensures popped { all_popped both ≡ named queue_full 2 ∷ [] }
     ensures late { late_count both ≡ 1 }
@@ -23,11 +24,11 @@ pub fn tickets()
     ensures below { numbers_below 4 ≡ 0 ∷ 1 ∷ 2 ∷ 3 ∷ [] }
     ensures drop { drops first ≡ drop_of_2 ∷ [] }
     // Two queued tickets stand from the floor 0 up to 2, as many as the queue holds.
-    ensures full { count_between 0 2 (all_queued both) ≡ 2 }
+    ensures full { count_between 0 2 (all_accepted both) ≡ 2 }
     // From the floor 1 there is one: a drop there would have found room.
-    ensures room { count_between 1 2 (all_queued both) ≡ 1 }
-    ensures not_itself { count_between 3 3 (all_queued both) ≡ 0 }
-    ensures of_spans { tickets_of (all_queued both) ≡ 0 ∷ 1 ∷ 3 ∷ [] }
+    ensures room { count_between 1 2 (all_accepted both) ≡ 1 }
+    ensures not_itself { count_between 3 3 (all_accepted both) ≡ 0 }
+    ensures of_spans { tickets_of (all_accepted both) ≡ 0 ∷ 1 ∷ 3 ∷ [] }
 {}
 
 /// Whether spans are admitted.

@@ -1,72 +1,50 @@
 -- How the accounts of a processor begin, and what they come to.
-use Rattle.std.proofs.Common.{◌≡◌, ℕ, zero, suc, ◌+◌, ◌-◌, ◌^◌, ◌<◌, ◌≤◌, Bool, true, List, [], ◌∷◌, ◌++◌, length, sym, refl, ap, ◌∙◌, subst, arith}
-use Rattle.std.specs.Prelude.{IsPermutation, Option, Some, None, map, ◌==◌, ◌||◌, nat_lt}
-use Rattle.std.specs.List.{AllByRecursion, flat_map, range_with_len, sum_by}
+use Rattle.std.proofs.Common.{◌≡◌, ℕ, ◌+◌, ◌≤◌, List, [], ◌∷◌, ◌++◌, length, sym, refl, ap, ◌∙◌, subst, arith}
+use Rattle.std.specs.Prelude.{IsPermutation, Option, Some, None}
+use Rattle.std.specs.List.{AllByRecursion, flat_map, range_with_len}
 use Rattle.std.proofs.lemmas.List.{append-nil, append_assoc, length-append, nil_from_length}
 use Rattle.std.proofs.lemmas.List.Sorted.{IsPermutation-refl, IsPermutation-sym, IsPermutation-trans, IsPermutation-append_left, IsPermutation-append_right, IsPermutation-append_comm}
 use Rattle.std.proofs.lemmas.List.FromFn.{length-range_with_len}
-use Rattle.std.proofs.lemmas.List.Sums.{sum_by-cons}
 use Rattle.account_book.specs.Accounts.{Replaces, Removes, Closes}
-use Rattle.account_book.proofs.Facts.{each_closed, each_map, each_removed, gathered_closed, length_removed, part_kept, part_removed, sum_closed}
+use Rattle.account_book.proofs.Facts.{each_closed, each_map, each_removed, each_same, gathered_all, length_removed, nothing_of, one_removed, one_replaced, part_kept, part_removed}
 use Rattle.span_model.specs.Spans.{EndedSpan}
 use Rattle.span_model.specs.Dropped.{Entry}
-use Rattle.desk_model.specs.Desks.{Desk, DeskConfig, capped, drop_counts, new_desk}
-use Rattle.batch_model.specs.Passes.{Drop, PassAccount, all_dropped, all_popped, all_queued, all_tickets, dropped_entries, drops, late_count, new_account, queued_spans, shutdown_count, tickets}
+use Rattle.desk_model.specs.Desks.{Desk, DeskConfig, drop_counts, new_desk}
+use Rattle.pass_model.specs.Passes.{Drop, PassAccount, accepted_spans, all_accepted, all_dropped, all_popped, dropped_entries, drops, new_account}
+use Rattle.pass_model.proofs.Lists.{counts_same}
+use Rattle.pass_model.proofs.Steps.{gives_closed, gives_new, late_closed, late_new}
 use Rattle.batch_model.specs.Worker.{BatchEnd, EndedBatch, OutBatch, WorkerAccount, dropped_spans, handed_out_spans, handed_spans, new_worker, numbers, out_spans, settled, dropped, spans_if_dropped, spans_if_settled, taken_spans, worker_entries}
-use Rattle.batch_model.specs.Clauses.{BatchesAreNumbered, FoundItFull, HandedAreCounted, LateAfterShutdown, NoneIsBelowAFloor, Origin, QueuedAreAccounted, is_closed, numbers_below, AreFrom}
-use Rattle.batch_model.specs.Holders.{Holder, new_origin, origin_in, pass, pass_account, pass_accounts, processor, worker, worker_account, worker_accounts}
+use Rattle.batch_model.specs.Clauses.{BatchesAreNumbered, FoundItFull, HandedAreCounted, NoneIsBelowAFloor, Origin, QueuedAreAccounted, AreFrom}
+use Rattle.batch_model.specs.Holders.{Holder, new_origin, pass, pass_account, pass_accounts, processor, worker, worker_account, worker_accounts}
 use Rattle.batch_model.specs.Kept.{Agrees, IsAccountOf, IsOf, KeepsFloor, Kept}
-use Rattle.batch_model.proofs.Lists.{between-same, counts_same}
-use Rattle.batch_model.proofs.Parts.{closed_by}
+use Rattle.batch_model.proofs.Lists.{between-same}
 
 -- ---- the end
 
-module _ {X : Type 0} (f : PassAccount → List X) (old done : List PassAccount) (c : Closes old done []) where
-  same_elements : IsPermutation (flat_map f done) (flat_map f old)
-  same_elements = IsPermutation-sym (flat_map f old) (flat_map f done) (subst (λ (xs : List X). IsPermutation (flat_map f old) xs) (append-nil (flat_map f done)) (gathered_closed f old done [] c))
-
-same_sum : (f : PassAccount → ℕ) (old done : List PassAccount) → Closes old done [] → sum_by f old ≡ sum_by f done
-same_sum f old done c = let e = sum_closed f old done [] c in omega arith
-
 agrees_closed : (desk : Desk) (w : WorkerAccount) (old done : List PassAccount) → Agrees desk old w → Closes old done [] → Agrees desk done w
 agrees_closed desk w old done k c =
-    let spans = same_elements queued_spans old done c in let names = same_elements dropped_entries old done c in let pops = same_elements (λ (a : PassAccount). a.popped) old done c in
+    let spans = gathered_all accepted_spans old done c in let names = gathered_all dropped_entries old done c in let pops = gathered_all (λ (a : PassAccount). a.popped) old done c in
     let queue = desk.config.queue in
-    let still : (d : Drop) → FoundItFull queue (all_queued old) d → FoundItFull queue (all_queued done) d = λ d f. let e = between-same d.floor d.entry.ticket (all_queued done) (all_queued old) spans in omega arith in
+    let still : (d : Drop) → FoundItFull queue (all_accepted old) d → FoundItFull queue (all_accepted done) d = λ d f. let e = between-same d.floor d.entry.ticket (all_accepted done) (all_accepted old) spans in omega arith in
     record {
       queues = record {
-        queued = IsPermutation-trans (all_queued done) (all_queued old) (taken_spans w ++ desk.waiting) spans k.queues.queued;
+        queued = IsPermutation-trans (all_accepted done) (all_accepted old) (taken_spans w ++ desk.waiting) spans k.queues.queued;
         rising = k.queues.rising;
         below = k.queues.below;
-        full = each_map (λ (a : PassAccount). AllByRecursion (FoundItFull queue (all_queued old)) (drops a)) (λ (a : PassAccount). AllByRecursion (FoundItFull queue (all_queued done)) (drops a)) done
-            (λ a all. each_map (FoundItFull queue (all_queued old)) (FoundItFull queue (all_queued done)) (drops a) still all) (each_closed (λ (a : PassAccount). AllByRecursion (FoundItFull queue (all_queued old)) (drops a)) old done [] c k.queues.full);
+        full = each_map (λ (a : PassAccount). AllByRecursion (FoundItFull queue (all_accepted old)) (drops a)) (λ (a : PassAccount). AllByRecursion (FoundItFull queue (all_accepted done)) (drops a)) done
+            (λ a all. each_map (FoundItFull queue (all_accepted old)) (FoundItFull queue (all_accepted done)) (drops a) still all) (each_closed (λ (a : PassAccount). AllByRecursion (FoundItFull queue (all_accepted old)) (drops a)) old done [] c k.queues.full);
       };
-      tickets = record {
-        given_once = IsPermutation-trans (all_tickets done) (all_tickets old) (numbers_below desk.next_ticket) (same_elements tickets old done c) k.tickets.given_once;
-        below = each_closed _ old done [] c k.tickets.below;
-        rising = each_closed _ old done [] c k.tickets.rising;
-      };
+      tickets = gives_closed desk.next_ticket old done c k.tickets;
       named =
           let ws = worker_entries w in
           IsPermutation-trans (all_dropped done ++ ws) (all_dropped old ++ ws) (desk.ledger ++ all_popped done) (IsPermutation-append_left ws (all_dropped done) (all_dropped old) names)
           (IsPermutation-trans (all_dropped old ++ ws) (desk.ledger ++ all_popped old) (desk.ledger ++ all_popped done) k.named
           (IsPermutation-append_right desk.ledger (all_popped old) (all_popped done) (IsPermutation-sym (all_popped done) (all_popped old) pops)));
       counted = let ws = worker_entries w in k.counted ∙ counts_same (all_dropped done ++ ws) (all_dropped old ++ ws) (IsPermutation-append_left ws (all_dropped done) (all_dropped old) names);
-      late = record {
-        counted = k.late.counted ∙ ap capped (same_sum (λ (a : PassAccount). a.late) old done c);
-        late_if_closed = λ some. k.late.late_if_closed (let e = same_sum (λ (a : PassAccount). a.late) old done c in omega arith);
-        closed_is = k.late.closed_is ∙ ap (closed_by desk.next_ticket) (same_sum (λ (a : PassAccount). a.shutdowns) old done c);
-      };
+      late = late_closed desk.late desk.next_ticket desk.closed old done c k.late;
       floors = each_closed _ old done [] c k.floors;
       batches = k.batches;
     }
-
--- the one of a list is gone
-one_removed : {V : Type 0} (x v : V) (new : List V) → Removes (x ∷ []) v new → v ≡ x
-one_removed {V} x v new r =
-    let long = ap length r.2 in let parts = length-append r.0 (v ∷ r.1) in
-    let front : r.0 ≡ [] = nil_from_length r.0 (omega arith) in let back : r.1 ≡ [] = nil_from_length r.1 (omega arith) in
-    let whole : x ∷ [] ≡ v ∷ [] = r.2 ∙ ap (λ (xs : List V). xs ++ v ∷ r.1) front ∙ ap (λ (xs : List V). v ∷ xs) back in cc
 
 -- the processor's own account is closed, then the worker's, and then those of all passes
 module _ (origin said his : Origin) (desk : Desk) (all rest passes left : List Holder) (w : WorkerAccount) (done : List PassAccount) (k : Kept origin desk all) (r : Removes all (processor said) rest) (q : Removes rest (worker his w) passes)
@@ -122,10 +100,10 @@ module _ (origin : Origin) (desk : Desk) (passes : List PassAccount) (w : Worker
   queued_are none =
       let all = flat_map (λ (b : EndedBatch). b.spans) w.ended in
       let taken : taken_spans w ≡ all = ap (λ (o : Option OutBatch). all ++ out_spans o) none ∙ append-nil all in
-      let q : IsPermutation (all_queued passes) (all ++ desk.waiting) = subst (λ (l : List EndedSpan). IsPermutation (all_queued passes) (l ++ desk.waiting)) taken x.agrees.queues.queued in
+      let q : IsPermutation (all_accepted passes) (all ++ desk.waiting) = subst (λ (l : List EndedSpan). IsPermutation (all_accepted passes) (l ++ desk.waiting)) taken x.agrees.queues.queued in
       let p : IsPermutation (all ++ desk.waiting) ((handed_spans w ++ dropped_spans w) ++ desk.waiting) = IsPermutation-append_left desk.waiting all (handed_spans w ++ dropped_spans w) (parted w.ended) in
-      subst (λ (l : List EndedSpan). IsPermutation (all_queued passes) l) (append_assoc (handed_spans w) (dropped_spans w) desk.waiting)
-      (IsPermutation-trans (all_queued passes) (all ++ desk.waiting) ((handed_spans w ++ dropped_spans w) ++ desk.waiting) q p)
+      subst (λ (l : List EndedSpan). IsPermutation (all_accepted passes) l) (append_assoc (handed_spans w) (dropped_spans w) desk.waiting)
+      (IsPermutation-trans (all_accepted passes) (all ++ desk.waiting) ((handed_spans w ++ dropped_spans w) ++ desk.waiting) q p)
 
   pub floors_are : NoneIsBelowAFloor desk.waiting passes
   floors_are = each_map (λ (a : PassAccount). KeepsFloor desk.next_ticket desk.waiting (taken_spans w ++ desk.waiting) a.floor a.asked) (λ (a : PassAccount). AreFrom a.floor desk.waiting) passes (λ a f. f.above) x.agrees.floors
@@ -140,48 +118,21 @@ module _ (origin : Origin) (desk : Desk) (passes : List PassAccount) (w : Worker
       let z : length (handed_out_spans w.out) ≡ 0 = ap (λ (o : Option OutBatch). length (handed_out_spans o)) none in
       let h = x.agrees.batches.handed in omega arith
 
-  pub late_after : LateAfterShutdown desk.next_ticket passes
-  late_after some few = shut (shutdown_count passes) desk.next_ticket few (sym x.agrees.late.closed_is ∙ x.agrees.late.late_if_closed some)
-    where
-      shut : (n count : ℕ) → count < 2 ^ 64 - 1 → closed_by count n ≡ true → 0 < n
-      shut zero count few is = grind (arith)
-      shut (suc n) count few is = omega arith
-
 -- ---- the beginning
-
-nothing_of : {X : Type 0} (f : PassAccount → List X) → f new_account ≡ [] → (accounts : List PassAccount) → AllByRecursion (λ a. a ≡ new_account) accounts → flat_map f accounts ≡ []
-nothing_of f none [] all = refl
-nothing_of f none (a ∷ accounts) all = ap (λ (x : PassAccount). f x ++ flat_map f accounts) all.0 ∙ ap (λ xs. xs ++ flat_map f accounts) none ∙ nothing_of f none accounts all.1
-
-zero_of : (f : PassAccount → ℕ) → f new_account ≡ 0 → (accounts : List PassAccount) → AllByRecursion (λ a. a ≡ new_account) accounts → sum_by f accounts ≡ 0
-zero_of f none [] all = refl
-zero_of f none (a ∷ accounts) all = let e = sum_by-cons f a accounts in let h = ap f all.0 in let r = zero_of f none accounts all.1 in let z = none in omega arith
-
-each_new : (P : PassAccount → Type 0) → P new_account → (accounts : List PassAccount) → AllByRecursion (λ a. a ≡ new_account) accounts → AllByRecursion P accounts
-each_new P new [] all = tt
-each_new P new (a ∷ accounts) all = (subst P (sym all.0) new, each_new P new accounts all.1)
 
 agrees_new : (config : DeskConfig) (made : ℕ) (accounts : List PassAccount) → AllByRecursion (λ a. a ≡ new_account) accounts → Agrees (new_desk config made) accounts new_worker
 agrees_new config made accounts all = record {
   queues = record {
-    queued = subst (λ (l : List EndedSpan). IsPermutation l []) (sym (nothing_of queued_spans refl accounts all)) (IsPermutation-refl []);
+    queued = subst (λ (l : List EndedSpan). IsPermutation l []) (sym (nothing_of new_account accepted_spans refl accounts all)) (IsPermutation-refl []);
     rising = tt;
     below = tt;
-    full = each_new _ tt accounts all;
+    full = each_same new_account _ tt accounts all;
   };
-  tickets = record {
-    given_once = subst (λ (ns : List ℕ). IsPermutation ns []) (sym (nothing_of tickets refl accounts all)) (IsPermutation-refl []);
-    below = each_new _ tt accounts all;
-    rising = each_new _ tt accounts all;
-  };
-  named = rw (nothing_of dropped_entries refl accounts all, nothing_of (λ (a : PassAccount). a.popped) refl accounts all) (IsPermutation-refl []);
-  counted = ap (λ (l : List Entry). drop_counts (l ++ [])) (sym (nothing_of dropped_entries refl accounts all));
-  late = record {
-    counted = ap capped (sym (zero_of (λ (a : PassAccount). a.late) refl accounts all));
-    late_if_closed = λ some. absurd (let e = zero_of (λ (a : PassAccount). a.late) refl accounts all in omega arith);
-    closed_is = ap (closed_by 0) (sym (zero_of (λ (a : PassAccount). a.shutdowns) refl accounts all));
-  };
-  floors = each_new _ (record { above = tt; floor_given = omega arith; asked_given = omega arith; mark_given = omega arith; behind = tt }) accounts all;
+  tickets = gives_new accounts all;
+  named = rw (nothing_of new_account dropped_entries refl accounts all, nothing_of new_account (λ (a : PassAccount). a.popped) refl accounts all) (IsPermutation-refl []);
+  counted = ap (λ (l : List Entry). drop_counts (l ++ [])) (sym (nothing_of new_account dropped_entries refl accounts all));
+  late = late_new accounts all;
+  floors = each_same new_account _ (record { above = tt; floor_given = omega arith; asked_given = omega arith; mark_given = omega arith; behind = tt }) accounts all;
   batches = record { out = refl; taken = refl; numbered = refl; handed = refl; fates_are = refl; drained = λ h. cc };
 }
 
@@ -194,12 +145,6 @@ two_replaced {V} x u v w new apart r = by_before r.0 r.1 r.2 r.3
     by_before (y ∷ []) behind is then' =
         let same : x ≡ y = cc in let none : behind ≡ [] = cc in then' ∙ ap (λ (a : V). a ∷ w ∷ behind) (sym same) ∙ ap (λ (l : List V). x ∷ w ∷ l) none
     by_before (y ∷ z ∷ before) behind is then' = let long = ap length is in let parts = length-append before (v ∷ behind) in absurd (omega arith)
-
-one_told : {V : Type 0} (v w : V) (new : List V) (u : V) → Replaces (u ∷ []) v w new → new ≡ w ∷ []
-one_told {V} v w new u r =
-    let long = ap length r.2 in let parts = length-append r.0 (v ∷ r.1) in
-    let front : r.0 ≡ [] = nil_from_length r.0 (omega arith) in let back : r.1 ≡ [] = nil_from_length r.1 (omega arith) in
-    r.3 ∙ ap (λ (xs : List V). xs ++ w ∷ r.1) front ∙ ap (λ (xs : List V). w ∷ xs) back
 
 new_accounts : (holders : List Holder) → AllByRecursion (λ h. h ≡ pass new_account) holders → AllByRecursion (λ a. a ≡ new_account) (pass_accounts holders) × (worker_accounts holders ≡ [])
 new_accounts [] all = (tt, refl)
@@ -230,7 +175,7 @@ pub kept_begins : (origin : Origin) (made : ℕ) (desk : Desk) (empty one first 
 kept_begins origin made desk empty one first two second holders opened p p' u u' desk_is none one_is r p_is two_is u_is q v_is is few sizes all =
     let w0 = worker new_origin new_worker in
     let single : one ≡ processor new_origin ∷ [] = one_is ∙ ap (λ (hs : List Holder). hs ++ processor new_origin ∷ []) none in
-    let begun : first ≡ processor origin ∷ [] = one_told p p' first (processor new_origin) (subst (λ (hs : List Holder). Replaces hs p p' first) single r) ∙ ap (λ (h : Holder). h ∷ []) p_is in
+    let begun : first ≡ processor origin ∷ [] = (one_replaced (processor new_origin) p p' first (subst (λ (hs : List Holder). Replaces hs p p' first) single r)).1 ∙ ap (λ (h : Holder). h ∷ []) p_is in
     let both : two ≡ processor origin ∷ w0 ∷ [] = two_is ∙ ap (λ (hs : List Holder). hs ++ w0 ∷ []) begun in
     let told : second ≡ processor origin ∷ u' ∷ [] = two_replaced (processor origin) w0 u u' second (λ e. let f : processor origin ≡ w0 = e ∙ u_is in cc) (subst (λ (hs : List Holder). Replaces hs u u' second) both q) in
     let whole : holders ≡ processor origin ∷ worker origin new_worker ∷ opened = is ∙ ap (λ (hs : List Holder). hs ++ opened) (told ∙ ap (λ (h : Holder). processor origin ∷ h ∷ []) v_is) in

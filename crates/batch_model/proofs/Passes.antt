@@ -11,13 +11,17 @@ use Rattle.span_model.specs.Spans.{EndedSpan, with_ticket}
 use Rattle.span_model.specs.Dropped.{Entry, queue_full, entry_of}
 use Rattle.desk_model.specs.Desks.{Desk, accepted_count, capped, drop_counts, is_flushed, with_drops}
 use Rattle.desk_model.proofs.Events.{counts-more}
-use Rattle.batch_model.specs.Passes.{Asked, Drop, PassAccount, SpanEnd, queued, dropped, all_dropped, all_popped, drop_in, dropped_entries, dropped_entry, late_count, queued_span, ticket_of, tickets}
+use Rattle.pass_model.specs.Passes as ends_of
+use Rattle.pass_model.specs.Passes.{Asked, Drop, PassAccount, SpanEnd, after_late, after_pop, all_dropped, all_popped, drop_in, dropped_entries, dropped_entry, tickets}
+use Rattle.pass_model.specs.Clauses.{CountsLate}
+use Rattle.pass_model.proofs.Lists.{counts_same, names_more}
+use Rattle.pass_model.proofs.Steps.{closed_by, closes-last, gives_step, late_step, no_news, none_more, one_news, shut-closes}
 use Rattle.batch_model.specs.Worker.{WorkerAccount, taken_spans, worker_entries}
-use Rattle.batch_model.specs.Clauses.{AreFrom, DropsAreCounted, DropsAreNamed, FoundItFull, count_between, numbers_below}
-use Rattle.batch_model.specs.Holders.{after_flush, after_flushed, after_full, after_late, after_pop, after_queued, after_shutdown}
-use Rattle.batch_model.specs.Kept.{Agrees, Batches, CountsLate, KeepsFloor, Queues, accepted}
-use Rattle.batch_model.proofs.Lists.{below-more, between-all, between-append, counts_same, grown_between, names_more}
-use Rattle.batch_model.proofs.Parts.{News, closed_by, closes-last, floor_asked, floor_flushed, floor_step, floors_step, gives_step, late_step, queues_step, shut-closes}
+use Rattle.batch_model.specs.Clauses.{AreFrom, DropsAreCounted, DropsAreNamed, FoundItFull, count_between}
+use Rattle.batch_model.specs.Holders.{after_flush, after_flushed, after_shutdown}
+use Rattle.batch_model.specs.Kept.{Agrees, KeepsFloor, accepted}
+use Rattle.batch_model.proofs.Lists.{between-all, between-append, grown_between}
+use Rattle.batch_model.proofs.Parts.{QueueNews, floor_asked, floor_flushed, floor_step, floors_step, queues_step}
 
 -- what a pass does not change of a desk
 pub record Keeps (desk desk' : Desk) (ss : List EndedSpan) : Type 0 where
@@ -31,7 +35,7 @@ pub record Keeps (desk desk' : Desk) (ss : List EndedSpan) : Type 0 where
   pub closed : desk.closed ≡ true → (desk'.closed ≡ true) × (ss ≡ [])
 
 module _ (desk desk' : Desk) (w : WorkerAccount) (old new : List PassAccount) (a b : PassAccount) (r : Replaces old a b new) (k : Agrees desk old w)
-    (es : List SpanEnd) (ss : List EndedSpan) (ps : List Entry) (n : News desk.next_ticket desk'.next_ticket es ss) (same : Keeps desk desk' ss) (ends : b.ends ≡ a.ends ++ es) (popped : b.popped ≡ a.popped ++ ps)
+    (es : List SpanEnd) (ss : List EndedSpan) (ps : List Entry) (n : QueueNews desk.next_ticket desk'.next_ticket es ss) (same : Keeps desk desk' ss) (ends : b.ends ≡ a.ends ++ es) (popped : b.popped ≡ a.popped ++ ps)
     (found : AllByRecursion (FoundItFull desk.config.queue (accepted desk w)) (filter_map drop_in es)) (names : IsPermutation (filter_map dropped_entry es ++ desk.ledger) (desk'.ledger ++ ps)) (counts : desk'.dropped ≡ drop_counts ((all_dropped old ++ worker_entries w) ++ filter_map dropped_entry es))
     (late : CountsLate desk'.late desk'.next_ticket desk'.closed new) (one : KeepsFloor desk'.next_ticket (desk.waiting ++ ss) (accepted desk w ++ ss) b.floor b.asked) where
   dropped_is : dropped_entries b ≡ dropped_entries a ++ filter_map dropped_entry es
@@ -55,11 +59,11 @@ module _ (desk desk' : Desk) (w : WorkerAccount) (old new : List PassAccount) (a
   pub agrees_pass : Agrees desk' new w
   agrees_pass = record {
     queues = rw (same.config, accepted_is) (queues_step desk.next_ticket desk'.next_ticket es ss n old new a b r ends desk.config.queue (accepted desk w) k.queues found);
-    tickets = gives_step desk.next_ticket desk'.next_ticket es ss n old new a b r ends k.tickets;
+    tickets = gives_step desk.next_ticket desk'.next_ticket es n.news old new a b r ends k.tickets;
     named = named;
     counted = counted;
     late = late;
-    floors = rw (same.waiting, sym (append_assoc (taken_spans w) desk.waiting ss)) (floors_step desk.next_ticket desk'.next_ticket desk.waiting (accepted desk w) ss old new a b r n.grows n.spans_from k.floors one);
+    floors = rw (same.waiting, sym (append_assoc (taken_spans w) desk.waiting ss)) (floors_step desk.next_ticket desk'.next_ticket desk.waiting (accepted desk w) ss old new a b r n.news.grows n.spans_from k.floors one);
     batches = record {
       out = same.out ∙ k.batches.out;
       taken = same.taken ∙ k.batches.taken;
@@ -74,21 +78,8 @@ module _ (desk desk' : Desk) (w : WorkerAccount) (old new : List PassAccount) (a
 
 -- ---- no span ends
 
-pub no_news : (next : ℕ) → News next next [] []
-no_news next = record {
-  spans = refl;
-  grows = omega arith;
-  numbers = sym (append-nil (numbers_below next));
-  rise = tt;
-  from = tt;
-  upto = tt;
-  spans_rise = tt;
-  spans_from = tt;
-  spans_upto = tt;
-}
-
-none_more : (n : ℕ) → n ≡ n + 0
-none_more n = omega arith
+nothing_queued : (next : ℕ) → QueueNews next next [] []
+nothing_queued next = record { news = no_news next; spans = refl; spans_rise = tt; spans_from = tt; spans_upto = tt }
 
 -- the floor of a pass of which nothing is told, where none was queued
 still_above : (next : ℕ) (waiting spans : List EndedSpan) (floor : ℕ) (asked : Asked) → KeepsFloor next waiting spans floor asked → KeepsFloor next (waiting ++ []) (spans ++ []) floor asked
@@ -120,7 +111,7 @@ module _ (desk : Desk) (w : WorkerAccount) (old new : List PassAccount) (a b : P
   quiet : (ask : ℕ) → b.ends ≡ a.ends → b.popped ≡ a.popped → b.late ≡ a.late → b.shutdowns ≡ a.shutdowns → KeepsFloor desk.next_ticket desk.waiting (accepted desk w) b.floor b.asked
       → Agrees (record desk { asked = ask }) new w
   quiet ask ends popped late shuts one =
-      agrees_pass desk (record desk { asked = ask }) w old new a b r k [] [] [] (no_news desk.next_ticket)
+      agrees_pass desk (record desk { asked = ask }) w old new a b r k [] [] [] (nothing_queued desk.next_ticket)
       (record { config = refl; waiting = sym (append-nil desk.waiting); out = refl; taken = refl; batches = refl; fates = refl; handed = refl; closed = λ c. (c, refl) })
       (ends ∙ sym (append-nil a.ends)) (popped ∙ sym (append-nil a.popped)) tt same_ledger same_counts (same_late late shuts) (still_above desk.next_ticket desk.waiting (accepted desk w) b.floor b.asked one)
 
@@ -142,7 +133,7 @@ module _ (desk : Desk) (w : WorkerAccount) (old new : List PassAccount) (a b : P
       (λ n is. is ∙ ap capped (none_more n)) (λ n was some. refl) (λ n is. shut-closes desk.next_ticket n) in
       let one : KeepsFloor desk.next_ticket desk.waiting (accepted desk w) b.floor b.asked = rw (ap (λ (x : PassAccount). x.floor) told, ap (λ (x : PassAccount). x.asked) told) (floor_asked desk.next_ticket desk.waiting (accepted desk w) a.floor (accepted_count desk) a.asked count_is floor_of) in
       subst (λ (d : Desk). Agrees d new w) (sym is)
-      (agrees_pass desk (record desk { asked = accepted_count desk; closed = true }) w old new a b r k [] [] [] (no_news desk.next_ticket)
+      (agrees_pass desk (record desk { asked = accepted_count desk; closed = true }) w old new a b r k [] [] [] (nothing_queued desk.next_ticket)
       (record { config = refl; waiting = sym (append-nil desk.waiting); out = refl; taken = refl; batches = refl; fates = refl; handed = refl; closed = λ c. (refl, refl) })
       (ap (λ (x : PassAccount). x.ends) told ∙ sym (append-nil a.ends)) (ap (λ (x : PassAccount). x.popped) told ∙ sym (append-nil a.popped)) tt same_ledger same_counts late (still_above desk.next_ticket desk.waiting (accepted desk w) b.floor b.asked one))
 
@@ -150,7 +141,7 @@ module _ (desk : Desk) (w : WorkerAccount) (old new : List PassAccount) (a b : P
   pop_agrees desk' entry first is told =
       let one : KeepsFloor desk.next_ticket desk.waiting (accepted desk w) b.floor b.asked = rw (ap (λ (x : PassAccount). x.floor) told, ap (λ (x : PassAccount). x.asked) told) floor_of in
       subst (λ (d : Desk). Agrees d new w) (sym is)
-      (agrees_pass desk (record desk { ledger = desk'.ledger }) w old new a b r k [] [] (entry ∷ []) (no_news desk.next_ticket)
+      (agrees_pass desk (record desk { ledger = desk'.ledger }) w old new a b r k [] [] (entry ∷ []) (nothing_queued desk.next_ticket)
       (record { config = refl; waiting = sym (append-nil desk.waiting); out = refl; taken = refl; batches = refl; fates = refl; handed = refl; closed = λ c. (c, refl) })
       (ap (λ (x : PassAccount). x.ends) told ∙ sym (append-nil a.ends)) (ap (λ (x : PassAccount). x.popped) told) tt
       (subst (λ (es : List Entry). IsPermutation es (desk'.ledger ++ entry ∷ [])) (sym first) (IsPermutation-sym (desk'.ledger ++ entry ∷ []) (entry ∷ desk'.ledger) (IsPermutation-to_front desk'.ledger entry)))
@@ -162,7 +153,7 @@ module _ (desk : Desk) (w : WorkerAccount) (old new : List PassAccount) (a b : P
       let late = late_step desk.next_ticket desk.next_ticket desk.late (capped (desk.late + 1)) desk.closed desk.closed old new a b r k.late 1 0 (ap (λ (x : PassAccount). x.late) told) (ap (λ (x : PassAccount). x.shutdowns) told ∙ none_more a.shutdowns)
       (λ n is. omega arith) (λ n was some. closed) (λ n is. is ∙ ap (closed_by desk.next_ticket) (none_more n)) in
       subst (λ (d : Desk). Agrees d new w) (sym is)
-      (agrees_pass desk (record desk { late = capped (desk.late + 1) }) w old new a b r k [] [] [] (no_news desk.next_ticket)
+      (agrees_pass desk (record desk { late = capped (desk.late + 1) }) w old new a b r k [] [] [] (nothing_queued desk.next_ticket)
       (record { config = refl; waiting = sym (append-nil desk.waiting); out = refl; taken = refl; batches = refl; fates = refl; handed = refl; closed = λ c. (c, refl) })
       (ap (λ (x : PassAccount). x.ends) told ∙ sym (append-nil a.ends)) (ap (λ (x : PassAccount). x.popped) told ∙ sym (append-nil a.popped)) tt same_ledger same_counts late (still_above desk.next_ticket desk.waiting (accepted desk w) b.floor b.asked one))
 
@@ -178,29 +169,19 @@ module _ (desk : Desk) (w : WorkerAccount) (old new : List PassAccount) (a b : P
   open_closed admits shut = absurd (let f = admits in cc)
 
   pub queued_agrees : (desk' : Desk) (s : EndedSpan) → desk.closed ≡ false → s.ticket ≡ desk.next_ticket → desk' ≡ record desk { next_ticket = desk.next_ticket + 1; closed = desk.next_ticket + 1 == 2 ^ 64 - 1; waiting = desk.waiting ++ s ∷ [] }
-      → b ≡ record a { ends = a.ends ++ queued s ∷ [] } → Agrees desk' new w
+      → b ≡ record a { ends = a.ends ++ ends_of.accepted s ∷ [] } → Agrees desk' new w
   queued_agrees desk' s admits ticket is told =
       let ss : List EndedSpan = s ∷ [] in
       let one : KeepsFloor (desk.next_ticket + 1) (desk.waiting ++ ss) (accepted desk w ++ ss) b.floor b.asked = rw (ap (λ (x : PassAccount). x.floor) told, ap (λ (x : PassAccount). x.asked) told) (floor_step desk.next_ticket (desk.next_ticket + 1) desk.waiting (accepted desk w) ss a.floor a.asked (omega arith) (omega arith, tt) floor_of) in
       subst (λ (d : Desk). Agrees d new w) (sym is)
-      (agrees_pass desk (record desk { next_ticket = desk.next_ticket + 1; closed = desk.next_ticket + 1 == 2 ^ 64 - 1; waiting = desk.waiting ++ ss }) w old new a b r k (queued s ∷ []) ss []
-      (record {
-        spans = refl;
-        grows = omega arith;
-        numbers = below-more desk.next_ticket ∙ ap (λ (n : ℕ). numbers_below desk.next_ticket ++ n ∷ []) (sym ticket);
-        rise = (tt, tt);
-        from = (omega arith, tt);
-        upto = (omega arith, tt);
-        spans_rise = (tt, tt);
-        spans_from = (omega arith, tt);
-        spans_upto = (omega arith, tt);
-      })
+      (agrees_pass desk (record desk { next_ticket = desk.next_ticket + 1; closed = desk.next_ticket + 1 == 2 ^ 64 - 1; waiting = desk.waiting ++ ss }) w old new a b r k (ends_of.accepted s ∷ []) ss []
+      (record { news = one_news desk.next_ticket (ends_of.accepted s) ticket; spans = refl; spans_rise = (tt, tt); spans_from = (omega arith, tt); spans_upto = (omega arith, tt) })
       (record { config = refl; waiting = refl; out = refl; taken = refl; batches = refl; fates = refl; handed = refl; closed = open_closed admits })
       (ap (λ (x : PassAccount). x.ends) told) (ap (λ (x : PassAccount). x.popped) told ∙ sym (append-nil a.popped)) tt same_ledger same_counts (ticket_late admits (ap (λ (x : PassAccount). x.late) told) (ap (λ (x : PassAccount). x.shutdowns) told)) one)
 
   -- the queue is full: those that wait have their tickets from the pass's floor on
   pub full_agrees : (desk' : Desk) (d : Drop) (s : EndedSpan) → d.entry ≡ entry_of queue_full s → desk.closed ≡ false → length desk.waiting ≡ desk.config.queue → d.entry.ticket ≡ desk.next_ticket → d.floor ≡ a.floor
-      → desk' ≡ record desk { next_ticket = desk.next_ticket + 1; closed = desk.next_ticket + 1 == 2 ^ 64 - 1; ledger = d.entry ∷ desk.ledger; dropped = with_drops queue_full 1 desk.dropped } → b ≡ record a { ends = a.ends ++ dropped d ∷ [] } → Agrees desk' new w
+      → desk' ≡ record desk { next_ticket = desk.next_ticket + 1; closed = desk.next_ticket + 1 == 2 ^ 64 - 1; ledger = d.entry ∷ desk.ledger; dropped = with_drops queue_full 1 desk.dropped } → b ≡ record a { ends = a.ends ++ ends_of.dropped d ∷ [] } → Agrees desk' new w
   full_agrees desk' d s named admits whole ticket floor is told =
       let one : KeepsFloor (desk.next_ticket + 1) (desk.waiting ++ []) (accepted desk w ++ []) b.floor b.asked = rw (ap (λ (x : PassAccount). x.floor) told, ap (λ (x : PassAccount). x.asked) told) (floor_step desk.next_ticket (desk.next_ticket + 1) desk.waiting (accepted desk w) [] a.floor a.asked (omega arith) tt floor_of) in
       let parts = between-append d.floor d.entry.ticket (taken_spans w) desk.waiting in
@@ -211,18 +192,8 @@ module _ (desk : Desk) (w : WorkerAccount) (old new : List PassAccount) (a b : P
       let one_more : with_drops queue_full 1 desk.dropped ≡ drop_counts (had ++ d.entry ∷ []) =
       ap (with_drops queue_full 1) k.counted ∙ sym (counts-more queue_full had (s ∷ [])) ∙ ap (λ (e : Entry). drop_counts (had ++ e ∷ [])) (sym named) in
       subst (λ (x : Desk). Agrees x new w) (sym is)
-      (agrees_pass desk (record desk { next_ticket = desk.next_ticket + 1; closed = desk.next_ticket + 1 == 2 ^ 64 - 1; ledger = d.entry ∷ desk.ledger; dropped = with_drops queue_full 1 desk.dropped }) w old new a b r k (dropped d ∷ []) [] []
-      (record {
-        spans = refl;
-        grows = omega arith;
-        numbers = below-more desk.next_ticket ∙ ap (λ (n : ℕ). numbers_below desk.next_ticket ++ n ∷ []) (sym ticket);
-        rise = (tt, tt);
-        from = (omega arith, tt);
-        upto = (omega arith, tt);
-        spans_rise = tt;
-        spans_from = tt;
-        spans_upto = tt;
-      })
+      (agrees_pass desk (record desk { next_ticket = desk.next_ticket + 1; closed = desk.next_ticket + 1 == 2 ^ 64 - 1; ledger = d.entry ∷ desk.ledger; dropped = with_drops queue_full 1 desk.dropped }) w old new a b r k (ends_of.dropped d ∷ []) [] []
+      (record { news = one_news desk.next_ticket (ends_of.dropped d) ticket; spans = refl; spans_rise = tt; spans_from = tt; spans_upto = tt })
       (record { config = refl; waiting = sym (append-nil desk.waiting); out = refl; taken = refl; batches = refl; fates = refl; handed = refl; closed = open_closed admits })
       (ap (λ (x : PassAccount). x.ends) told) (ap (λ (x : PassAccount). x.popped) told ∙ sym (append-nil a.popped)) (found, tt)
       (subst (λ (es : List Entry). IsPermutation (d.entry ∷ desk.ledger) es) (sym (append-nil (d.entry ∷ desk.ledger))) (IsPermutation-refl (d.entry ∷ desk.ledger)))

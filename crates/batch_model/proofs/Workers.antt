@@ -13,13 +13,14 @@ use Rattle.retry_model.specs.Retries.{Outcome, Fate}
 use Rattle.desk_model.specs.Desks as desks
 use Rattle.desk_model.specs.Desks.{Desk, drop_counts, fate_counts, handed_out, out_size, with_drops, with_fate}
 use Rattle.desk_model.proofs.Events.{counts-more, fates-more}
-use Rattle.batch_model.specs.Passes.{PassAccount, all_dropped, all_popped}
+use Rattle.pass_model.specs.Passes.{PassAccount, all_dropped, all_popped}
+use Rattle.pass_model.proofs.Lists.{range-more}
 use Rattle.batch_model.specs.Worker.{BatchEnd, EndedBatch, OutBatch, WorkerAccount, entries_by, fate_in, fates, handed_out_spans, handed_spans, numbers, out_number, out_spans, spans_if_settled, spans_with, taken_spans, worker_entries}
 use Rattle.batch_model.specs.Worker as batches
 use Rattle.batch_model.specs.Clauses.{AreFrom, DropsAreCounted, DropsAreNamed}
 use Rattle.batch_model.specs.Holders.{after_drained, after_drop, after_handed, after_settle, after_take, ended_with, handed_with, settled_with}
 use Rattle.batch_model.specs.Kept.{Agrees, Batches, KeepsFloor, accepted, shown_out}
-use Rattle.batch_model.proofs.Lists.{each_drop, range-more}
+use Rattle.batch_model.proofs.Lists.{each_drop}
 
 -- what the worker does not change of a desk
 pub record Stays (desk desk' : Desk) : Type 0 where
@@ -66,9 +67,6 @@ names_on ds ws ms ledger popped same =
     subst (λ (l : List Entry). IsPermutation l ((reverse ms ++ ledger) ++ popped)) (append_assoc ds ws ms) (subst (λ (l : List Entry). IsPermutation ((ds ++ ws) ++ ms) l) (sym (append_assoc (reverse ms) ledger popped)) whole)
 
 -- ---- a batch is taken
-
-none_more : (n : ℕ) → n + 0 ≡ n
-none_more n = omega arith
 
 module _ (desk : Desk) (u : WorkerAccount) (passes : List PassAccount) (k : Agrees desk passes u) where
   -- the spans of the batches that have ended

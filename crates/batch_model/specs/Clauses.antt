@@ -1,7 +1,7 @@
 -- What the accounts of all passes and of the worker say, once they are given back, beside what the
 -- queue shows then. (Trace SDK, Batching processor, ForceFlush, Shutdown; tickets, floors and the
 -- ledger: profile)
-use Rattle.std.specs.Prelude.{◌≡◌, ℕ, ◌+◌, ◌-◌, ◌^◌, ◌<◌, ◌≤◌, ◌&&◌, ◌||◌, ◌==◌, nat_le, nat_lt, Bool, true, List, [], ◌∷◌, ◌++◌, length, map, count_by, IsPermutation, Option, Some, None}
+use Rattle.std.specs.Prelude.{◌≡◌, ℕ, ◌+◌, ◌≤◌, ◌&&◌, nat_le, nat_lt, true, List, [], ◌∷◌, ◌++◌, length, map, count_by, IsPermutation, Option, Some, None}
 use Rattle.std.specs.List.{flat_map, range_with_len, AllByRecursion}
 use Rattle.message_model.specs.Reading.{Reads}
 use Rattle.message_model.specs.Messages.{body_meaning}
@@ -11,9 +11,9 @@ use Rattle.span_model.specs.Spans.{EndedSpan}
 use Rattle.span_model.specs.Dropped.{Reason, is_reason, Entry}
 use Rattle.export_model.specs.Export.{groups, grouped_triples, request_message}
 use Rattle.retry_model.specs.Retries.{Outcome, Fate, abandoned, fate_of}
-use Rattle.desk_model.specs.Desks.{DeskConfig, DropCounts, FateCounts, capped, drop_counts, fate_counts}
+use Rattle.desk_model.specs.Desks.{DeskConfig, DropCounts, FateCounts, drop_counts, fate_counts}
 use Rattle.retry_model.specs.Waits.{RetryConfig, next_after}
-use Rattle.batch_model.specs.Passes.{PassAccount, Drop, Rises, tickets, drops, all_queued, all_dropped, all_popped, all_tickets, late_count, shutdown_count}
+use Rattle.pass_model.specs.Passes.{PassAccount, Drop, Rises, drops, all_accepted, all_dropped, all_popped}
 use Rattle.batch_model.specs.Worker.{WorkerAccount, EndedBatch, BatchEnd, settled, dropped, OutBatch, taken_spans, handed_spans, dropped_spans, worker_entries, fates, numbers}
 
 abbrev pub tickets_of : List EndedSpan → List ℕ
@@ -25,21 +25,9 @@ tickets_of spans = map (λ (s : EndedSpan). s.ticket) spans
 -- handed, those of the batches that were dropped, and those that are left.
 abbrev pub QueuedAreAccounted : List EndedSpan → List PassAccount → WorkerAccount → Type 0
 QueuedAreAccounted left passes worker =
-    IsPermutation (all_queued passes) (handed_spans worker ++ (dropped_spans worker ++ left))
+    IsPermutation (all_accepted passes) (handed_spans worker ++ (dropped_spans worker ++ left))
 
--- ---- 2: tickets
-
--- the numbers below n, in order
-abbrev pub numbers_below : ℕ → List ℕ
-numbers_below n = range_with_len 0 n
-
--- The tickets of spans that were queued or dropped are the numbers below the next one, each once.
-abbrev pub TicketsAreGivenOnce : ℕ → List PassAccount → Type 0
-TicketsAreGivenOnce next passes = IsPermutation (all_tickets passes) (numbers_below next)
-
--- On each pass they rise, in the order of its calls.
-abbrev pub TicketsRise : List PassAccount → Type 0
-TicketsRise passes = AllByRecursion (λ (a : PassAccount). Rises (tickets a)) passes
+-- ---- 2: tickets (and what Clauses.antt of pass_model says of them)
 
 -- how many of these spans have a ticket from the one number up to the other
 abbrev pub count_between : ℕ → ℕ → List EndedSpan → ℕ
@@ -54,7 +42,7 @@ FoundItFull queue spans d = queue ≤ count_between d.floor d.entry.ticket spans
 abbrev pub DropsFoundItFull : ℕ → List PassAccount → Type 0
 DropsFoundItFull queue passes =
     AllByRecursion (λ (a : PassAccount).
-    AllByRecursion (FoundItFull queue (all_queued passes)) (drops a)) passes
+    AllByRecursion (FoundItFull queue (all_accepted passes)) (drops a)) passes
 
 -- ---- 3: names of dropped spans
 
@@ -69,22 +57,7 @@ abbrev pub DropsAreCounted : DropCounts → List PassAccount → WorkerAccount �
 DropsAreCounted counts passes worker =
     counts ≡ drop_counts (all_dropped passes ++ worker_entries worker)
 
--- ---- 4: late spans
-
--- Those that were late are counted, up to the greatest number of 64 bits, and there are some only
--- where some pass called shutdown, or where there are no tickets left.
-abbrev pub LateAreCounted : ℕ → List PassAccount → Type 0
-LateAreCounted late passes = late ≡ capped (late_count passes)
-
-abbrev pub LateAfterShutdown : ℕ → List PassAccount → Type 0
-LateAfterShutdown next passes =
-    0 < late_count passes → next < 2 ^ 64 - 1 → 0 < shutdown_count passes
-
--- No span is admitted any more: a pass called shutdown, or there is no ticket left.
-abbrev pub is_closed : ℕ → List PassAccount → Bool
-is_closed next passes = nat_lt 0 (shutdown_count passes) || (next == 2 ^ 64 - 1)
-
--- ---- 5: batches
+-- ---- 4: batches
 
 -- the bytes that a body of these spans has (which of the ways that Protocol Buffers allow: profile)
 unfoldable pub canonical_body : List EndedSpan → List ℕ
@@ -190,7 +163,7 @@ HandedAreCounted handed worker = handed ≡ length (handed_spans worker)
 abbrev pub FatesAreCounted : FateCounts → WorkerAccount → Type 0
 FatesAreCounted counts worker = counts ≡ fate_counts (fates worker)
 
--- ---- 6: flushes
+-- ---- 5: flushes
 
 -- No span that is left has a ticket below a pass's floor.
 abbrev pub AreFrom : ℕ → List EndedSpan → Type 0

@@ -2,9 +2,9 @@
 use Rattle.std.specs.Prelude.{◌≡◌, ℕ, ◌+◌, List, [], ◌∷◌, ◌++◌, filter_map, Option, Some, None, Bool, true}
 use Rattle.desk_model.specs.Desks.{DeskConfig}
 use Rattle.retry_model.specs.Retries.{Outcome, Fate}
-use Rattle.span_model.specs.Spans.{EndedSpan, with_ticket}
-use Rattle.span_model.specs.Dropped.{Reason, queue_full, Entry, entry_of}
-use Rattle.batch_model.specs.Passes.{PassAccount, new_account, queued, dropped}
+use Rattle.span_model.specs.Spans.{EndedSpan}
+use Rattle.span_model.specs.Dropped.{Reason}
+use Rattle.pass_model.specs.Passes.{PassAccount, new_account}
 use Rattle.batch_model.specs.Worker as batches
 use Rattle.batch_model.specs.Worker.{WorkerAccount, OutBatch, EndedBatch, BatchEnd, new_worker}
 use Rattle.batch_model.specs.Clauses.{Origin}
@@ -59,24 +59,7 @@ abbrev pub on_worker : (WorkerAccount → WorkerAccount) → Holder → Holder
 on_worker f (worker origin account) = worker origin (f account)
 on_worker f holder = holder
 
--- ---- what a hold of the lock tells a pass
-
--- a span was queued under this ticket, or dropped under it
-abbrev pub after_queued : ℕ → EndedSpan → PassAccount → PassAccount
-after_queued ticket span account =
-    record account { ends = account.ends ++ queued (with_ticket ticket span) ∷ [] }
-
-abbrev pub after_full : ℕ → EndedSpan → PassAccount → PassAccount
-after_full ticket span account = record account {
-  ends = account.ends ++ dropped (record {
-    entry = entry_of queue_full (with_ticket ticket span);
-    floor = account.floor;
-  }) ∷ [];
-}
-
--- a span was late
-abbrev pub after_late : PassAccount → PassAccount
-after_late account = record account { late = account.late + 1 }
+-- ---- what a hold of the lock tells a pass, beside what is so of every processor
 
 -- a flush asked, where this ticket was the next one, and so many spans were accepted
 abbrev pub after_flush : ℕ → ℕ → PassAccount → PassAccount
@@ -93,10 +76,6 @@ after_shutdown ticket mark account = record account {
 -- what was asked for is flushed
 abbrev pub after_flushed : PassAccount → PassAccount
 after_flushed account = record account { floor = account.asked.ticket }
-
--- an entry of the ledger was popped
-abbrev pub after_pop : Entry → PassAccount → PassAccount
-after_pop entry account = record account { popped = account.popped ++ entry ∷ [] }
 
 -- ---- what a hold of the lock tells the worker
 

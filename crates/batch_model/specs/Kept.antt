@@ -4,9 +4,10 @@ use Rattle.std.specs.List.{AllByRecursion, range_with_len}
 use Rattle.span_model.specs.Spans.{EndedSpan}
 use Rattle.desk_model.specs.Desks as desks
 use Rattle.desk_model.specs.Desks.{Desk}
-use Rattle.batch_model.specs.Passes.{Asked, PassAccount, Rises, tickets, all_queued, late_count}
+use Rattle.pass_model.specs.Passes.{Asked, PassAccount, Rises, all_accepted}
+use Rattle.pass_model.specs.Clauses.{CountsLate, GivesTickets}
 use Rattle.batch_model.specs.Worker.{WorkerAccount, OutBatch, taken_spans, handed_spans, handed_out_spans, numbers}
-use Rattle.batch_model.specs.Clauses.{Origin, AreFrom, DropsAreCounted, DropsAreNamed, DropsFoundItFull, FatesAreCounted, LateAreCounted, TicketsAreGivenOnce, TicketsRise, is_closed, tickets_of}
+use Rattle.batch_model.specs.Clauses.{Origin, AreFrom, DropsAreCounted, DropsAreNamed, DropsFoundItFull, FatesAreCounted, tickets_of}
 use Rattle.batch_model.specs.Holders.{Holder, processor, pass, worker, pass_accounts, worker_accounts}
 
 -- what a desk shows of the batch that is out
@@ -19,26 +20,13 @@ shown_out (Some batch) =
 abbrev pub accepted : Desk → WorkerAccount → List EndedSpan
 accepted desk account = taken_spans account ++ desk.waiting
 
--- of queued spans, in the order in which they were accepted, where this ticket is the next one
+-- of accepted spans, in that order, where this ticket is the next one
 pub record Queues (queue next : ℕ) (passes : List PassAccount) (spans : List EndedSpan)
     : Type 0 where
-  pub queued : IsPermutation (all_queued passes) spans
+  pub queued : IsPermutation (all_accepted passes) spans
   pub rising : Rises (tickets_of spans)
   pub below : AllByRecursion (λ (s : EndedSpan). s.ticket < next) spans
   pub full : DropsFoundItFull queue passes
-
--- of tickets
-pub record GivesTickets (next : ℕ) (passes : List PassAccount) : Type 0 where
-  pub given_once : TicketsAreGivenOnce next passes
-  pub below : AllByRecursion
-      (λ (a : PassAccount). AllByRecursion (λ t. t < next) (tickets a)) passes
-  pub rising : TicketsRise passes
-
--- of late spans
-pub record CountsLate (late next : ℕ) (closed : Bool) (passes : List PassAccount) : Type 0 where
-  pub counted : LateAreCounted late passes
-  pub late_if_closed : 0 < late_count passes → closed ≡ true
-  pub closed_is : closed ≡ is_closed next passes
 
 -- Of a floor: none that waits is below it. And of what was asked for: behind so many accepted
 -- spans, all have that ticket or a later one.

@@ -13,7 +13,7 @@ use Rattle.batch_desk.specs.Batch.{BatchView, NamedView}
 use Rattle.batch_desk.specs.Desk.{IsNamedOut, IsOut, admission, after_admission, after_drop, after_names, after_take, next_batch, out_state}
 use Rattle.batch_desk.specs.declared.admitted.Admitted.{Admitted}
 use Rattle.batch_desk.specs.declared.admitted.Admitted.TheVariants as admitted
-use Rattle.batch_model.specs.Passes.{PassAccount, tickets}
+use Rattle.pass_model.specs.Passes.{PassAccount, tickets}
 use Rattle.batch_model.specs.Worker.{WorkerAccount}
 use Rattle.batch_model.specs.Clauses.{Origin}
 use Rattle.batch_model.specs.Holders as holders

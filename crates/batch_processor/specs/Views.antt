@@ -2,6 +2,7 @@
 use Rattle.std.specs.Prelude.{ℕ, Bool, true, false, List, map}
 use Rattle.span_model.specs.Spans.{EndedSpan}
 use Rattle.retry_model.specs.Retries as retries
+use Rattle.otlp_span.specs.Dropped.{reason_view}
 use Rattle.otlp_span.specs.declared.reason.Reason.TheVariants as reasons
 use Rattle.trace_api.specs.declared.pass.Ended.{Ended}
 use Rattle.trace_api.specs.declared.pass.Ended.TheVariants as answers
@@ -16,9 +17,8 @@ use Rattle.span_ring.specs.declared.fault.RingFault.{RingFault}
 use Rattle.span_ring.specs.declared.fault.RingFault.TheVariants as rings
 use Rattle.batch_processor.specs.declared.fault.NewFault.{NewFault}
 use Rattle.batch_processor.specs.declared.fault.NewFault.TheVariants as faults
-use Rattle.batch_model.specs.Passes.{PassAccount}
+use Rattle.pass_model.specs.Passes.{PassAccount, after_accepted, after_dropped, after_late}
 use Rattle.batch_model.specs.Clauses.{Origin}
-use Rattle.batch_model.specs.Holders.{after_queued, after_full, after_late}
 
 abbrev pub setup_view : Setup → Origin
 setup_view s = record {
@@ -46,8 +46,9 @@ is_batch_answer _ = false
 
 -- a span that ended, and what was answered
 abbrev pub after_end : Ended → EndedSpan → PassAccount → PassAccount
-after_end (answers.Queued ticket) span account = after_queued ticket span account
-after_end (answers.Dropped ticket reason) span account = after_full ticket span account
+after_end (answers.Queued ticket) span account = after_accepted ticket span account
+after_end (answers.Dropped ticket reason) span account =
+    after_dropped (reason_view reason) ticket span account
 after_end answers.Late span account = after_late account
 after_end _ span account = account
 

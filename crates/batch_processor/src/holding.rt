@@ -1,13 +1,10 @@
 //! What the accounts of a processor say, and how that changes. No value of it is made.
-ghost use Rattle.std.specs.Prelude.{◌≡◌, []};
-
 use crate::config::Setup;
-use account_book::{Blank, Book, Change, Naming, Opening};
+use account_book::{Blank, Change, Opening};
 use batch_desk::{Batch, Desk, NamedBatch};
 use otlp_span::{Entry, SpanData};
 use retry_core::{Fate, Outcome};
 use std::alloc::Allocator;
-use std::fmt;
 use std::marker::{Model, PhantomData};
 use std::snapshot::Snapshot;
 use trace_api::Ended;
@@ -18,7 +15,7 @@ pub struct Holding {
 }
 
 impl Model for Holding {
-    ghost use Rattle.batch_model.specs.Passes.{new_account};
+    ghost use Rattle.pass_model.specs.Passes.{new_account};
     ghost use Rattle.batch_model.specs.Holders.{Holder, pass};
 
     ghost Value = { Holder };
@@ -27,10 +24,8 @@ impl Model for Holding {
 }
 
 /// The account of a pass that has done nothing.
-pub(crate) struct NewPass;
-
-impl Opening<Holding> for NewPass {
-    ghost use Rattle.batch_model.specs.Passes.{new_account};
+impl Opening<Holding> for Holding {
+    ghost use Rattle.pass_model.specs.Passes.{new_account};
     ghost use Rattle.batch_model.specs.Holders.{pass};
 
     ghost first = { pass new_account };
@@ -129,7 +124,8 @@ pub(crate) struct Pops;
 
 impl Change<Holding, Entry> for Pops {
     ghost use Rattle.otlp_span.specs.Dropped.{entry_view};
-    ghost use Rattle.batch_model.specs.Holders.{after_pop, on_pass};
+    ghost use Rattle.pass_model.specs.Passes.{after_pop};
+    ghost use Rattle.batch_model.specs.Holders.{on_pass};
 
     ghost after = { λ holder entry. on_pass (after_pop (entry_view entry)) holder };
 }
@@ -192,47 +188,4 @@ impl Change<Holding, ()> for Drains {
 
 /// The accounts of one processor, before it is made: `BatchProcessor::new` opens them. In contracts
 /// it is their name, by which a type parameter stands for this one processor.
-#[derive(Drop)]
-pub struct BatchBlank {
-    blank: Blank<Holding>,
-}
-
-impl Model for BatchBlank {
-    ghost use Rattle.std.specs.Prelude.{ℕ};
-
-    ghost Value = { ℕ };
-
-    ghost view = { λ b. b.blank };
-}
-
-/// Writes the name of the type alone, since a blank has no bytes.
-impl fmt::Debug for BatchBlank {
-    fn fmt<W: fmt::Write>(&self, f: &mut fmt::Formatter<W>) -> fmt::Result {
-        f.debug_struct("BatchBlank").finish_non_exhaustive()
-    }
-}
-
-impl Default for BatchBlank {
-    /// As `BatchBlank::new`.
-    fn default() -> BatchBlank {
-        BatchBlank::new()
-    }
-}
-
-impl BatchBlank {
-    /// No accounts, under a name of their own. It takes no memory.
-    pub fn new() -> BatchBlank {
-        BatchBlank {
-            blank: Blank::new::<NewPass>(),
-        }
-    }
-
-    /// The book without accounts.
-    pub(crate) fn open<J: Naming>(self) -> Book<J, Holding>
-        requires { self ≡ J.name }
-        ensures { result ≡ [] }
-    {
-        let BatchBlank { blank } = self;
-        blank.named::<J>()
-    }
-}
+pub type BatchBlank = Blank<Holding>;

@@ -1,7 +1,7 @@
 //! The passes of a batch processor.
 ghost use Rattle.std.specs.Prelude.{◌≡◌, IfNone, IfSome};
 ghost use Rattle.otlp_span.specs.Dropped.{entry_view};
-ghost use Rattle.batch_model.specs.Holders.{after_pop};
+ghost use Rattle.pass_model.specs.Passes.{after_pop};
 ghost use Rattle.batch_processor.specs.Answers.{IsFlushed, IsShutDown};
 
 use crate::holding::Holding;
@@ -33,7 +33,7 @@ pub struct Pass<J: Naming, R, A: Allocator = Global> {
 
 impl<J: Naming, R, A: Allocator> Model for Pass<J, R, A> {
     ghost use Rattle.std.specs.Prelude.{◌≡◌};
-    ghost use Rattle.batch_model.specs.Passes.{PassAccount};
+    ghost use Rattle.pass_model.specs.Passes.{PassAccount};
     ghost use Rattle.batch_model.specs.Holders.{account_in, pass};
 
     ghost Value = { PassAccount };

@@ -1,21 +1,22 @@
 //! The batch processor.
 ghost use Rattle.std.specs.Prelude.{◌≡◌, ℕ, ◌-◌, ◌^◌, ◌<◌, ◌≤◌, ◌++◌, ◌↔◌, ◌⊎◌, IfErr, IfOk, IfSome, IsErrOf, MatchResult, OnOk, vec_len, None, true};
 ghost use Rattle.std.specs.List.{AllByRecursion};
-ghost use Rattle.batch_model.specs.Passes.{new_account};
+ghost use Rattle.pass_model.specs.Passes.{new_account};
 ghost use Rattle.batch_model.specs.Worker.{new_worker};
 ghost use Rattle.batch_model.specs.Holders.{pass};
 ghost use Rattle.batch_processor.specs.Views.{setup_view};
 ghost use Rattle.batch_processor.specs.declared.processor.TheConstants.{MAX_PASSES};
-ghost use Rattle.batch_model.specs.Clauses.{BatchesAreNumbered, DropsAreCounted, DropsAreNamed, HandedAreCounted, IsByWork, IsOutByWork, is_closed, DropsFoundItFull, DrainedLeavesNone, FatesAreCounted, LateAfterShutdown, LateAreCounted, NoneIsBelowAFloor, QueuedAreAccounted, TicketsAreGivenOnce, TicketsRise, TicketsRiseThrough, abandon};
+ghost use Rattle.pass_model.specs.Clauses.{LateAfterShutdown, LateAreCounted, TicketsAreGivenOnce, TicketsRise, is_closed};
+ghost use Rattle.batch_model.specs.Clauses.{BatchesAreNumbered, DropsAreCounted, DropsAreNamed, HandedAreCounted, IsByWork, IsOutByWork, DropsFoundItFull, DrainedLeavesNone, FatesAreCounted, NoneIsBelowAFloor, QueuedAreAccounted, TicketsRiseThrough, abandon};
 
 use crate::config::{BatchConfig, Setup};
 use crate::fault::NewFault;
-use crate::holding::{BatchBlank, Begins, Holding, NewPass, NewProcessor, NewWorker, WorkerBegins};
+use crate::holding::{BatchBlank, Begins, Holding, NewProcessor, NewWorker, WorkerBegins};
 use crate::lock::Lock;
 use crate::pass::Pass;
 use crate::shared::Shared;
 use crate::worker::WorkerPass;
-use account_book::{Account, Book, Naming};
+use account_book::{Account, Naming};
 use batch_desk::Desk;
 use std::alloc::{AllocError, Allocator, Global};
 use std::fmt;
@@ -198,12 +199,12 @@ impl<J: Naming, R: Wait + Copy, A: Allocator + Copy> BatchProcessor<J, R, A> {
         let desk = Desk::new(alloc, sizes, now)?;
         let outcomes = Vec::with_capacity(alloc, 5)?;
         let setup = Setup { passes, config };
-        let mut book = blank.open::<J>();
+        let mut book = blank.named::<J>();
         let mut account = book.open::<NewProcessor>();
         book.record::<Setup, Begins>(&mut account, &setup);
         let mut his = book.open::<NewWorker>();
         book.record::<Setup, WorkerBegins>(&mut his, &setup);
-        let accounts = open_accounts(alloc, &mut book, passes)?;
+        let accounts = book.open_all::<Holding, A>(alloc, passes)?;
         let shared = Shared {
             desk: Some(desk),
             book,
@@ -238,24 +239,6 @@ impl<J: Naming, R: Wait + Copy, A: Allocator + Copy> BatchProcessor<J, R, A> {
             worker,
         })
     }
-}
-
-/// Opens an account for each of so many passes.
-fn open_accounts<J: Naming, A: Allocator>(
-    alloc: A,
-    book: &mut Book<J, Holding>,
-    passes: usize,
-) -> Result<Vec<Account<J, Holding>, A>, AllocError>
-    ensures book { IfOk result (λ opened. book.new ≡ book.old ++ opened.items) }
-    ensures count { IfOk result (λ opened. vec_len opened ≡ passes) }
-    ensures new { IfOk result
-        (λ opened. AllByRecursion (λ h. h ≡ pass new_account) opened.items) }
-{
-    let mut opened = Vec::with_capacity(alloc, passes)?;
-    for _pass in 0..passes {
-        opened.push_reserved(book.open::<NewPass>());
-    }
-    Ok(opened)
 }
 
 /// A pass for each of these accounts.

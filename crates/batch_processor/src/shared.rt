@@ -3,7 +3,8 @@ ghost use Rattle.std.specs.Prelude.{◌≡◌, ℕ, List, ◌≤◌, vec_len, tr
 ghost use Rattle.desk_model.specs.Desks.{accepted_count, is_due};
 ghost use Rattle.otlp_span.specs.Dropped.{entry_view};
 ghost use Rattle.retry_core.specs.Retries.{fate_view};
-ghost use Rattle.batch_model.specs.Holders.{account_in, after_drained, after_drop, after_flushed, after_handed, after_pop, after_settle, after_take, on_pass, on_worker, origin_in, pass, processor, worker, worker_in};
+ghost use Rattle.pass_model.specs.Passes.{after_pop};
+ghost use Rattle.batch_model.specs.Holders.{account_in, after_drained, after_drop, after_flushed, after_handed, after_settle, after_take, on_pass, on_worker, origin_in, pass, processor, worker, worker_in};
 ghost use Rattle.batch_processor.specs.Views.{after_end, ended_of, is_batch_answer, outcomes_view};
 ghost use Rattle.batch_processor.specs.Holds.{Asks, IsBatchOf, IsBatchSize, IsHandedBatchOf, IsNamedBatchOf, Shuts};
 ghost use Rattle.batch_model.specs.Kept.{IsAccountOf};

@@ -10,6 +10,7 @@ use Rattle.std.below.std_heap.specs.contracts.GlobalAllocator.TheImpl.{ghosts}
 use Rattle.std.specs.contracts.sync.Mutex as Mutex
 use Rattle.batch_desk.proofs.Crosses.{data_send, ledger_send}
 use Rattle.batch_desk.proofs.totals.FateCounts.TheSendSync as fates
+use Rattle.span_exporter.proofs.Crosses.{memory, memory_exports, memory_send}
 use Rattle.span_exporter.specs.declared.exporter.Exporter as exporter
 use Rattle.account_book.specs.declared.book.Naming as naming
 use Rattle.account_book.proofs.book.Account.TheSendSync as account
@@ -53,3 +54,7 @@ module _ (J E : RattleType) (g : naming.Ghosts J.Denot) (h : exporter.Ghosts E.D
       declared_send (pass.the_type J E R Heap.the_row g h ghosts)
       (heap.Arc-send lock lock_send lock_sync, (account.the_send J Holding.the_row g, (as_row_send (row_field R) r, tt)))
       )
+
+-- the same where the exporter keeps in memory what it is handed
+pub memory_pass_send : (J R : RattleType) (g : naming.Ghosts J.Denot) → IsSend R → IsSend (SimplePass.the_row J memory R Heap.the_row g memory_exports ghosts)
+memory_pass_send J R g r = pass_send J memory g memory_exports memory_send R r

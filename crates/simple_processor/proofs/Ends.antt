@@ -1,7 +1,6 @@
 -- The steps of a pass, one by one.
-use Rattle.std.proofs.Common.{◌≡◌, ℕ, ◌+◌, ◌-◌, ◌^◌, ◌<◌, Bool, true, false, List, [], ◌∷◌, ◌++◌, sym, refl, ap, ◌∙◌, subst, arith}
-use Rattle.std.specs.Prelude.{IsPermutation, Option, Some, None, ◌==◌, ◌||◌, nat_lt}
-use Rattle.std.specs.List.{AllByRecursion}
+use Rattle.std.proofs.Common.{◌≡◌, ℕ, ◌+◌, ◌<◌, true, false, List, [], ◌∷◌, ◌++◌, sym, refl, ap, ◌∙◌, subst, arith}
+use Rattle.std.specs.Prelude.{IsPermutation, Option, Some, None}
 use Rattle.std.proofs.lemmas.List.{append-nil}
 use Rattle.std.proofs.lemmas.List.Sorted.{IsPermutation-refl, IsPermutation-sym, IsPermutation-to_front}
 use Rattle.span_model.specs.Spans.{EndedSpan, with_ticket}
@@ -14,13 +13,12 @@ use Rattle.otlp_span.specs.declared.reason.Reason.TheVariants as reasons
 use Rattle.trace_api.specs.declared.pass.Ended.{Ended}
 use Rattle.trace_api.specs.declared.pass.Ended.TheVariants as answers
 use Rattle.span_exporter.specs.Handed.{Handed, Gains}
-use Rattle.simple_processor.specs.Accounts.{handed, dropped, PassAccount, Rises, after_end, after_pop, after_shutdown, is_simple_answer}
+use Rattle.pass_model.specs.Passes.{SpanEnd, accepted, dropped, PassAccount, after_pop}
+use Rattle.pass_model.proofs.Steps.{News, closed_by, closes-last, no_news, none_more, one_news, shut-closes}
+use Rattle.simple_processor.specs.Accounts.{after_end, after_shutdown, is_simple_answer}
 use Rattle.simple_processor.specs.Bodies.{fates_of}
 use Rattle.simple_processor.specs.Desk.{State, Answers, IsDropped, IsHanded, IsLate, Pops, is_last_ticket, memory_drops, ticket_count}
-use Rattle.simple_processor.specs.Kept.{numbers_below}
-use Rattle.simple_processor.proofs.Lists.{below-more, rises-more, still-below}
-use Rattle.simple_processor.proofs.Agree.{Step, closed_by}
-use Rattle.account_book.proofs.Facts.{each_append}
+use Rattle.simple_processor.proofs.Agree.{Step}
 
 pub gains_nothing : (told told' : Option (List Handed)) → told' ≡ told → Gains [] told told'
 gains_nothing None told' same = same
@@ -50,10 +48,7 @@ module _ (told told' : Option (List Handed)) (s s' : State) (a b : PassAccount) 
     sent = refl;
     fates = λ had is. fates_same ∙ is ∙ ap (λ (hs : List Handed). fate_counts (fates_of hs)) (sym (append-nil had));
     handed = let e = handed_same in omega arith;
-    numbers = ap numbers_below count_same ∙ sym (append-nil (numbers_below (ticket_count s)));
-    grows = let e = count_same in omega arith;
-    below = λ ts all. subst (AllByRecursion (λ t. t < ticket_count s')) (sym (append-nil ts)) (still-below ts (ticket_count s) (ticket_count s') (let e = count_same in omega arith) all);
-    rising = λ ts all r. subst Rises (sym (append-nil ts)) r;
+    news = subst (λ (n : ℕ). News (ticket_count s) n []) (sym count_same) (no_news (ticket_count s));
     names = names;
     dropped = λ had is. ap drop_counts (append-nil had) ∙ is ∙ ap memory_drops (sym dropped_same);
     counted = counted;
@@ -61,55 +56,39 @@ module _ (told told' : Option (List Handed)) (s s' : State) (a b : PassAccount) 
     closed = λ n is. closed n is ∙ ap (λ (m : ℕ). closed_by m (n + shuts)) (sym count_same);
   }
 
-none_more : (n : ℕ) → n + 0 ≡ n
-none_more n = omega arith
-
 late-more : (m n : ℕ) → m ≡ capped n → capped (m + 1) ≡ capped (n + 1)
 late-more m n is = omega arith
 
--- behind a shutdown none is admitted
-shut-closes : (count n : ℕ) → true ≡ closed_by count (n + 1)
-shut-closes count n = grind (arith)
-
-open-is : (count n : ℕ) → false ≡ closed_by count n → nat_lt 0 n ≡ false
-open-is count n is = or-none (nat_lt 0 n) (count == 2 ^ 64 - 1) is
-  where
-    or-none : (b d : Bool) → false ≡ (b || d) → b ≡ false
-    or-none true d e = sym e
-    or-none false d e = refl
-
 -- a ticket is given
-closes-last : (s : State) (count n : ℕ) → s.closed ≡ false → s.closed ≡ closed_by count n → is_last_ticket count ≡ closed_by (count + 1) (n + 0)
-closes-last s count n admits is =
-    let none : nat_lt 0 n ≡ false = open-is count n (sym admits ∙ is) in
-    rw (none_more n, none) refl
+closes-now : (s : State) (count n : ℕ) → s.closed ≡ false → s.closed ≡ closed_by count n → is_last_ticket count ≡ closed_by (count + 1) (n + 0)
+closes-now s count n admits is = closes-last count n (sym admits ∙ is) ∙ ap (closed_by (count + 1)) (none_more n)
 
-late_step : (told told' : Option (List Handed)) (s s' : State) (span : EndedSpan) (a : PassAccount) → IsLate told told' s s' → Step told told' s s' a (after_end answers.Late span a)
-late_step told told' s s' span a l =
+late_end : (told told' : Option (List Handed)) (s s' : State) (span : EndedSpan) (a : PassAccount) → IsLate told told' s s' → Step told told' s s' a (after_end answers.Late span a)
+late_end told told' s s' span a l =
     quiet told told' s s' a (after_end answers.Late span a) l.nothing_is_sent (ap (λ (x : State). x.handed) l.state) (ap (λ (x : State). x.dropped) l.state) (ap (λ (x : State). x.fates) l.state) refl
-    [] 1 0 (sym (append-nil a.popped)) refl (sym (none_more a.shutdowns))
+    [] 1 0 (sym (append-nil a.popped)) refl (none_more a.shutdowns)
     (subst (λ (es : List Entry). IsPermutation s.ledger es) (sym (append-nil s'.ledger) ∙ refl) (subst (λ (es : List Entry). IsPermutation s.ledger es) (sym (ap (λ (x : State). x.ledger) l.state)) (IsPermutation-refl s.ledger)))
     (λ n is. ap (λ (x : State). x.late) l.state ∙ late-more s.late n is)
     (λ n was some. ap (λ (x : State). x.closed) l.state ∙ l.closed)
-    (λ n is. ap (λ (x : State). x.closed) l.state ∙ is ∙ ap (closed_by (ticket_count s)) (sym (none_more n)))
+    (λ n is. ap (λ (x : State). x.closed) l.state ∙ is ∙ ap (closed_by (ticket_count s)) (none_more n))
 
 pub shutdown_step : (told told' : Option (List Handed)) (s s' : State) (a : PassAccount) → told' ≡ told → s' ≡ record s { closed = true } → Step told told' s s' a (after_shutdown a)
 shutdown_step told told' s s' a unsent is =
     quiet told told' s s' a (after_shutdown a) unsent (ap (λ (x : State). x.handed) is) (ap (λ (x : State). x.dropped) is) (ap (λ (x : State). x.fates) is) refl
-    [] 0 1 (sym (append-nil a.popped)) (sym (none_more a.late)) refl
+    [] 0 1 (sym (append-nil a.popped)) (none_more a.late) refl
     (subst (λ (es : List Entry). IsPermutation s.ledger es) (sym (append-nil s'.ledger)) (subst (λ (es : List Entry). IsPermutation s.ledger es) (sym (ap (λ (x : State). x.ledger) is)) (IsPermutation-refl s.ledger)))
-    (λ n l. ap (λ (x : State). x.late) is ∙ l ∙ ap capped (sym (none_more n)))
+    (λ n l. ap (λ (x : State). x.late) is ∙ l ∙ ap capped (none_more n))
     (λ n was some. ap (λ (x : State). x.closed) is)
     (λ n was. ap (λ (x : State). x.closed) is ∙ shut-closes (ticket_count s) n)
 
 pub pop_step : (told told' : Option (List Handed)) (s s' : State) (a : PassAccount) (entry : Entry) → told' ≡ told → Pops s (Some entry) s' → Step told told' s s' a (after_pop entry a)
 pop_step told told' s s' a entry unsent p =
     quiet told told' s s' a (after_pop entry a) unsent (ap (λ (x : State). x.handed) p.1) (ap (λ (x : State). x.dropped) p.1) (ap (λ (x : State). x.fates) p.1) refl
-    (entry ∷ []) 0 0 refl (sym (none_more a.late)) (sym (none_more a.shutdowns))
+    (entry ∷ []) 0 0 refl (none_more a.late) (none_more a.shutdowns)
     (subst (λ (es : List Entry). IsPermutation es (s'.ledger ++ entry ∷ [])) (sym p.0) (IsPermutation-sym (s'.ledger ++ entry ∷ []) (entry ∷ s'.ledger) (IsPermutation-to_front s'.ledger entry)))
-    (λ n l. ap (λ (x : State). x.late) p.1 ∙ l ∙ ap capped (sym (none_more n)))
+    (λ n l. ap (λ (x : State). x.late) p.1 ∙ l ∙ ap capped (none_more n))
     (λ n was some. ap (λ (x : State). x.closed) p.1 ∙ was (omega arith))
-    (λ n was. ap (λ (x : State). x.closed) p.1 ∙ was ∙ ap (closed_by (ticket_count s)) (sym (none_more n)))
+    (λ n was. ap (λ (x : State). x.closed) p.1 ∙ was ∙ ap (closed_by (ticket_count s)) (none_more n))
 
 -- none was late while spans were admitted
 none-late : (s : State) (n : ℕ) → s.closed ≡ false → (0 < n → s.closed ≡ true) → 0 < n + 0 → ⊥
@@ -118,60 +97,55 @@ none-late s n admits was some = let e = was (omega arith) in let f = admits in c
 handed_step : (told told' : Option (List Handed)) (s s' : State) (span : EndedSpan) (ticket : ℕ) (a : PassAccount) → IsHanded told told' s span ticket s' → Step told told' s s' a (after_end (answers.Handed ticket) span a)
 handed_step told told' s s' span ticket a h =
     let count : ticket_count s' ≡ ticket_count s + 1 = let e = ap (λ (x : State). x.handed) h.state in let f = ap (λ (x : State). x.dropped) h.state in omega arith in
+    let end : SpanEnd = accepted (with_ticket ticket span) in
     record {
-      es = handed (with_ticket ticket span) ∷ [];
+      es = end ∷ [];
       ps = [];
       bodies = h.sent.body ∷ [];
       lates = 0;
       shuts = 0;
       ends = refl;
       popped = sym (append-nil a.popped);
-      late = sym (none_more a.late);
-      shutdowns = sym (none_more a.shutdowns);
+      late = none_more a.late;
+      shutdowns = none_more a.shutdowns;
       gains = h.sent.gains;
       sent = ap (λ x. x ∷ []) (sym h.sent.means);
       fates = λ had is.
           ap (λ (x : State). x.fates) h.state ∙ ap (with_fate h.fate) is ∙ sym (fates-more (fates_of had) h.fate)
           ∙ ap fate_counts (sym (some-more (λ (x : Handed). fate_of (next_of x.outcome)) had h.sent.body h.fate (ap (λ o. fate_of (next_of o)) h.sent.answered ∙ h.ended)));
       handed = ap (λ (x : State). x.handed) h.state;
-      numbers = ap numbers_below count ∙ below-more (ticket_count s) ∙ ap (λ (n : ℕ). numbers_below (ticket_count s) ++ n ∷ []) (sym h.is_next);
-      grows = let e = count in omega arith;
-      below = λ ts all. each_append (λ t. t < ticket_count s') ts (ticket ∷ []) (still-below ts (ticket_count s) (ticket_count s') (let e = count in omega arith) all) ((let e = count in let f = h.is_next in omega arith), tt);
-      rising = λ ts all r. rises-more ts ticket r (subst (λ (n : ℕ). AllByRecursion (λ t. t < n) ts) (sym h.is_next) all);
+      news = subst (λ (n : ℕ). News (ticket_count s) n (end ∷ [])) (sym count) (one_news (ticket_count s) end h.is_next);
       names = subst (λ (es : List Entry). IsPermutation s.ledger es) (sym (append-nil s'.ledger ∙ ap (λ (x : State). x.ledger) h.state)) (IsPermutation-refl s.ledger);
       dropped = λ had is. ap drop_counts (append-nil had) ∙ is ∙ ap memory_drops (sym (ap (λ (x : State). x.dropped) h.state));
-      counted = λ n l. ap (λ (x : State). x.late) h.state ∙ l ∙ ap capped (sym (none_more n));
+      counted = λ n l. ap (λ (x : State). x.late) h.state ∙ l ∙ ap capped (none_more n);
       late_if_closed = λ n was some. absurd (none-late s n h.admits was some);
-      closed = λ n is. ap (λ (x : State). x.closed) h.state ∙ ap is_last_ticket h.is_next ∙ closes-last s (ticket_count s) n h.admits is ∙ ap (λ (m : ℕ). closed_by m (n + 0)) (sym count);
+      closed = λ n is. ap (λ (x : State). x.closed) h.state ∙ ap is_last_ticket h.is_next ∙ closes-now s (ticket_count s) n h.admits is ∙ ap (λ (m : ℕ). closed_by m (n + 0)) (sym count);
     }
 
 dropped_step : (told told' : Option (List Handed)) (s s' : State) (span : EndedSpan) (ticket : ℕ) (a : PassAccount) → IsDropped told told' s span ticket s' → Step told told' s s' a (after_end (answers.Dropped ticket reasons.EncodeMemory) span a)
 dropped_step told told' s s' span ticket a d =
     let count : ticket_count s' ≡ ticket_count s + 1 = let e = ap (λ (x : State). x.handed) d.state in let f = ap (λ (x : State). x.dropped) d.state in omega arith in
-    let entry : Entry = entry_of encode_memory (with_ticket ticket span) in
+    let entry : Entry = entry_of encode_memory (with_ticket ticket span) in let end : SpanEnd = dropped (record { entry = entry; floor = a.floor }) in
     record {
-      es = dropped entry ∷ [];
+      es = end ∷ [];
       ps = [];
       bodies = [];
       lates = 0;
       shuts = 0;
       ends = refl;
       popped = sym (append-nil a.popped);
-      late = sym (none_more a.late);
-      shutdowns = sym (none_more a.shutdowns);
+      late = none_more a.late;
+      shutdowns = none_more a.shutdowns;
       gains = gains_nothing told told' d.nothing_is_sent;
       sent = refl;
       fates = λ had is. ap (λ (x : State). x.fates) d.state ∙ is ∙ ap (λ (hs : List Handed). fate_counts (fates_of hs)) (sym (append-nil had));
-      handed = ap (λ (x : State). x.handed) d.state ∙ sym (none_more s.handed);
-      numbers = ap numbers_below count ∙ below-more (ticket_count s) ∙ ap (λ (n : ℕ). numbers_below (ticket_count s) ++ n ∷ []) (sym d.is_next);
-      grows = let e = count in omega arith;
-      below = λ ts all. each_append (λ t. t < ticket_count s') ts (ticket ∷ []) (still-below ts (ticket_count s) (ticket_count s') (let e = count in omega arith) all) ((let e = count in let f = d.is_next in omega arith), tt);
-      rising = λ ts all r. rises-more ts ticket r (subst (λ (n : ℕ). AllByRecursion (λ t. t < n) ts) (sym d.is_next) all);
+      handed = ap (λ (x : State). x.handed) d.state ∙ none_more s.handed;
+      news = subst (λ (n : ℕ). News (ticket_count s) n (end ∷ [])) (sym count) (one_news (ticket_count s) end d.is_next);
       names = subst (λ (es : List Entry). IsPermutation (entry ∷ s.ledger) es) (sym (append-nil s'.ledger ∙ ap (λ (x : State). x.ledger) d.state)) (IsPermutation-refl (entry ∷ s.ledger));
       dropped = λ had is. counts-more encode_memory had (with_ticket ticket span ∷ []) ∙ ap (with_drops encode_memory 1) is ∙ ap memory_drops (sym (ap (λ (x : State). x.dropped) d.state));
-      counted = λ n l. ap (λ (x : State). x.late) d.state ∙ l ∙ ap capped (sym (none_more n));
+      counted = λ n l. ap (λ (x : State). x.late) d.state ∙ l ∙ ap capped (none_more n);
       late_if_closed = λ n was some. absurd (none-late s n d.admits was some);
-      closed = λ n is. ap (λ (x : State). x.closed) d.state ∙ ap is_last_ticket d.is_next ∙ closes-last s (ticket_count s) n d.admits is ∙ ap (λ (m : ℕ). closed_by m (n + 0)) (sym count);
+      closed = λ n is. ap (λ (x : State). x.closed) d.state ∙ ap is_last_ticket d.is_next ∙ closes-now s (ticket_count s) n d.admits is ∙ ap (λ (m : ℕ). closed_by m (n + 0)) (sym count);
     }
 
 -- the end of a span, by its answer
@@ -181,7 +155,7 @@ end_step told told' s s' span (answers.Dropped ticket reasons.EncodeMemory) a x 
 end_step told told' s s' span (answers.Dropped ticket reasons.QueueFull) a x = absurd x
 end_step told told' s s' span (answers.Dropped ticket reasons.TooLarge) a x = absurd x
 end_step told told' s s' span (answers.Dropped ticket reasons.Abandoned) a x = absurd x
-end_step told told' s s' span answers.Late a x = late_step told told' s s' span a x
+end_step told told' s s' span answers.Late a x = late_end told told' s s' span a x
 end_step told told' s s' span (answers.Queued ticket) a x = absurd x
 end_step told told' s s' span answers.NotSampled a x = absurd x
 end_step told told' s s' span answers.AlreadyEnded a x = absurd x

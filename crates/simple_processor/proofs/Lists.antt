@@ -1,12 +1,8 @@
--- Lists with the same elements, with more of them, and numbers that rise.
-use Rattle.std.proofs.Common.{◌≡◌, ℕ, zero, suc, ◌+◌, ◌<◌, ◌≤◌, List, [], ◌∷◌, ◌++◌, sym, ap, ◌∙◌, subst, arith}
+-- What stands for the elements of two lists, with more of them.
+use Rattle.std.proofs.Common.{◌≡◌, List, ◌++◌, sym, ap, ◌∙◌, subst}
 use Rattle.std.specs.Prelude.{IsPermutation, map}
-use Rattle.std.specs.List.{AllByRecursion, range_with_len}
-use Rattle.std.proofs.lemmas.List.{append_assoc, map-append}
-use Rattle.std.proofs.lemmas.List.Sorted.{IsPermutation-sym, IsPermutation-trans, IsPermutation-map, IsPermutation-append_left, IsPermutation-append_right, IsPermutation-append_comm}
-use Rattle.account_book.proofs.Facts.{each_append, each_map}
-use Rattle.simple_processor.specs.Accounts.{Rises}
-use Rattle.simple_processor.specs.Kept.{numbers_below}
+use Rattle.std.proofs.lemmas.List.{map-append}
+use Rattle.std.proofs.lemmas.List.Sorted.{IsPermutation-trans, IsPermutation-map, IsPermutation-append_left}
 
 -- what stands for the one, and for the other, stands for both with more
 pub images_more : {X Y Z : Type 0} (f : X → Z) (g : Y → Z) (xs xs' more : List X) (ys new : List Y) → IsPermutation xs' (xs ++ more) → IsPermutation (map f xs) (map g ys) → map f more ≡ map g new → IsPermutation (map f xs') (map g (ys ++ new))
@@ -15,33 +11,3 @@ images_more {X} {Y} {Z} f g xs xs' more ys new grown same equal =
     let second : IsPermutation (map f xs ++ map f more) (map g ys ++ map f more) = IsPermutation-append_left (map f more) (map f xs) (map g ys) same in
     let both = IsPermutation-trans (map f xs') (map f xs ++ map f more) (map g ys ++ map f more) first second in
     subst (λ (zs : List Z). IsPermutation (map f xs') zs) (ap (λ (zs : List Z). map g ys ++ zs) equal ∙ sym (map-append g ys new)) both
-
--- what is in one list is below, and in another: some are put below, and some go over
-pub names_more : {X : Type 0} (all all' ds below below' out out' ps : List X) → IsPermutation all' (all ++ ds) → IsPermutation out' (out ++ ps) → IsPermutation all (below ++ out) → IsPermutation (ds ++ below) (below' ++ ps) → IsPermutation all' (below' ++ out')
-names_more {X} all all' ds below below' out out' ps grown gone same step =
-    let a : IsPermutation all' (ds ++ all) = IsPermutation-trans all' (all ++ ds) (ds ++ all) grown (IsPermutation-append_comm all ds) in
-    let b : IsPermutation (ds ++ all) ((ds ++ below) ++ out) = subst (λ (xs : List X). IsPermutation (ds ++ all) xs) (sym (append_assoc ds below out)) (IsPermutation-append_right ds all (below ++ out) same) in
-    let d : IsPermutation ((ds ++ below) ++ out) ((below' ++ ps) ++ out) = IsPermutation-append_left out (ds ++ below) (below' ++ ps) step in
-    let e : IsPermutation (ps ++ out) out' = IsPermutation-trans (ps ++ out) (out ++ ps) out' (IsPermutation-append_comm ps out) (IsPermutation-sym out' (out ++ ps) gone) in
-    let f : IsPermutation ((below' ++ ps) ++ out) (below' ++ out') = subst (λ (xs : List X). IsPermutation xs (below' ++ out')) (sym (append_assoc below' ps out)) (IsPermutation-append_right below' (ps ++ out) out' e) in
-    IsPermutation-trans all' (ds ++ all) (below' ++ out') a (IsPermutation-trans (ds ++ all) ((ds ++ below) ++ out) (below' ++ out') b (IsPermutation-trans ((ds ++ below) ++ out) ((below' ++ ps) ++ out) (below' ++ out') d f))
-
--- more of the one is more of the other
-pub same_more : {X : Type 0} (xs xs' more ys : List X) → IsPermutation xs' (xs ++ more) → IsPermutation xs ys → IsPermutation xs' (ys ++ more)
-same_more xs xs' more ys grown same = IsPermutation-trans xs' (xs ++ more) (ys ++ more) grown (IsPermutation-append_left more xs ys same)
-
-range-more : (a n : ℕ) → range_with_len a (suc n) ≡ range_with_len a n ++ (a + n) ∷ []
-range-more a zero = ap (λ (k : ℕ). k ∷ []) (let e : a ≡ a + 0 = omega arith in e)
-range-more a (suc n) = ap (λ (ns : List ℕ). a ∷ ns) (range-more (a + 1) n ∙ ap (λ (k : ℕ). range_with_len (a + 1) n ++ k ∷ []) (let e : (a + 1) + n ≡ a + suc n = omega arith in e))
-
-pub below-more : (n : ℕ) → numbers_below (n + 1) ≡ numbers_below n ++ n ∷ []
-below-more n =
-    ap numbers_below (let e : n + 1 ≡ suc n = omega arith in e) ∙ range-more 0 n ∙ ap (λ (k : ℕ). numbers_below n ++ k ∷ []) (let e : 0 + n ≡ n = omega arith in e)
-
--- a number above all that rise
-pub rises-more : (ts : List ℕ) (n : ℕ) → Rises ts → AllByRecursion (λ t. t < n) ts → Rises (ts ++ n ∷ [])
-rises-more [] n r all = (tt, tt)
-rises-more (t ∷ ts) n r all = (each_append (λ u. t < u) ts (n ∷ []) r.0 (all.0, tt), rises-more ts n r.1 all.1)
-
-pub still-below : (ts : List ℕ) (m n : ℕ) → m ≤ n → AllByRecursion (λ t. t < m) ts → AllByRecursion (λ t. t < n) ts
-still-below ts m n le all = each_map (λ t. t < m) (λ t. t < n) ts (λ t lt. omega arith) all

@@ -1,7 +1,7 @@
 -- What the accounts of a simple processor say. (profile)
 use Rattle.std.specs.Prelude.{ℕ, List, filter_map, Option, Some, None}
 use Rattle.span_exporter.specs.Handed.{Handed}
-use Rattle.simple_processor.specs.Accounts.{PassAccount, new_account}
+use Rattle.pass_model.specs.Passes.{PassAccount, new_account}
 
 -- What a processor began with: how many passes it has, and what its exporter told that it had been
 -- handed before.

@@ -1,11 +1,8 @@
 //! What the accounts of a processor say, and how that changes. No value of it is made.
-ghost use Rattle.std.specs.Prelude.{◌≡◌, []};
-
-use account_book::{Blank, Book, Change, Naming, Opening};
+use account_book::{Blank, Change, Opening};
 use otlp_span::{Entry, SpanData};
 use span_exporter::Exporter;
 use std::alloc::Allocator;
-use std::fmt;
 use std::marker::{Model, PhantomData};
 use std::snapshot::Snapshot;
 use trace_api::Ended;
@@ -16,7 +13,7 @@ pub struct Holding {
 }
 
 impl Model for Holding {
-    ghost use Rattle.simple_processor.specs.Accounts.{new_account};
+    ghost use Rattle.pass_model.specs.Passes.{new_account};
     ghost use Rattle.simple_processor.specs.Holders.{Holder, pass};
 
     ghost Value = { Holder };
@@ -25,10 +22,8 @@ impl Model for Holding {
 }
 
 /// The account of a pass that has done nothing.
-pub(crate) struct NewPass;
-
-impl Opening<Holding> for NewPass {
-    ghost use Rattle.simple_processor.specs.Accounts.{new_account};
+impl Opening<Holding> for Holding {
+    ghost use Rattle.pass_model.specs.Passes.{new_account};
     ghost use Rattle.simple_processor.specs.Holders.{pass};
 
     ghost first = { pass new_account };
@@ -92,55 +87,12 @@ pub(crate) struct Pops;
 
 impl Change<Holding, Entry> for Pops {
     ghost use Rattle.otlp_span.specs.Dropped.{entry_view};
-    ghost use Rattle.simple_processor.specs.Accounts.{after_pop};
+    ghost use Rattle.pass_model.specs.Passes.{after_pop};
     ghost use Rattle.simple_processor.specs.Holders.{on_pass};
 
     ghost after = { λ holder entry. on_pass (after_pop (entry_view entry)) holder };
 }
 
-/// The accounts of one processor, before it is made: `SimpleProcessor::new` opens them. In
-/// contracts it is their name, by which a type parameter stands for this one processor.
-#[derive(Drop)]
-pub struct SimpleBlank {
-    blank: Blank<Holding>,
-}
-
-impl Model for SimpleBlank {
-    ghost use Rattle.std.specs.Prelude.{ℕ};
-
-    ghost Value = { ℕ };
-
-    ghost view = { λ b. b.blank };
-}
-
-/// Writes the name of the type alone, since a blank has no bytes.
-impl fmt::Debug for SimpleBlank {
-    fn fmt<W: fmt::Write>(&self, f: &mut fmt::Formatter<W>) -> fmt::Result {
-        f.debug_struct("SimpleBlank").finish_non_exhaustive()
-    }
-}
-
-impl Default for SimpleBlank {
-    /// As `SimpleBlank::new`.
-    fn default() -> SimpleBlank {
-        SimpleBlank::new()
-    }
-}
-
-impl SimpleBlank {
-    /// No accounts, under a name of their own. It takes no memory.
-    pub fn new() -> SimpleBlank {
-        SimpleBlank {
-            blank: Blank::new::<NewPass>(),
-        }
-    }
-
-    /// The book without accounts.
-    pub(crate) fn open<J: Naming>(self) -> Book<J, Holding>
-        requires { self ≡ J.name }
-        ensures { result ≡ [] }
-    {
-        let SimpleBlank { blank } = self;
-        blank.named::<J>()
-    }
-}
+/// The accounts of one processor, before it is made: `SimpleProcessor::new` opens them. In contracts
+/// it is their name, by which a type parameter stands for this one processor.
+pub type SimpleBlank = Blank<Holding>;

@@ -1,7 +1,8 @@
 //! The passes of a simple processor.
 ghost use Rattle.std.specs.Prelude.{◌≡◌, IfNone, IfSome};
 ghost use Rattle.otlp_span.specs.Dropped.{entry_view};
-ghost use Rattle.simple_processor.specs.Accounts.{after_pop, after_shutdown};
+ghost use Rattle.pass_model.specs.Passes.{after_pop};
+ghost use Rattle.simple_processor.specs.Accounts.{after_shutdown};
 
 use crate::holding::Holding;
 use crate::shared::Shared;
@@ -32,7 +33,7 @@ pub struct SimplePass<J: Naming, E: Exporter, R, A: Allocator = Global> {
 
 impl<J: Naming, E: Exporter, R, A: Allocator> Model for SimplePass<J, E, R, A> {
     ghost use Rattle.std.specs.Prelude.{◌≡◌};
-    ghost use Rattle.simple_processor.specs.Accounts.{PassAccount};
+    ghost use Rattle.pass_model.specs.Passes.{PassAccount};
     ghost use Rattle.simple_processor.specs.Holders.{account_in, pass};
 
     ghost Value = { PassAccount };

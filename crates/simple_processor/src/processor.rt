@@ -5,19 +5,20 @@ ghost use Rattle.span_exporter.specs.Handed.{Gains};
 ghost use Rattle.desk_model.specs.Desks.{capped, drop_counts, fate_counts};
 ghost use Rattle.drop_ledger.specs.Counts.{drop_counts_view};
 ghost use Rattle.batch_desk.specs.Views.{fate_counts_view};
-ghost use Rattle.simple_processor.specs.Accounts.{PassAccount, Rises, all_dropped, all_handed, all_popped, all_tickets, late_count, new_account, shutdown_count, tickets};
+ghost use Rattle.pass_model.specs.Passes.{PassAccount, Rises, all_accepted, all_dropped, all_popped, all_tickets, late_count, new_account, shutdown_count, tickets};
+ghost use Rattle.pass_model.specs.Clauses.{is_closed, numbers_below};
 ghost use Rattle.simple_processor.specs.Bodies.{attempt_in, attempt_of_span, fates_of, told_since};
 ghost use Rattle.simple_processor.specs.Holders.{pass};
-ghost use Rattle.simple_processor.specs.Kept.{given_tickets, is_closed, numbers_below};
+ghost use Rattle.simple_processor.specs.Kept.{given_tickets};
 ghost use Rattle.simple_processor.specs.declared.processor.TheConstants.{MAX_PASSES};
 
 use crate::desk::Desk;
 use crate::encoder::Encoder;
 use crate::fault::SimpleFault;
-use crate::holding::{Began, Begins, Holding, NewPass, NewProcessor, SimpleBlank};
+use crate::holding::{Began, Begins, Holding, NewProcessor, SimpleBlank};
 use crate::pass::SimplePass;
 use crate::shared::Shared;
-use account_book::{Account, Book, Naming};
+use account_book::{Account, Naming};
 use batch_desk::Totals;
 use drop_ledger::Ledger;
 use span_exporter::Exporter;
@@ -128,14 +129,14 @@ impl<J: Naming, E: Exporter, R: Wait + Copy, A: Allocator + Copy> SimpleProcesso
             return Err(SimpleFault::BadPasses);
         }
         let encoder = Encoder::new(alloc)?;
-        let mut book = blank.open::<J>();
+        let mut book = blank.named::<J>();
         let mut account = book.open::<NewProcessor>();
         let began = Began {
             passes,
             exporter: Snapshot::of(&exporter),
         };
         book.record::<Began<E>, Begins<E>>(&mut account, &began);
-        let accounts = open_accounts(alloc, &mut book, passes)?;
+        let accounts = book.open_all::<Holding, A>(alloc, passes)?;
         let shared = Shared {
             desk: Some(Desk::new(exporter, encoder)),
             book,
@@ -176,7 +177,7 @@ impl<J: Naming, E: Exporter, R: Wait + Copy, A: Allocator + Copy> SimpleProcesso
         ensures keeps { IfOk result (λ a.
             Gains (told_since self.had (E.handed a.exporter)) self.had (E.handed a.exporter)) }
         ensures spans { IfOk result (λ a. OnSome (E.handed a.exporter)
-            (IsPermutation (map attempt_of_span (all_handed passes.items))
+            (IsPermutation (map attempt_of_span (all_accepted passes.items))
             (map attempt_in (told_since self.had (E.handed a.exporter))))) }
         ensures fates { IfOk result (λ a. OnSome (E.handed a.exporter)
             (fate_counts_view a.totals.fates
@@ -196,7 +197,8 @@ impl<J: Naming, E: Exporter, R: Wait + Copy, A: Allocator + Copy> SimpleProcesso
         ensures only_for_memory { IfOk result (λ a. (a.totals.dropped.queue_full ≡ 0)
             × (a.totals.dropped.too_large ≡ 0) × (a.totals.dropped.abandoned ≡ 0)) }
 
-        ensures handed { IfOk result (λ a. a.totals.handed ≡ length (all_handed passes.items)) }
+        ensures handed { IfOk result
+            (λ a. a.totals.handed ≡ length (all_accepted passes.items)) }
         ensures accepted { IfOk result (λ a. (a.totals.accepted ≡ a.totals.handed)
             × (a.totals.taken ≡ a.totals.handed) × (a.totals.left ≡ 0)) }
 
@@ -222,24 +224,6 @@ impl<J: Naming, E: Exporter, R: Wait + Copy, A: Allocator + Copy> SimpleProcesso
         let accounts = shared.lock(&rt).close(account, passes);
         Ok(accounts)
     }
-}
-
-/// Opens an account for each of so many passes.
-fn open_accounts<J: Naming, A: Allocator>(
-    alloc: A,
-    book: &mut Book<J, Holding>,
-    passes: usize,
-) -> Result<Vec<Account<J, Holding>, A>, AllocError>
-    ensures book { IfOk result (λ opened. book.new ≡ book.old ++ opened.items) }
-    ensures count { IfOk result (λ opened. vec_len opened ≡ passes) }
-    ensures new { IfOk result
-        (λ opened. AllByRecursion (λ h. h ≡ pass new_account) opened.items) }
-{
-    let mut opened = Vec::with_capacity(alloc, passes)?;
-    for _pass in 0..passes {
-        opened.push_reserved(book.open::<NewPass>());
-    }
-    Ok(opened)
 }
 
 /// A pass for each of these accounts.

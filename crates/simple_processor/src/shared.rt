@@ -1,7 +1,8 @@
 //! What threads share, with the accounts of those who share it.
 ghost use Rattle.std.specs.Prelude.{◌≡◌, ◌≤◌, vec_len, true, option_map, IfSome, IfNone};
 ghost use Rattle.otlp_span.specs.Dropped.{entry_view};
-ghost use Rattle.simple_processor.specs.Accounts.{after_end, after_pop, after_shutdown, is_simple_answer};
+ghost use Rattle.pass_model.specs.Passes.{after_pop};
+ghost use Rattle.simple_processor.specs.Accounts.{after_end, after_shutdown, is_simple_answer};
 ghost use Rattle.simple_processor.specs.Holders.{account_in, on_pass, origin_in, pass, processor};
 ghost use Rattle.simple_processor.specs.Kept.{IsAccountOf};
 

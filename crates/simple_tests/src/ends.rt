@@ -89,7 +89,7 @@ fn assert_written<T: Debug>(rt: &impl Abort, alloc: Global, value: &T, want: &st
 fn write_parts<J: Naming, R: Wait + Abort + Copy>(rt: R, alloc: Global, blank: SimpleBlank)
     requires { blank ≡ J.name }
 {
-    assert_written(&rt, alloc, &blank, "SimpleBlank { .. }");
+    assert_written(&rt, alloc, &blank, "Blank { .. }");
     let exporter = exporter(&rt, alloc, &[]);
     let made = SimpleProcessor::<J, _, R>::new(alloc, rt, blank, exporter, 1);
     let parts = made.expect(&rt, "a processor");

@@ -50,11 +50,12 @@ pub use Rattle.batch_desk.specs.Batch
 pub use Rattle.batch_desk.specs.Counts as DeskCounts
 pub use Rattle.batch_desk.specs.Views as DeskViews
 pub use Rattle.retry_core.specs.Retries as RetryViews
+pub use Rattle.pass_model.specs.Passes
+pub use Rattle.pass_model.specs.Clauses as PassClauses
 pub use Rattle.simple_processor.specs.Accounts as PassAccounts
 pub use Rattle.simple_processor.specs.Bodies as PassBodies
 pub use Rattle.simple_processor.specs.Kept as PassKept
 pub use Rattle.simple_processor.specs.Holders as PassHolders
-pub use Rattle.batch_model.specs.Passes as BatchPasses
 pub use Rattle.batch_model.specs.Worker as BatchWorker
 pub use Rattle.batch_model.specs.Holders as BatchHolders
 pub use Rattle.batch_model.specs.Clauses as BatchClauses

@@ -2,19 +2,21 @@ use denote.Exit.{no}
 use denote.Param.{param, copied}
 use denote.Param.Send.{param_send, arg_send}
 use Rattle.std.proofs.Crossing as heap
-use Rattle.first_passes.proofs.Sends as sends
+use Rattle.account_book.proofs.Crosses.{result_send, three_send}
+use Rattle.simple_processor.proofs.Crosses.{memory_pass_send}
+use Rattle.first_passes.proofs.Sends.{error_send}
 use Rattle.first_passes.proofs.workers.start.Goals as goal
 
 -- what the thread's closure captures may cross: the runtime's value, the allocator and the pass
 pub spawn-started-requires-send-F : goal.spawn-started-requires-send-F
 spawn-started-requires-send-F g c κs within =
     let r = c.type_bounds.send-R in
-    let p = sends.pass_send (param 0 g.row.J) (copied 1 g.row.R) g.J.Naming r in
-    param_send 1 _ (arg_send _ no _ (sends.captures_send _ _ _ _ r heap.send p))
+    let p = memory_pass_send (param 0 g.row.J) (copied 1 g.row.R) g.J.Naming r in
+    param_send 1 _ (arg_send _ no _ (three_send _ _ _ _ r heap.send p))
 
 -- and so may what it gives back
 pub spawn-started-requires-send-T : goal.spawn-started-requires-send-T
 spawn-started-requires-send-T g c κs within =
     let r = c.type_bounds.send-R in
-    let p = sends.pass_send (param 0 g.row.J) (copied 1 g.row.R) g.J.Naming r in
-    param_send 2 _ (arg_send _ no _ (sends.result_send _ p))
+    let p = memory_pass_send (param 0 g.row.J) (copied 1 g.row.R) g.J.Naming r in
+    param_send 2 _ (arg_send _ no _ (result_send _ _ p error_send))

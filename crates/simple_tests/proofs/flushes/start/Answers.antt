@@ -6,12 +6,12 @@ use denote.Param.SendFields.{declared_send, as_row_send}
 use Rattle.std.proofs.Crossing as heap
 use Rattle.std.specs.contracts.alloc.Global as Heap
 use Rattle.std.below.std_heap.specs.contracts.GlobalAllocator.TheImpl.{ghosts}
+use Rattle.account_book.proofs.Crosses.{three_send}
 use Rattle.account_book.specs.declared.book.Naming as naming
 use Rattle.simple_processor.specs.contracts.pass.SimplePass as SimplePass
 use Rattle.simple_processor.proofs.Crosses as crosses
 use Rattle.simple_tests.specs.contracts.flushes.Waiting as Waiting
 use Rattle.simple_tests.specs.contracts.flushes.WaitingExporter.TheImpl as waiting
-use Rattle.simple_tests.proofs.Sends as sends
 use Rattle.simple_tests.proofs.flushes.start.Goals as goal
 
 waiting_send : IsSend Waiting.the_row
@@ -24,7 +24,7 @@ pub spawn-started-requires-send-F : goal.spawn-started-requires-send-F
 spawn-started-requires-send-F g c κs within =
     let r = c.type_bounds.send-R in
     let p = pass_send (param 0 g.row.J) (copied 1 g.row.R) g.J.Naming r in
-    param_send 1 _ (arg_send _ no _ (sends.captures_send _ _ _ _ r heap.send p))
+    param_send 1 _ (arg_send _ no _ (three_send _ _ _ _ r heap.send p))
 
 pub spawn-started-requires-send-T : goal.spawn-started-requires-send-T
 spawn-started-requires-send-T g c κs within =

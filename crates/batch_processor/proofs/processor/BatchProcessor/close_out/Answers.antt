@@ -2,7 +2,8 @@ use Rattle.std.proofs.Common.{ap, sym, subst, refl, ◌∙◌}
 use Rattle.batch_model.specs.Holders.{origin_in, worker_in}
 use Rattle.batch_model.specs.Worker.{OutBatch, WorkerAccount}
 use Rattle.batch_model.specs.Clauses.{BatchesAreNumbered, HandedAreCounted, QueuedAreAccounted, abandon}
-use Rattle.batch_model.proofs.Closing.{floors_are, handed_are, late_after, numbered_are, queued_are}
+use Rattle.pass_model.proofs.Steps.{late_after}
+use Rattle.batch_model.proofs.Closing.{floors_are, handed_are, numbered_are, queued_are}
 use Rattle.batch_processor.proofs.processor.BatchProcessor.close_out.Goals as goal
 
 pub returns-clause-spans : goal.returns-clause-spans

@@ -1,6 +1,6 @@
 use Rattle.std.proofs.Common.{ap}
 use Rattle.otlp_span.specs.Dropped.{entry_view}
-use Rattle.simple_processor.specs.Accounts.{after_pop}
+use Rattle.pass_model.specs.Passes.{after_pop}
 use Rattle.simple_processor.specs.Holders.{Origin, account_in}
 use Rattle.simple_processor.proofs.Agree.{kept_of, kept_told}
 use Rattle.simple_processor.proofs.Ends.{pop_step}
