@@ -1,5 +1,6 @@
 //! Whole bodies, their greatest length, and refused memory.
 
+use crate::equal::{assert_equal, assert_equal_at};
 use crate::samples::{full_span, open, pair, text};
 use linked_list_allocator::LocalHeap;
 use otlp_ids::OutOfMemory;
@@ -24,12 +25,12 @@ pub(crate) fn assert_body<A: Allocator + Copy>(
 ) {
     let body = body.expect(rt, "a body");
     let written = hex::encode(alloc, body.as_slice()).expect(rt, "memory");
-    assert_eq!(rt; written.as_str(), digits);
+    assert_equal(rt, written.as_str(), digits);
 }
 
 /// Asserts that a body is refused, since it is too large.
 fn assert_too_large<A: Allocator>(rt: &impl Abort, body: Result<Vec<u8, A>, EncodeFault>) {
-    assert_eq!(rt; body.err(), Some(EncodeFault::TooLarge));
+    assert_equal(rt, body.err(), Some(EncodeFault::TooLarge));
 }
 
 const TWO_SPANS: &str = concat!(
@@ -65,7 +66,7 @@ fn groups_two_spans_of_one_scope(rt: HostRuntime) {
     let alloc = rt.alloc();
     let spans = [plain_span(&rt, alloc), plain_span(&rt, alloc)];
     let groups = group(alloc, &spans).expect(&rt, "memory");
-    assert_eq!(rt; groups.len(), 1);
+    assert_equal(&rt, groups.len(), 1);
     assert_body(&rt, alloc, encode(alloc, groups.as_slice(), 117), TWO_SPANS);
     for group in &groups {
         assert_debug(&rt, alloc, group);
@@ -126,11 +127,11 @@ fn is_made(rt: &impl Abort, alloc: Global, size: usize) -> bool {
     match full_body(&heap, 219) {
         Ok(body) => {
             let written = hex::encode(alloc, body.as_slice()).expect(rt, "memory");
-            assert_eq!(rt; written.as_str(), FULL_BODY, "at {size}");
+            assert_equal_at(rt, written.as_str(), FULL_BODY, size);
             true
         }
         Err(fault) => {
-            assert_eq!(rt; fault, EncodeFault::OutOfMemory, "at {size}");
+            assert_equal_at(rt, fault, EncodeFault::OutOfMemory, size);
             false
         }
     }
@@ -171,7 +172,7 @@ fn large_span(rt: &impl Abort, alloc: Global) -> SpanData {
 
 /// Asserts that a body has 70,085 bytes.
 fn assert_large(rt: &impl Abort, body: Result<Vec<u8>, EncodeFault>) {
-    assert_eq!(rt; body.expect(rt, "a body").len(), 70_085);
+    assert_equal(rt, body.expect(rt, "a body").len(), 70_085);
 }
 
 #[test]
@@ -237,7 +238,7 @@ fn writes_groups_in_their_order(rt: HostRuntime) {
 /// Asserts how a fault is told.
 fn assert_told(rt: &impl Abort, alloc: Global, fault: EncodeFault, text: &str) {
     let told = format!(in alloc; "{fault}").expect(rt, "memory");
-    assert_eq!(rt; told.as_str(), text);
+    assert_equal(rt, told.as_str(), text);
 }
 
 #[test]

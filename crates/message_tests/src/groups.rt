@@ -1,5 +1,6 @@
 //! Spans by resource and scope.
 
+use crate::equal::{assert_equal, assert_equal_at};
 use crate::exports::assert_body;
 use crate::samples::{opening, resource, scope};
 use failing_allocator::FailingAllocator;
@@ -78,9 +79,9 @@ fn groups_spans_of_a_scope_that_came_before(rt: HostRuntime) {
         span(&rt, alloc, "", FIRST),
     ];
     let groups = group(alloc, &spans).expect(&rt, "memory");
-    assert_eq!(rt; groups.len(), 1);
+    assert_equal(&rt, groups.len(), 1);
     for group in &groups {
-        assert_eq!(rt; counts(&rt, alloc, group).as_slice(), [2, 1].as_slice());
+        assert_equal(&rt, counts(&rt, alloc, group).as_slice(), [2, 1].as_slice());
     }
 }
 
@@ -93,9 +94,13 @@ fn tells_resources_by_their_schema(rt: HostRuntime) {
         span(&rt, alloc, "r", FIRST),
     ];
     let groups = group(alloc, &spans).expect(&rt, "memory");
-    assert_eq!(rt; groups.len(), 2);
+    assert_equal(&rt, groups.len(), 2);
     for (group, count) in groups.iter().zip([2, 1].iter()) {
-        assert_eq!(rt; counts(&rt, alloc, group).as_slice(), [*count].as_slice());
+        assert_equal(
+            &rt,
+            counts(&rt, alloc, group).as_slice(),
+            [*count].as_slice(),
+        );
     }
 }
 
@@ -119,7 +124,7 @@ fn is_grouped<A: Allocator + Copy>(rt: &impl Abort, ample: A, scarce: A) -> bool
         Ok(groups) => {
             for (group, expected) in groups.iter().zip([2, 1].iter()) {
                 let counts = counts(rt, ample, group);
-                assert_eq!(rt; counts.len(), *expected);
+                assert_equal(rt, counts.len(), *expected);
                 assert!(rt; counts.iter().all(|count| *count == 4));
             }
             true
@@ -135,13 +140,13 @@ fn tells_each_refused_growth(rt: HostRuntime) {
     for fail_index in 0..60u64 {
         let scarce = FailingAllocator::new(&heap, fail_index);
         let grouped = is_grouped(&rt, &ample, &scarce);
-        assert_eq!(rt; grouped, !scarce.has_failed(), "{fail_index}");
+        assert_equal_at(&rt, grouped, !scarce.has_failed(), fail_index);
         if grouped {
             granted = granted.saturating_add(1);
         } else {
             refused = refused.saturating_add(1);
         }
-        assert_eq!(rt; heap.used(), 0, "{fail_index}");
+        assert_equal_at(&rt, heap.used(), 0, fail_index);
     }
     assert!(rt;
         refused > 15 && granted > 0,

@@ -1,5 +1,6 @@
 //! Payloads of fields, with the bytes that Protocol Buffers' documentation writes for them.
 
+use crate::equal::{assert_equal, assert_equal_at};
 use linked_list_allocator::LocalHeap;
 use otlp_ids::OutOfMemory;
 use otlp_wire::{varint_size, write_fixed32, write_fixed64, write_len, write_varint};
@@ -19,7 +20,7 @@ fn counts_varints(rt: HostRuntime) {
         (18_446_744_073_709_551_615, 10),
     ];
     for (value, size) in sizes {
-        assert_eq!(rt; varint_size(value), size, "of {value}");
+        assert_equal_at(&rt, varint_size(value), size, value);
     }
 }
 
@@ -60,7 +61,7 @@ fn appends_each_payload(rt: HostRuntime) {
     let others = b"\x01\0\0\0\0\0\0\0\x01\0\0\0\x07testing\0";
     assert!(rt; out.as_slice().starts_with(varints), "{out:?}");
     assert!(rt; out.as_slice().ends_with(others), "{out:?}");
-    assert_eq!(rt; out.len(), varints.len() + others.len());
+    assert_equal(&rt, out.len(), varints.len() + others.len());
 }
 
 // Whether the writer got its memory, on a heap of so many bytes, or nothing where not even the
@@ -73,7 +74,7 @@ fn grows(rt: &impl Abort, alloc: Global, payload: Payload, size: usize) -> Optio
         out.as_slice().starts_with(b"what stood before"),
         "{payload:?} at {size}"
     );
-    assert_eq!(rt; out.len() > 17, written, "{payload:?} at {size}");
+    assert_equal_at(rt, out.len() > 17, written, (payload, size));
     Some(written)
 }
 

@@ -1,6 +1,7 @@
 //! Ends on one thread: how they are answered and counted.
 ghost use Rattle.std.specs.Prelude.{◌≡◌};
 
+use crate::equal::assert_equal;
 use crate::fixture::{END, assert_handed, exporter, root, sampled};
 use batch_desk::{FateCounts, Totals};
 use otlp_sampler::AlwaysOff;
@@ -50,8 +51,8 @@ fn count_outcomes<J: Naming, R: Wait + Abort + Copy>(rt: R, alloc: Global, blank
     let mut pass = passes.pop().expect(&rt, "a pass");
     for ticket in 0..6u64 {
         let mut span = sampled(&rt, alloc);
-        assert_eq!(rt; span.end(&mut pass, END), Ended::Handed(ticket));
-        assert_eq!(rt; pass.force_flush(), Flushed);
+        assert_equal(&rt, span.end(&mut pass, END), Ended::Handed(ticket));
+        assert_equal(&rt, pass.force_flush(), Flushed);
     }
     passes.push(pass).expect(&rt, "memory");
     let accounts = processor.close_out(passes).ok();
@@ -71,7 +72,7 @@ fn count_outcomes<J: Naming, R: Wait + Abort + Copy>(rt: R, alloc: Global, blank
         },
         ..Totals::default()
     };
-    assert_eq!(rt; accounts.totals, want);
+    assert_equal(&rt, accounts.totals, want);
 }
 
 #[test]
@@ -125,22 +126,22 @@ fn shut_down<J: Naming, R: Wait + Abort + Copy>(rt: R, alloc: Global, blank: Sim
     let mut last = passes.pop().expect(&rt, "a pass");
     let mut pass = passes.pop().expect(&rt, "another pass");
     let mut span = sampled(&rt, alloc);
-    assert_eq!(rt; span.end(&mut pass, END), Ended::Handed(0));
-    assert_eq!(rt; span.end(&mut pass, END), Ended::AlreadyEnded);
+    assert_equal(&rt, span.end(&mut pass, END), Ended::Handed(0));
+    assert_equal(&rt, span.end(&mut pass, END), Ended::AlreadyEnded);
     let mut dropped = root(&rt, alloc, AlwaysOff);
-    assert_eq!(rt; dropped.end(&mut pass, END), Ended::NotSampled);
+    assert_equal(&rt, dropped.end(&mut pass, END), Ended::NotSampled);
     for _ in 0..2u32 {
-        assert_eq!(rt; last.shutdown(), Flushed);
-        assert_eq!(rt; sampled(&rt, alloc).end(&mut pass, END), Ended::Late);
+        assert_equal(&rt, last.shutdown(), Flushed);
+        assert_equal(&rt, sampled(&rt, alloc).end(&mut pass, END), Ended::Late);
     }
-    assert_eq!(rt; pass.pop_entry(), None);
+    assert_equal(&rt, pass.pop_entry(), None);
     passes.push(pass).expect(&rt, "memory");
     let missing = processor.close_out(passes).err();
     let SimpleMissing {
         processor,
         mut passes,
     } = missing.expect(&rt, "a pass is missing");
-    assert_eq!(rt; passes.len(), 1);
+    assert_equal(&rt, passes.len(), 1);
     passes.push(last).expect(&rt, "memory");
     let accounts = processor.close_out(passes).ok();
     let accounts = accounts.expect(&rt, "all passes are there");
@@ -156,7 +157,7 @@ fn shut_down<J: Naming, R: Wait + Abort + Copy>(rt: R, alloc: Global, blank: Sim
         closed: true,
         ..Totals::default()
     };
-    assert_eq!(rt; accounts.totals, want);
+    assert_equal(&rt, accounts.totals, want);
 }
 
 #[test]
@@ -188,8 +189,8 @@ fn a_processor_has_1_to_64_passes(rt: HostRuntime) {
     ] {
         let blank = SimpleBlank::new();
         let count = count_passes::<Brand, HostRuntime>(rt, rt.alloc(), blank, passes);
-        assert_eq!(rt; count, want);
+        assert_equal(&rt, count, want);
     }
     let told = format!(in rt.alloc(); "{}", SimpleFault::BadPasses).expect(&rt, "memory");
-    assert_eq!(rt; told.as_str(), "a processor has 1 to 64 passes");
+    assert_equal(&rt, told.as_str(), "a processor has 1 to 64 passes");
 }

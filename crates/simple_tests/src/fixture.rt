@@ -1,4 +1,5 @@
 //! What the tests start spans with, and what they compare.
+use crate::equal::assert_equal;
 use otlp_ids::{SpanContext, SpanId, TraceId};
 use otlp_sampler::{AlwaysOn, Sampler};
 use otlp_span::{Entry, Kind, Reason, Resource, Scope, SpanLimits};
@@ -80,13 +81,13 @@ pub(crate) fn assert_handed<A: Allocator + Copy>(
     handed: &[Handed<A>],
     outcomes: &[Outcome],
 ) {
-    assert_eq!(rt; handed.len(), outcomes.len());
+    assert_equal(rt, handed.len(), outcomes.len());
     let mut number = 0u64;
     for (attempt, outcome) in handed.iter().zip(outcomes) {
         number = number.saturating_add(1);
         let body = hex::encode(alloc, attempt.body.as_slice()).expect(rt, "memory");
-        assert_eq!(rt; (attempt.number, attempt.attempt), (number, 1));
-        assert_eq!(rt; attempt.outcome, *outcome);
-        assert_eq!(rt; body.as_str(), BODY);
+        assert_equal(rt, (attempt.number, attempt.attempt), (number, 1));
+        assert_equal(rt, attempt.outcome, *outcome);
+        assert_equal(rt, body.as_str(), BODY);
     }
 }

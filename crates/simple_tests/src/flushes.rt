@@ -1,6 +1,7 @@
 //! A flush while another thread exports: it waits, since the lock is held.
 ghost use Rattle.std.specs.Prelude.{◌≡◌};
 
+use crate::equal::assert_equal;
 use crate::fixture::{END, sampled};
 use otlp_ids::OutOfMemory;
 use retry_core::Outcome;
@@ -79,7 +80,7 @@ where
     let started = thread::spawn(&rt, move || -> SimplePass<J, Waiting, R> {
         let mut span = sampled(&rt, alloc);
         span.update_name("n".repeat(alloc, 70_000).expect(&rt, "memory"));
-        assert_eq!(rt; span.end(&mut pass, END), Ended::Handed(0));
+        assert_equal(&rt, span.end(&mut pass, END), Ended::Handed(0));
         pass
     });
     started.ok().expect(&rt, "a thread")
@@ -111,14 +112,14 @@ where
         }
     }
     stage.store(FLUSHING, Ordering::SeqCst);
-    assert_eq!(rt; pass.force_flush(), Flushed);
+    assert_equal(&rt, pass.force_flush(), Flushed);
     stage.store(FLUSHED, Ordering::SeqCst);
     passes.push(pass).expect(&rt, "memory");
     passes.push(other.join(&rt)).expect(&rt, "memory");
     let accounts = processor.close_out(passes).ok();
     let accounts = accounts.expect(&rt, "all passes are there");
     assert!(rt; !accounts.exporter.flushed, "flushed within an export");
-    assert_eq!(rt; accounts.exporter.prepared, (70_071, 1));
+    assert_equal(&rt, accounts.exporter.prepared, (70_071, 1));
 }
 
 #[test]

@@ -5,6 +5,8 @@
 #[cfg(test)]
 mod ends;
 #[cfg(test)]
+mod equal;
+#[cfg(test)]
 mod fixture;
 #[cfg(test)]
 mod flushes;

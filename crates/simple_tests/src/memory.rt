@@ -1,6 +1,7 @@
 //! Processors to which memory is refused once, at each place in turn.
 ghost use Rattle.std.specs.Prelude.{◌≡◌};
 
+use crate::equal::{assert_equal, assert_equal_at};
 use crate::fixture::{END, entry, sampled};
 use failing_allocator::FailingAllocator;
 use linked_list_allocator::LocalHeap;
@@ -37,8 +38,8 @@ fn end_two<J: Naming, R: Wait + Abort + Copy, A: Allocator + Copy>(
         let mut span = sampled(&rt, ample);
         let answer = span.end(pass, END);
         if answer != Ended::Handed(ticket) {
-            assert_eq!(rt; answer, Ended::Dropped(ticket, Reason::EncodeMemory));
-            assert_eq!(rt; refused, Refused::Nothing);
+            assert_equal(&rt, answer, Ended::Dropped(ticket, Reason::EncodeMemory));
+            assert_equal(&rt, refused, Refused::Nothing);
             refused = Refused::Span(ticket);
         }
     }
@@ -63,7 +64,7 @@ fn end_scarce<J: Naming, R: Wait + Abort + Copy, A: Allocator + Copy>(
     } = match SimpleProcessor::<J, _, R, A>::new(scarce, rt, blank, exporter, 2) {
         Ok(parts) => parts,
         Err(fault) => {
-            assert_eq!(rt; fault, SimpleFault::OutOfMemory);
+            assert_equal(&rt, fault, SimpleFault::OutOfMemory);
             return Refused::New;
         }
     };
@@ -74,18 +75,18 @@ fn end_scarce<J: Naming, R: Wait + Abort + Copy, A: Allocator + Copy>(
         _ => None,
     };
     if pops {
-        assert_eq!(rt; pass.pop_entry(), named);
-        assert_eq!(rt; pass.pop_entry(), None);
+        assert_equal(&rt, pass.pop_entry(), named);
+        assert_equal(&rt, pass.pop_entry(), None);
     }
     passes.push(pass).expect(&rt, "room for a pass");
     let accounts = processor.close_out(passes).ok();
     let accounts = accounts.expect(&rt, "all passes are there");
     let (handed, dropped) = if named.is_some() { (1, 1) } else { (2, 0) };
-    assert_eq!(rt; accounts.totals.dropped.encode_memory, dropped);
-    assert_eq!(rt; accounts.totals.handed, handed);
-    assert_eq!(rt; accounts.exporter.handed().len() as u64, handed);
+    assert_equal(&rt, accounts.totals.dropped.encode_memory, dropped);
+    assert_equal(&rt, accounts.totals.handed, handed);
+    assert_equal(&rt, accounts.exporter.handed().len() as u64, handed);
     let left = if pops { None } else { named };
-    assert_eq!(rt; accounts.ledger.newest().copied(), left);
+    assert_equal(&rt, accounts.ledger.newest().copied(), left);
     refused
 }
 
@@ -108,7 +109,7 @@ fn each_refusal_of_memory_is_told(rt: HostRuntime) {
             // Room that is only asked for ahead may be refused without a word.
             Refused::Nothing => nothing = nothing.saturating_add(1),
         }
-        assert_eq!(rt; heap.used(), 0, "{fail_index}");
+        assert_equal_at(&rt, heap.used(), 0, fail_index);
     }
     assert!(rt;
         new > 2 && first > 8 && second > 8 && nothing > 20,

@@ -1,6 +1,7 @@
 //! Threads that end their spans on passes of one processor.
 ghost use Rattle.std.specs.Prelude.{◌≡◌};
 
+use crate::equal::assert_equal;
 use crate::fixture::{END, exporter, sampled};
 use simple_processor::{
     Flushed, Naming, SimpleBlank, SimpleMissing, SimpleParts, SimplePass, SimpleProcessor,
@@ -72,21 +73,25 @@ where
     let SimpleParts { processor, passes } = made.expect(&rt, "a processor");
     let mut passes = run_threads(rt, alloc, passes);
     let mut last = passes.pop().expect(&rt, "a pass");
-    assert_eq!(rt; last.shutdown(), Flushed);
+    assert_equal(&rt, last.shutdown(), Flushed);
     let mut other = passes.pop().expect(&rt, "another pass");
-    assert_eq!(rt; sampled(&rt, alloc).end(&mut other, END), Ended::Late);
+    assert_equal(&rt, sampled(&rt, alloc).end(&mut other, END), Ended::Late);
     passes.push(other).expect(&rt, "memory");
     let missing = processor.close_out(passes).err();
     let SimpleMissing {
         processor,
         mut passes,
     } = missing.expect(&rt, "a pass is missing");
-    assert_eq!(rt; passes.len(), THREADS - 1);
+    assert_equal(&rt, passes.len(), THREADS - 1);
     passes.push(last).expect(&rt, "memory");
     let accounts = processor.close_out(passes).ok();
     let accounts = accounts.expect(&rt, "all passes are there");
-    assert_eq!(rt; accounts.exporter.handed().len(), 400);
-    assert_eq!(rt; (accounts.totals.handed, accounts.totals.late), (400, 1));
+    assert_equal(&rt, accounts.exporter.handed().len(), 400);
+    assert_equal(
+        &rt,
+        (accounts.totals.handed, accounts.totals.late),
+        (400, 1),
+    );
     assert!(rt; accounts.totals.closed && accounts.ledger.is_empty());
 }
 

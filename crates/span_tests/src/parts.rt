@@ -1,3 +1,4 @@
+use crate::equal::assert_equal;
 use crate::fixture::{pairs, text};
 use linked_list_allocator::LocalHeap;
 use otlp_span::{Resource, Scope};
@@ -9,8 +10,8 @@ fn a_resource_has_its_attributes_alone(rt: HostRuntime) {
     let alloc = rt.alloc();
     let resource = Resource::new(alloc, pairs(&rt, alloc, "service.name", "shop"));
     let attributes = pairs(&rt, alloc, "service.name", "shop");
-    assert_eq!(rt; resource.attributes, attributes);
-    assert_eq!(rt; resource.schema_url.as_str(), "");
+    assert_equal(&rt, resource.attributes, attributes);
+    assert_equal(&rt, resource.schema_url.as_str(), "");
 }
 
 /// Asserts that the scope of this name has nothing else.
@@ -22,7 +23,7 @@ fn assert_named<A: Allocator + Copy>(rt: &impl Abort, alloc: A, name: &str) {
         attributes: Vec::new(alloc),
         schema_url: String::new(alloc),
     };
-    assert_eq!(rt; scope, wanted);
+    assert_equal(rt, scope, wanted);
 }
 
 #[test]
