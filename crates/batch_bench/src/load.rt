@@ -38,7 +38,7 @@ pub struct Load {
 /// How long a thread took.
 #[derive(Debug, Drop)]
 pub struct Times {
-    /// All of it, in nanoseconds.
+    /// All of it but its pauses, in nanoseconds.
     pub nanos: u64,
     /// Each end, in nanoseconds, where ends are timed.
     pub ends: Vec<u64>,
@@ -76,6 +76,7 @@ where
     let provider = Provider::new(AlwaysOn, resource, SpanLimits::default());
     let tracer = provider.tracer(Arc::new(alloc, Scope::named(alloc, "checkout")?)?);
     let mut ends = Vec::new(alloc);
+    let mut paused = 0u64;
     let start = Instant::now(rt)?;
     for number in 0..load.spans {
         let mut span = start_span(alloc, &mut rng, &tracer, load.attributes)?;
@@ -87,9 +88,11 @@ where
             span.end(pass, START + 1_000_000);
         }
         if load.pauses && number % BURST == BURST - 1 {
+            let before = Instant::now(rt)?;
             thread::sleep(rt, Duration::from_millis(PAUSE_MS));
+            paused = paused.saturating_add(nanos_since(rt, before)?);
         }
     }
-    let nanos = nanos_since(rt, start)?;
+    let nanos = nanos_since(rt, start)?.saturating_sub(paused);
     Ok(Times { nanos, ends })
 }
