@@ -35,6 +35,18 @@ pub struct Load {
     pub pauses: bool,
 }
 
+impl Load {
+    /// So many spans, as fast as can be, of which none is timed.
+    pub fn at_once(spans: u64, attributes: usize) -> Load {
+        Load {
+            spans,
+            attributes,
+            is_timed: false,
+            pauses: false,
+        }
+    }
+}
+
 /// How long a thread took.
 #[derive(Debug, Drop)]
 pub struct Times {

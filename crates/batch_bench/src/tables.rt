@@ -52,12 +52,7 @@ where
 {
     for threads in [1usize, 2, 4] {
         for attributes in [0usize, 5] {
-            let load = Load {
-                spans: FEW,
-                attributes,
-                is_timed: false,
-                pauses: false,
-            };
+            let load = Load::at_once(FEW, attributes);
             let Round {
                 handed,
                 dropped,
@@ -143,12 +138,7 @@ where
     R: Wait + RandomSource + Clock + Copy + Drop,
 {
     let (mut spans, mut wholes) = (Vec::new(alloc), Vec::new(alloc));
-    let load = Load {
-        spans: BATCH,
-        attributes,
-        is_timed: false,
-        pauses: false,
-    };
+    let load = Load::at_once(BATCH, attributes);
     for _round in 0..ROUNDS {
         let mut pass = PlainPass::new(rt, alloc)?;
         let (mut ends, mut whole) = (0u64, 0u64);
@@ -183,12 +173,7 @@ fn print_hold_row<R, W: Write>(
 where
     R: Wait + RandomSource + Clock + Copy + Drop,
 {
-    let load = Load {
-        spans: 2 * BATCH,
-        attributes,
-        is_timed: false,
-        pauses: false,
-    };
+    let load = Load::at_once(2 * BATCH, attributes);
     let clock = SystemClock::new(rt);
     let mut pass = PlainPass::new(rt, alloc)?;
     let (mut takes, mut settles, mut drops) = (Vec::new(alloc), Vec::new(alloc), Vec::new(alloc));
@@ -224,19 +209,12 @@ where
         print_plain_row(rt, alloc, output, attributes)?;
         print_hold_row(rt, alloc, output, attributes)?;
         for threads in [1usize, 2, 4] {
-            let load = Load {
-                spans: SPANS,
-                attributes,
-                is_timed: false,
-                pauses: false,
-            };
+            let load = Load::at_once(SPANS, attributes);
             print_row(rt, alloc, output, threads, load)?;
         }
         let load = Load {
-            spans: PAUSED_SPANS,
-            attributes,
-            is_timed: false,
             pauses: true,
+            ..Load::at_once(PAUSED_SPANS, attributes)
         };
         print_row(rt, alloc, output, 4, load)?;
     }

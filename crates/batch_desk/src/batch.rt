@@ -46,9 +46,9 @@ impl<A: Allocator> Batch<A> {
     }
 
     /// Names its spans, in their order, each as dropped for this reason, and frees all else of
-    /// them: so that the batch is dropped under a lock without that (`Desk::drop_named`). The reason
-    /// isn't `QueueFull`, which is that of spans that end where the queue is full. It takes no
-    /// memory (profile).
+    /// them: so that the batch is dropped under a lock without that (`Desk::drop_named`). The
+    /// reason isn't `QueueFull`, which is that of spans that end where the queue is full. It takes
+    /// no memory (profile).
     pub fn into_named(self, reason: Reason) -> NamedBatch<A>
         requires { reason ≢ Reason.QueueFull }
         ensures { result ≡ named_batch (reason_view reason) self }

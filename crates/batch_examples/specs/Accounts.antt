@@ -1,6 +1,7 @@
--- The accounts of the examples: a queue of 2 spans and batches of 2; the spans with the tickets 0, 1
--- and 2 end on the first pass, where 2 finds the queue full; a flush is answered; then 3 ends on the
--- second pass, which pops the entry of 2 and shuts down, and one that ends behind that is late.
+-- The accounts of the examples: a queue of 2 spans and batches of 2; the spans with the tickets
+-- 0, 1 and 2 end on the first pass, where 2 finds the queue full; a flush is answered; then 3 ends
+-- on the second pass, which pops the entry of 2 and shuts down, and one that ends behind that is
+-- late.
 use Rattle.std.specs.Prelude.{ℕ, List, [], ◌∷◌, Option, Some, None, false}
 use Rattle.span_model.specs.Dropped.{Reason}
 use Rattle.retry_model.specs.Retries.{Outcome, later, Fate}

@@ -14,7 +14,11 @@ use Rattle.batch_model.specs.Holders.{Holder, processor, pass, worker, pass_acco
 abbrev pub shown_out : Option OutBatch → Option desks.OutBatch
 shown_out None = None
 shown_out (Some batch) =
-    Some (record { number = batch.number; size = length batch.spans; is_handed = is_some batch.body })
+    Some (record {
+      number = batch.number;
+      size = length batch.spans;
+      is_handed = is_some batch.body;
+    })
 
 -- the spans that were accepted, in order
 abbrev pub accepted : Desk → WorkerAccount → List EndedSpan

@@ -34,8 +34,8 @@ abbrev pub attempts_out : Option OutBatch → List Handed
 attempts_out None = []
 attempts_out (Some batch) = attempts_with batch.number batch.body batch.outcomes
 
--- All attempts that a worker made, in order: those of one batch after the other, numbered from 1 on,
--- each with the body with which its batch was handed.
+-- All attempts that a worker made, in order: those of one batch after the other, numbered from 1
+-- on, each with the body with which its batch was handed.
 abbrev pub attempts_of : WorkerAccount → List Handed
 attempts_of worker =
     flat_map (λ (b : EndedBatch). attempts_by b.number b.ending) worker.ended
@@ -97,7 +97,9 @@ with_outcomes outcomes (Some batch) = Some (record batch { outcomes = outcomes }
 abbrev pub work_of : Origin → WorkerAccount → List Outcome → Option Hand → Work
 work_of origin account outcomes hand = record {
   origin = origin;
-  account = record account { out = with_outcomes (outcomes ++ in_hand [] pending_at hand) account.out };
+  account = record account {
+    out = with_outcomes (outcomes ++ in_hand [] pending_at hand) account.out;
+  };
   encoded = in_hand None encoded_at hand;
 }
 

@@ -22,8 +22,8 @@ pub struct Flushed;
 /// One thread's way to a batch processor: what its spans go to at their end. In contracts it is
 /// what it knows: how each of its spans was answered, what it popped, how often it was late and
 /// called shutdown, and the floor below which all is flushed. An end takes the lock once. On the
-/// heap a pass may go to another thread where the runtime's value may: what `thread::spawn` asks its caller to
-/// show is the lemma `pass_send` of `proofs/Crosses.antt`.
+/// heap a pass may go to another thread where the runtime's value may: what `thread::spawn` asks
+/// its caller to show is the lemma `pass_send` of `proofs/Crosses.antt`.
 #[derive(Drop)]
 pub struct Pass<J: Naming, R, A: Allocator = Global> {
     pub(crate) lock: Arc<Lock<J, A>, A>,

@@ -65,8 +65,8 @@ impl<A: Allocator> Model for InHand<A> {
 
 /// The way of one thread, which sends the batches, to a batch processor. In contracts it is what
 /// the worker knows: the batches that ended, each with its spans, its body, what its attempts came
-/// to and its fate; and the one that is out. On the heap it may go to another thread where the runtime's
-/// value may: what `thread::spawn` asks its caller to show is the lemma `worker_send` of
+/// to and its fate; and the one that is out. On the heap it may go to another thread where the
+/// runtime's value may: what `thread::spawn` asks its caller to show is the lemma `worker_send` of
 /// `proofs/Crosses.antt`. Where it is let go, a batch in hand is abandoned.
 pub struct WorkerPass<J: Naming, R: Wait + Drop, A: Allocator + Copy = Global> {
     pub(crate) lock: Arc<Lock<J, A>, A>,

@@ -93,6 +93,6 @@ impl Change<Holding, Entry> for Pops {
     ghost after = { λ holder entry. on_pass (after_pop (entry_view entry)) holder };
 }
 
-/// The accounts of one processor, before it is made: `SimpleProcessor::new` opens them. In contracts
-/// it is their name, by which a type parameter stands for this one processor.
+/// The accounts of one processor, before it is made: `SimpleProcessor::new` opens them. In
+/// contracts it is their name, by which a type parameter stands for this one processor.
 pub type SimpleBlank = Blank<Holding>;
