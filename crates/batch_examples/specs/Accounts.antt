@@ -39,7 +39,7 @@ both = first ∷ second ∷ []
 
 -- two attempts at most
 abbrev pub twice : RetryConfig
-twice = record { attempts = 2; initial_ms = 1000; max_ms = 30000 }
+twice = record { attempts = 2; initial_ms = 1000; max_ms = 30000; least_ms = 0 }
 
 -- the batch of ticket 3 is out, and was handed or not
 abbrev pub out_with : Option (List ℕ) → List Outcome → OutBatch

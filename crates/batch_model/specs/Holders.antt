@@ -19,7 +19,7 @@ abbrev pub new_origin : Origin
 new_origin = record {
   passes = 0;
   desk = record { queue = 0; batch = 0; delay_ms = 0 };
-  retry = record { attempts = 0; initial_ms = 0; max_ms = 0 };
+  retry = record { attempts = 0; initial_ms = 0; max_ms = 0; least_ms = 0 };
 }
 
 abbrev pub origin_in : Holder → Origin

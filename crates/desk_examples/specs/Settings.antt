@@ -5,7 +5,11 @@ use Rattle.retry_model.specs.Waits.{RetryConfig, next_after}
 
 -- five attempts, waits of at most 1 second first and of at most 30 seconds
 abbrev pub usual : RetryConfig
-usual = record { attempts = 5; initial_ms = 1000; max_ms = 30000 }
+usual = record { attempts = 5; initial_ms = 1000; max_ms = 30000; least_ms = 0 }
+
+-- the same, with no wait below 2 seconds
+abbrev pub patient : RetryConfig
+patient = record usual { least_ms = 2000 }
 
 -- what follows from an attempt without a reply, at a moment, where a random word was drawn
 abbrev pub silence : ℕ → ℕ → ℕ → Next

@@ -4,7 +4,7 @@
 ghost use Rattle.std.specs.Prelude.{◌≡◌, pos, Some, None};
 ghost use Rattle.retry_model.specs.Retries.{Outcome, later, no_reply, bad, seconds, date, done, Next, Cause, again, give_up, attempts, Fate, next_of, fate_of};
 ghost use Rattle.retry_model.specs.Waits.{IsRetryConfig, next_after};
-ghost use Rattle.desk_examples.specs.Settings.{usual, silence, asked};
+ghost use Rattle.desk_examples.specs.Settings.{usual, patient, silence, asked};
 
 /// Statuses after which a batch would be sent again end it, as a missing reply does.
 pub fn one_attempt()
@@ -32,7 +32,7 @@ pub fn backoffs()
     ensures last { silence 5 0 0 ≡ give_up attempts }
     ensures last_moment { silence 1 18446744073709551000 0 ≡ again 18446744073709551615 }
     // 30 seconds, doubled, are above the greatest wait.
-    ensures greatest { next_after (record { attempts = 5; initial_ms = 30000; max_ms = 50000 })
+    ensures greatest { next_after (record usual { initial_ms = 30000; max_ms = 50000 })
         2 no_reply 0 0 ≡ again 50000000000 }
     // A status that asks for nothing.
     ensures throttled { next_after usual 1 (later 429 None) 0 0 ≡ again 1000000000 }
@@ -49,6 +49,20 @@ pub fn asked_waits()
         give_up attempts }
 {}
 
+/// Where no wait is to be below 2 seconds, a shorter one lasts 2 seconds, whoever asked for it.
+pub fn least_waits()
+    ensures at_once { next_after patient 1 (later 503 (Some (seconds 0))) 5 0 ≡
+        again 2000000005 }
+    ensures date_behind { next_after patient 1 (later 503 (Some (date 1))) 3000000000 0 ≡
+        again 5000000000 }
+    ensures backoff { next_after patient 1 no_reply 0 0 ≡ again 2000000000 }
+    ensures longer { next_after patient 1 (later 429 (Some (seconds 7))) 5 0 ≡
+        again 7000000005 }
+    ensures longer_backoff { next_after patient 3 no_reply 0 0 ≡ again 4000000000 }
+    ensures last_moment { next_after patient 1 no_reply 18446744073709551000 0 ≡
+        again 18446744073709551615 }
+{}
+
 /// Each other outcome is followed by its own next one, at each attempt.
 pub fn first_attempt()
     ensures delivered { next_after usual 1 Outcome.delivered 0 0 ≡ done }
@@ -63,10 +77,12 @@ pub fn settings()
     ensures usual { IsRetryConfig usual }
     ensures one_attempt { IsRetryConfig (record usual { attempts = 1 }) }
     ensures greatest { IsRetryConfig
-        (record { attempts = 5; initial_ms = 30000; max_ms = 300000 }) }
+        (record { attempts = 5; initial_ms = 30000; max_ms = 300000; least_ms = 300000 }) }
     ensures no_attempt { ¬ IsRetryConfig (record usual { attempts = 0 }) }
     ensures six_attempts { ¬ IsRetryConfig (record usual { attempts = 6 }) }
     ensures no_wait { ¬ IsRetryConfig (record usual { initial_ms = 0 }) }
     ensures unordered { ¬ IsRetryConfig (record usual { max_ms = 999 }) }
     ensures too_long { ¬ IsRetryConfig (record usual { max_ms = 300001 }) }
+    ensures least { IsRetryConfig (record usual { least_ms = 30000 }) }
+    ensures least_above_the_longest { ¬ IsRetryConfig (record usual { least_ms = 30001 }) }
 {}

@@ -8,7 +8,8 @@ const DATE: u64 = 784_111_777;
 
 /// How refused settings are told.
 const BAD_RETRY: &str =
-    "bad retry settings: 1 to 5 attempts, a wait of 1 to 30000 ms, the longest to 300000 ms";
+    "bad retry settings: 1 to 5 attempts, a wait of 1 to 30000 ms, the longest to 300000 ms, \
+     the least to the longest";
 
 /// What follows from this attempt, which there has to be.
 fn follows(
@@ -140,6 +141,28 @@ fn a_batch_of_one_attempt_is_not_sent_again(rt: HostRuntime) {
     let outcome = unavailable(RetryAfter::Seconds(7));
     let next = follows(&rt, &config, 1, outcome, 0, 0);
     assert_equal(&rt, next, Next::GiveUp(Cause::Attempts));
+}
+
+/// Where no wait is to be below 2 seconds.
+#[test]
+fn no_wait_is_shorter_than_the_least(rt: HostRuntime) {
+    let config = RetryConfig::default()
+        .with_least_wait(2000)
+        .expect(&rt, "settings");
+    assert_equal(&rt, config.least_ms(), 2000);
+    for (attempt, outcome, moment) in [
+        (1, unavailable(RetryAfter::Seconds(0)), 2_000_000_005),
+        (1, unavailable(RetryAfter::Date(0)), 2_000_000_005),
+        (1, Outcome::NoReply, 2_000_000_005),
+        (1, unavailable(RetryAfter::Seconds(7)), 7_000_000_005),
+        (3, Outcome::NoReply, 4_000_000_005),
+    ] {
+        let next = follows(&rt, &config, attempt, outcome, 5, 0);
+        assert_equal(&rt, next, Next::Again(moment));
+    }
+    let config = RetryConfig::default();
+    assert_equal(&rt, config.with_least_wait(30_000).is_ok(), true);
+    assert_equal(&rt, config.with_least_wait(30_001), Err(BadRetry));
 }
 
 #[test]

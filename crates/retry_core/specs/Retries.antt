@@ -1,5 +1,5 @@
 -- What outcomes of attempts, what follows from them, and how batches end are in the model.
-use Rattle.std.specs.Prelude.{option_map}
+use Rattle.std.specs.Prelude.{ℕ, option_map}
 use Rattle.retry_model.specs.Retries as model
 use Rattle.retry_model.specs.Waits as waiting
 use Rattle.retry_core.specs.declared.outcome.Outcome.{Outcome}
@@ -44,7 +44,12 @@ fate_view fates.BadReply = model.Fate.bad_reply
 fate_view fates.GivenUp = model.given_up
 fate_view fates.Abandoned = model.abandoned
 
--- five attempts, waits of at most 1 second first and of at most 30 seconds that nobody asks for
--- (profile)
+-- what may be set before a least wait is (profile)
+abbrev pub without_least : ℕ → ℕ → ℕ → waiting.RetryConfig
+without_least attempts initial_ms max_ms =
+    record { attempts = attempts; initial_ms = initial_ms; max_ms = max_ms; least_ms = 0 }
+
+-- five attempts, waits of at most 1 second first and of at most 30 seconds that nobody asks for,
+-- and no least wait (profile)
 abbrev pub default_retry : waiting.RetryConfig
-default_retry = record { attempts = 5; initial_ms = 1000; max_ms = 30000 }
+default_retry = without_least 5 1000 30000

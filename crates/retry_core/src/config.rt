@@ -2,14 +2,15 @@
 
 ghost use Rattle.std.specs.Prelude.{◌≡◌, ◌≤◌, ◌↔◌, IfOk, IsErr};
 ghost use Rattle.retry_model.specs.Waits.{IsRetryConfig, longest_ms};
-ghost use Rattle.retry_core.specs.Retries.{default_retry};
+ghost use Rattle.retry_core.specs.Retries.{default_retry, without_least};
 
 use std::marker::Model;
 use thiserror::Error;
 
 /// Why settings of retries are refused: a number is out of its range.
 #[derive(Error, Debug, Clone, Copy, PartialEq, Eq)]
-#[error("bad retry settings: 1 to 5 attempts, a wait of 1 to 30000 ms, the longest to 300000 ms")]
+#[error("bad retry settings: 1 to 5 attempts, a wait of 1 to 30000 ms, the longest to 300000 ms, \
+     the least to the longest")]
 pub struct BadRetry;
 
 /// How often a batch is sent, and how long the waits between its attempts are (OpenTelemetry
@@ -20,6 +21,7 @@ pub struct RetryConfig {
     attempts: u32,
     initial_ms: u32,
     max_ms: u32,
+    least_ms: u32,
 }
 
 impl Model for RetryConfig {
@@ -32,18 +34,21 @@ impl Model for RetryConfig {
       attempts = c.attempts;
       initial_ms = c.initial_ms;
       max_ms = c.max_ms;
+      least_ms = c.least_ms;
     } };
 
     ghost inverse = { λ v. record {
       attempts = v.attempts;
       initial_ms = v.initial_ms;
       max_ms = v.max_ms;
+      least_ms = v.least_ms;
     } };
 
     ghost invariant = { λ c. IsRetryConfig (record {
       attempts = c.attempts;
       initial_ms = c.initial_ms;
       max_ms = c.max_ms;
+      least_ms = c.least_ms;
     }) };
 }
 
@@ -51,17 +56,16 @@ impl RetryConfig {
     /// A batch is sent so many times at most, 1 to 5. The wait behind its first attempt is
     /// `initial_ms` milliseconds at most, 1 to 30,000, behind each later one at most twice as long
     /// as behind the one before it, and never above `max_ms`, which is from `initial_ms` to
-    /// 300,000, where the collector asks for none. (profile)
+    /// 300,000, where the collector asks for none. There is no least wait. (profile)
     ///
     /// # Errors
     ///
     /// `BadRetry` where a number is out of its range.
     pub fn new(attempts: u32, initial_ms: u32, max_ms: u32) -> Result<RetryConfig, BadRetry>
-        ensures value { IfOk result (λ config. config ≡
-            record { attempts = attempts; initial_ms = initial_ms; max_ms = max_ms }) }
+        ensures value { IfOk result (λ config. config ≡ without_least attempts initial_ms max_ms) }
         ensures valid { IfOk result (λ config. IsRetryConfig config) }
-        ensures refused { IsErr result ↔ ¬ IsRetryConfig
-            (record { attempts = attempts; initial_ms = initial_ms; max_ms = max_ms }) }
+        ensures refused { IsErr result ↔
+            ¬ IsRetryConfig (without_least attempts initial_ms max_ms) }
     {
         if !(1..=5).contains(&attempts) {
             return Err(BadRetry);
@@ -76,7 +80,26 @@ impl RetryConfig {
             attempts,
             initial_ms,
             max_ms,
+            least_ms: 0,
         })
+    }
+
+    /// No wait is shorter than `least_ms` milliseconds, which are `max_ms` at most: neither one
+    /// that a random word shortens nor one that the collector asks for, which may be none at all
+    /// (`Retry-After: 0`) and would make all attempts at one moment. (profile)
+    ///
+    /// # Errors
+    ///
+    /// `BadRetry` where it is above `max_ms`.
+    pub fn with_least_wait(self, least_ms: u32) -> Result<RetryConfig, BadRetry>
+        ensures value { IfOk result (λ config. config ≡ record self { least_ms = least_ms }) }
+        ensures valid { IfOk result (λ config. IsRetryConfig config) }
+        ensures refused { IsErr result ↔ ¬ IsRetryConfig (record self { least_ms = least_ms }) }
+    {
+        if least_ms > self.max_ms {
+            return Err(BadRetry);
+        }
+        Ok(RetryConfig { least_ms, ..self })
     }
 
     /// A batch is sent once. The waits, of which there is none, are those of the default.
@@ -87,6 +110,7 @@ impl RetryConfig {
             attempts: 1,
             initial_ms: 1000,
             max_ms: 30_000,
+            least_ms: 0,
         }
     }
 
@@ -113,6 +137,14 @@ impl RetryConfig {
         self.max_ms
     }
 
+    /// How long a wait is at least, in milliseconds: 0 to `max_ms`.
+    pub fn least_ms(&self) -> u32
+        ensures value { result ≡ self.now.least_ms }
+        ensures bounded { result ≤ 300000 }
+    {
+        self.least_ms
+    }
+
     /// The most that is waited behind this attempt, in milliseconds, where the collector asks for
     /// no wait.
     pub(crate) fn longest_ms(&self, attempt: u32) -> u64
@@ -132,13 +164,14 @@ impl Default for RetryConfig {
 
     ghost is_default = { λ config. config ≡ default_retry };
 
-    /// Five attempts; the first wait is 1000 ms at most, and none is above 30,000 ms that the
-    /// collector doesn't ask for. (profile)
+    /// Five attempts; the first wait is 1000 ms at most, none is above 30,000 ms that the
+    /// collector doesn't ask for, and there is no least wait. (profile)
     fn default() -> RetryConfig {
         RetryConfig {
             attempts: 5,
             initial_ms: 1000,
             max_ms: 30_000,
+            least_ms: 0,
         }
     }
 }

@@ -1,7 +1,7 @@
 //! How long the waits between the attempts of a batch are.
 
 ghost use Rattle.std.specs.Prelude.{◌≡◌, ◌≤◌, min, option_map};
-ghost use Rattle.retry_model.specs.Waits.{backoff_ms, greatest_wait, wait_ns};
+ghost use Rattle.retry_model.specs.Waits.{asked_ns, backoff_ms, greatest_wait, wait_ns};
 ghost use Rattle.retry_core.specs.Retries.{retry_after_view};
 
 use crate::config::RetryConfig;
@@ -34,8 +34,30 @@ fn capped(wait: u128) -> u64
     wait.min(GREATEST_WAIT) as u64
 }
 
-/// The wait behind this attempt, from `now` on, in nanoseconds: what the collector asks for, or
-/// else the backoff.
+/// What is asked for behind this attempt, from `now` on, in nanoseconds: what the collector asks
+/// for, or else the backoff.
+fn asked_ns(
+    config: &RetryConfig,
+    attempt: u32,
+    after: Option<RetryAfter>,
+    now: u64,
+    word: u64,
+) -> u64
+    requires first { 1 ≤ attempt }
+    requires last { attempt ≤ config.now.attempts }
+    ensures { result ≡ asked_ns config.now attempt (option_map retry_after_view after) now word }
+{
+    match after {
+        None => backoff_ms(config, attempt, word) * MILLISECOND,
+        Some(RetryAfter::Seconds(seconds)) => capped(u128::from(seconds) * SECOND),
+        Some(RetryAfter::Date(date)) => {
+            let asked = u128::from(date) * SECOND;
+            capped(asked.saturating_sub(u128::from(now)))
+        }
+    }
+}
+
+/// The wait behind this attempt, from `now` on, in nanoseconds: what is asked for, or the least.
 pub(crate) fn wait_ns(
     config: &RetryConfig,
     attempt: u32,
@@ -47,12 +69,6 @@ pub(crate) fn wait_ns(
     requires last { attempt ≤ config.now.attempts }
     ensures { result ≡ wait_ns config.now attempt (option_map retry_after_view after) now word }
 {
-    match after {
-        None => backoff_ms(config, attempt, word) * MILLISECOND,
-        Some(RetryAfter::Seconds(seconds)) => capped(u128::from(seconds) * SECOND),
-        Some(RetryAfter::Date(date)) => {
-            let asked = u128::from(date) * SECOND;
-            capped(asked.saturating_sub(u128::from(now)))
-        }
-    }
+    let least = u64::from(config.least_ms()) * MILLISECOND;
+    least.max(asked_ns(config, attempt, after, now, word))
 }

@@ -1,5 +1,5 @@
 -- When a batch is sent again. (OTLP Specification, Retryable Response Codes, OTLP/HTTP Throttling)
-use Rattle.std.specs.Prelude.{ℕ, ◌+◌, ◌-◌, ◌*◌, ◌/◌, ◌%◌, ◌^◌, ◌≤◌, nat_lt, min, if◌then◌else◌, Option, Some, None}
+use Rattle.std.specs.Prelude.{ℕ, ◌+◌, ◌-◌, ◌*◌, ◌/◌, ◌%◌, ◌^◌, ◌≤◌, nat_lt, min, max, if◌then◌else◌, Option, Some, None}
 use Rattle.std.specs.Option.{option_map_or}
 use Rattle.retry_model.specs.Retries.{RetryAfter, seconds, date, Outcome, later, no_reply, Next, again, next_of}
 
@@ -11,6 +11,8 @@ pub record RetryConfig : Type 0 where
   -- what the first wait is at most, and what any is where the collector asks for none
   pub initial_ms : ℕ
   pub max_ms : ℕ
+  -- what any wait is at least, also one that the collector asks for
+  pub least_ms : ℕ
 
 -- the numbers that are taken (profile)
 pub record IsRetryConfig (config : RetryConfig) : Type 0 where
@@ -20,6 +22,7 @@ pub record IsRetryConfig (config : RetryConfig) : Type 0 where
   pub short : config.initial_ms ≤ 30000
   pub ordered : config.initial_ms ≤ config.max_ms
   pub bounded : config.max_ms ≤ 300000
+  pub least : config.least_ms ≤ config.max_ms
 
 -- Behind the first attempt the wait is at most the initial one, and behind each later attempt at
 -- most twice as long as behind the one before it, up to the greatest. (profile)
@@ -39,14 +42,19 @@ second = 1000000000
 abbrev pub greatest_wait : ℕ
 greatest_wait = 300 * second
 
--- How long the wait behind this attempt is, in nanoseconds, from a moment on, which is in
+-- How long a wait is asked for behind this attempt, in nanoseconds, from a moment on, which is in
 -- nanoseconds since 1970: as the reply asks, in so many seconds or until a date, or else the
 -- backoff. (OTLP Specification, OTLP/HTTP Throttling; RFC 9110, Retry-After; with each status that
 -- is tried again: profile)
+abbrev pub asked_ns : RetryConfig → ℕ → Option RetryAfter → ℕ → ℕ → ℕ
+asked_ns config attempt None now word = backoff_ms config attempt word * 1000000
+asked_ns config attempt (Some (seconds n)) now word = min (n * second) greatest_wait
+asked_ns config attempt (Some (date d)) now word = min (d * second - now) greatest_wait
+
+-- How long the wait is: so long, but never shorter than the least. (profile)
 abbrev pub wait_ns : RetryConfig → ℕ → Option RetryAfter → ℕ → ℕ → ℕ
-wait_ns config attempt None now word = backoff_ms config attempt word * 1000000
-wait_ns config attempt (Some (seconds n)) now word = min (n * second) greatest_wait
-wait_ns config attempt (Some (date d)) now word = min (d * second - now) greatest_wait
+wait_ns config attempt after now word =
+    max (config.least_ms * 1000000) (asked_ns config attempt after now word)
 
 -- the last moment that 64 bits tell (profile)
 abbrev pub greatest_moment : ℕ

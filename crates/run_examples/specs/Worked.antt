@@ -70,7 +70,7 @@ desk_of_size queue = record { queue = queue; batch = 2; delay_ms = 5000 }
 
 -- five attempts, waits from 1000 to 30000 ms
 abbrev pub five_attempts : RetryConfig
-five_attempts = record { attempts = 5; initial_ms = 1000; max_ms = 30000 }
+five_attempts = record { attempts = 5; initial_ms = 1000; max_ms = 30000; least_ms = 0 }
 
 -- all spans are sampled
 abbrev pub queue_of : ℕ → RunConfig
