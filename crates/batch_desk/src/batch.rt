@@ -1,4 +1,4 @@
-ghost use Rattle.std.specs.Prelude.{◌≡◌, ◌≢◌, []};
+ghost use Rattle.std.specs.Prelude.{◌≡◌, ◌≢◌, ◌≤◌, ◌+◌, ◌-◌, ◌++◌, [], drop, length, take, vec_capacity, vec_len};
 ghost use Rattle.otlp_span.specs.Dropped.{reason_view};
 ghost use Rattle.batch_desk.specs.Batch.{named_batch};
 
@@ -45,6 +45,20 @@ impl<A: Allocator> Batch<A> {
         self.run.clear();
     }
 
+    /// Drops its spans: the first ones, as many as there is room for, into `spent`, which keeps its
+    /// capacity, and the others by freeing them. So who settles a batch leaves the freeing of its
+    /// spans to others. It takes no memory (profile).
+    pub fn clear_into(&mut self, spent: &mut Vec<SpanData<A>, A>)
+        ensures batch { self.new ≡ record self.old { spans = [] } }
+        ensures spent { spent.new.items ≡ spent.old.items
+            ++ take (vec_capacity spent.old - vec_len spent.old) self.old.spans }
+        ensures capacity { vec_capacity spent.new ≡ vec_capacity spent.old }
+    {
+        let count = self.run.len().min(spent.capacity() - spent.len());
+        move_front(&mut self.run, count, spent);
+        self.run.clear();
+    }
+
     /// Names its spans, in their order, each as dropped for this reason, and frees all else of
     /// them: so that the batch is dropped under a lock without that (`Desk::drop_named`). The
     /// reason isn't `QueueFull`, which is that of spans that end where the queue is full. It takes
@@ -70,5 +84,22 @@ impl<A: Allocator> Batch<A> {
         ensures { result.now ≡ self.now.spans }
     {
         self.run.as_slice()
+    }
+}
+
+/// Moves the first `count` spans of a run behind those of `into`, where there is room for them.
+fn move_front<A: Allocator>(
+    run: &mut Run<SpanData<A>, A>,
+    count: usize,
+    into: &mut Vec<SpanData<A>, A>,
+)
+    requires there { count ≤ length run.old.items }
+    requires room { vec_len into.old + count ≤ vec_capacity into.old }
+    ensures run { run.new ≡ record run.old { items = drop count run.old.items } }
+    ensures into { into.new.items ≡ into.old.items ++ take count run.old.items }
+    ensures capacity { vec_capacity into.new ≡ vec_capacity into.old }
+{
+    for _ in 0..count {
+        into.push_reserved(run.pop_front().unwrap());
     }
 }

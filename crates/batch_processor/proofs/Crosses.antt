@@ -7,7 +7,7 @@ use denote.Param.SendFields.{FieldsHave, declared_send, variants_send, as_row_se
 use Rattle.std.proofs.Crossing as heap
 use Rattle.std.specs.contracts.alloc.Global as Heap
 use Rattle.std.below.std_heap.specs.contracts.GlobalAllocator.TheImpl.{ghosts}
-use Rattle.batch_desk.proofs.Crosses.{batch_send, desk_send}
+use Rattle.batch_desk.proofs.Crosses.{batch_send, data_send, desk_send}
 use Rattle.account_book.specs.declared.book.Naming as naming
 use Rattle.account_book.proofs.book.Account.TheSendSync as account
 use Rattle.account_book.proofs.book.Book.TheSendSync as book
@@ -23,6 +23,7 @@ use Rattle.batch_processor.specs.contracts.worker.InHand.TheInside as in_hand
 use Rattle.batch_processor.specs.contracts.worker.Stage as Stage
 use Rattle.batch_processor.specs.contracts.worker.WorkerPass as WorkerPass
 use Rattle.batch_processor.specs.contracts.worker.WorkerPass.TheInside as worker
+use Rattle.otlp_span.specs.contracts.data.SpanData as SpanData
 use Rattle.retry_core.specs.contracts.outcome.Outcome as Outcome
 
 -- the batch in hand of a worker, and what came of its attempts
@@ -43,7 +44,7 @@ setup_send = search (sendable, declared_send, as_row_send, heap.crosses) depth 6
 module _ (J : RattleType) (g : naming.Ghosts J.Denot) where
   shared_send : IsSend (Shared.the_row J Heap.the_row g ghosts)
   shared_send =
-      let fields : FieldsHave IsSend (shared.the_type J Heap.the_row g ghosts).parts = search (sendable, as_row_send, variants_send, declared_send, desk_send, book.the_send, heap.crosses) depth 60 fits 20000 in
+      let fields : FieldsHave IsSend (shared.the_type J Heap.the_row g ghosts).parts = search (sendable, as_row_send, variants_send, declared_send, desk_send, data_send, book.the_send, heap.crosses) depth 60 fits 20000 in
       view_send _ _ _ _ _ (declared_send (shared.the_type J Heap.the_row g ghosts) fields)
 
   lock_send : IsSend (Lock.the_row J Heap.the_row g ghosts)
@@ -61,7 +62,8 @@ module _ (J : RattleType) (g : naming.Ghosts J.Denot) where
   pub worker_send : (R : RattleType) → IsSend R → IsSend (WorkerPass.the_row J R Heap.the_row g ghosts)
   worker_send R r =
       let kept = heap.Vec-send Outcome.the_row outcome_send in
+      let spent = heap.Vec-send (SpanData.the_row Heap.the_row ghosts) data_send in
       view_send _ _ _ _ _ (
       declared_send (worker.the_type J R Heap.the_row g ghosts)
-      (heap.Arc-send (Lock.the_row J Heap.the_row g ghosts) lock_send lock_sync, (account.the_send J Holding.the_row g, (search (sendable, as_row_send, variants_send, in_hand_send) depth 60 fits 20000, (kept, (setup_send, (as_row_send (row_field Heap.the_row) heap.send, (as_row_send (row_field R) r, tt)))))))
+      (heap.Arc-send (Lock.the_row J Heap.the_row g ghosts) lock_send lock_sync, (account.the_send J Holding.the_row g, (search (sendable, as_row_send, variants_send, in_hand_send) depth 60 fits 20000, (kept, (spent, (setup_send, (as_row_send (row_field Heap.the_row) heap.send, (as_row_send (row_field R) r, tt))))))))
       )

@@ -28,7 +28,8 @@ pub(crate) struct Lock<J: Naming, A: Allocator> {
 }
 
 impl<J: Naming, A: Allocator + Copy> Lock<J, A> {
-    /// A span ends on a pass. The worker is called where a batch fills.
+    /// A span ends on a pass. The worker is called where a batch fills. Where the span waits, one
+    /// that was sent is freed in its place, if one is left.
     pub(crate) fn admit<R: Wait>(
         &self,
         rt: &R,
@@ -42,12 +43,17 @@ impl<J: Naming, A: Allocator + Copy> Lock<J, A> {
         let mut shared = self.shared.lock(rt);
         let (answer, remains) = shared.admit(account, span);
         let fills = remains.is_none() && shared.fills();
+        let spent = match &remains {
+            None => shared.pop_spent(),
+            Some(_) => None,
+        };
         drop(shared);
         if fills {
             self.to_do.notify_one();
         }
-        // A span that doesn't wait is freed here, behind the hold.
+        // A span that doesn't wait is freed here, behind the hold, and so is one that was sent.
         drop(remains);
+        drop(spent);
         answer
     }
 
@@ -150,8 +156,9 @@ impl<J: Naming, A: Allocator + Copy> Lock<J, A> {
         self.done.notify_all();
     }
 
-    /// The worker settles its batch, and those who wait for it are called. Its spans are freed
-    /// before the hold.
+    /// The worker settles its batch, and those who wait for it are called. None of its spans is
+    /// freed in the hold: they are left to those who end others, or freed behind it. `spent` is
+    /// left without one.
     pub(crate) fn settle<R: Wait>(
         &self,
         rt: &R,
@@ -159,15 +166,20 @@ impl<J: Naming, A: Allocator + Copy> Lock<J, A> {
         mut batch: Batch<A>,
         outcomes: &Vec<Outcome, A>,
         fate: Fate,
+        spent: &mut Vec<SpanData<A>, A>,
     )
         requires worker { account.old ≡ worker (origin_in account.old) (worker_in account.old) }
         requires out { IsHandedBatchOf account.old batch }
         ensures { account.new ≡ on_worker
             (after_settle (outcomes_view outcomes.now.items) (fate_view fate)) account.old }
     {
-        batch.clear();
-        self.shared.lock(rt).settle(account, batch, outcomes, fate);
+        batch.clear_into(spent);
+        let mut shared = self.shared.lock(rt);
+        shared.settle(account, batch, outcomes, fate);
+        shared.leave_spent(spent);
+        drop(shared);
         self.done.notify_all();
+        spent.clear();
     }
 }
 

@@ -198,6 +198,8 @@ impl<J: Naming, R: Wait + Copy, A: Allocator + Copy> BatchProcessor<J, R, A> {
         let sizes = config.desk;
         let desk = Desk::new(alloc, sizes, now)?;
         let outcomes = Vec::with_capacity(alloc, 5)?;
+        let left = Vec::with_capacity(alloc, sizes.batch)?;
+        let spent = Vec::with_capacity(alloc, sizes.batch)?;
         let setup = Setup { passes, config };
         let mut book = blank.named::<J>();
         let mut account = book.open::<NewProcessor>();
@@ -207,6 +209,7 @@ impl<J: Naming, R: Wait + Copy, A: Allocator + Copy> BatchProcessor<J, R, A> {
         let accounts = book.open_all::<Holding, A>(alloc, passes)?;
         let shared = Shared {
             desk: Some(desk),
+            spent: left,
             book,
             setup,
         };
@@ -223,6 +226,7 @@ impl<J: Naming, R: Wait + Copy, A: Allocator + Copy> BatchProcessor<J, R, A> {
             account: his,
             in_hand: None,
             outcomes,
+            spent,
             setup,
             alloc,
             rt,

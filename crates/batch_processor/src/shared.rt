@@ -21,6 +21,7 @@ use otlp_span::{Entry, Reason, SpanData, SpanRemains};
 use retry_core::{Fate, Outcome};
 use std::alloc::Allocator;
 use std::marker::Model;
+use std::mem;
 use std::snapshot::Snapshot;
 use trace_api::Ended;
 
@@ -28,6 +29,8 @@ use trace_api::Ended;
 #[derive(Drop)]
 pub(crate) struct Shared<J: Naming, A: Allocator> {
     pub(crate) desk: Option<Desk<A>>,
+    // Spans that were sent, which the threads free that end others.
+    pub(crate) spent: Vec<SpanData<A>, A>,
     pub(crate) book: Book<J, Holding>,
     pub(crate) setup: Setup,
 }
@@ -72,6 +75,24 @@ impl<J: Naming, A: Allocator + Copy> Shared<J, A> {
         match &self.desk {
             Some(desk) => desk.waiting() == self.setup.config.desk.batch,
             None => false,
+        }
+    }
+
+    /// A span that was sent, which is to be freed behind the hold, if one is left.
+    pub(crate) fn pop_spent(&mut self) -> Option<SpanData<A>> {
+        self.spent.pop()
+    }
+
+    /// Leaves the spans of a batch that was sent to those who end others, where a whole batch
+    /// waits: they end spans faster than these are sent. What they haven't freed of the batch
+    /// before is handed back.
+    pub(crate) fn leave_spent(&mut self, spent: &mut Vec<SpanData<A>, A>) {
+        let waiting = match &self.desk {
+            Some(desk) => desk.waiting(),
+            None => 0,
+        };
+        if waiting >= self.setup.config.desk.batch {
+            mem::swap(&mut self.spent, spent);
         }
     }
 

@@ -17,7 +17,7 @@ use crate::lock::{Lock, PAUSE_MS};
 use account_book::{Account, Naming};
 use batch_desk::Batch;
 use otlp_ids::OutOfMemory;
-use otlp_span::Reason;
+use otlp_span::{Reason, SpanData};
 use rand_core::Rng;
 use retry_core::{Fate, Next, Outcome, decide};
 use span_exporter::Exporter;
@@ -73,6 +73,8 @@ pub struct WorkerPass<J: Naming, R: Wait + Drop, A: Allocator + Copy = Global> {
     pub(crate) account: Account<J, Holding>,
     pub(crate) in_hand: Option<InHand<A>>,
     pub(crate) outcomes: Vec<Outcome, A>,
+    // Where the spans of a batch go that is settled.
+    pub(crate) spent: Vec<SpanData<A>, A>,
     pub(crate) setup: Setup,
     pub(crate) alloc: A,
     pub(crate) rt: R,
@@ -145,6 +147,7 @@ impl<J: Naming, R: Wait + time::Clock + Drop, A: Allocator + Copy> WorkerPass<J,
             account,
             in_hand,
             outcomes,
+            spent,
             setup,
             alloc,
             rt,
@@ -184,7 +187,7 @@ impl<J: Naming, R: Wait + time::Clock + Drop, A: Allocator + Copy> WorkerPass<J,
                     return false;
                 }
                 let fate = next.fate().unwrap();
-                lock.settle(rt, account, batch, outcomes, fate);
+                lock.settle(rt, account, batch, outcomes, fate, spent);
                 outcomes.clear();
                 return false;
             }
@@ -284,6 +287,7 @@ impl<J: Naming, R: Wait + Drop, A: Allocator + Copy> WorkerPass<J, R, A> {
             mut account,
             in_hand,
             mut outcomes,
+            mut spent,
             setup: _,
             alloc: _,
             rt,
@@ -298,11 +302,11 @@ impl<J: Naming, R: Wait + Drop, A: Allocator + Copy> WorkerPass<J, R, A> {
             }
             Stage::ToJudge { outcome, .. } => {
                 outcomes.push_reserved(outcome);
-                lock.settle(&rt, &mut account, batch, &outcomes, Fate::Abandoned);
+                lock.settle(&rt, &mut account, batch, &outcomes, Fate::Abandoned, &mut spent);
                 account
             }
             Stage::ToRetry { .. } => {
-                lock.settle(&rt, &mut account, batch, &outcomes, Fate::Abandoned);
+                lock.settle(&rt, &mut account, batch, &outcomes, Fate::Abandoned, &mut spent);
                 account
             }
         }

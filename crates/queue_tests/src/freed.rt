@@ -85,6 +85,32 @@ fn a_cleared_batch_is_settled(rt: HostRuntime) -> Result<(), Fail> {
     Ok(())
 }
 
+/// The tickets of the spans that a batch of three leaves where there is room for so many.
+fn left(rt: &impl Abort, alloc: Global, room: usize) -> Vec<u64> {
+    let spans = Spans::new(rt, alloc);
+    let mut desk = desk_of(rt, alloc, 3, 3);
+    queue(rt, &mut desk, &spans, 0..3);
+    let mut batch = take(rt, &mut desk, 0, 1, &[0, 1, 2]);
+    hand(rt, &mut desk, &batch);
+    let mut spent = Vec::with_capacity(alloc, room).expect(rt, "memory");
+    batch.clear_into(&mut spent);
+    assert_equal(rt, batch.spans().len(), 0);
+    assert!(rt; desk.can_settle(&batch));
+    desk.settle(batch, Fate::Delivered);
+    let mut tickets = Vec::new(alloc);
+    let left = spent.iter().map(|span| span.ticket());
+    tickets.extend(left).expect(rt, "memory");
+    tickets
+}
+
+#[test]
+fn a_batch_leaves_as_many_spans_as_there_is_room_for(rt: HostRuntime) {
+    for (room, want) in [(0, 0), (2, 2), (3, 3), (4, 3)] {
+        let tickets = left(&rt, rt.alloc(), room);
+        assert_equal(&rt, tickets.as_slice(), &[0, 1, 2][..want]);
+    }
+}
+
 /// A desk with a span that found it full, and a batch of two spans that is taken.
 fn with_batch(rt: &impl Abort, alloc: Global) -> (Desk, Batch) {
     let spans = Spans::new(rt, alloc);
@@ -177,16 +203,17 @@ fn hold_nothing_up<A: Allocator + Copy>(rt: &impl Abort, alloc: A, heap: &LocalH
     offer(rt, heap, &mut desk, spans.ended(rt, 3), Admitted::Queued(3));
     desk.shutdown();
     offer(rt, heap, &mut desk, spans.ended(rt, 4), Admitted::Late);
+    let mut spent = Vec::with_capacity(alloc, 1).expect(rt, "memory");
     let used = heap.used();
     let mut batch = desk.take(0).expect(rt, "a batch is due");
     assert_eq!(rt; desk.out(), Some((batch.number(), false)));
     desk.handed(batch.number());
-    batch.clear();
-    let cleared_used = heap.used();
-    assert!(rt; cleared_used < used);
+    batch.clear_into(&mut spent);
     assert!(rt; desk.can_settle(&batch));
     desk.settle(batch, Fate::Delivered);
-    assert_equal(rt, heap.used(), cleared_used);
+    assert_equal(rt, heap.used(), used);
+    drop(spent);
+    assert!(rt; heap.used() < used);
     assert_equal(rt, desk.ledger().len(), 3);
 }
 

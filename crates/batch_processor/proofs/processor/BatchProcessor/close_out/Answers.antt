@@ -1,7 +1,7 @@
 use Rattle.std.proofs.Common.{ap, sym, subst, refl, ◌∙◌}
 use Rattle.batch_model.specs.Holders.{origin_in, worker_in}
 use Rattle.batch_model.specs.Worker.{OutBatch, WorkerAccount}
-use Rattle.batch_model.specs.Clauses.{BatchesAreNumbered, HandedAreCounted, QueuedAreAccounted, abandon}
+use Rattle.batch_model.specs.Clauses.{BatchesAreNumbered, HandedAreCounted, QueuedAreAccounted, TicketsRiseThrough, abandon}
 use Rattle.pass_model.proofs.Steps.{late_after}
 use Rattle.batch_model.proofs.Closing.{floors_are, handed_are, numbered_are, queued_are}
 use Rattle.batch_processor.proofs.processor.BatchProcessor.close_out.Goals as goal
@@ -22,3 +22,6 @@ pub returns-clause-handed : goal.returns-clause-handed
 returns-clause-handed g c =
     let desk = c.close-desk.result in let is = ap worker_in c.abandon-his.ensures.account in
     subst (HandedAreCounted desk.handed) is (handed_are _ desk c.args.passes.items _ c.close-desk.ensures (ap (λ (w : WorkerAccount). w.out) is))
+
+pub returns-clause-batches : goal.returns-clause-batches
+returns-clause-batches g c = subst (TicketsRiseThrough c.close-desk.result.waiting) (ap worker_in c.abandon-his.ensures.account) c.close-desk.ensures.agrees.queues.rising
