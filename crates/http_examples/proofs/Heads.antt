@@ -13,11 +13,12 @@ use Rattle.http_header.specs.FieldName.{is_field_name}
 use Rattle.http_header.specs.Token.{is_value_byte as is_kept_byte}
 use Rattle.http_header.proofs.TokenLemmas.{IsFieldName-from_test}
 use Rattle.retry_core.specs.declared.outcome.RetryAfter.{RetryAfter}
-use Rattle.otlp_http.specs.declared.fault.HttpFault.{HttpFault}
-use Rattle.otlp_http.specs.declared.limits.HeadLimits.{HeadLimits}
-use Rattle.otlp_http.specs.Bodies.{framing_of, IsBody}
-use Rattle.otlp_http.specs.Fields.{NameAndValue, IsTaken, fields_of, retry_after, values_of}
-use Rattle.otlp_http.specs.Heads.{IsHeadText, IsInterim}
+use Rattle.http_wire.specs.declared.fault.HttpFault.{HttpFault}
+use Rattle.http_wire.specs.declared.limits.HeadLimits.{HeadLimits}
+use Rattle.otlp_http.specs.Replies.{framing_of}
+use Rattle.http_wire.specs.Bodies.{IsBody}
+use Rattle.http_wire.specs.Fields.{NameAndValue, IsTaken, retry_after, values_of}
+use Rattle.otlp_http.specs.Heads.{fields_of, IsHeadText, IsInterim}
 use Rattle.otlp_http.proofs.HeadLemmas.{head_ends}
 use Rattle.http_examples.specs.Replied.{AreReply, usual}
 

@@ -1,8 +1,8 @@
 -- The replies of the examples, and the lack of them. (RFC 9112, sections 2 to 6)
 use Rattle.std.specs.Prelude.{ℕ, List, [], ◌∷◌, codes, Option, Some, Result}
 use Rattle.retry_core.specs.declared.outcome.RetryAfter.{RetryAfter}
-use Rattle.otlp_http.specs.declared.fault.HttpFault.{HttpFault}
-use Rattle.otlp_http.specs.declared.limits.HeadLimits.{HeadLimits}
+use Rattle.http_wire.specs.declared.fault.HttpFault.{HttpFault}
+use Rattle.http_wire.specs.declared.limits.HeadLimits.{HeadLimits}
 use Rattle.otlp_http.specs.Replies.{IsReply, HasNoReply}
 
 -- the limits by default

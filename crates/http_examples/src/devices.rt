@@ -1,9 +1,9 @@
 //! Failures that are counted, and calls that fail (profile).
 
 ghost use Rattle.std.specs.Prelude.{◌≡◌, ◌^◌, ◌-◌, false, true};
-ghost use Rattle.otlp_http.specs.Devices.{one_more};
-ghost use Rattle.otlp_http.specs.Wires.{is_failing};
-ghost use Rattle.otlp_http.specs.declared.wire.FailingCalls.TheVariants.{From, Never, Once};
+ghost use Rattle.http_wire.specs.Devices.{one_more};
+ghost use Rattle.http_wire.specs.Wires.{is_failing};
+ghost use Rattle.http_wire.specs.declared.wire.FailingCalls.TheVariants.{From, Never, Once};
 
 /// A count stops at its greatest value.
 pub fn counts()

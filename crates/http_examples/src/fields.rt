@@ -2,9 +2,10 @@
 
 ghost use Rattle.std.specs.Prelude.{◌≡◌, ◌∷◌, ◌-◌, ◌^◌, [], codes, Err, None, Ok, Some};
 ghost use Rattle.retry_core.specs.declared.outcome.RetryAfter.TheVariants.{Date, Seconds};
-ghost use Rattle.otlp_http.specs.declared.fault.HttpFault.TheVariants.{BadLength};
-ghost use Rattle.otlp_http.specs.Bodies.{empty, framing_of, sized, to_end, unknown};
-ghost use Rattle.otlp_http.specs.Fields.{content_length, retry_after, values_of};
+ghost use Rattle.http_wire.specs.declared.fault.HttpFault.TheVariants.{BadLength};
+ghost use Rattle.http_wire.specs.Bodies.{empty, sized, to_end, unknown};
+ghost use Rattle.otlp_http.specs.Replies.{framing_of};
+ghost use Rattle.http_wire.specs.Fields.{content_length, retry_after, values_of};
 
 /// The values of a name, in any case of letters, in their order.
 pub fn values()

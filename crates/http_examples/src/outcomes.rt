@@ -4,7 +4,7 @@ ghost use Rattle.std.specs.Prelude.{◌≡◌, ◌∷◌, ◌++◌, [], Err, Non
 ghost use Rattle.retry_model.specs.Retries.{bad, delivered, later, no_reply, seconds};
 ghost use Rattle.retry_model.specs.Retries.Outcome.{partial, refused};
 ghost use Rattle.retry_core.specs.declared.outcome.RetryAfter.TheVariants.{Seconds};
-ghost use Rattle.otlp_http.specs.declared.fault.HttpFault.TheVariants as faults;
+ghost use Rattle.http_wire.specs.declared.fault.HttpFault.TheVariants as faults;
 ghost use Rattle.otlp_http.specs.Outcomes.{outcome_of, outcome_of_body};
 ghost use Rattle.http_examples.specs.Meanings.{outcome_at, outcome_by};
 

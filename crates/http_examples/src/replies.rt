@@ -3,7 +3,7 @@
 ghost use Rattle.std.specs.Prelude.{◌++◌, [], codes, replicate, Err, None, Ok, Some};
 ghost use Rattle.std.specs.List.{concat};
 ghost use Rattle.retry_core.specs.declared.outcome.RetryAfter.TheVariants.{Seconds};
-ghost use Rattle.otlp_http.specs.declared.fault.HttpFault.TheVariants as faults;
+ghost use Rattle.http_wire.specs.declared.fault.HttpFault.TheVariants as faults;
 ghost use Rattle.http_examples.specs.Replied.{usual, AreReply, AreNone, two_rejected, continue, seven_bytes};
 
 /// Replies. Interim heads before one are skipped, and bytes behind one are left.

@@ -6,7 +6,7 @@ use Rattle.std.proofs.KnownBytes.{Appends-trans}
 use Rattle.std.specs.Prelude.{decimal, OnErr, Option, Result, Ok, Err}
 use Rattle.std.specs.Io.KnownBytes.{Appends}
 use Rattle.otlp_http.specs.Address.{Address}
-use Rattle.otlp_http.specs.Devices.{one_more}
+use Rattle.http_wire.specs.Devices.{one_more}
 use Rattle.otlp_http.specs.Request.{request_head}
 use Rattle.http_exporter.specs.Attempts.{Shown, IsSent, IsStopped}
 

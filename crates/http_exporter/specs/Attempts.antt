@@ -3,10 +3,10 @@
 use Rattle.std.specs.Prelude.{◌≡◌, ℕ, ◌<◌, Bool, true, false, List, length, take, Option, Some, None, Result, Ok, Err}
 use Rattle.std.specs.Io.KnownBytes.{Appends}
 use Rattle.retry_model.specs.Retries.{Outcome, no_reply}
-use Rattle.otlp_http.specs.declared.fault.HttpFault.{HttpFault}
-use Rattle.otlp_http.specs.declared.limits.HeadLimits.{HeadLimits}
+use Rattle.http_wire.specs.declared.fault.HttpFault.{HttpFault}
+use Rattle.http_wire.specs.declared.limits.HeadLimits.{HeadLimits}
 use Rattle.otlp_http.specs.Address.{Address}
-use Rattle.otlp_http.specs.Devices.{HasFailed, one_more}
+use Rattle.http_wire.specs.Devices.{HasFailed, one_more}
 use Rattle.otlp_http.specs.Outcomes.{outcome_of, outcome_of_reply}
 use Rattle.otlp_http.specs.Replies.{HttpReply, IsReply, HasNoReply}
 use Rattle.otlp_http.specs.Request.{request_text}

@@ -6,7 +6,7 @@ ghost use Rattle.retry_core.specs.Retries.{outcome_view};
 ghost use Rattle.otlp_http.specs.Outcomes.{reply_view};
 ghost use Rattle.otlp_http.specs.Request.{request_text};
 ghost use Rattle.otlp_http.specs.Replies.{HttpReply};
-ghost use Rattle.otlp_http.specs.declared.fault.HttpFault.{HttpFault};
+ghost use Rattle.http_wire.specs.declared.fault.HttpFault.{HttpFault};
 ghost use Rattle.http_exporter.specs.Attempts.{shown, IsAnswer, IsAttempt, IsPosted, outcome_after_a_stop};
 
 use crate::dial::Dial;

@@ -5,13 +5,13 @@ use Rattle.std.specs.List.{flat_map}
 use Rattle.httparse.specs.Grammar.{ResponseHead, print_response, status_code, IsResponseHead}
 use Rattle.httparse.proofs.GrammarLemmas.{response_unique}
 use Rattle.httparse.specs.Spans.{ResponseExceeds}
-use Rattle.otlp_http.specs.declared.fault.HttpFault.{HttpFault}
-use Rattle.otlp_http.specs.declared.fault.HttpFault.TheVariants as faults
-use Rattle.otlp_http.specs.declared.limits.HeadLimits.{HeadLimits}
-use Rattle.otlp_http.specs.Bodies.{framing_of, IsBody}
-use Rattle.otlp_http.specs.Fields.{fields_of, values_of, IsTaken, retry_after}
-use Rattle.otlp_http.specs.Heads.{ComesAfter, IsHeadText, IsInterimStatus}
-use Rattle.otlp_http.specs.Replies.{HttpReply, IsReply, RefusesHead, HasNoReply}
+use Rattle.http_wire.specs.declared.fault.HttpFault.{HttpFault}
+use Rattle.http_wire.specs.declared.fault.HttpFault.TheVariants as faults
+use Rattle.http_wire.specs.declared.limits.HeadLimits.{HeadLimits}
+use Rattle.otlp_http.specs.Replies.{framing_of, HttpReply, IsReply, RefusesHead, HasNoReply}
+use Rattle.http_wire.specs.Bodies.{IsBody}
+use Rattle.otlp_http.specs.Heads.{fields_of, ComesAfter, IsHeadText, IsInterimStatus}
+use Rattle.http_wire.specs.Fields.{values_of, IsTaken, retry_after}
 use Rattle.http_laws.specs.Meanings.{BytesMeanOneReply, BytesMeanOneFault}
 use Rattle.http_laws.proofs.Lacks.{Lack, lack_of, lacks_not, lacks_one}
 use Rattle.http_laws.proofs.BodiesAgree.{body_one}

@@ -1,8 +1,8 @@
 -- The same bytes are one body.
 use Rattle.std.proofs.Common.{◌≡◌, ◌≢◌, ℕ, ◌+◌, ◌<◌, ◌≤◌, List, [], ◌∷◌, ◌++◌, length, refl, sym, ap, ◌∙◌, arith, length-append, Some, Result, Ok, Err}
-use Rattle.otlp_http.specs.declared.fault.HttpFault.{HttpFault}
-use Rattle.otlp_http.specs.declared.fault.HttpFault.TheVariants as faults
-use Rattle.otlp_http.specs.Bodies.{Framing, empty, sized, to_end, unknown, IsSizedBody, IsBodyToEnd, IsBody}
+use Rattle.http_wire.specs.declared.fault.HttpFault.{HttpFault}
+use Rattle.http_wire.specs.declared.fault.HttpFault.TheVariants as faults
+use Rattle.http_wire.specs.Bodies.{Framing, empty, sized, to_end, unknown, IsSizedBody, IsBodyToEnd, IsBody}
 
 abbrev Answer : Type 0
 Answer = Result (List ℕ) HttpFault

@@ -5,7 +5,7 @@ use Rattle.std.specs.List.{flat_map}
 use Rattle.std.proofs.lemmas.List.Elements.{All-head, All-tail}
 use Rattle.httparse.specs.Grammar.{ResponseHead, print_response}
 use Rattle.httparse.proofs.GrammarLemmas.{response_unique}
-use Rattle.otlp_http.specs.declared.limits.HeadLimits.{HeadLimits}
+use Rattle.http_wire.specs.declared.limits.HeadLimits.{HeadLimits}
 use Rattle.otlp_http.specs.Heads.{IsInterim}
 
 -- an interim head stands here

@@ -2,9 +2,9 @@
 use Rattle.std.proofs.Common.{◌≡◌, ◌≢◌, ℕ, ◌+◌, ◌<◌, ◌≤◌, List, [], ◌∷◌, ◌++◌, length, refl, sym, ap, ◌∙◌, arith, append-nil, append_assoc, length-append, inl, inr, Some}
 use Rattle.httparse.specs.Grammar.{ResponseHead, print_response, NeverHasResponse}
 use Rattle.httparse.specs.Spans.{ResponseExceeds}
-use Rattle.otlp_http.specs.declared.fault.HttpFault.{HttpFault}
-use Rattle.otlp_http.specs.declared.fault.HttpFault.TheVariants as faults
-use Rattle.otlp_http.specs.declared.limits.HeadLimits.{HeadLimits}
+use Rattle.http_wire.specs.declared.fault.HttpFault.{HttpFault}
+use Rattle.http_wire.specs.declared.fault.HttpFault.TheVariants as faults
+use Rattle.http_wire.specs.declared.limits.HeadLimits.{HeadLimits}
 use Rattle.otlp_http.specs.Heads.{IsHeadText, IsUnfinished, LacksHead}
 use Rattle.http_laws.proofs.Fields.{exceeds_not}
 

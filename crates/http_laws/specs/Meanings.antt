@@ -4,10 +4,10 @@ use Rattle.std.specs.Prelude.{◌≡◌, ℕ, List, ◌++◌, All, Some, Result,
 use Rattle.std.specs.List.{flat_map}
 use Rattle.httparse.specs.Grammar.{ResponseHead, print_response}
 use Rattle.httparse.specs.Spans.{ResponseExceeds}
-use Rattle.otlp_http.specs.declared.fault.HttpFault.{HttpFault}
-use Rattle.otlp_http.specs.declared.fault.HttpFault.TheVariants as faults
-use Rattle.otlp_http.specs.declared.limits.HeadLimits.{HeadLimits}
-use Rattle.otlp_http.specs.Devices.{HasFailed}
+use Rattle.http_wire.specs.declared.fault.HttpFault.{HttpFault}
+use Rattle.http_wire.specs.declared.fault.HttpFault.TheVariants as faults
+use Rattle.http_wire.specs.declared.limits.HeadLimits.{HeadLimits}
+use Rattle.http_wire.specs.Devices.{HasFailed}
 use Rattle.otlp_http.specs.Heads.{IsInterim}
 use Rattle.otlp_http.specs.Replies.{HttpReply, IsReply, HasNoReply}
 

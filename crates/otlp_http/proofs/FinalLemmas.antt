@@ -9,13 +9,13 @@ use Rattle.httparse.specs.Grammar.{ResponseHead, print_response, status_code}
 use Rattle.httparse.specs.Spans.{header_bytes}
 use Rattle.httparse.specs.declared.spans.HeaderSpan.{HeaderSpan}
 use Rattle.httparse.specs.declared.spans.ResponseSpans.{ResponseSpans}
-use Rattle.otlp_http.specs.declared.fault.HttpFault.{HttpFault}
-use Rattle.otlp_http.specs.declared.fault.HttpFault.TheVariants as faults
-use Rattle.otlp_http.specs.declared.limits.HeadLimits.{HeadLimits}
-use Rattle.otlp_http.specs.Devices.{HasFailed}
-use Rattle.otlp_http.specs.Heads.{ComesAfter, IsHeadText, IsInterim, IsInterimStatus, LacksHead}
-use Rattle.otlp_http.specs.Parses.{CoversHead, HasFinalHead, RefusesFields}
-use Rattle.otlp_http.specs.Fields.{fields_of}
+use Rattle.http_wire.specs.declared.fault.HttpFault.{HttpFault}
+use Rattle.http_wire.specs.declared.fault.HttpFault.TheVariants as faults
+use Rattle.http_wire.specs.declared.limits.HeadLimits.{HeadLimits}
+use Rattle.http_wire.specs.Devices.{HasFailed}
+use Rattle.otlp_http.specs.Heads.{ComesAfter, IsHeadText, IsInterim, IsInterimStatus, LacksHead, fields_of}
+use Rattle.otlp_http.specs.Parses.{CoversHead, HasFinalHead}
+use Rattle.http_wire.specs.Fields.{RefusesFields}
 use Rattle.otlp_http.specs.Replies.{HasNoReply, RefusesHead}
 
 -- heads that were read, one after another, with nothing between them

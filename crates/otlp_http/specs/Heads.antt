@@ -1,14 +1,18 @@
 -- What comes where the head of a reply is due (RFC 9112, sections 2 to 5, as `httparse` has them).
-use Rattle.std.specs.Prelude.{◌≡◌, ℕ, ◌<◌, ◌≤◌, ◌⊎◌, List, ◌++◌, length, Option, All}
+use Rattle.std.specs.Prelude.{◌≡◌, ℕ, ◌<◌, ◌≤◌, ◌⊎◌, List, ◌++◌, length, map, Option, All}
 use Rattle.std.specs.List.{flat_map}
 use Rattle.std.specs.Io.KnownBytes.{IsAtEnd, Consumes}
 use Rattle.httparse.specs.Grammar.{ResponseHead, IsResponseHead, print_response, status_code}
 use Rattle.httparse.specs.Grammar.{HasNoResponse, NeverHasResponse, MayBecomeResponse}
-use Rattle.httparse.specs.Spans.{ResponseExceeds}
-use Rattle.otlp_http.specs.declared.fault.HttpFault.{HttpFault}
-use Rattle.otlp_http.specs.declared.fault.HttpFault.TheVariants as faults
-use Rattle.otlp_http.specs.declared.limits.HeadLimits.{HeadLimits}
-use Rattle.otlp_http.specs.Devices.{one_more}
+use Rattle.httparse.specs.Spans.{ResponseExceeds, name_and_value}
+use Rattle.http_wire.specs.declared.fault.HttpFault.{HttpFault}
+use Rattle.http_wire.specs.declared.fault.HttpFault.TheVariants as faults
+use Rattle.http_wire.specs.declared.limits.HeadLimits.{HeadLimits}
+use Rattle.http_wire.specs.Fields.{NameAndValue}
+
+-- the fields of a head, in their order
+abbrev pub fields_of : ResponseHead → List NameAndValue
+fields_of head = map name_and_value head.fields
 
 -- the text is that head, within the limits of bytes and of fields
 pub record IsHeadText (limits : HeadLimits) (text : List ℕ) (head : ResponseHead) : Type 0 where
@@ -52,11 +56,3 @@ pub record ComesAfter (limits : HeadLimits) (old new : Option (List ℕ))
   pub each : All (IsInterim limits) interims
   pub few : length interims ≤ 16
   pub taken : Consumes old new (flat_map print_response interims ++ text)
-
--- The same of a head that is lacking: a text that can't begin one is told as that also where a read
--- failed behind it. (profile)
-abbrev pub CountsAtHead : HttpFault → ℕ → ℕ → Type 0
-CountsAtHead faults.Device old new = new ≡ one_more old
-CountsAtHead faults.Ended old new = new ≡ old
-CountsAtHead faults.OutOfMemory old new = new ≡ old
-CountsAtHead _ old new = (new ≡ old) ⊎ (new ≡ one_more old)

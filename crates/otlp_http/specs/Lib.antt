@@ -1,10 +1,6 @@
 pub mod Address
-pub mod Bodies
-pub mod Devices
-pub mod Fields
 pub mod Heads
+pub mod Outcomes
 pub mod Parses
 pub mod Replies
 pub mod Request
-pub mod Wires
-pub mod Outcomes

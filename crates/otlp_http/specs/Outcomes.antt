@@ -9,8 +9,8 @@ use Rattle.message_model.specs.Messages.{meaning}
 use Rattle.retry_model.specs.Retries.{Outcome, delivered, later, no_reply, bad}
 use Rattle.retry_core.specs.Retries.{retry_after_view}
 use Rattle.otlp_read.specs.Response.{rejected_in}
-use Rattle.otlp_http.specs.declared.fault.HttpFault.{HttpFault}
-use Rattle.otlp_http.specs.declared.fault.HttpFault.TheVariants as faults
+use Rattle.http_wire.specs.declared.fault.HttpFault.{HttpFault}
+use Rattle.http_wire.specs.declared.fault.HttpFault.TheVariants as faults
 use Rattle.otlp_http.specs.declared.reply.Reply.{Reply}
 use Rattle.otlp_http.specs.Replies.{HttpReply}
 

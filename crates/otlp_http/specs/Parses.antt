@@ -1,19 +1,16 @@
 -- What a parse of a head's text answers, and what is kept of it.
-use Rattle.std.specs.Prelude.{◌≡◌, ℕ, ◌≤◌, List, length, map, All, ⊤, Option, Some, None, Result, Ok, Err}
+use Rattle.std.specs.Prelude.{◌≡◌, ℕ, List, length, All, Option, Some, None, Result, Ok, Err}
 use Rattle.httparse.specs.Grammar.{ResponseHead, NeverHasResponse, print_response, status_code}
 use Rattle.httparse.specs.Spans.{IsResponseAt, IsResponseWithin, ResponseExceeds}
 use Rattle.httparse.specs.declared.spans.HeaderSpan.{HeaderSpan}
 use Rattle.httparse.specs.declared.spans.ResponseSpans.{ResponseSpans}
 use Rattle.http_header.specs.FieldValue.{FieldValue}
-use Rattle.http_header.specs.HeaderMap.{Entries, get_all, value_count}
-use Rattle.otlp_http.specs.declared.body.Framing.{Framing as DeclaredFraming}
-use Rattle.otlp_http.specs.declared.body.Framing.TheVariants.{Empty, Sized, ToEnd, Unknown}
-use Rattle.otlp_http.specs.declared.fault.HttpFault.{HttpFault}
-use Rattle.otlp_http.specs.declared.fault.HttpFault.TheVariants as faults
-use Rattle.otlp_http.specs.declared.limits.HeadLimits.{HeadLimits}
-use Rattle.otlp_http.specs.Bodies.{Framing, empty, sized, to_end, unknown}
-use Rattle.otlp_http.specs.Fields.{NameAndValue, fields_of, values_of, IsTaken}
-use Rattle.otlp_http.specs.Heads.{ComesAfter, IsHeadText, IsInterimStatus, IsUnfinished}
+use Rattle.http_header.specs.HeaderMap.{Entries}
+use Rattle.http_wire.specs.declared.fault.HttpFault.{HttpFault}
+use Rattle.http_wire.specs.declared.fault.HttpFault.TheVariants as faults
+use Rattle.http_wire.specs.declared.limits.HeadLimits.{HeadLimits}
+use Rattle.http_wire.specs.Fields.{IsTaken, KeepsFields}
+use Rattle.otlp_http.specs.Heads.{fields_of, ComesAfter, IsHeadText, IsInterimStatus, IsUnfinished}
 
 -- the spans cover the parts of that head, which is the text
 abbrev pub CoversHead : HeadLimits → List ℕ → List HeaderSpan → ResponseSpans → ResponseHead
@@ -48,12 +45,6 @@ pub data IsStopped (text : List ℕ) (room : ℕ) (fault answer : HttpFault) : T
   bad : NeverHasResponse text → answer ≡ faults.BadHead → IsStopped text room fault answer
   over : ResponseExceeds room text → answer ≡ faults.TooLarge → IsStopped text room fault answer
 
--- the map has the values of the fields, under each name, and no others
-pub record KeepsFields (kept : Entries FieldValue) (fields : List NameAndValue) : Type 0 where
-  pub values : (name : List ℕ) → map (λ v. v.bytes) (get_all kept name) ≡ values_of name fields
-  pub names : length kept ≤ length fields
-  pub count : value_count kept ≤ length fields
-
 -- a head that isn't interim came after the interim ones
 pub record HasFinalHead (limits : HeadLimits) (old new : Option (List ℕ)) (text : List ℕ)
     (spans : List HeaderSpan) (found : ResponseSpans) : Type 0 where
@@ -62,16 +53,6 @@ pub record HasFinalHead (limits : HeadLimits) (old new : Option (List ℕ)) (tex
   pub comes : ComesAfter limits old new interims text
   pub covers : CoversHead limits text spans found head
   pub final : ¬ (IsInterimStatus found.code)
-
--- the fields aren't kept for this cause: one is refused by `http_header`, or memory was refused
-abbrev pub RefusesFields : List NameAndValue → HttpFault → Type 0
-RefusesFields fields faults.BadHead = ¬ (All IsTaken fields)
-RefusesFields fields faults.OutOfMemory = ⊤
-RefusesFields fields faults.Ended = ⊥
-RefusesFields fields faults.Device = ⊥
-RefusesFields fields faults.BadLength = ⊥
-RefusesFields fields faults.BadChunk = ⊥
-RefusesFields fields faults.TooLarge = ⊥
 
 -- a head that isn't interim came after the interim ones, and its fields are kept
 pub record HasKeptHead (limits : HeadLimits) (old new : Option (List ℕ)) (status : ℕ)
@@ -84,10 +65,3 @@ pub record HasKeptHead (limits : HeadLimits) (old new : Option (List ℕ)) (stat
   pub taken : All IsTaken (fields_of head)
   pub code : status ≡ status_code head
   pub keeps : KeepsFields kept (fields_of head)
-
--- how far a body goes, as the code tells it
-abbrev pub framing_view : DeclaredFraming → Framing
-framing_view Empty = empty
-framing_view (Sized size) = sized size
-framing_view ToEnd = to_end
-framing_view Unknown = unknown

@@ -1,13 +1,20 @@
 -- The meaning of a reply: of the bytes, of how they stop and of where memory was refused.
-use Rattle.std.specs.Prelude.{◌≡◌, ℕ, ◌⊎◌, List, ◌++◌, length, All, codes, Option, Result}
+use Rattle.std.specs.Prelude.{◌≡◌, ℕ, ◌⊎◌, ◌||◌, ◌==◌, if◌then◌else◌, List, ◌++◌, length, All, codes}
+use Rattle.std.specs.Prelude.{Option, Result}
 use Rattle.httparse.specs.Grammar.{ResponseHead, print_response, status_code}
 use Rattle.retry_core.specs.declared.outcome.RetryAfter.{RetryAfter}
-use Rattle.otlp_http.specs.declared.fault.HttpFault.{HttpFault}
-use Rattle.otlp_http.specs.declared.fault.HttpFault.TheVariants as faults
-use Rattle.otlp_http.specs.declared.limits.HeadLimits.{HeadLimits}
-use Rattle.otlp_http.specs.Bodies.{framing_of, IsBody}
-use Rattle.otlp_http.specs.Fields.{fields_of, values_of, IsTaken, retry_after}
-use Rattle.otlp_http.specs.Heads.{ComesAfter, IsHeadText, IsInterimStatus, LacksHead}
+use Rattle.http_wire.specs.declared.fault.HttpFault.{HttpFault}
+use Rattle.http_wire.specs.declared.fault.HttpFault.TheVariants as faults
+use Rattle.http_wire.specs.declared.limits.HeadLimits.{HeadLimits}
+use Rattle.http_wire.specs.Bodies.{Framing, empty, to_end, framing_by_fields, IsBody}
+use Rattle.otlp_http.specs.Heads.{fields_of, ComesAfter, IsHeadText, IsInterimStatus, LacksHead}
+use Rattle.http_wire.specs.Fields.{NameAndValue, values_of, IsTaken, retry_after}
+
+-- how far a body goes: there is none for 204 and 304, else as the fields say, and to the end where
+-- they say nothing (RFC 9112, section 6.3)
+abbrev pub framing_of : ℕ → List NameAndValue → Framing
+framing_of status fields =
+    if status == 204 || status == 304 then empty else framing_by_fields to_end fields
 
 -- a reply as contracts see it
 pub record HttpReply : Type 0 where

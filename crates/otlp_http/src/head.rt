@@ -1,16 +1,15 @@
 //! Heads of replies.
 
-ghost use Rattle.std.specs.Prelude.{◌≡◌, [], ◌↔◌, length, option_to_list, IfErr, IfNone, IfOk, OnErr, OnOk, IsTrue};
-ghost use Rattle.std.specs.Io.KnownBytes.{Consumes, IsAtEnd};
+ghost use Rattle.std.specs.Prelude.{◌≡◌, ◌↔◌, length, IfErr, IfOk, OnOk, IsTrue};
+ghost use Rattle.std.specs.Io.KnownBytes.{Consumes};
 ghost use Rattle.httparse.specs.Grammar.{HasNoResponse};
-ghost use Rattle.otlp_http.specs.Devices.{CountsFailure, HasFailed};
-ghost use Rattle.otlp_http.specs.Heads.{CountsAtHead, IsInterimStatus, LacksHead};
+ghost use Rattle.http_wire.specs.Devices.{HasFailed};
+ghost use Rattle.http_wire.specs.Faults.{CountsAtHead};
+ghost use Rattle.otlp_http.specs.Heads.{IsInterimStatus, LacksHead};
 ghost use Rattle.otlp_http.specs.Parses.{FindsHead, HasFinalHead, IsStopped, ParsesHead};
 ghost use Rattle.otlp_http.specs.Replies.{HasNoReply};
 
-use crate::device::{DeviceFailed, FaultRead};
-use crate::fault::HttpFault;
-use crate::limits::HeadLimits;
+use http_wire::{FaultRead, HeadLimits, HttpFault, read_byte};
 use httparse::spans::{HeaderSpan, ResponseSpans, parse_response};
 use httparse::{Error, Status};
 use std::alloc::Allocator;
@@ -38,19 +37,6 @@ fn stopped(text: &[u8], spans: &mut [HeaderSpan], fault: HttpFault) -> HttpFault
         Ok(None) => fault,
         Err(bad) => bad,
     }
-}
-
-/// Reads a byte, or none at the end.
-fn read_byte<R: FaultRead>(reader: &mut R) -> Result<Option<u8>, DeviceFailed>
-    ensures some { IfOk result (λ byte.
-        Consumes (R.remaining reader.old) (R.remaining reader.new) (option_to_list byte)) }
-    ensures end { IfOk result (λ byte. IfNone byte (IsAtEnd (R.remaining reader.new))) }
-    ensures err { OnErr result (Consumes (R.remaining reader.old) (R.remaining reader.new) []) }
-    ensures counted { CountsFailure result (R.failures reader.old) (R.failures reader.new) }
-{
-    let mut buf = [0];
-    let n = reader.read(&mut buf)?;
-    Ok(if n == 0 { None } else { Some(buf[0]) })
 }
 
 /// Reads one head, byte by byte so that none behind it is taken, and keeps it in `text`. A head

@@ -6,8 +6,8 @@ ghost use Rattle.retry_core.specs.Retries.{outcome_view};
 ghost use Rattle.otlp_http.specs.Outcomes as model;
 ghost use Rattle.otlp_http.specs.Outcomes.{reply_view};
 
-use crate::fault::HttpFault;
 use crate::reply::Reply;
+use http_wire::HttpFault;
 use otlp_read::read_rejected_spans;
 use retry_core::Outcome;
 use std::alloc::Allocator;

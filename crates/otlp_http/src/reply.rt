@@ -1,20 +1,20 @@
 //! Replies.
 
-ghost use Rattle.std.specs.Prelude.{◌≡◌, ◌≤◌, length, IfErr, IfOk, OnOk};
+ghost use Rattle.std.specs.Prelude.{◌≡◌, ◌≤◌, ◌||◌, ◌==◌, List, IfErr, IfOk, OnOk};
 ghost use Rattle.std.specs.Result.{result_map_both};
-ghost use Rattle.otlp_http.specs.Bodies.{CountsFailedRead};
-ghost use Rattle.otlp_http.specs.Devices.{HasFailed};
-ghost use Rattle.otlp_http.specs.Heads.{CountsAtHead};
+ghost use Rattle.http_wire.specs.Bodies.{framing_view};
+ghost use Rattle.http_wire.specs.Devices.{HasFailed};
+ghost use Rattle.http_wire.specs.Faults.{CountsAtHead, CountsFailedRead};
+ghost use Rattle.http_wire.specs.Fields.{KeepsFields, NameAndValue};
 ghost use Rattle.otlp_http.specs.Parses.{HasKeptHead};
-ghost use Rattle.otlp_http.specs.Replies.{HasNoReply, IsReply};
+ghost use Rattle.otlp_http.specs.Replies.{framing_of, HasNoReply, IsReply};
 
-use crate::body::{framing_of, read_body};
-use crate::device::FaultRead;
-use crate::fault::HttpFault;
-use crate::fields::{keep_fields, retry_after};
 use crate::head::read_final_head;
-use crate::limits::{HeadLimits, MOST_FIELDS};
 use http_header::HeaderMap;
+use http_wire::{
+    FaultRead, Framing, HeadLimits, HttpFault, MOST_FIELDS, framing_by_fields, keep_fields,
+    read_body, retry_after,
+};
 use httparse::spans::HeaderSpan;
 use retry_core::RetryAfter;
 use std::alloc::{Allocator, Global};
@@ -59,6 +59,24 @@ fn read_fields<R: FaultRead, A: Allocator>(
         Ok(kept) => Ok((head.code, kept)),
         Err(fault) => Err(fault),
     }
+}
+
+/// Whether a status has no body.
+fn has_no_body(status: u16) -> bool
+    ensures { result ≡ (status == 204 || status == 304) }
+{
+    status == 204 || status == 304
+}
+
+/// How far the body goes that a head with this status and these fields has.
+fn framing_of(status: u16, kept: &HeaderMap) -> Framing
+    ensures { (fields : List NameAndValue) → KeepsFields kept.now fields
+        → framing_view result ≡ framing_of status fields }
+{
+    if has_no_body(status) {
+        return Framing::Empty;
+    }
+    framing_by_fields(kept, Framing::ToEnd)
 }
 
 /// Reads a reply, and no byte behind it (RFC 9112, sections 2.2, 4, 5 and 6.3). Heads are what

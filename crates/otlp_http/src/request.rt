@@ -3,64 +3,13 @@
 ghost use Rattle.std.specs.Prelude.{◌≡◌, ◌+◌, ◌^◌, ◌<◌, length, take, map, decimal, IfErr, OnOk};
 ghost use Rattle.std.specs.Io.KnownBytes.{Appends};
 ghost use Rattle.std.specs.List.{concat};
-ghost use Rattle.otlp_http.specs.Devices.{CountsFailure};
+ghost use Rattle.http_wire.specs.Devices.{CountsFailure};
 ghost use Rattle.otlp_http.specs.Request.{request_text};
 
-use crate::device::FaultWrite;
 use crate::target::Target;
+use http_wire::{FaultWrite, Stopped, write_pieces};
 use itoa::Buffer;
 use std::alloc::Allocator;
-use thiserror::Error;
-
-/// The writer failed when the first `sent` bytes of the request had gone out.
-#[derive(Error, Debug, Clone, Copy, PartialEq, Eq)]
-#[error("the device failed after {sent} bytes")]
-pub struct Stopped {
-    /// How many bytes went out.
-    pub sent: u64,
-}
-
-/// Writes the whole piece, or answers how many of its bytes went out.
-fn write_piece<W: FaultWrite>(writer: &mut W, piece: &[u8]) -> Result<(), usize>
-    ensures ok { OnOk result (Appends (W.contents writer.old) (W.contents writer.new) piece.now) }
-    ensures within { IfErr result (λ n. n < length piece.now) }
-    ensures err { IfErr result (λ n.
-        Appends (W.contents writer.old) (W.contents writer.new) (take n piece.now)) }
-    ensures counted { CountsFailure result (W.failures writer.old) (W.failures writer.new) }
-{
-    let mut at = 0;
-    while at < piece.len() {
-        match writer.write(&piece[at..]) {
-            Ok(n) => at += n,
-            Err(_) => return Err(at),
-        }
-    }
-    Ok(())
-}
-
-/// Writes the pieces, one after another.
-fn write_pieces<W: FaultWrite>(writer: &mut W, pieces: &[&[u8]]) -> Result<(), Stopped>
-    requires { length (concat (map (λ p. p.now) pieces.now)) < 2 ^ 64 }
-    ensures ok { OnOk result (Appends (W.contents writer.old) (W.contents writer.new)
-        (concat (map (λ p. p.now) pieces.now))) }
-    ensures within { IfErr result (λ stopped.
-        stopped.sent < length (concat (map (λ p. p.now) pieces.now))) }
-    ensures stopped { IfErr result (λ stopped.
-        Appends (W.contents writer.old) (W.contents writer.new)
-        (take stopped.sent (concat (map (λ p. p.now) pieces.now)))) }
-    ensures counted { CountsFailure result (W.failures writer.old) (W.failures writer.new) }
-{
-    let mut sent: u64 = 0;
-    for piece in pieces {
-        match write_piece(writer, piece) {
-            Ok(()) => sent += piece.len() as u64,
-            Err(n) => return Err(Stopped {
-                sent: sent + n as u64,
-            }),
-        }
-    }
-    Ok(())
-}
 
 /// The pieces of the request's text, with the port and the body's length in decimal digits.
 fn request_pieces<'a, A: Allocator>(

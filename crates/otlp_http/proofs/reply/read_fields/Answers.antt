@@ -1,6 +1,6 @@
 use Rattle.std.proofs.Common.{map, subst, take}
 use Rattle.httparse.specs.Spans.{header_bytes}
-use Rattle.otlp_http.specs.Parses.{RefusesFields}
+use Rattle.http_wire.specs.Fields.{RefusesFields}
 use Rattle.otlp_http.proofs.FinalLemmas.{refused_fields}
 use Rattle.otlp_http.proofs.reply.read_fields.Goals as goal
 

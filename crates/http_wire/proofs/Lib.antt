@@ -1,0 +1,5 @@
+pub mod BodyLemmas
+pub mod DeviceLemmas
+pub mod FieldLemmas
+pub mod HeadLemmas
+pub mod LengthLemmas

@@ -1,0 +1,15 @@
+use Rattle.std.proofs.Common.{◌≡◌, ◌≤◌, ◌-◌, length}
+use Rattle.std.specs.Io.KnownBytes.{Consumes}
+use Rattle.http_wire.proofs.body.read_sized.Given as goal
+
+-- the body so far is what was read, and nothing failed
+abbrev pub invariant-pieces : goal.invariant-pieces
+invariant-pieces g l =
+    let remaining = g.R.FaultRead.remaining in
+    let failures = g.R.FaultRead.failures in
+    Consumes (remaining l.initial.reader) (remaining l.reader) l.body.items
+    × (length l.body.items ≤ l.size) × (l.size ≤ l.limit) × (length l.piece ≡ 512)
+    × (failures l.reader ≡ failures l.initial.reader)
+
+abbrev pub decreases-pieces : goal.decreases-pieces
+decreases-pieces g l = l.size - length l.body.items

@@ -1,0 +1,5 @@
+pub mod Bodies
+pub mod Devices
+pub mod Faults
+pub mod Fields
+pub mod Wires

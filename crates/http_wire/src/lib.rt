@@ -1,0 +1,20 @@
+//! What both sides of OTLP over HTTP share (RFC 9110, RFC 9112): devices that count their failures,
+//! how much of a message is read and why it isn't, the fields of its head, and its body. The
+//! client's side is `otlp_http`, which lends what its users name of these.
+#![tactic(auto)]
+
+mod body;
+mod device;
+mod fault;
+mod fields;
+mod limits;
+mod transfer;
+mod wire;
+
+pub use body::{Framing, framing_by_fields, read_body};
+pub use device::{Counted, DeviceFailed, FaultRead, FaultWrite};
+pub use fault::HttpFault;
+pub use fields::{content_length, keep_fields, retry_after};
+pub use limits::{HeadLimits, MOST_FIELDS};
+pub use transfer::{Stopped, read_byte, write_pieces};
+pub use wire::{FailingCalls, FailingWire};
