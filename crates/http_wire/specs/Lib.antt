@@ -2,4 +2,5 @@ pub mod Bodies
 pub mod Devices
 pub mod Faults
 pub mod Fields
+pub mod Lines
 pub mod Wires

@@ -1,10 +1,7 @@
 -- The text of the request that carries a body to a collector (RFC 9112, sections 2.1, 3 and 5).
 use Rattle.std.specs.Prelude.{ℕ, List, [], ◌++◌, length, codes, decimal}
+use Rattle.http_wire.specs.Lines.{line}
 use Rattle.otlp_http.specs.Address.{Address}
-
--- the line that ends by CR LF
-abbrev pub line : List ℕ → List ℕ
-line text = text ++ codes "\r\n"
 
 -- the request line, the fields, and an empty line; the body has so many bytes
 unfoldable pub request_head : Address → ℕ → List ℕ

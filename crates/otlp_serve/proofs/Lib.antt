@@ -1,0 +1,4 @@
+pub mod AnswerLemmas
+pub mod HeadLemmas
+pub mod PostLemmas
+pub mod ReplyLemmas

@@ -1,0 +1,5 @@
+pub mod Answers
+pub mod Parses
+pub mod Posts
+pub mod Replies
+pub mod RequestHeads

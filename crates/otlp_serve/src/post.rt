@@ -1,0 +1,159 @@
+//! Requests.
+
+ghost use Rattle.std.specs.Prelude.{◌≡◌, ◌≤◌, string_bytes, IfErr, IfOk, OnOk, IsUtf8, List};
+ghost use Rattle.http_wire.specs.Bodies.{framing_view};
+ghost use Rattle.http_wire.specs.Devices.{HasFailed};
+ghost use Rattle.http_wire.specs.Faults.{CountsAtHead};
+ghost use Rattle.http_wire.specs.Fields.{KeepsFields, NameAndValue};
+ghost use Rattle.otlp_serve.specs.Parses.{HasKeptRequest};
+ghost use Rattle.otlp_serve.specs.Posts.{post_framing, post_view, CountsAtPost, HasNoPost, HasNoPostHead, IsPost};
+
+use crate::fault::PostFault;
+use crate::head::read_head;
+use http_header::HeaderMap;
+use http_wire::{
+    FaultRead, Framing, HeadLimits, HttpFault, MOST_FIELDS, framing_by_fields, keep_fields,
+    read_body,
+};
+use httparse::spans::HeaderSpan;
+use std::alloc::{Allocator, Global};
+use std::str;
+
+/// A request of HTTP (RFC 9110, section 6; RFC 9112, section 3).
+#[derive(Drop)]
+#[derive_where(Debug)]
+pub struct Post<A: Allocator = Global> {
+    /// Its method, as it came: letters count in their case.
+    pub method: String<A>,
+    /// Its target, as it came, with a query where it has one.
+    pub target: String<A>,
+    /// The fields of its head, under their names in lower case, each value without spaces and tabs
+    /// at both ends.
+    pub fields: HeaderMap,
+    /// Its body, which is empty where the head tells of none.
+    pub body: Vec<u8, A>,
+}
+
+/// What is kept of a request's head.
+#[derive(Drop)]
+struct PostHead<A: Allocator> {
+    method: String<A>,
+    target: String<A>,
+    fields: HeaderMap,
+}
+
+/// Copies a text.
+fn copy_text<A: Allocator>(alloc: A, text: &[u8]) -> Result<String<A>, HttpFault>
+    requires { IsUtf8 text.now }
+    ensures value { IfOk result (λ copy. string_bytes copy ≡ text.now) }
+    ensures only { IfErr result (λ fault. fault ≡ HttpFault.OutOfMemory) }
+{
+    match str::from_utf8(text) {
+        Ok(text) => match String::from_str(alloc, text) {
+            Ok(copy) => Ok(copy),
+            Err(_) => Err(HttpFault::OutOfMemory),
+        },
+        Err(_) => unreachable!(),
+    }
+}
+
+/// Reads a request's head, and keeps its parts.
+fn read_post_head<R: FaultRead, A: Allocator + Copy>(
+    alloc: A,
+    global: Global,
+    reader: &mut R,
+    limits: &HeadLimits,
+) -> Result<PostHead<A>, HttpFault>
+    requires { limits.now.fields ≤ 64 }
+    ensures head { IfOk result (λ head. HasKeptRequest limits.now (R.remaining reader.old)
+        (R.remaining reader.new) (string_bytes head.method) (string_bytes head.target)
+        head.fields) }
+    ensures none { IfErr result (HasNoPostHead limits.now (R.remaining reader.old)
+        (R.remaining reader.new) (HasFailed (R.failures reader.old) (R.failures reader.new))) }
+    ensures counted { IfErr result (λ fault.
+        CountsAtHead fault (R.failures reader.old) (R.failures reader.new)) }
+    ensures kept { OnOk result (R.failures reader.new ≡ R.failures reader.old) }
+{
+    let mut text = Vec::new(alloc);
+    let mut room = [HeaderSpan::default(); MOST_FIELDS];
+    let spans = &mut room[..limits.fields];
+    let head = match read_head(reader, limits, &mut text, spans) {
+        Ok(head) => head,
+        Err(fault) => return Err(fault),
+    };
+    let fields = match keep_fields(global, &text, &spans[..head.headers]) {
+        Ok(fields) => fields,
+        Err(fault) => return Err(fault),
+    };
+    let method = match copy_text(alloc, head.method.of(&text)) {
+        Ok(method) => method,
+        Err(fault) => return Err(fault),
+    };
+    let target = match copy_text(alloc, head.path.of(&text)) {
+        Ok(target) => target,
+        Err(fault) => return Err(fault),
+    };
+    Ok(PostHead {
+        method,
+        target,
+        fields,
+    })
+}
+
+/// Reads a request, and no byte behind it (RFC 9112, sections 2.2, 3, 5 and 6.3). A head is what
+/// `httparse` reads by default. Its body has the length that Content-Length says, and none where
+/// there is no such field. A read that failed is not tried again.
+///
+/// The text of the head, while the call lasts, the method, the target and the body are kept by
+/// `alloc`, and the fields by `global`.
+///
+/// # Errors
+///
+/// `Head` where there is no whole head that can be used: `Ended` where the bytes ended before;
+/// `Device` where a read failed; `BadHead` where what came can't begin a head, also where it then
+/// ended, or where a field is one that `http_header` refuses; `TooLarge` where it has more bytes or
+/// fields than the limits allow; `OutOfMemory` where memory for it was refused. The reader is left
+/// where it was read up to, at most at the end of the head.
+///
+/// `Body` behind the head: `BadLength` where Transfer-Encoding stands (profile), or where
+/// Content-Length isn't one number of digits that fits 64 bits, in one field or in several of equal
+/// text; `TooLarge` where it tells of more bytes than the limit, before any of them is read; `Ended`
+/// where the bytes ended before so many had come; `Device` where a read failed; `OutOfMemory` where
+/// memory for it was refused.
+pub fn read_post<R: FaultRead, A: Allocator + Copy>(
+    alloc: A,
+    global: Global,
+    reader: &mut R,
+    limits: &HeadLimits,
+) -> Result<Post<A>, PostFault>
+    requires fields { limits.now.fields ≤ 64 }
+    ensures post { IfOk result (λ post. IsPost limits.now (R.remaining reader.old)
+        (R.remaining reader.new) (HasFailed (R.failures reader.old) (R.failures reader.new))
+        (post_view post)) }
+    ensures kept { OnOk result (R.failures reader.new ≡ R.failures reader.old) }
+    ensures no_post { IfErr result (HasNoPost limits.now (R.remaining reader.old)
+        (R.remaining reader.new) (HasFailed (R.failures reader.old) (R.failures reader.new))) }
+    ensures failed { IfErr result (λ fault.
+        CountsAtPost fault (R.failures reader.old) (R.failures reader.new)) }
+{
+    let head = match read_post_head(alloc, global, reader, limits) {
+        Ok(head) => head,
+        Err(fault) => return Err(PostFault::Head(fault)),
+    };
+    let framing = framing_by_fields(&head.fields, Framing::Empty);
+    let body = match read_body(alloc, reader, framing, limits.body) {
+        Ok(body) => body,
+        Err(fault) => return Err(PostFault::Body(fault)),
+    };
+    let PostHead {
+        method,
+        target,
+        fields,
+    } = head;
+    Ok(Post {
+        method,
+        target,
+        fields,
+        body,
+    })
+}
