@@ -7,7 +7,7 @@ use Rattle.std.specs.contracts.alloc.Global as Heap
 use Rattle.std.below.std_heap.specs.contracts.GlobalAllocator.TheImpl.{ghosts}
 use Rattle.otlp_http.specs.contracts.target.Target as Target
 use Rattle.otlp_http.specs.contracts.target.Target.TheInside as target
-use Rattle.otlp_http.specs.contracts.limits.HeadLimits as HeadLimits
+use Rattle.http_wire.specs.contracts.limits.HeadLimits as HeadLimits
 use Rattle.http_exporter.specs.contracts.exporter.LinkExporter as LinkExporter
 use Rattle.http_exporter.specs.contracts.exporter.LinkExporter.TheInside as exporter
 use Rattle.http_exporter.specs.contracts.tcp.TcpDial as TcpDial

@@ -1,6 +1,8 @@
-//! Tests of `otlp_http` over public calls alone. The crate has no items of its own.
+//! Tests of `http_wire`, `otlp_http` and `otlp_serve` over public calls alone. The crate has no items of its own.
 #![tactic(auto)]
 
+#[cfg(test)]
+mod answers;
 #[cfg(test)]
 mod bodies;
 #[cfg(test)]
@@ -15,6 +17,8 @@ mod fixture;
 mod heads;
 #[cfg(test)]
 mod outcomes;
+#[cfg(test)]
+mod posts;
 #[cfg(test)]
 mod requests;
 #[cfg(test)]

@@ -3,8 +3,9 @@
 //! any [`Dial`]; below them the requests and replies, [`write_request`], [`read_reply`], and
 //! [`outcome_of`] for what a reply means.
 pub use http_exporter::{Dial, HttpExporter, LinkExporter, TcpDial};
+pub use http_wire::{
+    Counted, DeviceFailed, FaultRead, FaultWrite, HeadLimits, HttpFault, MOST_FIELDS, Stopped,
+};
 pub use otlp_http::{
-    Counted, DEFAULT_PATH, DEFAULT_PORT, DeviceFailed, FaultRead, FaultWrite, HeadLimits,
-    HttpFault, MOST_FIELDS, Reply, Stopped, Target, TargetFault, outcome_of, read_reply,
-    write_request,
+    DEFAULT_PATH, DEFAULT_PORT, Reply, Target, TargetFault, outcome_of, read_reply, write_request,
 };
