@@ -1,3 +1,4 @@
 pub mod Collectors
 pub mod Meanings
+pub mod Posted
 pub mod Replied

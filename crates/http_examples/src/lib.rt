@@ -1,5 +1,6 @@
-//! Worked examples of requests and replies of OTLP over HTTP (crate `otlp_http`), with texts that
-//! were written out by hand. The checker computes what the definitions make of each, and compares.
+//! Worked examples of requests and replies of OTLP over HTTP (crates `http_wire`, `otlp_http` and
+//! `otlp_serve`), with texts that were written out by hand. The checker computes what the
+//! definitions make of each, and compares.
 //!
 //! Each function is a group of examples. Its clauses are the examples, and it does nothing when it
 //! is called.
@@ -8,6 +9,7 @@
 pub mod devices;
 pub mod fields;
 pub mod outcomes;
+pub mod posts;
 pub mod replies;
 pub mod requests;
 pub mod targets;
