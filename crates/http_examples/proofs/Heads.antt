@@ -22,12 +22,12 @@ use Rattle.otlp_http.specs.Heads.{fields_of, IsHeadText, IsInterim}
 use Rattle.otlp_http.proofs.HeadLemmas.{head_ends}
 use Rattle.http_examples.specs.Replied.{AreReply, usual}
 
-both : (a b : Bool) → (a && b) ≡ true → (a ≡ true) × (b ≡ true)
+pub both : (a b : Bool) → (a && b) ≡ true → (a ≡ true) × (b ≡ true)
 both true b e = (refl, e)
 both false b e = absurd (false≢true e)
 
 -- each item that is tested is so
-all_of : {A : Type 0} (P : A → Type 0) (test : A → Bool) → ((x : A) → test x ≡ true → P x) → (xs : List A) → list_all test xs ≡ true → All P xs
+pub all_of : {A : Type 0} (P : A → Type 0) (test : A → Bool) → ((x : A) → test x ≡ true → P x) → (xs : List A) → list_all test xs ≡ true → All P xs
 all_of P test one [] e = All-nil P
 all_of P test one (x ∷ xs) e =
     let parts = both (test x) (list_all test xs) e in
@@ -37,10 +37,10 @@ pub all_equal : {A : Type 0} (P : A → Type 0) (x : A) → P x → (count : ℕ
 all_equal P x is zero = All-nil P
 all_equal P x is (suc count) = All-cons P x (replicate count x) is (all_equal P x is count)
 
-abbrev is_field : Field → Bool
+abbrev pub is_field : Field → Bool
 is_field f = is_token f.name && list_all is_value_byte f.raw
 
-field_is : (f : Field) → is_field f ≡ true → IsField f
+pub field_is : (f : Field) → is_field f ≡ true → IsField f
 field_is f e =
     let parts = both (is_token f.name) (list_all is_value_byte f.raw) e in
     let name = both (nat_lt 0 (length f.name)) (list_all is_token_byte f.name) parts.0 in
@@ -119,7 +119,7 @@ or_true : (a : Bool) → (a || true) ≡ true
 or_true true = refl
 or_true false = refl
 
-line_feed_in : (front rest : List ℕ) → list_any is_line_feed ((front ++ 10 ∷ []) ++ rest) ≡ true
+pub line_feed_in : (front rest : List ℕ) → list_any is_line_feed ((front ++ 10 ∷ []) ++ rest) ≡ true
 line_feed_in [] rest = refl
 line_feed_in (b ∷ front) rest = ap (λ t. is_line_feed b || t) (line_feed_in front rest) ∙ or_true (is_line_feed b)
 

@@ -2,13 +2,22 @@
 use Rattle.std.specs.Prelude.{ℕ, List, [], ◌∷◌, codes, map, Some}
 use Rattle.http_header.specs.FieldValue.{FieldValue, plain_value}
 use Rattle.http_header.specs.HeaderMap.{Entries}
+use Rattle.http_wire.specs.declared.limits.HeadLimits.{HeadLimits}
 use Rattle.otlp_serve.specs.declared.fault.PostFault.{PostFault}
-use Rattle.otlp_serve.specs.Posts.{HttpPost, HasNoPost}
+use Rattle.otlp_serve.specs.Posts.{HttpPost, IsPost, HasNoPost}
 use Rattle.http_examples.specs.Replied.{usual}
 
--- These bytes, of which those are left, are no request by default for this cause.
-abbrev pub AreNoPost : List ℕ → List ℕ → PostFault → Type 0
-AreNoPost bytes left fault = HasNoPost usual (Some bytes) (Some left) ⊥ fault
+-- These bytes, of which those are left, are this request by default, and no read failed.
+abbrev pub ArePost : List ℕ → List ℕ → HttpPost → Type 0
+ArePost bytes left post = IsPost usual (Some bytes) (Some left) ⊥ post
+
+-- These bytes, of which those are left, are none within these limits for this cause.
+abbrev pub AreNoPost : HeadLimits → List ℕ → List ℕ → PostFault → Type 0
+AreNoPost limits bytes left fault = HasNoPost limits (Some bytes) (Some left) ⊥ fault
+
+-- a request's head that tells of three bytes
+abbrev pub three_bytes : List ℕ
+three_bytes = codes "PUT / HTTP/1.1\r\nContent-Length: 3\r\n\r\n"
 
 -- some values under a name
 abbrev pub under : List ℕ → List (List ℕ) → Entries FieldValue

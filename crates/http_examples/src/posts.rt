@@ -1,5 +1,5 @@
-//! What requests are answered, and the texts of replies (OTLP Specification, "OTLP/HTTP Response";
-//! RFC 9110, sections 8.3, 8.4 and 15.5).
+//! Bytes that are a request, what requests are answered, and the texts of replies (OTLP Specification, "OTLP/HTTP
+//! Response"; RFC 9110, sections 8.3, 8.4 and 15.5; RFC 9112, sections 2 to 6).
 
 ghost use Rattle.std.specs.Prelude.{◌≡◌, ◌∷◌, ◌++◌, ◌-◌, ◌^◌, [], codes, false, true, None, Some};
 ghost use Rattle.http_wire.specs.Bodies.{empty, sized, unknown};
@@ -9,7 +9,33 @@ ghost use Rattle.otlp_serve.specs.declared.status.ReplyStatus.TheVariants as sta
 ghost use Rattle.otlp_serve.specs.Answers.{is_plain, is_protobuf, media_type, plain_reply, refusal_of, reply_to_fault};
 ghost use Rattle.otlp_serve.specs.Posts.{post_framing};
 ghost use Rattle.otlp_serve.specs.Replies.{reply_text};
-ghost use Rattle.http_examples.specs.Posted.{post_with, typed, under};
+ghost use Rattle.http_examples.specs.Posted.{post_with, three_bytes, typed, under, AreNoPost, ArePost};
+ghost use Rattle.http_examples.specs.Replied.{usual};
+
+/// Requests. Bytes behind one are left.
+pub fn posts()
+    ensures sized { ArePost (three_bytes ++ codes "abcPUT") (codes "PUT") (record {
+      method = codes "PUT";
+      target = codes "/";
+      fields = under (codes "content-length") (codes "3" ∷ []);
+      body = codes "abc";
+    }) }
+    ensures without_body { ArePost (codes "GET /x?y HTTP/1.0\n\nabc") (codes "abc")
+        (post_with (codes "GET") (codes "/x?y") []) }
+{}
+
+/// No requests.
+pub fn none()
+    ensures cut { AreNoPost usual (codes "PUT / HTT") [] (Head faults.Ended) }
+    ensures large { AreNoPost (record usual { head = 4 }) (codes "PUT / HTTP/1.1\n\n")
+        (codes "/ HTTP/1.1\n\n") (Head faults.TooLarge) }
+    ensures cut_body { AreNoPost usual (three_bytes ++ codes "ab") [] (Body faults.Ended) }
+    ensures large_body { AreNoPost (record usual { body = 2 }) (three_bytes ++ codes "abc")
+        (codes "abc") (Body faults.TooLarge) }
+    ensures coded { AreNoPost usual
+        (codes "PUT / HTTP/1.1\r\nTransfer-Encoding: chunked\r\n\r\n0") (codes "0")
+        (Body faults.BadLength) }
+{}
 
 /// How far the bodies go of requests with some fields.
 pub fn framings()
