@@ -35,11 +35,11 @@ starts h rest valid =
     )
 
 -- the end of the last line, without its line feed
-abbrev return_of : LineEnd → List ℕ
+abbrev pub return_of : LineEnd → List ℕ
 return_of crlf = 13 ∷ []
 return_of lf = []
 
-return_line : (end : LineEnd) → print_end end ≡ return_of end ++ 10 ∷ []
+pub return_line : (end : LineEnd) → print_end end ≡ return_of end ++ 10 ∷ []
 return_line crlf = refl
 return_line lf = refl
 

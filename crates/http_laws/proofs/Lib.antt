@@ -1,5 +1,7 @@
-pub mod Fields
-pub mod Lacks
-pub mod BodiesAgree
-pub mod Interims
 pub mod Agree
+pub mod BodiesAgree
+pub mod Fields
+pub mod Interims
+pub mod Lacks
+pub mod PostFields
+pub mod PostsAgree

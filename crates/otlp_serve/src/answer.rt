@@ -5,19 +5,15 @@ ghost use Rattle.std.specs.List.{list_all};
 ghost use Rattle.http_header.specs.HeaderMap.{get_all};
 ghost use Rattle.httparse.specs.Grammar.{is_ows};
 ghost use Rattle.otlp_serve.specs.Answers as model;
-ghost use Rattle.otlp_serve.specs.Answers.{is_for_traces, is_plain, is_protobuf, is_same_word, plain_reply, refusal_of, reply_by, reply_to_fault, without_end_blanks};
-ghost use Rattle.otlp_serve.specs.Posts.{post_view};
+ghost use Rattle.otlp_serve.specs.Answers.{is_for_traces, is_plain, is_protobuf, is_same_word, plain_reply, reply_by, without_end_blanks};
 
-use crate::fault::PostFault;
-use crate::post::Post;
 use crate::reply::PostReply;
 use crate::status::ReplyStatus;
 use http_header::{HeaderMap, HeaderValue, ValueIter};
 use http_wire::HttpFault;
-use std::alloc::Allocator;
 
 /// A reply that asks for no wait.
-fn plain_reply(status: ReplyStatus) -> PostReply
+pub(crate) fn plain_reply(status: ReplyStatus) -> PostReply
     ensures { result ≡ plain_reply status }
 {
     PostReply {
@@ -27,7 +23,7 @@ fn plain_reply(status: ReplyStatus) -> PostReply
 }
 
 /// What a fault is answered, where `large` says that too much came.
-fn reply_by(large: ReplyStatus, fault: HttpFault) -> Option<PostReply>
+pub(crate) fn reply_by(large: ReplyStatus, fault: HttpFault) -> Option<PostReply>
     ensures { result ≡ reply_by large fault }
 {
     match fault {
@@ -39,21 +35,6 @@ fn reply_by(large: ReplyStatus, fault: HttpFault) -> Option<PostReply>
         HttpFault::TooLarge => Some(plain_reply(large)),
         HttpFault::BadHead | HttpFault::BadLength | HttpFault::BadChunk => {
             Some(plain_reply(ReplyStatus::BadRequest))
-        }
-    }
-}
-
-impl PostFault {
-    /// What a request is answered that has this fault (OTLP Specification, "OTLP/HTTP Response"; RFC
-    /// 9110, section 15.5; RFC 6585, section 5; profile): nothing where the bytes ended or the device
-    /// failed; 503 and to try again in a second where memory was refused; 431 where the head is too
-    /// large, and 413 where the body is; else 400.
-    pub fn reply(self) -> Option<PostReply>
-        ensures { result ≡ reply_to_fault self }
-    {
-        match self {
-            PostFault::Head(fault) => reply_by(ReplyStatus::RequestHeaderFieldsTooLarge, fault),
-            PostFault::Body(fault) => reply_by(ReplyStatus::ContentTooLarge, fault),
         }
     }
 }
@@ -97,14 +78,14 @@ fn is_same_word(word: &[u8], other: &[u8]) -> bool
 }
 
 /// The path of a target is that of traces.
-fn is_for_traces(target: &[u8]) -> bool
+pub(crate) fn is_for_traces(target: &[u8]) -> bool
     ensures { result ≡ is_for_traces target.now }
 {
     before(target, b'?') == b"/v1/traces".as_slice()
 }
 
 /// Whether the first Content-Type is that of OTLP's messages.
-fn is_protobuf(fields: &HeaderMap) -> bool
+pub(crate) fn is_protobuf(fields: &HeaderMap) -> bool
     ensures { result ≡ is_protobuf (map (λ v. v.bytes) (get_all fields.now (codes "content-type"))) }
 {
     match fields.get_all("content-type").iter().next() {
@@ -125,31 +106,8 @@ fn are_identity(mut values: ValueIter<'_, HeaderValue>) -> bool
 
 /// Whether no Content-Encoding says that the body was encoded.
 #[tactic(auto, using(crate::proofs::AnswerLemmas::plain_map))]
-fn is_plain(fields: &HeaderMap) -> bool
+pub(crate) fn is_plain(fields: &HeaderMap) -> bool
     ensures { result ≡ is_plain (map (λ v. v.bytes) (get_all fields.now (codes "content-encoding"))) }
 {
     are_identity(fields.get_all("content-encoding").iter())
-}
-
-impl<A: Allocator> Post<A> {
-    /// What a request is answered that a collector refuses, and none where it is for it: the first
-    /// that holds of 404 where the target up to a `?` isn't `/v1/traces`; 405 where the method isn't
-    /// POST; 415 where the first Content-Type, up to a `;` and the spaces and tabs before it and in
-    /// any case of letters, isn't `application/x-protobuf`, or where a Content-Encoding is other than
-    /// `identity` in any case of letters. (OTLP Specification, "OTLP/HTTP Request"; RFC 9110, section
-    /// 15.5; the order: profile)
-    pub fn refusal(&self) -> Option<PostReply>
-        ensures { result ≡ refusal_of (post_view self.now) }
-    {
-        if !is_for_traces(self.target.as_bytes()) {
-            return Some(plain_reply(ReplyStatus::NotFound));
-        }
-        if self.method.as_str() != "POST" {
-            return Some(plain_reply(ReplyStatus::MethodNotAllowed));
-        }
-        if !(is_protobuf(&self.fields) && is_plain(&self.fields)) {
-            return Some(plain_reply(ReplyStatus::UnsupportedMediaType));
-        }
-        None
-    }
 }

@@ -5,11 +5,15 @@ ghost use Rattle.http_wire.specs.Bodies.{framing_view};
 ghost use Rattle.http_wire.specs.Devices.{HasFailed};
 ghost use Rattle.http_wire.specs.Faults.{CountsAtHead};
 ghost use Rattle.http_wire.specs.Fields.{KeepsFields, NameAndValue};
+ghost use Rattle.otlp_serve.specs.Answers.{refusal_of};
 ghost use Rattle.otlp_serve.specs.Parses.{HasKeptRequest};
 ghost use Rattle.otlp_serve.specs.Posts.{post_framing, post_view, CountsAtPost, HasNoPost, HasNoPostHead, IsPost};
 
+use crate::answer::{is_for_traces, is_plain, is_protobuf, plain_reply};
 use crate::fault::PostFault;
 use crate::head::read_head;
+use crate::reply::PostReply;
+use crate::status::ReplyStatus;
 use http_header::HeaderMap;
 use http_wire::{
     FaultRead, Framing, HeadLimits, HttpFault, MOST_FIELDS, framing_by_fields, keep_fields,
@@ -32,6 +36,29 @@ pub struct Post<A: Allocator = Global> {
     pub fields: HeaderMap,
     /// Its body, which is empty where the head tells of none.
     pub body: Vec<u8, A>,
+}
+
+impl<A: Allocator> Post<A> {
+    /// What a request is answered that a collector refuses, and none where it is for it: the first
+    /// that holds of 404 where the target up to a `?` isn't `/v1/traces`; 405 where the method isn't
+    /// POST; 415 where the first Content-Type, up to a `;` and the spaces and tabs before it and in
+    /// any case of letters, isn't `application/x-protobuf`, or where a Content-Encoding is other than
+    /// `identity` in any case of letters. (OTLP Specification, "OTLP/HTTP Request"; RFC 9110, section
+    /// 15.5; the order: profile)
+    pub fn refusal(&self) -> Option<PostReply>
+        ensures { result ≡ refusal_of (post_view self.now) }
+    {
+        if !is_for_traces(self.target.as_bytes()) {
+            return Some(plain_reply(ReplyStatus::NotFound));
+        }
+        if self.method.as_str() != "POST" {
+            return Some(plain_reply(ReplyStatus::MethodNotAllowed));
+        }
+        if !(is_protobuf(&self.fields) && is_plain(&self.fields)) {
+            return Some(plain_reply(ReplyStatus::UnsupportedMediaType));
+        }
+        None
+    }
 }
 
 /// What is kept of a request's head.
