@@ -6,7 +6,7 @@ use Rattle.httparse.specs.Grammar.{print_end, print_blank, print_version, print_
 use Rattle.httparse.specs.Pieces.{RequestStart}
 use Rattle.httparse.specs.Spans.{RequestExceeds}
 use Rattle.httparse.proofs.PieceLemmas.{RequestStart_deterministic, Section_skip, Stops_token}
-use Rattle.httparse.proofs.GrammarLemmas.{cons-append, print_request-append, request_pieces, request_tree}
+use Rattle.httparse.proofs.GrammarLemmas.{print_request-append, request_pieces, request_tree}
 use Rattle.http_laws.proofs.Fields.{return_of, return_line}
 
 -- what stands before the fields, and then these bytes
@@ -36,7 +36,7 @@ fronts front h e =
     )
   where
     regroup : (a b c d e f r l : List ℕ) → a ++ (b ++ 32 ∷ (c ++ 32 ∷ (d ++ (e ++ ((f ++ (r ++ l)) ++ []))))) ≡ (a ++ (b ++ 32 ∷ (c ++ 32 ∷ (d ++ (e ++ (f ++ r)))))) ++ l
-    regroup a b c d e f r l = simp (append_assoc, append-nil, cons-append)
+    regroup a b c d e f r l = simp (append_assoc, append-nil)
 
 -- the bytes begin with its start line and with all its fields
 begins : (room : ℕ) (text left : List ℕ) (x : RequestExceeds room text) → (w : List ℕ) × (text ++ left ≡ lead x.3 (flat_map print_field x.3.fields ++ w))
@@ -47,7 +47,7 @@ begins room text left x = (
 )
   where
     regroup : (a b c d e f r x l : List ℕ) → ((a ++ (b ++ 32 ∷ (c ++ 32 ∷ (d ++ (e ++ (f ++ r)))))) ++ x) ++ l ≡ a ++ (b ++ 32 ∷ (c ++ 32 ∷ (d ++ (e ++ (f ++ (r ++ (x ++ l)))))))
-    regroup a b c d e f r x l = simp (append_assoc, cons-append)
+    regroup a b c d e f r x l = simp append_assoc
 
 pub exceeds_not : (room : ℕ) (text left : List ℕ) (head : RequestHead) (rest : List ℕ) → RequestExceeds room text
     → ReadsRequest (text ++ left) head rest → length head.fields ≤ room → ⊥

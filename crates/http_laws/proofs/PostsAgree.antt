@@ -1,5 +1,5 @@
 -- Bytes that are a request are nothing else.
-use Rattle.std.proofs.Common.{◌≡◌, ◌≢◌, ℕ, ◌≤◌, List, [], ◌++◌, length, refl, inl, inr, sym, ap, ◌∙◌, subst, arith, append-nil, append_assoc, Some, Ok, Err}
+use Rattle.std.proofs.Common.{◌≡◌, ◌≢◌, ℕ, List, ◌++◌, refl, inl, inr, sym, ap, ◌∙◌, subst, arith, append-nil, append_assoc, Some, Ok, Err}
 use Rattle.std.specs.Prelude.{All}
 use Rattle.httparse.specs.Grammar.{RequestHead, IsRequestHead, print_request}
 use Rattle.httparse.proofs.GrammarLemmas.{request_unique}
