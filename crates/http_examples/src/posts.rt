@@ -1,5 +1,6 @@
-//! Bytes that are a request, what requests are answered, and the texts of replies (OTLP Specification, "OTLP/HTTP
-//! Response"; RFC 9110, sections 8.3, 8.4 and 15.5; RFC 9112, sections 2 to 6).
+//! Bytes that are a request, what requests are answered, and the texts of replies (OTLP
+//! Specification, "OTLP/HTTP Response"; RFC 9110, sections 8.3, 8.4 and 15.5; RFC 9112, sections 2
+//! to 6).
 
 ghost use Rattle.std.specs.Prelude.{◌≡◌, ◌∷◌, ◌++◌, ◌-◌, ◌^◌, [], codes, false, true, None, Some};
 ghost use Rattle.http_wire.specs.Bodies.{empty, sized, unknown};

@@ -1,4 +1,5 @@
-//! Tests of `http_wire`, `otlp_http` and `otlp_serve` over public calls alone. The crate has no items of its own.
+//! Tests of `http_wire`, `otlp_http` and `otlp_serve` over public calls alone. The crate has no
+//! items of its own.
 #![tactic(auto)]
 
 #[cfg(test)]

@@ -28,7 +28,7 @@ abbrev pub framing_by_fields : Framing → List NameAndValue → Framing
 framing_by_fields otherwise fields =
     if nat_lt 0 (length (values_of (codes "transfer-encoding") fields)) then unknown
     else framing_by_length otherwise
-        (content_length (values_of (codes "content-length") fields))
+    (content_length (values_of (codes "content-length") fields))
 
 -- a body of that size, of which those bytes were taken, then these were left
 abbrev pub IsSizedBody : ℕ → ℕ → List ℕ → Option (List ℕ) → Type 0 → Result (List ℕ) HttpFault

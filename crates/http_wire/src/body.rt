@@ -35,8 +35,8 @@ fn is_coded(kept: &HeaderMap) -> bool
     kept.get("transfer-encoding").is_some()
 }
 
-/// How far the body goes of a head with these fields: what Content-Length says, or `otherwise` where
-/// there is none (RFC 9112, section 6.3); `Unknown` where Transfer-Encoding stands (profile).
+/// How far the body goes of a head with these fields: what Content-Length says, or `otherwise`
+/// where there is none (RFC 9112, section 6.3); `Unknown` where Transfer-Encoding stands (profile).
 pub fn framing_by_fields(kept: &HeaderMap, otherwise: Framing) -> Framing
     ensures { (fields : List NameAndValue) → KeepsFields kept.now fields
         → framing_view result ≡ framing_by_fields (framing_view otherwise) fields }
@@ -122,9 +122,9 @@ fn read_to_end<R: FaultRead, A: Allocator>(
 ///
 /// # Errors
 ///
-/// `BadLength` where it isn't known how far it goes, and `TooLarge` where it has more bytes than the
-/// limit: of one that has a size, no byte was read then. `Ended` where the bytes ended before its
-/// size; `Device` where a read failed; `OutOfMemory` where memory for it was refused.
+/// `BadLength` where it isn't known how far it goes, and `TooLarge` where it has more bytes than
+/// the limit: of one that has a size, no byte was read then. `Ended` where the bytes ended before
+/// its size; `Device` where a read failed; `OutOfMemory` where memory for it was refused.
 pub fn read_body<R: FaultRead, A: Allocator>(
     alloc: A,
     reader: &mut R,

@@ -1,6 +1,7 @@
 //! What both sides of OTLP over HTTP share (RFC 9110, RFC 9112): devices that count their failures,
 //! how much of a message is read and why it isn't, the fields of its head, and its body. The
-//! client's side is `otlp_http`, which lends what its users name of these.
+//! client's side is `otlp_http`, the collector's `otlp_serve`; each lends what its users name of
+//! these.
 #![tactic(auto)]
 
 mod body;

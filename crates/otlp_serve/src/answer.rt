@@ -86,7 +86,8 @@ pub(crate) fn is_for_traces(target: &[u8]) -> bool
 
 /// Whether the first Content-Type is that of OTLP's messages.
 pub(crate) fn is_protobuf(fields: &HeaderMap) -> bool
-    ensures { result ≡ is_protobuf (map (λ v. v.bytes) (get_all fields.now (codes "content-type"))) }
+    ensures { result
+        ≡ is_protobuf (map (λ v. v.bytes) (get_all fields.now (codes "content-type"))) }
 {
     match fields.get_all("content-type").iter().next() {
         Some(value) => {
@@ -107,7 +108,8 @@ fn are_identity(mut values: ValueIter<'_, HeaderValue>) -> bool
 /// Whether no Content-Encoding says that the body was encoded.
 #[tactic(auto, using(crate::proofs::AnswerLemmas::plain_map))]
 pub(crate) fn is_plain(fields: &HeaderMap) -> bool
-    ensures { result ≡ is_plain (map (λ v. v.bytes) (get_all fields.now (codes "content-encoding"))) }
+    ensures { result
+        ≡ is_plain (map (λ v. v.bytes) (get_all fields.now (codes "content-encoding"))) }
 {
     are_identity(fields.get_all("content-encoding").iter())
 }

@@ -21,10 +21,10 @@ pub enum PostFault {
 }
 
 impl PostFault {
-    /// What a request is answered that has this fault (OTLP Specification, "OTLP/HTTP Response"; RFC
-    /// 9110, section 15.5; RFC 6585, section 5; profile): nothing where the bytes ended or the device
-    /// failed; 503 and to try again in a second where memory was refused; 431 where the head is too
-    /// large, and 413 where the body is; else 400.
+    /// What a request is answered that has this fault (OTLP Specification, "OTLP/HTTP Response";
+    /// RFC 9110, section 15.5; RFC 6585, section 5; profile): nothing where the bytes ended or the
+    /// device failed; 503 and to try again in a second where memory was refused; 431 where the head
+    /// is too large, and 413 where the body is; else 400.
     pub fn reply(self) -> Option<PostReply>
         ensures { result ≡ reply_to_fault self }
     {

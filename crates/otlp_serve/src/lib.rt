@@ -1,7 +1,7 @@
 //! Requests and replies of OTLP over HTTP (OTLP Specification, "OTLP/HTTP"; RFC 9110, RFC 9112), as
-//! a collector has them: a request that is read from a device, what it is answered, and a reply that
-//! is written to one. The devices, and how much of a request is read, are lent by `http_wire`. Only
-//! [`read_post`] takes memory.
+//! a collector has them: a request that is read from a device, what it is answered, and a reply
+//! that is written to one. The devices, and how much of a request is read, are lent by `http_wire`.
+//! Only [`read_post`] takes memory.
 #![tactic(auto)]
 
 mod answer;

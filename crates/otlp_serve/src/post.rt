@@ -40,11 +40,11 @@ pub struct Post<A: Allocator = Global> {
 
 impl<A: Allocator> Post<A> {
     /// What a request is answered that a collector refuses, and none where it is for it: the first
-    /// that holds of 404 where the target up to a `?` isn't `/v1/traces`; 405 where the method isn't
-    /// POST; 415 where the first Content-Type, up to a `;` and the spaces and tabs before it and in
-    /// any case of letters, isn't `application/x-protobuf`, or where a Content-Encoding is other than
-    /// `identity` in any case of letters. (OTLP Specification, "OTLP/HTTP Request"; RFC 9110, section
-    /// 15.5; the order: profile)
+    /// that holds of 404 where the target up to a `?` isn't `/v1/traces`; 405 where the method
+    /// isn't POST; 415 where the first Content-Type, up to a `;` and the spaces and tabs before it
+    /// and in any case of letters, isn't `application/x-protobuf`, or where a Content-Encoding is
+    /// other than `identity` in any case of letters. (OTLP Specification, "OTLP/HTTP Request"; RFC
+    /// 9110, section 15.5; the order: profile)
     pub fn refusal(&self) -> Option<PostReply>
         ensures { result ≡ refusal_of (post_view self.now) }
     {
@@ -144,9 +144,9 @@ fn read_post_head<R: FaultRead, A: Allocator + Copy>(
 ///
 /// `Body` behind the head: `BadLength` where Transfer-Encoding stands (profile), or where
 /// Content-Length isn't one number of digits that fits 64 bits, in one field or in several of equal
-/// text; `TooLarge` where it tells of more bytes than the limit, before any of them is read; `Ended`
-/// where the bytes ended before so many had come; `Device` where a read failed; `OutOfMemory` where
-/// memory for it was refused.
+/// text; `TooLarge` where it tells of more bytes than the limit, before any of them is read;
+/// `Ended` where the bytes ended before so many had come; `Device` where a read failed;
+/// `OutOfMemory` where memory for it was refused.
 pub fn read_post<R: FaultRead, A: Allocator + Copy>(
     alloc: A,
     global: Global,

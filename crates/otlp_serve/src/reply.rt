@@ -59,7 +59,9 @@ fn wait_end<'a>(seconds: Option<u64>) -> &'a str
 /// some.
 fn reply_pieces<'a>(reply: PostReply, code: &'a str, digits: &'a str) -> [&'a [u8]; 10]
     requires code { code.now ≡ decimal (code_of reply.status) }
-    requires digits { MatchOption reply.retry_after (digits.now ≡ []) (λ n. digits.now ≡ decimal n) }
+    requires digits { MatchOption reply.retry_after
+        (digits.now ≡ [])
+        (λ n. digits.now ≡ decimal n) }
     requires short { length code.now + length digits.now ≤ 80 }
     ensures whole { concat (map (λ p. p.now) result) ≡ reply_text reply }
     ensures short { length (reply_text reply) < 2 ^ 64 }
