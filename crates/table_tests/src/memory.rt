@@ -1,6 +1,7 @@
 //! Starts and calls on scarce memory.
 ghost use Rattle.std.specs.Prelude.{◌<◌, length};
 
+use crate::equal::{assert_equal, assert_equal_at};
 use crate::parts::{attribute, provider, scopes, words};
 use linked_list_allocator::LocalHeap;
 use otlp_sampler::{AlwaysOff, AlwaysOn, Sampler};
@@ -54,34 +55,62 @@ fn make_answers<S: Sampler + Drop, A: Allocator + Copy>(
 /// Asserts that a span that was refused isn't there, and that one that started ends.
 fn assert_answers(rt: &impl Abort, answers: &Answers) {
     match answers.start {
-        Answer::OutOfMemory => assert_eq!(rt;
-            (answers.call, answers.end),
-            (Answer::NoSpan, Answer::NoSpan)
-        ),
-        _ => assert_eq!(rt; answers.end, Answer::Ended(Ended::Queued(0))),
+        Answer::OutOfMemory => {
+            let none = (Answer::NoSpan, Answer::NoSpan);
+            assert_equal(rt, (answers.call, answers.end), none);
+        }
+        _ => assert_equal(rt, answers.end, Answer::Ended(Ended::Queued(0))),
+    }
+}
+
+/// How often a start, a call and neither was refused memory.
+#[derive(Drop)]
+struct Counts {
+    starts: u32,
+    calls: u32,
+    done: u32,
+}
+
+impl Counts {
+    fn count(&mut self, answer: Answer) {
+        match answer {
+            Answer::NoSpan => self.starts = self.starts.saturating_add(1),
+            Answer::OutOfMemory => self.calls = self.calls.saturating_add(1),
+            _ => self.done = self.done.saturating_add(1),
+        }
     }
 }
 
 #[test]
 fn what_is_refused_is_answered(rt: HostRuntime) {
     let ample = LocalHeap::new(rt.alloc(), 8192).expect(&rt, "memory");
-    let (mut starts, mut calls, mut done) = (0u32, 0u32, 0u32);
+    let mut counts = Counts {
+        starts: 0,
+        calls: 0,
+        done: 0,
+    };
     for size in (0..4_000usize).step_by(8) {
         let scarce = LocalHeap::new(rt.alloc(), size).expect(&rt, "memory");
         if let Some(answers) = make_answers(&rt, &ample, &scarce, AlwaysOn) {
             assert_answers(&rt, &answers);
-            match answers.call {
-                Answer::NoSpan => starts = starts.saturating_add(1),
-                Answer::OutOfMemory => calls = calls.saturating_add(1),
-                _ => done = done.saturating_add(1),
-            }
+            counts.count(answers.call);
         }
-        assert_eq!(rt; (ample.used(), scarce.used()), (0, 0), "{size}");
+        assert_equal_at(&rt, (ample.used(), scarce.used()), (0, 0), size);
     }
-    assert!(rt;
-        starts > 0 && calls > 0 && done > 0,
-        "{starts} {calls} {done}"
-    );
+    let Counts {
+        starts,
+        calls,
+        done,
+    } = counts;
+    assert_equal(&rt, (starts > 0, calls > 0, done > 0), (true, true, true));
+}
+
+/// Asserts that a span that isn't recorded took no memory.
+fn assert_dropped(rt: &impl Abort, answers: &Answers, size: usize) {
+    let is_started = matches!(answers.start, Answer::Started { .. });
+    assert_equal_at(rt, is_started, true, size);
+    let done = (Answer::Done, Answer::Ended(Ended::NotSampled));
+    assert_equal(rt, (answers.call, answers.end), done);
 }
 
 #[test]
@@ -90,9 +119,7 @@ fn a_dropped_root_takes_no_memory(rt: HostRuntime) {
     for size in (0..4_000usize).step_by(8) {
         let scarce = LocalHeap::new(rt.alloc(), size).expect(&rt, "memory");
         if let Some(answers) = make_answers(&rt, &ample, &scarce, AlwaysOff) {
-            assert!(rt; matches!(answers.start, Answer::Started { .. }), "{size}");
-            assert_eq!(rt; answers.call, Answer::Done);
-            assert_eq!(rt; answers.end, Answer::Ended(Ended::NotSampled));
+            assert_dropped(&rt, &answers, size);
         }
     }
 }
