@@ -5,7 +5,8 @@ use std::alloc::Global;
 use std::sync::Arc;
 use std::time::{Clock, SystemTime, UNIX_EPOCH};
 use trace_kit::trace::{
-    AlwaysOn, BodyPass, Kind, ParentBased, Provider, Resource, Scope, SpanLimits, Status, Value,
+    AlwaysOn, BodyPass, Kind, ParentBased, Provider, Resource, Sampler, Scope, Span, SpanLimits,
+    Status, Tracer, Value,
 };
 
 /// The moment that the clock tells, in nanoseconds since 1970.
@@ -14,20 +15,31 @@ fn now(clock: &impl Clock) -> Result<u64> {
     Ok(u64::try_from(since.as_nanos())?)
 }
 
+/// Traces the query that a request makes.
+fn trace_query<S: Sampler>(
+    alloc: Global,
+    clock: &impl Clock,
+    rng: &mut impl Rng,
+    tracer: &Tracer<'_, S>,
+    request: &Span,
+    pass: &mut BodyPass,
+) -> Result<()> {
+    // A span with a parent is its child, in the same trace.
+    let parent = Some(request.context());
+    let at = now(clock)?;
+    let mut query = tracer.start_copied(alloc, rng, parent, "SELECT", Kind::Client, at)?;
+    query.set_attribute("db.rows".to_string(alloc)?, Value::Int(3))?;
+    query.end(pass, now(clock)?);
+    Ok(())
+}
+
 /// Traces a request for a cart and the query that it makes, and keeps both spans.
-pub fn trace_request(alloc: Global, clock: &impl Clock, rng: &mut impl Rng) -> Result<BodyPass> {
-    // A provider knows what makes the spans, which are recorded, and how much they keep.
-    let service = (
-        "service.name".to_string(alloc)?,
-        Value::text(alloc, "shop")?,
-    );
-    let resource = Arc::new(alloc, Resource::new(alloc, vec![in alloc; service]?))?;
-    let provider = Provider::new(ParentBased::new(AlwaysOn), resource, SpanLimits::default());
-
-    // A tracer starts the spans of one part of the program.
-    let scope = Arc::new(alloc, Scope::named(alloc, "checkout")?)?;
-    let tracer = provider.tracer(scope);
-
+fn trace_cart<S: Sampler>(
+    alloc: Global,
+    clock: &impl Clock,
+    rng: &mut impl Rng,
+    tracer: &Tracer<'_, S>,
+) -> Result<BodyPass> {
     // Spans go to a pass when they end. This one keeps up to 16 of them.
     let mut pass = BodyPass::new(alloc, 16)?;
 
@@ -38,15 +50,29 @@ pub fn trace_request(alloc: Global, clock: &impl Clock, rng: &mut impl Rng) -> R
         "http.request.method".to_string(alloc)?,
         Value::text(alloc, "GET")?,
     )?;
-
-    // One with a parent is its child, in the same trace.
-    let parent = Some(request.context());
-    let at = now(clock)?;
-    let mut query = tracer.start_copied(alloc, rng, parent, "SELECT", Kind::Client, at)?;
-    query.set_attribute("db.rows".to_string(alloc)?, Value::Int(3))?;
-    query.end(&mut pass, now(clock)?);
-
+    trace_query(alloc, clock, rng, tracer, &request, &mut pass)?;
     request.set_status(Status::Ok);
     request.end(&mut pass, now(clock)?);
     Ok(pass)
+}
+
+/// The resource of a shop's service: what makes the spans.
+fn shop(alloc: Global) -> Result<Arc<Resource>> {
+    let service = (
+        "service.name".to_string(alloc)?,
+        Value::text(alloc, "shop")?,
+    );
+    let resource = Resource::new(alloc, vec![in alloc; service]?);
+    Ok(Arc::new(alloc, resource)?)
+}
+
+/// Traces a request for a cart and the query that it makes, and keeps both spans.
+pub fn trace_request(alloc: Global, clock: &impl Clock, rng: &mut impl Rng) -> Result<BodyPass> {
+    // A provider knows what makes the spans, which are recorded, and how much they keep.
+    let sampler = ParentBased::new(AlwaysOn);
+    let provider = Provider::new(sampler, shop(alloc)?, SpanLimits::default());
+
+    // A tracer starts the spans of one part of the program.
+    let scope = Arc::new(alloc, Scope::named(alloc, "checkout")?)?;
+    trace_cart(alloc, clock, rng, &provider.tracer(scope))
 }
