@@ -3,14 +3,14 @@ use Rattle.std.proofs.Common.{◌≡◌, refl, sym, ap, ◌∙◌, ℕ, List, []
 use Rattle.std.specs.Borrow.{Bor}
 use Rattle.std.specs.Option.{option_map, option_to_list, unwrap_or}
 use Rattle.std.specs.List.{last_or}
-use Rattle.message_model.specs.Wire.{Field, Payload, varint, len}
-use Rattle.message_model.specs.Tables.{text, int64}
+use Rattle.message_model.specs.Wire.{Field, Payload, varint, i64, len}
+use Rattle.message_model.specs.Tables.{Shape, text, int64}
 use Rattle.message_model.specs.Messages.{payloads, number_in, bytes_in, last_number, last_bytes}
 use Rattle.otlp_read.proofs.OnePayload.{payloads-append}
 use Rattle.otlp_read.specs.Response.{Counts}
 use Rattle.otlp_read.specs.declared.response.PartialFields.{PartialFields}
 
-last_or-push : (o : Option Payload) (ps : List Payload) (p : Payload) → last_or o (ps ++ p ∷ []) ≡ Some p
+pub last_or-push : (o : Option Payload) (ps : List Payload) (p : Payload) → last_or o (ps ++ p ∷ []) ≡ Some p
 last_or-push o [] p = refl
 last_or-push o (q ∷ ps) p = last_or-push (Some q) ps p
 
@@ -23,11 +23,28 @@ last-bytes : (ps : List Payload) (found : Option (Bor (List ℕ))) (old : Bor (L
 last-bytes ps None old e = ap last_bytes (append-nil ps) ∙ sym e
 last-bytes ps (Some bytes) old e = ap (λ o. bytes_in (unwrap_or o (len []))) (last_or-push None ps (len bytes.now))
 
+-- after one more field
+pub bytes-more : (n : ℕ) (s : Shape) (fields : List Field) (f : Field) (found : Option (Bor (List ℕ))) (old : Bor (List ℕ)) → payloads n s (f ∷ []) ≡ option_to_list (option_map (λ b. len b.now) found) →
+    old.now ≡ last_bytes (payloads n s fields) → (unwrap_or found old).now ≡ last_bytes (payloads n s (fields ++ f ∷ []))
+bytes-more n s fields f found old e h = sym (ap last_bytes (payloads-append n s fields (f ∷ []) ∙ ap (λ l. payloads n s fields ++ l) e) ∙ last-bytes (payloads n s fields) found old h)
+
+pub number-more : (n : ℕ) (s : Shape) (fields : List Field) (f : Field) (found : Option ℕ) (old : ℕ) → payloads n s (f ∷ []) ≡ option_to_list (option_map varint found) →
+    old ≡ last_number (payloads n s fields) → unwrap_or found old ≡ last_number (payloads n s (fields ++ f ∷ []))
+number-more n s fields f found old e h = ap (unwrap_or found) h ∙ sym (ap last_number (payloads-append n s fields (f ∷ []) ∙ ap (λ l. payloads n s fields ++ l) e) ∙ last-number (payloads n s fields) found)
+
+last-fixed64 : (ps : List Payload) (found : Option ℕ) → last_number (ps ++ option_to_list (option_map i64 found)) ≡ unwrap_or found (last_number ps)
+last-fixed64 ps None = ap last_number (append-nil ps)
+last-fixed64 ps (Some n) = ap (λ o. number_in (unwrap_or o (varint 0))) (last_or-push None ps (i64 n))
+
+pub fixed64-more : (n : ℕ) (s : Shape) (fields : List Field) (f : Field) (found : Option ℕ) (old : ℕ) → payloads n s (f ∷ []) ≡ option_to_list (option_map i64 found) →
+    old ≡ last_number (payloads n s fields) → unwrap_or found old ≡ last_number (payloads n s (fields ++ f ∷ []))
+fixed64-more n s fields f found old e h = ap (unwrap_or found) h ∙ sym (ap last_number (payloads-append n s fields (f ∷ []) ∙ ap (λ l. payloads n s fields ++ l) e) ∙ last-fixed64 (payloads n s fields) found)
+
 -- after one more field of a partial success
 pub counts-more : (old : PartialFields) (f : Field) (number : Option ℕ) (bytes : Option (Bor (List ℕ))) → payloads 1 int64 (f ∷ []) ≡ option_to_list (option_map varint number) →
     payloads 2 text (f ∷ []) ≡ option_to_list (option_map (λ b. len b.now) bytes) → (spans : ℕ) (message : Bor (List ℕ)) → spans ≡ unwrap_or number old.rejected_spans → message ≡ unwrap_or bytes old.error_message →
     (fields : List Field) → Counts old fields → Counts (record { rejected_spans = spans; error_message = message }) (fields ++ f ∷ [])
 counts-more old f number bytes e1 e2 spans message s1 s2 fields h = record {
-  rejected_spans = s1 ∙ ap (unwrap_or number) h.rejected_spans ∙ sym (ap last_number (payloads-append 1 int64 fields (f ∷ []) ∙ ap (λ l. payloads 1 int64 fields ++ l) e1) ∙ last-number (payloads 1 int64 fields) number);
-  error_message = ap (λ b. b.now) s2 ∙ sym (ap last_bytes (payloads-append 2 text fields (f ∷ []) ∙ ap (λ l. payloads 2 text fields ++ l) e2) ∙ last-bytes (payloads 2 text fields) bytes old.error_message h.error_message);
+  rejected_spans = s1 ∙ number-more 1 int64 fields f number old.rejected_spans e1 h.rejected_spans;
+  error_message = ap (λ b. b.now) s2 ∙ bytes-more 2 text fields f bytes old.error_message e2 h.error_message;
 }

@@ -2,7 +2,7 @@
 use Rattle.std.proofs.Common.{◌≡◌, refl, sym, ap, ap₂, ◌∙◌, arith, ℕ, List, [], ◌∷◌, ◌++◌, Bool, true, false, cond, filter, map, ◌&&◌, ◌==◌}
 use Rattle.std.proofs.lemmas.Bool.{ne_eqb}
 use Rattle.std.specs.Borrow.{Bor}
-use Rattle.message_model.specs.Wire.{Field, varint, len}
+use Rattle.message_model.specs.Wire.{Field, varint, i64, len}
 use Rattle.message_model.proofs.ReadBack.{payloads-own}
 use Rattle.otlp_wire.specs.Fields.{payload_of, field_of}
 use Rattle.otlp_wire.specs.declared.reader.Field.{Field as Found}
@@ -38,16 +38,28 @@ other-type n s f h = rw (ne_eqb (wire_type f.payload) (wire s) h) (go (f.number 
 pub found-varint : (f : Found) (n v : ℕ) → f.payload ≡ Varint v → f.number ≡ n → (s : Shape) → wire s ≡ 0 → payloads n s (field_of f ∷ []) ≡ varint v ∷ []
 found-varint f n v e1 e2 s w = ap₂ (λ m p. payloads n s (record { number = m; payload = payload_of p } ∷ [])) e2 e1 ∙ payloads-own n s (varint v) (sym w)
 
+pub is-fixed64 : (p : Payload) → ((v : ℕ) → p ≡ I64 v → ⊥) → wire_type (payload_of p) ≡ 1 → ⊥
+is-fixed64 (Varint v) h e = omega (arith, e)
+is-fixed64 (I64 v) h e = h v refl
+is-fixed64 (Len b) h e = omega (arith, e)
+is-fixed64 (I32 v) h e = omega (arith, e)
+
+pub found-fixed64 : (f : Found) (n v : ℕ) → f.payload ≡ I64 v → f.number ≡ n → (s : Shape) → wire s ≡ 1 → payloads n s (field_of f ∷ []) ≡ i64 v ∷ []
+found-fixed64 f n v e1 e2 s w = ap₂ (λ m p. payloads n s (record { number = m; payload = payload_of p } ∷ [])) e2 e1 ∙ payloads-own n s (i64 v) (sym w)
+
+pub no-fixed64 : (f : Found) (n : ℕ) → ((v : ℕ) → f.payload ≡ I64 v → ⊥) → (s : Shape) → wire s ≡ 1 → payloads n s (field_of f ∷ []) ≡ []
+no-fixed64 f n h s w = other-type n s (field_of f) (λ e. is-fixed64 f.payload h (e ∙ w))
+
 pub found-bytes : (f : Found) (n : ℕ) (bytes : Bor (List ℕ)) → f.payload ≡ Len bytes → f.number ≡ n → (s : Shape) → wire s ≡ 2 → payloads n s (field_of f ∷ []) ≡ len bytes.now ∷ []
 found-bytes f n bytes e1 e2 s w = ap₂ (λ m p. payloads n s (record { number = m; payload = payload_of p } ∷ [])) e2 e1 ∙ payloads-own n s (len bytes.now) (sym w)
 
-is-varint : (p : Payload) → ((v : ℕ) → p ≡ Varint v → ⊥) → wire_type (payload_of p) ≡ 0 → ⊥
+pub is-varint : (p : Payload) → ((v : ℕ) → p ≡ Varint v → ⊥) → wire_type (payload_of p) ≡ 0 → ⊥
 is-varint (Varint v) h e = h v refl
 is-varint (I64 v) h e = omega (arith, e)
 is-varint (Len b) h e = omega (arith, e)
 is-varint (I32 v) h e = omega (arith, e)
 
-is-bytes : (p : Payload) → ((b : Bor (List ℕ)) → p ≡ Len b → ⊥) → wire_type (payload_of p) ≡ 2 → ⊥
+pub is-bytes : (p : Payload) → ((b : Bor (List ℕ)) → p ≡ Len b → ⊥) → wire_type (payload_of p) ≡ 2 → ⊥
 is-bytes (Varint v) h e = omega (arith, e)
 is-bytes (I64 v) h e = omega (arith, e)
 is-bytes (Len b) h e = h b refl

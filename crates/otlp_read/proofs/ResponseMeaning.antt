@@ -33,7 +33,7 @@ row-fault body fault h = subst (λ l. Contains l fault) (sym (meaning-faults bod
 pub not-none : (faults : List Fault) (fault : Fault) → Contains faults fault → faults ≡ [] → ⊥
 not-none faults fault h e = let none : length faults ≡ 0 = ap length e in let l = h.1 in absurd (omega (arith, none, l))
 
-not-utf8 : (t : List ℕ) → (IsUtf8 t → ⊥) → (b : Bool) → is_utf8 t ≡ b → Contains (cond b [] (bad_utf8 ∷ [])) bad_utf8
+pub not-utf8 : (t : List ℕ) → (IsUtf8 t → ⊥) → (b : Bool) → is_utf8 t ≡ b → Contains (cond b [] (bad_utf8 ∷ [])) bad_utf8
 not-utf8 t h true e = absurd (h (IsUtf8-from_is_utf8 t e))
 not-utf8 t h false e = Contains-push [] bad_utf8
 

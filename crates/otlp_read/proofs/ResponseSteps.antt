@@ -9,19 +9,9 @@ use Rattle.message_model.specs.Tables.{message, int64, text}
 use Rattle.message_model.specs.Messages.{payloads, joined_rows}
 use Rattle.otlp_read.specs.Response.{Counts, partial_row}
 use Rattle.otlp_read.specs.declared.response.PartialFields.{PartialFields}
+use Rattle.otlp_read.proofs.FieldsRead.{WereRead, were-read-more}
 use Rattle.otlp_read.proofs.OnePayload.{payloads-append}
 use Rattle.otlp_read.proofs.JoinedRows.{joined-none, joined-faults, joined-value, one-faults, one-value}
-
--- some fields of a row were read, and the others are left
-pub record WereRead (whole left : Reading (List Field)) (fields : List Field) : Type 0 where
-  pub value : whole.value ≡ fields ++ left.value
-  pub faults : whole.faults ≡ left.faults
-
-were-read-more : (whole left new : Reading (List Field)) (fields : List Field) (f : Field) → WereRead whole left fields → left ≡ put f new → WereRead whole new (fields ++ f ∷ [])
-were-read-more whole left new fields f h e = record {
-  value = h.value ∙ ap (λ r. fields ++ r.value) e ∙ sym (append_assoc fields (f ∷ []) new.value);
-  faults = h.faults ∙ ap (λ r. r.faults) e;
-}
 
 -- some fields of a partial success were read behind others
 pub record PartRead (old counted : PartialFields) (whole left : Reading (List Field)) : Type 0 where

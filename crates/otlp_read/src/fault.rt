@@ -2,6 +2,7 @@
 
 use otlp_ids::OutOfMemory;
 use otlp_wire::WireFault;
+use std::alloc::AllocFailed;
 use thiserror::Error;
 
 /// Why a message could not be read. Bytes can have several faults, of which any one is told.
@@ -39,6 +40,17 @@ impl From<OutOfMemory> for ReadFault {
     ghost from_gives = { λ _ fault. fault ≡ faults.OutOfMemory };
 
     fn from(_: OutOfMemory) -> ReadFault {
+        ReadFault::OutOfMemory
+    }
+}
+
+impl<T: Drop> From<AllocFailed<T>> for ReadFault {
+    ghost use Rattle.std.specs.Prelude.{◌≡◌};
+    ghost use Rattle.otlp_read.specs.declared.fault.ReadFault.TheVariants as faults;
+
+    ghost from_gives = { λ _ fault. fault ≡ faults.OutOfMemory };
+
+    fn from(_: AllocFailed<T>) -> ReadFault {
         ReadFault::OutOfMemory
     }
 }

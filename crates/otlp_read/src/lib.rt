@@ -3,9 +3,19 @@
 //! fields that are unknown or of another wire type, and the texts that a later one replaces.
 #![tactic(auto)]
 
+mod any_value;
+mod content;
 mod fault;
+mod gather;
 mod payloads;
+mod request;
+mod resource;
 mod response;
+mod span;
 
+pub use any_value::AnyValue;
 pub use fault::ReadFault;
+pub use request::{Request, ResourceSpans, ScopeSpans, read_request};
+pub use resource::{InstrumentationScope, Resource};
 pub use response::{PartialSuccess, Response, read_rejected_spans, read_response};
+pub use span::{Event, Link, Span, Status};

@@ -1,9 +1,10 @@
 //! The payload of a field, where it is this one of a table.
 
-ghost use Rattle.std.specs.Prelude.{◌≡◌, [], ◌∷◌};
+ghost use Rattle.std.specs.Prelude.{◌≡◌, ◌%◌, ◌^◌, ◌++◌, List, [], ◌∷◌};
 ghost use Rattle.std.specs.Option.{option_map, option_to_list};
 ghost use Rattle.message_model.specs.Wire;
 ghost use Rattle.message_model.specs.Tables.{Shape};
+ghost use Rattle.message_model.specs.Messages as messages;
 ghost use Rattle.message_model.specs.Messages.{wire, payloads};
 ghost use Rattle.otlp_wire.specs.Fields.{field_of};
 
@@ -37,4 +38,53 @@ pub(crate) fn bytes_in<'a>(field: Field<'a>, number: u32) -> Option<&'a [u8]>
         return None;
     }
     Some(bytes)
+}
+
+/// The last bytes under this number, where those before the field are these.
+pub(crate) fn last_bytes<'a>(before: &'a [u8], field: Field<'a>, number: u32) -> &'a [u8]
+    ensures { (s : Shape) → wire s ≡ 2 → (fields : List Wire.Field) →
+        before.now ≡ messages.last_bytes (payloads number s fields) →
+        result.now ≡ messages.last_bytes (payloads number s (fields ++ field_of field.entry ∷ [])) }
+{
+    bytes_in(field, number).unwrap_or(before)
+}
+
+/// The last varint under this number, where the one before the field is this.
+pub(crate) fn last_varint(before: u64, field: Field<'_>, number: u32) -> u64
+    ensures { (s : Shape) → wire s ≡ 0 → (fields : List Wire.Field) →
+        before ≡ messages.last_number (payloads number s fields) →
+        result ≡ messages.last_number (payloads number s (fields ++ field_of field.entry ∷ [])) }
+{
+    varint_in(field, number).unwrap_or(before)
+}
+
+/// The number of the field, where it has this number and is 8 bytes.
+fn fixed64_in(field: Field<'_>, number: u32) -> Option<u64>
+    ensures { (s : Shape) → wire s ≡ 1 →
+        payloads number s (field_of field.entry ∷ []) ≡
+        option_to_list (option_map Wire.i64 result) }
+{
+    let Payload::I64(value) = field.payload else {
+        return None;
+    };
+    if field.number != number {
+        return None;
+    }
+    Some(value)
+}
+
+/// The last number of 8 bytes under this number, where the one before the field is this.
+pub(crate) fn last_fixed64(before: u64, field: Field<'_>, number: u32) -> u64
+    ensures { (s : Shape) → wire s ≡ 1 → (fields : List Wire.Field) →
+        before ≡ messages.last_number (payloads number s fields) →
+        result ≡ messages.last_number (payloads number s (fields ++ field_of field.entry ∷ [])) }
+{
+    fixed64_in(field, number).unwrap_or(before)
+}
+
+/// The low 32 bits of the number.
+pub(crate) fn low_32_bits(number: u64) -> u32
+    ensures { result ≡ number % 2 ^ 32 }
+{
+    (number % (1 << 32)) as u32
 }

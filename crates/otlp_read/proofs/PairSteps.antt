@@ -1,0 +1,91 @@
+-- The fields of a pair, one after another.
+use Rattle.std.proofs.Common.{◌≡◌, refl, sym, ap, subst, ◌∙◌, ℕ, zero, suc, List, [], ◌∷◌, ◌++◌, append_assoc, append-nil}
+use Rattle.std.specs.Borrow.{Bor}
+use Rattle.std.specs.List.{Contains}
+use Rattle.message_model.specs.Reading.{Fault, too_deep}
+use Rattle.message_model.specs.Wire.{Field, Payload, len, row}
+use Rattle.message_model.specs.Tables
+use Rattle.message_model.specs.Tables.{Shape, Table, end, ◌⦂◌◂◌, text, any}
+use Rattle.message_model.specs.Messages.{PayloadReading, payloads, joined_rows, last_bytes, read, read_table, value}
+use Rattle.message_model.specs.AnyValue.{AnyValue}
+use Rattle.otlp_read.specs.declared.any_value.Member.{Member}
+use Rattle.otlp_read.specs.declared.any_value.Member.TheVariants.{Empty}
+use Rattle.otlp_read.specs.declared.any_value.PairParts.{PairParts}
+use Rattle.otlp_read.specs.declared.fault.ReadFault.{ReadFault}
+use Rattle.otlp_read.specs.Faults.{NamesOne}
+use Rattle.otlp_read.specs.Members.{members_from_last, Holds, HoldsPair}
+use Rattle.otlp_read.proofs.OnePayload.{payloads-append}
+use Rattle.otlp_read.proofs.JoinedRows.{joined-faults, joined-value, one-faults, one-value}
+use Rattle.otlp_read.proofs.MemberSteps.{members-append}
+use Rattle.otlp_read.proofs.Named.{Within, names-within, within-joined, within-first, within-others, value-row, is-too-deep}
+
+-- the payloads of the value, after a field that has none
+pub same-payloads : (n : ℕ) (s : Shape) (fields : List Field) (f : Field) → payloads n s (f ∷ []) ≡ [] → payloads n s (fields ++ f ∷ []) ≡ payloads n s fields
+same-payloads n s fields f e = payloads-append n s fields (f ∷ []) ∙ ap (λ l. payloads n s fields ++ l) e ∙ append-nil _
+
+-- and after one that has one
+pub one-payload : (n : ℕ) (s : Shape) (fields : List Field) (f : Field) (p : Payload) → payloads n s (f ∷ []) ≡ p ∷ [] → payloads n s (fields ++ f ∷ []) ≡ payloads n s fields ++ p ∷ []
+one-payload n s fields f p e = payloads-append n s fields (f ∷ []) ∙ ap (λ l. payloads n s fields ++ l) e
+
+pub payloads-between : (n : ℕ) (s : Shape) (before after : List Field) (f : Field) (p : Payload) → payloads n s (f ∷ []) ≡ p ∷ [] → payloads n s (before ++ f ∷ after) ≡ payloads n s before ++ p ∷ payloads n s after
+payloads-between n s before after f p e = payloads-append n s before (f ∷ after) ∙ ap (λ l. payloads n s before ++ l) (payloads-append n s (f ∷ []) after ∙ ap (λ l. l ++ payloads n s after) e)
+
+-- the key after one more field
+abbrev KeyMore : {A : Type 0} → PairParts A → Bor (List ℕ) → Field → Type 0
+KeyMore old key f = (fields : List Field) → old.key.now ≡ last_bytes (payloads 1 text fields) → key.now ≡ last_bytes (payloads 1 text (fields ++ f ∷ []))
+
+pub pair-skips : {A : Type 0} (depth : ℕ) (old : PairParts A) (key : Bor (List ℕ)) (f : Field) → KeyMore old key f → payloads 2 any (f ∷ []) ≡ [] →
+    (fields : List Field) → HoldsPair depth old fields → HoldsPair depth (record { key = key; value = old.value }) (fields ++ f ∷ [])
+pair-skips depth old key f more skip fields h =
+    let same = sym (same-payloads 2 any fields f skip) in record {
+      key = more fields h.key;
+      whole = subst (λ ps. (joined_rows ps).faults ≡ []) same h.whole;
+      value = subst (λ ps. Holds old.value (members_from_last (joined_rows ps).value)) same h.value;
+      room = λ z. subst (λ ps. ps ≡ []) same (h.room z);
+    }
+
+pub pair-more : {A : Type 0} (depth : ℕ) (old : PairParts A) (key : Bor (List ℕ)) (new : Member A) (f : Field) (content : List ℕ) → KeyMore old key f → payloads 2 any (f ∷ []) ≡ len content ∷ [] → (depth ≡ 0 → ⊥) →
+    (row content).faults ≡ [] → ((back : List Field) → Holds old.value back → Holds new (members_from_last (row content).value ++ back)) →
+    (fields : List Field) → HoldsPair depth old fields → HoldsPair depth (record { key = key; value = new }) (fields ++ f ∷ [])
+pair-more depth old key new f content more found deep good step fields h =
+    let ps = payloads 2 any fields in
+    let all = sym (one-payload 2 any fields f (len content) found) in record {
+      key = more fields h.key;
+      whole = subst (λ l. (joined_rows l).faults ≡ []) all (joined-faults ps (len content ∷ []) ∙ ap (λ l. l ++ (joined_rows (len content ∷ [])).faults) h.whole ∙ one-faults (len content) ∙ good);
+      value = subst (λ l. Holds new (members_from_last (joined_rows l).value)) all
+          (subst (Holds new) (sym (ap members_from_last (joined-value ps (len content ∷ []) ∙ ap (λ l. (joined_rows ps).value ++ l) (one-value (len content))) ∙ members-append (joined_rows ps).value (row content).value))
+          (step (members_from_last (joined_rows ps).value) h.value));
+      room = λ z. absurd (deep z);
+    }
+
+-- ---- faults of the value
+
+abbrev pub pair_faults : ℕ → List Field → List Fault
+pair_faults depth fields = (read_table (value depth) Tables.key_value fields).faults
+
+within-value : (values : PayloadReading AnyValue) (fields : List Field) → Within (values (payloads 2 any fields)).faults (read_table values Tables.key_value fields).faults
+unfolding read
+within-value values fields x h = within-others values 1 text (2 ⦂ any ◂ end) fields x (within-first values 2 any end fields x h)
+
+pub pair-too-deep : (f : Field) (content : List ℕ) → payloads 2 any (f ∷ []) ≡ len content ∷ [] → (depth : ℕ) → depth ≡ 0 → (before after : List Field) → Contains (pair_faults depth (before ++ f ∷ after)) too_deep
+pair-too-deep f content found depth z before after =
+    subst (λ d. Contains (pair_faults d (before ++ f ∷ after)) too_deep) (sym z)
+    (within-value (value 0) (before ++ f ∷ after) too_deep
+    (subst (λ ps. Contains (value 0 ps).faults too_deep) (sym (payloads-between 2 any before after f (len content) found))
+    (is-too-deep (payloads 2 any before) (len content) (payloads 2 any after))))
+
+pub pair-row-fault : (f : Field) (content : List ℕ) → payloads 2 any (f ∷ []) ≡ len content ∷ [] → (depth : ℕ) → (depth ≡ 0 → ⊥) → (fault : ReadFault) → NamesOne (row content).faults fault →
+    (before after : List Field) → NamesOne (pair_faults depth (before ++ f ∷ after)) fault
+pair-row-fault f content found zero deep fault h before after = absurd (deep refl)
+pair-row-fault f content found (suc depth) deep fault h before after =
+    names-within (row content).faults (pair_faults (suc depth) (before ++ f ∷ after)) (λ x k.
+    within-value (value (suc depth)) (before ++ f ∷ after) x
+    (value-row depth (payloads 2 any (before ++ f ∷ after)) x
+    (subst (λ ps. Contains (joined_rows ps).faults x) (sym (payloads-between 2 any before after f (len content) found))
+    (within-joined (payloads 2 any before) (payloads 2 any after) content x k)))) fault h
+
+-- ---- before the first field
+
+pub pair-none : {A : Type 0} (depth : ℕ) (parts : PairParts A) → parts.key.now ≡ [] → parts.value ≡ Empty → HoldsPair depth parts []
+unfolding payloads joined_rows members_from_last
+pair-none depth parts k e = record { key = k; whole = refl; value = subst (λ m. Holds m []) (sym e) refl; room = λ _. refl }

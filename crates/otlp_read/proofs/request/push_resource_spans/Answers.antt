@@ -1,0 +1,30 @@
+use Rattle.std.proofs.Common.{◌≡◌, refl, sym, ap, subst, ◌∙◌, Err, IfErr, List, [], ◌∷◌, ◌++◌, arith}
+use Rattle.std.proofs.lemmas.List.{map-append}
+use Rattle.message_model.specs.Wire.{Field, len}
+use Rattle.message_model.specs.Tables
+use Rattle.message_model.specs.Tables.{message, repeated}
+use Rattle.message_model.specs.Messages.{value, max_depth, read, payloads}
+use Rattle.otlp_wire.specs.Fields.{field_of}
+use Rattle.otlp_read.specs.Faults.{NamesOne}
+use Rattle.otlp_read.specs.Gathering.{IsKept, field_faults}
+use Rattle.otlp_read.specs.Requests.{resource_groups_view, resource_spans_view}
+use Rattle.otlp_read.proofs.Named.{names-within}
+use Rattle.otlp_read.proofs.GatherSteps.{repeated-skips, repeated-more, repeated-fails}
+use Rattle.otlp_read.proofs.request.push_resource_spans.Goals as goal
+
+pub returns-in_default-clause-ok : goal.returns-in_default-clause-ok
+returns-in_default-clause-ok g c = λ fields h. repeated-skips (value max_depth) c.args.number (message Tables.resource_spans) (resource_groups_view c.args.resource_spans.now.items) fields (field_of c.args.field) (c.in_default.ensures (repeated (message Tables.resource_spans)) refl) h
+
+pub returns-in_err-read_resource_spans-clause-err : goal.returns-in_err-read_resource_spans-clause-err
+returns-in_err-read_resource_spans-clause-err g c =
+    let told : c.from_residual.result ≡ Err c.in_err-read_resource_spans.field-0.0 = grind arith in
+    let content = c.in-Some.content.now in
+    subst (λ r. IfErr r (λ fault. (before after : List Field) → NamesOne (field_faults (repeated (message Tables.resource_spans)) c.args.number before (field_of c.args.field) after) fault)) (sym told)
+    (λ before after. names-within (read (value max_depth) (message Tables.resource_spans) (len content ∷ [])).faults (field_faults (repeated (message Tables.resource_spans)) c.args.number before (field_of c.args.field) after)
+    (repeated-fails (value max_depth) c.args.number (message Tables.resource_spans) before after (field_of c.args.field) (len content) (c.in-Some.ensures (repeated (message Tables.resource_spans)) refl)) c.in_err-read_resource_spans.field-0.0 c.in_err-read_resource_spans.ensures.err)
+
+pub returns-clause-ok : goal.returns-clause-ok
+returns-clause-ok g c = λ fields h.
+    let pushed = ap resource_groups_view c.in_ok-push.ensures.items ∙ map-append resource_spans_view c.args.resource_spans.now.items (c.in_ok-read_resource_spans.field-0 ∷ []) in
+    subst (λ l. IsKept (value max_depth) (repeated (message Tables.resource_spans)) l (payloads c.args.number (repeated (message Tables.resource_spans)) (fields ++ (field_of c.args.field) ∷ []))) (sym pushed)
+    (repeated-more (value max_depth) c.args.number (message Tables.resource_spans) (resource_groups_view c.args.resource_spans.now.items) (resource_spans_view c.in_ok-read_resource_spans.field-0) fields (field_of c.args.field) (len c.in-Some.content.now) (c.in-Some.ensures (repeated (message Tables.resource_spans)) refl) c.in_ok-read_resource_spans.ensures.ok h)

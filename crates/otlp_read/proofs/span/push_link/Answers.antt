@@ -1,0 +1,30 @@
+use Rattle.std.proofs.Common.{◌≡◌, refl, sym, ap, subst, ◌∙◌, Err, IfErr, List, [], ◌∷◌, ◌++◌, arith}
+use Rattle.std.proofs.lemmas.List.{map-append}
+use Rattle.message_model.specs.Wire.{Field, len}
+use Rattle.message_model.specs.Tables
+use Rattle.message_model.specs.Tables.{message, repeated}
+use Rattle.message_model.specs.Messages.{value, max_depth, read, payloads}
+use Rattle.otlp_wire.specs.Fields.{field_of}
+use Rattle.otlp_read.specs.Faults.{NamesOne}
+use Rattle.otlp_read.specs.Gathering.{IsKept, field_faults}
+use Rattle.otlp_read.specs.Spans.{links_view, link_view}
+use Rattle.otlp_read.proofs.Named.{names-within}
+use Rattle.otlp_read.proofs.GatherSteps.{repeated-skips, repeated-more, repeated-fails}
+use Rattle.otlp_read.proofs.span.push_link.Goals as goal
+
+pub returns-in_default-clause-ok : goal.returns-in_default-clause-ok
+returns-in_default-clause-ok g c = λ fields h. repeated-skips (value max_depth) c.args.number (message Tables.link) (links_view c.args.links.now.items) fields (field_of c.args.field) (c.in_default.ensures (repeated (message Tables.link)) refl) h
+
+pub returns-in_err-read_link-clause-err : goal.returns-in_err-read_link-clause-err
+returns-in_err-read_link-clause-err g c =
+    let told : c.from_residual.result ≡ Err c.in_err-read_link.field-0.0 = grind arith in
+    let content = c.in-Some.content.now in
+    subst (λ r. IfErr r (λ fault. (before after : List Field) → NamesOne (field_faults (repeated (message Tables.link)) c.args.number before (field_of c.args.field) after) fault)) (sym told)
+    (λ before after. names-within (read (value max_depth) (message Tables.link) (len content ∷ [])).faults (field_faults (repeated (message Tables.link)) c.args.number before (field_of c.args.field) after)
+    (repeated-fails (value max_depth) c.args.number (message Tables.link) before after (field_of c.args.field) (len content) (c.in-Some.ensures (repeated (message Tables.link)) refl)) c.in_err-read_link.field-0.0 c.in_err-read_link.ensures.err)
+
+pub returns-clause-ok : goal.returns-clause-ok
+returns-clause-ok g c = λ fields h.
+    let pushed = ap links_view c.in_ok-push.ensures.items ∙ map-append link_view c.args.links.now.items (c.in_ok-read_link.field-0 ∷ []) in
+    subst (λ l. IsKept (value max_depth) (repeated (message Tables.link)) l (payloads c.args.number (repeated (message Tables.link)) (fields ++ (field_of c.args.field) ∷ []))) (sym pushed)
+    (repeated-more (value max_depth) c.args.number (message Tables.link) (links_view c.args.links.now.items) (link_view c.in_ok-read_link.field-0) fields (field_of c.args.field) (len c.in-Some.content.now) (c.in-Some.ensures (repeated (message Tables.link)) refl) c.in_ok-read_link.ensures.ok h)

@@ -1,0 +1,12 @@
+use Rattle.std.proofs.Common.{sym, subst}
+use Rattle.message_model.specs.Reading.{Reads}
+use Rattle.otlp_read.specs.Faults.{NamesOne}
+use Rattle.otlp_read.specs.Spans.{link_view}
+use Rattle.otlp_read.proofs.PairValues.{on-ok, on-err}
+use Rattle.otlp_read.proofs.span.read_link.Goals as goal
+
+pub returns-clause-err : goal.returns-clause-err
+returns-clause-err g c = on-err c.finish.result (λ fault k. subst (λ r. NamesOne r.faults fault) (sym c.in_ok-parts.ensures.ok) k) c.finish.ensures.err
+
+pub returns-clause-ok : goal.returns-clause-ok
+returns-clause-ok g c = on-ok c.finish.result (λ x k. subst (λ r. Reads r (link_view x)) (sym c.in_ok-parts.ensures.ok) k) c.finish.ensures.ok

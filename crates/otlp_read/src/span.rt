@@ -1,0 +1,496 @@
+//! Spans as they were received, and what belongs to one (opentelemetry-proto, trace.proto: Span,
+//! Status).
+
+ghost use Rattle.std.specs.Prelude.{◌≡◌, List, [], ◌∷◌, IfOk, IfErr, OnOk};
+ghost use Rattle.message_model.specs.Reading.{Reads};
+ghost use Rattle.message_model.specs.Wire;
+ghost use Rattle.message_model.specs.Wire.{row};
+ghost use Rattle.message_model.specs.Tables;
+ghost use Rattle.message_model.specs.Tables.{message, repeated};
+ghost use Rattle.message_model.specs.Messages.{max_depth, meaning, read, value};
+ghost use Rattle.otlp_wire.specs.Fields.{field_of};
+ghost use Rattle.otlp_read.specs.Faults.{NamesOne};
+ghost use Rattle.otlp_read.specs.Gathering.{GathersRow, KeepsField, part_faults, field_faults, finished, nothing};
+ghost use Rattle.otlp_read.specs.Spans.{status_view, status_gathered, event_view, events_view, event_gathered, link_view, links_view, link_gathered, span_view, spans_view, span_gathered};
+
+use crate::any_value::{AnyValue, push_attribute};
+use crate::content::{copy_bytes, read_text};
+use crate::fault::ReadFault;
+use crate::gather::{GatherFields, gather_all};
+use crate::payloads::{bytes_in, last_bytes, last_fixed64, last_varint, low_32_bits};
+use otlp_wire::{Field, Fields};
+use std::alloc::{Allocator, Global};
+
+/// Whether what the span stands for went well (opentelemetry-proto, trace.proto: Status). An absent
+/// one has the defaults.
+#[derive(Drop)]
+#[derive_where(Debug)]
+pub struct Status<A: Allocator = Global> {
+    /// A description, empty by default.
+    pub message: String<A>,
+    /// 0 is Unset, the default, 1 is Ok, 2 is Error; others are as they were received.
+    pub code: i32,
+}
+
+/// An event of a span (opentelemetry-proto, trace.proto: Span.Event).
+#[derive(Drop)]
+#[derive_where(Debug)]
+pub struct Event<A: Allocator = Global> {
+    /// When it was, in nanoseconds since 1970.
+    pub time_unix_nano: u64,
+    /// Its name.
+    pub name: String<A>,
+    /// Its attributes, in order, with each repeated key.
+    pub attributes: Vec<(String<A>, AnyValue<A>), A>,
+    /// How many attributes were dropped.
+    pub dropped_attributes_count: u32,
+}
+
+/// A link of a span to another (opentelemetry-proto, trace.proto: Span.Link).
+#[derive(Drop)]
+#[derive_where(Debug)]
+pub struct Link<A: Allocator = Global> {
+    /// The trace's identifier, of any length.
+    pub trace_id: Vec<u8, A>,
+    /// The span's identifier, of any length.
+    pub span_id: Vec<u8, A>,
+    /// The trace state.
+    pub trace_state: String<A>,
+    /// Its attributes, in order, with each repeated key.
+    pub attributes: Vec<(String<A>, AnyValue<A>), A>,
+    /// How many attributes were dropped.
+    pub dropped_attributes_count: u32,
+}
+
+/// A span (opentelemetry-proto, trace.proto: Span). Flags are not read. (profile)
+#[derive(Drop)]
+#[derive_where(Debug)]
+pub struct Span<A: Allocator = Global> {
+    /// The trace's identifier, of any length.
+    pub trace_id: Vec<u8, A>,
+    /// The span's identifier, of any length.
+    pub span_id: Vec<u8, A>,
+    /// The trace state.
+    pub trace_state: String<A>,
+    /// The parent's identifier, of any length; empty for a root.
+    pub parent_span_id: Vec<u8, A>,
+    /// Its name.
+    pub name: String<A>,
+    /// 0 is unspecified, 1 internal, 2 server, 3 client, 4 producer, 5 consumer; others are as they
+    /// were received.
+    pub kind: i32,
+    /// When it began, in nanoseconds since 1970.
+    pub start_time_unix_nano: u64,
+    /// When it ended, in nanoseconds since 1970.
+    pub end_time_unix_nano: u64,
+    /// Its attributes, in order, with each repeated key.
+    pub attributes: Vec<(String<A>, AnyValue<A>), A>,
+    /// How many attributes were dropped.
+    pub dropped_attributes_count: u32,
+    /// Its events, in order.
+    pub events: Vec<Event<A>, A>,
+    /// How many events were dropped.
+    pub dropped_events_count: u32,
+    /// Its links, in order.
+    pub links: Vec<Link<A>, A>,
+    /// How many links were dropped.
+    pub dropped_links_count: u32,
+    /// Its status.
+    pub status: Status<A>,
+}
+
+/// What is gathered of the fields of a status.
+#[derive(Drop)]
+pub(crate) struct StatusParts<'a, A: Allocator> {
+    alloc: A,
+    message: &'a [u8],
+    code: u64,
+}
+
+impl<'a, A: Allocator + Copy> StatusParts<'a, A> {
+    /// Where there is no field yet.
+    pub(crate) fn new(alloc: A) -> StatusParts<'a, A>
+        ensures { status_gathered result ≡ nothing Tables.status }
+    {
+        StatusParts {
+            alloc,
+            message: b"",
+            code: 0,
+        }
+    }
+
+    /// Takes the fields of these bytes.
+    fn take_all(&mut self, content: &'a [u8]) -> Result<(), ReadFault>
+        ensures ok { OnOk result (GathersRow (value max_depth) Tables.status
+            (status_gathered self.old) (status_gathered self.new) content.now) }
+        ensures whole { OnOk result ((row content.now).faults ≡ []) }
+        ensures err { IfErr result (λ fault. (before after : List Wire.Field) → NamesOne
+            (part_faults (value max_depth) Tables.status before content.now after) fault) }
+    {
+        for field in Fields::new(content) {
+            self.take(field?)?;
+        }
+        Ok(())
+    }
+
+    /// Takes the fields of the status that the field is, where it has this number.
+    pub(crate) fn take_in(&mut self, field: Field<'a>, number: u32) -> Result<(), ReadFault>
+        ensures ok { OnOk result (KeepsField (message Tables.status) number
+            (status_gathered self.old) (status_gathered self.new) (field_of field.entry)) }
+        ensures err { IfErr result (λ fault. (before after : List Wire.Field) → NamesOne
+            (field_faults (message Tables.status) number before (field_of field.entry) after)
+            fault) }
+    {
+        let Some(content) = bytes_in(field, number) else {
+            return Ok(());
+        };
+        self.take_all(content)
+    }
+
+    /// The status.
+    pub(crate) fn finish(self) -> Result<Status<A>, ReadFault>
+        ensures ok { IfOk result (λ x. Reads (finished (value max_depth) (message Tables.status)
+            (status_gathered self.entry)) (status_view x)) }
+        ensures err { IfErr result (λ fault. NamesOne (finished (value max_depth)
+            (message Tables.status) (status_gathered self.entry)).faults fault) }
+    {
+        let alloc = self.alloc;
+        Ok(Status {
+            message: read_text(alloc, self.message)?,
+            code: low_32_bits(self.code).cast_signed(),
+        })
+    }
+}
+
+impl<'a, A: Allocator + Copy> GatherFields<'a> for StatusParts<'a, A> {
+    ghost use Rattle.message_model.specs.Tables;
+    ghost use Rattle.otlp_read.specs.Spans.{status_gathered};
+
+    ghost table = { Tables.status };
+
+    ghost gathered = { status_gathered };
+
+    fn take(&mut self, field: Field<'a>) -> Result<(), ReadFault> {
+        self.message = last_bytes(self.message, field, 2);
+        self.code = last_varint(self.code, field, 3);
+        Ok(())
+    }
+}
+
+/// What is gathered of the fields of an event.
+#[derive(Drop)]
+pub(crate) struct EventParts<'a, A: Allocator> {
+    alloc: A,
+    time_unix_nano: u64,
+    name: &'a [u8],
+    attributes: Vec<(String<A>, AnyValue<A>), A>,
+    dropped_attributes_count: u64,
+}
+
+impl<'a, A: Allocator + Copy> EventParts<'a, A> {
+    /// Where there is no field yet.
+    pub(crate) fn new(alloc: A) -> EventParts<'a, A>
+        ensures { event_gathered result ≡ nothing Tables.event }
+    {
+        EventParts {
+            alloc,
+            time_unix_nano: 0,
+            name: b"",
+            attributes: Vec::new(alloc),
+            dropped_attributes_count: 0,
+        }
+    }
+
+    /// The event.
+    pub(crate) fn finish(self) -> Result<Event<A>, ReadFault>
+        ensures ok { IfOk result (λ x. Reads (finished (value max_depth) (message Tables.event)
+            (event_gathered self.entry)) (event_view x)) }
+        ensures err { IfErr result (λ fault. NamesOne (finished (value max_depth)
+            (message Tables.event) (event_gathered self.entry)).faults fault) }
+    {
+        let alloc = self.alloc;
+        Ok(Event {
+            time_unix_nano: self.time_unix_nano,
+            name: read_text(alloc, self.name)?,
+            attributes: self.attributes,
+            dropped_attributes_count: low_32_bits(self.dropped_attributes_count),
+        })
+    }
+}
+
+impl<'a, A: Allocator + Copy> GatherFields<'a> for EventParts<'a, A> {
+    ghost use Rattle.message_model.specs.Tables;
+    ghost use Rattle.otlp_read.specs.Spans.{event_gathered};
+
+    ghost table = { Tables.event };
+
+    ghost gathered = { event_gathered };
+
+    fn take(&mut self, field: Field<'a>) -> Result<(), ReadFault> {
+        self.time_unix_nano = last_fixed64(self.time_unix_nano, field, 1);
+        self.name = last_bytes(self.name, field, 2);
+        push_attribute(self.alloc, &mut self.attributes, field, 3)?;
+        self.dropped_attributes_count = last_varint(self.dropped_attributes_count, field, 4);
+        Ok(())
+    }
+}
+
+/// What is gathered of the fields of a link.
+#[derive(Drop)]
+pub(crate) struct LinkParts<'a, A: Allocator> {
+    alloc: A,
+    trace_id: &'a [u8],
+    span_id: &'a [u8],
+    trace_state: &'a [u8],
+    attributes: Vec<(String<A>, AnyValue<A>), A>,
+    dropped_attributes_count: u64,
+}
+
+impl<'a, A: Allocator + Copy> LinkParts<'a, A> {
+    /// Where there is no field yet.
+    pub(crate) fn new(alloc: A) -> LinkParts<'a, A>
+        ensures { link_gathered result ≡ nothing Tables.link }
+    {
+        LinkParts {
+            alloc,
+            trace_id: b"",
+            span_id: b"",
+            trace_state: b"",
+            attributes: Vec::new(alloc),
+            dropped_attributes_count: 0,
+        }
+    }
+
+    /// The link.
+    pub(crate) fn finish(self) -> Result<Link<A>, ReadFault>
+        ensures ok { IfOk result (λ x. Reads (finished (value max_depth) (message Tables.link)
+            (link_gathered self.entry)) (link_view x)) }
+        ensures err { IfErr result (λ fault. NamesOne (finished (value max_depth)
+            (message Tables.link) (link_gathered self.entry)).faults fault) }
+    {
+        let alloc = self.alloc;
+        Ok(Link {
+            trace_id: copy_bytes(alloc, self.trace_id)?,
+            span_id: copy_bytes(alloc, self.span_id)?,
+            trace_state: read_text(alloc, self.trace_state)?,
+            attributes: self.attributes,
+            dropped_attributes_count: low_32_bits(self.dropped_attributes_count),
+        })
+    }
+}
+
+impl<'a, A: Allocator + Copy> GatherFields<'a> for LinkParts<'a, A> {
+    ghost use Rattle.message_model.specs.Tables;
+    ghost use Rattle.otlp_read.specs.Spans.{link_gathered};
+
+    ghost table = { Tables.link };
+
+    ghost gathered = { link_gathered };
+
+    fn take(&mut self, field: Field<'a>) -> Result<(), ReadFault> {
+        self.trace_id = last_bytes(self.trace_id, field, 1);
+        self.span_id = last_bytes(self.span_id, field, 2);
+        self.trace_state = last_bytes(self.trace_state, field, 3);
+        push_attribute(self.alloc, &mut self.attributes, field, 4)?;
+        self.dropped_attributes_count = last_varint(self.dropped_attributes_count, field, 5);
+        Ok(())
+    }
+}
+
+/// What is gathered of the fields of a span.
+#[derive(Drop)]
+pub(crate) struct SpanParts<'a, A: Allocator> {
+    alloc: A,
+    trace_id: &'a [u8],
+    span_id: &'a [u8],
+    trace_state: &'a [u8],
+    parent_span_id: &'a [u8],
+    name: &'a [u8],
+    kind: u64,
+    start_time_unix_nano: u64,
+    end_time_unix_nano: u64,
+    attributes: Vec<(String<A>, AnyValue<A>), A>,
+    dropped_attributes_count: u64,
+    events: Vec<Event<A>, A>,
+    dropped_events_count: u64,
+    links: Vec<Link<A>, A>,
+    dropped_links_count: u64,
+    status: StatusParts<'a, A>,
+}
+
+impl<'a, A: Allocator + Copy> SpanParts<'a, A> {
+    /// Where there is no field yet.
+    pub(crate) fn new(alloc: A) -> SpanParts<'a, A>
+        ensures { span_gathered result ≡ nothing Tables.span }
+    {
+        SpanParts {
+            alloc,
+            trace_id: b"",
+            span_id: b"",
+            trace_state: b"",
+            parent_span_id: b"",
+            name: b"",
+            kind: 0,
+            start_time_unix_nano: 0,
+            end_time_unix_nano: 0,
+            attributes: Vec::new(alloc),
+            dropped_attributes_count: 0,
+            events: Vec::new(alloc),
+            dropped_events_count: 0,
+            links: Vec::new(alloc),
+            dropped_links_count: 0,
+            status: StatusParts::new(alloc),
+        }
+    }
+
+    /// The span.
+    pub(crate) fn finish(self) -> Result<Span<A>, ReadFault>
+        ensures ok { IfOk result (λ x. Reads (finished (value max_depth) (message Tables.span)
+            (span_gathered self.entry)) (span_view x)) }
+        ensures err { IfErr result (λ fault. NamesOne (finished (value max_depth)
+            (message Tables.span) (span_gathered self.entry)).faults fault) }
+    {
+        let alloc = self.alloc;
+        Ok(Span {
+            trace_id: copy_bytes(alloc, self.trace_id)?,
+            span_id: copy_bytes(alloc, self.span_id)?,
+            trace_state: read_text(alloc, self.trace_state)?,
+            parent_span_id: copy_bytes(alloc, self.parent_span_id)?,
+            name: read_text(alloc, self.name)?,
+            kind: low_32_bits(self.kind).cast_signed(),
+            start_time_unix_nano: self.start_time_unix_nano,
+            end_time_unix_nano: self.end_time_unix_nano,
+            attributes: self.attributes,
+            dropped_attributes_count: low_32_bits(self.dropped_attributes_count),
+            events: self.events,
+            dropped_events_count: low_32_bits(self.dropped_events_count),
+            links: self.links,
+            dropped_links_count: low_32_bits(self.dropped_links_count),
+            status: self.status.finish()?,
+        })
+    }
+}
+
+impl<'a, A: Allocator + Copy> GatherFields<'a> for SpanParts<'a, A> {
+    ghost use Rattle.message_model.specs.Tables;
+    ghost use Rattle.otlp_read.specs.Spans.{span_gathered};
+
+    ghost table = { Tables.span };
+
+    ghost gathered = { span_gathered };
+
+    fn take(&mut self, field: Field<'a>) -> Result<(), ReadFault> {
+        self.trace_id = last_bytes(self.trace_id, field, 1);
+        self.span_id = last_bytes(self.span_id, field, 2);
+        self.trace_state = last_bytes(self.trace_state, field, 3);
+        self.parent_span_id = last_bytes(self.parent_span_id, field, 4);
+        self.name = last_bytes(self.name, field, 5);
+        self.kind = last_varint(self.kind, field, 6);
+        self.start_time_unix_nano = last_fixed64(self.start_time_unix_nano, field, 7);
+        self.end_time_unix_nano = last_fixed64(self.end_time_unix_nano, field, 8);
+        push_attribute(self.alloc, &mut self.attributes, field, 9)?;
+        self.dropped_attributes_count = last_varint(self.dropped_attributes_count, field, 10);
+        push_event(self.alloc, &mut self.events, field, 11)?;
+        self.dropped_events_count = last_varint(self.dropped_events_count, field, 12);
+        push_link(self.alloc, &mut self.links, field, 13)?;
+        self.dropped_links_count = last_varint(self.dropped_links_count, field, 14);
+        self.status.take_in(field, 15)?;
+        Ok(())
+    }
+}
+
+/// The event of these bytes.
+fn read_event<A: Allocator + Copy>(alloc: A, content: &[u8]) -> Result<Event<A>, ReadFault>
+    ensures ok { IfOk result (λ x. Reads
+        (read (value max_depth) (message Tables.event) (Wire.len content.now ∷ []))
+        (event_view x)) }
+    ensures err { IfErr result (λ fault. NamesOne
+        (read (value max_depth) (message Tables.event) (Wire.len content.now ∷ [])).faults fault) }
+{
+    let parts = gather_all(EventParts::new(alloc), content)?;
+    parts.finish()
+}
+
+/// Appends an event, where the field has this number.
+fn push_event<A: Allocator + Copy>(
+    alloc: A,
+    events: &mut Vec<Event<A>, A>,
+    field: Field<'_>,
+    number: u32,
+) -> Result<(), ReadFault>
+    ensures ok { OnOk result (KeepsField (repeated (message Tables.event)) number
+        (events_view events.old.items) (events_view events.new.items) (field_of field.entry)) }
+    ensures err { IfErr result (λ fault. (before after : List Wire.Field) → NamesOne
+        (field_faults (repeated (message Tables.event)) number before
+        (field_of field.entry) after) fault) }
+{
+    let Some(content) = bytes_in(field, number) else {
+        return Ok(());
+    };
+    events.push(read_event(alloc, content)?)?;
+    Ok(())
+}
+
+/// The link of these bytes.
+fn read_link<A: Allocator + Copy>(alloc: A, content: &[u8]) -> Result<Link<A>, ReadFault>
+    ensures ok { IfOk result (λ x. Reads
+        (read (value max_depth) (message Tables.link) (Wire.len content.now ∷ []))
+        (link_view x)) }
+    ensures err { IfErr result (λ fault. NamesOne
+        (read (value max_depth) (message Tables.link) (Wire.len content.now ∷ [])).faults fault) }
+{
+    let parts = gather_all(LinkParts::new(alloc), content)?;
+    parts.finish()
+}
+
+/// Appends a link, where the field has this number.
+fn push_link<A: Allocator + Copy>(
+    alloc: A,
+    links: &mut Vec<Link<A>, A>,
+    field: Field<'_>,
+    number: u32,
+) -> Result<(), ReadFault>
+    ensures ok { OnOk result (KeepsField (repeated (message Tables.link)) number
+        (links_view links.old.items) (links_view links.new.items) (field_of field.entry)) }
+    ensures err { IfErr result (λ fault. (before after : List Wire.Field) → NamesOne
+        (field_faults (repeated (message Tables.link)) number before
+        (field_of field.entry) after) fault) }
+{
+    let Some(content) = bytes_in(field, number) else {
+        return Ok(());
+    };
+    links.push(read_link(alloc, content)?)?;
+    Ok(())
+}
+
+/// The span of these bytes.
+fn read_span<A: Allocator + Copy>(alloc: A, content: &[u8]) -> Result<Span<A>, ReadFault>
+    ensures ok { IfOk result (λ x. Reads
+        (read (value max_depth) (message Tables.span) (Wire.len content.now ∷ []))
+        (span_view x)) }
+    ensures err { IfErr result (λ fault. NamesOne
+        (read (value max_depth) (message Tables.span) (Wire.len content.now ∷ [])).faults fault) }
+{
+    let parts = gather_all(SpanParts::new(alloc), content)?;
+    parts.finish()
+}
+
+/// Appends a span, where the field has this number.
+pub(crate) fn push_span<A: Allocator + Copy>(
+    alloc: A,
+    spans: &mut Vec<Span<A>, A>,
+    field: Field<'_>,
+    number: u32,
+) -> Result<(), ReadFault>
+    ensures ok { OnOk result (KeepsField (repeated (message Tables.span)) number
+        (spans_view spans.old.items) (spans_view spans.new.items) (field_of field.entry)) }
+    ensures err { IfErr result (λ fault. (before after : List Wire.Field) → NamesOne
+        (field_faults (repeated (message Tables.span)) number before
+        (field_of field.entry) after) fault) }
+{
+    let Some(content) = bytes_in(field, number) else {
+        return Ok(());
+    };
+    spans.push(read_span(alloc, content)?)?;
+    Ok(())
+}
