@@ -1,0 +1,12 @@
+-- A reply that is known to be another.
+use Rattle.std.proofs.Common.{◌≡◌, ℕ, List, Option, subst}
+use Rattle.message_model.specs.Tables
+use Rattle.message_model.specs.Tables.{Message}
+use Rattle.http_wire.specs.declared.limits.HeadLimits.{HeadLimits}
+use Rattle.otlp_serve.specs.declared.reply.PostReply.{PostReply}
+use Rattle.otlp_collector.specs.declared.judge.Canned.{Canned}
+use Rattle.otlp_collector.specs.Answering.{Judges}
+
+pub judges-as : {limits : HeadLimits} {canned : Option Canned} {old new : Option (List ℕ)} {failed : Type 0} {reply other : Option PostReply} {request : Option (Message Tables.request)}
+    → reply ≡ other → Judges limits canned old new failed reply request → Judges limits canned old new failed other request
+judges-as {limits} {canned} {old} {new} {failed} {reply} {other} {request} e j = subst (λ r. Judges limits canned old new failed r request) e j

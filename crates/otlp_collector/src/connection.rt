@@ -1,0 +1,78 @@
+//! Connections, of one request each.
+
+ghost use Rattle.std.specs.Prelude.{◌≡◌, ◌≤◌, IfErr, IfOk, option_map};
+ghost use Rattle.http_wire.specs.Devices.{CountsFailure, HasFailed};
+ghost use Rattle.otlp_read.specs.Requests.{request_view};
+ghost use Rattle.otlp_collector.specs.Answering.{Breaks, Serves};
+
+use crate::judge::{Canned, Judged, judge};
+use http_wire::{FaultRead, FaultWrite, HeadLimits, Stopped};
+use otlp_read::Request;
+use otlp_serve::write_reply;
+use std::alloc::{Allocator, Global};
+
+/// What became of a connection.
+#[derive(Drop)]
+#[derive_where(Debug)]
+pub struct Answered<A: Allocator = Global> {
+    /// The status that was answered. `None` where the connection ended or failed before its
+    /// request was there, so that nothing was.
+    pub status: Option<u16>,
+    /// The request, where its body was read: it was answered 200, or what is canned.
+    pub request: Option<Request<A>>,
+}
+
+/// Serves a connection: reads one request, and no byte behind it, and writes one reply (OTLP
+/// Specification, "OTLP/HTTP Request", "OTLP/HTTP Response").
+///
+/// The reply is the first of these that holds (the order: profile): none where the connection ended
+/// or failed before the request was there; 503, and to try again in a second, where memory was
+/// refused; 400 where what came is no request; 431 where its head is above the limits, 413 where
+/// its body is, before a byte of it is read; 404 where its target up to a `?` isn't `/v1/traces`;
+/// 405 where its method isn't POST; 415 where its first Content-Type isn't
+/// `application/x-protobuf`, or a Content-Encoding isn't `identity`; 400 where its body can't be
+/// read as a request of traces, or 503 as before where memory was refused; what is canned; 200. The
+/// order of want of memory is that in which it was wanted.
+///
+/// The limits allow 64 fields at most. The text of the head, the body and the request are kept by
+/// `alloc`, and the fields of the head by `global`, while the call lasts.
+///
+/// # Errors
+///
+/// `Stopped` where a write failed: exactly the first `sent` bytes of the reply went out, which are
+/// less than all. A request that was read is let go.
+pub fn answer<R: FaultRead, W: FaultWrite, A: Allocator + Copy>(
+    alloc: A,
+    global: Global,
+    reader: &mut R,
+    writer: &mut W,
+    limits: &HeadLimits,
+    canned: Option<Canned>,
+) -> Result<Answered<A>, Stopped>
+    requires { limits.now.fields ≤ 64 }
+    ensures served { IfOk result (λ a. Serves limits.now canned
+        (R.remaining reader.old) (R.remaining reader.new)
+        (HasFailed (R.failures reader.old) (R.failures reader.new))
+        (W.contents writer.old) (W.contents writer.new)
+        a.status (option_map request_view a.request)) }
+    ensures stopped { IfErr result (λ stopped. Breaks limits.now canned
+        (R.remaining reader.old) (R.remaining reader.new)
+        (HasFailed (R.failures reader.old) (R.failures reader.new))
+        (W.contents writer.old) (W.contents writer.new) stopped.sent) }
+    ensures counted { CountsFailure result (W.failures writer.old) (W.failures writer.new) }
+{
+    let Judged { reply, request } = judge(alloc, global, reader, limits, canned);
+    let Some(reply) = reply else {
+        return Ok(Answered {
+            status: None,
+            request,
+        });
+    };
+    match write_reply(writer, reply) {
+        Ok(()) => Ok(Answered {
+            status: Some(reply.status.code()),
+            request,
+        }),
+        Err(stopped) => Err(stopped),
+    }
+}
