@@ -2,8 +2,8 @@
 ghost use Rattle.std.specs.Prelude.{◌≡◌, None};
 
 use anyhow::{Context, Result};
-use rand::make_rng;
 use rand::rngs::StdRng;
+use rand::{Rng, make_rng};
 use std::alloc::Global;
 use std::net::{Net, TcpListener, TcpStream};
 use std::random::RandomSource;
@@ -17,32 +17,48 @@ use trace_kit::processor::{
     WorkerPass,
 };
 use trace_kit::trace::{
-    AlwaysOn, EndPass, Kind, Provider, Resource, Scope, SpanData, SpanLimits, Value,
+    AlwaysOn, EndPass, Kind, Provider, Resource, Scope, SpanData, SpanLimits, Tracer, Value,
 };
 
 /// Traces a request for a cart and the query that it makes.
+fn trace_cart<P: EndPass<SpanData>>(
+    alloc: Global,
+    clock: &impl Clock,
+    rng: &mut impl Rng,
+    tracer: &Tracer<'_, AlwaysOn>,
+    pass: &mut P,
+) -> Result<()> {
+    let (kind, at) = (Kind::Server, clock.now());
+    let mut request = tracer.start_copied(alloc, rng, None, "GET /cart", kind, at)?;
+    let (kind, at) = (Kind::Client, clock.now());
+    let parent = Some(request.context());
+    let mut query = tracer.start_copied(alloc, rng, parent, "SELECT", kind, at)?;
+    query.end(pass, clock.now());
+    request.end(pass, clock.now());
+    Ok(())
+}
+
+/// The resource of a shop's service: what makes the spans.
+fn shop(alloc: Global) -> Result<Arc<Resource>> {
+    let service = (
+        "service.name".to_string(alloc)?,
+        Value::text(alloc, "shop")?,
+    );
+    let resource = Resource::new(alloc, vec![in alloc; service]?);
+    Ok(Arc::new(alloc, resource)?)
+}
+
+/// Traces the request by a provider of its own.
 fn trace<R, P>(rt: R, alloc: Global, pass: &mut P) -> Result<()>
 where
     R: RandomSource + time::Clock + Copy,
     P: EndPass<SpanData>,
 {
     let mut rng: StdRng = make_rng(&rt)?;
+    let provider = Provider::new(AlwaysOn, shop(alloc)?, SpanLimits::default());
+    let scope = Arc::new(alloc, Scope::named(alloc, "checkout")?)?;
     let clock = SystemClock::new(rt);
-    let service = (
-        "service.name".to_string(alloc)?,
-        Value::text(alloc, "shop")?,
-    );
-    let resource = Arc::new(alloc, Resource::new(alloc, vec![in alloc; service]?))?;
-    let provider = Provider::new(AlwaysOn, resource, SpanLimits::default());
-    let tracer = provider.tracer(Arc::new(alloc, Scope::named(alloc, "checkout")?)?);
-    let (kind, at) = (Kind::Server, clock.now());
-    let mut request = tracer.start_copied(alloc, &mut rng, None, "GET /cart", kind, at)?;
-    let (kind, at) = (Kind::Client, clock.now());
-    let parent = Some(request.context());
-    let mut query = tracer.start_copied(alloc, &mut rng, parent, "SELECT", kind, at)?;
-    query.end(pass, clock.now());
-    request.end(pass, clock.now());
-    Ok(())
+    trace_cart(alloc, &clock, &mut rng, &provider.tracer(scope), pass)
 }
 
 /// Starts the thread of the worker, which posts batches to the collector until all is drained.

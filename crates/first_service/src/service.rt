@@ -2,8 +2,8 @@
 ghost use Rattle.std.specs.Prelude.{◌≡◌, None};
 
 use anyhow::{Context, Result};
-use rand::make_rng;
 use rand::rngs::StdRng;
+use rand::{Rng, make_rng};
 use std::alloc::Global;
 use std::random::RandomSource;
 use std::sync::{Arc, Wait};
@@ -14,7 +14,9 @@ use trace_kit::processor::{
     Accounts, BatchBlank, BatchConfig, BatchProcessor, Clock, Naming, Parts, Pass, SystemClock,
     WorkerPass,
 };
-use trace_kit::trace::{AlwaysOn, EndPass, Kind, Provider, Resource, Scope, SpanData, SpanLimits};
+use trace_kit::trace::{
+    AlwaysOn, EndPass, Kind, Provider, Resource, Scope, SpanData, SpanLimits, Tracer,
+};
 
 const THREADS: usize = 4;
 
@@ -24,6 +26,20 @@ const REQUESTS: u64 = 250;
 /// How many spans end in all.
 pub const SPANS: u64 = THREADS as u64 * REQUESTS;
 
+/// Serves a request: a span, which goes to the pass when it ends.
+fn serve_request<P: EndPass<SpanData>>(
+    alloc: Global,
+    clock: &impl Clock,
+    rng: &mut impl Rng,
+    tracer: &Tracer<'_, AlwaysOn>,
+    pass: &mut P,
+) -> Result<()> {
+    let (kind, at) = (Kind::Server, clock.now());
+    let mut request = tracer.start_copied(alloc, rng, None, "GET /cart", kind, at)?;
+    request.end(pass, clock.now());
+    Ok(())
+}
+
 /// Serves requests, each of them a span that goes to the pass when it ends. A thread has a provider
 /// and a generator of its own: those that share one wait for each other.
 fn serve<R, P>(rt: R, alloc: Global, pass: &mut P) -> Result<()>
@@ -32,14 +48,11 @@ where
     P: EndPass<SpanData>,
 {
     let mut rng: StdRng = make_rng(&rt)?;
-    let clock = SystemClock::new(rt);
     let resource = Arc::new(alloc, Resource::new(alloc, Vec::new(alloc)))?;
     let provider = Provider::new(AlwaysOn, resource, SpanLimits::default());
     let tracer = provider.tracer(Arc::new(alloc, Scope::named(alloc, "checkout")?)?);
     for _ in 0..REQUESTS {
-        let (kind, at) = (Kind::Server, clock.now());
-        let mut request = tracer.start_copied(alloc, &mut rng, None, "GET /cart", kind, at)?;
-        request.end(pass, clock.now());
+        serve_request(alloc, &SystemClock::new(rt), &mut rng, &tracer, pass)?;
     }
     Ok(())
 }
