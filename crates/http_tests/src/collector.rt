@@ -45,7 +45,11 @@ fn answered(
     };
     let served = answer(alloc, alloc, &mut reader, &mut writer, &limits, canned);
     let Answered { status, request } = served.expect(rt, "a whole reply");
-    (status, request.map(|request| request.resource_spans.len()), writer)
+    (
+        status,
+        request.map(|request| request.resource_spans.len()),
+        writer,
+    )
 }
 
 /// The status that a request is answered, and how many groups of spans were taken, if any were.

@@ -34,8 +34,8 @@ reply_to_unread BadUtf8 = plain_reply statuses.BadRequest
 reply_to_unread TooDeep = plain_reply statuses.BadRequest
 
 -- What came is answered so, if at all, and this request is taken, if any: where no request came, it
--- is answered for its fault; where it is refused, for that; where its body has a fault, or memory to
--- read it was refused, for that; and else the body means the request.
+-- is answered for its fault; where it is refused, for that; where its body has a fault, or memory
+-- to read it was refused, for that; and else the body means the request.
 pub data Judges (limits : HeadLimits) (canned : Option Canned) (old new : Option (List ℕ))
     (failed : Type 0) (reply : Option PostReply) (request : Option (Message Tables.request))
     : Type 0 where

@@ -49,7 +49,8 @@ Holds (Pairs v) back = Runs 6 (parts_view v.items) back
 Holds (Bytes b) back = Begins 7 (len b.now) back
 
 -- This is what counts of the fields of a pair, where a value may have so many levels.
-pub record HoldsPair {A : Type 0} (depth : ℕ) (parts : PairParts A) (fields : List Field) : Type 0 where
+pub record HoldsPair {A : Type 0} (depth : ℕ) (parts : PairParts A) (fields : List Field)
+    : Type 0 where
   pub key : parts.key.now ≡ last_bytes (payloads 1 text fields)
   pub whole : (joined_rows (payloads 2 any fields)).faults ≡ []
   pub value : Holds parts.value (members_from_last (joined_rows (payloads 2 any fields)).value)

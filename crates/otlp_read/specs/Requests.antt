@@ -18,7 +18,8 @@ scope_spans_view x =
     scope_view x.scope ▸ spans_view x.spans.items ▸ string_bytes x.schema_url ▸ tt
 
 -- each of them
-abbrev pub scope_groups_view : {A : Type 0} → List (ScopeSpans A) → List (Message Tables.scope_spans)
+abbrev pub scope_groups_view : {A : Type 0} → List (ScopeSpans A)
+    → List (Message Tables.scope_spans)
 scope_groups_view xs = map scope_spans_view xs
 
 -- what was gathered of its fields
@@ -29,14 +30,17 @@ scope_spans_gathered x =
 -- (trace.proto: ResourceSpans)
 abbrev pub resource_spans_view : {A : Type 0} → ResourceSpans A → Message Tables.resource_spans
 resource_spans_view x =
-    resource_view x.resource ▸ scope_groups_view x.scope_spans.items ▸ string_bytes x.schema_url ▸ tt
+    resource_view x.resource ▸ scope_groups_view x.scope_spans.items
+    ▸ string_bytes x.schema_url ▸ tt
 
 -- each of them
-abbrev pub resource_groups_view : {A : Type 0} → List (ResourceSpans A) → List (Message Tables.resource_spans)
+abbrev pub resource_groups_view : {A : Type 0} → List (ResourceSpans A)
+    → List (Message Tables.resource_spans)
 resource_groups_view xs = map resource_spans_view xs
 
 -- what was gathered of its fields
-abbrev pub resource_spans_gathered : {A : Type 0} → ResourceSpansParts A → Gathered Tables.resource_spans
+abbrev pub resource_spans_gathered : {A : Type 0} → ResourceSpansParts A
+    → Gathered Tables.resource_spans
 resource_spans_gathered x =
     resource_gathered x.resource ▸ scope_groups_view x.scope_spans.items ▸ x.schema_url.now ▸ tt
 

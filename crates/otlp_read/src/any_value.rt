@@ -134,7 +134,8 @@ struct PairParts<'a, A: Allocator> {
 impl<'a, A: Allocator + Copy> PairParts<'a, A> {
     /// With one field more, where a value may nest so many levels deep.
     fn with(self, alloc: A, depth: u32, field: Field<'a>) -> Result<PairParts<'a, A>, ReadFault>
-        ensures ok { IfOk result (λ parts. (fields : List Wire.Field) → HoldsPair depth self.entry fields →
+        ensures ok { IfOk result (λ parts. (fields : List Wire.Field) →
+            HoldsPair depth self.entry fields →
             HoldsPair depth parts (fields ++ field_of field.entry ∷ [])) }
         ensures err { IfErr result (λ fault. (before after : List Wire.Field) → NamesOne
             (read_table (value depth) Tables.key_value
@@ -159,7 +160,8 @@ impl<'a, A: Allocator + Copy> PairParts<'a, A> {
         ensures ok { IfOk result (λ parts. HoldsPair depth parts (row content.now).value) }
         ensures whole { IfOk result (λ _. (row content.now).faults ≡ []) }
         ensures err { IfErr result (λ fault. NamesOne
-            (read (value depth) (message Tables.key_value) (Wire.len content.now ∷ [])).faults fault) }
+            (read (value depth) (message Tables.key_value)
+            (Wire.len content.now ∷ [])).faults fault) }
     {
         let mut parts = PairParts {
             key: b"",
@@ -331,7 +333,8 @@ pub(crate) fn push_attribute<A: Allocator + Copy>(
     number: u32,
 ) -> Result<(), ReadFault>
     ensures ok { OnOk result (KeepsField (repeated (message Tables.key_value)) number
-        (pairs_view attributes.old.items) (pairs_view attributes.new.items) (field_of field.entry)) }
+        (pairs_view attributes.old.items) (pairs_view attributes.new.items)
+        (field_of field.entry)) }
     ensures err { IfErr result (λ fault. (before after : List Wire.Field) → NamesOne
         (field_faults (repeated (message Tables.key_value)) number before
         (field_of field.entry) after) fault) }

@@ -79,7 +79,8 @@ impl<'a, A: Allocator + Copy> ScopeSpansParts<'a, A> {
 
     /// The scope's spans.
     pub(crate) fn finish(self) -> Result<ScopeSpans<A>, ReadFault>
-        ensures ok { IfOk result (λ x. Reads (finished (value max_depth) (message Tables.scope_spans)
+        ensures ok { IfOk result (λ x. Reads (finished (value max_depth)
+            (message Tables.scope_spans)
             (scope_spans_gathered self.entry)) (scope_spans_view x)) }
         ensures err { IfErr result (λ fault. NamesOne (finished (value max_depth)
             (message Tables.scope_spans) (scope_spans_gathered self.entry)).faults fault) }
@@ -133,7 +134,8 @@ impl<'a, A: Allocator + Copy> ResourceSpansParts<'a, A> {
 
     /// The resource's spans.
     pub(crate) fn finish(self) -> Result<ResourceSpans<A>, ReadFault>
-        ensures ok { IfOk result (λ x. Reads (finished (value max_depth) (message Tables.resource_spans)
+        ensures ok { IfOk result (λ x. Reads (finished (value max_depth)
+            (message Tables.resource_spans)
             (resource_spans_gathered self.entry)) (resource_spans_view x)) }
         ensures err { IfErr result (λ fault. NamesOne (finished (value max_depth)
             (message Tables.resource_spans) (resource_spans_gathered self.entry)).faults fault) }
@@ -217,7 +219,8 @@ fn read_scope_spans<A: Allocator + Copy>(
         (read (value max_depth) (message Tables.scope_spans) (Wire.len content.now ∷ []))
         (scope_spans_view x)) }
     ensures err { IfErr result (λ fault. NamesOne
-        (read (value max_depth) (message Tables.scope_spans) (Wire.len content.now ∷ [])).faults fault) }
+        (read (value max_depth) (message Tables.scope_spans)
+        (Wire.len content.now ∷ [])).faults fault) }
 {
     let parts = gather_all(ScopeSpansParts::new(alloc), content)?;
     parts.finish()
@@ -231,7 +234,8 @@ fn push_scope_spans<A: Allocator + Copy>(
     number: u32,
 ) -> Result<(), ReadFault>
     ensures ok { OnOk result (KeepsField (repeated (message Tables.scope_spans)) number
-        (scope_groups_view scope_spans.old.items) (scope_groups_view scope_spans.new.items) (field_of field.entry)) }
+        (scope_groups_view scope_spans.old.items) (scope_groups_view scope_spans.new.items)
+        (field_of field.entry)) }
     ensures err { IfErr result (λ fault. (before after : List Wire.Field) → NamesOne
         (field_faults (repeated (message Tables.scope_spans)) number before
         (field_of field.entry) after) fault) }
@@ -252,7 +256,8 @@ fn read_resource_spans<A: Allocator + Copy>(
         (read (value max_depth) (message Tables.resource_spans) (Wire.len content.now ∷ []))
         (resource_spans_view x)) }
     ensures err { IfErr result (λ fault. NamesOne
-        (read (value max_depth) (message Tables.resource_spans) (Wire.len content.now ∷ [])).faults fault) }
+        (read (value max_depth) (message Tables.resource_spans)
+        (Wire.len content.now ∷ [])).faults fault) }
 {
     let parts = gather_all(ResourceSpansParts::new(alloc), content)?;
     parts.finish()
@@ -266,7 +271,8 @@ fn push_resource_spans<A: Allocator + Copy>(
     number: u32,
 ) -> Result<(), ReadFault>
     ensures ok { OnOk result (KeepsField (repeated (message Tables.resource_spans)) number
-        (resource_groups_view resource_spans.old.items) (resource_groups_view resource_spans.new.items) (field_of field.entry)) }
+        (resource_groups_view resource_spans.old.items)
+        (resource_groups_view resource_spans.new.items) (field_of field.entry)) }
     ensures err { IfErr result (λ fault. (before after : List Wire.Field) → NamesOne
         (field_faults (repeated (message Tables.resource_spans)) number before
         (field_of field.entry) after) fault) }

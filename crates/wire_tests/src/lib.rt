@@ -4,6 +4,8 @@
 #[cfg(test)]
 mod equal;
 #[cfg(test)]
+mod requests;
+#[cfg(test)]
 mod responses;
 #[cfg(test)]
 mod rows;
