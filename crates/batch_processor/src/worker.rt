@@ -302,11 +302,25 @@ impl<J: Naming, R: Wait + Drop, A: Allocator + Copy> WorkerPass<J, R, A> {
             }
             Stage::ToJudge { outcome, .. } => {
                 outcomes.push_reserved(outcome);
-                lock.settle(&rt, &mut account, batch, &outcomes, Fate::Abandoned, &mut spent);
+                lock.settle(
+                    &rt,
+                    &mut account,
+                    batch,
+                    &outcomes,
+                    Fate::Abandoned,
+                    &mut spent,
+                );
                 account
             }
             Stage::ToRetry { .. } => {
-                lock.settle(&rt, &mut account, batch, &outcomes, Fate::Abandoned, &mut spent);
+                lock.settle(
+                    &rt,
+                    &mut account,
+                    batch,
+                    &outcomes,
+                    Fate::Abandoned,
+                    &mut spent,
+                );
                 account
             }
         }

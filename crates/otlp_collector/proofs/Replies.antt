@@ -4,9 +4,9 @@ use Rattle.message_model.specs.Tables
 use Rattle.message_model.specs.Tables.{Message}
 use Rattle.http_wire.specs.declared.limits.HeadLimits.{HeadLimits}
 use Rattle.otlp_serve.specs.declared.reply.PostReply.{PostReply}
-use Rattle.otlp_collector.specs.declared.judge.Canned.{Canned}
+use Rattle.otlp_collector.specs.declared.canned.Canned.{Canned}
 use Rattle.otlp_collector.specs.Answering.{Judges}
 
-pub judges-as : {limits : HeadLimits} {canned : Option Canned} {old new : Option (List ℕ)} {failed : Type 0} {reply other : Option PostReply} {request : Option (Message Tables.request)}
-    → reply ≡ other → Judges limits canned old new failed reply request → Judges limits canned old new failed other request
-judges-as {limits} {canned} {old} {new} {failed} {reply} {other} {request} e j = subst (λ r. Judges limits canned old new failed r request) e j
+pub judges-as : {limits : HeadLimits} {canned : Option Canned} {old new : Option (List ℕ)} {before after : ℕ} {reply other : Option PostReply} {request : Option (Message Tables.request)}
+    → reply ≡ other → Judges limits canned old new before after reply request → Judges limits canned old new before after other request
+judges-as {limits} {canned} {old} {new} {before} {after} {reply} {other} {request} e j = subst (λ r. Judges limits canned old new before after r request) e j

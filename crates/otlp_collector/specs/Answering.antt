@@ -7,22 +7,35 @@ use Rattle.message_model.specs.Reading.{Reads}
 use Rattle.message_model.specs.Messages.{meaning}
 use Rattle.message_model.specs.Tables
 use Rattle.message_model.specs.Tables.{Message}
+use Rattle.http_wire.specs.Devices.{HasFailed}
 use Rattle.http_wire.specs.declared.limits.HeadLimits.{HeadLimits}
 use Rattle.otlp_read.specs.Faults.{NamesOne}
 use Rattle.otlp_read.specs.declared.fault.ReadFault.{ReadFault}
 use Rattle.otlp_read.specs.declared.fault.ReadFault.TheVariants.{Wire, BadUtf8, TooDeep, OutOfMemory}
 use Rattle.otlp_serve.specs.Answers.{plain_reply, refusal_of, reply_to_fault}
-use Rattle.otlp_serve.specs.Posts.{HttpPost, IsPost, HasNoPost}
+use Rattle.otlp_serve.specs.Posts.{HttpPost, IsPost, HasNoPost, CountsAtPost}
 use Rattle.otlp_serve.specs.Replies.{code_of, reply_text}
 use Rattle.otlp_serve.specs.declared.fault.PostFault.{PostFault}
 use Rattle.otlp_serve.specs.declared.reply.PostReply.{PostReply}
+use Rattle.otlp_serve.specs.declared.status.ReplyStatus.{ReplyStatus}
 use Rattle.otlp_serve.specs.declared.status.ReplyStatus.TheVariants as statuses
-use Rattle.otlp_collector.specs.declared.judge.Canned.{Canned}
+use Rattle.otlp_collector.specs.declared.canned.Canned.{Canned}
+use Rattle.otlp_collector.specs.declared.canned.CannedStatus.{CannedStatus}
+use Rattle.otlp_collector.specs.declared.canned.CannedStatus.TheVariants as canned_statuses
+
+-- the status of a reply that is canned (profile)
+abbrev pub canned_status : CannedStatus → ReplyStatus
+canned_status canned_statuses.Ok = statuses.Ok
+canned_status canned_statuses.TooManyRequests = statuses.TooManyRequests
+canned_status canned_statuses.BadGateway = statuses.BadGateway
+canned_status canned_statuses.ServiceUnavailable = statuses.ServiceUnavailable
+canned_status canned_statuses.GatewayTimeout = statuses.GatewayTimeout
 
 -- a request that is taken is answered 200, or what is canned (profile)
 abbrev pub canned_reply : Option Canned → PostReply
 canned_reply None = plain_reply statuses.Ok
-canned_reply (Some canned) = record { status = canned.status; retry_after = canned.retry_after }
+canned_reply (Some canned) =
+    record { status = canned_status canned.status; retry_after = canned.retry_after }
 
 -- a request whose body isn't read is bad, or may be tried again in a second where memory was
 -- refused
@@ -35,40 +48,43 @@ reply_to_unread TooDeep = plain_reply statuses.BadRequest
 
 -- What came is answered so, if at all, and this request is taken, if any: where no request came, it
 -- is answered for its fault; where it is refused, for that; where its body has a fault, or memory
--- to read it was refused, for that; and else the body means the request.
+-- to read it was refused, for that; and else the body means the request. The reader, which had so
+-- many bytes and failures before and after, was asked for no more than the request.
 pub data Judges (limits : HeadLimits) (canned : Option Canned) (old new : Option (List ℕ))
-    (failed : Type 0) (reply : Option PostReply) (request : Option (Message Tables.request))
+    (before after : ℕ) (reply : Option PostReply) (request : Option (Message Tables.request))
     : Type 0 where
-  no_post : (fault : PostFault) → HasNoPost limits old new failed fault
-      → reply ≡ reply_to_fault fault → request ≡ None
-      → Judges limits canned old new failed reply request
-  refused : (post : HttpPost) → IsPost limits old new failed post
-      → (refusal : PostReply) → refusal_of post ≡ Some refusal
+  no_post : (fault : PostFault) → HasNoPost limits old new (HasFailed before after) fault
+      → CountsAtPost fault before after → reply ≡ reply_to_fault fault → request ≡ None
+      → Judges limits canned old new before after reply request
+  refused : (post : HttpPost) → IsPost limits old new (HasFailed before after) post
+      → after ≡ before → (refusal : PostReply) → refusal_of post ≡ Some refusal
       → reply ≡ Some refusal → request ≡ None
-      → Judges limits canned old new failed reply request
-  unread : (post : HttpPost) → IsPost limits old new failed post → refusal_of post ≡ None
+      → Judges limits canned old new before after reply request
+  unread : (post : HttpPost) → IsPost limits old new (HasFailed before after) post
+      → after ≡ before → refusal_of post ≡ None
       → (fault : ReadFault) → NamesOne (meaning Tables.request post.body).faults fault
       → reply ≡ Some (reply_to_unread fault) → request ≡ None
-      → Judges limits canned old new failed reply request
-  taken : (post : HttpPost) → IsPost limits old new failed post → refusal_of post ≡ None
+      → Judges limits canned old new before after reply request
+  taken : (post : HttpPost) → IsPost limits old new (HasFailed before after) post
+      → after ≡ before → refusal_of post ≡ None
       → (message : Message Tables.request) → Reads (meaning Tables.request post.body) message
       → reply ≡ Some (canned_reply canned) → request ≡ Some message
-      → Judges limits canned old new failed reply request
+      → Judges limits canned old new before after reply request
 
 -- the connection is answered so, by a whole reply, or by nothing
 pub record Serves (limits : HeadLimits) (canned : Option Canned) (old new : Option (List ℕ))
-    (failed : Type 0) (written writes : Option (List ℕ)) (status : Option ℕ)
+    (before after : ℕ) (written writes : Option (List ℕ)) (status : Option ℕ)
     (request : Option (Message Tables.request)) : Type 0 where
   pub reply : Option PostReply
-  pub judges : Judges limits canned old new failed reply request
+  pub judges : Judges limits canned old new before after reply request
   pub status_is : status ≡ option_map (λ r. code_of r.status) reply
   pub writes_it : Appends written writes (option_map_or reply_text reply [])
 
 -- the reply broke off behind so many bytes
 pub record Breaks (limits : HeadLimits) (canned : Option Canned) (old new : Option (List ℕ))
-    (failed : Type 0) (written writes : Option (List ℕ)) (sent : ℕ) : Type 0 where
+    (before after : ℕ) (written writes : Option (List ℕ)) (sent : ℕ) : Type 0 where
   pub reply : PostReply
   pub request : Option (Message Tables.request)
-  pub judges : Judges limits canned old new failed (Some reply) request
+  pub judges : Judges limits canned old new before after (Some reply) request
   pub within : sent < length (reply_text reply)
   pub writes_it : Appends written writes (take sent (reply_text reply))

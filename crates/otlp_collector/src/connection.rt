@@ -1,14 +1,14 @@
 //! Connections, of one request each.
 
 ghost use Rattle.std.specs.Prelude.{◌≡◌, ◌≤◌, IfErr, IfOk, option_map};
-ghost use Rattle.http_wire.specs.Devices.{CountsFailure, HasFailed};
+ghost use Rattle.http_wire.specs.Devices.{CountsFailure};
 ghost use Rattle.otlp_read.specs.Requests.{request_view};
 ghost use Rattle.otlp_collector.specs.Answering.{Breaks, Serves};
 
-use crate::judge::{Canned, Judged, judge};
-use http_wire::{FaultRead, FaultWrite, HeadLimits, Stopped};
+use crate::canned::Canned;
+use crate::judge::{Judged, judge};
 use otlp_read::Request;
-use otlp_serve::write_reply;
+use otlp_serve::{FaultRead, FaultWrite, HeadLimits, Stopped, write_reply};
 use std::alloc::{Allocator, Global};
 
 /// What became of a connection.
@@ -29,13 +29,15 @@ pub struct Answered<A: Allocator = Global> {
 /// or failed before the request was there; 503, and to try again in a second, where memory was
 /// refused; 400 where what came is no request; 431 where its head is above the limits, 413 where
 /// its body is, before a byte of it is read; 404 where its target up to a `?` isn't `/v1/traces`;
-/// 405 where its method isn't POST; 415 where its first Content-Type isn't
+/// 405 where its method isn't POST; 415 where it has no Content-Type, the first one isn't
 /// `application/x-protobuf`, or a Content-Encoding isn't `identity`; 400 where its body can't be
 /// read as a request of traces, or 503 as before where memory was refused; what is canned; 200. The
 /// order of want of memory is that in which it was wanted.
 ///
-/// The limits allow 64 fields at most. The text of the head, the body and the request are kept by
-/// `alloc`, and the fields of the head by `global`, while the call lasts.
+/// The limits allow 64 fields at most. Those of `HeadLimits::default()` are meant for replies: a
+/// collector allows bodies of 16,777,216 bytes. The request is kept by `alloc`, and so are, while
+/// the call lasts, the text of the head, the method, the target and the body; the fields of the
+/// head are kept by `global` so long.
 ///
 /// # Errors
 ///
@@ -52,12 +54,12 @@ pub fn answer<R: FaultRead, W: FaultWrite, A: Allocator + Copy>(
     requires { limits.now.fields ≤ 64 }
     ensures served { IfOk result (λ a. Serves limits.now canned
         (R.remaining reader.old) (R.remaining reader.new)
-        (HasFailed (R.failures reader.old) (R.failures reader.new))
+        (R.failures reader.old) (R.failures reader.new)
         (W.contents writer.old) (W.contents writer.new)
         a.status (option_map request_view a.request)) }
     ensures stopped { IfErr result (λ stopped. Breaks limits.now canned
         (R.remaining reader.old) (R.remaining reader.new)
-        (HasFailed (R.failures reader.old) (R.failures reader.new))
+        (R.failures reader.old) (R.failures reader.new)
         (W.contents writer.old) (W.contents writer.new) stopped.sent) }
     ensures counted { CountsFailure result (W.failures writer.old) (W.failures writer.new) }
 {

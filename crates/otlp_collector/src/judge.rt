@@ -1,50 +1,19 @@
 //! What a request is answered.
 
 ghost use Rattle.std.specs.Prelude.{◌≡◌, ◌≤◌, option_map};
-ghost use Rattle.message_model.specs.Messages.{meaning};
-ghost use Rattle.http_wire.specs.Devices.{HasFailed};
 ghost use Rattle.otlp_read.specs.Requests.{request_view};
-ghost use Rattle.otlp_collector.specs.Answering.{canned_reply, reply_to_unread, Judges};
+ghost use Rattle.otlp_collector.specs.Answering.{reply_to_unread, Judges};
 
-use http_wire::{FaultRead, HeadLimits};
+use crate::canned::{Canned, canned_reply};
 use otlp_read::{ReadFault, Request, read_request};
-use otlp_serve::{PostReply, ReplyStatus, read_post};
+use otlp_serve::{FaultRead, HeadLimits, PostReply, ReplyStatus, read_post};
 use std::alloc::{Allocator, Global};
-
-/// What stands in place of a 200, so that clients can be tried: a status, and after how many
-/// seconds they may try again, if that is told. The request is taken all the same. (profile)
-#[derive(Clone, Copy, Debug, PartialEq, Eq)]
-pub struct Canned {
-    /// The status: a collector that takes a request and then fails has 429, 502, 503 or 504.
-    pub status: ReplyStatus,
-    /// The seconds of Retry-After (RFC 9110, section 10.2.3).
-    pub retry_after: Option<u64>,
-}
 
 /// What a connection is answered, if anything, and the request that was taken, if any.
 #[derive(Drop)]
 pub(crate) struct Judged<A: Allocator> {
     pub(crate) reply: Option<PostReply>,
     pub(crate) request: Option<Request<A>>,
-}
-
-/// The reply to a request that is taken.
-fn canned_reply(canned: Option<Canned>) -> PostReply
-    ensures { result ≡ canned_reply canned }
-{
-    match canned {
-        Some(Canned {
-            status,
-            retry_after,
-        }) => PostReply {
-            status,
-            retry_after,
-        },
-        None => PostReply {
-            status: ReplyStatus::Ok,
-            retry_after: None,
-        },
-    }
 }
 
 /// The reply to a request whose body isn't read.
@@ -73,7 +42,7 @@ pub(crate) fn judge<R: FaultRead, A: Allocator + Copy>(
 ) -> Judged<A>
     requires { limits.now.fields ≤ 64 }
     ensures { Judges limits.now canned (R.remaining reader.old) (R.remaining reader.new)
-        (HasFailed (R.failures reader.old) (R.failures reader.new))
+        (R.failures reader.old) (R.failures reader.new)
         result.reply (option_map request_view result.request) }
 {
     let post = match read_post(alloc, global, reader, limits) {

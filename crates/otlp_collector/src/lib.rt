@@ -2,8 +2,9 @@
 //! answered.
 #![tactic(auto)]
 
+mod canned;
 mod connection;
 mod judge;
 
+pub use canned::{Canned, CannedStatus};
 pub use connection::{Answered, answer};
-pub use judge::Canned;

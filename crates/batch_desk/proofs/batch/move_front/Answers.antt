@@ -10,8 +10,8 @@ loop-preserved g c =
     let fewer : length c.loop.run.items ≡ length c.pop_front.new.self.items + 1 = length-first c.loop.run.items c.pop_front.new.self.items c.unwrap.result first rest in
     record {
       moved = c.push_reserved.ensures.items
-        ∙ ap (λ zs. zs ++ c.unwrap.result ∷ []) c.loop.invariant.moved
-        ∙ one-moved c.args.into.now.items c.args.run.now.items c.loop.counter c.unwrap.result there;
+          ∙ ap (λ zs. zs ++ c.unwrap.result ∷ []) c.loop.invariant.moved
+          ∙ one-moved c.args.into.now.items c.args.run.now.items c.loop.counter c.unwrap.result there;
       rest = rest ∙ ap (drop 1) c.loop.invariant.rest ∙ drop-drop 1 c.loop.counter c.args.run.now.items;
       room = ap (λ r. r.room) c.pop_front.ensures.rest ∙ c.loop.invariant.room;
       len = omega (arith, c.push_reserved.ensures.len, c.loop.invariant.len);
