@@ -54,6 +54,10 @@ fn keep_field(
 }
 
 /// Keeps the fields that the spans cover.
+///
+/// # Errors
+///
+/// `BadHead` where `http_header` refuses a field, and `OutOfMemory` where memory was refused.
 pub fn keep_fields(
     global: Global,
     text: &[u8],
@@ -112,6 +116,10 @@ fn are_all(text: &[u8], mut values: ValueIter<'_, HeaderValue>) -> bool
 }
 
 /// The length that the fields give, if they give one.
+///
+/// # Errors
+///
+/// `BadLength` where the values differ, or aren't digits that fit 64 bits.
 pub fn content_length(kept: &HeaderMap) -> Result<Option<u64>, HttpFault>
     ensures { result
         ≡ content_length (map (λ v. v.bytes) (get_all kept.now (codes "content-length"))) }

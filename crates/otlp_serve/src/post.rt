@@ -138,7 +138,8 @@ fn read_post_head<R: FaultRead, A: Allocator + Copy>(
 ///
 /// `Head` where there is no whole head that can be used: `Ended` where the bytes ended before;
 /// `Device` where a read failed; `BadHead` where what came can't begin a head, also where it then
-/// ended, or where a field is one that `http_header` refuses; `TooLarge` where it has more bytes or
+/// ended (but a target that isn't UTF-8 is told only behind its end), or where a field is one that
+/// `http_header` refuses; `TooLarge` where it has more bytes or
 /// fields than the limits allow; `OutOfMemory` where memory for it was refused. The reader is left
 /// where it was read up to, at most at the end of the head.
 ///

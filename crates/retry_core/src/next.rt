@@ -85,8 +85,9 @@ fn last_next(outcome: &Outcome) -> Next
 /// to `max_ms`; the word, modulo half of that and one more, takes off so many milliseconds, which
 /// are half of the wait at most. What a reply asks for stands in place of it, up to 300 seconds: so
 /// many seconds, or until a date, so at once where that has passed. No wait is shorter than
-/// `least_ms`. The moment is 2^64 - 1 where it would be later. The last attempt is followed by `GiveUp(Attempts)`. At every attempt `Delivered`
-/// gives `Done`, `Partial` itself, and `Refused` and `Bad` give up. (profile)
+/// `least_ms`. The moment is 2^64 - 1 where it would be later. The last attempt is followed by
+/// `GiveUp(Attempts)`. At every attempt `Delivered` gives `Done`, `Partial` itself, and `Refused`
+/// and `Bad` give up. (profile)
 ///
 /// The attempt is one of 1 to `config.attempts()`.
 pub fn decide(config: &RetryConfig, attempt: u32, outcome: &Outcome, now: u64, word: u64) -> Next
