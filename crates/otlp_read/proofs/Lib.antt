@@ -12,3 +12,4 @@ pub mod ValueSteps
 pub mod ValueViews
 pub mod PairValues
 pub mod Finished
+pub mod TripleSteps

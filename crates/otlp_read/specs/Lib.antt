@@ -6,3 +6,4 @@ pub mod Gathering
 pub mod Resources
 pub mod Spans
 pub mod Requests
+pub mod Triples

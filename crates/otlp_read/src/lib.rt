@@ -12,6 +12,7 @@ mod request;
 mod resource;
 mod response;
 mod span;
+mod triple;
 
 pub use any_value::AnyValue;
 pub use fault::ReadFault;
@@ -19,3 +20,4 @@ pub use request::{Request, ResourceSpans, ScopeSpans, read_request};
 pub use resource::{InstrumentationScope, Resource};
 pub use response::{PartialSuccess, Response, read_rejected_spans, read_response};
 pub use span::{Event, Link, Span, Status};
+pub use triple::Triple;

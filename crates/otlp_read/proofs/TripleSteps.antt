@@ -1,0 +1,24 @@
+-- Lists through one index more.
+use Rattle.std.proofs.Common.{◌≡◌, ℕ, ◌<◌, ◌+◌, List, [], ◌∷◌, ◌++◌, map, flat_map, take, get_or, length, sym, ap, ◌∙◌, append_assoc}
+use Rattle.std.proofs.lemmas.List.{map-append, take_more, append-nil}
+use Rattle.std.proofs.lemmas.List.Concat.{flat_map-append}
+
+through-index : {X : Type 0} (xs : List X) (i : ℕ) (x : X) → i < length xs → x ≡ get_or xs i x → take (i + 1) xs ≡ take i xs ++ x ∷ []
+through-index xs i x l e = take_more xs i x l ∙ ap (λ y. take i xs ++ y ∷ []) (sym e)
+
+-- where those through an index are behind some, so are those with one more
+pub map-more : {X Y Z : Type 0} (f : Y → Z) (g : X → Y) (xs : List X) (i : ℕ) (x : X) → i < length xs → x ≡ get_or xs i x → (old mid new : List Z) →
+    mid ≡ old ++ map f (map g (take i xs)) → new ≡ mid ++ f (g x) ∷ [] → new ≡ old ++ map f (map g (take (i + 1) xs))
+map-more f g xs i x l e old mid new p q =
+    q ∙ ap (λ zs. zs ++ f (g x) ∷ []) p ∙ append_assoc old (map f (map g (take i xs))) (f (g x) ∷ [])
+    ∙ ap (λ zs. old ++ zs) (sym (ap (λ ys. map f (map g ys)) (through-index xs i x l e) ∙ ap (map f) (map-append g (take i xs) (x ∷ [])) ∙ map-append f (map g (take i xs)) (g x ∷ [])))
+
+pub flat_map-more : {X Y Z : Type 0} (f : Y → List Z) (g : X → Y) (xs : List X) (i : ℕ) (x : X) → i < length xs → x ≡ get_or xs i x → (old mid new : List Z) →
+    mid ≡ old ++ flat_map f (map g (take i xs)) → new ≡ mid ++ f (g x) → new ≡ old ++ flat_map f (map g (take (i + 1) xs))
+flat_map-more f g xs i x l e old mid new p q =
+    q ∙ ap (λ zs. zs ++ f (g x)) p ∙ append_assoc old (flat_map f (map g (take i xs))) (f (g x))
+    ∙ ap (λ zs. old ++ zs) (sym (ap (λ ys. flat_map f (map g ys)) (through-index xs i x l e) ∙ ap (flat_map f) (map-append g (take i xs) (x ∷ [])) ∙ flat_map-append f (map g (take i xs)) (g x ∷ []) ∙ ap (λ ys. flat_map f (map g (take i xs)) ++ ys) (append-nil (f (g x)))))
+
+-- of one more at the end, seen by a view
+pub map-pushed : {X Y : Type 0} (f : X → Y) (xs new : List X) (x : X) → new ≡ xs ++ x ∷ [] → map f new ≡ map f xs ++ f x ∷ []
+map-pushed f xs new x e = ap (map f) e ∙ map-append f xs (x ∷ [])
