@@ -1,11 +1,11 @@
 -- What was gathered of all fields of a message is the message.
-use Rattle.std.proofs.Common.{◌≡◌, refl, sym, ap, ap₂, subst, ◌∙◌, ℕ, zero, suc, List, [], ◌∷◌, ◌++◌, ◌==◌, ◌%◌, ◌^◌, not, append-nil, Result, Ok, Err, OnOk}
+use Rattle.std.proofs.Common.{◌≡◌, refl, sym, ap, ap₂, subst, ◌∙◌, ℕ, zero, suc, List, [], ◌∷◌, ◌++◌, ◌==◌, ◌%◌, ◌^◌, not, Result, Ok, Err, OnOk}
 use Rattle.std.specs.Int.{w32, w64, cast_signed}
 use Rattle.std.specs.List.{Contains}
 use Rattle.message_model.specs.AnyValue.{AnyValue}
-use Rattle.message_model.specs.Reading.{Reading, Reads, Fault, done, ◌>>=◌}
+use Rattle.message_model.specs.Reading.{Reading, Reads, done, ◌>>=◌}
 use Rattle.message_model.specs.Wire.{Field, Payload, len, row}
-use Rattle.message_model.specs.Tables.{Shape, text, bytes, bool, uint32, int64, enum, fixed64, any, message, repeated, Table, end, ◌⦂◌◂◌, ◌▸◌, ValueOf, Message}
+use Rattle.message_model.specs.Tables.{Shape, text, bytes, bool, uint32, int64, enum, fixed64, any, message, repeated, Table, end, ◌⦂◌◂◌, ◌▸◌}
 use Rattle.message_model.specs.Messages.{PayloadReading, payloads, joined_rows, read, read_table, utf8, value, max_depth, meaning}
 use Rattle.otlp_read.specs.declared.fault.ReadFault.{ReadFault}
 use Rattle.otlp_read.specs.Faults.{NamesOne}

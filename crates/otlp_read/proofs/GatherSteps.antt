@@ -3,15 +3,14 @@ use Rattle.std.proofs.Common.{◌≡◌, refl, sym, ap, subst, ◌∙◌, ℕ, L
 use Rattle.std.specs.List.{Contains}
 use Rattle.std.proofs.lemmas.List.Elements.{Contains-append_cases}
 use Rattle.message_model.specs.AnyValue.{AnyValue}
-use Rattle.message_model.specs.Reading.{Reading, Fault, Reads, done, each}
+use Rattle.message_model.specs.Reading.{Reading, Fault, Reads, each}
 use Rattle.message_model.specs.Wire.{Field, Payload, put, len, row}
-use Rattle.message_model.specs.Tables.{Shape, message, repeated, Table, Message, ValueOf}
+use Rattle.message_model.specs.Tables.{Shape, message, repeated, Table, ValueOf}
 use Rattle.message_model.specs.Messages.{PayloadReading, payloads, joined_rows, read, read_table}
 use Rattle.otlp_read.specs.declared.fault.ReadFault.{ReadFault}
 use Rattle.otlp_read.specs.Faults.{NamesOne}
 use Rattle.otlp_read.specs.Gathering.{IsKept, part_faults}
-use Rattle.otlp_read.proofs.JoinedRows.{joined-none, joined-faults, joined-value, one-faults, one-value}
-use Rattle.otlp_read.proofs.OnePayload.{payloads-append}
+use Rattle.otlp_read.proofs.JoinedRows.{joined-value, one-value}
 use Rattle.otlp_read.proofs.PairSteps.{same-payloads, one-payload, payloads-between}
 use Rattle.otlp_read.proofs.FieldsRead.{FieldsRead, read-fault, read-split}
 use Rattle.otlp_read.proofs.Named.{Within, names-within, within-left, within-right, within-joined, message-row, message-fields}

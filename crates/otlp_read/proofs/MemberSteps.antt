@@ -1,5 +1,5 @@
 -- What counts of the members of a value, after one more field.
-use Rattle.std.proofs.Common.{◌≡◌, refl, sym, ap, ap₂, subst, ◌∙◌, ℕ, List, [], ◌∷◌, ◌++◌, Bool, true, false, cond, is_some, map, filter, reverse, take_while, ◌==◌, Option, Some, None, append-nil, append_assoc}
+use Rattle.std.proofs.Common.{◌≡◌, refl, sym, ap, ap₂, subst, ◌∙◌, ℕ, List, [], ◌∷◌, ◌++◌, true, false, cond, is_some, map, filter, reverse, take_while, ◌==◌, append_assoc}
 use Rattle.std.specs.Borrow.{Bor}
 use Rattle.std.proofs.lemmas.List.Sums.{take_while-cons}
 use Rattle.std.proofs.lemmas.Bool.{ne_eqb}
@@ -11,7 +11,7 @@ use Rattle.message_model.specs.Messages.{member_of, last_run, wire_type}
 use Rattle.otlp_wire.specs.Fields.{payload_of, field_of}
 use Rattle.otlp_wire.specs.declared.reader.Field.{Field as Found}
 use Rattle.otlp_wire.specs.declared.reader.Payload.{Payload as Held}
-use Rattle.otlp_wire.specs.declared.reader.Payload.TheVariants.{Varint, I64, Len, I32}
+use Rattle.otlp_wire.specs.declared.reader.Payload.TheVariants.{Len}
 use Rattle.otlp_read.specs.declared.any_value.Member.{Member}
 use Rattle.otlp_read.specs.Members.{members_from_last, parts_view, Begins, Runs, Holds}
 

@@ -1,18 +1,18 @@
 -- What a value and a pair mean, by what counts of their fields.
-use Rattle.std.proofs.Common.{◌≡◌, refl, sym, ap, ap₂, subst, ◌∙◌, ℕ, zero, suc, List, [], ◌∷◌, ◌++◌, append-nil, Result, Ok, Err, IfOk, IfErr, filter, reverse, is_some}
+use Rattle.std.proofs.Common.{◌≡◌, refl, sym, ap, ap₂, subst, ◌∙◌, ℕ, suc, List, [], ◌∷◌, ◌++◌, append-nil, Result, Ok, Err, IfOk, IfErr, filter, reverse, is_some}
 use Rattle.std.specs.List.{Contains}
 use Rattle.message_model.specs.AnyValue.{AnyValue}
-use Rattle.message_model.specs.Reading.{Reading, Reads, Fault, done}
+use Rattle.message_model.specs.Reading.{Reading, Reads, done}
 use Rattle.message_model.specs.Wire.{Field, Payload, len, row}
 use Rattle.message_model.specs.Tables
 use Rattle.message_model.specs.Tables.{text, any, message, end, ◌⦂◌◂◌, ◌▸◌}
-use Rattle.message_model.specs.Messages.{PayloadReading, payloads, joined_rows, read, read_table, value, value_of, utf8, last_bytes, member_of}
+use Rattle.message_model.specs.Messages.{payloads, joined_rows, read, read_table, value, value_of, utf8, last_bytes, member_of}
 use Rattle.otlp_read.specs.declared.any_value.PairParts.{PairParts}
 use Rattle.otlp_read.specs.declared.fault.ReadFault.{ReadFault}
 use Rattle.otlp_read.specs.Faults.{NamesOne}
 use Rattle.otlp_read.specs.Members.{members_from_last, HoldsPair}
 use Rattle.otlp_read.proofs.JoinedRows.{one-faults, one-value}
-use Rattle.otlp_read.proofs.Named.{Within, names-within, within-left, within-right, within-first, within-others, message-fields, value-row}
+use Rattle.otlp_read.proofs.Named.{Within, names-within, within-first, within-others, message-fields, value-row}
 
 pub is-done : {r : Reading AnyValue} {v w : AnyValue} → r ≡ done v → w ≡ v → Reads r w
 is-done e s = (ap (λ q. q.faults) e, ap (λ q. q.value) e ∙ sym s)

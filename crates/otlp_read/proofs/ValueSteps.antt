@@ -1,16 +1,14 @@
 -- What a value means, by the member that counts; and arrays and lists of pairs, part by part.
-use Rattle.std.proofs.Common.{◌≡◌, refl, sym, ap, ap₂, subst, ◌∙◌, ℕ, zero, suc, ◌<◌, ◌+◌, ◌==◌, List, [], ◌∷◌, ◌++◌, map, take, drop, get_or, Bool, true, false, not, Some, None, Option, unwrap_or, append-nil, append_assoc, arith, length, rules, drop-cons}
+use Rattle.std.proofs.Common.{◌≡◌, refl, sym, ap, subst, ◌∙◌, ℕ, suc, ◌<◌, ◌+◌, ◌==◌, List, [], ◌∷◌, ◌++◌, take, drop, get_or, true, not, Some, None, unwrap_or, append-nil, length, drop-cons}
 use Rattle.std.specs.Borrow.{Bor}
 use Rattle.std.specs.Int.{cast_signed, w64}
-use Rattle.std.specs.List.{Contains, last_or}
-use Rattle.std.specs.String.{string_bytes}
+use Rattle.std.specs.List.{last_or}
 use Rattle.std.proofs.lemmas.List.{map-append, take_more, take-append-drop}
 use Rattle.message_model.specs.AnyValue.{AnyValue, as_values, as_pairs}
-use Rattle.message_model.specs.Reading.{Reading, Reads, Fault, ◌>>=◌, done}
+use Rattle.message_model.specs.Reading.{Reading, Reads, ◌>>=◌, done}
 use Rattle.message_model.specs.Wire.{Field, Payload, varint, i64, len, row}
-use Rattle.message_model.specs.Tables
-use Rattle.message_model.specs.Tables.{Shape, text, bytes, any, message, repeated, Table, end, ◌⦂◌◂◌, ◌▸◌, ValueOf, array_value, key_value_list}
-use Rattle.message_model.specs.Messages.{PayloadReading, payloads, joined_rows, read, read_table, value, value_of, last_run, last_bytes, last_number, number_in, bytes_in, utf8}
+use Rattle.message_model.specs.Tables.{Shape, any, message, repeated, Table, end, ◌⦂◌◂◌, ◌▸◌, ValueOf, array_value, key_value_list}
+use Rattle.message_model.specs.Messages.{PayloadReading, payloads, joined_rows, read, read_table, value_of, last_run, last_bytes, last_number, number_in, bytes_in, utf8}
 use Rattle.otlp_read.specs.declared.fault.ReadFault.{ReadFault}
 use Rattle.otlp_read.specs.Faults.{NamesOne}
 use Rattle.otlp_read.specs.Gathering.{Gathered, IsKept, IsGathered, GathersRow, part_faults}
@@ -18,7 +16,7 @@ use Rattle.otlp_read.specs.Members.{Begins, Runs, parts_view}
 use Rattle.otlp_read.proofs.LastPayloads.{last_or-push}
 use Rattle.otlp_read.proofs.JoinedRows.{joined-faults, joined-value, one-faults, one-value}
 use Rattle.otlp_read.proofs.MemberSteps.{longer-run}
-use Rattle.otlp_read.proofs.Named.{Within, names-within, within-first}
+use Rattle.otlp_read.proofs.Named.{names-within, within-first}
 use Rattle.otlp_read.proofs.GatherSteps.{repeated-skips, repeated-more, repeated-fails, part-names}
 
 -- ---- the member that counts

@@ -1,5 +1,5 @@
 -- What each kind of value as received is in the model.
-use Rattle.std.proofs.Common.{◌≡◌, refl, sym, ap, ◌∙◌, ℕ, ℤ, List, [], ◌∷◌, map, Bool, Vec, String, rules}
+use Rattle.std.proofs.Common.{◌≡◌, refl, ap, ◌∙◌, ℕ, ℤ, List, [], ◌∷◌, map, Bool, Vec, String, rules}
 use Rattle.std.specs.String.{string_bytes}
 use Rattle.message_model.specs.AnyValue as protocol
 use Rattle.message_model.specs.AnyValue.{as_values, as_pairs}

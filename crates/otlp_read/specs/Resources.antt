@@ -1,6 +1,6 @@
 -- Resources and scopes as received in the model, and what was gathered of their fields.
 -- (opentelemetry-proto)
-use Rattle.std.specs.Prelude.{List, map, string_bytes}
+use Rattle.std.specs.Prelude.{string_bytes}
 use Rattle.message_model.specs.Tables
 use Rattle.message_model.specs.Tables.{Message, ◌▸◌}
 use Rattle.otlp_read.specs.declared.resource.Resource.{Resource}

@@ -13,12 +13,12 @@ use Rattle.otlp_read.specs.Gathering.{IsGathered, IsKept, part_faults}
 use Rattle.otlp_read.specs.Members.{parts_view, members_from_last, Holds, Runs}
 use Rattle.otlp_read.specs.Values.{any_value_view, values_view, pair_view, pairs_view}
 use Rattle.otlp_read.specs.declared.fault.ReadFault.TheVariants.{Wire}
-use Rattle.otlp_read.proofs.FieldsRead.{read-none, read-more}
-use Rattle.otlp_read.proofs.GatherSteps.{Behind, behind-none, behind-more, row-fails, field-fails, part-names}
-use Rattle.otlp_read.proofs.ValueViews.{view-Empty, view-Text, view-Bool, view-Int, view-Double, view-Array, view-Pairs, view-Bytes}
+use Rattle.otlp_read.proofs.FieldsRead.{read-more}
+use Rattle.otlp_read.proofs.GatherSteps.{Behind, behind-more, row-fails, field-fails}
+use Rattle.otlp_read.proofs.ValueViews.{view-Empty, view-Text, view-Bool, view-Int, view-Double, view-Pairs, view-Bytes}
 use Rattle.otlp_read.proofs.PairValues.{is-done, is-reading, row-of-value, one-value-read, on-err, on-ok, key-fails, value-fails, pair-read, pair-value, pair-no-value}
 use Rattle.otlp_read.proofs.Named.{is-too-deep}
-use Rattle.otlp_read.proofs.ValueSteps.{member-text, member-bool, member-int, member-double, member-bytes, member-array, member-pairs, any-reads, list-skips, list-more, list-fails, list-none, list-read, kept-part, parts-through, part-fails, reads-on, names-on}
+use Rattle.otlp_read.proofs.ValueSteps.{member-text, member-bool, member-int, member-double, member-bytes, member-pairs, any-reads, list-skips, list-more, list-fails, list-none, list-read, kept-part, parts-through, part-fails, reads-on, names-on}
 use Rattle.otlp_read.proofs.any_value.+value.Goals as goal
 
 pub push_values-returns-in_err-field-clause-err : goal.push_values-returns-in_err-field-clause-err

@@ -1,5 +1,4 @@
-use Rattle.std.proofs.Common.{refl, ap, subst, sym, ◌++◌}
-use Rattle.otlp_wire.specs.declared.reader.Payload.TheVariants.{Len}
+use Rattle.std.proofs.Common.{refl, subst, sym, ◌++◌}
 use Rattle.otlp_read.specs.Members.{Holds}
 use Rattle.otlp_read.proofs.OnePayload.{is-varint, is-bytes, is-fixed64}
 use Rattle.otlp_read.proofs.MemberSteps.{begins-with, runs-with, other-member, no-number}

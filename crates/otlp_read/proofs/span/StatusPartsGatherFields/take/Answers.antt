@@ -1,11 +1,5 @@
-use Rattle.std.proofs.Common.{◌≡◌, refl, sym, subst, Err, IfErr, List, ◌∷◌, ◌++◌, arith}
-use Rattle.message_model.specs.Wire.{Field}
-use Rattle.message_model.specs.Tables
-use Rattle.message_model.specs.Tables.{message, repeated, text, bytes, uint32, enum, fixed64}
-use Rattle.message_model.specs.Messages.{value, max_depth, read_table}
-use Rattle.otlp_wire.specs.Fields.{field_of}
-use Rattle.otlp_read.specs.Faults.{NamesOne}
-use Rattle.otlp_read.proofs.Finished.{place-fails}
+use Rattle.std.proofs.Common.{refl}
+use Rattle.message_model.specs.Tables.{text, enum}
 use Rattle.otlp_read.proofs.span.StatusPartsGatherFields.take.Goals as goal
 
 pub returns-clause-ok : goal.returns-clause-ok
