@@ -4,8 +4,12 @@
 #[cfg(test)]
 mod equal;
 #[cfg(test)]
+mod messages;
+#[cfg(test)]
 mod requests;
 #[cfg(test)]
 mod responses;
 #[cfg(test)]
 mod rows;
+#[cfg(test)]
+mod triples;

@@ -19,7 +19,7 @@ const FULL: &[u8] = b"\x0a\x02ab\x12\x01c\x1a\x01s\x22\x01p\x2a\x01n\x30\x02\
     \x6a\x07\x0a\x01t\x12\x00\x28\x06\x70\x07\x7a\x05\x12\x01m\x18\x02\x98\x06\x01";
 
 /// A field of bytes: its tag, how many bytes there are, fewer than 128, and the bytes.
-fn part(rt: &impl Abort, alloc: Global, tag: u8, content: &[u8]) -> Vec<u8> {
+pub(crate) fn part(rt: &impl Abort, alloc: Global, tag: u8, content: &[u8]) -> Vec<u8> {
     let size = u8::try_from(content.len()).unwrap_or(127);
     let mut bytes = Vec::from_slice(alloc, &[tag, size]).expect(rt, "memory");
     bytes.extend_from_slice(content).expect(rt, "memory");
@@ -27,7 +27,7 @@ fn part(rt: &impl Abort, alloc: Global, tag: u8, content: &[u8]) -> Vec<u8> {
 }
 
 /// A request of one span.
-fn with_span(rt: &impl Abort, alloc: Global, span: &[u8]) -> Vec<u8> {
+pub(crate) fn with_span(rt: &impl Abort, alloc: Global, span: &[u8]) -> Vec<u8> {
     let spans = part(rt, alloc, 0x12, span);
     let scope = part(rt, alloc, 0x12, &spans);
     part(rt, alloc, 0x0a, &scope)
@@ -44,14 +44,14 @@ fn with_value(rt: &impl Abort, alloc: Global, value: &[u8]) -> Vec<u8> {
 }
 
 /// The first value of the first resource.
-fn first_value<A: Allocator>(request: &Request<A>) -> Option<&AnyValue<A>> {
+pub(crate) fn first_value<A: Allocator>(request: &Request<A>) -> Option<&AnyValue<A>> {
     let group = request.resource_spans.first()?;
     let pair = group.resource.attributes.first()?;
     Some(&pair.1)
 }
 
 /// The first span.
-fn first_span<A: Allocator>(request: &Request<A>) -> Option<&Span<A>> {
+pub(crate) fn first_span<A: Allocator>(request: &Request<A>) -> Option<&Span<A>> {
     let group = request.resource_spans.first()?;
     group.scope_spans.first()?.spans.first()
 }
@@ -147,7 +147,7 @@ fn each_field_of_a_span_is_read(rt: HostRuntime) {
 }
 
 /// Why a body is no request.
-fn fault_of(alloc: Global, body: &[u8]) -> Option<ReadFault> {
+pub(crate) fn fault_of(alloc: Global, body: &[u8]) -> Option<ReadFault> {
     read_request(alloc, body).err()
 }
 
@@ -178,7 +178,7 @@ fn each_fault_is_told(rt: HostRuntime) {
 }
 
 /// A number within so many arrays: two bytes, and each array four more.
-fn nested(rt: &impl Abort, alloc: Global, arrays: usize) -> Vec<u8> {
+pub(crate) fn nested(rt: &impl Abort, alloc: Global, arrays: usize) -> Vec<u8> {
     let mut bytes = Vec::from_slice(alloc, b"\x18\x01").expect(rt, "memory");
     for _array in 0..arrays {
         bytes = around(rt, alloc, &bytes);
@@ -187,13 +187,13 @@ fn nested(rt: &impl Abort, alloc: Global, arrays: usize) -> Vec<u8> {
 }
 
 /// An array of one value.
-fn around(rt: &impl Abort, alloc: Global, value: &[u8]) -> Vec<u8> {
+pub(crate) fn around(rt: &impl Abort, alloc: Global, value: &[u8]) -> Vec<u8> {
     let member = sized(rt, alloc, 0x0a, value);
     sized(rt, alloc, 0x2a, &member)
 }
 
 /// A field of bytes, of which there are fewer than 16,384: the length takes two bytes.
-fn sized(rt: &impl Abort, alloc: Global, tag: u8, content: &[u8]) -> Vec<u8> {
+pub(crate) fn sized(rt: &impl Abort, alloc: Global, tag: u8, content: &[u8]) -> Vec<u8> {
     let size = content.len();
     let low = (size % 128) as u8 | 0x80;
     let high = (size / 128 % 128) as u8;
