@@ -1,0 +1,6 @@
+pub mod Bytes
+pub mod Heads
+pub mod Fields
+pub mod Sent
+pub mod Judged
+pub mod Delivered

@@ -1,0 +1,8 @@
+use Rattle.export_laws.proofs.Delivered.{batch_arrives, one_of_two}
+use Rattle.export_laws.proofs.a_batch_arrives.Goals as goal
+
+pub returns-clause-whole : goal.returns-clause-whole
+returns-clause-whole c = batch_arrives
+
+pub returns-clause-broken_off : goal.returns-clause-broken_off
+returns-clause-broken_off c = one_of_two
