@@ -25,7 +25,7 @@ use Rattle.export_laws.proofs.Judged.{Stands, Verdict, wanting, whole, judged}
 written_out : (address : Address) → IsForTraces address → address ≡ traces_at address.host address.port
 written_out address is = λ i. record { host = address.host; port = address.port; path = is.path i }
 
-never_failed : ¬ (HasFailed 0 0)
+pub never_failed : ¬ (HasFailed 0 0)
 never_failed failed = elim failed [ inl more ↦ omega (arith, more) | inr full ↦ omega (arith, full) ]
 
 stands : (limits : HeadLimits) (address : Address) (body : List ℕ) (old : Option (List ℕ)) (before after : ℕ)

@@ -4,3 +4,5 @@ pub mod Fields
 pub mod Sent
 pub mod Judged
 pub mod Delivered
+pub mod Memory
+pub mod SmallBatch

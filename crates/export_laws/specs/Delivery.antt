@@ -10,11 +10,14 @@ use Rattle.message_model.specs.Tables.{Message}
 use Rattle.span_model.specs.Spans.{EndedSpan}
 use Rattle.export_model.specs.Export.{grouped_triples}
 use Rattle.http_wire.specs.Devices.{HasFailed}
+use Rattle.http_wire.specs.declared.fault.HttpFault.TheVariants as faults
 use Rattle.http_wire.specs.declared.limits.HeadLimits.{HeadLimits}
 use Rattle.otlp_http.specs.Address.{Address, IsTarget}
 use Rattle.otlp_http.specs.Request.{request_head, request_text}
-use Rattle.otlp_serve.specs.Answers.{plain_reply}
+use Rattle.otlp_serve.specs.Answers.{plain_reply, refusal_of}
+use Rattle.otlp_serve.specs.Posts.{HttpPost, IsPost, HasNoPost}
 use Rattle.otlp_serve.specs.Replies.{reply_text}
+use Rattle.otlp_serve.specs.declared.fault.PostFault.TheVariants.{Head, Body}
 use Rattle.otlp_serve.specs.declared.reply.PostReply.{PostReply}
 use Rattle.otlp_serve.specs.declared.status.ReplyStatus.TheVariants as statuses
 use Rattle.otlp_collector.specs.Answering.{Serves, Breaks}
@@ -103,3 +106,24 @@ BrokenReplyIsOneOfTwo =
     → Breaks limits None old new before after written writes sent
     → IsCut wants_memory written writes sent
     ⊎ IsCut (plain_reply statuses.Ok) written writes sent
+
+-- ---- why a collector is unavailable
+
+-- Memory was refused: for the head of the request, for its body, or, where the request came and is
+-- not refused, for what its body means. (profile)
+pub data WantsMemory (limits : HeadLimits) (old new : Option (List ℕ)) (before after : ℕ)
+    : Type 0 where
+  for_head : HasNoPost limits old new (HasFailed before after) (Head faults.OutOfMemory)
+      → WantsMemory limits old new before after
+  for_body : HasNoPost limits old new (HasFailed before after) (Body faults.OutOfMemory)
+      → WantsMemory limits old new before after
+  for_message : (post : HttpPost) → IsPost limits old new (HasFailed before after) post
+      → refusal_of post ≡ None → WantsMemory limits old new before after
+
+-- Whatever came, where no reply is canned 503 is answered for want of memory alone.
+abbrev pub UnavailableWantsMemory : Type 0
+UnavailableWantsMemory =
+    (limits : HeadLimits) (old new : Option (List ℕ)) (before after : ℕ)
+    (written writes : Option (List ℕ)) (request : Option (Message Tables.request))
+    → Serves limits None old new before after written writes (Some 503) request
+    → WantsMemory limits old new before after

@@ -1,16 +1,21 @@
 //! One batch, end to end: what a collector takes of the request that carries a body of spans.
 #![tactic(auto)]
 
+pub mod worked;
+
 ghost use Rattle.export_laws.specs.Delivery.{BatchArrives, BrokenReplyIsOneOfTwo};
+ghost use Rattle.export_laws.specs.Delivery.{UnavailableWantsMemory};
 
 /// A batch arrives. Whatever spans a body carries (`otlp_proto`'s `body_of` makes such a one),
 /// where the request that carries it, as `otlp_http`'s `write_request` writes it, comes whole to
 /// the path `/v1/traces` and is within the limits, `otlp_collector`'s `answer` without a canned
 /// reply answers 200 and hands out a request that has exactly these spans, each under its resource
-/// and scope, or, where memory was refused, 503 and none. (OTLP Specification, "OTLP/HTTP Request"
-/// and "OTLP/HTTP Response"; the limits: profile) Where a write failed, what went out is the beginning
-/// of one of these two replies.
+/// and scope, or 503 and none, which it does where memory was refused, and nowhere else. (OTLP
+/// Specification, "OTLP/HTTP Request" and "OTLP/HTTP Response"; the limits: profile)
+///
+/// Where a write failed, what went out is the beginning of one of these two replies.
 pub fn a_batch_arrives()
     ensures whole { BatchArrives }
     ensures broken_off { BrokenReplyIsOneOfTwo }
+    ensures unavailable { UnavailableWantsMemory }
 {}

@@ -1,4 +1,5 @@
 use Rattle.export_laws.proofs.Delivered.{batch_arrives, one_of_two}
+use Rattle.export_laws.proofs.Memory.{unavailable}
 use Rattle.export_laws.proofs.a_batch_arrives.Goals as goal
 
 pub returns-clause-whole : goal.returns-clause-whole
@@ -6,3 +7,6 @@ returns-clause-whole c = batch_arrives
 
 pub returns-clause-broken_off : goal.returns-clause-broken_off
 returns-clause-broken_off c = one_of_two
+
+pub returns-clause-unavailable : goal.returns-clause-unavailable
+returns-clause-unavailable c = unavailable

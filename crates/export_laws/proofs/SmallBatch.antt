@@ -1,0 +1,53 @@
+-- The batch of one span.
+use Rattle.std.proofs.Common.{◌≡◌, [], ◌++◌, length, refl, arith, Some, codes, subst}
+use Rattle.std.specs.Fmt.{digits}
+use Rattle.std.proofs.lemmas.Bool.{leb-true}
+use Rattle.message_model.specs.Reading.{Reads}
+use Rattle.message_model.specs.Messages.{body_meaning, meaning}
+use Rattle.message_model.specs.Tables
+use Rattle.export_model.specs.Export.{grouped_triples}
+use Rattle.http_wire.specs.Devices.{HasFailed}
+use Rattle.otlp_http.specs.Request.{request_head, request_text}
+use Rattle.otlp_serve.specs.Posts.{IsPost}
+use Rattle.trace_examples.specs.Bytes.{plain_body}
+use Rattle.trace_examples.specs.Hex.{hex}
+use Rattle.trace_examples.specs.Read.{read}
+use Rattle.trace_examples.specs.Samples.{ended_span_of}
+use Rattle.trace_examples.specs.Written.{request_with}
+use Rattle.export_laws.specs.Delivery.{Arrives, Carries, IsAllowed}
+use Rattle.export_laws.specs.SmallBatch.{batch, local, request_bytes, small}
+use Rattle.export_laws.proofs.Bytes.{host_bytes}
+use Rattle.export_laws.proofs.Delivered.{never_failed}
+use Rattle.export_laws.proofs.Sent.{is_post, post}
+
+pub carried : Carries plain_body batch
+unfolding hex ended_span_of request_with read grouped_triples body_meaning
+carried = (refl, refl)
+
+pub means : Reads (meaning Tables.request plain_body) (request_with batch)
+unfolding hex ended_span_of request_with read
+means = (refl, refl)
+
+text : request_text local plain_body ++ [] ≡ request_bytes
+unfolding hex request_head digits
+text = refl
+
+allowed : IsAllowed small local plain_body
+unfolding hex request_head digits
+allowed = record { head_bytes = leb-true (length (request_head local (length plain_body))) 127 refl; four_fields = omega arith; body_bytes = omega arith; counted = omega arith }
+
+pub comes : Arrives small local plain_body (Some request_bytes) 0 0
+unfolding hex request_head digits
+comes = record {
+  behind = [];
+  whole = refl;
+  sound = never_failed;
+  address_is = record { target = record { host = refl; path = refl; short = omega arith }; port = omega arith; path = refl };
+  allowed = allowed;
+}
+
+-- the request, as the collector sees it
+pub came : IsPost small (Some request_bytes) (Some []) (HasFailed 0 0) (post (codes "127.0.0.1") 4318 plain_body)
+came =
+    subst (λ bytes. IsPost small (Some bytes) (Some []) (HasFailed 0 0) (post (codes "127.0.0.1") 4318 plain_body)) text
+    (is_post small (codes "127.0.0.1") 4318 plain_body [] (HasFailed 0 0) (host_bytes (codes "127.0.0.1") refl) (omega arith) allowed)
