@@ -5,6 +5,7 @@ pub mod FieldsRead
 pub mod Named
 pub mod ResponseSteps
 pub mod ResponseMeaning
+pub mod ResponseBytes
 pub mod MemberSteps
 pub mod PairSteps
 pub mod GatherSteps

@@ -1,9 +1,10 @@
 -- What is read of a response (Protocol Buffers, Encoding; opentelemetry-proto,
 -- trace_service.proto).
-use Rattle.std.specs.Prelude.{◌≡◌, ℕ, ℤ, List, []}
+use Rattle.std.specs.Prelude.{◌≡◌, ℕ, ℤ, List, [], ◌++◌}
 use Rattle.std.specs.List.{Contains}
 use Rattle.message_model.specs.Reading.{Reading, Fault, bad_utf8, too_deep}
 use Rattle.message_model.specs.Wire.{Field}
+use Rattle.message_model.specs.Canon.{number_field, unless_empty}
 use Rattle.message_model.specs.Tables
 use Rattle.message_model.specs.Tables.{text, int64, message, Message, ◌▸◌}
 use Rattle.message_model.specs.Messages.{payloads, last_number, last_bytes, joined_rows}
@@ -44,3 +45,8 @@ rejected_in (partial ▸ rest) = partial.0
 pub record Rejects (reading : Reading (Message Tables.response)) (rejected : ℤ) : Type 0 where
   pub whole : reading.faults ≡ []
   pub is : rejected ≡ rejected_in reading.value
+
+-- what was taken in part as fields, where so many spans were rejected, in two's complement, and
+-- that is the message (opentelemetry-proto, trace_service.proto: ExportTracePartialSuccess)
+abbrev pub partial_fields : ℕ → List ℕ → List Field
+partial_fields rejected why = number_field 1 rejected ++ (unless_empty 2 why ++ [])

@@ -11,6 +11,7 @@ mod payloads;
 mod request;
 mod resource;
 mod response;
+mod response_writer;
 mod span;
 mod triple;
 
@@ -19,5 +20,6 @@ pub use fault::ReadFault;
 pub use request::{Request, ResourceSpans, ScopeSpans, read_request};
 pub use resource::{InstrumentationScope, Resource};
 pub use response::{PartialSuccess, Response, read_rejected_spans, read_response};
+pub use response_writer::write_response;
 pub use span::{Event, Link, Span, Status};
 pub use triple::Triple;

@@ -41,6 +41,16 @@ impl<A: Allocator> Model for PartialSuccess<A> {
 }
 
 impl<A: Allocator> PartialSuccess<A> {
+    /// So many spans were rejected, for this cause.
+    pub fn new(rejected_spans: i64, error_message: String<A>) -> PartialSuccess<A>
+        ensures { result ≡ (rejected_spans ▸ string_bytes error_message ▸ tt) }
+    {
+        PartialSuccess {
+            rejected_spans,
+            error_message,
+        }
+    }
+
     /// How many spans the collector rejected, 0 where it took all.
     pub fn rejected_spans(&self) -> i64
         ensures { result ≡ self.now.0 }
@@ -73,6 +83,13 @@ impl<A: Allocator> Model for Response<A> {
 }
 
 impl<A: Allocator> Response<A> {
+    /// Of an export that was taken in part, or, with the defaults, as a whole.
+    pub fn new(partial_success: PartialSuccess<A>) -> Response<A>
+        ensures { result ≡ (partial_success ▸ tt) }
+    {
+        Response { partial_success }
+    }
+
     /// What was taken in part. Where the collector sent none, it has the defaults: 0 and empty.
     pub fn partial_success(&self) -> &PartialSuccess<A>
         ensures { result.now ≡ self.now.0 }

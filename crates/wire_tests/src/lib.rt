@@ -10,6 +10,8 @@ mod requests;
 #[cfg(test)]
 mod responses;
 #[cfg(test)]
+mod responses_written;
+#[cfg(test)]
 mod rows;
 #[cfg(test)]
 mod triples;
