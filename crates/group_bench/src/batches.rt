@@ -37,11 +37,29 @@ fn scopes(alloc: Global, count: u32) -> Result<Vec<Arc<Scope>>, OutOfMemory> {
     Ok(scopes)
 }
 
-/// A root that has ended.
+/// Attributes that a span of a request may have.
+const ATTRIBUTES: [(&str, &str); 5] = [
+    ("http.request.method", "GET"),
+    ("http.route", "/cart/{id}"),
+    ("server.address", "shop.example"),
+    ("user_agent.original", "curl/8.5.0"),
+    ("network.protocol.version", "1.1"),
+];
+
+/// Sets the first attributes of a span.
+fn set_attributes(alloc: Global, record: &mut SpanRecord, count: usize) -> Result<(), OutOfMemory> {
+    for (key, text) in ATTRIBUTES.iter().take(count) {
+        record.set_attribute(String::from_str(alloc, key)?, Value::text(alloc, text)?)?;
+    }
+    Ok(())
+}
+
+/// A root that has ended, with so many attributes, at most five.
 fn ended_span(
     alloc: Global,
     resource: &Arc<Resource>,
     scope: &Arc<Scope>,
+    attributes: usize,
 ) -> Result<SpanData, OutOfMemory> {
     let open = Open {
         context: SpanContext {
@@ -58,17 +76,19 @@ fn ended_span(
         kind: Kind::Internal,
         start: 1,
     };
-    Ok(SpanRecord::open(alloc, open, &SpanLimits::default())?.close(2))
+    let mut record = SpanRecord::open(alloc, open, &SpanLimits::default())?;
+    set_attributes(alloc, &mut record, attributes)?;
+    Ok(record.close(2))
 }
 
-/// A batch over so many scopes, which take turns.
-pub fn batch(alloc: Global, count: u32) -> Result<Vec<SpanData>, OutOfMemory> {
+/// A batch over so many scopes, which take turns. Each span has so many attributes, at most five.
+pub fn batch(alloc: Global, count: u32, attributes: usize) -> Result<Vec<SpanData>, OutOfMemory> {
     let resource = resource(alloc)?;
     let scopes = scopes(alloc, count)?;
     let mut spans = Vec::new(alloc);
     for _ in 0..SPANS.checked_div(count).unwrap_or(0) {
         for scope in &scopes {
-            spans.push(ended_span(alloc, &resource, scope)?)?;
+            spans.push(ended_span(alloc, &resource, scope, attributes)?)?;
         }
     }
     Ok(spans)

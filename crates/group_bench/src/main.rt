@@ -1,9 +1,11 @@
-//! Groups batches of 512 spans over 1, 8 and 512 scopes, and prints how many scopes come out. With
-//! a number of rounds as its argument it prints how long a span takes, in nanoseconds: alone, and
-//! as a part of a body.
+//! Groups batches of 512 spans over 1, 8 and 512 scopes, and prints how many scopes come out; and
+//! reads the bodies of batches without and with attributes. With a number of rounds as its argument
+//! it prints how long a span takes, in nanoseconds: to be grouped, as a part of a body, and to be
+//! read; and how the time to read grows with the bytes.
 #![tactic(auto)]
 
 mod batches;
+mod reading;
 mod rounds;
 
 use std::process::ExitCode;
@@ -22,6 +24,14 @@ fn main(rt: HostRuntime) -> io::Result<ExitCode> {
         if rounds::print_rounds(&rt, &mut output, scopes, rounds).is_err() {
             return Ok(ExitCode::FAILURE);
         }
+    }
+    for attributes in [0usize, 5] {
+        if reading::print_reading(&rt, &mut output, attributes, rounds).is_err() {
+            return Ok(ExitCode::FAILURE);
+        }
+    }
+    if rounds > 0 && reading::print_growth(&rt, &mut output).is_err() {
+        return Ok(ExitCode::FAILURE);
     }
     Ok(ExitCode::SUCCESS)
 }

@@ -2,6 +2,7 @@
 use crate::batches::{SPANS, batch};
 use otlp_ids::OutOfMemory;
 use otlp_proto::{EncodeFault, body_of};
+use otlp_read::ReadFault;
 use otlp_span::SpanData;
 use scope_group::group;
 use std::alloc::Global;
@@ -17,6 +18,8 @@ pub enum Fault {
     #[error("{0}")]
     Encode(#[from] EncodeFault),
     #[error("{0}")]
+    Read(#[from] ReadFault),
+    #[error("{0}")]
     Output(#[from] io::Error),
 }
 
@@ -29,11 +32,16 @@ fn count_scopes(alloc: Global, spans: &[SpanData]) -> Result<usize, OutOfMemory>
     Ok(count)
 }
 
-/// The nanoseconds that each span took, of so many rounds since a moment.
-fn nanos(clock: &impl Clock, start: Instant, rounds: u32) -> io::Result<u64> {
+/// The nanoseconds that each thing took, of so many since a moment.
+pub fn nanos_each(clock: &impl Clock, start: Instant, count: u64) -> io::Result<u64> {
     let all = start.elapsed(clock)?.as_nanos();
-    let spans = u128::from(rounds) * u128::from(SPANS);
-    Ok(u64::try_from(all.checked_div(spans).unwrap_or(0)).unwrap_or(u64::MAX))
+    let each = all.checked_div(u128::from(count)).unwrap_or(0);
+    Ok(u64::try_from(each).unwrap_or(u64::MAX))
+}
+
+/// How many spans so many rounds have.
+fn spans_of(rounds: u32) -> u64 {
+    u64::from(rounds) * u64::from(SPANS)
 }
 
 /// How long a span takes to be grouped.
@@ -47,11 +55,11 @@ fn group_nanos(
     for _ in 0..rounds {
         count_scopes(alloc, spans)?;
     }
-    Ok(nanos(clock, start, rounds)?)
+    Ok(nanos_each(clock, start, spans_of(rounds))?)
 }
 
 /// How long a span takes to be grouped and encoded.
-fn body_nanos(
+pub fn body_nanos(
     clock: &impl Clock,
     alloc: Global,
     spans: &[SpanData],
@@ -61,7 +69,7 @@ fn body_nanos(
     for _ in 0..rounds {
         body_of(alloc, spans, usize::MAX)?;
     }
-    Ok(nanos(clock, start, rounds)?)
+    Ok(nanos_each(clock, start, spans_of(rounds))?)
 }
 
 /// Groups a batch over so many scopes, and prints how many came out. With rounds it prints how long
@@ -73,7 +81,7 @@ pub fn print_rounds<W: Write>(
     rounds: u32,
 ) -> Result<(), Fault> {
     let alloc = rt.alloc();
-    let spans = batch(alloc, scopes)?;
+    let spans = batch(alloc, scopes, 0)?;
     let count = count_scopes(alloc, &spans)?;
     write!(output, "{} spans, {count} scopes", spans.len())?;
     if rounds > 0 {
