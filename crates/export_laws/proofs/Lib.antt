@@ -3,6 +3,8 @@ pub mod Heads
 pub mod Fields
 pub mod Sent
 pub mod Judged
+pub mod Arrived
 pub mod Delivered
+pub mod Behind
 pub mod Memory
 pub mod SmallBatch

@@ -51,7 +51,7 @@ module _ (limits : HeadLimits) (old new : Option (List ℕ)) (before after : ℕ
 
   without_message : (post : HttpPost) → IsPost limits old new (HasFailed before after) post → refusal_of post ≡ None → (fault : ReadFault)
       → Some 503 ≡ status_of (Some (reply_to_unread fault)) → Wants
-  without_message post is accepted read_faults.OutOfMemory e = for_message post is accepted
+  without_message post is accepted read_faults.OutOfMemory e = for_message post is accepted tt
   without_message post is accepted (read_faults.Wire fault) e = absurd (other (Some (reply_to_unread (read_faults.Wire fault))) refl e)
   without_message post is accepted read_faults.BadUtf8 e = absurd (other (Some (reply_to_unread read_faults.BadUtf8)) refl e)
   without_message post is accepted read_faults.TooDeep e = absurd (other (Some (reply_to_unread read_faults.TooDeep)) refl e)

@@ -17,7 +17,7 @@ use Rattle.trace_examples.specs.Written.{request_with}
 use Rattle.export_laws.specs.Delivery.{Arrives, Carries, IsAllowed}
 use Rattle.export_laws.specs.SmallBatch.{batch, local, request_bytes, small}
 use Rattle.export_laws.proofs.Bytes.{host_bytes}
-use Rattle.export_laws.proofs.Delivered.{never_failed}
+use Rattle.export_laws.proofs.Arrived.{never_failed}
 use Rattle.export_laws.proofs.Sent.{is_post, post}
 
 pub carried : Carries plain_body batch
@@ -50,4 +50,8 @@ comes = record {
 pub came : IsPost small (Some request_bytes) (Some []) (HasFailed 0 0) (post (codes "127.0.0.1") 4318 plain_body)
 came =
     subst (λ bytes. IsPost small (Some bytes) (Some []) (HasFailed 0 0) (post (codes "127.0.0.1") 4318 plain_body)) text
-    (is_post small (codes "127.0.0.1") 4318 plain_body [] (HasFailed 0 0) (host_bytes (codes "127.0.0.1") refl) (omega arith) allowed)
+    (is_post small (codes "127.0.0.1") 4318 plain_body [] (HasFailed 0 0) (record {
+      visible = host_bytes (codes "127.0.0.1") refl;
+      fits = omega arith;
+      allowed = allowed;
+    }))

@@ -4,7 +4,7 @@ use Rattle.std.specs.Prelude.{◌≡◌, ℕ, ◌^◌, ◌<◌, ◌≤◌, ◌�
 use Rattle.std.specs.Prelude.{Option, Some, None}
 use Rattle.std.specs.Io.KnownBytes.{Appends}
 use Rattle.message_model.specs.Reading.{Reads}
-use Rattle.message_model.specs.Messages.{body_meaning, triples}
+use Rattle.message_model.specs.Messages.{body_meaning, meaning, triples}
 use Rattle.message_model.specs.Tables
 use Rattle.message_model.specs.Tables.{Message}
 use Rattle.span_model.specs.Spans.{EndedSpan}
@@ -14,6 +14,8 @@ use Rattle.http_wire.specs.declared.fault.HttpFault.TheVariants as faults
 use Rattle.http_wire.specs.declared.limits.HeadLimits.{HeadLimits}
 use Rattle.otlp_http.specs.Address.{Address, IsTarget}
 use Rattle.otlp_http.specs.Request.{request_head, request_text}
+use Rattle.otlp_read.specs.Faults.{NamesOne}
+use Rattle.otlp_read.specs.declared.fault.ReadFault.TheVariants.{OutOfMemory}
 use Rattle.otlp_serve.specs.Answers.{plain_reply, refusal_of}
 use Rattle.otlp_serve.specs.Posts.{HttpPost, IsPost, HasNoPost}
 use Rattle.otlp_serve.specs.Replies.{reply_text}
@@ -21,6 +23,7 @@ use Rattle.otlp_serve.specs.declared.fault.PostFault.TheVariants.{Head, Body}
 use Rattle.otlp_serve.specs.declared.reply.PostReply.{PostReply}
 use Rattle.otlp_serve.specs.declared.status.ReplyStatus.TheVariants as statuses
 use Rattle.otlp_collector.specs.Answering.{Serves, Breaks}
+use Rattle.otlp_collector.specs.declared.canned.Canned.{Canned}
 
 -- ---- what is sent
 
@@ -107,6 +110,16 @@ BrokenReplyIsOneOfTwo =
     → IsCut wants_memory written writes sent
     ⊎ IsCut (plain_reply statuses.Ok) written writes sent
 
+-- Where a request is taken, no byte behind it was, with a canned reply or without.
+abbrev pub BytesBehindAreLeft : Type 0
+BytesBehindAreLeft =
+    (limits : HeadLimits) (canned : Option Canned) (address : Address) (body : List ℕ)
+    (old new : Option (List ℕ)) (before after : ℕ) (written writes : Option (List ℕ))
+    (status : Option ℕ) (message : Message Tables.request)
+    → (arrives : Arrives limits address body old before after)
+    → Serves limits canned old new before after written writes status (Some message)
+    → new ≡ Some arrives.behind
+
 -- ---- why a collector is unavailable
 
 -- Memory was refused: for the head of the request, for its body, or, where the request came and is
@@ -118,7 +131,8 @@ pub data WantsMemory (limits : HeadLimits) (old new : Option (List ℕ)) (before
   for_body : HasNoPost limits old new (HasFailed before after) (Body faults.OutOfMemory)
       → WantsMemory limits old new before after
   for_message : (post : HttpPost) → IsPost limits old new (HasFailed before after) post
-      → refusal_of post ≡ None → WantsMemory limits old new before after
+      → refusal_of post ≡ None → NamesOne (meaning Tables.request post.body).faults OutOfMemory
+      → WantsMemory limits old new before after
 
 -- Whatever came, where no reply is canned 503 is answered for want of memory alone.
 abbrev pub UnavailableWantsMemory : Type 0

@@ -4,7 +4,7 @@
 pub mod worked;
 
 ghost use Rattle.export_laws.specs.Delivery.{BatchArrives, BrokenReplyIsOneOfTwo};
-ghost use Rattle.export_laws.specs.Delivery.{UnavailableWantsMemory};
+ghost use Rattle.export_laws.specs.Delivery.{BytesBehindAreLeft, UnavailableWantsMemory};
 
 /// A batch arrives. Whatever spans a body carries (`otlp_proto`'s `body_of` makes such a one),
 /// where the request that carries it, as `otlp_http`'s `write_request` writes it, comes whole to
@@ -13,9 +13,11 @@ ghost use Rattle.export_laws.specs.Delivery.{UnavailableWantsMemory};
 /// and scope, or 503 and none, which it does where memory was refused, and nowhere else. (OTLP
 /// Specification, "OTLP/HTTP Request" and "OTLP/HTTP Response"; the limits: profile)
 ///
-/// Where a write failed, what went out is the beginning of one of these two replies.
+/// Where a write failed, what went out is the beginning of one of these two replies. Where the
+/// request is taken, no byte behind it was read.
 pub fn a_batch_arrives()
     ensures whole { BatchArrives }
     ensures broken_off { BrokenReplyIsOneOfTwo }
+    ensures behind { BytesBehindAreLeft }
     ensures unavailable { UnavailableWantsMemory }
 {}

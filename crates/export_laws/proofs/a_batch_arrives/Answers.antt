@@ -1,4 +1,5 @@
 use Rattle.export_laws.proofs.Delivered.{batch_arrives, one_of_two}
+use Rattle.export_laws.proofs.Behind.{behind_left}
 use Rattle.export_laws.proofs.Memory.{unavailable}
 use Rattle.export_laws.proofs.a_batch_arrives.Goals as goal
 
@@ -10,3 +11,6 @@ returns-clause-broken_off c = one_of_two
 
 pub returns-clause-unavailable : goal.returns-clause-unavailable
 returns-clause-unavailable c = unavailable
+
+pub returns-clause-behind : goal.returns-clause-behind
+returns-clause-behind c = behind_left
