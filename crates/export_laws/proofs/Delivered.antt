@@ -11,22 +11,23 @@ use Rattle.otlp_http.specs.Address.{Address}
 use Rattle.otlp_serve.specs.declared.reply.PostReply.{PostReply}
 use Rattle.otlp_serve.specs.Replies.{code_of, reply_text}
 use Rattle.otlp_collector.specs.Answering.{Judges}
+use Rattle.http_laws.specs.Requests.{BytesMeanOnePost}
 use Rattle.export_laws.specs.Delivery.{Arrives, Carries, BatchArrives, BrokenReplyIsOneOfTwo, IsCut}
 use Rattle.export_laws.specs.Delivery.IsDelivered.{refused, taken}
 use Rattle.export_laws.proofs.Arrived.{known, stands}
 use Rattle.export_laws.proofs.Judged.{Verdict, wanting, whole, judged}
 
-verdict : (limits : HeadLimits) (address : Address) (spans : List EndedSpan) (body : List ℕ) (old new : Option (List ℕ)) (before after : ℕ)
+verdict : (one_post : BytesMeanOnePost) (limits : HeadLimits) (address : Address) (spans : List EndedSpan) (body : List ℕ) (old new : Option (List ℕ)) (before after : ℕ)
     (reply : Option PostReply) (request : Option (Message Tables.request))
     → Carries body spans → Arrives limits address body old before after → Judges limits None old new before after reply request → Verdict spans reply request
-verdict limits address spans body old new before after reply request carries a judges =
-    judged limits _ body new spans before after reply request (stands limits address body old before after a) carries
+verdict one_post limits address spans body old new before after reply request carries a judges =
+    judged one_post limits _ body new spans before after reply request (stands limits address body old before after a) carries
     (subst (λ known. Judges limits None known new before after reply request) (known limits address body old before after a) judges)
 
-pub batch_arrives : BatchArrives
-batch_arrives limits address spans body old new before after written writes status request carries a serves =
+pub batch_arrives : BytesMeanOnePost → BatchArrives
+batch_arrives one_post limits address spans body old new before after written writes status request carries a serves =
     let status_by = λ (r : Option PostReply). option_map (λ (x : PostReply). code_of x.status) r in
-    elim (verdict limits address spans body old new before after serves.reply request carries a serves.judges) [
+    elim (verdict one_post limits address spans body old new before after serves.reply request carries a serves.judges) [
       | wanting is without ↦
           refused (serves.status_is ∙ ap status_by is) without
           (subst (λ r. Appends written writes (option_map_or reply_text r [])) is serves.writes_it)
@@ -35,9 +36,9 @@ batch_arrives limits address spans body old new before after written writes stat
           (subst (λ r. Appends written writes (option_map_or reply_text r [])) is serves.writes_it)
     ]
 
-pub one_of_two : BrokenReplyIsOneOfTwo
-one_of_two limits address spans body old new before after written writes sent carries a breaks =
-    elim (verdict limits address spans body old new before after (Some breaks.reply) breaks.request carries a breaks.judges) [
+pub one_of_two : BytesMeanOnePost → BrokenReplyIsOneOfTwo
+one_of_two one_post limits address spans body old new before after written writes sent carries a breaks =
+    elim (verdict one_post limits address spans body old new before after (Some breaks.reply) breaks.request carries a breaks.judges) [
       | wanting is without ↦ inl (subst (λ r. IsCut r written writes sent) (inner is) (breaks.within, breaks.writes_it))
       | whole is holds ↦ inr (subst (λ r. IsCut r written writes sent) (inner is) (breaks.within, breaks.writes_it))
     ]

@@ -21,8 +21,7 @@ use Rattle.otlp_serve.specs.declared.status.ReplyStatus.TheVariants as statuses
 use Rattle.otlp_serve.specs.Answers.{is_for_traces, is_plain, is_protobuf, plain_reply, refusal_of, reply_by, reply_to_fault}
 use Rattle.otlp_serve.specs.Posts.{HttpPost, IsPost, HasNoPost}
 use Rattle.otlp_collector.specs.Answering.{Judges, no_post, refused, unread, taken, reply_to_unread}
-use Rattle.http_laws.specs.Requests.{IsPostMeaning, IsSamePost, LacksPostMemory}
-use Rattle.http_laws.proofs.PostsAgree.{one_post}
+use Rattle.http_laws.specs.Requests.{BytesMeanOnePost, IsPostMeaning, IsSamePost, LacksPostMemory}
 use Rattle.export_laws.specs.Delivery.{Carries, Holds, wants_memory}
 
 -- the reply is for want of memory, or the spans were taken
@@ -85,33 +84,33 @@ pub record Stands (limits : HeadLimits) (bytes : List ℕ) (body : List ℕ) (be
   pub accepted : refusal_of post ≡ None
   pub sound : ¬ (HasFailed before after)
 
-other_post : (limits : HeadLimits) (bytes body left : List ℕ) (before after : ℕ) (x : Stands limits bytes body before after) (other : HttpPost)
+other_post : (one_post : BytesMeanOnePost) (limits : HeadLimits) (bytes body left : List ℕ) (before after : ℕ) (x : Stands limits bytes body before after) (other : HttpPost)
     → IsPost limits (Some bytes) (Some left) (HasFailed before after) other → IsSamePost x.post other
-other_post limits bytes body left before after x other is =
+other_post one_post limits bytes body left before after x other is =
     one_post limits bytes x.post (Ok other) x.is (record { left = left; old = before; new = after; means = is; sound = x.sound; ample = λ lacks. lacks })
 
-lacks_memory : (limits : HeadLimits) (bytes body left : List ℕ) (before after : ℕ) → Stands limits bytes body before after → (fault : PostFault)
+lacks_memory : (one_post : BytesMeanOnePost) (limits : HeadLimits) (bytes body left : List ℕ) (before after : ℕ) → Stands limits bytes body before after → (fault : PostFault)
     → HasNoPost limits (Some bytes) (Some left) (HasFailed before after) fault → LacksPostMemory (Err fault)
-lacks_memory limits bytes body left before after x fault none = elim (memory fault) [
+lacks_memory one_post limits bytes body left before after x fault none = elim (memory fault) [
   | inl lacks ↦ lacks
   | inr ample ↦ absurd (one_post limits bytes x.post (Err fault) x.is (record { left = left; old = before; new = after; means = none; sound = x.sound; ample = ample }))
 ]
 
-judged_left : (limits : HeadLimits) (bytes body left : List ℕ) (spans : List EndedSpan) (before after : ℕ) (reply : Option PostReply) (request : Option (Message Tables.request))
+judged_left : (one_post : BytesMeanOnePost) (limits : HeadLimits) (bytes body left : List ℕ) (spans : List EndedSpan) (before after : ℕ) (reply : Option PostReply) (request : Option (Message Tables.request))
     → Stands limits bytes body before after → Carries body spans
     → Judges limits None (Some bytes) (Some left) before after reply request → Verdict spans reply request
-judged_left limits bytes body left spans before after reply request x carries judges = elim judges [
-  | no_post fault none counts answer without ↦ wanting (answer ∙ told fault (lacks_memory limits bytes body left before after x fault none)) without
+judged_left one_post limits bytes body left spans before after reply request x carries judges = elim judges [
+  | no_post fault none counts answer without ↦ wanting (answer ∙ told fault (lacks_memory one_post limits bytes body left before after x fault none)) without
   | refused post is quiet refusal why answer without ↦
-      let same = other_post limits bytes body left before after x post is in
+      let same = other_post one_post limits bytes body left before after x post is in
       let never : Some refusal ≡ None = sym why ∙ same_refusal x.post post same ∙ x.accepted in
       absurd cc
   | unread post is quiet accepted fault names answer without ↦
-      let same = other_post limits bytes body left before after x post is in
+      let same = other_post one_post limits bytes body left before after x post is in
       let none = ap (λ b. (meaning Tables.request b).faults) (same.body ∙ x.body_is) ∙ (carried body spans carries).0 in
       wanting (answer ∙ ap (λ f. Some (reply_to_unread f)) (named _ fault none names)) without
   | taken post is quiet accepted message reads answer with ↦
-      let same = other_post limits bytes body left before after x post is in
+      let same = other_post one_post limits bytes body left before after x post is in
       whole answer (record {
         message = message;
         is_read = with;
@@ -135,9 +134,9 @@ left_not limits bytes before after reply request judges = elim judges [
   | taken post is quiet accepted message reads answer with ↦ is.comes.comes
 ]
 
-pub judged : (limits : HeadLimits) (bytes body : List ℕ) (new : Option (List ℕ)) (spans : List EndedSpan) (before after : ℕ) (reply : Option PostReply) (request : Option (Message Tables.request))
+pub judged : (one_post : BytesMeanOnePost) (limits : HeadLimits) (bytes body : List ℕ) (new : Option (List ℕ)) (spans : List EndedSpan) (before after : ℕ) (reply : Option PostReply) (request : Option (Message Tables.request))
     → Stands limits bytes body before after → Carries body spans
     → Judges limits None (Some bytes) new before after reply request → Verdict spans reply request
-judged limits bytes body None spans before after reply request x carries judges = absurd (left_not limits bytes before after reply request judges)
-judged limits bytes body (Some left) spans before after reply request x carries judges =
-    judged_left limits bytes body left spans before after reply request x carries judges
+judged one_post limits bytes body None spans before after reply request x carries judges = absurd (left_not limits bytes before after reply request judges)
+judged one_post limits bytes body (Some left) spans before after reply request x carries judges =
+    judged_left one_post limits bytes body left spans before after reply request x carries judges

@@ -110,7 +110,7 @@ BrokenReplyIsOneOfTwo =
     → IsCut wants_memory written writes sent
     ⊎ IsCut (plain_reply statuses.Ok) written writes sent
 
--- Where a request is taken, no byte behind it was, with a canned reply or without.
+-- Where a request is taken, with a canned reply or without, no byte behind it was read.
 abbrev pub BytesBehindAreLeft : Type 0
 BytesBehindAreLeft =
     (limits : HeadLimits) (canned : Option Canned) (address : Address) (body : List ℕ)

@@ -6,6 +6,8 @@ pub mod worked;
 ghost use Rattle.export_laws.specs.Delivery.{BatchArrives, BrokenReplyIsOneOfTwo};
 ghost use Rattle.export_laws.specs.Delivery.{BytesBehindAreLeft, UnavailableWantsMemory};
 
+use http_laws::bytes_mean_one_request;
+
 /// A batch arrives. Whatever spans a body carries (`otlp_proto`'s `body_of` makes such a one),
 /// where the request that carries it, as `otlp_http`'s `write_request` writes it, comes whole to
 /// the path `/v1/traces` and is within the limits, `otlp_collector`'s `answer` without a canned
@@ -20,4 +22,6 @@ pub fn a_batch_arrives()
     ensures broken_off { BrokenReplyIsOneOfTwo }
     ensures behind { BytesBehindAreLeft }
     ensures unavailable { UnavailableWantsMemory }
-{}
+{
+    bytes_mean_one_request();
+}
