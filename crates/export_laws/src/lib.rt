@@ -12,8 +12,8 @@ use http_laws::bytes_mean_one_request;
 /// where the request that carries it, as `otlp_http`'s `write_request` writes it, comes whole to
 /// the path `/v1/traces` and is within the limits, `otlp_collector`'s `answer` without a canned
 /// reply answers 200 and hands out a request that has exactly these spans, each under its resource
-/// and scope, or 503 and none, which it does where memory was refused, and nowhere else. (OTLP
-/// Specification, "OTLP/HTTP Request" and "OTLP/HTTP Response"; the limits: profile)
+/// and scope, or 503 and none, for want of memory. (OTLP Specification, "OTLP/HTTP Request" and
+/// "OTLP/HTTP Response"; the limits: profile)
 ///
 /// Where a write failed, what went out is the beginning of one of these two replies. Where the
 /// request is taken, no byte behind it was read.
