@@ -5,7 +5,7 @@ use crate::fixture::{joined, wire};
 use failing_allocator::FailingAllocator;
 use linked_list_allocator::LocalHeap;
 use otlp_collector::{Answered, Canned, CannedStatus, answer};
-use otlp_http::{FailingCalls, FailingWire};
+use otlp_http::{FailingCalls, FailingWire, FaultRead};
 use otlp_serve::{HeadLimits, Stopped};
 use std::alloc::Global;
 use std::process::Abort;
@@ -142,6 +142,121 @@ fn a_reply_that_breaks_off_is_told(rt: HostRuntime) {
     assert!(rt; b"HTTP/1.1 200 OK".starts_with(writer.taken()));
 }
 
+/// Asserts that what is no request within these limits is answered so, and that so many bytes of it
+/// are left to read.
+fn is_refused_early(
+    rt: &impl Abort,
+    alloc: Global,
+    text: &[u8],
+    limits: &HeadLimits,
+    refusal: (u16, usize),
+) {
+    let mut reader = wire(rt, alloc, text, 100, FailingCalls::Never);
+    let mut writer = wire(rt, alloc, b"", 7, FailingCalls::Never);
+    let served = answer(alloc, alloc, &mut reader, &mut writer, limits, None);
+    let Answered { status, request } = served.expect(rt, "a whole reply");
+    assert!(rt; request.is_none());
+    let (wanted, left) = refusal;
+    assert_equal_at(
+        rt,
+        (status, reader.left().len()),
+        (Some(wanted), left),
+        text,
+    );
+}
+
+#[test]
+fn what_is_above_the_limits_is_refused_unread(rt: HostRuntime) {
+    let alloc = rt.alloc();
+    let limits = HeadLimits {
+        body: SPAN.len().saturating_sub(1),
+        ..HeadLimits::default()
+    };
+    let whole = request(&rt, alloc, "POST /v1/traces", TYPE, SPAN);
+    is_refused_early(&rt, alloc, &whole, &limits, (413, SPAN.len()));
+    let other = request(&rt, alloc, "GET /x", "", SPAN);
+    is_refused_early(&rt, alloc, &other, &limits, (413, SPAN.len()));
+    let limits = HeadLimits {
+        head: 20,
+        ..HeadLimits::default()
+    };
+    let left = whole.len().saturating_sub(20);
+    is_refused_early(&rt, alloc, &whole, &limits, (431, left));
+}
+
+#[test]
+fn what_is_no_request_is_refused(rt: HostRuntime) {
+    let alloc = rt.alloc();
+    let limits = HeadLimits::default();
+    is_refused_early(&rt, alloc, b"\x01", &limits, (400, 0));
+    let chunked = b"POST /v1/traces HTTP/1.1\r\nTransfer-Encoding: chunked\r\n\r\n0\r\n\r\n";
+    is_refused_early(&rt, alloc, chunked, &limits, (400, 5));
+    let signed = b"POST /v1/traces HTTP/1.1\r\nContent-Length: +1\r\n\r\nx";
+    is_refused_early(&rt, alloc, signed, &limits, (400, 1));
+}
+
+#[test]
+fn a_reader_that_fails_is_not_answered(rt: HostRuntime) {
+    let alloc = rt.alloc();
+    let text = request(&rt, alloc, "POST /v1/traces", TYPE, SPAN);
+    for call in [0, 1, 40, 130] {
+        let mut reader = wire(&rt, alloc, &text, 1, FailingCalls::From(call));
+        let mut writer = wire(&rt, alloc, b"", 7, FailingCalls::Never);
+        let limits = HeadLimits::default();
+        let served = answer(alloc, alloc, &mut reader, &mut writer, &limits, None);
+        let Answered { status, request } = served.expect(&rt, "nothing to write");
+        assert_equal_at(&rt, (status, request.is_some()), (None, false), call);
+        assert_equal_at(&rt, (writer.taken().len(), reader.failures()), (0, 1), call);
+    }
+}
+
+#[test]
+fn bytes_behind_a_request_are_left(rt: HostRuntime) {
+    let alloc = rt.alloc();
+    let first = request(&rt, alloc, "POST /v1/traces", TYPE, SPAN);
+    let both = joined(&rt, alloc, &first, b"GET / HTTP/1.1\r\n\r\n");
+    let mut reader = wire(&rt, alloc, &both, 1_000, FailingCalls::Never);
+    let mut writer = wire(&rt, alloc, b"", 7, FailingCalls::Never);
+    let limits = HeadLimits::default();
+    let served = answer(alloc, alloc, &mut reader, &mut writer, &limits, None);
+    let status = served.expect(&rt, "a whole reply").status;
+    assert_equal(&rt, status, Some(200));
+    assert!(rt; reader.left() == b"GET / HTTP/1.1\r\n\r\n".as_slice());
+}
+
+#[test]
+fn each_canned_status_is_told(rt: HostRuntime) {
+    let alloc = rt.alloc();
+    let text = request(&rt, alloc, "POST /v1/traces", TYPE, SPAN);
+    let rows = [
+        (CannedStatus::Ok, 200, "HTTP/1.1 200 OK\r\n"),
+        (
+            CannedStatus::BadGateway,
+            502,
+            "HTTP/1.1 502 Bad Gateway\r\n",
+        ),
+        (
+            CannedStatus::ServiceUnavailable,
+            503,
+            "HTTP/1.1 503 Service Unavailable\r\n",
+        ),
+        (
+            CannedStatus::GatewayTimeout,
+            504,
+            "HTTP/1.1 504 Gateway Timeout\r\n",
+        ),
+    ];
+    for (status, number, line) in rows {
+        let canned = Canned {
+            status,
+            retry_after: None,
+        };
+        let (told, groups, writer) = answered(&rt, alloc, &text, Some(canned));
+        assert_equal_at(&rt, (told, groups), (Some(number), Some(1)), line);
+        assert!(rt; writer.taken().starts_with(line.as_bytes()));
+    }
+}
+
 #[test]
 fn thousands_of_spans_are_taken(rt: HostRuntime) {
     let alloc = rt.alloc();
@@ -152,6 +267,16 @@ fn thousands_of_spans_are_taken(rt: HostRuntime) {
     let found = status_of(&rt, alloc, "POST /v1/traces", TYPE, &body);
     assert_equal(&rt, found, (Some(200), Some(2000)));
 }
+
+/// What is written where memory was refused.
+const UNAVAILABLE: &str = concat!(
+    "HTTP/1.1 503 Service Unavailable\r\n",
+    "Content-Type: application/x-protobuf\r\n",
+    "Content-Length: 0\r\n",
+    "Connection: close\r\n",
+    "Retry-After: 1\r\n",
+    "\r\n",
+);
 
 /// Serves a connection while one call for memory is refused. Answers whether it was.
 fn is_refused(rt: &impl Abort, alloc: Global, fail_index: u64) -> bool {
@@ -168,6 +293,9 @@ fn is_refused(rt: &impl Abort, alloc: Global, fail_index: u64) -> bool {
     assert!(rt; status == 200 || status == 503);
     drop(request);
     assert_equal(rt, scarce.has_failed(), status == 503);
+    if status == 503 {
+        assert!(rt; writer.taken() == UNAVAILABLE.as_bytes());
+    }
     status == 503
 }
 
