@@ -9,6 +9,7 @@ use linked_list_allocator::LocalHeap;
 use otlp_read::{ReadFault, read_request};
 use otlp_wire::WireFault;
 use std::alloc::{Allocator, Global};
+use std::fmt::Debug;
 use std::process::Abort;
 
 /// Two events: one of all fields, and one of a name.
@@ -25,25 +26,26 @@ fn with_scope(rt: &impl Abort, alloc: Global, scope: &[u8]) -> Vec<u8> {
     part(rt, alloc, 0x0a, &group)
 }
 
-/// How the resource of these bytes is shown, behind its schema URL.
+/// How a value is shown.
+fn text_of<T: Debug>(rt: &impl Abort, alloc: Global, value: &T) -> String {
+    format!(in alloc; "{value:?}").expect(rt, "memory")
+}
+
+/// How the schema URL and the resource of these bytes are shown.
 fn shown_resource(rt: &impl Abort, alloc: Global, group: &[u8]) -> String {
     let body = part(rt, alloc, 0x0a, group);
     let request = read_request(alloc, &body).expect(rt, "a request");
     let group = request.resource_spans.first().expect(rt, "a resource");
-    let resource = &group.resource;
-    let url = &group.schema_url;
-    format!(in alloc; "{url} {resource:?}").expect(rt, "memory")
+    text_of(rt, alloc, &(&group.schema_url, &group.resource))
 }
 
-/// How the scope of these bytes is shown, behind its schema URL.
+/// How the schema URL and the scope of these bytes are shown.
 fn shown_scope(rt: &impl Abort, alloc: Global, scope: &[u8]) -> String {
     let body = with_scope(rt, alloc, scope);
     let request = read_request(alloc, &body).expect(rt, "a request");
     let group = request.resource_spans.first().expect(rt, "a resource");
     let group = group.scope_spans.first().expect(rt, "a scope");
-    let scope = &group.scope;
-    let url = &group.schema_url;
-    format!(in alloc; "{url} {scope:?}").expect(rt, "memory")
+    text_of(rt, alloc, &(&group.schema_url, &group.scope))
 }
 
 /// How the events, the links and the status of a span are shown.
@@ -51,13 +53,10 @@ fn shown_parts(rt: &impl Abort, alloc: Global, span: &[u8]) -> (String, String, 
     let body = with_span(rt, alloc, span);
     let request = read_request(alloc, &body).expect(rt, "a request");
     let span = first_span(&request).expect(rt, "a span");
-    let events = &span.events;
-    let links = &span.links;
-    let status = &span.status;
     (
-        format!(in alloc; "{events:?}").expect(rt, "memory"),
-        format!(in alloc; "{links:?}").expect(rt, "memory"),
-        format!(in alloc; "{status:?}").expect(rt, "memory"),
+        text_of(rt, alloc, &span.events),
+        text_of(rt, alloc, &span.links),
+        text_of(rt, alloc, &span.status),
     )
 }
 
@@ -81,9 +80,9 @@ fn shown_status(rt: &impl Abort, alloc: Global, span: &[u8]) -> String {
 
 #[test]
 fn each_field_of_a_resource_is_read(rt: HostRuntime) {
-    let none = " Resource { attributes: [], dropped_attributes_count: 0 }";
-    let two = "u Resource { attributes: [(\"k\", Int(5)), (\"l\", Bool(true))], \
-        dropped_attributes_count: 3 }";
+    let none = "(\"\", Resource { attributes: [], dropped_attributes_count: 0 })";
+    let two = "(\"u\", Resource { attributes: [(\"k\", Int(5)), (\"l\", Bool(true))], \
+        dropped_attributes_count: 3 })";
     let rows: [(&[u8], &str); 4] = [
         (b"", none),
         (
@@ -107,10 +106,10 @@ fn each_field_of_a_resource_is_read(rt: HostRuntime) {
 
 #[test]
 fn each_field_of_a_scope_is_read(rt: HostRuntime) {
-    let none = " InstrumentationScope { name: \"\", version: \"\", attributes: [], \
-        dropped_attributes_count: 0 }";
-    let two = "u InstrumentationScope { name: \"s\", version: \"v\", \
-        attributes: [(\"k\", Int(6)), (\"k\", Int(7))], dropped_attributes_count: 4 }";
+    let none = "(\"\", InstrumentationScope { name: \"\", version: \"\", attributes: [], \
+        dropped_attributes_count: 0 })";
+    let two = "(\"u\", InstrumentationScope { name: \"s\", version: \"v\", \
+        attributes: [(\"k\", Int(6)), (\"k\", Int(7))], dropped_attributes_count: 4 })";
     let rows: [(&[u8], &str); 4] = [
         (b"", none),
         (
