@@ -61,6 +61,25 @@ fn push_resource<A: Allocator + Copy>(
     push_pair_lines(out, "rattr", &resource.attributes)
 }
 
+/// Appends the name, the version and the schema URL of a scope, behind the word of its line.
+fn push_scope_texts<A: Allocator + Copy>(
+    out: &mut String<A>,
+    scope: &InstrumentationScope<A>,
+    schema_url: &str,
+) -> Result<(), OutOfMemory>
+    ensures { OnOk result (string_bytes out.new ≡ string_bytes out.old ++ (codes "scope"
+        ++ 32 ∷ (text_word (string_bytes scope.now.name)
+        ++ 32 ∷ (text_word (string_bytes scope.now.version)
+        ++ 32 ∷ text_word schema_url.now)))) }
+{
+    out.push_str("scope ")?;
+    push_text(out, &scope.name)?;
+    out.push(' ')?;
+    push_text(out, &scope.version)?;
+    out.push(' ')?;
+    push_text(out, schema_url)
+}
+
 /// Appends the lines of a scope, with its schema URL.
 fn push_scope<A: Allocator + Copy>(
     out: &mut String<A>,
@@ -70,12 +89,7 @@ fn push_scope<A: Allocator + Copy>(
     ensures { OnOk result (string_bytes out.new
         ≡ string_bytes out.old ++ scope_lines (scope_view scope.now) schema_url.now) }
 {
-    out.push_str("scope ")?;
-    push_text(out, &scope.name)?;
-    out.push(' ')?;
-    push_text(out, &scope.version)?;
-    out.push(' ')?;
-    push_text(out, schema_url)?;
+    push_scope_texts(out, scope, schema_url)?;
     writeln!(out, " {}", scope.dropped_attributes_count)?;
     push_pair_lines(out, "sattr", &scope.attributes)
 }
@@ -189,13 +203,25 @@ fn push_span<A: Allocator + Copy>(out: &mut String<A>, span: &Span<A>) -> Result
     Ok(out.push('\n')?)
 }
 
+/// Appends the lines of the attributes and events of a span.
+fn push_attributes_and_events<A: Allocator + Copy>(
+    out: &mut String<A>,
+    span: &Span<A>,
+) -> Result<(), OutOfMemory>
+    ensures { OnOk result (string_bytes out.new ≡ string_bytes out.old
+        ++ (pair_lines (codes "attr") (pairs_view span.now.attributes.items)
+        ++ flat_map event_lines (events_view span.now.events.items))) }
+{
+    push_pair_lines(out, "attr", &span.attributes)?;
+    push_events(out, &span.events)
+}
+
 /// Appends the lines of the attributes, events and links of a span.
 fn push_parts<A: Allocator + Copy>(out: &mut String<A>, span: &Span<A>) -> Result<(), OutOfMemory>
     ensures { OnOk result (string_bytes out.new
         ≡ string_bytes out.old ++ part_lines (span_view span.now)) }
 {
-    push_pair_lines(out, "attr", &span.attributes)?;
-    push_events(out, &span.events)?;
+    push_attributes_and_events(out, span)?;
     push_links(out, &span.links)
 }
 
