@@ -6,9 +6,11 @@ PREFIX ?= $(HOME)/.local
 help: ## List the targets
 	@grep -E '^[a-z]+:.*##' Makefile | sed -E 's/:.*## /: /'
 
-run: ## Build programs without their proofs: the balance of a service, and what the examples' steps answer
+run: ## Build programs without their proofs: the balance of a service, of threads and a collector, and what the examples' steps answer
 	@echo '# first_service, built before it is proved (make test proves): what became of its spans' >&2
 	@cd crates/first_service && rt try
+	@echo '# trace-demo: threads, a worker, and the collector to which it posts' >&2
+	@cd crates/trace_demo && rt try -- --threads 2 --spans 10
 	@echo '# trace-script, on each of examples/*.script' >&2
 	@cd crates/trace_script && rt try --cases ../../examples
 
@@ -27,7 +29,13 @@ times: ## The gate, and what each crate took of the processors
 
 install: ## Prove and build the programs, and put them into PREFIX/bin
 	cd crates/trace_script && rt run -- --body < stdin
+	cd crates/trace_collector && rt run -- --port 0 --count 0
+	cd crates/trace_demo && rt run -- --threads 2 --spans 10
+	cd crates/first_export && rt run -- || true
 	install -D -m 755 crates/trace_script/out/trace_script '$(PREFIX)/bin/trace-script'
+	install -D -m 755 crates/trace_collector/out/trace_collector '$(PREFIX)/bin/otlp-collector'
+	install -D -m 755 crates/trace_demo/out/trace_demo '$(PREFIX)/bin/trace-demo'
+	install -D -m 755 crates/first_export/out/first_export '$(PREFIX)/bin/first-export'
 
 check: ## Prove every crate over what earlier checks kept
 	rt all check

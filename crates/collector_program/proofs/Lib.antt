@@ -1,0 +1,3 @@
+mod Options
+mod Prints
+mod Words

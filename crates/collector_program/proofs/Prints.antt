@@ -1,0 +1,106 @@
+-- What is known of an output while connections are printed.
+use Rattle.std.proofs.Common.{◌≡◌, ◌≢◌, refl, sym, ap, subst, ◌∙◌, ℕ, ◌+◌, ◌≤◌, zero, suc, List, [], ◌∷◌, ◌++◌, length, take, Option, arith, append_assoc, append-nil, length-append}
+use Rattle.std.proofs.Math.Seq.{take-append-add}
+use Rattle.std.specs.Io.KnownBytes.{Appends}
+use Rattle.std.proofs.KnownBytes.{Appends-nil, Appends-trans}
+use Rattle.std.specs.Prelude.{None, Some, Ok, Err, Result, OnErr, OnOk}
+use Rattle.std.specs.Option.{option_map_or}
+use Rattle.message_model.specs.Messages.{triples}
+use Rattle.message_model.specs.Tables
+use Rattle.message_model.specs.Tables.{Message}
+use Rattle.span_text.specs.Lines.{spans_text}
+use Rattle.collector_program.specs.Printed.{AppendsStart, Outcome, PrintsAll, PrintsConnections, connection_text, connections_text, listening_line}
+
+-- ---- beginnings
+
+-- a beginning of the first part of a text
+pub start-first : (old new : Option (List ℕ)) (first rest : List ℕ) → AppendsStart old new first → AppendsStart old new (first ++ rest)
+start-first old new first rest h = record {
+  count = length (take h.count first);
+  gained = rw (start-is h.count first rest) h.gained;
+}
+  where
+    start-is : (n : ℕ) (xs ys : List ℕ) → take (length (take n xs)) (xs ++ ys) ≡ take n xs
+    start-is zero xs ys = refl
+    start-is (suc n) [] ys = refl
+    start-is (suc n) (x ∷ xs) ys = ap (λ l. x ∷ l) (start-is n xs ys)
+
+-- the first part of a text, and a beginning of the rest
+pub start-rest : (old now new : Option (List ℕ)) (first rest : List ℕ) (n : ℕ) → Appends old now first → Appends now new (take n rest) → AppendsStart old new (first ++ rest)
+start-rest old now new first rest n f r = record {
+  count = length first + n;
+  gained = rw (take-append-add first rest n) (Appends-trans old now new first (take n rest) f r);
+}
+
+-- ---- one connection after another
+
+pub none-yet : (old : Option (List ℕ)) → PrintsConnections 0 old old
+none-yet old = record { outcomes = []; many = refl; gained = Appends-nil old }
+
+more-text : (number : ℕ) (outcomes : List Outcome) (last : Outcome) → connections_text number (outcomes ++ last ∷ []) ≡ connections_text number outcomes ++ connection_text (number + length outcomes) last
+more-text number [] last =
+    let same : number + 0 ≡ number = omega arith in
+    append-nil (connection_text number last) ∙ ap (λ n. connection_text n last) (sym same)
+more-text number (o ∷ outcomes) last =
+    let same : number + 1 + length outcomes ≡ number + suc (length outcomes) = omega arith in
+    ap (λ t. connection_text number o ++ t) (more-text (number + 1) outcomes last ∙ ap (λ n. connections_text (number + 1) outcomes ++ connection_text n last) same)
+    ∙ sym (append_assoc (connection_text number o) (connections_text (number + 1) outcomes) (connection_text (number + suc (length outcomes)) last))
+
+pub one-more : (n : ℕ) (old now new : Option (List ℕ)) (last : Outcome) → PrintsConnections n old now → Appends now new (connection_text (n + 1) last) → PrintsConnections (n + 1) old new
+one-more n old now new last h more =
+    let number : 1 + length h.outcomes ≡ n + 1 = rw h.many (omega arith) in
+    let text = more-text 1 h.outcomes last ∙ ap (λ k. connections_text 1 h.outcomes ++ connection_text k last) number in
+    record {
+      outcomes = h.outcomes ++ last ∷ [];
+      many = length-append h.outcomes (last ∷ []) ∙ ap (λ k. k + 1) h.many;
+      gained = rw text (Appends-trans old now new (connections_text 1 h.outcomes) (connection_text (n + 1) last) h.gained more);
+    }
+
+-- the line of the port, and then the connections
+pub all-printed : (port told count : ℕ) (old now new : Option (List ℕ)) → (port ≢ 0 → told ≡ port) → Appends old now (listening_line told) → PrintsConnections count now new → PrintsAll port count old new
+all-printed port told count old now new named line h = record {
+  told = told;
+  named = named;
+  outcomes = h.outcomes;
+  many = h.many;
+  gained = Appends-trans old now new (listening_line told) (connections_text 1 h.outcomes) line h.gained;
+}
+
+-- ---- the line of a connection, and the spans of its request
+
+-- what is printed behind the line
+abbrev pub spans_part : Option (Message Tables.request) → List ℕ
+spans_part request = option_map_or (λ r. spans_text (triples r)) request []
+
+pub on-err : {T E : Type 0} (r : Result T E) (P : Type 0) → P → OnErr r P
+on-err (Ok x) P p = tt
+on-err (Err e) P p = p
+
+pub ok-weaker : {T E : Type 0} (r : Result T E) (P Q : Type 0) → (P → Q) → OnOk r P → OnOk r Q
+ok-weaker (Ok x) P Q f p = f p
+ok-weaker (Err e) P Q f p = tt
+
+pub err-weaker : {T E : Type 0} (r : Result T E) (P Q : Type 0) → (P → Q) → OnErr r P → OnErr r Q
+err-weaker (Ok x) P Q f p = tt
+err-weaker (Err e) P Q f p = f p
+
+pub both-printed : {T E : Type 0} (r : Result T E) (old now new : Option (List ℕ)) (line : List ℕ) (o : Option (Message Tables.request)) (m : Message Tables.request) → o ≡ Some m → Appends old now line
+    → OnOk r (Appends now new (spans_text (triples m))) → OnOk r (Appends old new (line ++ spans_part o))
+both-printed (Ok x) old now new line o m e first rest = rw e (Appends-trans old now new line (spans_text (triples m)) first rest)
+both-printed (Err x) old now new line o m e first rest = tt
+
+pub both-begun : {T E : Type 0} (r : Result T E) (old now new : Option (List ℕ)) (line : List ℕ) (o : Option (Message Tables.request)) (m : Message Tables.request) → o ≡ Some m → Appends old now line
+    → OnErr r ((n : ℕ) × (n ≤ length (spans_text (triples m))) × Appends now new (take n (spans_text (triples m)))) → OnErr r (AppendsStart old new (line ++ spans_part o))
+both-begun (Ok x) old now new line o m e first rest = tt
+both-begun (Err x) old now new line o m e first rest = rw e (start-rest old now new line (spans_text (triples m)) rest.0 first rest.2)
+
+pub line-alone : (old now : Option (List ℕ)) (line : List ℕ) (o : Option (Message Tables.request)) → o ≡ None → Appends old now line → Appends old now (line ++ spans_part o)
+line-alone old now line o e first = rw (e, append-nil line) first
+
+-- ---- texts in memory
+
+pub in-memory : (number : ℕ) (before after : List ℕ) → before ≡ [] → ((outcome : Outcome) × Appends (Some before) (Some after) (connection_text number outcome)) → (outcome : Outcome) × (after ≡ connection_text number outcome)
+in-memory number before after none h = (h.0, h.1 ∙ ap (λ l. l ++ connection_text number h.0) none)
+
+pub written : (number : ℕ) (old new : Option (List ℕ)) (text : List ℕ) → ((outcome : Outcome) × (text ≡ connection_text number outcome)) → Appends old new text → (outcome : Outcome) × Appends old new (connection_text number outcome)
+written number old new text h gained = (h.0, subst (Appends old new) h.1 gained)

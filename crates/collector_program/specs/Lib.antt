@@ -1,0 +1,3 @@
+pub mod Command
+pub mod Failures
+pub mod Printed

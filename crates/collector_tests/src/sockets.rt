@@ -1,0 +1,177 @@
+//! The program over sockets of this machine.
+
+use crate::equal::{assert_equal, assert_equal_at};
+use crate::fixture::{FailingWriter, LINES, SPAN, TYPE, command_line, request, span_request};
+use collector_program::run_collector;
+use std::alloc::Global;
+use std::io;
+use std::io::{Read, Write};
+use std::net::{Ipv4Addr, Net, OpenListener, TcpListener, TcpStream};
+use std::process::Abort;
+
+/// An output that is a client too: when the port is told it connects and sends the first of some
+/// texts, and when a connection was printed it reads the reply, closes, and sends the next one, if
+/// there is one, over a connection of its own. So all is done in one thread.
+#[derive(Drop)]
+struct Client<'a, R: Net> {
+    rt: &'a R,
+    alloc: Global,
+    texts: Vec<Vec<u8>>,
+    sent: usize,
+    stream: Option<R::Stream>,
+    printed: Vec<u8>,
+    replied: Vec<u8>,
+}
+
+impl<R: Net> Client<'_, R> {
+    /// Reads what was replied: up to its empty line, or to the end.
+    fn read_reply(&mut self) -> io::Result<()> {
+        let Some(mut stream) = self.stream.take() else {
+            return Ok(());
+        };
+        let mut buf = [0; 1000];
+        for _ in 0..1000u32 {
+            let count = stream.read(&mut buf)?;
+            self.replied.extend_from_slice(&buf[..count])?;
+            if count == 0 || self.replied.as_slice().ends_with(b"\r\n\r\n") {
+                return Ok(());
+            }
+        }
+        Ok(())
+    }
+
+    /// The port that was told in the first line.
+    fn port(&self) -> Option<u16> {
+        let text = str::from_utf8(self.printed.as_slice()).ok()?;
+        let line = text.lines().next()?;
+        line.strip_prefix("listening ")?.parse::<u16>().ok()
+    }
+
+    /// Sends the next text, if there is one.
+    fn send_next(&mut self) -> io::Result<()> {
+        let Some(text) = self.texts.get(self.sent) else {
+            return Ok(());
+        };
+        let port = self.port().ok_or(io::ErrorKind::InvalidData)?;
+        let mut stream = TcpStream::connect(self.rt, (Ipv4Addr::LOCALHOST, port))?;
+        stream.write_all(text.as_slice())?;
+        self.sent = self.sent.saturating_add(1);
+        self.stream = Some(stream);
+        Ok(())
+    }
+}
+
+impl<R: Net> Write for Client<'_, R> {
+    fn write(&mut self, buffer: &[u8]) -> io::Result<usize> {
+        self.printed.extend_from_slice(buffer)?;
+        Ok(buffer.len())
+    }
+
+    fn flush(&mut self) -> io::Result<()> {
+        self.read_reply()?;
+        self.send_next()
+    }
+}
+
+/// Serves these texts, each over a connection of its own, and checks what is printed behind the
+/// first line. Answers all that was replied.
+fn replied(
+    rt: &(impl Abort + Net),
+    alloc: Global,
+    texts: Vec<Vec<u8>>,
+    words: &str,
+    wanted: &str,
+) -> Vec<u8> {
+    let line = command_line(rt, alloc, words);
+    let mut client = Client {
+        rt,
+        alloc,
+        texts,
+        sent: 0,
+        stream: None,
+        printed: Vec::new(alloc),
+        replied: Vec::new(alloc),
+    };
+    let mut faults = Vec::new(alloc);
+    let status = run_collector(rt, alloc, line.as_slice(), &mut client, &mut faults);
+    assert_equal(rt, status, 0);
+    assert_equal(rt, faults.len(), 0);
+    let port = client.port().expect(rt, "a port");
+    let all = format!(in alloc; "listening {port}\n{wanted}").expect(rt, "memory");
+    assert!(rt; client.printed.as_slice() == all.as_bytes());
+    client.replied
+}
+
+#[test]
+fn connections_are_served_one_after_another(rt: HostRuntime) {
+    let alloc = rt.alloc();
+    let cut = SPAN.get(..52).expect(&rt, "a front");
+    let texts = vec![in alloc;
+        request(&rt, alloc, "GET /v1/traces", TYPE, SPAN),
+        request(&rt, alloc, "POST /v1/traces", TYPE, cut),
+        request(&rt, alloc, "POST /v1/traces", TYPE, &[0; 1001]),
+    ];
+    let wanted = "connection 1 405\nconnection 2 400\nconnection 3 413\n";
+    let texts = texts.expect(&rt, "memory");
+    let words = "--port 0 --count 3 --max-body 1000";
+    let replies = replied(&rt, alloc, texts, words, wanted);
+    assert!(rt;
+        replies
+            .as_slice()
+            .starts_with(b"HTTP/1.1 405 Method Not Allowed\r\n")
+    );
+    assert!(rt; replies.as_slice().ends_with(b"Connection: close\r\n\r\n"));
+}
+
+#[test]
+fn the_spans_of_a_request_are_printed(rt: HostRuntime) {
+    let alloc = rt.alloc();
+    let texts = vec![in alloc; span_request(&rt, alloc)].expect(&rt, "memory");
+    let wanted = format!(in alloc; "connection 1 200\n{LINES}").expect(&rt, "memory");
+    let replies = replied(&rt, alloc, texts, "--port 0", wanted.as_str());
+    assert!(rt; replies.as_slice().starts_with(b"HTTP/1.1 200 OK\r\n"));
+}
+
+#[test]
+fn a_port_that_is_taken_cannot_be_listened_at(rt: HostRuntime) {
+    let alloc = rt.alloc();
+    let taken = TcpListener::bind(&rt, (Ipv4Addr::LOCALHOST, 0)).expect(&rt, "a port");
+    let port = taken.local_addr().expect(&rt, "its port").port();
+    let words = format!(in alloc; "--port {port}").expect(&rt, "memory");
+    let line = command_line(&rt, alloc, words.as_str());
+    let mut output = Vec::new(alloc);
+    let mut faults = Vec::new(alloc);
+    let status = run_collector(&rt, alloc, line.as_slice(), &mut output, &mut faults);
+    assert_equal(&rt, (status, output.len()), (1, 0));
+    assert!(rt; faults.as_slice() == b"cannot listen\n".as_slice());
+}
+
+/// What the program answers where its output fails when it has taken so many bytes, or where it is
+/// flushed.
+fn failing(rt: &(impl Abort + Net), alloc: Global, left: usize, flushes: bool) -> u8 {
+    let line = command_line(rt, alloc, "--port 0 --count 0");
+    let mut output = FailingWriter {
+        taken: Vec::new(alloc),
+        left,
+        flushes,
+    };
+    let mut faults = Vec::new(alloc);
+    let status = run_collector(rt, alloc, line.as_slice(), &mut output, &mut faults);
+    let told: &[u8] = if status == 0 { b"" } else { b"cannot write\n" };
+    assert!(rt; faults.as_slice() == told);
+    status
+}
+
+#[test]
+fn an_output_that_fails_ends_the_program(rt: HostRuntime) {
+    let alloc = rt.alloc();
+    let rows = [(0, true, 1), (9, true, 1), (100, false, 1), (100, true, 0)];
+    for (left, flushes, status) in rows {
+        assert_equal_at(
+            &rt,
+            failing(&rt, alloc, left, flushes),
+            status,
+            (left, flushes),
+        );
+    }
+}

@@ -1,0 +1,63 @@
+//! Why the words of the command line ask for no run, and how that is told.
+ghost use Rattle.std.specs.Prelude.{◌≤◌};
+
+use clap::Error;
+use clap::error::ErrorKind;
+use std::alloc::AllocError;
+use std::fmt::Display;
+use std::io;
+use std::io::Write;
+
+/// Why the words of the command line ask for no run.
+#[derive(Debug, Drop, thiserror::Error)]
+pub enum ArgFault {
+    /// They ask for help, which is the text.
+    #[error("{0}")]
+    Help(Error),
+    /// A word isn't known, stands twice, is no number, or a number is out of its range.
+    #[error("{0}")]
+    Mistake(Error),
+    /// Memory was refused.
+    #[error("out of memory")]
+    OutOfMemory,
+}
+
+impl From<Error> for ArgFault {
+    fn from(error: Error) -> ArgFault {
+        match error.kind() {
+            ErrorKind::DisplayHelp => ArgFault::Help(error),
+            ErrorKind::OutOfMemory => ArgFault::OutOfMemory,
+            _ => ArgFault::Mistake(error),
+        }
+    }
+}
+
+impl From<AllocError> for ArgFault {
+    fn from(_: AllocError) -> ArgFault {
+        ArgFault::OutOfMemory
+    }
+}
+
+impl ArgFault {
+    /// Prints help, or tells a mistake or refused memory. Answers the program's status: 0 behind
+    /// help, 2 for a mistake, 3 for memory, or 1 where the text could not be written.
+    pub fn tell<W: Write, F: Write>(&self, output: &mut W, faults: &mut F) -> u8
+        ensures { result ≤ 3 }
+    {
+        let (told, status) = match self {
+            ArgFault::Help(text) => (print_text(output, text), 0),
+            ArgFault::Mistake(text) => (print_text(faults, text), 2),
+            ArgFault::OutOfMemory => (print_text(faults, &"out of memory\n"), 3),
+        };
+        match told {
+            Ok(()) => status,
+            Err(_) => 1,
+        }
+    }
+}
+
+/// Writes a text, and flushes.
+fn print_text<W: Write>(writer: &mut W, text: &impl Display) -> io::Result<()> {
+    write!(writer, "{text}")?;
+    writer.flush()
+}

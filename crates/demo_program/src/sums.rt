@@ -1,0 +1,73 @@
+//! What became of the spans, in sums.
+ghost use Rattle.std.specs.Prelude.{◌≤◌};
+
+use std::io;
+use std::io::Write;
+use trace_kit::processor::Accounts;
+
+/// What became of the spans of all threads.
+#[derive(Debug, Clone, Copy, PartialEq, Eq)]
+pub(crate) struct Sums {
+    /// How many ends were answered that they were queued or dropped.
+    pub(crate) ended: u64,
+    /// How many were handed to the exporter.
+    pub(crate) handed: u64,
+    /// How many were dropped.
+    pub(crate) dropped: u64,
+    /// How many are left in the queue.
+    pub(crate) left: u64,
+    /// How many the collector has.
+    pub(crate) collected: u64,
+}
+
+impl Sums {
+    /// By what the processor came to.
+    pub(crate) fn new(ended: u64, accounts: &Accounts, collected: u64) -> Sums {
+        let totals = accounts.desk.totals();
+        let drops = totals.dropped;
+        let by_worker = drops.encode_memory.saturating_add(drops.abandoned);
+        Sums {
+            ended,
+            handed: totals.handed,
+            dropped: drops.queue_full.saturating_add(by_worker),
+            left: totals.left,
+            collected,
+        }
+    }
+
+    /// How many were handed, dropped or left.
+    fn sum(&self) -> u64 {
+        let gone = self.handed.saturating_add(self.dropped);
+        gone.saturating_add(self.left)
+    }
+
+    /// Whether each span that ended was handed, dropped or left.
+    fn is_balanced(&self) -> bool {
+        self.sum() == self.ended
+    }
+
+    /// The program's status: 0 where they are balanced and the collector has as many as were
+    /// handed, and else 1.
+    pub(crate) fn status(&self) -> u8
+        ensures { result ≤ 1 }
+    {
+        if self.is_balanced() && self.collected == self.handed {
+            0
+        } else {
+            1
+        }
+    }
+
+    /// Writes a line for each, and flushes.
+    pub(crate) fn print<W: Write>(&self, output: &mut W) -> io::Result<()> {
+        writeln!(output, "ended {}", self.ended)?;
+        writeln!(output, "handed {}", self.handed)?;
+        writeln!(output, "dropped {}", self.dropped)?;
+        writeln!(output, "left {}", self.left)?;
+        writeln!(output, "sum {}", self.sum())?;
+        let balanced = if self.is_balanced() { "yes" } else { "no" };
+        writeln!(output, "balanced {balanced}")?;
+        writeln!(output, "collected {}", self.collected)?;
+        output.flush()
+    }
+}
