@@ -6,8 +6,19 @@ use collector_program::run_collector;
 use std::alloc::Global;
 use std::io;
 use std::io::{Read, Write};
-use std::net::{Ipv4Addr, Net, OpenListener, TcpListener, TcpStream};
+use std::net::{Ipv4Addr, Net, OpenListener, OpenStream, TcpListener, TcpStream};
 use std::process::Abort;
+
+/// How a client sends a text.
+#[derive(Clone, Copy, PartialEq, Eq)]
+enum Sending {
+    /// In one piece.
+    Whole,
+    /// Byte by byte, each in a segment of its own.
+    ByteByByte,
+    /// In one piece, and then it closes, and doesn't wait for a reply.
+    Closing,
+}
 
 /// An output that is a client too: when the port is told it connects and sends the first of some
 /// texts, and when a connection was printed it reads the reply, closes, and sends the next one, if
@@ -15,12 +26,20 @@ use std::process::Abort;
 #[derive(Drop)]
 struct Client<'a, R: Net> {
     rt: &'a R,
-    alloc: Global,
+    sending: Sending,
     texts: Vec<Vec<u8>>,
     sent: usize,
     stream: Option<R::Stream>,
     printed: Vec<u8>,
     replied: Vec<u8>,
+}
+
+/// Writes each byte by a call of its own.
+fn write_bytes<W: Write>(writer: &mut W, text: &[u8]) -> io::Result<()> {
+    for byte in text {
+        writer.write_all(&[*byte])?;
+    }
+    Ok(())
 }
 
 impl<R: Net> Client<'_, R> {
@@ -54,9 +73,15 @@ impl<R: Net> Client<'_, R> {
         };
         let port = self.port().ok_or(io::ErrorKind::InvalidData)?;
         let mut stream = TcpStream::connect(self.rt, (Ipv4Addr::LOCALHOST, port))?;
-        stream.write_all(text.as_slice())?;
+        stream.set_nodelay(true)?;
+        match self.sending {
+            Sending::ByteByByte => write_bytes(&mut stream, text.as_slice())?,
+            Sending::Whole | Sending::Closing => stream.write_all(text.as_slice())?,
+        }
         self.sent = self.sent.saturating_add(1);
-        self.stream = Some(stream);
+        if self.sending != Sending::Closing {
+            self.stream = Some(stream);
+        }
         Ok(())
     }
 }
@@ -73,11 +98,12 @@ impl<R: Net> Write for Client<'_, R> {
     }
 }
 
-/// Serves these texts, each over a connection of its own, and checks what is printed behind the
-/// first line. Answers all that was replied.
+/// Serves these texts, each sent so over a connection of its own, and checks what is printed behind
+/// the first line. Answers all that was replied.
 fn replied(
     rt: &(impl Abort + Net),
     alloc: Global,
+    sending: Sending,
     texts: Vec<Vec<u8>>,
     words: &str,
     wanted: &str,
@@ -85,7 +111,7 @@ fn replied(
     let line = command_line(rt, alloc, words);
     let mut client = Client {
         rt,
-        alloc,
+        sending,
         texts,
         sent: 0,
         stream: None,
@@ -114,7 +140,7 @@ fn connections_are_served_one_after_another(rt: HostRuntime) {
     let wanted = "connection 1 405\nconnection 2 400\nconnection 3 413\n";
     let texts = texts.expect(&rt, "memory");
     let words = "--port 0 --count 3 --max-body 1000";
-    let replies = replied(&rt, alloc, texts, words, wanted);
+    let replies = replied(&rt, alloc, Sending::Whole, texts, words, wanted);
     assert!(rt;
         replies
             .as_slice()
@@ -128,8 +154,49 @@ fn the_spans_of_a_request_are_printed(rt: HostRuntime) {
     let alloc = rt.alloc();
     let texts = vec![in alloc; span_request(&rt, alloc)].expect(&rt, "memory");
     let wanted = format!(in alloc; "connection 1 200\n{LINES}").expect(&rt, "memory");
-    let replies = replied(&rt, alloc, texts, "--port 0", wanted.as_str());
+    let words = "--port 0";
+    let replies = replied(&rt, alloc, Sending::Whole, texts, words, wanted.as_str());
     assert!(rt; replies.as_slice().starts_with(b"HTTP/1.1 200 OK\r\n"));
+}
+
+#[test]
+fn a_request_may_come_byte_by_byte(rt: HostRuntime) {
+    let alloc = rt.alloc();
+    let texts = vec![in alloc; span_request(&rt, alloc)].expect(&rt, "memory");
+    let wanted = format!(in alloc; "connection 1 200\n{LINES}").expect(&rt, "memory");
+    let words = "--port 0";
+    let replies = replied(
+        &rt,
+        alloc,
+        Sending::ByteByByte,
+        texts,
+        words,
+        wanted.as_str(),
+    );
+    assert!(rt; replies.as_slice().starts_with(b"HTTP/1.1 200 OK\r\n"));
+}
+
+/// The first so many bytes of a text.
+fn front(rt: &impl Abort, alloc: Global, text: &[u8], size: usize) -> Vec<u8> {
+    let front = text.get(..size).expect(rt, "a front");
+    Vec::from_slice(alloc, front).expect(rt, "memory")
+}
+
+#[test]
+fn a_client_may_close_in_the_middle(rt: HostRuntime) {
+    let alloc = rt.alloc();
+    let text = span_request(&rt, alloc);
+    let short = text.len().saturating_sub(1);
+    let texts = vec![in alloc;
+        front(&rt, alloc, &text, 0),
+        front(&rt, alloc, &text, 30),
+        front(&rt, alloc, &text, short),
+    ];
+    let texts = texts.expect(&rt, "memory");
+    let wanted = "connection 1 none\nconnection 2 none\nconnection 3 none\n";
+    let words = "--port 0 --count 3";
+    let replies = replied(&rt, alloc, Sending::Closing, texts, words, wanted);
+    assert_equal(&rt, replies.len(), 0);
 }
 
 #[test]
