@@ -1,7 +1,7 @@
 //! Connections over memory.
 
 use crate::equal::{assert_equal, assert_equal_at};
-use crate::fixture::{LINES, SPAN, TYPE, request, span_request, wire};
+use crate::fixture::{LINES, PLAIN, PLAIN_LINES, SPAN, TYPE, request, span_request, wire};
 use collector_program::serve;
 use http_wire::{Counted, FailingCalls, HeadLimits};
 use span_text::PrintFault;
@@ -9,7 +9,7 @@ use std::alloc::Global;
 use std::process::Abort;
 
 /// Serves the connection with the number 7 over which this text comes, at most so many bytes a
-/// read, where these writes of the reply fail, and bodies have 100 bytes at most. Answers whether
+/// read, where these writes of the reply fail, and bodies have 1,000 bytes at most. Answers whether
 /// it was printed, what was, and how much was replied.
 fn served(
     rt: &impl Abort,
@@ -21,7 +21,7 @@ fn served(
     let mut reader = wire(rt, alloc, text, most, FailingCalls::Never);
     let mut writer = wire(rt, alloc, b"", 7, failing);
     let limits = HeadLimits {
-        body: 100,
+        body: 1_000,
         ..HeadLimits::default()
     };
     let mut output = Counted::new(Vec::new(alloc));
@@ -38,7 +38,7 @@ fn served(
 }
 
 /// Checks what is printed of a connection over which this text comes whole, and byte by byte.
-fn assert_printed(rt: &impl Abort, alloc: Global, text: &[u8], line: &str, lines: &str) {
+pub(crate) fn assert_printed(rt: &impl Abort, alloc: Global, text: &[u8], line: &str, lines: &str) {
     for most in [1, 65_536] {
         let (printed, output, _) = served(rt, alloc, text, most, FailingCalls::Never);
         assert_equal_at(rt, printed, Ok(()), line);
@@ -52,6 +52,8 @@ fn the_spans_of_a_request_are_printed(rt: HostRuntime) {
     let alloc = rt.alloc();
     let text = span_request(&rt, alloc);
     assert_printed(&rt, alloc, &text, "200", LINES);
+    let text = request(&rt, alloc, "POST /v1/traces", TYPE, PLAIN);
+    assert_printed(&rt, alloc, &text, "200", PLAIN_LINES);
     let text = request(&rt, alloc, "POST /v1/traces", TYPE, b"");
     assert_printed(&rt, alloc, &text, "200", "");
 }
@@ -61,7 +63,7 @@ fn a_request_that_is_refused_has_its_status(rt: HostRuntime) {
     let alloc = rt.alloc();
     let cut = SPAN.get(..52).expect(&rt, "a front");
     let json = "Content-Type: application/json\r\n";
-    let large = [0u8; 101];
+    let large = [0u8; 1_001];
     let rows = [
         ("POST /v1/traces", TYPE, cut, "400"),
         ("POST /v1/traces", TYPE, large.as_slice(), "413"),

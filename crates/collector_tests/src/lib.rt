@@ -9,6 +9,8 @@ mod equal;
 #[cfg(test)]
 mod fixture;
 #[cfg(test)]
+mod lines;
+#[cfg(test)]
 mod memory;
 #[cfg(test)]
 mod sockets;
