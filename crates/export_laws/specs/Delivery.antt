@@ -122,8 +122,9 @@ BytesBehindAreLeft =
 
 -- ---- why a collector is unavailable
 
--- Memory was refused: for the head of the request, for its body, or, where the request came and is
--- not refused, for what its body means. (profile)
+-- Where 503 may come from: the head of a request wasn't whole yet, its fields or its body were being
+-- kept, or the request came and isn't refused, and its body was being read. That memory was really
+-- refused there no contract of an allocator says. (profile)
 pub data WantsMemory (limits : HeadLimits) (old new : Option (List ℕ)) (before after : ℕ)
     : Type 0 where
   for_head : HasNoPost limits old new (HasFailed before after) (Head faults.OutOfMemory)
@@ -134,7 +135,7 @@ pub data WantsMemory (limits : HeadLimits) (old new : Option (List ℕ)) (before
       → refusal_of post ≡ None → NamesOne (meaning Tables.request post.body).faults OutOfMemory
       → WantsMemory limits old new before after
 
--- Whatever came, where no reply is canned 503 is answered for want of memory alone.
+-- Whatever came, where no reply is canned 503 is answered only where memory is asked for.
 abbrev pub UnavailableWantsMemory : Type 0
 UnavailableWantsMemory =
     (limits : HeadLimits) (old new : Option (List ℕ)) (before after : ℕ)
