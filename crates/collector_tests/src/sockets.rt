@@ -28,7 +28,6 @@ struct Client<'a, R: Net> {
     rt: &'a R,
     sending: Sending,
     texts: Vec<Vec<u8>>,
-    sent: usize,
     stream: Option<R::Stream>,
     printed: Vec<u8>,
     replied: Vec<u8>,
@@ -40,6 +39,15 @@ fn write_bytes<W: Write>(writer: &mut W, text: &[u8]) -> io::Result<()> {
         writer.write_all(&[*byte])?;
     }
     Ok(())
+}
+
+/// Sends a text so.
+fn send<W: Write>(writer: &mut W, text: &[u8], sending: Sending) -> io::Result<()> {
+    if sending == Sending::ByteByByte {
+        write_bytes(writer, text)
+    } else {
+        writer.write_all(text)
+    }
 }
 
 impl<R: Net> Client<'_, R> {
@@ -68,17 +76,14 @@ impl<R: Net> Client<'_, R> {
 
     /// Sends the next text, if there is one.
     fn send_next(&mut self) -> io::Result<()> {
-        let Some(text) = self.texts.get(self.sent) else {
+        if self.texts.is_empty() {
             return Ok(());
-        };
+        }
+        let text = self.texts.remove(0);
         let port = self.port().ok_or(io::ErrorKind::InvalidData)?;
         let mut stream = TcpStream::connect(self.rt, (Ipv4Addr::LOCALHOST, port))?;
         stream.set_nodelay(true)?;
-        match self.sending {
-            Sending::ByteByByte => write_bytes(&mut stream, text.as_slice())?,
-            Sending::Whole | Sending::Closing => stream.write_all(text.as_slice())?,
-        }
-        self.sent = self.sent.saturating_add(1);
+        send(&mut stream, text.as_slice(), self.sending)?;
         if self.sending != Sending::Closing {
             self.stream = Some(stream);
         }
@@ -113,7 +118,6 @@ fn replied(
         rt,
         sending,
         texts,
-        sent: 0,
         stream: None,
         printed: Vec::new(alloc),
         replied: Vec::new(alloc),

@@ -142,18 +142,24 @@ fn a_reply_that_breaks_off_is_told(rt: HostRuntime) {
     assert!(rt; b"HTTP/1.1 200 OK".starts_with(writer.taken()));
 }
 
-/// Asserts that what is no request within these limits is answered so, and that so many bytes of it
-/// are left to read.
+/// Asserts that what is no request within these limits of bytes, of a head and of a body, is
+/// answered so, and that so many bytes of it are left to read.
 fn is_refused_early(
     rt: &impl Abort,
     alloc: Global,
     text: &[u8],
-    limits: &HeadLimits,
+    most: (usize, usize),
     refusal: (u16, usize),
 ) {
+    let (head, body) = most;
+    let limits = HeadLimits {
+        head,
+        body,
+        ..HeadLimits::default()
+    };
     let mut reader = wire(rt, alloc, text, 100, FailingCalls::Never);
     let mut writer = wire(rt, alloc, b"", 7, FailingCalls::Never);
-    let served = answer(alloc, alloc, &mut reader, &mut writer, limits, None);
+    let served = answer(alloc, alloc, &mut reader, &mut writer, &limits, None);
     let Answered { status, request } = served.expect(rt, "a whole reply");
     assert!(rt; request.is_none());
     let (wanted, left) = refusal;
@@ -168,31 +174,24 @@ fn is_refused_early(
 #[test]
 fn what_is_above_the_limits_is_refused_unread(rt: HostRuntime) {
     let alloc = rt.alloc();
-    let limits = HeadLimits {
-        body: SPAN.len().saturating_sub(1),
-        ..HeadLimits::default()
-    };
+    let short = SPAN.len().saturating_sub(1);
     let whole = request(&rt, alloc, "POST /v1/traces", TYPE, SPAN);
-    is_refused_early(&rt, alloc, &whole, &limits, (413, SPAN.len()));
+    is_refused_early(&rt, alloc, &whole, (16_384, short), (413, SPAN.len()));
     let other = request(&rt, alloc, "GET /x", "", SPAN);
-    is_refused_early(&rt, alloc, &other, &limits, (413, SPAN.len()));
-    let limits = HeadLimits {
-        head: 20,
-        ..HeadLimits::default()
-    };
+    is_refused_early(&rt, alloc, &other, (16_384, short), (413, SPAN.len()));
     let left = whole.len().saturating_sub(20);
-    is_refused_early(&rt, alloc, &whole, &limits, (431, left));
+    is_refused_early(&rt, alloc, &whole, (20, 1_000), (431, left));
 }
 
 #[test]
 fn what_is_no_request_is_refused(rt: HostRuntime) {
     let alloc = rt.alloc();
-    let limits = HeadLimits::default();
-    is_refused_early(&rt, alloc, b"\x01", &limits, (400, 0));
+    let most = (16_384, 65_536);
+    is_refused_early(&rt, alloc, b"\x01", most, (400, 0));
     let chunked = b"POST /v1/traces HTTP/1.1\r\nTransfer-Encoding: chunked\r\n\r\n0\r\n\r\n";
-    is_refused_early(&rt, alloc, chunked, &limits, (400, 5));
+    is_refused_early(&rt, alloc, chunked, most, (400, 5));
     let signed = b"POST /v1/traces HTTP/1.1\r\nContent-Length: +1\r\n\r\nx";
-    is_refused_early(&rt, alloc, signed, &limits, (400, 1));
+    is_refused_early(&rt, alloc, signed, most, (400, 1));
 }
 
 #[test]
