@@ -6,13 +6,8 @@ PREFIX ?= $(HOME)/.local
 help: ## List the targets
 	@grep -E '^[a-z]+:.*##' Makefile | sed -E 's/:.*## /: /'
 
-run: ## Build programs without their proofs: the balance of a service, of threads and a collector, and what the examples' steps answer
-	@echo '# first_service, built before it is proved (make test proves): what became of its spans' >&2
-	@cd crates/first_service && rt try
-	@echo '# trace-demo: threads, a worker, and the collector to which it posts' >&2
-	@cd crates/trace_demo && rt try -- --threads 2 --spans 10
-	@echo '# trace-script, on each of examples/*.script' >&2
-	@cd crates/trace_script && rt try --cases ../../examples
+run: ## Build programs without their proofs and run them: a service, threads and a collector, the examples, and spans that a collector prints
+	tools/run-programs
 
 test: docs ## The gate: documents, every proof from nothing, wrong bodies, tests, programs, stored runs and what must not compile (tens of minutes)
 	rt ci
