@@ -1,6 +1,7 @@
 -- What is known of an output while connections are printed.
-use Rattle.std.proofs.Common.{◌≡◌, ◌≢◌, refl, sym, ap, subst, ◌∙◌, ℕ, ◌+◌, ◌≤◌, zero, suc, List, [], ◌∷◌, ◌++◌, length, take, Option, arith, append_assoc, append-nil, length-append}
+use Rattle.std.proofs.Common.{◌≡◌, ◌≢◌, refl, sym, ap, subst, ◌∙◌, ℕ, ◌+◌, suc, List, [], ◌∷◌, ◌++◌, length, take, Option, arith, append_assoc, append-nil, length-append}
 use Rattle.std.proofs.Math.Seq.{take-append-add}
+use Rattle.std.proofs.lemmas.List.{take-append-le}
 use Rattle.std.specs.Io.KnownBytes.{Appends}
 use Rattle.std.proofs.KnownBytes.{Appends-nil, Appends-trans}
 use Rattle.std.specs.Prelude.{None, Some, Ok, Err, Result, OnErr, OnOk}
@@ -9,28 +10,20 @@ use Rattle.message_model.specs.Messages.{triples}
 use Rattle.message_model.specs.Tables
 use Rattle.message_model.specs.Tables.{Message}
 use Rattle.span_text.specs.Lines.{spans_text}
-use Rattle.collector_program.specs.Printed.{AppendsStart, Outcome, PrintsAll, PrintsConnections, connection_text, connections_text, listening_line}
+use Rattle.span_text.specs.Printed.{AppendsFront}
+use Rattle.collector_program.specs.Printed.{Outcome, PrintsAll, PrintsConnections, connection_text, connections_text, listening_line}
 
--- ---- beginnings
+-- ---- fronts
 
--- a beginning of the first part of a text
-pub start-first : (old new : Option (List ℕ)) (first rest : List ℕ) → AppendsStart old new first → AppendsStart old new (first ++ rest)
-start-first old new first rest h = record {
-  count = length (take h.count first);
-  gained = rw (start-is h.count first rest) h.gained;
-}
-  where
-    start-is : (n : ℕ) (xs ys : List ℕ) → take (length (take n xs)) (xs ++ ys) ≡ take n xs
-    start-is zero xs ys = refl
-    start-is (suc n) [] ys = refl
-    start-is (suc n) (x ∷ xs) ys = ap (λ l. x ∷ l) (start-is n xs ys)
+-- a front of the first part of a text
+pub front-first : (old new : Option (List ℕ)) (first rest : List ℕ) → AppendsFront old new first → AppendsFront old new (first ++ rest)
+front-first old new first rest h =
+    (h.0, omega (arith, h.1, length-append first rest), subst (Appends old new) (sym (take-append-le h.0 first rest h.1)) h.2)
 
--- the first part of a text, and a beginning of the rest
-pub start-rest : (old now new : Option (List ℕ)) (first rest : List ℕ) (n : ℕ) → Appends old now first → Appends now new (take n rest) → AppendsStart old new (first ++ rest)
-start-rest old now new first rest n f r = record {
-  count = length first + n;
-  gained = rw (take-append-add first rest n) (Appends-trans old now new first (take n rest) f r);
-}
+-- the first part of a text, and a front of the rest
+pub front-rest : (old now new : Option (List ℕ)) (first rest : List ℕ) → Appends old now first → AppendsFront now new rest → AppendsFront old new (first ++ rest)
+front-rest old now new first rest f r =
+    (length first + r.0, omega (arith, r.1, length-append first rest), subst (Appends old new) (sym (take-append-add first rest r.0)) (Appends-trans old now new first (take r.0 rest) f r.2))
 
 -- ---- one connection after another
 
@@ -90,9 +83,9 @@ both-printed (Ok x) old now new line o m e first rest = rw e (Appends-trans old 
 both-printed (Err x) old now new line o m e first rest = tt
 
 pub both-begun : {T E : Type 0} (r : Result T E) (old now new : Option (List ℕ)) (line : List ℕ) (o : Option (Message Tables.request)) (m : Message Tables.request) → o ≡ Some m → Appends old now line
-    → OnErr r ((n : ℕ) × (n ≤ length (spans_text (triples m))) × Appends now new (take n (spans_text (triples m)))) → OnErr r (AppendsStart old new (line ++ spans_part o))
+    → OnErr r (AppendsFront now new (spans_text (triples m))) → OnErr r (AppendsFront old new (line ++ spans_part o))
 both-begun (Ok x) old now new line o m e first rest = tt
-both-begun (Err x) old now new line o m e first rest = rw e (start-rest old now new line (spans_text (triples m)) rest.0 first rest.2)
+both-begun (Err x) old now new line o m e first rest = rw e (front-rest old now new line (spans_text (triples m)) first rest)
 
 pub line-alone : (old now : Option (List ℕ)) (line : List ℕ) (o : Option (Message Tables.request)) → o ≡ None → Appends old now line → Appends old now (line ++ spans_part o)
 line-alone old now line o e first = rw (e, append-nil line) first

@@ -1,5 +1,5 @@
 -- What the program prints. (profile)
-use Rattle.std.specs.Prelude.{◌≡◌, ◌≢◌, ℕ, ◌+◌, List, [], ◌∷◌, ◌++◌, length, take, Option, Some, None, codes, decimal, option_map}
+use Rattle.std.specs.Prelude.{◌≡◌, ◌≢◌, ℕ, ◌+◌, List, [], ◌∷◌, ◌++◌, length, Option, Some, None, codes, decimal, option_map}
 use Rattle.std.specs.Option.{option_map_or}
 use Rattle.std.specs.Io.KnownBytes.{Appends}
 use Rattle.message_model.specs.Messages.{triples}
@@ -10,6 +10,7 @@ use Rattle.otlp_read.specs.Requests.{request_view}
 use Rattle.otlp_collector.specs.Answering.{Serves, Breaks}
 use Rattle.otlp_collector.specs.declared.connection.Answered.{Answered}
 use Rattle.span_text.specs.Lines.{spans_text}
+use Rattle.span_text.specs.Printed.{AppendsFront}
 
 -- the line that tells the port, up to its end (10)
 abbrev pub listening_line : ℕ → List ℕ
@@ -63,16 +64,12 @@ pub record PrintsServed (limits : HeadLimits) (number : ℕ) (old new : Option (
   pub is : HasOutcome limits old new before after written writes outcome
   pub gained : Appends printed prints (connection_text number outcome)
 
--- what is known of the output has gained a beginning of this text, which may be nothing, or all
-pub record AppendsStart (old new : Option (List ℕ)) (text : List ℕ) : Type 0 where
-  pub count : ℕ
-  pub gained : Appends old new (take count text)
-
-pub record PrintsServedStart (limits : HeadLimits) (number : ℕ) (old new : Option (List ℕ))
+-- The connection is served so, and what is known of the output gained a front of its text.
+pub record PrintsServedFront (limits : HeadLimits) (number : ℕ) (old new : Option (List ℕ))
     (before after : ℕ) (written writes printed prints : Option (List ℕ)) : Type 0 where
   pub outcome : Outcome
   pub is : HasOutcome limits old new before after written writes outcome
-  pub start : AppendsStart printed prints (connection_text number outcome)
+  pub front : AppendsFront printed prints (connection_text number outcome)
 
 -- ---- the program
 

@@ -2,7 +2,8 @@
 
 ghost use Rattle.std.specs.Prelude.{◌≡◌, ◌≤◌, IfOk, OnErr, OnOk, string_bytes};
 ghost use Rattle.std.specs.Io.KnownBytes.{Appends};
-ghost use Rattle.collector_program.specs.Printed.{AppendsStart, HasOutcome, PrintsServed, PrintsServedStart, connection_line, connection_text, outcome_view};
+ghost use Rattle.collector_program.specs.Printed.{HasOutcome, PrintsServed, PrintsServedFront, connection_line, connection_text, outcome_view};
+ghost use Rattle.span_text.specs.Printed.{AppendsFront, CountsFailedWrite};
 
 use http_wire::{FaultRead, FaultWrite, HeadLimits, write_pieces};
 use otlp_collector::{Answered, answer};
@@ -50,13 +51,11 @@ fn line_of<A: Allocator>(
 fn write_line<O: FaultWrite>(output: &mut O, line: &[u8]) -> Result<(), PrintFault>
     ensures ok { OnOk result (Appends (O.contents output.old) (O.contents output.new) line.now) }
     ensures err { OnErr result
-        (AppendsStart (O.contents output.old) (O.contents output.new) line.now) }
+        (AppendsFront (O.contents output.old) (O.contents output.new) line.now) }
+    ensures counted { CountsFailedWrite result (O.failures output.old) (O.failures output.new) }
 {
     let pieces = [line];
-    match write_pieces(output, &pieces) {
-        Ok(()) => Ok(()),
-        Err(_) => Err(PrintFault::Device),
-    }
+    Ok(write_pieces(output, &pieces)?)
 }
 
 /// Prints a connection: its line, `connection NUMBER STATUS` or `connection NUMBER none`, and
@@ -65,7 +64,8 @@ fn write_line<O: FaultWrite>(output: &mut O, line: &[u8]) -> Result<(), PrintFau
 ///
 /// # Errors
 ///
-/// Where a write failed, or memory was refused: a beginning of the text went out.
+/// `Device` where a write failed, which the output has counted, and `OutOfMemory` where memory was
+/// refused. A front of the text was written then, and nothing else.
 pub fn print_connection<O: FaultWrite, A: Allocator + Copy>(
     alloc: A,
     number: u64,
@@ -74,8 +74,9 @@ pub fn print_connection<O: FaultWrite, A: Allocator + Copy>(
 ) -> Result<(), PrintFault>
     ensures ok { OnOk result (Appends (O.contents output.old) (O.contents output.new)
         (connection_text number (outcome_view answered.now))) }
-    ensures err { OnErr result (AppendsStart (O.contents output.old) (O.contents output.new)
+    ensures err { OnErr result (AppendsFront (O.contents output.old) (O.contents output.new)
         (connection_text number (outcome_view answered.now))) }
+    ensures counted { CountsFailedWrite result (O.failures output.old) (O.failures output.new) }
 {
     let Ok(line) = line_of(alloc, number, answered.status) else {
         return Err(PrintFault::OutOfMemory);
@@ -93,8 +94,9 @@ pub fn print_connection<O: FaultWrite, A: Allocator + Copy>(
 ///
 /// # Errors
 ///
-/// Where the output couldn't be written, or memory to print was refused: the connection was served
-/// all the same, and a beginning of its text went out.
+/// `Device` where a write of the output failed, which it has counted, and `OutOfMemory` where
+/// memory to print was refused: the connection was served all the same, and a front of its text was
+/// written, and nothing else.
 pub fn serve<R: FaultRead, W: FaultWrite, O: FaultWrite, A: Allocator + Copy>(
     alloc: A,
     global: Global,
@@ -110,11 +112,12 @@ pub fn serve<R: FaultRead, W: FaultWrite, O: FaultWrite, A: Allocator + Copy>(
         (R.failures reader.old) (R.failures reader.new)
         (W.contents writer.old) (W.contents writer.new)
         (O.contents output.old) (O.contents output.new)) }
-    ensures err { OnErr result (PrintsServedStart limits.now number
+    ensures err { OnErr result (PrintsServedFront limits.now number
         (R.remaining reader.old) (R.remaining reader.new)
         (R.failures reader.old) (R.failures reader.new)
         (W.contents writer.old) (W.contents writer.new)
         (O.contents output.old) (O.contents output.new)) }
+    ensures counted { CountsFailedWrite result (O.failures output.old) (O.failures output.new) }
 {
     let answered = outcome_of(alloc, global, reader, writer, limits);
     print_connection(alloc, number, &answered, output)

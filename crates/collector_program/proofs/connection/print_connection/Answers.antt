@@ -2,8 +2,9 @@ use Rattle.std.proofs.Common.{◌≡◌, ◌∙◌, ap, subst}
 use Rattle.std.specs.Prelude.{option_map}
 use Rattle.std.specs.Io.KnownBytes.{Appends}
 use Rattle.otlp_read.specs.Requests.{request_view}
-use Rattle.collector_program.specs.Printed.{AppendsStart, connection_line}
-use Rattle.collector_program.proofs.Prints.{both-begun, both-printed, line-alone, on-err, spans_part, start-first}
+use Rattle.span_text.specs.Printed.{AppendsFront}
+use Rattle.collector_program.specs.Printed.{connection_line}
+use Rattle.collector_program.proofs.Prints.{both-begun, both-printed, front-first, line-alone, on-err, spans_part}
 use Rattle.collector_program.proofs.connection.print_connection.Goals as goal
 
 pub returns-in_err-write_line-clause-err : goal.returns-in_err-write_line-clause-err
@@ -12,8 +13,8 @@ returns-in_err-write_line-clause-err g c =
     let is : c.as_bytes.result.now ≡ line = c.as_bytes.ensures.value ∙ c.in-Ok.ensures in
     let old = g.O.FaultWrite.contents c.args.output.now in
     let now = g.O.FaultWrite.contents c.write_line.new.output in
-    on-err c.from_residual.result _ (start-first old now line (spans_part (option_map request_view c.args.answered.now.request))
-    (subst (AppendsStart old now) is c.in_err-write_line.ensures.err))
+    on-err c.from_residual.result _ (front-first old now line (spans_part (option_map request_view c.args.answered.now.request))
+    (subst (AppendsFront old now) is c.in_err-write_line.ensures.err))
 
 pub returns-in-Some-clause-ok : goal.returns-in-Some-clause-ok
 returns-in-Some-clause-ok g c =
