@@ -78,12 +78,25 @@ pub(crate) fn wire(
     FailingWire::new(input, Vec::new(alloc), most, failing)
 }
 
-/// The words of a command line, the program's name first.
+/// A reply with this status, and these lines behind its fields (RFC 9112, sections 4 and 6.2; which
+/// fields: profile).
+pub(crate) fn reply(rt: &impl Abort, alloc: Global, status: &str, more: &str) -> String {
+    let fields = concat!(
+        "Content-Type: application/x-protobuf\r\n",
+        "Content-Length: 0\r\n",
+        "Connection: close\r\n",
+    );
+    let text = format!(in alloc; "HTTP/1.1 {status}\r\n{fields}{more}\r\n");
+    text.expect(rt, "memory")
+}
+
+/// The words of a command line, the program's name first. An empty one is written `''`.
 pub(crate) fn command_line(rt: &impl Abort, alloc: Global, words: &str) -> Vec<String> {
     let mut line = Vec::new(alloc);
     let name = String::from_str(alloc, "otlp-collector").expect(rt, "memory");
     line.push(name).expect(rt, "memory");
     for word in words.split_ascii_whitespace() {
+        let word = if word == "''" { "" } else { word };
         let word = String::from_str(alloc, word).expect(rt, "memory");
         line.push(word).expect(rt, "memory");
     }

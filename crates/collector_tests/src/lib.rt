@@ -13,6 +13,8 @@ mod lines;
 #[cfg(test)]
 mod memory;
 #[cfg(test)]
+mod network;
+#[cfg(test)]
 mod sockets;
 #[cfg(test)]
 mod words;

@@ -151,6 +151,21 @@ fn whole_span(rt: &impl Abort, alloc: Global) -> Vec<u8> {
 }
 
 #[test]
+fn each_span_is_printed_with_its_resource(rt: HostRuntime) {
+    let alloc = rt.alloc();
+    let body = concat!(
+        "\x0a\x0e\x0a\x02\x10\x01\x12\x05\x12\x03\x2a\x01a\x1a\x01u",
+        "\x0a\x10\x0a\x02\x10\x02\x12\x0a\x12\x03\x2a\x01b\x12\x03\x2a\x01c",
+    );
+    let lines = concat!(
+        "span % % % % 0 0 0 a\nresource 1 u\nscope % % % 0\ndropped 0 0 0\nstatus 0 %\n",
+        "span % % % % 0 0 0 b\nresource 2 %\nscope % % % 0\ndropped 0 0 0\nstatus 0 %\n",
+        "span % % % % 0 0 0 c\nresource 2 %\nscope % % % 0\ndropped 0 0 0\nstatus 0 %\n",
+    );
+    prints(&rt, alloc, body.as_bytes(), lines);
+}
+
+#[test]
 fn each_kind_of_line_is_printed(rt: HostRuntime) {
     let alloc = rt.alloc();
     let five = field(&rt, alloc, 0x0a, FIVE);

@@ -1,7 +1,7 @@
 //! Connections in scarce memory.
 
 use crate::equal::assert_equal;
-use crate::fixture::{LINES, span_request, wire};
+use crate::fixture::{LINES, reply, span_request, wire};
 use collector_program::serve;
 use failing_allocator::FailingAllocator;
 use http_wire::{Counted, FailingCalls, HeadLimits};
@@ -10,8 +10,9 @@ use span_text::PrintFault;
 use std::alloc::Global;
 use std::process::Abort;
 
-/// Serves a connection while one call for memory is refused. Answers whether it was.
-fn is_refused(rt: &impl Abort, alloc: Global, fail_index: u64) -> bool {
+/// Serves a connection while one call for memory is refused. Answers whether it was, and whether
+/// the reply told so.
+fn is_refused(rt: &impl Abort, alloc: Global, fail_index: u64) -> (bool, bool) {
     let heap = LocalHeap::new(alloc, 65_536).expect(rt, "memory");
     let scarce = FailingAllocator::new(&heap, fail_index);
     let text = span_request(rt, alloc);
@@ -30,7 +31,16 @@ fn is_refused(rt: &impl Abort, alloc: Global, fail_index: u64) -> bool {
     );
     let output = output.into_inner();
     let whole = format!(in alloc; "connection 7 200\n{LINES}").expect(rt, "memory");
-    if output.as_slice() == b"connection 7 503\n".as_slice() {
+    let is_told = output.as_slice() == b"connection 7 503\n".as_slice();
+    let status = if is_told {
+        "503 Service Unavailable"
+    } else {
+        "200 OK"
+    };
+    let more = if is_told { "Retry-After: 1\r\n" } else { "" };
+    let replied = reply(rt, alloc, status, more);
+    assert!(rt; writer.taken() == replied.as_bytes());
+    if is_told {
         assert_equal(rt, printed, Ok(()));
     } else {
         assert!(rt; whole.as_bytes().starts_with(output.as_slice()));
@@ -38,17 +48,18 @@ fn is_refused(rt: &impl Abort, alloc: Global, fail_index: u64) -> bool {
         assert_equal(rt, printed.is_ok(), is_whole);
     }
     assert_equal(rt, printed == Err(PrintFault::Device), false);
-    scarce.has_failed()
+    (scarce.has_failed(), is_told)
 }
 
 #[test]
 fn each_refusal_of_memory_is_answered_or_told(rt: HostRuntime) {
     let mut refused = 0u64;
     for fail_index in 0..256u64 {
-        if is_refused(&rt, rt.alloc(), fail_index) {
+        if is_refused(&rt, rt.alloc(), fail_index).0 {
             refused = refused.saturating_add(1);
         }
     }
     assert!(rt; refused >= 9);
-    assert!(rt; !is_refused(&rt, rt.alloc(), 256));
+    assert_equal(&rt, is_refused(&rt, rt.alloc(), 0), (true, true));
+    assert_equal(&rt, is_refused(&rt, rt.alloc(), 256), (false, false));
 }

@@ -1,13 +1,18 @@
 //! The program over sockets of this machine.
 
 use crate::equal::{assert_equal, assert_equal_at};
-use crate::fixture::{FailingWriter, LINES, SPAN, TYPE, command_line, request, span_request};
+use crate::fixture::{
+    FailingWriter, LINES, SPAN, TYPE, command_line, reply, request, span_request,
+};
+use crate::network::QuickNet;
 use collector_program::run_collector;
 use std::alloc::Global;
+use std::cell::Cell;
 use std::io;
 use std::io::{Read, Write};
 use std::net::{Ipv4Addr, Net, OpenListener, OpenStream, TcpListener, TcpStream};
 use std::process::Abort;
+use std::time::Duration;
 
 /// How a client sends a text.
 #[derive(Clone, Copy, PartialEq, Eq)]
@@ -21,8 +26,9 @@ enum Sending {
 }
 
 /// An output that is a client too: when the port is told it connects and sends the first of some
-/// texts, and when a connection was printed it reads the reply, closes, and sends the next one, if
-/// there is one, over a connection of its own. So all is done in one thread.
+/// texts, and when a connection was printed it reads the reply to its end, if there was one, and
+/// sends the next text, if there is one, over a connection of its own. So all is done in one
+/// thread.
 #[derive(Drop)]
 struct Client<'a, R: Net> {
     rt: &'a R,
@@ -51,19 +57,12 @@ fn send<W: Write>(writer: &mut W, text: &[u8], sending: Sending) -> io::Result<(
 }
 
 impl<R: Net> Client<'_, R> {
-    /// Reads what was replied: up to its empty line, or to the end.
+    /// Reads what was replied, to its end, and closes.
     fn read_reply(&mut self) -> io::Result<()> {
         let Some(mut stream) = self.stream.take() else {
             return Ok(());
         };
-        let mut buf = [0; 1000];
-        for _ in 0..1000u32 {
-            let count = stream.read(&mut buf)?;
-            self.replied.extend_from_slice(&buf[..count])?;
-            if count == 0 || self.replied.as_slice().ends_with(b"\r\n\r\n") {
-                return Ok(());
-            }
-        }
+        stream.read_to_end(&mut self.replied)?;
         Ok(())
     }
 
@@ -98,24 +97,27 @@ impl<R: Net> Write for Client<'_, R> {
     }
 
     fn flush(&mut self) -> io::Result<()> {
-        self.read_reply()?;
+        if !self.printed.as_slice().ends_with(b" none\n") {
+            self.read_reply()?;
+        }
         self.send_next()
     }
 }
 
-/// Serves these texts, each sent so over a connection of its own, and checks what is printed behind
-/// the first line. Answers all that was replied.
-fn replied(
-    rt: &(impl Abort + Net),
+/// Serves these texts over a network, each sent so over a connection of its own, and checks what is
+/// printed behind the first line, and all that is replied.
+fn assert_served<N: Net>(
+    rt: &impl Abort,
+    net: &N,
     alloc: Global,
     sending: Sending,
     texts: Vec<Vec<u8>>,
     words: &str,
-    wanted: &str,
-) -> Vec<u8> {
+    wanted: (&str, &str),
+) {
     let line = command_line(rt, alloc, words);
     let mut client = Client {
-        rt,
+        rt: net,
         sending,
         texts,
         stream: None,
@@ -123,13 +125,14 @@ fn replied(
         replied: Vec::new(alloc),
     };
     let mut faults = Vec::new(alloc);
-    let status = run_collector(rt, alloc, line.as_slice(), &mut client, &mut faults);
+    let status = run_collector(net, alloc, line.as_slice(), &mut client, &mut faults);
     assert_equal(rt, status, 0);
     assert_equal(rt, faults.len(), 0);
     let port = client.port().expect(rt, "a port");
-    let all = format!(in alloc; "listening {port}\n{wanted}").expect(rt, "memory");
+    let (printed, replied) = wanted;
+    let all = format!(in alloc; "listening {port}\n{printed}").expect(rt, "memory");
     assert!(rt; client.printed.as_slice() == all.as_bytes());
-    client.replied
+    assert!(rt; client.replied.as_slice() == replied.as_bytes());
 }
 
 #[test]
@@ -141,43 +144,73 @@ fn connections_are_served_one_after_another(rt: HostRuntime) {
         request(&rt, alloc, "POST /v1/traces", TYPE, cut),
         request(&rt, alloc, "POST /v1/traces", TYPE, &[0; 1001]),
     ];
-    let wanted = "connection 1 405\nconnection 2 400\nconnection 3 413\n";
     let texts = texts.expect(&rt, "memory");
     let words = "--port 0 --count 3 --max-body 1000";
-    let replies = replied(&rt, alloc, Sending::Whole, texts, words, wanted);
-    assert!(rt;
-        replies
-            .as_slice()
-            .starts_with(b"HTTP/1.1 405 Method Not Allowed\r\n")
-    );
-    assert!(rt; replies.as_slice().ends_with(b"Connection: close\r\n\r\n"));
+    let printed = "connection 1 405\nconnection 2 400\nconnection 3 413\n";
+    let not_allowed = reply(&rt, alloc, "405 Method Not Allowed", "Allow: POST\r\n");
+    let bad = reply(&rt, alloc, "400 Bad Request", "");
+    let large = reply(&rt, alloc, "413 Content Too Large", "");
+    let replied = format!(in alloc; "{not_allowed}{bad}{large}").expect(&rt, "memory");
+    let wanted = (printed, replied.as_str());
+    assert_served(&rt, &rt, alloc, Sending::Whole, texts, words, wanted);
 }
 
 #[test]
 fn the_spans_of_a_request_are_printed(rt: HostRuntime) {
     let alloc = rt.alloc();
-    let texts = vec![in alloc; span_request(&rt, alloc)].expect(&rt, "memory");
-    let wanted = format!(in alloc; "connection 1 200\n{LINES}").expect(&rt, "memory");
-    let words = "--port 0";
-    let replies = replied(&rt, alloc, Sending::Whole, texts, words, wanted.as_str());
-    assert!(rt; replies.as_slice().starts_with(b"HTTP/1.1 200 OK\r\n"));
+    let printed = format!(in alloc; "connection 1 200\n{LINES}").expect(&rt, "memory");
+    let replied = reply(&rt, alloc, "200 OK", "");
+    for sending in [Sending::Whole, Sending::ByteByByte] {
+        let texts = vec![in alloc; span_request(&rt, alloc)].expect(&rt, "memory");
+        let wanted = (printed.as_str(), replied.as_str());
+        assert_served(&rt, &rt, alloc, sending, texts, "--port 0", wanted);
+    }
 }
 
 #[test]
-fn a_request_may_come_byte_by_byte(rt: HostRuntime) {
+fn a_client_that_still_sends_gets_the_whole_reply(rt: HostRuntime) {
     let alloc = rt.alloc();
+    let text = request(&rt, alloc, "POST /v1/traces", TYPE, &[0; 50_000]);
+    let texts = vec![in alloc; text].expect(&rt, "memory");
+    let replied = reply(&rt, alloc, "413 Content Too Large", "");
+    let wanted = ("connection 1 413\n", replied.as_str());
+    let words = "--port 0 --max-body 1000";
+    assert_served(&rt, &rt, alloc, Sending::Whole, texts, words, wanted);
+}
+
+#[test]
+fn a_connection_that_is_not_accepted_has_no_reply(rt: HostRuntime) {
+    let alloc = rt.alloc();
+    let net = QuickNet {
+        rt: &rt,
+        refusals: &Cell::new(1),
+        longest: &Cell::new(Duration::ZERO),
+    };
     let texts = vec![in alloc; span_request(&rt, alloc)].expect(&rt, "memory");
-    let wanted = format!(in alloc; "connection 1 200\n{LINES}").expect(&rt, "memory");
-    let words = "--port 0";
-    let replies = replied(
-        &rt,
-        alloc,
-        Sending::ByteByByte,
-        texts,
-        words,
-        wanted.as_str(),
-    );
-    assert!(rt; replies.as_slice().starts_with(b"HTTP/1.1 200 OK\r\n"));
+    let printed = format!(in alloc; "connection 1 none\nconnection 2 200\n{LINES}");
+    let printed = printed.expect(&rt, "memory");
+    let replied = reply(&rt, alloc, "200 OK", "");
+    let wanted = (printed.as_str(), replied.as_str());
+    let words = "--port 0 --count 2";
+    assert_served(&rt, &net, alloc, Sending::Whole, texts, words, wanted);
+}
+
+#[test]
+fn a_client_that_is_silent_is_not_waited_for(rt: HostRuntime) {
+    let alloc = rt.alloc();
+    let longest = Cell::new(Duration::ZERO);
+    let net = QuickNet {
+        rt: &rt,
+        refusals: &Cell::new(0),
+        longest: &longest,
+    };
+    let text = span_request(&rt, alloc);
+    let texts = vec![in alloc; front(&rt, alloc, &text, 0), front(&rt, alloc, &text, 30)];
+    let texts = texts.expect(&rt, "memory");
+    let wanted = ("connection 1 none\nconnection 2 none\n", "");
+    let words = "--port 0 --count 2";
+    assert_served(&rt, &net, alloc, Sending::Whole, texts, words, wanted);
+    assert_equal(&rt, longest.get(), Duration::from_secs(10));
 }
 
 /// The first so many bytes of a text.
@@ -197,10 +230,12 @@ fn a_client_may_close_in_the_middle(rt: HostRuntime) {
         front(&rt, alloc, &text, short),
     ];
     let texts = texts.expect(&rt, "memory");
-    let wanted = "connection 1 none\nconnection 2 none\nconnection 3 none\n";
+    let wanted = (
+        "connection 1 none\nconnection 2 none\nconnection 3 none\n",
+        "",
+    );
     let words = "--port 0 --count 3";
-    let replies = replied(&rt, alloc, Sending::Closing, texts, words, wanted);
-    assert_equal(&rt, replies.len(), 0);
+    assert_served(&rt, &rt, alloc, Sending::Closing, texts, words, wanted);
 }
 
 #[test]
@@ -217,10 +252,10 @@ fn a_port_that_is_taken_cannot_be_listened_at(rt: HostRuntime) {
     assert!(rt; faults.as_slice() == b"cannot listen\n".as_slice());
 }
 
-/// What the program answers where its output fails when it has taken so many bytes, or where it is
-/// flushed.
-fn failing(rt: &(impl Abort + Net), alloc: Global, left: usize, flushes: bool) -> u8 {
-    let line = command_line(rt, alloc, "--port 0 --count 0");
+/// What the program answers to these words where its output fails when it has taken so many bytes,
+/// or where it is flushed.
+fn failing(rt: &(impl Abort + Net), alloc: Global, words: &str, left: usize, flushes: bool) -> u8 {
+    let line = command_line(rt, alloc, words);
     let mut output = FailingWriter {
         taken: Vec::new(alloc),
         left,
@@ -236,13 +271,16 @@ fn failing(rt: &(impl Abort + Net), alloc: Global, left: usize, flushes: bool) -
 #[test]
 fn an_output_that_fails_ends_the_program(rt: HostRuntime) {
     let alloc = rt.alloc();
-    let rows = [(0, true, 1), (9, true, 1), (100, false, 1), (100, true, 0)];
-    for (left, flushes, status) in rows {
-        assert_equal_at(
-            &rt,
-            failing(&rt, alloc, left, flushes),
-            status,
-            (left, flushes),
-        );
+    let rows = [
+        (0, true, 1),
+        (9, true, 1),
+        (10_000, false, 1),
+        (10_000, true, 0),
+    ];
+    for words in ["--port 0 --count 0", "--help"] {
+        for (left, flushes, status) in rows {
+            let answered = failing(&rt, alloc, words, left, flushes);
+            assert_equal_at(&rt, answered, status, (words, left, flushes));
+        }
     }
 }
