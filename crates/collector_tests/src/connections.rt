@@ -1,7 +1,7 @@
 //! Connections over memory.
 
 use crate::equal::{assert_equal, assert_equal_at};
-use crate::fixture::{LINES, PLAIN, PLAIN_LINES, SPAN, TYPE, request, span_request, wire};
+use crate::fixture::{LINES, PLAIN, PLAIN_LINES, SPAN, TYPE, reply, request, span_request, wire};
 use collector_program::serve;
 use http_wire::{Counted, FailingCalls, HeadLimits};
 use span_text::PrintFault;
@@ -99,30 +99,41 @@ fn a_reply_that_breaks_off_is_none(rt: HostRuntime) {
     assert_equal(&rt, replied, 9);
 }
 
+/// Serves a connection over which this text comes, where this write of the output and all behind it
+/// fail. Answers whether it was printed, and what was printed and replied.
+fn printed_until(
+    rt: &impl Abort,
+    alloc: Global,
+    text: &[u8],
+    calls: u64,
+) -> (Result<(), PrintFault>, Vec<u8>, Vec<u8>) {
+    let mut reader = wire(rt, alloc, text, 100, FailingCalls::Never);
+    let mut writer = Counted::new(Vec::new(alloc));
+    let mut output = wire(rt, alloc, b"", 6, FailingCalls::From(calls));
+    let limits = HeadLimits::default();
+    let printed = serve(
+        alloc,
+        alloc,
+        7,
+        &mut reader,
+        &mut writer,
+        &limits,
+        &mut output,
+    );
+    let taken = Vec::from_slice(alloc, output.taken()).expect(rt, "memory");
+    (printed, taken, writer.into_inner())
+}
+
 #[test]
 fn an_output_that_fails_is_told(rt: HostRuntime) {
     let alloc = rt.alloc();
     let text = request(&rt, alloc, "GET /v1/traces", TYPE, SPAN);
-    for calls in 0..3u64 {
-        let mut reader = wire(&rt, alloc, &text, 100, FailingCalls::Never);
-        let mut writer = wire(&rt, alloc, b"", 100, FailingCalls::Never);
-        let mut output = wire(&rt, alloc, b"", 6, FailingCalls::From(calls));
-        let limits = HeadLimits::default();
-        let printed = serve(
-            alloc,
-            alloc,
-            7,
-            &mut reader,
-            &mut writer,
-            &limits,
-            &mut output,
-        );
+    let whole = reply(&rt, alloc, "405 Method Not Allowed", "Allow: POST\r\n");
+    let fronts = [(0, ""), (1, "connec"), (2, "connection 7")];
+    for (calls, front) in fronts {
+        let (printed, output, replied) = printed_until(&rt, alloc, &text, calls);
         assert_equal_at(&rt, printed, Err(PrintFault::Device), calls);
-        assert!(rt; b"connection 7 405\n".starts_with(output.taken()));
-        assert!(rt;
-            writer
-                .taken()
-                .starts_with(b"HTTP/1.1 405 Method Not Allowed\r\n")
-        );
+        assert_equal_at(&rt, output.as_slice() == front.as_bytes(), true, calls);
+        assert_equal_at(&rt, replied.as_slice() == whole.as_bytes(), true, calls);
     }
 }

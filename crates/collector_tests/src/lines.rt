@@ -9,13 +9,11 @@ use std::process::Abort;
 /// An attribute whose key is `k` and whose value is 5.
 const FIVE: &[u8] = b"\x0a\x01k\x12\x02\x18\x05";
 
-/// A field of at most 255 bytes, behind its tag and its length, which is a varint.
+/// A field of at most 127 bytes, behind its tag and its length.
 fn field(rt: &impl Abort, alloc: Global, tag: u8, content: &[u8]) -> Vec<u8> {
     let size = u8::try_from(content.len()).expect(rt, "a byte");
     let mut bytes = Vec::from_slice(alloc, &[tag, size]).expect(rt, "memory");
-    if size >= 128 {
-        bytes.push(1).expect(rt, "memory");
-    }
+    assert!(rt; size < 128);
     bytes.extend_from_slice(content).expect(rt, "memory");
     bytes
 }
@@ -111,44 +109,45 @@ const WHOLE: &str = concat!(
     "status 2 m\n",
 );
 
-/// A span that has each field.
-fn whole_span(rt: &impl Abort, alloc: Global) -> Vec<u8> {
-    let five = field(rt, alloc, 0x1a, FIVE);
-    let event = joined(
-        rt,
-        alloc,
-        &[
-            b"\x09\x03\0\0\0\0\0\0\0\x12\x01e".as_slice(),
-            five.as_slice(),
-            b"\x20\x01".as_slice(),
-        ],
-    );
-    let five = field(rt, alloc, 0x22, FIVE);
-    let link = joined(
-        rt,
-        alloc,
-        &[
-            b"\x0a\x02ab\x12\x01c\x1a\x01s".as_slice(),
-            five.as_slice(),
-            b"\x28\x06".as_slice(),
-        ],
-    );
-    joined(
-        rt,
-        alloc,
-        &[
-            b"\x0a\x02\x0a\x0b\x12\x01\x0c\x1a\x03q r\x22\x01\x0d\x2a\x02n\n".as_slice(),
-            b"\x30\xff\xff\xff\xff\xff\xff\xff\xff\xff\x01".as_slice(),
-            b"\x39\x07\0\0\0\0\0\0\0\x41\x08\0\0\0\0\0\0\0".as_slice(),
-            field(rt, alloc, 0x4a, FIVE).as_slice(),
-            b"\x50\x01".as_slice(),
-            field(rt, alloc, 0x5a, &event).as_slice(),
-            b"\x60\x02".as_slice(),
-            field(rt, alloc, 0x6a, &link).as_slice(),
-            b"\x70\x03\x7a\x05\x12\x01m\x18\x02".as_slice(),
-        ],
-    )
-}
+/// The body of that request, piece by piece: each piece that has others in it begins with its tag
+/// and its length.
+const WHOLE_BODY: [&[u8]; 27] = [
+    // the resource's spans: the resource, an attribute and its count; then the scope's spans
+    b"\x0a\xa1\x01",
+    b"\x0a\x0b",
+    b"\x0a\x07",
+    FIVE,
+    b"\x10\x04",
+    b"\x12\x8e\x01",
+    // the scope: name, version, an attribute and its count
+    b"\x0a\x11\x0a\x01s\x12\x01v",
+    b"\x1a\x07",
+    FIVE,
+    b"\x20\x05",
+    // the span: identifiers, trace state, the parent's identifier, name
+    b"\x12\x76\x0a\x02\x0a\x0b\x12\x01\x0c\x1a\x03q r\x22\x01\x0d\x2a\x02n\n",
+    // kind and moments, an attribute and its count
+    b"\x30\xff\xff\xff\xff\xff\xff\xff\xff\xff\x01",
+    b"\x39\x07\0\0\0\0\0\0\0\x41\x08\0\0\0\0\0\0\0",
+    b"\x4a\x07",
+    FIVE,
+    b"\x50\x01",
+    // an event: moment, name, an attribute and its count; the events' count
+    b"\x5a\x17\x09\x03\0\0\0\0\0\0\0\x12\x01e",
+    b"\x1a\x07",
+    FIVE,
+    b"\x20\x01\x60\x02",
+    // a link: identifiers, trace state, an attribute and its count; the links' count
+    b"\x6a\x15\x0a\x02ab\x12\x01c\x1a\x01s",
+    b"\x22\x07",
+    FIVE,
+    b"\x28\x06\x70\x03",
+    // the status: message and code
+    b"\x7a\x05\x12\x01m\x18\x02",
+    // the schema URLs of the scope's spans and of the resource's
+    b"\x1a\x01w",
+    b"\x1a\x01u",
+];
 
 #[test]
 fn each_span_is_printed_with_its_resource(rt: HostRuntime) {
@@ -168,35 +167,5 @@ fn each_span_is_printed_with_its_resource(rt: HostRuntime) {
 #[test]
 fn each_kind_of_line_is_printed(rt: HostRuntime) {
     let alloc = rt.alloc();
-    let five = field(&rt, alloc, 0x0a, FIVE);
-    let resource = joined(&rt, alloc, &[five.as_slice(), b"\x10\x04".as_slice()]);
-    let five = field(&rt, alloc, 0x1a, FIVE);
-    let scope = joined(
-        &rt,
-        alloc,
-        &[
-            b"\x0a\x01s\x12\x01v".as_slice(),
-            five.as_slice(),
-            b"\x20\x05".as_slice(),
-        ],
-    );
-    let spans = joined(
-        &rt,
-        alloc,
-        &[
-            field(&rt, alloc, 0x0a, &scope).as_slice(),
-            field(&rt, alloc, 0x12, &whole_span(&rt, alloc)).as_slice(),
-            b"\x1a\x01w".as_slice(),
-        ],
-    );
-    let group = joined(
-        &rt,
-        alloc,
-        &[
-            field(&rt, alloc, 0x0a, &resource).as_slice(),
-            field(&rt, alloc, 0x12, &spans).as_slice(),
-            b"\x1a\x01u".as_slice(),
-        ],
-    );
-    prints(&rt, alloc, &field(&rt, alloc, 0x0a, &group), WHOLE);
+    prints(&rt, alloc, &joined(&rt, alloc, &WHOLE_BODY), WHOLE);
 }

@@ -30,23 +30,17 @@ fn is_refused(rt: &impl Abort, alloc: Global, fail_index: u64) -> (bool, bool) {
         &mut output,
     );
     let output = output.into_inner();
-    let whole = format!(in alloc; "connection 7 200\n{LINES}").expect(rt, "memory");
     let is_told = output.as_slice() == b"connection 7 503\n".as_slice();
-    let status = if is_told {
-        "503 Service Unavailable"
+    let (number, status, more, lines) = if is_told {
+        ("503", "503 Service Unavailable", "Retry-After: 1\r\n", "")
     } else {
-        "200 OK"
+        ("200", "200 OK", "", LINES)
     };
-    let more = if is_told { "Retry-After: 1\r\n" } else { "" };
     let replied = reply(rt, alloc, status, more);
     assert!(rt; writer.taken() == replied.as_bytes());
-    if is_told {
-        assert_equal(rt, printed, Ok(()));
-    } else {
-        assert!(rt; whole.as_bytes().starts_with(output.as_slice()));
-        let is_whole = output.len() == whole.len();
-        assert_equal(rt, printed.is_ok(), is_whole);
-    }
+    let whole = format!(in alloc; "connection 7 {number}\n{lines}").expect(rt, "memory");
+    assert!(rt; whole.as_bytes().starts_with(output.as_slice()));
+    assert_equal(rt, printed.is_ok(), output.len() == whole.len());
     assert_equal(rt, printed == Err(PrintFault::Device), false);
     (scarce.has_failed(), is_told)
 }
