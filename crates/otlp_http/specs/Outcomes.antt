@@ -8,7 +8,7 @@ use Rattle.message_model.specs.Tables.{Message}
 use Rattle.message_model.specs.Messages.{meaning}
 use Rattle.retry_model.specs.Retries.{Outcome, delivered, later, no_reply, bad}
 use Rattle.retry_core.specs.Retries.{retry_after_view}
-use Rattle.otlp_read.specs.Response.{rejected_in}
+use Rattle.otlp_message.specs.Response.{rejected_in}
 use Rattle.http_wire.specs.declared.fault.HttpFault.{HttpFault}
 use Rattle.http_wire.specs.declared.fault.HttpFault.TheVariants as faults
 use Rattle.otlp_http.specs.declared.reply.Reply.{Reply}

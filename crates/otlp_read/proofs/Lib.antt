@@ -1,16 +1,6 @@
-pub mod OnePayload
-pub mod LastPayloads
-pub mod JoinedRows
-pub mod FieldsRead
-pub mod Named
-pub mod ResponseSteps
-pub mod ResponseMeaning
-pub mod ResponseBytes
 pub mod MemberSteps
 pub mod PairSteps
-pub mod GatherSteps
 pub mod ValueSteps
 pub mod ValueViews
 pub mod PairValues
-pub mod Finished
 pub mod TripleSteps

@@ -2,6 +2,7 @@
 use Rattle.std.proofs.Common.{◌≡◌, refl, sym, ap, subst, ◌∙◌, ℕ, zero, suc, List, [], ◌∷◌, ◌++◌, append-nil}
 use Rattle.std.specs.Borrow.{Bor}
 use Rattle.std.specs.List.{Contains}
+use Rattle.std.proofs.lemmas.List.Elements.{Contains-push}
 use Rattle.message_model.specs.Reading.{Fault, too_deep}
 use Rattle.message_model.specs.Wire.{Field, Payload, len, row}
 use Rattle.message_model.specs.Tables
@@ -11,24 +12,13 @@ use Rattle.message_model.specs.AnyValue.{AnyValue}
 use Rattle.otlp_read.specs.declared.any_value.Member.{Member}
 use Rattle.otlp_read.specs.declared.any_value.Member.TheVariants.{Empty}
 use Rattle.otlp_read.specs.declared.any_value.PairParts.{PairParts}
-use Rattle.otlp_read.specs.declared.fault.ReadFault.{ReadFault}
-use Rattle.otlp_read.specs.Faults.{NamesOne}
+use Rattle.otlp_message.specs.declared.fault.ReadFault.{ReadFault}
+use Rattle.otlp_message.specs.Faults.{NamesOne}
 use Rattle.otlp_read.specs.Members.{members_from_last, Holds, HoldsPair}
-use Rattle.otlp_read.proofs.OnePayload.{payloads-append}
-use Rattle.otlp_read.proofs.JoinedRows.{joined-faults, joined-value, one-faults, one-value}
+use Rattle.otlp_message.proofs.LastPayloads.{same-payloads, one-payload, payloads-between}
+use Rattle.otlp_message.proofs.JoinedRows.{joined-faults, joined-value, one-faults, one-value}
 use Rattle.otlp_read.proofs.MemberSteps.{members-append}
-use Rattle.otlp_read.proofs.Named.{Within, names-within, within-joined, within-first, within-others, value-row, is-too-deep}
-
--- the payloads of the value, after a field that has none
-pub same-payloads : (n : ℕ) (s : Shape) (fields : List Field) (f : Field) → payloads n s (f ∷ []) ≡ [] → payloads n s (fields ++ f ∷ []) ≡ payloads n s fields
-same-payloads n s fields f e = payloads-append n s fields (f ∷ []) ∙ ap (λ l. payloads n s fields ++ l) e ∙ append-nil _
-
--- and after one that has one
-pub one-payload : (n : ℕ) (s : Shape) (fields : List Field) (f : Field) (p : Payload) → payloads n s (f ∷ []) ≡ p ∷ [] → payloads n s (fields ++ f ∷ []) ≡ payloads n s fields ++ p ∷ []
-one-payload n s fields f p e = payloads-append n s fields (f ∷ []) ∙ ap (λ l. payloads n s fields ++ l) e
-
-pub payloads-between : (n : ℕ) (s : Shape) (before after : List Field) (f : Field) (p : Payload) → payloads n s (f ∷ []) ≡ p ∷ [] → payloads n s (before ++ f ∷ after) ≡ payloads n s before ++ p ∷ payloads n s after
-payloads-between n s before after f p e = payloads-append n s before (f ∷ after) ∙ ap (λ l. payloads n s before ++ l) (payloads-append n s (f ∷ []) after ∙ ap (λ l. l ++ payloads n s after) e)
+use Rattle.otlp_message.proofs.Named.{Within, names-within, within-joined, within-left, within-first, within-others}
 
 -- the key after one more field
 abbrev KeyMore : {A : Type 0} → PairParts A → Bor (List ℕ) → Field → Type 0
@@ -59,6 +49,15 @@ pair-more depth old key new f content more found deep good step fields h =
     }
 
 -- ---- faults of the value
+
+pub value-row : (depth : ℕ) (ps : List Payload) → Within (joined_rows ps).faults (value (suc depth) ps).faults
+unfolding value
+value-row depth ps x h = within-left (joined_rows ps).faults _ x h
+
+pub is-too-deep : (before : List Payload) (p : Payload) (after : List Payload) → Contains (value 0 (before ++ p ∷ after)).faults too_deep
+unfolding value
+is-too-deep [] p after = Contains-push [] too_deep
+is-too-deep (q ∷ before) p after = Contains-push [] too_deep
 
 abbrev pub pair_faults : ℕ → List Field → List Fault
 pair_faults depth fields = (read_table (value depth) Tables.key_value fields).faults

@@ -8,25 +8,18 @@ use Rattle.message_model.specs.Tables
 use Rattle.message_model.specs.Tables.{text, any, message, end, ◌⦂◌◂◌, ◌▸◌}
 use Rattle.message_model.specs.Messages.{payloads, joined_rows, read, read_table, value, value_of, utf8, last_bytes, member_of}
 use Rattle.otlp_read.specs.declared.any_value.PairParts.{PairParts}
-use Rattle.otlp_read.specs.declared.fault.ReadFault.{ReadFault}
-use Rattle.otlp_read.specs.Faults.{NamesOne}
+use Rattle.otlp_message.specs.declared.fault.ReadFault.{ReadFault}
+use Rattle.otlp_message.specs.Faults.{NamesOne}
 use Rattle.otlp_read.specs.Members.{members_from_last, HoldsPair}
-use Rattle.otlp_read.proofs.JoinedRows.{one-faults, one-value}
-use Rattle.otlp_read.proofs.Named.{Within, names-within, within-first, within-others, message-fields, value-row}
+use Rattle.otlp_message.proofs.JoinedRows.{one-faults, one-value}
+use Rattle.otlp_message.proofs.Named.{Within, names-within, within-first, within-others, message-fields}
+use Rattle.otlp_read.proofs.PairSteps.{value-row}
 
 pub is-done : {r : Reading AnyValue} {v w : AnyValue} → r ≡ done v → w ≡ v → Reads r w
 is-done e s = (ap (λ q. q.faults) e, ap (λ q. q.value) e ∙ sym s)
 
 pub is-reading : {r q : Reading AnyValue} {v w : AnyValue} → r ≡ q → Reads q v → w ≡ v → Reads r w
 is-reading e h s = (ap (λ x. x.faults) e ∙ h.0, ap (λ x. x.value) e ∙ h.1 ∙ sym s)
-
-pub on-ok : {T E : Type 0} {P Q : T → Type 0} (r : Result T E) → ((x : T) → P x → Q x) → IfOk r P → IfOk r Q
-on-ok (Ok x) f h = f x h
-on-ok (Err e) f h = tt
-
-pub on-err : {T E : Type 0} {P Q : E → Type 0} (r : Result T E) → ((x : E) → P x → Q x) → IfErr r P → IfErr r Q
-on-err (Ok x) f h = tt
-on-err (Err e) f h = f e h
 
 -- ---- a value of one payload
 

@@ -9,15 +9,15 @@ use Rattle.message_model.specs.Reading.{Reading, Reads, ◌>>=◌, done}
 use Rattle.message_model.specs.Wire.{Field, Payload, varint, i64, len, row}
 use Rattle.message_model.specs.Tables.{Shape, any, message, repeated, Table, end, ◌⦂◌◂◌, ◌▸◌, ValueOf, array_value, key_value_list}
 use Rattle.message_model.specs.Messages.{PayloadReading, payloads, joined_rows, read, read_table, value_of, last_run, last_bytes, last_number, number_in, bytes_in, utf8}
-use Rattle.otlp_read.specs.declared.fault.ReadFault.{ReadFault}
-use Rattle.otlp_read.specs.Faults.{NamesOne}
-use Rattle.otlp_read.specs.Gathering.{Gathered, IsKept, IsGathered, GathersRow, part_faults}
+use Rattle.otlp_message.specs.declared.fault.ReadFault.{ReadFault}
+use Rattle.otlp_message.specs.Faults.{NamesOne}
+use Rattle.otlp_message.specs.Gathering.{Gathered, IsKept, IsGathered, GathersRow, part_faults}
 use Rattle.otlp_read.specs.Members.{Begins, Runs, parts_view}
-use Rattle.otlp_read.proofs.LastPayloads.{last_or-push}
-use Rattle.otlp_read.proofs.JoinedRows.{joined-faults, joined-value, one-faults, one-value}
+use Rattle.otlp_message.proofs.LastPayloads.{last_or-push}
+use Rattle.otlp_message.proofs.JoinedRows.{joined-faults, joined-value, one-faults, one-value}
 use Rattle.otlp_read.proofs.MemberSteps.{longer-run}
-use Rattle.otlp_read.proofs.Named.{names-within, within-first}
-use Rattle.otlp_read.proofs.GatherSteps.{repeated-skips, repeated-more, repeated-fails, part-names}
+use Rattle.otlp_message.proofs.Named.{names-within, within-first}
+use Rattle.otlp_message.proofs.GatherSteps.{repeated-skips, repeated-more, repeated-fails, part-names}
 
 -- ---- the member that counts
 
@@ -101,13 +101,6 @@ module _ (values : PayloadReading AnyValue) (s : Shape) where
       (ap (λ l. l ++ (r.faults ++ ([] ++ []))) h.0 ∙ none, ap (λ l. l ▸ tt) h.1.0.1)
 
 -- ---- the parts of a message
-
-pub kept-part : (values : PayloadReading AnyValue) (t : Table) (x y : Gathered t) (content : List ℕ) → GathersRow values t x y content → (row content).faults ≡ [] →
-    (ps : List Payload) → IsKept values (message t) x ps → IsKept values (message t) y (ps ++ len content ∷ [])
-kept-part values t x y content step good ps h = (
-  joined-faults ps (len content ∷ []) ∙ ap (λ l. l ++ (joined_rows (len content ∷ [])).faults) h.0 ∙ one-faults (len content) ∙ good,
-  subst (IsGathered values t y) (sym (joined-value ps (len content ∷ []) ∙ ap (λ l. (joined_rows ps).value ++ l) (one-value (len content)))) (step (joined_rows ps).value h.1),
-)
 
 pub parts-through : (parts : List (Bor (List ℕ))) (i : ℕ) (d : Bor (List ℕ)) → i < length parts → parts_view (take (i + 1) parts) ≡ parts_view (take i parts) ++ len (get_or parts i d).now ∷ []
 parts-through parts i d l = ap parts_view (take_more parts i d l) ∙ map-append (λ b. len b.now) (take i parts) (get_or parts i d ∷ [])

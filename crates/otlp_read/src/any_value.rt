@@ -10,14 +10,12 @@ ghost use Rattle.message_model.specs.Tables;
 ghost use Rattle.message_model.specs.Tables.{message, repeated, ◌▸◌};
 ghost use Rattle.message_model.specs.Messages.{read, read_table, value};
 ghost use Rattle.otlp_wire.specs.Fields.{field_of};
-ghost use Rattle.otlp_read.specs.Faults.{NamesOne};
+ghost use Rattle.otlp_message.specs.Faults.{NamesOne};
 ghost use Rattle.otlp_read.specs.Values.{any_value_view, values_view, pair_view, pairs_view};
-ghost use Rattle.otlp_read.specs.Gathering.{GathersRow, KeepsField, field_faults, part_faults};
+ghost use Rattle.otlp_message.specs.Gathering.{GathersRow, KeepsField, field_faults, part_faults};
 ghost use Rattle.otlp_read.specs.Members.{Holds, members_from_last, array_run, pairs_run, parts_view, HoldsPair};
 
-use crate::content::{copy_bytes, read_text};
-use crate::fault::ReadFault;
-use crate::payloads::{bytes_in, last_bytes};
+use otlp_message::{ReadFault, bytes_in, copy_bytes, last_bytes, read_text};
 use otlp_wire::{Field, Fields, Payload};
 use std::alloc::{Allocator, Global};
 

@@ -8,17 +8,16 @@ ghost use Rattle.message_model.specs.Tables;
 ghost use Rattle.message_model.specs.Tables.{message, repeated};
 ghost use Rattle.message_model.specs.Messages.{max_depth, meaning, read, value};
 ghost use Rattle.otlp_wire.specs.Fields.{field_of};
-ghost use Rattle.otlp_read.specs.Faults.{NamesOne};
-ghost use Rattle.otlp_read.specs.Gathering.{KeepsField, field_faults, finished, nothing};
+ghost use Rattle.otlp_message.specs.Faults.{NamesOne};
+ghost use Rattle.otlp_message.specs.Gathering.{KeepsField, field_faults, finished, nothing};
 ghost use Rattle.otlp_read.specs.Spans.{spans_view};
 ghost use Rattle.otlp_read.specs.Requests.{scope_spans_view, scope_groups_view, scope_spans_gathered, resource_spans_view, resource_groups_view, resource_spans_gathered, request_view, request_gathered};
 
-use crate::content::read_text;
-use crate::fault::ReadFault;
-use crate::gather::{GatherFields, gather_all, gather_in};
-use crate::payloads::{bytes_in, last_bytes};
 use crate::resource::{InstrumentationScope, InstrumentationScopeParts, Resource, ResourceParts};
 use crate::span::{Span, push_span};
+use otlp_message::{
+    GatherFields, ReadFault, bytes_in, gather_all, gather_in, last_bytes, read_text,
+};
 use otlp_wire::Field;
 use std::alloc::{Allocator, Global};
 

@@ -9,15 +9,14 @@ ghost use Rattle.message_model.specs.Tables;
 ghost use Rattle.message_model.specs.Tables.{message, repeated};
 ghost use Rattle.message_model.specs.Messages.{max_depth, meaning, read, value};
 ghost use Rattle.otlp_wire.specs.Fields.{field_of};
-ghost use Rattle.otlp_read.specs.Faults.{NamesOne};
-ghost use Rattle.otlp_read.specs.Gathering.{GathersRow, KeepsField, part_faults, field_faults, finished, nothing};
+ghost use Rattle.otlp_message.specs.Faults.{NamesOne};
+ghost use Rattle.otlp_message.specs.Gathering.{GathersRow, KeepsField, part_faults, field_faults, finished, nothing};
 ghost use Rattle.otlp_read.specs.Resources.{resource_view, resource_gathered, scope_view, scope_gathered};
 
 use crate::any_value::{AnyValue, push_attribute};
-use crate::content::read_text;
-use crate::fault::ReadFault;
-use crate::gather::GatherFields;
-use crate::payloads::{bytes_in, last_bytes, last_varint, low_32_bits};
+use otlp_message::{
+    GatherFields, ReadFault, bytes_in, last_bytes, last_varint, low_32_bits, read_text,
+};
 use otlp_wire::{Field, Fields};
 use std::alloc::{Allocator, Global};
 

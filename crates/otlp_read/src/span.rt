@@ -9,15 +9,15 @@ ghost use Rattle.message_model.specs.Tables;
 ghost use Rattle.message_model.specs.Tables.{message, repeated};
 ghost use Rattle.message_model.specs.Messages.{max_depth, meaning, read, value};
 ghost use Rattle.otlp_wire.specs.Fields.{field_of};
-ghost use Rattle.otlp_read.specs.Faults.{NamesOne};
-ghost use Rattle.otlp_read.specs.Gathering.{GathersRow, KeepsField, part_faults, field_faults, finished, nothing};
+ghost use Rattle.otlp_message.specs.Faults.{NamesOne};
+ghost use Rattle.otlp_message.specs.Gathering.{GathersRow, KeepsField, part_faults, field_faults, finished, nothing};
 ghost use Rattle.otlp_read.specs.Spans.{status_view, status_gathered, event_view, events_view, event_gathered, link_view, links_view, link_gathered, span_view, spans_view, span_gathered};
 
 use crate::any_value::{AnyValue, push_attribute};
-use crate::content::{copy_bytes, read_text};
-use crate::fault::ReadFault;
-use crate::gather::{GatherFields, gather_all};
-use crate::payloads::{bytes_in, last_bytes, last_fixed64, last_varint, low_32_bits};
+use otlp_message::{
+    GatherFields, ReadFault, bytes_in, copy_bytes, gather_all, last_bytes, last_fixed64,
+    last_varint, low_32_bits, read_text,
+};
 use otlp_wire::{Field, Fields};
 use std::alloc::{Allocator, Global};
 

@@ -33,7 +33,7 @@ pub use Rattle.scope_group.specs.Group
 pub use Rattle.otlp_proto.specs.Encode
 pub use Rattle.otlp_proto.specs.Bodies
 pub use Rattle.otlp_wire.specs.Fields as WireFields
-pub use Rattle.otlp_read.specs.Response
+pub use Rattle.otlp_message.specs.Response
 pub use Rattle.trace_api.specs.Calls
 pub use Rattle.trace_api.specs.Pass
 pub use Rattle.trace_api.specs.Starts as TracerStarts

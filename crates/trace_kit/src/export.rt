@@ -2,7 +2,7 @@
 //! [`body_of`] and read by [`read_response`]; the [`Exporter`] that each batch is handed to; and
 //! what follows from an attempt to send it (OTLP Specification, "OTLP/HTTP Response").
 pub use otlp_proto::{DEFAULT_MAX_BODY, EncodeFault, body_of, encode};
-pub use otlp_read::{PartialSuccess, ReadFault, Response, read_rejected_spans, read_response};
+pub use otlp_message::{PartialSuccess, ReadFault, Response, read_rejected_spans, read_response};
 pub use otlp_wire::WireFault;
 pub use retry_core::{BadRetry, Cause, Next, Outcome, RetryAfter, RetryConfig, decide};
 pub use scope_group::{ResourceGroup, ScopeGroup, group};

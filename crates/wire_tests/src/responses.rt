@@ -4,7 +4,7 @@
 use crate::equal::{assert_equal, assert_equal_at};
 use failing_allocator::FailingAllocator;
 use linked_list_allocator::LocalHeap;
-use otlp_read::{ReadFault, read_rejected_spans, read_response};
+use otlp_message::{ReadFault, read_rejected_spans, read_response};
 use otlp_wire::WireFault;
 use std::alloc::Global;
 use std::process::Abort;

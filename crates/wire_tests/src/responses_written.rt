@@ -4,7 +4,7 @@
 use crate::equal::{assert_equal, assert_equal_at};
 use failing_allocator::FailingAllocator;
 use linked_list_allocator::LocalHeap;
-use otlp_read::{PartialSuccess, Response, read_response, write_response};
+use otlp_message::{PartialSuccess, Response, read_response, write_response};
 use std::alloc::Global;
 use std::process::Abort;
 

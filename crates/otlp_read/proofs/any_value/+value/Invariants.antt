@@ -4,10 +4,10 @@ use Rattle.message_model.specs.Tables
 use Rattle.message_model.specs.Tables.{message, ◌▸◌}
 use Rattle.message_model.specs.Messages.{value}
 use Rattle.otlp_read.specs.Values.{values_view, pairs_view}
-use Rattle.otlp_read.specs.Gathering.{IsGathered, IsKept}
+use Rattle.otlp_message.specs.Gathering.{IsGathered, IsKept}
 use Rattle.otlp_read.specs.Members.{parts_view}
-use Rattle.otlp_read.proofs.FieldsRead.{FieldsRead}
-use Rattle.otlp_read.proofs.GatherSteps.{Behind}
+use Rattle.otlp_message.proofs.FieldsRead.{FieldsRead}
+use Rattle.otlp_message.proofs.GatherSteps.{Behind}
 use Rattle.otlp_read.proofs.any_value.+value.Given as goal
 
 abbrev pub decreases-value_of : goal.decreases-value_of

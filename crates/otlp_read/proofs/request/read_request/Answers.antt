@@ -2,10 +2,9 @@ use Rattle.std.proofs.Common.{◌≡◌, sym, subst, ◌∙◌, Err, IfErr, arit
 use Rattle.message_model.specs.Reading.{Reads}
 use Rattle.message_model.specs.Tables
 use Rattle.message_model.specs.Messages.{meaning}
-use Rattle.otlp_read.specs.Faults.{NamesOne}
+use Rattle.otlp_message.specs.Faults.{NamesOne}
 use Rattle.otlp_read.specs.Requests.{request_view}
-use Rattle.otlp_read.proofs.PairValues.{on-ok, on-err}
-use Rattle.otlp_read.proofs.Finished.{meaning-is}
+use Rattle.otlp_message.proofs.Finished.{meaning-is, on-ok, on-err}
 use Rattle.otlp_read.proofs.request.read_request.Goals as goal
 
 pub returns-in_err-parts-clause-err : goal.returns-in_err-parts-clause-err

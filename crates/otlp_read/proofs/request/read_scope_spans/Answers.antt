@@ -1,8 +1,8 @@
 use Rattle.std.proofs.Common.{sym, subst}
 use Rattle.message_model.specs.Reading.{Reads}
-use Rattle.otlp_read.specs.Faults.{NamesOne}
+use Rattle.otlp_message.specs.Faults.{NamesOne}
 use Rattle.otlp_read.specs.Requests.{scope_spans_view}
-use Rattle.otlp_read.proofs.PairValues.{on-ok, on-err}
+use Rattle.otlp_message.proofs.Finished.{on-ok, on-err}
 use Rattle.otlp_read.proofs.request.read_scope_spans.Goals as goal
 
 pub returns-clause-err : goal.returns-clause-err

@@ -1,8 +1,8 @@
 use Rattle.std.proofs.Common.{sym, subst}
 use Rattle.message_model.specs.Reading.{Reads}
-use Rattle.otlp_read.specs.Faults.{NamesOne}
+use Rattle.otlp_message.specs.Faults.{NamesOne}
 use Rattle.otlp_read.specs.Spans.{link_view}
-use Rattle.otlp_read.proofs.PairValues.{on-ok, on-err}
+use Rattle.otlp_message.proofs.Finished.{on-ok, on-err}
 use Rattle.otlp_read.proofs.span.read_link.Goals as goal
 
 pub returns-clause-err : goal.returns-clause-err

@@ -1,10 +1,10 @@
 use Rattle.message_model.specs.Tables
 use Rattle.message_model.specs.Wire.{row}
 use Rattle.message_model.specs.Messages.{value, max_depth}
-use Rattle.otlp_read.specs.Gathering.{IsGathered}
+use Rattle.otlp_message.specs.Gathering.{IsGathered}
 use Rattle.otlp_read.specs.Resources.{scope_gathered}
-use Rattle.otlp_read.proofs.FieldsRead.{FieldsRead}
-use Rattle.otlp_read.proofs.GatherSteps.{Behind}
+use Rattle.otlp_message.proofs.FieldsRead.{FieldsRead}
+use Rattle.otlp_message.proofs.GatherSteps.{Behind}
 use Rattle.otlp_read.proofs.resource.InstrumentationScopeParts.take_all.Given as goal
 
 abbrev pub invariant-loop-field : goal.invariant-loop-field

@@ -1,0 +1,10 @@
+pub mod OnePayload
+pub mod LastPayloads
+pub mod JoinedRows
+pub mod FieldsRead
+pub mod Named
+pub mod GatherSteps
+pub mod Finished
+pub mod ResponseSteps
+pub mod ResponseMeaning
+pub mod ResponseBytes

@@ -1,0 +1,97 @@
+//! The fields of a message, gathered one after another, whatever its table.
+
+ghost use Rattle.std.specs.Prelude.{◌≡◌, ◌++◌, List, [], ◌∷◌, IfOk, IfErr, OnOk};
+ghost use Rattle.message_model.specs.Wire;
+ghost use Rattle.message_model.specs.Wire.{row};
+ghost use Rattle.message_model.specs.Tables.{Table, message};
+ghost use Rattle.message_model.specs.Messages.{max_depth, read, read_table, value};
+ghost use Rattle.otlp_wire.specs.Fields.{field_of};
+ghost use Rattle.otlp_message.specs.Faults.{NamesOne};
+ghost use Rattle.otlp_message.specs.Gathering.{Gathered, IsGathered, GathersRow, KeepsField, field_faults, finished, nothing, part_faults};
+
+use crate::fault::ReadFault;
+use crate::payloads::bytes_in;
+use otlp_wire::{Field, Fields};
+
+/// What is gathered of the fields of a message: the last payload of a scalar, a text or bytes, what
+/// is gathered of a message in it, and the values of a repeated field (Protocol Buffers, Encoding,
+/// "Last One Wins", "Repeated Elements"). A type for a message says by `table` which fields that
+/// has, and by `gathered` what it keeps of them.
+pub trait GatherFields<'a> {
+    ghost table: { Table };
+
+    ghost gathered: { Self → Gathered table };
+
+    /// Takes one field more. One that the table hasn't, or of another wire type, changes nothing.
+    ///
+    /// # Errors
+    ///
+    /// A `ReadFault` that the field has, or `OutOfMemory` where what is kept of it could not be
+    /// stored. What was gathered is then of no more use.
+    fn take(&mut self, field: Field<'a>) -> Result<(), ReadFault>
+        ensures ok { OnOk result ((fields : List Wire.Field) →
+            IsGathered (value max_depth) table (gathered self.old) fields →
+            IsGathered (value max_depth) table (gathered self.new)
+            (fields ++ field_of field.entry ∷ [])) }
+        ensures err { IfErr result (λ fault. (before after : List Wire.Field) → NamesOne
+            (read_table (value max_depth) table
+            (before ++ field_of field.entry ∷ after)).faults fault) };
+}
+
+/// Takes the fields of these bytes.
+fn gather<'a, G: GatherFields<'a>>(gathered: &mut G, content: &'a [u8]) -> Result<(), ReadFault>
+    ensures ok { OnOk result (GathersRow (value max_depth) G.table
+        (G.gathered gathered.old) (G.gathered gathered.new) content.now) }
+    ensures whole { OnOk result ((row content.now).faults ≡ []) }
+    ensures err { IfErr result (λ fault. (before after : List Wire.Field) → NamesOne
+        (part_faults (value max_depth) G.table before content.now after) fault) }
+{
+    for field in Fields::new(content) {
+        gathered.take(field?)?;
+    }
+    Ok(())
+}
+
+/// Takes the fields of the message that the field is, where it has this number: they are joined with
+/// those that came before (Protocol Buffers, Encoding, "Last One Wins").
+///
+/// # Errors
+///
+/// A `ReadFault` that the field has, or `OutOfMemory` where what is kept of it could not be stored.
+/// What was gathered is then of no more use.
+pub fn gather_in<'a, G: GatherFields<'a>>(
+    gathered: &mut G,
+    field: Field<'a>,
+    number: u32,
+) -> Result<(), ReadFault>
+    ensures ok { OnOk result (KeepsField (message G.table) number
+        (G.gathered gathered.old) (G.gathered gathered.new) (field_of field.entry)) }
+    ensures err { IfErr result (λ fault. (before after : List Wire.Field) → NamesOne
+        (field_faults (message G.table) number before (field_of field.entry) after) fault) }
+{
+    match bytes_in(field, number) {
+        Some(content) => gather(gathered, content),
+        None => Ok(()),
+    }
+}
+
+/// What is gathered of a message of these bytes, where there is nothing yet. What it means is left
+/// to be read: a text may yet not be UTF-8.
+///
+/// # Errors
+///
+/// A `ReadFault` that the bytes have, or `OutOfMemory` where what is kept of them could not be
+/// stored.
+pub fn gather_all<'a, G: GatherFields<'a>>(empty: G, content: &'a [u8]) -> Result<G, ReadFault>
+where
+    G: Drop,
+    requires { G.gathered empty ≡ nothing G.table }
+    ensures ok { IfOk result (λ g. read (value max_depth) (message G.table)
+        (Wire.len content.now ∷ []) ≡ finished (value max_depth) (message G.table) (G.gathered g)) }
+    ensures err { IfErr result (λ fault. NamesOne
+        (read (value max_depth) (message G.table) (Wire.len content.now ∷ [])).faults fault) }
+{
+    let mut gathered = empty;
+    gather(&mut gathered, content)?;
+    Ok(gathered)
+}

@@ -1,0 +1,22 @@
+//! Messages of OTLP as Protocol Buffers have them on the wire ("Encoding"): the fields of any
+//! message, gathered by its table, and the answer of a collector to a trace export, read and
+//! written (opentelemetry-proto, trace_service.proto).
+//!
+//! Whoever reads a message of another table writes a type that keeps what counts of its fields, and
+//! implements [`GatherFields`] for it. What doesn't count is not looked into: fields that are
+//! unknown or of another wire type, and the texts that a later one replaces.
+#![tactic(auto)]
+
+mod content;
+mod fault;
+mod gather;
+mod payloads;
+mod response;
+mod response_writer;
+
+pub use content::{copy_bytes, read_text};
+pub use fault::ReadFault;
+pub use gather::{GatherFields, gather_all, gather_in};
+pub use payloads::{bytes_in, last_bytes, last_fixed64, last_varint, low_32_bits};
+pub use response::{PartialSuccess, Response, read_rejected_spans, read_response};
+pub use response_writer::write_response;
