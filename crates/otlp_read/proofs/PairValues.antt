@@ -1,5 +1,5 @@
 -- What a value and a pair mean, by what counts of their fields.
-use Rattle.std.proofs.Common.{◌≡◌, refl, sym, ap, ap₂, subst, ◌∙◌, ℕ, suc, List, [], ◌∷◌, ◌++◌, append-nil, Result, Ok, Err, IfOk, IfErr, filter, reverse, is_some}
+use Rattle.std.proofs.Common.{◌≡◌, refl, sym, ap, ap₂, subst, ◌∙◌, ℕ, suc, List, [], ◌∷◌, ◌++◌, append-nil, filter, reverse, is_some}
 use Rattle.std.specs.List.{Contains}
 use Rattle.message_model.specs.AnyValue.{AnyValue}
 use Rattle.message_model.specs.Reading.{Reading, Reads, done}

@@ -6,15 +6,14 @@ use Rattle.std.specs.List.{last_or}
 use Rattle.std.proofs.lemmas.List.{map-append, take_more, take-append-drop}
 use Rattle.message_model.specs.AnyValue.{AnyValue, as_values, as_pairs}
 use Rattle.message_model.specs.Reading.{Reading, Reads, ◌>>=◌, done}
-use Rattle.message_model.specs.Wire.{Field, Payload, varint, i64, len, row}
+use Rattle.message_model.specs.Wire.{Field, Payload, varint, i64, len}
 use Rattle.message_model.specs.Tables.{Shape, any, message, repeated, Table, end, ◌⦂◌◂◌, ◌▸◌, ValueOf, array_value, key_value_list}
 use Rattle.message_model.specs.Messages.{PayloadReading, payloads, joined_rows, read, read_table, value_of, last_run, last_bytes, last_number, number_in, bytes_in, utf8}
 use Rattle.otlp_message.specs.declared.fault.ReadFault.{ReadFault}
 use Rattle.otlp_message.specs.Faults.{NamesOne}
-use Rattle.otlp_message.specs.Gathering.{Gathered, IsKept, IsGathered, GathersRow, part_faults}
+use Rattle.otlp_message.specs.Gathering.{IsKept, IsGathered, part_faults}
 use Rattle.otlp_read.specs.Members.{Begins, Runs, parts_view}
 use Rattle.otlp_message.proofs.LastPayloads.{last_or-push}
-use Rattle.otlp_message.proofs.JoinedRows.{joined-faults, joined-value, one-faults, one-value}
 use Rattle.otlp_read.proofs.MemberSteps.{longer-run}
 use Rattle.otlp_message.proofs.Named.{names-within, within-first}
 use Rattle.otlp_message.proofs.GatherSteps.{repeated-skips, repeated-more, repeated-fails, part-names}
