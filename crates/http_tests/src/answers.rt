@@ -1,8 +1,8 @@
 //! What requests are answered, line by line of the collector's table, and replies that are written.
 
 use crate::equal::{assert_equal, assert_equal_at};
-use crate::fixture::wire;
-use otlp_http::{FailingCalls, FailingWire};
+use crate::fixture::{repeated, wire};
+use otlp_http::FailingCalls;
 use otlp_serve::{
     Counted, FaultWrite, HeadLimits, HttpFault, PostFault, PostReply, ReplyStatus, Stopped,
     read_post, write_reply,
@@ -25,13 +25,15 @@ fn answer_to(rt: &impl Abort, alloc: Global, text: &[u8]) -> Option<PostReply> {
     }
 }
 
-/// The status that a request is answered with this first line, these fields and three bytes behind
-/// them.
-fn status_of(rt: &impl Abort, alloc: Global, start: &str, fields: &str) -> Option<u16> {
+/// Checks the status that a request is answered with this first line, these fields and three bytes
+/// behind them, and that no wait is asked for.
+fn assert_answer(rt: &impl Abort, alloc: Global, start: &str, fields: &str, status: Option<u16>) {
     let text = format!(in alloc; "{start}\r\n{fields}\r\nabc").expect(rt, "memory");
-    let reply = answer_to(rt, alloc, text.as_bytes())?;
-    assert!(rt; reply.retry_after.is_none());
-    Some(reply.status.code())
+    let told = match answer_to(rt, alloc, text.as_bytes()) {
+        Some(reply) => (Some(reply.status.code()), reply.retry_after),
+        None => (None, None),
+    };
+    assert_equal_at(rt, told, (status, None), (start, fields));
 }
 
 /// The first line of a request that is taken.
@@ -43,93 +45,80 @@ const TYPE: &str = "Content-Type: application/x-protobuf\r\n";
 #[test]
 fn a_request_that_has_not_come_is_not_answered(rt: HostRuntime) {
     let alloc = rt.alloc();
-    assert!(rt; answer_to(&rt, alloc, b"").is_none());
-    assert!(rt; answer_to(&rt, alloc, b"GET /x HTTP/1.1\r\nContent-Le").is_none());
-    let long = "Content-Length: 4\r\n";
-    assert_equal(&rt, status_of(&rt, alloc, "GET /x HTTP/1.1", long), None);
+    for text in ["", "GET /x HTTP/1.1\r\nContent-Le"] {
+        assert_equal(&rt, answer_to(&rt, alloc, text.as_bytes()), None);
+    }
+    assert_answer(&rt, alloc, "GET /x HTTP/1.1", "Content-Length: 4\r\n", None);
 }
 
 #[test]
 fn a_bad_request_is_answered_before_all_else(rt: HostRuntime) {
     let alloc = rt.alloc();
     let rows = [
-        ("GET /x HTTP/3", ""),
-        ("GET /x HTTP/1.1", "A b: c\r\n"),
-        ("GET /x HTTP/1.1", "Content-Length: x\r\n"),
+        ("GET /x HTTP/3", "", 400),
+        ("GET /x HTTP/1.1", "A b: c\r\n", 400),
+        ("GET /x HTTP/1.1", "Content-Length: x\r\n", 400),
         (
             "GET /x HTTP/1.1",
             "Content-Length: 1\r\nContent-Length: 2\r\n",
+            400,
         ),
-        ("GET /x HTTP/1.1", "Transfer-Encoding: chunked\r\n"),
-        (POST, "Content-Length: 3\r\nTransfer-Encoding: identity\r\n"),
+        ("GET /x HTTP/1.1", "Transfer-Encoding: chunked\r\n", 400),
+        (
+            POST,
+            "Content-Length: 3\r\nTransfer-Encoding: identity\r\n",
+            400,
+        ),
+        ("GET /x HTTP/1.1", "Content-Length: 65537\r\n", 413),
     ];
-    for row in rows {
-        assert_equal_at(&rt, status_of(&rt, alloc, row.0, row.1), Some(400), row);
+    for (start, fields, status) in rows {
+        assert_answer(&rt, alloc, start, fields, Some(status));
     }
-    let large = "Content-Length: 65537\r\n";
-    assert_equal(
-        &rt,
-        status_of(&rt, alloc, "GET /x HTTP/1.1", large),
-        Some(413),
-    );
-    let mut fields = String::new(alloc);
-    for _field in 0..65 {
-        fields.push_str("A: b\r\n").expect(&rt, "memory");
-    }
-    let many = status_of(&rt, alloc, "GET /x HTTP/1.1", fields.as_str());
-    assert_equal(&rt, many, Some(431));
+    let many = repeated(&rt, alloc, "", "A: b\r\n", 65, "");
+    assert_answer(&rt, alloc, "GET /x HTTP/1.1", many.as_str(), Some(431));
 }
 
 #[test]
 fn another_path_is_not_found(rt: HostRuntime) {
-    let alloc = rt.alloc();
-    let paths = [
-        "/x",
-        "/",
-        "/v1/trace",
-        "/v1/traces/",
-        "/V1/traces",
-        "*",
-        "v1/traces",
-        "/?/v1/traces",
+    let rows = [
+        ("GET /x HTTP/1.1", 404),
+        ("GET / HTTP/1.1", 404),
+        ("GET /v1/trace HTTP/1.1", 404),
+        ("GET /v1/traces/ HTTP/1.1", 404),
+        ("GET /V1/traces HTTP/1.1", 404),
+        ("GET * HTTP/1.1", 404),
+        ("GET v1/traces HTTP/1.1", 404),
+        ("GET /?/v1/traces HTTP/1.1", 404),
     ];
-    for path in paths {
-        let start = format!(in alloc; "GET {path} HTTP/1.1").expect(&rt, "memory");
-        assert_equal_at(
-            &rt,
-            status_of(&rt, alloc, start.as_str(), ""),
-            Some(404),
-            path,
-        );
+    for (start, status) in rows {
+        assert_answer(&rt, rt.alloc(), start, "", Some(status));
     }
-    for path in ["/v1/traces", "/v1/traces?", "/v1/traces?a=b?c"] {
-        let start = format!(in alloc; "POST {path} HTTP/1.0").expect(&rt, "memory");
-        assert_equal_at(
-            &rt,
-            status_of(&rt, alloc, start.as_str(), TYPE),
-            Some(200),
-            path,
-        );
+    let taken = [
+        "POST /v1/traces HTTP/1.0",
+        "POST /v1/traces? HTTP/1.0",
+        "POST /v1/traces?a=b?c HTTP/1.0",
+    ];
+    for start in taken {
+        assert_answer(&rt, rt.alloc(), start, TYPE, Some(200));
     }
 }
 
 #[test]
 fn another_method_is_not_allowed(rt: HostRuntime) {
-    let alloc = rt.alloc();
-    for method in ["GET", "post", "PUT", "POSTS", "OPTIONS"] {
-        let start = format!(in alloc; "{method} /v1/traces HTTP/1.1").expect(&rt, "memory");
-        assert_equal_at(
-            &rt,
-            status_of(&rt, alloc, start.as_str(), ""),
-            Some(405),
-            method,
-        );
+    let rows = [
+        "GET /v1/traces HTTP/1.1",
+        "post /v1/traces HTTP/1.1",
+        "PUT /v1/traces HTTP/1.1",
+        "POSTS /v1/traces HTTP/1.1",
+        "OPTIONS /v1/traces HTTP/1.1",
+    ];
+    for start in rows {
+        assert_answer(&rt, rt.alloc(), start, "", Some(405));
     }
 }
 
 #[test]
 fn another_type_is_not_supported(rt: HostRuntime) {
-    let alloc = rt.alloc();
     let rows = [
         ("", 415),
         ("Content-Type:\r\n", 415),
@@ -150,18 +139,18 @@ fn another_type_is_not_supported(rt: HostRuntime) {
         ("Content-Type: application/x-protobuf \t;\r\n", 200),
     ];
     for (fields, status) in rows {
-        assert_equal_at(
-            &rt,
-            status_of(&rt, alloc, POST, fields),
-            Some(status),
-            fields,
-        );
+        assert_answer(&rt, rt.alloc(), POST, fields, Some(status));
     }
+}
+
+/// Checks the status that a request is answered with these fields behind its type.
+fn assert_encoded(rt: &impl Abort, alloc: Global, encodings: &str, status: u16) {
+    let fields = format!(in alloc; "{TYPE}{encodings}").expect(rt, "memory");
+    assert_answer(rt, alloc, POST, fields.as_str(), Some(status));
 }
 
 #[test]
 fn a_body_that_is_encoded_is_not_supported(rt: HostRuntime) {
-    let alloc = rt.alloc();
     let rows = [
         ("Content-Encoding: gzip\r\n", 415),
         ("Content-Encoding:\r\n", 415),
@@ -176,9 +165,7 @@ fn a_body_that_is_encoded_is_not_supported(rt: HostRuntime) {
         ),
     ];
     for (encodings, status) in rows {
-        let fields = format!(in alloc; "{TYPE}{encodings}").expect(&rt, "memory");
-        let answer = status_of(&rt, alloc, POST, fields.as_str());
-        assert_equal_at(&rt, answer, Some(status), encodings);
+        assert_encoded(&rt, rt.alloc(), encodings, status);
     }
 }
 
@@ -188,19 +175,35 @@ fn want_of_memory_is_answered(rt: HostRuntime) {
         status: ReplyStatus::ServiceUnavailable,
         retry_after: Some(1),
     });
-    assert_equal(&rt, PostFault::Head(HttpFault::OutOfMemory).reply(), busy);
-    assert_equal(&rt, PostFault::Body(HttpFault::OutOfMemory).reply(), busy);
-    assert_equal(&rt, PostFault::Head(HttpFault::Device).reply(), None);
-    assert_equal(&rt, PostFault::Body(HttpFault::Device).reply(), None);
-    let chunk = PostFault::Body(HttpFault::BadChunk)
-        .reply()
-        .expect(&rt, "a reply");
-    assert_equal(&rt, chunk.status, ReplyStatus::BadRequest);
+    let bad = Some(PostReply {
+        status: ReplyStatus::BadRequest,
+        retry_after: None,
+    });
+    for (fault, reply) in [
+        (PostFault::Head(HttpFault::OutOfMemory), busy),
+        (PostFault::Body(HttpFault::OutOfMemory), busy),
+        (PostFault::Head(HttpFault::Device), None),
+        (PostFault::Body(HttpFault::Device), None),
+        (PostFault::Body(HttpFault::BadChunk), bad),
+    ] {
+        assert_equal_at(&rt, fault.reply(), reply, fault);
+    }
 }
 
-/// A wire that takes at most so many bytes a call, and has nothing to give.
-fn output(rt: &impl Abort, alloc: Global, most: usize, failing: FailingCalls) -> FailingWire {
-    wire(rt, alloc, b"", most, failing)
+/// Checks what is written of a reply by a wire that takes at most so many bytes a call and fails
+/// some, and how the writing ends.
+fn assert_writes(
+    rt: &impl Abort,
+    alloc: Global,
+    reply: PostReply,
+    wire_of: (usize, FailingCalls),
+    wanted: (Result<(), Stopped>, u64, &[u8]),
+) {
+    let (most, failing) = wire_of;
+    let mut wire = wire(rt, alloc, b"", most, failing);
+    let written = write_reply(&mut wire, reply);
+    let found = (written, FaultWrite::failures(&wire), wire.taken());
+    assert_equal_at(rt, found, wanted, (reply, failing));
 }
 
 /// Checks that a reply is written as this first line and these last fields.
@@ -209,9 +212,8 @@ fn assert_written(rt: &impl Abort, alloc: Global, reply: PostReply, start: &str,
     let text = format!(in alloc; "HTTP/1.1 {start}\r\n{common}Connection: close\r\n{fields}\r\n");
     let text = text.expect(rt, "memory");
     for most in [1usize, 7, 65_536] {
-        let mut wire = output(rt, alloc, most, FailingCalls::Never);
-        assert_equal(rt, write_reply(&mut wire, reply), Ok(()));
-        assert!(rt; wire.taken() == text.as_bytes());
+        let wanted = (Ok(()), 0, text.as_bytes());
+        assert_writes(rt, alloc, reply, (most, FailingCalls::Never), wanted);
     }
 }
 
@@ -257,20 +259,22 @@ fn a_reply_has_its_status(rt: HostRuntime) {
 
 #[test]
 fn a_reply_may_ask_for_a_wait(rt: HostRuntime) {
-    let mut reply = PostReply {
-        status: ReplyStatus::ServiceUnavailable,
-        retry_after: Some(1),
-    };
-    let start = "503 Service Unavailable";
-    assert_written(&rt, rt.alloc(), reply, start, "Retry-After: 1\r\n");
-    reply.retry_after = Some(0);
-    assert_written(&rt, rt.alloc(), reply, start, "Retry-After: 0\r\n");
-    reply.retry_after = Some(u64::MAX);
+    let busy = (ReplyStatus::ServiceUnavailable, "503 Service Unavailable");
+    let other = (ReplyStatus::MethodNotAllowed, "405 Method Not Allowed");
     let most = "Retry-After: 18446744073709551615\r\n";
-    assert_written(&rt, rt.alloc(), reply, start, most);
-    reply.status = ReplyStatus::MethodNotAllowed;
     let both = "Allow: POST\r\nRetry-After: 18446744073709551615\r\n";
-    assert_written(&rt, rt.alloc(), reply, "405 Method Not Allowed", both);
+    for ((status, start), seconds, fields) in [
+        (busy, 1, "Retry-After: 1\r\n"),
+        (busy, 0, "Retry-After: 0\r\n"),
+        (busy, u64::MAX, most),
+        (other, u64::MAX, both),
+    ] {
+        let reply = PostReply {
+            status,
+            retry_after: Some(seconds),
+        };
+        assert_written(&rt, rt.alloc(), reply, start, fields);
+    }
 }
 
 /// The reply that a request is answered which is taken: 95 bytes.
@@ -282,26 +286,27 @@ const TAKEN: &str = concat!(
     "\r\n",
 );
 
+/// What comes of the writing of that reply a byte a call where the call with this number fails.
+fn wanted_at(at: u64) -> (Result<(), Stopped>, u64, &'static [u8]) {
+    match TAKEN.as_bytes().get(..at as usize) {
+        Some(front) if at < 95 => (Err(Stopped { sent: at }), 1, front),
+        _ => (Ok(()), 0, TAKEN.as_bytes()),
+    }
+}
+
 #[test]
 fn a_reply_stops_at_each_write_that_fails(rt: HostRuntime) {
-    let alloc = rt.alloc();
     let reply = PostReply {
         status: ReplyStatus::Ok,
         retry_after: None,
     };
     assert_equal(&rt, TAKEN.len(), 95);
-    for at in 0..95u64 {
-        let mut wire = output(&rt, alloc, 1, FailingCalls::From(at));
-        let stopped = write_reply(&mut wire, reply);
-        assert_equal(&rt, stopped, Err(Stopped { sent: at }));
-        assert!(rt;
-            TAKEN.as_bytes().get(..at as usize) == Some(wire.taken()),
-            "{at}"
-        );
-        assert_equal(&rt, FaultWrite::failures(&wire), 1);
+    for at in 0..=95u64 {
+        let wire_of = (1, FailingCalls::From(at));
+        assert_writes(&rt, rt.alloc(), reply, wire_of, wanted_at(at));
     }
-    let mut wire = output(&rt, alloc, 1, FailingCalls::Once(95));
-    assert_equal(&rt, write_reply(&mut wire, reply), Ok(()));
+    let wire_of = (1, FailingCalls::Once(95));
+    assert_writes(&rt, rt.alloc(), reply, wire_of, wanted_at(95));
 }
 
 #[test]
@@ -312,7 +317,7 @@ fn a_reply_goes_to_a_writer_of_std(rt: HostRuntime) {
         retry_after: None,
     };
     assert_equal(&rt, write_reply(&mut output, reply), Ok(()));
-    assert!(rt; output.into_inner().as_slice() == TAKEN.as_bytes());
+    assert_equal(&rt, output.into_inner().as_slice(), TAKEN.as_bytes());
 }
 
 #[test]

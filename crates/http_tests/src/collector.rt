@@ -5,9 +5,9 @@ use crate::fixture::{joined, wire};
 use failing_allocator::FailingAllocator;
 use linked_list_allocator::LocalHeap;
 use otlp_collector::{Answered, Canned, CannedStatus, answer};
-use otlp_http::{FailingCalls, FailingWire, FaultRead};
+use otlp_http::{FailingCalls, FaultRead};
 use otlp_serve::{HeadLimits, Stopped};
-use std::alloc::Global;
+use std::alloc::{Allocator, Global};
 use std::process::Abort;
 
 /// A request of one span, whose fields come from the last to the first, with an unknown one among
@@ -29,40 +29,64 @@ fn request(rt: &impl Abort, alloc: Global, start: &str, fields: &str, body: &[u8
     joined(rt, alloc, head.expect(rt, "memory").as_bytes(), body)
 }
 
-/// What a connection over which this text comes is answered: the status, how many groups of spans
-/// were taken, if any were, and what was written.
+/// The whole reply that has this first line and these last fields.
+fn reply_text(rt: &impl Abort, alloc: Global, start: &str, fields: &str) -> String {
+    let common = "Content-Type: application/x-protobuf\r\nContent-Length: 0\r\n";
+    let text = format!(in alloc; "HTTP/1.1 {start}\r\n{common}Connection: close\r\n{fields}\r\n");
+    text.expect(rt, "memory")
+}
+
+/// The status that was answered, and how many groups of spans were taken, if any were.
+type Told = (Option<u16>, Option<usize>);
+
+/// What became of a connection, in plain values.
+fn told<A: Allocator>(answered: Answered<A>) -> Told {
+    let Answered { status, request } = answered;
+    match request {
+        Some(request) => (status, Some(request.resource_spans.len())),
+        None => (status, None),
+    }
+}
+
+/// What a connection over which this text comes is answered within limits of so many bytes of a
+/// head and of a body, what was written, and how many bytes are left to read.
 fn answered(
     rt: &impl Abort,
     alloc: Global,
     text: &[u8],
+    most: (usize, usize),
     canned: Option<Canned>,
-) -> (Option<u16>, Option<usize>, FailingWire) {
-    let mut reader = wire(rt, alloc, text, 100, FailingCalls::Never);
-    let mut writer = wire(rt, alloc, b"", 7, FailingCalls::Never);
+) -> (Told, Vec<u8>, usize) {
+    let (head, body) = most;
     let limits = HeadLimits {
-        body: 1_000_000,
+        head,
+        body,
         ..HeadLimits::default()
     };
+    let mut reader = wire(rt, alloc, text, 100, FailingCalls::Never);
+    let mut writer = wire(rt, alloc, b"", 7, FailingCalls::Never);
     let served = answer(alloc, alloc, &mut reader, &mut writer, &limits, canned);
-    let Answered { status, request } = served.expect(rt, "a whole reply");
-    (
-        status,
-        request.map(|request| request.resource_spans.len()),
-        writer,
-    )
+    let told = told(served.expect(rt, "a whole reply"));
+    let taken = Vec::from_slice(alloc, writer.taken()).expect(rt, "memory");
+    (told, taken, reader.left().len())
 }
 
-/// The status that a request is answered, and how many groups of spans were taken, if any were.
-fn status_of(
+/// Limits that are seldom reached.
+const AMPLE: (usize, usize) = (16_384, 1_000_000);
+
+/// Checks the status that a request is answered, and how many groups of spans were taken, if any
+/// were.
+fn assert_answer(
     rt: &impl Abort,
     alloc: Global,
     start: &str,
     fields: &str,
     body: &[u8],
-) -> (Option<u16>, Option<usize>) {
+    wanted: Told,
+) {
     let text = request(rt, alloc, start, fields, body);
-    let (status, groups, _) = answered(rt, alloc, &text, None);
-    (status, groups)
+    let (told, _, _) = answered(rt, alloc, &text, AMPLE, None);
+    assert_equal_at(rt, told, wanted, (start, fields));
 }
 
 #[test]
@@ -84,47 +108,106 @@ fn a_request_is_answered_by_the_first_line_that_holds(rt: HostRuntime) {
         ("GET /x", json, cut, 404, None),
     ];
     for (start, fields, body, status, groups) in rows {
-        let found = status_of(&rt, alloc, start, fields, body);
-        assert_equal_at(&rt, found, (Some(status), groups), (start, fields));
+        assert_answer(&rt, alloc, start, fields, body, (Some(status), groups));
     }
+}
+
+/// Checks that a connection over which this text comes is not answered.
+fn assert_unanswered(rt: &impl Abort, alloc: Global, text: &[u8]) {
+    let (told, taken, _) = answered(rt, alloc, text, AMPLE, None);
+    assert_equal_at(rt, (told, taken.len()), ((None, None), 0), text);
 }
 
 #[test]
 fn a_connection_that_ends_is_not_answered(rt: HostRuntime) {
-    let alloc = rt.alloc();
-    let text = request(&rt, alloc, "POST /v1/traces", TYPE, SPAN);
+    let text = request(&rt, rt.alloc(), "POST /v1/traces", TYPE, SPAN);
     for size in [0, 20, text.len().saturating_sub(1)] {
         let front = text.get(..size).expect(&rt, "a front");
-        let (status, groups, writer) = answered(&rt, alloc, front, None);
-        assert_equal_at(&rt, (status, groups), (None, None), size);
-        assert_equal_at(&rt, writer.taken().len(), 0, size);
+        assert_unanswered(&rt, rt.alloc(), front);
     }
 }
 
-/// What is written with a canned reply.
-const CANNED: &str = concat!(
-    "HTTP/1.1 429 Too Many Requests\r\n",
-    "Content-Type: application/x-protobuf\r\n",
-    "Content-Length: 0\r\n",
-    "Connection: close\r\n",
-    "Retry-After: 0\r\n",
-    "\r\n",
-);
+/// Checks that a request is answered with this status and this whole text where a reply is canned.
+fn assert_canned(
+    rt: &impl Abort,
+    alloc: Global,
+    text: &[u8],
+    canned: (CannedStatus, Option<u64>),
+    wanted: (Told, &str, &str),
+) {
+    let (status, retry_after) = canned;
+    let canned = Some(Canned {
+        status,
+        retry_after,
+    });
+    let (wanted, start, fields) = wanted;
+    let (told, taken, _) = answered(rt, alloc, text, AMPLE, canned);
+    assert_equal_at(rt, told, wanted, (start, status));
+    let text = reply_text(rt, alloc, start, fields);
+    assert_equal_at(rt, taken.as_slice(), text.as_bytes(), (start, status));
+}
 
 #[test]
 fn a_canned_reply_stands_in_place_of_a_200(rt: HostRuntime) {
+    let text = request(&rt, rt.alloc(), "POST /v1/traces", TYPE, SPAN);
+    let many = (CannedStatus::TooManyRequests, Some(0));
+    let busy = (CannedStatus::ServiceUnavailable, Some(7));
+    let (many_line, busy_line) = ("429 Too Many Requests", "503 Service Unavailable");
+    let rows = [
+        ((CannedStatus::Ok, None), 200, "200 OK", ""),
+        (many, 429, many_line, "Retry-After: 0\r\n"),
+        ((CannedStatus::BadGateway, None), 502, "502 Bad Gateway", ""),
+        (busy, 503, busy_line, "Retry-After: 7\r\n"),
+        ((CannedStatus::ServiceUnavailable, None), 503, busy_line, ""),
+        (
+            (CannedStatus::GatewayTimeout, None),
+            504,
+            "504 Gateway Timeout",
+            "",
+        ),
+    ];
+    for (canned, status, start, fields) in rows {
+        let wanted = ((Some(status), Some(1)), start, fields);
+        assert_canned(&rt, rt.alloc(), &text, canned, wanted);
+    }
+}
+
+/// What a request is answered before a reply that is canned, with this status.
+fn assert_before_canned(
+    rt: &impl Abort,
+    alloc: Global,
+    start: &str,
+    body: &[u8],
+    wanted: (u16, &str, &str),
+) {
+    let text = request(rt, alloc, start, TYPE, body);
+    let (status, line, fields) = wanted;
+    let canned = (CannedStatus::ServiceUnavailable, Some(7));
+    assert_canned(
+        rt,
+        alloc,
+        &text,
+        canned,
+        ((Some(status), None), line, fields),
+    );
+}
+
+#[test]
+fn what_is_refused_goes_before_a_canned_reply(rt: HostRuntime) {
     let alloc = rt.alloc();
-    let canned = Some(Canned {
-        status: CannedStatus::TooManyRequests,
-        retry_after: Some(0),
-    });
-    let text = request(&rt, alloc, "POST /v1/traces", TYPE, SPAN);
-    let (status, groups, writer) = answered(&rt, alloc, &text, canned);
-    assert_equal(&rt, (status, groups), (Some(429), Some(1)));
-    assert!(rt; writer.taken() == CANNED.as_bytes());
-    let text = request(&rt, alloc, "GET /v1/traces", TYPE, SPAN);
-    let (status, groups, _) = answered(&rt, alloc, &text, canned);
-    assert_equal(&rt, (status, groups), (Some(405), None));
+    let cut = SPAN.get(..52).expect(&rt, "a front");
+    let rows = [
+        ("POST /x", SPAN, (404, "404 Not Found", "")),
+        (
+            "GET /v1/traces",
+            SPAN,
+            (405, "405 Method Not Allowed", "Allow: POST\r\n"),
+        ),
+        ("POST /v1/traces", cut, (400, "400 Bad Request", "")),
+    ];
+    for (start, body, wanted) in rows {
+        assert_before_canned(&rt, alloc, start, body, wanted);
+    }
 }
 
 #[test]
@@ -134,41 +217,29 @@ fn a_reply_that_breaks_off_is_told(rt: HostRuntime) {
     let mut reader = wire(&rt, alloc, &text, 100, FailingCalls::Never);
     let mut writer = wire(&rt, alloc, b"", 7, FailingCalls::From(2));
     let limits = HeadLimits::default();
-    let stopped = answer(alloc, alloc, &mut reader, &mut writer, &limits, None);
-    match stopped {
-        Ok(_) => panic!(rt; "a whole reply"),
-        Err(Stopped { sent }) => assert_equal(&rt, (sent, writer.taken().len()), (9, 9)),
-    }
-    assert!(rt; b"HTTP/1.1 200 OK".starts_with(writer.taken()));
+    let told = match answer(alloc, alloc, &mut reader, &mut writer, &limits, None) {
+        Ok(_) => None,
+        Err(Stopped { sent }) => Some(sent),
+    };
+    assert_equal(
+        &rt,
+        (told, writer.taken()),
+        (Some(9), b"HTTP/1.1 ".as_slice()),
+    );
 }
 
-/// Asserts that what is no request within these limits of bytes, of a head and of a body, is
+/// Checks that what is no request within these limits of bytes, of a head and of a body, is
 /// answered so, and that so many bytes of it are left to read.
-fn is_refused_early(
+fn assert_refused_early(
     rt: &impl Abort,
     alloc: Global,
     text: &[u8],
     most: (usize, usize),
     refusal: (u16, usize),
 ) {
-    let (head, body) = most;
-    let limits = HeadLimits {
-        head,
-        body,
-        ..HeadLimits::default()
-    };
-    let mut reader = wire(rt, alloc, text, 100, FailingCalls::Never);
-    let mut writer = wire(rt, alloc, b"", 7, FailingCalls::Never);
-    let served = answer(alloc, alloc, &mut reader, &mut writer, &limits, None);
-    let Answered { status, request } = served.expect(rt, "a whole reply");
-    assert!(rt; request.is_none());
-    let (wanted, left) = refusal;
-    assert_equal_at(
-        rt,
-        (status, reader.left().len()),
-        (Some(wanted), left),
-        text,
-    );
+    let (status, wanted_left) = refusal;
+    let (told, _, left) = answered(rt, alloc, text, most, None);
+    assert_equal_at(rt, (told, left), ((Some(status), None), wanted_left), text);
 }
 
 #[test]
@@ -176,36 +247,40 @@ fn what_is_above_the_limits_is_refused_unread(rt: HostRuntime) {
     let alloc = rt.alloc();
     let short = SPAN.len().saturating_sub(1);
     let whole = request(&rt, alloc, "POST /v1/traces", TYPE, SPAN);
-    is_refused_early(&rt, alloc, &whole, (16_384, short), (413, SPAN.len()));
+    assert_refused_early(&rt, alloc, &whole, (16_384, short), (413, SPAN.len()));
     let other = request(&rt, alloc, "GET /x", "", SPAN);
-    is_refused_early(&rt, alloc, &other, (16_384, short), (413, SPAN.len()));
+    assert_refused_early(&rt, alloc, &other, (16_384, short), (413, SPAN.len()));
     let left = whole.len().saturating_sub(20);
-    is_refused_early(&rt, alloc, &whole, (20, 1_000), (431, left));
+    assert_refused_early(&rt, alloc, &whole, (20, 1_000), (431, left));
 }
 
 #[test]
 fn what_is_no_request_is_refused(rt: HostRuntime) {
     let alloc = rt.alloc();
     let most = (16_384, 65_536);
-    is_refused_early(&rt, alloc, b"\x01", most, (400, 0));
+    assert_refused_early(&rt, alloc, b"\x01", most, (400, 0));
     let chunked = b"POST /v1/traces HTTP/1.1\r\nTransfer-Encoding: chunked\r\n\r\n0\r\n\r\n";
-    is_refused_early(&rt, alloc, chunked, most, (400, 5));
+    assert_refused_early(&rt, alloc, chunked, most, (400, 5));
     let signed = b"POST /v1/traces HTTP/1.1\r\nContent-Length: +1\r\n\r\nx";
-    is_refused_early(&rt, alloc, signed, most, (400, 1));
+    assert_refused_early(&rt, alloc, signed, most, (400, 1));
+}
+
+/// Checks that a connection whose reader fails from this call on is not answered.
+fn assert_fails(rt: &impl Abort, alloc: Global, text: &[u8], call: u64) {
+    let mut reader = wire(rt, alloc, text, 1, FailingCalls::From(call));
+    let mut writer = wire(rt, alloc, b"", 7, FailingCalls::Never);
+    let limits = HeadLimits::default();
+    let served = answer(alloc, alloc, &mut reader, &mut writer, &limits, None);
+    let told = told(served.expect(rt, "nothing to write"));
+    let found = (told, writer.taken().len(), reader.failures());
+    assert_equal_at(rt, found, ((None, None), 0, 1), call);
 }
 
 #[test]
 fn a_reader_that_fails_is_not_answered(rt: HostRuntime) {
-    let alloc = rt.alloc();
-    let text = request(&rt, alloc, "POST /v1/traces", TYPE, SPAN);
+    let text = request(&rt, rt.alloc(), "POST /v1/traces", TYPE, SPAN);
     for call in [0, 1, 40, 130] {
-        let mut reader = wire(&rt, alloc, &text, 1, FailingCalls::From(call));
-        let mut writer = wire(&rt, alloc, b"", 7, FailingCalls::Never);
-        let limits = HeadLimits::default();
-        let served = answer(alloc, alloc, &mut reader, &mut writer, &limits, None);
-        let Answered { status, request } = served.expect(&rt, "nothing to write");
-        assert_equal_at(&rt, (status, request.is_some()), (None, false), call);
-        assert_equal_at(&rt, (writer.taken().len(), reader.failures()), (0, 1), call);
+        assert_fails(&rt, rt.alloc(), &text, call);
     }
 }
 
@@ -218,84 +293,55 @@ fn bytes_behind_a_request_are_left(rt: HostRuntime) {
     let mut writer = wire(&rt, alloc, b"", 7, FailingCalls::Never);
     let limits = HeadLimits::default();
     let served = answer(alloc, alloc, &mut reader, &mut writer, &limits, None);
-    let status = served.expect(&rt, "a whole reply").status;
-    assert_equal(&rt, status, Some(200));
-    assert!(rt; reader.left() == b"GET / HTTP/1.1\r\n\r\n".as_slice());
+    let told = told(served.expect(&rt, "a whole reply"));
+    let found = (told, reader.left());
+    let left = b"GET / HTTP/1.1\r\n\r\n".as_slice();
+    assert_equal(&rt, found, ((Some(200), Some(1)), left));
 }
 
-#[test]
-fn each_canned_status_is_told(rt: HostRuntime) {
-    let alloc = rt.alloc();
-    let text = request(&rt, alloc, "POST /v1/traces", TYPE, SPAN);
-    let rows = [
-        (CannedStatus::Ok, 200, "HTTP/1.1 200 OK\r\n"),
-        (
-            CannedStatus::BadGateway,
-            502,
-            "HTTP/1.1 502 Bad Gateway\r\n",
-        ),
-        (
-            CannedStatus::ServiceUnavailable,
-            503,
-            "HTTP/1.1 503 Service Unavailable\r\n",
-        ),
-        (
-            CannedStatus::GatewayTimeout,
-            504,
-            "HTTP/1.1 504 Gateway Timeout\r\n",
-        ),
-    ];
-    for (status, number, line) in rows {
-        let canned = Canned {
-            status,
-            retry_after: None,
-        };
-        let (told, groups, writer) = answered(&rt, alloc, &text, Some(canned));
-        assert_equal_at(&rt, (told, groups), (Some(number), Some(1)), line);
-        assert!(rt; writer.taken().starts_with(line.as_bytes()));
+/// So many of the span one behind the other.
+fn spans(rt: &impl Abort, alloc: Global, count: usize) -> Vec<u8> {
+    let mut body = Vec::new(alloc);
+    for _span in 0..count {
+        body.extend_from_slice(SPAN).expect(rt, "memory");
     }
+    body
 }
 
 #[test]
 fn thousands_of_spans_are_taken(rt: HostRuntime) {
-    let alloc = rt.alloc();
-    let mut body = Vec::new(alloc);
-    for _span in 0..2000 {
-        body.extend_from_slice(SPAN).expect(&rt, "memory");
-    }
-    let found = status_of(&rt, alloc, "POST /v1/traces", TYPE, &body);
-    assert_equal(&rt, found, (Some(200), Some(2000)));
+    let body = spans(&rt, rt.alloc(), 2000);
+    let wanted = (Some(200), Some(2000));
+    assert_answer(&rt, rt.alloc(), "POST /v1/traces", TYPE, &body, wanted);
 }
 
-/// What is written where memory was refused.
-const UNAVAILABLE: &str = concat!(
-    "HTTP/1.1 503 Service Unavailable\r\n",
-    "Content-Type: application/x-protobuf\r\n",
-    "Content-Length: 0\r\n",
-    "Connection: close\r\n",
-    "Retry-After: 1\r\n",
-    "\r\n",
-);
+/// What is answered with this memory, and what is written.
+fn served<A: Allocator + Copy>(rt: &impl Abort, alloc: A, global: Global) -> (Told, Vec<u8>) {
+    let text = request(rt, global, "POST /v1/traces", TYPE, SPAN);
+    let mut reader = wire(rt, global, &text, 64, FailingCalls::Never);
+    let mut writer = wire(rt, global, b"", 64, FailingCalls::Never);
+    let limits = HeadLimits::default();
+    let served = answer(alloc, global, &mut reader, &mut writer, &limits, None);
+    let told = told(served.expect(rt, "a whole reply"));
+    let taken = Vec::from_slice(global, writer.taken()).expect(rt, "memory");
+    (told, taken)
+}
 
 /// Serves a connection while one call for memory is refused. Answers whether it was.
 fn is_refused(rt: &impl Abort, alloc: Global, fail_index: u64) -> bool {
     let heap = LocalHeap::new(alloc, 65_536).expect(rt, "memory");
     let scarce = FailingAllocator::new(&heap, fail_index);
-    let text = request(rt, alloc, "POST /v1/traces", TYPE, SPAN);
-    let mut reader = wire(rt, alloc, &text, 64, FailingCalls::Never);
-    let mut writer = wire(rt, alloc, b"", 64, FailingCalls::Never);
-    let limits = HeadLimits::default();
-    let served = answer(&scarce, alloc, &mut reader, &mut writer, &limits, None);
-    let Answered { status, request } = served.expect(rt, "a whole reply");
-    let status = status.unwrap_or(0);
-    assert_equal(rt, request.is_some(), status == 200);
-    assert!(rt; status == 200 || status == 503);
-    drop(request);
-    assert_equal(rt, scarce.has_failed(), status == 503);
-    if status == 503 {
-        assert!(rt; writer.taken() == UNAVAILABLE.as_bytes());
-    }
-    status == 503
+    let (told, taken) = served(rt, &scarce, alloc);
+    let (wanted, start, fields) = if scarce.has_failed() {
+        let busy = "503 Service Unavailable";
+        ((Some(503), None), busy, "Retry-After: 1\r\n")
+    } else {
+        ((Some(200), Some(1)), "200 OK", "")
+    };
+    assert_equal_at(rt, told, wanted, fail_index);
+    let text = reply_text(rt, alloc, start, fields);
+    assert_equal_at(rt, taken.as_slice(), text.as_bytes(), fail_index);
+    scarce.has_failed()
 }
 
 #[test]
@@ -306,6 +352,6 @@ fn each_refusal_of_memory_is_answered(rt: HostRuntime) {
             refused = refused.saturating_add(1);
         }
     }
-    assert!(rt; refused >= 8);
-    assert!(rt; !is_refused(&rt, rt.alloc(), 128));
+    assert_equal(&rt, refused >= 8, true);
+    assert_equal(&rt, is_refused(&rt, rt.alloc(), 128), false);
 }

@@ -1,10 +1,12 @@
 //! Readers and writers that count their failures.
 
 use crate::equal::assert_equal;
+use crate::fixture::wire;
 use failing_allocator::FailingAllocator;
 use linked_list_allocator::LocalHeap;
 use otlp_http::{Counted, DeviceFailed, FailingCalls, FailingWire, FaultRead, FaultWrite};
 use std::io::{self, ErrorKind, Read, Write};
+use std::process::Abort;
 
 /// A reader that fails, and a writer that first takes nothing, and then fails.
 #[derive(Drop)]
@@ -66,39 +68,52 @@ fn a_write_of_no_byte_is_a_failure(rt: HostRuntime) {
     }
 }
 
+/// Checks what a read answers into room that has these bytes, and what the room has then.
+fn assert_reads(
+    rt: &impl Abort,
+    reader: &mut impl FaultRead,
+    room: &mut [u8],
+    answer: Result<usize, DeviceFailed>,
+    wanted: &[u8],
+) {
+    assert_equal(rt, reader.read(room), answer);
+    let found: &[u8] = room;
+    assert_equal(rt, found, wanted);
+}
+
 #[test]
 fn bytes_pass_through(rt: HostRuntime) {
     let mut reader = Counted::new(b"abc".as_slice());
     let mut room = [0; 2];
-    assert_equal(&rt, FaultRead::read(&mut reader, &mut room), Ok(2));
-    assert_equal(&rt, room, *b"ab");
-    assert_equal(&rt, FaultRead::read(&mut reader, &mut room), Ok(1));
-    assert_equal(&rt, room, *b"cb");
-    assert_equal(&rt, FaultRead::read(&mut reader, &mut room), Ok(0));
+    assert_reads(&rt, &mut reader, &mut room, Ok(2), b"ab");
+    assert_reads(&rt, &mut reader, &mut room, Ok(1), b"cb");
+    assert_reads(&rt, &mut reader, &mut room, Ok(0), b"cb");
     assert_equal(&rt, FaultRead::failures(&reader), 0);
+}
+
+#[test]
+fn bytes_that_are_written_pass_through(rt: HostRuntime) {
     let mut writer = Counted::new(Vec::new(rt.alloc()));
     assert_equal(&rt, FaultWrite::write(&mut writer, b"xy"), Ok(2));
     assert_equal(&rt, FaultWrite::failures(&writer), 0);
-    assert!(rt; writer.into_inner().as_slice() == b"xy".as_slice());
+    let taken = writer.into_inner();
+    assert_equal(&rt, taken.as_slice(), b"xy".as_slice());
 }
 
 #[test]
 fn a_wire_gives_its_bytes_and_fails_as_told(rt: HostRuntime) {
-    let input = Vec::from_slice(rt.alloc(), b"abcde").expect(&rt, "memory");
-    let mut wire = FailingWire::new(input, Vec::new(rt.alloc()), 2, FailingCalls::Once(1));
-    let mut room = [0; 4];
-    assert_equal(&rt, wire.read(&mut room), Ok(2));
-    assert_equal(&rt, room, *b"ab\0\0");
-    assert_equal(&rt, wire.read(&mut room), Err(DeviceFailed));
-    assert!(rt; wire.left() == b"cde".as_slice());
+    let mut wire = wire(&rt, rt.alloc(), b"abcde", 2, FailingCalls::Once(1));
+    let failed = Err(DeviceFailed);
+    assert_reads(&rt, &mut wire, &mut [0; 4], Ok(2), b"ab\0\0");
+    assert_reads(&rt, &mut wire, &mut [0; 4], failed, b"\0\0\0\0");
+    assert_equal(&rt, wire.left(), b"cde".as_slice());
     assert_equal(&rt, wire.write(b"xyz"), Ok(2));
-    assert!(rt; wire.taken() == b"xy".as_slice());
-    assert_equal(&rt, wire.read(&mut [0; 1]), Ok(1));
-    assert_equal(&rt, wire.read(&mut room), Ok(2));
-    assert_equal(&rt, room, *b"de\0\0");
-    assert_equal(&rt, wire.read(&mut room), Ok(0));
-    assert_equal(&rt, FaultRead::failures(&wire), 1);
-    assert_equal(&rt, FaultWrite::failures(&wire), 1);
+    assert_equal(&rt, wire.taken(), b"xy".as_slice());
+    assert_reads(&rt, &mut wire, &mut [0; 1], Ok(1), b"c");
+    assert_reads(&rt, &mut wire, &mut [0; 4], Ok(2), b"de\0\0");
+    assert_reads(&rt, &mut wire, &mut [0; 4], Ok(0), b"\0\0\0\0");
+    let failures = (FaultRead::failures(&wire), FaultWrite::failures(&wire));
+    assert_equal(&rt, failures, (1, 1));
 }
 
 #[test]
@@ -108,9 +123,9 @@ fn a_write_without_memory_is_a_failure(rt: HostRuntime) {
     let output = Vec::new(&scarce);
     let mut wire = FailingWire::new(Vec::new(&scarce), output, 4, FailingCalls::Never);
     assert_equal(&rt, wire.write(b"ab"), Err(DeviceFailed));
-    assert!(rt; wire.taken().is_empty());
+    assert_equal(&rt, wire.taken(), b"".as_slice());
     assert_equal(&rt, wire.write(b"ab"), Ok(2));
-    assert!(rt; wire.taken() == b"ab".as_slice());
+    assert_equal(&rt, wire.taken(), b"ab".as_slice());
     assert_equal(&rt, FaultWrite::failures(&wire), 1);
 }
 

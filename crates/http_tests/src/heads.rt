@@ -1,103 +1,129 @@
 //! Heads of replies, whole and broken.
 
-use crate::equal::{assert_equal, assert_equal_at};
-use crate::fixture::{
-    BODY, HEAD, assert_body, assert_no_body, fault_of, joined, read, reply_of, wire,
-};
-use otlp_http::{FailingCalls, FaultRead, HeadLimits, HttpFault, read_reply};
+use crate::equal::assert_equal;
+use crate::fixture::{BODY, HEAD, REPLY, Told, assert_read, assert_read_within, joined, repeated};
+use otlp_http::HttpFault;
 use retry_core::RetryAfter;
 use std::alloc::Global;
 use std::process::Abort;
 
-/// What the fields of a reply without a body ask for.
-fn asked_wait(rt: &impl Abort, alloc: Global, fields: &str) -> Option<RetryAfter> {
+/// Checks what the fields of a reply without a body ask for.
+fn assert_asks(rt: &impl Abort, alloc: Global, fields: &str, wait: Option<RetryAfter>) {
     let text = format!(in alloc; "HTTP/1.1 503 Busy\r\n{fields}\r\n").expect(rt, "memory");
-    let reply = reply_of(rt, alloc, text.as_bytes());
-    assert_equal(rt, reply.status, 503);
-    reply.retry_after
+    assert_read(rt, alloc, text.as_bytes(), Ok((503, wait, Ok(b""))));
 }
 
-/// So many interim heads, and then a reply with status 200.
-fn after_interims(rt: &impl Abort, alloc: Global, count: usize) -> Vec<u8> {
-    let mut text = Vec::new(alloc);
-    for _interim in 0..count {
-        text.extend_from_slice(b"HTTP/1.1 100 Continue\r\nRetry-After: 1\r\n\r\n")
-            .expect(rt, "memory");
-    }
-    text.extend_from_slice(HEAD).expect(rt, "memory");
-    text.extend_from_slice(BODY).expect(rt, "memory");
-    text
+/// Checks what so many interim heads and a reply with status 200 behind them are read as.
+fn assert_after_interims(rt: &impl Abort, alloc: Global, count: usize, wanted: Told<'_>) {
+    let interim = "HTTP/1.1 100 Continue\r\nRetry-After: 1\r\n\r\n";
+    let heads = repeated(rt, alloc, "", interim, count, "");
+    assert_read(
+        rt,
+        alloc,
+        &joined(rt, alloc, heads.as_bytes(), REPLY),
+        wanted,
+    );
 }
 
-/// A reply with so many fields.
-fn with_fields(rt: &impl Abort, alloc: Global, count: usize) -> Vec<u8> {
-    let mut text = Vec::from_slice(alloc, b"HTTP/1.1 204 No Content\r\n").expect(rt, "memory");
-    for _field in 0..count {
-        text.extend_from_slice(b"A: b\r\n").expect(rt, "memory");
-    }
-    text.extend_from_slice(b"\r\n").expect(rt, "memory");
-    text
+/// What a reply with status 204 and no body is read as.
+const NO_CONTENT: Told<'static> = Ok((204, None, Ok(b"")));
+
+/// Checks what a reply with so many fields is read as.
+fn assert_many_fields(rt: &impl Abort, alloc: Global, count: usize, wanted: Told<'_>) {
+    let start = "HTTP/1.1 204 No Content\r\n";
+    let text = repeated(rt, alloc, start, "A: b\r\n", count, "\r\n");
+    assert_read(rt, alloc, text.as_bytes(), wanted);
 }
 
-/// A reply whose head has so many bytes, 30 at least.
-fn with_bytes(rt: &impl Abort, alloc: Global, size: usize) -> Vec<u8> {
-    let mut text = Vec::from_slice(alloc, b"HTTP/1.1 204\r\nA: ").expect(rt, "memory");
-    for _byte in 0..size.saturating_sub(21) {
-        text.push(b'b').expect(rt, "memory");
-    }
-    text.extend_from_slice(b"\r\n\r\n").expect(rt, "memory");
-    text
+/// Checks what a reply is read as whose head has so many bytes, 21 at least.
+fn assert_long(rt: &impl Abort, alloc: Global, size: usize, wanted: Told<'_>) {
+    let count = size.saturating_sub(21);
+    let text = repeated(rt, alloc, "HTTP/1.1 204\r\nA: ", "b", count, "\r\n\r\n");
+    assert_equal(rt, text.len(), size);
+    assert_read(rt, alloc, text.as_bytes(), wanted);
+}
+
+/// Checks that a head has this status.
+fn assert_status(rt: &impl Abort, alloc: Global, status: u16) {
+    let text = format!(in alloc; "HTTP/1.1 {status:03} Any\r\n\r\n").expect(rt, "memory");
+    assert_read(rt, alloc, text.as_bytes(), Ok((status, None, Ok(b""))));
 }
 
 #[test]
 fn a_head_has_a_status(rt: HostRuntime) {
-    let alloc = rt.alloc();
     for status in [200u16, 204, 299, 304, 400, 429, 503, 999, 99] {
-        let text = format!(in alloc; "HTTP/1.1 {status:03} Any\r\n\r\n").expect(&rt, "memory");
-        let reply = reply_of(&rt, alloc, text.as_bytes());
-        assert_equal(&rt, reply.status, status);
-        assert!(rt; reply.retry_after.is_none());
-        assert_body(&rt, &reply, b"");
+        assert_status(&rt, rt.alloc(), status);
     }
-    assert_equal(&rt, reply_of(&rt, alloc, b"HTTP/1.0 200\n\n").status, 200);
+    let plain = b"HTTP/1.0 200\n\n";
+    assert_read(&rt, rt.alloc(), plain, Ok((200, None, Ok(b""))));
 }
 
 #[test]
 fn the_first_wait_counts(rt: HostRuntime) {
-    let alloc = rt.alloc();
-    let two = asked_wait(&rt, alloc, "Retry-After: 7\r\nRetry-After: 9\r\n");
-    assert_equal(&rt, two, Some(RetryAfter::Seconds(7)));
-    let spaces = asked_wait(&rt, alloc, "retry-AFTER:\t 007 \t\r\n");
-    assert_equal(&rt, spaces, Some(RetryAfter::Seconds(7)));
-    let most = asked_wait(&rt, alloc, "Retry-After: 18446744073709551614\r\n");
-    assert_equal(&rt, most, Some(RetryAfter::Seconds(u64::MAX - 1)));
-    let over = asked_wait(&rt, alloc, "Retry-After: 18446744073709551616\r\n");
-    assert_equal(&rt, over, Some(RetryAfter::Seconds(u64::MAX)));
-    let date = asked_wait(&rt, alloc, "Retry-After: Sun, 06 Nov 1994 08:49:37 GMT\r\n");
-    assert_equal(&rt, date, Some(RetryAfter::Date(784_111_777)));
-    for other in ["soon", "", "-1", "+1", "1.5", "1, 2", "Sun, 06 Nov 1994"] {
-        let fields = format!(in alloc; "Retry-After: {other}\r\nRetry-After: 9\r\n");
-        let fields = fields.expect(&rt, "memory");
-        assert_equal_at(&rt, asked_wait(&rt, alloc, fields.as_str()), None, other);
+    let rows = [
+        ("Retry-After: 7\r\nRetry-After: 9\r\n", 7),
+        ("retry-AFTER:\t 007 \t\r\n", 7),
+        ("Retry-After: 18446744073709551614\r\n", u64::MAX - 1),
+        ("Retry-After: 18446744073709551616\r\n", u64::MAX),
+        (
+            "Retry-After: 7\r\nRetry-After: Sun, 06 Nov 1994 08:49:37 GMT\r\n",
+            7,
+        ),
+    ];
+    for (fields, seconds) in rows {
+        assert_asks(&rt, rt.alloc(), fields, Some(RetryAfter::Seconds(seconds)));
+    }
+}
+
+#[test]
+fn a_wait_may_be_told_by_a_date(rt: HostRuntime) {
+    let rows = [
+        (
+            "Retry-After: Sun, 06 Nov 1994 08:49:37 GMT\r\n",
+            784_111_777,
+        ),
+        (
+            "Retry-After: Sunday, 06-Nov-94 08:49:37 GMT\r\n",
+            784_111_777,
+        ),
+        ("Retry-After: Sun Nov  6 08:49:37 1994\r\n", 784_111_777),
+        ("Retry-After: Thu, 01 Jan 1970 00:00:01 GMT\r\n", 1),
+        (
+            "Retry-After: Sun, 06 Nov 1994 08:49:37 GMT\r\nRetry-After: 0\r\n",
+            784_111_777,
+        ),
+    ];
+    for (fields, date) in rows {
+        assert_asks(&rt, rt.alloc(), fields, Some(RetryAfter::Date(date)));
+    }
+}
+
+#[test]
+fn a_wait_that_is_none_is_not_told(rt: HostRuntime) {
+    let rows = [
+        "Retry-After: soon\r\nRetry-After: 9\r\n",
+        "Retry-After: \r\nRetry-After: 9\r\n",
+        "Retry-After: -1\r\nRetry-After: 9\r\n",
+        "Retry-After: +1\r\nRetry-After: 9\r\n",
+        "Retry-After: 1.5\r\nRetry-After: 9\r\n",
+        "Retry-After: 1, 2\r\nRetry-After: 9\r\n",
+        "Retry-After: Sun, 06 Nov 1994\r\nRetry-After: 9\r\n",
+    ];
+    for fields in rows {
+        assert_asks(&rt, rt.alloc(), fields, None);
     }
 }
 
 #[test]
 fn sixteen_interim_heads_are_skipped(rt: HostRuntime) {
-    let alloc = rt.alloc();
     for count in [0usize, 1, 16] {
-        let reply = reply_of(&rt, alloc, &after_interims(&rt, alloc, count));
-        assert_equal(&rt, reply.status, 200);
-        assert!(rt; reply.retry_after.is_none());
-        assert_body(&rt, &reply, BODY);
+        assert_after_interims(&rt, rt.alloc(), count, Ok((200, None, Ok(BODY))));
     }
-    let fault = fault_of(&rt, alloc, &after_interims(&rt, alloc, 17));
-    assert_equal(&rt, fault, HttpFault::BadHead);
+    assert_after_interims(&rt, rt.alloc(), 17, Err(HttpFault::BadHead));
 }
 
 #[test]
 fn what_begins_no_head_is_bad(rt: HostRuntime) {
-    let alloc = rt.alloc();
     let texts: [&[u8]; 6] = [
         b"HTTP/x",
         b"HTTP/2.0 200 OK\r\n\r\n",
@@ -107,85 +133,46 @@ fn what_begins_no_head_is_bad(rt: HostRuntime) {
         b"HTTP/1.1 200 OK\r\n folded\r\n\r\n",
     ];
     for text in texts {
-        assert_equal(&rt, fault_of(&rt, alloc, text), HttpFault::BadHead);
+        assert_read(&rt, rt.alloc(), text, Err(HttpFault::BadHead));
     }
 }
 
 #[test]
 fn a_head_that_is_cut_has_ended(rt: HostRuntime) {
-    let alloc = rt.alloc();
     for size in 0..HEAD.len() {
         let front = HEAD.get(..size).expect(&rt, "a front");
-        assert_equal(&rt, fault_of(&rt, alloc, front), HttpFault::Ended);
+        assert_read(&rt, rt.alloc(), front, Err(HttpFault::Ended));
     }
 }
 
 #[test]
 fn a_head_has_limits(rt: HostRuntime) {
     let alloc = rt.alloc();
-    assert_equal(
-        &rt,
-        reply_of(&rt, alloc, &with_fields(&rt, alloc, 64)).status,
-        204,
-    );
-    let fields = fault_of(&rt, alloc, &with_fields(&rt, alloc, 65));
-    assert_equal(&rt, fields, HttpFault::TooLarge);
-    let most = with_bytes(&rt, alloc, 16_384);
-    assert_equal(&rt, most.len(), 16_384);
-    assert_equal(&rt, reply_of(&rt, alloc, &most).status, 204);
-    let bytes = fault_of(&rt, alloc, &with_bytes(&rt, alloc, 16_385));
-    assert_equal(&rt, bytes, HttpFault::TooLarge);
+    assert_many_fields(&rt, alloc, 64, NO_CONTENT);
+    assert_many_fields(&rt, alloc, 65, Err(HttpFault::TooLarge));
+    assert_long(&rt, alloc, 16_384, NO_CONTENT);
+    assert_long(&rt, alloc, 16_385, Err(HttpFault::TooLarge));
 }
 
 #[test]
 fn limits_may_be_lower(rt: HostRuntime) {
     let alloc = rt.alloc();
-    let text = joined(&rt, alloc, HEAD, BODY);
-    let none = HeadLimits {
-        head: 38,
-        fields: 0,
-        body: 7,
-    };
-    let mut fields = wire(&rt, alloc, &text, 64, FailingCalls::Never);
-    assert!(rt;
-        matches!(
-            read_reply(alloc, alloc, &mut fields, &none),
-            Err(HttpFault::TooLarge)
-        )
-    );
-    let head = HeadLimits {
-        head: 37,
-        fields: 1,
-        body: 7,
-    };
-    let mut bytes = wire(&rt, alloc, &text, 64, FailingCalls::Never);
-    assert!(rt;
-        matches!(
-            read_reply(alloc, alloc, &mut bytes, &head),
-            Err(HttpFault::TooLarge)
-        )
-    );
-    assert_equal(&rt, bytes.left().len(), 8);
-    let body = HeadLimits {
-        head: 38,
-        fields: 1,
-        body: 6,
-    };
-    let mut large = wire(&rt, alloc, &text, 64, FailingCalls::Never);
-    let reply = read_reply(alloc, alloc, &mut large, &body).expect(&rt, "a reply");
-    assert_no_body(&rt, &reply, HttpFault::TooLarge);
-    assert!(rt; large.left() == BODY);
+    let no_head = Err(HttpFault::TooLarge);
+    // A field too many is told at the end of its line.
+    let left = b"\r\n\x0a\x05\x08\x02\x12\x01\x78".as_slice();
+    assert_read_within(&rt, alloc, REPLY, (64, 38, 0, 7), (no_head, left));
+    let left = b"\n\x0a\x05\x08\x02\x12\x01\x78".as_slice();
+    assert_read_within(&rt, alloc, REPLY, (64, 37, 1, 7), (no_head, left));
+    let no_body = Ok((200, None, Err(HttpFault::TooLarge)));
+    assert_read_within(&rt, alloc, REPLY, (64, 38, 1, 6), (no_body, BODY));
 }
 
 #[test]
 fn nothing_behind_a_reply_is_read(rt: HostRuntime) {
     let alloc = rt.alloc();
-    let text = joined(&rt, alloc, &joined(&rt, alloc, HEAD, BODY), b"HTTP");
+    let text = joined(&rt, alloc, REPLY, b"HTTP");
+    let wanted = (Ok((200, None, Ok(BODY))), b"HTTP".as_slice());
     for most in [1usize, 5, 65_536] {
-        let mut wire = wire(&rt, alloc, &text, most, FailingCalls::Never);
-        let reply = read(alloc, &mut wire).expect(&rt, "a reply");
-        assert_body(&rt, &reply, BODY);
-        assert!(rt; wire.left() == b"HTTP".as_slice());
-        assert_equal(&rt, FaultRead::failures(&wire), 0);
+        assert_read_within(&rt, alloc, &text, (most, 16_384, 64, 65_536), wanted);
     }
 }

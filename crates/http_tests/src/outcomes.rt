@@ -1,7 +1,7 @@
 //! What comes of attempts, by replies that are read.
 
 use crate::equal::assert_equal;
-use crate::fixture::{BODY, HEAD, joined, read_text};
+use crate::fixture::{HEAD, REPLY, read_text, repeated};
 use otlp_http::outcome_of;
 use retry_core::{Outcome, RetryAfter};
 use std::alloc::Global;
@@ -19,50 +19,55 @@ fn assert_waits(rt: &impl Abort, alloc: Global, fields: &str, after: Option<Retr
     assert_means(rt, alloc, text.as_bytes(), later);
 }
 
-/// So many interim heads, and then a reply without a body.
-fn after_interims(rt: &impl Abort, alloc: Global, count: usize) -> Vec<u8> {
-    let mut text = Vec::new(alloc);
-    for _interim in 0..count {
-        text.extend_from_slice(b"HTTP/1.1 100 Continue\r\n\r\n")
-            .expect(rt, "memory");
-    }
-    text.extend_from_slice(b"HTTP/1.1 200 OK\r\n\r\n")
-        .expect(rt, "memory");
-    text
+/// Checks what so many interim heads and a reply without a body behind them mean.
+fn assert_after_interims(rt: &impl Abort, alloc: Global, count: usize, outcome: Outcome) {
+    let interim = "HTTP/1.1 100 Continue\r\n\r\n";
+    let text = repeated(rt, alloc, "", interim, count, "HTTP/1.1 200 OK\r\n\r\n");
+    assert_means(rt, alloc, text.as_bytes(), outcome);
 }
 
 #[test]
 fn a_body_tells_rejected_spans(rt: HostRuntime) {
-    let alloc = rt.alloc();
-    let whole = joined(&rt, alloc, HEAD, BODY);
-    assert_means(&rt, alloc, &whole, Outcome::Partial(2));
-    let negative = b"HTTP/1.1 200 OK\r\n\r\n\x0a\x0b\x08\xff\xff\xff\xff\xff\xff\xff\xff\xff\x01";
-    assert_means(&rt, alloc, negative, Outcome::Delivered);
-    let not_utf8 = b"HTTP/1.1 200 OK\r\n\r\n\x0a\x05\x08\x02\x12\x01\xff";
-    assert_means(&rt, alloc, not_utf8, Outcome::Delivered);
+    let rows: [(&[u8], Outcome); 3] = [
+        (REPLY, Outcome::Partial(2)),
+        (
+            b"HTTP/1.1 200 OK\r\n\r\n\x0a\x0b\x08\xff\xff\xff\xff\xff\xff\xff\xff\xff\x01",
+            Outcome::Delivered,
+        ),
+        (
+            b"HTTP/1.1 200 OK\r\n\r\n\x0a\x05\x08\x02\x12\x01\xff",
+            Outcome::Delivered,
+        ),
+    ];
+    for (text, outcome) in rows {
+        assert_means(&rt, rt.alloc(), text, outcome);
+    }
 }
 
 #[test]
 fn a_reply_that_is_cut(rt: HostRuntime) {
-    let alloc = rt.alloc();
-    assert_means(&rt, alloc, HEAD, Outcome::Delivered);
+    assert_means(&rt, rt.alloc(), HEAD, Outcome::Delivered);
     for size in 0..HEAD.len() {
         let front = HEAD.get(..size).expect(&rt, "a front");
-        assert_means(&rt, alloc, front, Outcome::NoReply);
+        assert_means(&rt, rt.alloc(), front, Outcome::NoReply);
     }
-    assert_means(&rt, alloc, b"HTTP/x", Outcome::Bad);
 }
 
 #[test]
 fn a_status_tells(rt: HostRuntime) {
-    let alloc = rt.alloc();
-    let no_content = b"HTTP/1.1 204 No Content\r\n\r\n";
-    assert_means(&rt, alloc, no_content, Outcome::Delivered);
-    assert_means(&rt, alloc, b"HTTP/1.1 299 Any\r\n\r\n", Outcome::Delivered);
-    let two_lengths = b"HTTP/1.1 200 OK\r\nContent-Length: 5, 5\r\n\r\nabcde";
-    assert_means(&rt, alloc, two_lengths, Outcome::Delivered);
-    let not_found = b"HTTP/1.1 404 Not Found\r\n\r\n";
-    assert_means(&rt, alloc, not_found, Outcome::Refused(404));
+    let rows: [(&[u8], Outcome); 5] = [
+        (b"HTTP/x", Outcome::Bad),
+        (b"HTTP/1.1 204 No Content\r\n\r\n", Outcome::Delivered),
+        (b"HTTP/1.1 299 Any\r\n\r\n", Outcome::Delivered),
+        (
+            b"HTTP/1.1 200 OK\r\nContent-Length: 5, 5\r\n\r\nabcde",
+            Outcome::Delivered,
+        ),
+        (b"HTTP/1.1 404 Not Found\r\n\r\n", Outcome::Refused(404)),
+    ];
+    for (text, outcome) in rows {
+        assert_means(&rt, rt.alloc(), text, outcome);
+    }
 }
 
 #[test]
@@ -76,9 +81,6 @@ fn a_busy_collector_is_tried_later(rt: HostRuntime) {
 
 #[test]
 fn sixteen_interim_heads_are_skipped(rt: HostRuntime) {
-    let alloc = rt.alloc();
-    let most = after_interims(&rt, alloc, 16);
-    assert_means(&rt, alloc, &most, Outcome::Delivered);
-    let over = after_interims(&rt, alloc, 17);
-    assert_means(&rt, alloc, &over, Outcome::Bad);
+    assert_after_interims(&rt, rt.alloc(), 16, Outcome::Delivered);
+    assert_after_interims(&rt, rt.alloc(), 17, Outcome::Bad);
 }

@@ -1,9 +1,9 @@
 //! Requests that are written whole, and requests whose writer fails.
 
 use crate::equal::{assert_equal, assert_equal_at};
+use crate::fixture::wire;
 use otlp_http::{
-    Counted, DEFAULT_PATH, DEFAULT_PORT, FailingCalls, FailingWire, FaultWrite, Stopped, Target,
-    write_request,
+    Counted, DEFAULT_PATH, DEFAULT_PORT, FailingCalls, FaultWrite, Stopped, Target, write_request,
 };
 use std::alloc::Global;
 use std::process::Abort;
@@ -39,22 +39,31 @@ fn request(rt: &impl Abort, alloc: Global) -> Vec<u8> {
     text
 }
 
-/// A wire that takes at most so many bytes a call, and has nothing to give.
-fn wire(rt: &impl Abort, alloc: Global, most: usize, failing: FailingCalls) -> FailingWire {
-    assert!(rt; most >= 1);
-    FailingWire::new(Vec::new(alloc), Vec::new(alloc), most, failing)
+/// Writes the request to a wire that takes at most so many bytes a call and fails some: what is
+/// answered, how often the wire failed, and what it took.
+fn written(
+    rt: &impl Abort,
+    alloc: Global,
+    most: usize,
+    failing: FailingCalls,
+) -> (Result<(), Stopped>, u64, Vec<u8>) {
+    let mut wire = wire(rt, alloc, b"", most, failing);
+    let answer = write_request(&mut wire, &local(rt, alloc), BODY);
+    let taken = Vec::from_slice(alloc, wire.taken()).expect(rt, "memory");
+    (answer, FaultWrite::failures(&wire), taken)
+}
+
+/// Checks that the whole request is written to such a wire.
+fn assert_whole(rt: &impl Abort, alloc: Global, most: usize, failing: FailingCalls) {
+    let (answer, failures, taken) = written(rt, alloc, most, failing);
+    assert_equal_at(rt, (answer, failures), (Ok(()), 0), most);
+    assert_equal_at(rt, taken.as_slice(), request(rt, alloc).as_slice(), most);
 }
 
 #[test]
 fn a_request_is_its_head_and_the_body(rt: HostRuntime) {
-    let alloc = rt.alloc();
-    let target = local(&rt, alloc);
-    let text = request(&rt, alloc);
     for most in [1usize, 2, 64, 65_536] {
-        let mut wire = wire(&rt, alloc, most, FailingCalls::Never);
-        assert_equal(&rt, write_request(&mut wire, &target, BODY), Ok(()));
-        assert!(rt; wire.taken() == text.as_slice(), "{most}");
-        assert_equal(&rt, FaultWrite::failures(&wire), 0);
+        assert_whole(&rt, rt.alloc(), most, FailingCalls::Never);
     }
 }
 
@@ -69,39 +78,37 @@ fn an_empty_body_has_length_0(rt: HostRuntime) {
         "POST / HTTP/1.1\r\nHost: a:80\r\nContent-Type: application/x-protobuf\r\n",
         "Content-Length: 0\r\nConnection: close\r\n\r\n",
     );
-    assert!(rt; text.as_slice() == head.as_bytes());
+    assert_equal(&rt, text.as_slice(), head.as_bytes());
+}
+
+/// Checks that the request stops by this call of a wire that takes a byte a call.
+fn assert_stops_at(rt: &impl Abort, alloc: Global, at: u64, failing: FailingCalls) {
+    let (answer, failures, taken) = written(rt, alloc, 1, failing);
+    assert_equal_at(rt, (answer, failures), (Err(Stopped { sent: at }), 1), at);
+    let text = request(rt, alloc);
+    assert_equal_at(rt, text.get(..at as usize), Some(taken.as_slice()), at);
 }
 
 #[test]
 fn a_request_stops_at_each_write_that_fails(rt: HostRuntime) {
-    let alloc = rt.alloc();
-    let target = local(&rt, alloc);
-    let text = request(&rt, alloc);
     for at in 0..191u64 {
-        for failing in [FailingCalls::Once(at), FailingCalls::From(at)] {
-            let mut wire = wire(&rt, alloc, 1, failing);
-            let stopped = write_request(&mut wire, &target, BODY);
-            assert_equal(&rt, stopped, Err(Stopped { sent: at }));
-            assert!(rt; text.get(..at as usize) == Some(wire.taken()), "{at}");
-            assert_equal(&rt, FaultWrite::failures(&wire), 1);
-        }
+        assert_stops_at(&rt, rt.alloc(), at, FailingCalls::Once(at));
+        assert_stops_at(&rt, rt.alloc(), at, FailingCalls::From(at));
     }
-    let mut wire = wire(&rt, alloc, 1, FailingCalls::Once(191));
-    assert_equal(&rt, write_request(&mut wire, &target, BODY), Ok(()));
+    assert_whole(&rt, rt.alloc(), 1, FailingCalls::Once(191));
 }
 
 /// Writes the request to a wire that takes at most so many bytes a call and fails one call.
-/// What went out is a front of the text. Answers whether it is the whole.
+/// What went out is a front of the text. Answers whether it isn't the whole.
 fn stops(rt: &impl Abort, alloc: Global, most: usize, at: u64) -> bool {
+    let (answer, _, taken) = written(rt, alloc, most, FailingCalls::Once(at));
     let text = request(rt, alloc);
-    let mut wire = wire(rt, alloc, most, FailingCalls::Once(at));
-    let answer = write_request(&mut wire, &local(rt, alloc), BODY);
-    let sent = wire.taken().len();
-    assert!(rt; text.get(..sent) == Some(wire.taken()), "{most} {at}");
-    match answer {
-        Ok(()) => assert_equal_at(rt, sent, 191, (most, at)),
-        Err(stopped) => assert_equal_at(rt, stopped.sent, sent as u64, (most, at)),
-    }
+    let sent = match answer {
+        Ok(()) => 191,
+        Err(stopped) => stopped.sent,
+    };
+    let place = (most, at);
+    assert_equal_at(rt, text.get(..sent as usize), Some(taken.as_slice()), place);
     answer.is_err()
 }
 
@@ -111,9 +118,9 @@ fn a_request_stops_where_more_bytes_go_at_once(rt: HostRuntime) {
     for (most, least) in [(7usize, 28u64), (64, 3), (65_536, 1)] {
         for at in 0..191 {
             let stopped = stops(&rt, rt.alloc(), most, at);
-            assert!(rt; stopped || least <= at, "{most} {at}");
+            assert_equal_at(&rt, stopped || least <= at, true, (most, at));
         }
-        assert!(rt; !stops(&rt, rt.alloc(), most, 191), "{most}");
+        assert_equal_at(&rt, stops(&rt, rt.alloc(), most, 191), false, most);
     }
 }
 
