@@ -53,7 +53,7 @@ pub(crate) fn take(
 
 /// Takes none.
 fn take_none(rt: &impl Abort, desk: &mut Desk, now: u64) {
-    assert!(rt; !desk.due(now));
+    assert_equal(rt, desk.due(now), false);
     if let Some(batch) = desk.take(now) {
         drop_batch(rt, desk, batch);
         panic!(rt; "no batch is due");
@@ -62,8 +62,11 @@ fn take_none(rt: &impl Abort, desk: &mut Desk, now: u64) {
 
 /// Hands the batch over that is in hand.
 pub(crate) fn hand(rt: &impl Abort, desk: &mut Desk, batch: &Batch) {
-    assert!(rt; desk.is_in_hand(batch));
-    assert!(rt; !desk.is_handed(batch));
+    assert_equal(
+        rt,
+        (desk.is_in_hand(batch), desk.is_handed(batch)),
+        (true, false),
+    );
     match desk.out() {
         Some((number, false)) => {
             assert_equal(rt, number, batch.number());
@@ -85,6 +88,12 @@ fn settle(rt: &impl Abort, desk: &mut Desk, batch: Batch, fate: Fate) {
 fn deliver(rt: &impl Abort, desk: &mut Desk, batch: Batch) {
     hand(rt, desk, &batch);
     settle(rt, desk, batch, Fate::Delivered);
+}
+
+/// Takes a batch of these tickets, hands it over, and settles it.
+fn pass(rt: &impl Abort, desk: &mut Desk, now: u64, number: u64, tickets: &[u64]) {
+    let batch = take(rt, desk, now, number, tickets);
+    deliver(rt, desk, batch);
 }
 
 /// Drops the batch that is in hand.
@@ -116,10 +125,8 @@ fn a_full_queue_drops_the_span_that_ends(rt: HostRuntime) -> Result<(), Fail> {
         desk.ledger().newest(),
         Some(&name(4, Reason::QueueFull)),
     );
-    let batch = take(&rt, &mut desk, 0, 1, &[0, 1]);
-    deliver(&rt, &mut desk, batch);
-    let batch = take(&rt, &mut desk, 0, 2, &[2, 3]);
-    deliver(&rt, &mut desk, batch);
+    pass(&rt, &mut desk, 0, 1, &[0, 1]);
+    pass(&rt, &mut desk, 0, 2, &[2, 3]);
     take_none(&rt, &mut desk, DELAY);
     let totals = Totals {
         accepted: 4,
@@ -147,19 +154,16 @@ fn a_flush_asks_for_those_that_wait(rt: HostRuntime) -> Result<(), Fail> {
     let mut desk = desk_of(&rt, rt.alloc(), 5, 2);
     queue(&rt, &mut desk, &spans, 0..3);
     let mark = desk.flush();
-    let batch = take(&rt, &mut desk, 0, 1, &[0, 1]);
-    deliver(&rt, &mut desk, batch);
-    assert!(rt; !desk.flushed(mark));
+    pass(&rt, &mut desk, 0, 1, &[0, 1]);
+    assert_equal(&rt, desk.flushed(mark), false);
     let batch = take(&rt, &mut desk, 0, 2, &[2]);
     queue(&rt, &mut desk, &spans, 3..8);
     assert_equal(&rt, desk.admit(spans.ended(&rt, 8)), Admitted::Full(8));
-    assert!(rt; !desk.flushed(mark));
+    assert_equal(&rt, desk.flushed(mark), false);
     deliver(&rt, &mut desk, batch);
-    assert!(rt; desk.flushed(mark));
-    let batch = take(&rt, &mut desk, 0, 3, &[3, 4]);
-    deliver(&rt, &mut desk, batch);
-    let batch = take(&rt, &mut desk, 0, 4, &[5, 6]);
-    deliver(&rt, &mut desk, batch);
+    assert_equal(&rt, desk.flushed(mark), true);
+    pass(&rt, &mut desk, 0, 3, &[3, 4]);
+    pass(&rt, &mut desk, 0, 4, &[5, 6]);
     take_none(&rt, &mut desk, 0);
     assert_equal(&rt, desk.totals().left, 1);
     Ok(())
@@ -187,16 +191,16 @@ fn a_shutdown_asks_for_all_and_closes(rt: HostRuntime) -> Result<(), Fail> {
     let spans = Spans::new(&rt, rt.alloc());
     let mut desk = desk_of(&rt, rt.alloc(), 4, 4);
     queue(&rt, &mut desk, &spans, 0..2);
-    assert!(rt; !desk.due(0));
+    assert_equal(&rt, desk.due(0), false);
     let mark = desk.shutdown();
     assert_equal(&rt, desk.admit(spans.ended(&rt, 2)), Admitted::Late);
     assert_equal(&rt, desk.flush(), mark);
     assert_equal(&rt, desk.shutdown(), mark);
     let batch = take(&rt, &mut desk, 0, 1, &[0, 1]);
     hand(&rt, &mut desk, &batch);
-    assert!(rt; !desk.flushed(mark));
+    assert_equal(&rt, desk.flushed(mark), false);
     settle(&rt, &mut desk, batch, Fate::Partial(-1));
-    assert!(rt; desk.flushed(mark));
+    assert_equal(&rt, desk.flushed(mark), true);
     let totals = Totals {
         accepted: 2,
         taken: 2,
@@ -290,6 +294,6 @@ fn each_memory_that_new_wants_may_be_refused(rt: HostRuntime) -> Result<(), Fail
         }
         assert_equal(&rt, scarce.used(), 0);
     }
-    assert!(rt; refused > 4 && made > 4, "{refused} refused, {made} made");
+    assert_equal_at(&rt, refused > 4 && made > 4, true, (refused, made));
     Ok(())
 }

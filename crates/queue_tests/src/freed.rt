@@ -1,6 +1,6 @@
 //! What the calls of a desk free, and what they leave to be freed by who calls them.
 use crate::desk::{desk_of, hand, name, queue, take};
-use crate::equal::assert_equal;
+use crate::equal::{assert_equal, assert_equal_at};
 use crate::spans::Spans;
 use batch_desk::{Admitted, Batch, Desk, DeskConfig};
 use linked_list_allocator::LocalHeap;
@@ -61,7 +61,8 @@ fn what_is_left_of_a_span_is_handed_back(rt: HostRuntime) -> Result<(), Fail> {
     assert_equal(&rt, (desk.waiting(), desk.is_closed()), (2, true));
     assert_equal(&rt, (desk.ledger().len(), desk.totals().late), (1, 1));
     let shown = shown(&rt, rt.alloc(), &mut desk, spans.ended(&rt, 4));
-    assert!(rt; shown.as_str().starts_with("Some(SpanRemains"));
+    let is_shown = shown.as_str().starts_with("Some(SpanRemains");
+    assert_equal(&rt, is_shown, true);
     Ok(())
 }
 
@@ -71,43 +72,77 @@ fn a_cleared_batch_is_settled(rt: HostRuntime) -> Result<(), Fail> {
     let mut desk = desk_of(&rt, rt.alloc(), 3, 2);
     queue(&rt, &mut desk, &spans, 0..3);
     let mut batch = take(&rt, &mut desk, 0, 1, &[0, 1]);
-    assert!(rt; !desk.can_settle(&batch));
+    assert_equal(&rt, desk.can_settle(&batch), false);
     hand(&rt, &mut desk, &batch);
     batch.clear();
     assert_equal(&rt, (batch.number(), batch.spans().len()), (1, 0));
-    assert!(rt; !desk.is_handed(&batch));
+    assert_equal(&rt, desk.is_handed(&batch), false);
     assert!(rt; desk.can_settle(&batch));
     desk.settle(batch, Fate::Delivered);
     assert_equal(&rt, (desk.out(), desk.waiting()), (None, 1));
     let totals = desk.totals();
     assert_equal(&rt, (totals.handed, totals.fates.delivered), (2, 1));
-    assert!(rt; desk.ledger().is_empty());
+    assert_equal(&rt, desk.ledger().is_empty(), true);
     Ok(())
 }
 
-/// The tickets of the spans that a batch of three leaves where there is room for so many.
-fn left(rt: &impl Abort, alloc: Global, room: usize) -> Vec<u64> {
+/// Room for so many spans, the first of which are there, with tickets from 7 on.
+fn spent_of(
+    rt: &impl Abort,
+    spans: &Spans,
+    alloc: Global,
+    room: usize,
+    there: u64,
+) -> Vec<SpanData> {
+    let mut spent = Vec::with_capacity(alloc, room).expect(rt, "memory");
+    for number in 0..there {
+        let mut span = spans.ended(rt, number);
+        span.set_ticket(number.saturating_add(7));
+        spent.push(span).expect(rt, "memory");
+    }
+    spent
+}
+
+/// The tickets of these spans.
+fn tickets_of(rt: &impl Abort, alloc: Global, spans: &[SpanData]) -> Vec<u64> {
+    let mut tickets = Vec::new(alloc);
+    for span in spans {
+        tickets.push(span.ticket()).expect(rt, "memory");
+    }
+    tickets
+}
+
+/// The tickets of the spans that there are where a batch of three is cleared into room for so many,
+/// of which some are there.
+fn left(rt: &impl Abort, alloc: Global, room: usize, there: u64) -> Vec<u64> {
     let spans = Spans::new(rt, alloc);
     let mut desk = desk_of(rt, alloc, 3, 3);
     queue(rt, &mut desk, &spans, 0..3);
     let mut batch = take(rt, &mut desk, 0, 1, &[0, 1, 2]);
     hand(rt, &mut desk, &batch);
-    let mut spent = Vec::with_capacity(alloc, room).expect(rt, "memory");
+    let mut spent = spent_of(rt, &spans, alloc, room, there);
     batch.clear_into(&mut spent);
-    assert_equal(rt, batch.spans().len(), 0);
+    assert_equal(rt, (batch.spans().len(), spent.capacity()), (0, room));
     assert!(rt; desk.can_settle(&batch));
     desk.settle(batch, Fate::Delivered);
-    let mut tickets = Vec::new(alloc);
-    let left = spent.iter().map(|span| span.ticket());
-    tickets.extend(left).expect(rt, "memory");
-    tickets
+    tickets_of(rt, alloc, &spent)
 }
 
 #[test]
 fn a_batch_leaves_as_many_spans_as_there_is_room_for(rt: HostRuntime) {
-    for (room, want) in [(0, 0), (2, 2), (3, 3), (4, 3)] {
-        let tickets = left(&rt, rt.alloc(), room);
-        assert_equal(&rt, tickets.as_slice(), &[0, 1, 2][..want]);
+    let rows: [(usize, u64, &[u64]); 8] = [
+        (0, 0, &[]),
+        (2, 0, &[0, 1]),
+        (3, 0, &[0, 1, 2]),
+        (4, 0, &[0, 1, 2]),
+        (1, 1, &[7]),
+        (3, 1, &[7, 0, 1]),
+        (5, 2, &[7, 8, 0, 1, 2]),
+        (6, 2, &[7, 8, 0, 1, 2]),
+    ];
+    for (room, there, tickets) in rows {
+        let found = left(&rt, rt.alloc(), room, there);
+        assert_equal_at(&rt, found.as_slice(), tickets, (room, there));
     }
 }
 
@@ -196,7 +231,7 @@ fn hold_nothing_up<A: Allocator + Copy>(rt: &impl Abort, alloc: A, heap: &LocalH
     assert_equal(rt, heap.used(), used);
     let named = batch.into_named(Reason::TooLarge);
     let named_used = heap.used();
-    assert!(rt; named_used < used);
+    assert_equal(rt, named_used < used, true);
     assert!(rt; desk.can_drop(&named));
     desk.drop_named(named);
     assert_equal(rt, heap.used(), named_used);
@@ -213,7 +248,7 @@ fn hold_nothing_up<A: Allocator + Copy>(rt: &impl Abort, alloc: A, heap: &LocalH
     desk.settle(batch, Fate::Delivered);
     assert_equal(rt, heap.used(), used);
     drop(spent);
-    assert!(rt; heap.used() < used);
+    assert_equal(rt, heap.used() < used, true);
     assert_equal(rt, desk.ledger().len(), 3);
 }
 

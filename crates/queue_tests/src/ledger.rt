@@ -142,7 +142,7 @@ fn a_ledger_goes_onto_another_the_other_way_round(rt: HostRuntime) -> Result<(),
             Some(name(number, number, reason_of(number))),
         );
     }
-    assert!(rt; ledger.is_empty());
+    assert_equal(&rt, ledger.is_empty(), true);
     Ok(())
 }
 

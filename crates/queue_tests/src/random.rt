@@ -112,10 +112,10 @@ impl Pair {
     fn take(&mut self, rt: &impl Abort) -> Option<Batch> {
         let is_due = self.plain.is_due(self.now);
         let Some(batch) = self.desk.take(self.now) else {
-            assert!(rt; !is_due);
+            assert_equal(rt, is_due, false);
             return None;
         };
-        assert!(rt; is_due);
+        assert_equal(rt, is_due, true);
         self.plain.take(rt, self.now);
         assert_equal(rt, batch.number(), self.plain.number);
         assert_equal(rt, batch.spans().len(), self.plain.out.len());

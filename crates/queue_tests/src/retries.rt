@@ -1,5 +1,5 @@
 //! What follows from an attempt to send a batch, and how long is waited.
-use crate::equal::assert_equal;
+use crate::equal::{assert_equal, assert_equal_at};
 use retry_core::{BadRetry, Cause, Next, Outcome, RetryAfter, RetryConfig, decide};
 use std::process::Abort;
 
@@ -24,6 +24,21 @@ fn follows(
     decide(config, attempt, &outcome, now, word)
 }
 
+/// Checks that another attempt follows this one, and when.
+fn assert_again(
+    rt: &impl Abort,
+    config: &RetryConfig,
+    attempt: u32,
+    outcome: Outcome,
+    at: (u64, u64),
+    moment: u64,
+) {
+    let (now, word) = at;
+    let next = follows(rt, config, attempt, outcome, now, word);
+    assert_equal_at(rt, next, Next::Again(moment), (attempt, outcome, at));
+}
+
+/// A reply with status 503 that asks for this wait.
 fn unavailable(after: RetryAfter) -> Outcome {
     Outcome::Later {
         status: 503,
@@ -44,8 +59,7 @@ fn waits_double_and_words_shorten_them(rt: HostRuntime) {
         (4, 4000, 4_000_000_000),
         (4, 4001, 8_000_000_000),
     ] {
-        let next = follows(&rt, &config, attempt, Outcome::NoReply, 0, word);
-        assert_equal(&rt, next, Next::Again(moment));
+        assert_again(&rt, &config, attempt, Outcome::NoReply, (0, word), moment);
     }
 }
 
@@ -58,8 +72,7 @@ fn waits_stop_at_the_greatest(rt: HostRuntime) {
         (3, 0, 100_000_000_000),
         (4, 50_000, 50_000_000_000),
     ] {
-        let next = follows(&rt, &config, attempt, Outcome::NoReply, 0, word);
-        assert_equal(&rt, next, Next::Again(moment));
+        assert_again(&rt, &config, attempt, Outcome::NoReply, (0, word), moment);
     }
 }
 
@@ -83,8 +96,7 @@ fn collectors_are_waited_for_as_they_ask(rt: HostRuntime) {
         ),
         (RetryAfter::Date(u64::MAX), 5, 300_000_000_005),
     ] {
-        let next = follows(&rt, &config, 1, unavailable(after), now, 9);
-        assert_equal(&rt, next, Next::Again(moment));
+        assert_again(&rt, &config, 1, unavailable(after), (now, 9), moment);
     }
 }
 
@@ -96,8 +108,8 @@ fn moments_stop_at_the_last_one(rt: HostRuntime) {
         (unavailable(RetryAfter::Seconds(1)), u64::MAX),
         (unavailable(RetryAfter::Date(u64::MAX)), u64::MAX),
     ] {
-        let next = follows(&rt, &config, 1, outcome, now, 0);
-        assert_equal(&rt, next, Next::Again(18_446_744_073_709_551_615));
+        let last = 18_446_744_073_709_551_615;
+        assert_again(&rt, &config, 1, outcome, (now, 0), last);
     }
 }
 
@@ -143,26 +155,77 @@ fn a_batch_of_one_attempt_is_not_sent_again(rt: HostRuntime) {
     assert_equal(&rt, next, Next::GiveUp(Cause::Attempts));
 }
 
-/// Where no wait is to be below 2 seconds.
+/// Settings with a wait of 1 second, twice as long behind each attempt, up to the longest, and with
+/// this least wait.
+fn with_least(rt: &impl Abort, longest_ms: u32, least_ms: u32) -> RetryConfig {
+    let config = RetryConfig::new(5, 1000, longest_ms).expect(rt, "settings");
+    let config = config.with_least_wait(least_ms).expect(rt, "settings");
+    assert_equal(rt, config.least_ms(), least_ms);
+    config
+}
+
 #[test]
 fn no_wait_is_shorter_than_the_least(rt: HostRuntime) {
-    let config = RetryConfig::default()
-        .with_least_wait(2000)
-        .expect(&rt, "settings");
-    assert_equal(&rt, config.least_ms(), 2000);
-    for (attempt, outcome, moment) in [
-        (1, unavailable(RetryAfter::Seconds(0)), 2_000_000_005),
-        (1, unavailable(RetryAfter::Date(0)), 2_000_000_005),
-        (1, Outcome::NoReply, 2_000_000_005),
-        (1, unavailable(RetryAfter::Seconds(7)), 7_000_000_005),
-        (3, Outcome::NoReply, 4_000_000_005),
+    let config = with_least(&rt, 30_000, 2000);
+    let date = unavailable(RetryAfter::Date(DATE));
+    for (attempt, outcome, now, moment) in [
+        (1, unavailable(RetryAfter::Seconds(0)), 5, 2_000_000_005),
+        (1, unavailable(RetryAfter::Date(0)), 5, 2_000_000_005),
+        (1, Outcome::NoReply, 5, 2_000_000_005),
+        (1, unavailable(RetryAfter::Seconds(7)), 5, 7_000_000_005),
+        (3, Outcome::NoReply, 5, 4_000_000_005),
+        // A date that is nearer than the least wait, as far as it, and farther.
+        (1, date, 784_111_776_000_000_000, 784_111_778_000_000_000),
+        (1, date, 784_111_775_000_000_001, 784_111_777_000_000_001),
+        (1, date, 784_111_775_000_000_000, 784_111_777_000_000_000),
+        (1, date, 784_111_770_000_000_000, 784_111_777_000_000_000),
     ] {
-        let next = follows(&rt, &config, attempt, outcome, 5, 0);
-        assert_equal(&rt, next, Next::Again(moment));
+        assert_again(&rt, &config, attempt, outcome, (now, 0), moment);
     }
-    let config = RetryConfig::default();
-    assert_equal(&rt, config.with_least_wait(30_000).is_ok(), true);
-    assert_equal(&rt, config.with_least_wait(30_001), Err(BadRetry));
+}
+
+#[test]
+fn the_least_wait_may_be_the_greatest(rt: HostRuntime) {
+    let config = with_least(&rt, 300_000, 300_000);
+    for outcome in [
+        Outcome::NoReply,
+        unavailable(RetryAfter::Seconds(0)),
+        unavailable(RetryAfter::Seconds(301)),
+        unavailable(RetryAfter::Date(DATE)),
+    ] {
+        assert_again(&rt, &config, 1, outcome, (5, 0), 300_000_000_005);
+    }
+}
+
+#[test]
+fn a_least_wait_of_0_is_none(rt: HostRuntime) {
+    let config = RetryConfig::default().with_least_wait(0);
+    assert_equal(&rt, config, Ok(RetryConfig::default()));
+    let config = with_least(&rt, 30_000, 0);
+    assert_again(
+        &rt,
+        &config,
+        1,
+        unavailable(RetryAfter::Seconds(0)),
+        (5, 0),
+        5,
+    );
+    assert_again(&rt, &config, 1, Outcome::NoReply, (5, 500), 500_000_005);
+}
+
+#[test]
+fn the_least_wait_has_a_range(rt: HostRuntime) {
+    for (longest_ms, least_ms, fault) in [
+        (30_000, 30_000, None),
+        (30_000, 30_001, Some(BadRetry)),
+        (300_000, 300_000, None),
+        (300_000, 300_001, Some(BadRetry)),
+        (300_000, u32::MAX, Some(BadRetry)),
+    ] {
+        let config = RetryConfig::new(5, 1000, longest_ms).expect(&rt, "settings");
+        let refused = config.with_least_wait(least_ms).err();
+        assert_equal_at(&rt, refused, fault, (longest_ms, least_ms));
+    }
 }
 
 #[test]

@@ -50,7 +50,7 @@ fn each_memory_that_new_wants_may_be_refused(rt: HostRuntime) -> Result<(), Fail
         assert_equal(&rt, scarce.used(), 0);
     }
     // Room for the items that wait alone doesn't do: those of the run are wanted besides.
-    assert!(rt; refused > 4 && made > 4, "{refused} refused, {made} made");
+    assert_equal_at(&rt, refused > 4 && made > 4, true, (refused, made));
     Ok(())
 }
 
@@ -59,7 +59,7 @@ fn the_largest_is_made(rt: HostRuntime) -> Result<(), Fail> {
     let ring: SpanRing<u32> = SpanRing::new(rt.alloc(), MAX_QUEUE, MAX_QUEUE)?;
     assert_equal(&rt, ring.queue(), 65_536);
     assert_equal(&rt, ring.batch(), 65_536);
-    assert!(rt; ring.is_empty());
+    assert_equal(&rt, ring.is_empty(), true);
     Ok(())
 }
 
@@ -118,11 +118,11 @@ fn runs_leave_in_order(rt: HostRuntime) -> Result<(), Fail> {
     let mut run = ring.take_run().expect(&rt, "item 2 waits");
     fill(&rt, &mut ring, 3..8);
     assert_equal(&rt, ring.push(8), Err(8));
-    assert!(rt; ring.run_out());
+    assert_equal(&rt, ring.run_out(), true);
     assert_equal(&rt, run.as_slice(), [2].as_slice());
     assert_equal(&rt, run.room(), 2);
     assert_equal(&rt, run.pop_front(), Some(2));
-    assert!(rt; run.is_empty());
+    assert_equal(&rt, run.is_empty(), true);
     assert_equal(&rt, run.pop_front(), None);
     ring.give_back(run);
     expect_run(&rt, &mut ring, &[3, 4]);
