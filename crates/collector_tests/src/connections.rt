@@ -96,7 +96,7 @@ fn a_reply_that_breaks_off_is_none(rt: HostRuntime) {
     let (printed, output, replied) = served(&rt, alloc, &text, 100, FailingCalls::From(2));
     assert_equal(&rt, printed, Ok(()));
     assert!(rt; output.as_slice() == b"connection 7 none\n".as_slice());
-    assert_equal(&rt, replied, 9);
+    assert_equal(&rt, replied, 14);
 }
 
 /// Serves a connection over which this text comes, where this write of the output and all behind it

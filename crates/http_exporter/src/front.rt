@@ -5,14 +5,10 @@ ghost use Rattle.std.specs.Prelude.{◌≡◌, ◌<◌, ◌≤◌, ◌⊎◌, []
 ghost use Rattle.otlp_http.specs.Request.{request_head, request_text};
 ghost use Rattle.http_exporter.specs.Attempts.{shown, IsSent, IsStopped};
 
+use http_wire::{FRONT_ROOM, Front};
 use itoa::Buffer;
 use otlp_http::{DeviceFailed, FaultRead, FaultWrite, Target, write_request};
 use std::alloc::Allocator;
-use std::marker::Model;
-
-/// The most bytes that are put together: a head, of which most have 200 bytes, and a front of the
-/// body. (profile)
-const ROOM: usize = 1024;
 
 /// The bytes of a head that no target and no length change.
 const FIXED: usize = concat!(
@@ -24,68 +20,6 @@ const FIXED: usize = concat!(
     "\r\n",
 )
 .len();
-
-/// A front of a request: it takes bytes while there is room, and then fails. In contracts it is a
-/// `Front`.
-#[derive(Drop)]
-struct Front {
-    bytes: [u8; ROOM],
-    len: usize,
-    failures: u64,
-}
-
-impl Model for Front {
-    ghost use Rattle.std.specs.Prelude.{◌≡◌, ◌≤◌, ◌⊎◌, take};
-    ghost use Rattle.http_exporter.specs.Fronts as model;
-
-    ghost Value = { model.Front };
-
-    ghost view = { λ f. record { taken = take f.len f.bytes; failures = f.failures } };
-
-    ghost invariant = { λ f. (f.len ≤ 1024) × ((f.failures ≡ 0) ⊎ (f.len ≡ 1024)) };
-}
-
-impl Front {
-    fn new() -> Front
-        ensures { result ≡ record { taken = []; failures = 0 } }
-    {
-        Front {
-            bytes: [0; ROOM],
-            len: 0,
-            failures: 0,
-        }
-    }
-
-    /// What it took.
-    fn taken(&self) -> &[u8]
-        ensures taken { result.now ≡ self.now.taken }
-        ensures short { length result.now ≤ 1024 }
-        ensures full { (self.now.failures ≡ 0) ⊎ (length result.now ≡ 1024) }
-    {
-        &self.bytes[..self.len]
-    }
-}
-
-impl FaultWrite for Front {
-    ghost contents = { λ f. Some f.taken };
-
-    ghost failures = { λ f. f.failures };
-
-    fn failures(&self) -> u64 {
-        self.failures
-    }
-
-    fn write(&mut self, buf: &[u8]) -> Result<usize, DeviceFailed> {
-        let n = buf.len().min(ROOM - self.len);
-        if n == 0 {
-            self.failures = self.failures.saturating_add(1);
-            return Err(DeviceFailed);
-        }
-        self.bytes[self.len..self.len + n].copy_from_slice(&buf[..n]);
-        self.len += n;
-        Ok(n)
-    }
-}
 
 /// As much of the beginning of the request as there is room for.
 fn front_of<A: Allocator>(target: &Target<A>, body: &[u8]) -> Front
@@ -150,7 +84,7 @@ pub(crate) fn send<L: FaultRead + FaultWrite, A: Allocator>(
         (request_text target.now body.now) link.old link.new) }
 {
     let head = head_length(target, body.len());
-    if head > ROOM {
+    if head > FRONT_ROOM {
         return match write_request(link, target, body) {
             Ok(()) => Ok(()),
             Err(_) => Err(DeviceFailed),

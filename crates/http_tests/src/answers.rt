@@ -211,9 +211,15 @@ fn assert_written(rt: &impl Abort, alloc: Global, reply: PostReply, start: &str,
     let common = "Content-Type: application/x-protobuf\r\nContent-Length: 0\r\n";
     let text = format!(in alloc; "HTTP/1.1 {start}\r\n{common}Connection: close\r\n{fields}\r\n");
     let text = text.expect(rt, "memory");
-    for most in [1usize, 7, 65_536] {
+    // The last wire would fail a second write.
+    let wires = [
+        (1, FailingCalls::Never),
+        (7, FailingCalls::Never),
+        (65_536, FailingCalls::From(1)),
+    ];
+    for wire_of in wires {
         let wanted = (Ok(()), 0, text.as_bytes());
-        assert_writes(rt, alloc, reply, (most, FailingCalls::Never), wanted);
+        assert_writes(rt, alloc, reply, wire_of, wanted);
     }
 }
 

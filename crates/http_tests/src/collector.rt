@@ -224,7 +224,7 @@ fn a_reply_that_breaks_off_is_told(rt: HostRuntime) {
     assert_equal(
         &rt,
         (told, writer.taken()),
-        (Some(9), b"HTTP/1.1 ".as_slice()),
+        (Some(14), b"HTTP/1.1 200 O".as_slice()),
     );
 }
 

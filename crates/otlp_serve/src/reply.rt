@@ -7,7 +7,7 @@ ghost use Rattle.http_wire.specs.Devices.{CountsFailure};
 ghost use Rattle.otlp_serve.specs.Replies.{allow_line, code_of, reason_of, reply_text};
 
 use crate::status::ReplyStatus;
-use http_wire::{FaultWrite, Stopped, write_pieces};
+use http_wire::{FaultWrite, Front, Stopped, write_pieces};
 use itoa::Buffer;
 
 /// What a request is answered. No reply has a body: the message that would stand in it has all
@@ -81,7 +81,8 @@ fn reply_pieces<'a>(reply: PostReply, code: &'a str, digits: &'a str) -> [&'a [u
 }
 
 /// Writes a reply: its status line, its fields and an empty line, and nothing else (RFC 9112,
-/// sections 2 and 4; OTLP Specification, "OTLP/HTTP Response"). It takes no memory.
+/// sections 2 and 4; OTLP Specification, "OTLP/HTTP Response"). It goes out in one write where the
+/// writer takes all of it, and takes no memory.
 ///
 /// Behind Content-Type, Content-Length and Connection stands `Allow: POST` with 405 (RFC 9110,
 /// section 15.5.6), and Retry-After where the reply has one. (which fields: profile)
@@ -106,5 +107,11 @@ pub fn write_reply<W: FaultWrite>(writer: &mut W, reply: PostReply) -> Result<()
         Some(seconds) => digits.format(seconds),
         None => "",
     };
-    write_pieces(writer, &reply_pieces(reply, code, digits))
+    let pieces = reply_pieces(reply, code, digits);
+    let mut front = Front::new();
+    match write_pieces(&mut front, &pieces) {
+        Ok(()) => write_pieces(writer, &[front.taken()]),
+        // There is room for every reply.
+        Err(_) => write_pieces(writer, &pieces),
+    }
 }

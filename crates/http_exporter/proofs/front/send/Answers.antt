@@ -8,7 +8,7 @@ returns-clause-sent g c =
     let body = c.args.body.now in
     let front = c.front_of-front.ensures in
     let taken = c.taken-front.ensures in
-    let room = c.if-head-gt-ROOM.false in
+    let room = c.if-head-gt-FRONT_ROOM.false in
     let is = front_and_rest (request_head c.args.target.now (length body)) body _ _ _ _ c.head_length-head.ensures (omega (arith, room))
     front.beginning front.whole taken.taken taken.full in
     sent_both _ _ _ _ _ _ is c.in_ok-write_all.ensures.sent c.in_ok-write_all-2.ensures.sent
@@ -18,7 +18,7 @@ returns-in_err-write_all-2-clause-stopped g c =
     let body = c.args.body.now in
     let front = c.front_of-front.ensures in
     let taken = c.taken-front.ensures in
-    let room = c.if-head-gt-ROOM.false in
+    let room = c.if-head-gt-FRONT_ROOM.false in
     let is = front_and_rest (request_head c.args.target.now (length body)) body _ _ _ _ c.head_length-head.ensures (omega (arith, room))
     front.beginning front.whole taken.taken taken.full in
     on_err c.from_residual-in_err-write_all-2.result

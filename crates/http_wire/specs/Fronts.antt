@@ -1,4 +1,4 @@
--- A front of a request's text. (profile)
+-- The front of a text. (profile)
 use Rattle.std.specs.Prelude.{ℕ, List}
 
 -- the bytes that it took, and how often there was no room for more
