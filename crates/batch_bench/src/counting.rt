@@ -6,7 +6,7 @@ use retry_core::Outcome;
 use span_exporter::Exporter;
 
 /// Counts the bytes that it is handed, and lets them go.
-#[derive(Debug, Drop)]
+#[derive(Drop)]
 pub struct CountingExporter {
     bytes: u64,
 }

@@ -10,6 +10,7 @@ mod counting;
 mod figures;
 mod load;
 mod plain;
+mod rows;
 mod tables;
 mod threads;
 

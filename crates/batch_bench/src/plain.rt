@@ -9,7 +9,7 @@ use std::sync::{Mutex, Wait};
 use trace_api::{EndPass, Ended};
 
 /// How long a lock is held round what is done with whole batches, in nanoseconds.
-#[derive(Debug, Clone, Copy)]
+#[derive(Clone, Copy)]
 pub struct Holds {
     /// A batch is taken.
     pub take: u64,
@@ -17,6 +17,28 @@ pub struct Holds {
     pub settle: u64,
     /// Another one is dropped: its spans are named by then.
     pub drop: u64,
+}
+
+/// Takes a batch, and settles it. How long it took to take it, and to settle it.
+fn time_settled(desk: &mut Desk, clock: &impl Clock) -> Option<(u64, u64)> {
+    let began = clock.now();
+    let mut batch = desk.take(0)?;
+    let taken = clock.now();
+    desk.handed(batch.number());
+    batch.clear();
+    let cleared = clock.now();
+    desk.settle(batch, Fate::Delivered);
+    let settled = clock.now();
+    Some((taken.saturating_sub(began), settled.saturating_sub(cleared)))
+}
+
+/// Takes a batch, and drops it. How long it took to drop it.
+fn time_dropped(desk: &mut Desk, clock: &impl Clock) -> Option<u64> {
+    let named = desk.take(0)?.into_named(Reason::Abandoned);
+    let emptied = clock.now();
+    desk.drop_named(named);
+    let dropped = clock.now();
+    Some(dropped.saturating_sub(emptied))
 }
 
 /// What spans go to at their end: a desk behind a mutex.
@@ -39,17 +61,14 @@ impl<R: Wait> PlainPass<R> {
         })
     }
 
-    /// Takes a batch of the spans that wait, and settles it. How many it had.
-    pub fn drain(&mut self) -> usize {
+    /// Takes a batch of the spans that wait, and settles it.
+    pub fn drain(&mut self) {
         let mut desk = self.desk.lock(&self.rt);
         desk.flush();
-        let Some(batch) = desk.take(0) else {
-            return 0;
-        };
-        let count = batch.spans().len();
-        desk.handed(batch.number());
-        desk.settle(batch, Fate::Delivered);
-        count
+        if let Some(batch) = desk.take(0) {
+            desk.handed(batch.number());
+            desk.settle(batch, Fate::Delivered);
+        }
     }
 
     /// Takes two batches of the spans that wait, settles the first, and drops the second, each as a
@@ -57,23 +76,9 @@ impl<R: Wait> PlainPass<R> {
     pub fn time_holds(&mut self, clock: &impl Clock) -> Option<Holds> {
         let mut desk = self.desk.lock(&self.rt);
         desk.flush();
-        let began = clock.now();
-        let mut batch = desk.take(0)?;
-        let taken = clock.now();
-        desk.handed(batch.number());
-        batch.clear();
-        let cleared = clock.now();
-        desk.settle(batch, Fate::Delivered);
-        let settled = clock.now();
-        let named = desk.take(0)?.into_named(Reason::Abandoned);
-        let emptied = clock.now();
-        desk.drop_named(named);
-        let dropped = clock.now();
-        Some(Holds {
-            take: taken.saturating_sub(began),
-            settle: settled.saturating_sub(cleared),
-            drop: dropped.saturating_sub(emptied),
-        })
+        let (take, settle) = time_settled(&mut desk, clock)?;
+        let drop = time_dropped(&mut desk, clock)?;
+        Some(Holds { take, settle, drop })
     }
 }
 

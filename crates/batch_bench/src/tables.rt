@@ -1,9 +1,10 @@
 //! What is printed.
 ghost use Rattle.std.specs.Prelude.{◌≡◌};
 
-use crate::figures::{Spread, median, nanos_since};
-use crate::load::{Load, Times, end_spans};
+use crate::figures::{HoldTimes, Rounds, Spread, median, nanos_since};
+use crate::load::{Load, end_spans};
 use crate::plain::PlainPass;
+use crate::rows::{write_counts, write_hold, write_load, write_plain, write_row};
 use crate::threads::{Round, idle_share, run_round};
 use anyhow::Result;
 use batch_processor::{BatchBlank, SystemClock};
@@ -30,6 +31,9 @@ const FEW: u64 = 100;
 /// How many spans are taken from a desk without a worker at a time.
 const BATCH: u64 = 512;
 
+/// How many times such batches are taken in a round.
+const BATCHES: u64 = SPANS / BATCH;
+
 /// How many times two batches are taken from such a desk to time how long it is held.
 const BURSTS: u32 = 200;
 
@@ -52,37 +56,27 @@ where
 {
     for threads in [1usize, 2, 4] {
         for attributes in [0usize, 5] {
-            let load = Load::at_once(FEW, attributes);
-            let Round {
-                handed,
-                dropped,
-                left,
-                ..
-            } = one_round(rt, alloc, threads, load)?;
-            write!(output, "{threads} threads, {attributes} attributes: ")?;
-            writeln!(output, "{handed} handed, {dropped} dropped, {left} left")?;
+            let round = one_round(rt, alloc, threads, Load::at_once(FEW, attributes))?;
+            write_counts(output, threads, attributes, round.counts)?;
         }
     }
     Ok(())
 }
 
-/// The nanoseconds that each of so many spans of each thread took of its thread, on average.
-fn nanos_a_span(times: &[Times], spans: u64) -> u64 {
-    let mut all = 0u64;
-    for took in times {
-        all = all.saturating_add(took.nanos);
+/// What some rounds on so many threads come to; of each pair of them the second one times each end.
+fn run_rounds<R>(rt: R, alloc: Global, threads: usize, load: Load) -> Result<Rounds>
+where
+    R: Threads + Wait + RandomSource + Clock + Copy + Send + Sync + 'static,
+{
+    let spans = load.spans.saturating_mul(threads as u64);
+    let mut rounds = Rounds::new(alloc);
+    for _round in 0..ROUNDS {
+        let untimed = one_round(rt, alloc, threads, load)?;
+        rounds.add_untimed(untimed.times.nanos, spans, untimed.counts)?;
+        let timed = one_round(rt, alloc, threads, load.timed())?;
+        rounds.add_ends(Spread::new(timed.times.ends)?)?;
     }
-    let count = spans.saturating_mul(times.len() as u64);
-    all.checked_div(count).unwrap_or(0)
-}
-
-/// The ends of all threads.
-fn all_ends(alloc: Global, times: Vec<Times>) -> Result<Vec<u64>> {
-    let mut all = Vec::new(alloc);
-    for took in times {
-        all.extend_from_slice(took.ends.as_slice())?;
-    }
-    Ok(all)
+    Ok(rounds)
 }
 
 /// Prints what spans took on so many threads, in the middle one of some rounds, and what became of
@@ -97,33 +91,37 @@ fn print_row<R, W: Write>(
 where
     R: Threads + Wait + RandomSource + Clock + Copy + Send + Sync + 'static,
 {
-    let (mut spans, mut p50s, mut p999s) = (Vec::new(alloc), Vec::new(alloc), Vec::new(alloc));
-    let (mut longest, mut handed, mut dropped) = (0u64, 0u64, 0u64);
-    for _round in 0..ROUNDS {
-        let untimed = one_round(rt, alloc, threads, load)?;
-        spans.push(nanos_a_span(untimed.times.as_slice(), load.spans))?;
-        handed = handed.saturating_add(untimed.handed);
-        dropped = dropped.saturating_add(untimed.dropped);
-        let timed = Load {
-            is_timed: true,
-            ..load
-        };
-        let ended = one_round(rt, alloc, threads, timed)?;
-        let ends = Spread::new(all_ends(alloc, ended.times)?)?;
-        p50s.push(ends.p50)?;
-        p999s.push(ends.p999)?;
-        longest = longest.max(ends.longest);
-    }
-    let (span, p50, p999) = (median(spans)?, median(p50s)?, median(p999s)?);
-    let how = if load.pauses { "pausing" } else { "at once" };
-    let attributes = load.attributes;
-    write!(
-        output,
-        "{threads} threads, {how}, {attributes} attributes: {span} ns a span, "
-    )?;
-    write!(output, "ends {p50} {p999} {longest} ns, ")?;
-    writeln!(output, "{handed} handed, {dropped} dropped")?;
+    let row = run_rounds(rt, alloc, threads, load)?.row()?;
+    write_load(output, threads, load)?;
+    write_row(output, row)?;
     Ok(())
+}
+
+/// What a batch of spans took of its thread into a desk behind a plain mutex, and to be taken from
+/// it again, in nanoseconds.
+fn time_batch<R>(rt: &R, alloc: Global, load: Load, pass: &mut PlainPass<R>) -> Result<(u64, u64)>
+where
+    R: Wait + RandomSource + Clock + Copy + Drop,
+{
+    let took = end_spans(rt, alloc, load, pass)?;
+    let before = Instant::now(rt)?;
+    pass.drain();
+    Ok((took.nanos, nanos_since(rt, before)?))
+}
+
+/// The same of all batches of a round: each span's part.
+fn time_batches<R>(rt: R, alloc: Global, load: Load) -> Result<(u64, u64)>
+where
+    R: Wait + RandomSource + Clock + Copy + Drop,
+{
+    let mut pass = PlainPass::new(rt, alloc)?;
+    let (mut ends, mut whole) = (0u64, 0u64);
+    for _batch in 0..BATCHES {
+        let (ended, drained) = time_batch(&rt, alloc, load, &mut pass)?;
+        ends = ends.saturating_add(ended);
+        whole = whole.saturating_add(ended).saturating_add(drained);
+    }
+    Ok((ends / (BATCHES * BATCH), whole / (BATCHES * BATCH)))
 }
 
 /// Prints what spans took into a desk behind a plain mutex, with and without the time in which they
@@ -138,29 +136,30 @@ where
     R: Wait + RandomSource + Clock + Copy + Drop,
 {
     let (mut spans, mut wholes) = (Vec::new(alloc), Vec::new(alloc));
-    let load = Load::at_once(BATCH, attributes);
     for _round in 0..ROUNDS {
-        let mut pass = PlainPass::new(rt, alloc)?;
-        let (mut ends, mut whole) = (0u64, 0u64);
-        for _burst in 0..SPANS / BATCH {
-            let took = end_spans(&rt, alloc, load, &mut pass)?;
-            let before = Instant::now(&rt)?;
-            pass.drain();
-            let drained = nanos_since(&rt, before)?;
-            ends = ends.saturating_add(took.nanos);
-            whole = whole.saturating_add(took.nanos).saturating_add(drained);
-        }
-        let count = SPANS / BATCH * BATCH;
-        spans.push(ends / count)?;
-        wholes.push(whole / count)?;
+        let (span, whole) = time_batches(rt, alloc, Load::at_once(BATCH, attributes))?;
+        spans.push(span)?;
+        wholes.push(whole)?;
     }
-    let (span, whole) = (median(spans)?, median(wholes)?);
-    write!(
-        output,
-        "a plain desk, {attributes} attributes: {span} ns a span, "
-    )?;
-    writeln!(output, "{whole} ns with its batch taken and settled")?;
+    write_plain(output, attributes, median(spans)?, median(wholes)?)?;
     Ok(())
+}
+
+/// How long the lock of a desk is held round what a worker does with a batch, many times.
+fn time_holds<R>(rt: R, alloc: Global, attributes: usize) -> Result<HoldTimes>
+where
+    R: Wait + RandomSource + Clock + Copy + Drop,
+{
+    let load = Load::at_once(2 * BATCH, attributes);
+    let mut pass = PlainPass::new(rt, alloc)?;
+    let mut times = HoldTimes::new(alloc);
+    for _burst in 0..BURSTS {
+        end_spans(&rt, alloc, load, &mut pass)?;
+        if let Some(holds) = pass.time_holds(&SystemClock::new(rt)) {
+            times.add(holds)?;
+        }
+    }
+    Ok(times)
 }
 
 /// Prints how long the lock of a desk is held round what a worker does with a batch.
@@ -173,31 +172,35 @@ fn print_hold_row<R, W: Write>(
 where
     R: Wait + RandomSource + Clock + Copy + Drop,
 {
-    let load = Load::at_once(2 * BATCH, attributes);
-    let clock = SystemClock::new(rt);
-    let mut pass = PlainPass::new(rt, alloc)?;
-    let (mut takes, mut settles, mut drops) = (Vec::new(alloc), Vec::new(alloc), Vec::new(alloc));
-    for _burst in 0..BURSTS {
-        end_spans(&rt, alloc, load, &mut pass)?;
-        if let Some(holds) = pass.time_holds(&clock) {
-            takes.push(holds.take)?;
-            settles.push(holds.settle)?;
-            drops.push(holds.drop)?;
-        }
-    }
-    let (take, settle, drop) = (
-        Spread::new(takes)?,
-        Spread::new(settles)?,
-        Spread::new(drops)?,
-    );
+    let times = time_holds(rt, alloc, attributes)?;
     write!(
         output,
         "{BATCH} spans under the lock, {attributes} attributes: "
     )?;
-    write!(output, "take {} {} ns, ", take.p50, take.longest)?;
-    write!(output, "settle {} {} ns, ", settle.p50, settle.longest)?;
-    writeln!(output, "drop {} {} ns", drop.p50, drop.longest)?;
+    write_hold(output, "take", Spread::new(times.takes)?)?;
+    write_hold(output, ", settle", Spread::new(times.settles)?)?;
+    write_hold(output, ", drop", Spread::new(times.drops)?)?;
+    writeln!(output)?;
     Ok(())
+}
+
+/// Measures how long spans with so many attributes take, and prints it.
+fn print_attributes<R, W: Write>(
+    rt: R,
+    alloc: Global,
+    output: &mut W,
+    attributes: usize,
+) -> Result<()>
+where
+    R: Threads + Wait + RandomSource + Clock + Copy + Send + Sync + 'static,
+{
+    print_plain_row(rt, alloc, output, attributes)?;
+    print_hold_row(rt, alloc, output, attributes)?;
+    for threads in [1usize, 2, 4] {
+        print_row(rt, alloc, output, threads, Load::at_once(SPANS, attributes))?;
+    }
+    let load = Load::at_once(PAUSED_SPANS, attributes).pausing();
+    print_row(rt, alloc, output, 4, load)
 }
 
 /// Measures how long spans take, and prints it.
@@ -206,17 +209,7 @@ where
     R: Threads + Wait + RandomSource + CpuClock + Clock + Copy + Send + Sync + 'static,
 {
     for attributes in [0usize, 5] {
-        print_plain_row(rt, alloc, output, attributes)?;
-        print_hold_row(rt, alloc, output, attributes)?;
-        for threads in [1usize, 2, 4] {
-            let load = Load::at_once(SPANS, attributes);
-            print_row(rt, alloc, output, threads, load)?;
-        }
-        let load = Load {
-            pauses: true,
-            ..Load::at_once(PAUSED_SPANS, attributes)
-        };
-        print_row(rt, alloc, output, 4, load)?;
+        print_attributes(rt, alloc, output, attributes)?;
     }
     let share = idle_share::<Brand, R>(rt, alloc, BatchBlank::new(), WATCH_MS)?;
     writeln!(output, "an idle worker: {share} millionths of a processor")?;

@@ -11,17 +11,16 @@ use batch_processor::{
 use rand::make_rng;
 use rand::rngs::StdRng;
 use std::alloc::Global;
+use std::io;
 use std::random::RandomSource;
 use std::sync::Wait;
 use std::thread::{self, JoinHandle, Threads};
 use std::time::{self, CpuClock, Duration};
 
-/// What threads came to.
-#[derive(Debug, Drop)]
-pub struct Round {
-    /// How long each thread took.
-    pub times: Vec<Times>,
-    /// How many spans were handed to the exporter.
+/// What became of spans.
+#[derive(Clone, Copy)]
+pub struct Counts {
+    /// How many were handed to the exporter.
     pub handed: u64,
     /// How many were dropped.
     pub dropped: u64,
@@ -29,13 +28,23 @@ pub struct Round {
     pub left: u64,
 }
 
+/// What threads came to.
+#[derive(Drop)]
+pub struct Round {
+    /// How long they took.
+    pub times: Times,
+    /// What became of their spans.
+    pub counts: Counts,
+}
+
+/// The thread of a worker, which gives its pass back.
+type WorkerThread<J, R> = JoinHandle<Result<WorkerPass<J, R>>>;
+
+/// A thread that ends spans, which gives its pass back, and how long it took.
+type PassThread<J, R> = JoinHandle<Result<(Pass<J, R>, Times)>>;
+
 /// Starts a thread that ends spans on this pass, and gives it back, and how long it took.
-fn start<J, R>(
-    rt: R,
-    alloc: Global,
-    load: Load,
-    mut pass: Pass<J, R>,
-) -> Result<JoinHandle<Result<(Pass<J, R>, Times)>>>
+fn start<J, R>(rt: R, alloc: Global, load: Load, mut pass: Pass<J, R>) -> Result<PassThread<J, R>>
 where
     J: Naming + Send + Sync + 'static,
     R: Threads + Wait + RandomSource + time::Clock + Copy + Send + Sync + 'static,
@@ -48,10 +57,7 @@ where
 }
 
 /// Starts the thread of the worker, which gives its pass back once all is drained.
-pub fn start_worker<J, R>(
-    rt: R,
-    mut worker: WorkerPass<J, R>,
-) -> Result<JoinHandle<Result<WorkerPass<J, R>>>>
+fn start_worker<J, R>(rt: R, mut worker: WorkerPass<J, R>) -> Result<WorkerThread<J, R>>
 where
     J: Naming + Send + Sync + 'static,
     R: Threads + Wait + RandomSource + time::Clock + Copy + Send + Sync + 'static,
@@ -66,13 +72,13 @@ where
     Ok(started?)
 }
 
-/// Starts a thread for each pass, and gives back the passes, and how long each thread took.
-fn run_all<J, R>(
+/// Starts a thread for each pass.
+fn start_all<J, R>(
     rt: R,
     alloc: Global,
     load: Load,
     passes: Vec<Pass<J, R>>,
-) -> Result<(Vec<Pass<J, R>>, Vec<Times>)>
+) -> Result<Vec<PassThread<J, R>>>
 where
     J: Naming + Send + Sync + 'static,
     R: Threads + Wait + RandomSource + time::Clock + Copy + Send + Sync + 'static,
@@ -81,13 +87,74 @@ where
     for pass in passes {
         threads.push(start(rt, alloc, load, pass)?)?;
     }
-    let (mut passes, mut times) = (Vec::new(alloc), Vec::new(alloc));
+    Ok(threads)
+}
+
+/// Waits for threads, and gives back their passes, and how long they took.
+fn join_all<J, R>(
+    rt: R,
+    alloc: Global,
+    threads: Vec<PassThread<J, R>>,
+) -> Result<(Vec<Pass<J, R>>, Times)>
+where
+    J: Naming + Send + Sync + 'static,
+    R: Threads + Wait + RandomSource + time::Clock + Copy + Send + Sync + 'static,
+{
+    let (mut passes, mut times) = (Vec::new(alloc), Times::new(alloc));
     for thread in threads {
         let (pass, took) = thread.join(&rt)?;
         passes.push(pass)?;
-        times.push(took)?;
+        times.add(took)?;
     }
     Ok((passes, times))
+}
+
+/// Starts the worker of a new processor, and gives back the processor and its passes.
+fn start_processor<J, R>(
+    rt: R,
+    alloc: Global,
+    blank: BatchBlank,
+    threads: usize,
+) -> Result<(BatchProcessor<J, R>, Vec<Pass<J, R>>, WorkerThread<J, R>)>
+where
+    J: Naming + Send + Sync + 'static,
+    R: Threads + Wait + RandomSource + time::Clock + Copy + Send + Sync + 'static,
+    requires { blank ≡ J.name }
+{
+    let now = SystemClock::new(rt).now();
+    let config = BatchConfig::default();
+    let parts = BatchProcessor::<J, R>::new(alloc, rt, blank, config, threads, now)?;
+    let Parts {
+        processor,
+        passes,
+        worker,
+    } = parts;
+    let worker = start_worker(rt, worker)?;
+    Ok((processor, passes, worker))
+}
+
+/// Drains a processor, and says what became of its spans.
+fn drain<J, R>(
+    rt: R,
+    processor: BatchProcessor<J, R>,
+    mut passes: Vec<Pass<J, R>>,
+    worker: WorkerThread<J, R>,
+) -> Result<Counts>
+where
+    J: Naming + Send + Sync + 'static,
+    R: Threads + Wait + RandomSource + time::Clock + Copy + Send + Sync + 'static,
+{
+    if let Some(pass) = passes.first_mut() {
+        pass.shutdown();
+    }
+    let worker = worker.join(&rt)?;
+    let closed = processor.close_out(passes, worker).ok();
+    let totals = closed.context("a pass is missing")?.desk.totals();
+    Ok(Counts {
+        handed: totals.handed,
+        dropped: totals.dropped.queue_full,
+        left: totals.left,
+    })
 }
 
 /// Ends spans on so many threads, and drains the processor.
@@ -103,31 +170,17 @@ where
     R: Threads + Wait + RandomSource + time::Clock + Copy + Send + Sync + 'static,
     requires { blank ≡ J.name }
 {
-    let now = SystemClock::new(rt).now();
-    let config = BatchConfig::default();
-    let parts = BatchProcessor::<J, R>::new(alloc, rt, blank, config, threads, now)?;
-    let Parts {
-        processor,
-        passes,
-        worker,
-    } = parts;
-    let worker = start_worker(rt, worker)?;
-    let (mut passes, times) = run_all(rt, alloc, load, passes)?;
-    if let Some(pass) = passes.first_mut() {
-        pass.shutdown();
-    }
-    let worker = worker.join(&rt)?;
-    let accounts = processor
-        .close_out(passes, worker)
-        .ok()
-        .context("a pass is missing")?;
-    let totals = accounts.desk.totals();
-    Ok(Round {
-        times,
-        handed: totals.handed,
-        dropped: totals.dropped.queue_full,
-        left: totals.left,
-    })
+    let (processor, passes, worker) = start_processor::<J, R>(rt, alloc, blank, threads)?;
+    let (passes, times) = join_all(rt, alloc, start_all(rt, alloc, load, passes)?)?;
+    let counts = drain(rt, processor, passes, worker)?;
+    Ok(Round { times, counts })
+}
+
+/// The processor time of all threads while this one sleeps for so many milliseconds.
+fn time_asleep<R: CpuClock + time::Clock>(rt: &R, millis: u64) -> io::Result<Duration> {
+    let before = rt.process_cpu_time()?;
+    thread::sleep(rt, Duration::from_millis(millis));
+    Ok(rt.process_cpu_time()?.saturating_sub(before))
 }
 
 /// The processor time that a worker takes while nothing ends, in millionths of the time that it is
@@ -138,23 +191,9 @@ where
     R: Threads + Wait + RandomSource + CpuClock + time::Clock + Copy + Send + Sync + 'static,
     requires { blank ≡ J.name }
 {
-    let now = SystemClock::new(rt).now();
-    let parts = BatchProcessor::<J, R>::new(alloc, rt, blank, BatchConfig::default(), 1, now)?;
-    let Parts {
-        processor,
-        mut passes,
-        worker,
-    } = parts;
-    let worker = start_worker(rt, worker)?;
-    let before = rt.process_cpu_time()?;
-    thread::sleep(&rt, Duration::from_millis(watch_ms));
-    let used = rt.process_cpu_time()?.saturating_sub(before);
-    if let Some(pass) = passes.first_mut() {
-        pass.shutdown();
-    }
-    let worker = worker.join(&rt)?;
-    let closed = processor.close_out(passes, worker);
-    closed.ok().context("a pass is missing")?;
+    let (processor, passes, worker) = start_processor::<J, R>(rt, alloc, blank, 1)?;
+    let used = time_asleep(&rt, watch_ms);
+    drain(rt, processor, passes, worker)?;
     let millis = u128::from(watch_ms.max(1));
-    Ok(u64::try_from(used.as_nanos() / millis).unwrap_or(u64::MAX))
+    Ok(u64::try_from(used?.as_nanos() / millis).unwrap_or(u64::MAX))
 }

@@ -1,0 +1,58 @@
+//! Lines of what was measured.
+use crate::figures::{Row, Spread};
+use crate::load::Load;
+use crate::threads::Counts;
+use std::io::{self, Write};
+
+/// Writes what became of the spans of threads.
+pub fn write_counts<W: Write>(
+    output: &mut W,
+    threads: usize,
+    attributes: usize,
+    counts: Counts,
+) -> io::Result<()> {
+    let (handed, dropped, left) = (counts.handed, counts.dropped, counts.left);
+    write!(output, "{threads} threads, {attributes} attributes: ")?;
+    writeln!(output, "{handed} handed, {dropped} dropped, {left} left")
+}
+
+/// Writes what threads do.
+pub fn write_load<W: Write>(output: &mut W, threads: usize, load: Load) -> io::Result<()> {
+    let how = if load.pauses { "pausing" } else { "at once" };
+    let attributes = load.attributes;
+    write!(
+        output,
+        "{threads} threads, {how}, {attributes} attributes: "
+    )
+}
+
+/// Writes what spans took on threads, and what became of them.
+pub fn write_row<W: Write>(output: &mut W, row: Row) -> io::Result<()> {
+    let (span, ends) = (row.span, row.ends);
+    write!(output, "{span} ns a span, ")?;
+    write!(
+        output,
+        "ends {} {} {} ns, ",
+        ends.p50, ends.p999, ends.longest
+    )?;
+    writeln!(output, "{} handed, {} dropped", row.handed, row.dropped)
+}
+
+/// Writes what spans took into a desk behind a plain mutex.
+pub fn write_plain<W: Write>(
+    output: &mut W,
+    attributes: usize,
+    span: u64,
+    whole: u64,
+) -> io::Result<()> {
+    write!(
+        output,
+        "a plain desk, {attributes} attributes: {span} ns a span, "
+    )?;
+    writeln!(output, "{whole} ns with its batch taken and settled")
+}
+
+/// Writes how long a lock is held round something.
+pub fn write_hold<W: Write>(output: &mut W, what: &str, held: Spread) -> io::Result<()> {
+    write!(output, "{what} {} {} ns", held.p50, held.longest)
+}
