@@ -1,37 +1,41 @@
 //! What became of spans and of the batches that they went out in.
-use anyhow::Result;
-use std::io::Write;
-use trace_kit::processor::Accounts;
+use std::io::{self, Write};
+use trace_kit::queue::{DropCounts, FateCounts, Totals};
+
+/// How many spans were dropped, for whatever reason.
+fn all_drops(drops: DropCounts) -> u64 {
+    drops
+        .queue_full
+        .saturating_add(drops.encode_memory)
+        .saturating_add(drops.too_large)
+        .saturating_add(drops.abandoned)
+}
+
+/// Writes a count behind its name.
+fn write_count<W: Write>(output: &mut W, name: &str, count: u64) -> io::Result<()> {
+    writeln!(output, "{name} {count}")
+}
 
 /// Writes how many spans were handed to the exporter, dropped or left, and how the batches ended.
-pub fn write_balance<W: Write>(output: &mut W, accounts: &Accounts) -> Result<()> {
-    let totals = accounts.desk.totals();
-    let (drops, fates) = (totals.dropped, totals.fates);
-    let by_worker = drops.encode_memory.saturating_add(drops.abandoned);
-    writeln!(output, "spans handed {}", totals.handed)?;
-    writeln!(
-        output,
-        "spans dropped {}",
-        drops.queue_full.saturating_add(by_worker)
-    )?;
-    writeln!(output, "spans left {}", totals.left)?;
-    writeln!(output, "batches delivered {}", fates.delivered)?;
-    writeln!(output, "batches taken in part {}", fates.partial)?;
-    writeln!(output, "batches refused {}", fates.refused)?;
-    writeln!(output, "batches with a bad reply {}", fates.bad_reply)?;
-    writeln!(output, "batches given up {}", fates.given_up)?;
-    Ok(())
+pub fn write_balance<W: Write>(output: &mut W, totals: Totals) -> io::Result<()> {
+    let fates = totals.fates;
+    write_count(output, "spans handed", totals.handed)?;
+    write_count(output, "spans dropped", all_drops(totals.dropped))?;
+    write_count(output, "spans left", totals.left)?;
+    write_count(output, "batches delivered", fates.delivered)?;
+    write_count(output, "batches taken in part", fates.partial)?;
+    write_count(output, "batches refused", fates.refused)?;
+    write_count(output, "batches with a bad reply", fates.bad_reply)?;
+    write_count(output, "batches given up", fates.given_up)
 }
 
 /// Whether each batch was delivered, and there was one.
-pub fn is_delivered(accounts: &Accounts) -> bool {
-    let fates = accounts.desk.totals().fates;
-    let failed = [
-        fates.partial,
-        fates.refused,
-        fates.bad_reply,
-        fates.given_up,
-        fates.abandoned,
-    ];
-    fates.delivered > 0 && failed.iter().all(|count| *count == 0)
+pub fn is_delivered(fates: FateCounts) -> bool {
+    let by_reply = fates.refused.saturating_add(fates.bad_reply);
+    let unsent = fates.given_up.saturating_add(fates.abandoned);
+    let failed = fates
+        .partial
+        .saturating_add(by_reply)
+        .saturating_add(unsent);
+    fates.delivered > 0 && failed == 0
 }

@@ -33,8 +33,9 @@ fn main(rt: HostRuntime) -> Result<ExitCode> {
     let exporter = HttpExporter::new(alloc, rt, target, TIMEOUT_MS).reading_after_a_stop();
     // `Brand` stands for the name of this one processor, which the types of its passes have.
     let accounts = service::run::<Brand, HostRuntime>(rt, alloc, BatchBlank::new(), exporter)?;
-    balance::write_balance(&mut rt.stdout(), &accounts)?;
-    Ok(if balance::is_delivered(&accounts) {
+    let totals = accounts.desk.totals();
+    balance::write_balance(&mut rt.stdout(), totals)?;
+    Ok(if balance::is_delivered(totals.fates) {
         ExitCode::SUCCESS
     } else {
         ExitCode::FAILURE
