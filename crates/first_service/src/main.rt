@@ -14,5 +14,7 @@ fn main(rt: HostRuntime) -> Result<()> {
     // `Brand` stands for the name of this one processor, which the types of its passes have.
     let blank = BatchBlank::new();
     let accounts = service::run::<Brand, HostRuntime>(rt, rt.alloc(), blank)?;
-    balance::write_balance(&mut rt.stdout(), service::SPANS, &accounts)
+    let totals = accounts.desk.totals();
+    balance::write_balance(&mut rt.stdout(), service::SPANS, totals)?;
+    Ok(())
 }
