@@ -1,1 +1,3 @@
+mod Causes
 mod Crosses
+mod Options

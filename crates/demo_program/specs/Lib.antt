@@ -1,1 +1,4 @@
 pub mod Args
+pub mod Balance
+pub mod Command
+pub mod Faults

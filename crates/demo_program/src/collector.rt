@@ -1,6 +1,7 @@
 //! A collector on loopback, on a thread of its own.
 
 use crate::batches::Batches;
+use http_wire::{Counted, HeadLimits};
 use otlp_collector::{Answered, Canned, CannedStatus, answer};
 use std::alloc::Global;
 use std::io::BufReader;
@@ -9,7 +10,6 @@ use std::sync::Arc;
 use std::sync::atomic::{AtomicBool, Ordering};
 use std::thread::{self, JoinHandle, Threads};
 use std::time::Duration;
-use trace_kit::http::{Counted, HeadLimits};
 
 /// How long a connection, a read and a write may each take, in milliseconds.
 pub(crate) const TIMEOUT_MS: u64 = 10_000;

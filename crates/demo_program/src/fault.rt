@@ -1,5 +1,7 @@
 //! Why the words of the command line ask for no run, and how that is told.
-ghost use Rattle.std.specs.Prelude.{◌≤◌};
+ghost use Rattle.std.specs.Prelude.{◌≡◌, ◌⊎◌};
+ghost use Rattle.demo_program.specs.Faults.{fault_of_error, status_of};
+ghost use Rattle.demo_program.specs.declared.fault.ArgFault.TheVariants as faults;
 
 use clap::Error;
 use clap::error::ErrorKind;
@@ -23,6 +25,8 @@ pub enum ArgFault {
 }
 
 impl From<Error> for ArgFault {
+    ghost from_gives = { λ error fault. fault ≡ fault_of_error error };
+
     fn from(error: Error) -> ArgFault {
         match error.kind() {
             ErrorKind::DisplayHelp => ArgFault::Help(error),
@@ -33,6 +37,8 @@ impl From<Error> for ArgFault {
 }
 
 impl From<AllocError> for ArgFault {
+    ghost from_gives = { λ _ fault. fault ≡ faults.OutOfMemory };
+
     fn from(_: AllocError) -> ArgFault {
         ArgFault::OutOfMemory
     }
@@ -42,7 +48,7 @@ impl ArgFault {
     /// Prints help, or tells a mistake or refused memory. Answers the program's status: 0 behind
     /// help, 2 for a mistake, 3 for memory, or 1 where the text could not be written.
     pub fn tell<W: Write, F: Write>(&self, output: &mut W, faults: &mut F) -> u8
-        ensures { result ≤ 3 }
+        ensures { (result ≡ status_of self.now) ⊎ (result ≡ 1) }
     {
         let (told, status) = match self {
             ArgFault::Help(text) => (print_text(output, text), 0),

@@ -1,15 +1,15 @@
 //! Threads that end spans, each on a pass of its own.
 
+use batch_processor::{Clock, MAX_PASSES, Naming, Pass, SystemClock};
+use otlp_sampler::AlwaysOn;
+use otlp_span::{Kind, Resource, Scope, SpanData, SpanLimits};
 use rand_core::{Rng, SeedableRng};
 use rand_pcg::Pcg64;
 use std::alloc::Global;
 use std::sync::{Arc, Wait};
 use std::thread::{self, Threads};
 use std::time;
-use trace_kit::processor::{Clock, MAX_PASSES, Naming, Pass, SystemClock};
-use trace_kit::trace::{
-    AlwaysOn, EndPass, Ended, Kind, Provider, Resource, Scope, SpanData, SpanLimits, Tracer,
-};
+use trace_api::{EndPass, Ended, Provider, Tracer};
 
 /// A thread's pass, what its generator begins with, and how many of its spans were queued or
 /// dropped, which isn't known before it has ended them all.
@@ -40,7 +40,8 @@ where
     Some(lanes)
 }
 
-/// Ends so many spans on each lane, on a thread for each.
+/// Ends so many spans on each lane, each on a thread of its own, of which one is the caller's. Where
+/// a thread can't be made, the one that was to make it does its work too.
 pub(crate) fn end_on_all<J, R>(rt: R, alloc: Global, lanes: &mut [Lane<J, R>], spans: u64)
 where
     J: Naming + Send + Sync + 'static,

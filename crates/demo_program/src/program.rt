@@ -1,10 +1,18 @@
 //! The program `trace-demo`.
-ghost use Rattle.std.specs.Prelude.{◌≡◌, ◌≤◌, None};
+ghost use Rattle.std.specs.Prelude.{◌≡◌, ◌≤◌, ◌⊎◌, None};
+ghost use Rattle.demo_program.specs.Command.{AreMistaken, AskForHelp, IsTaken};
 
 use crate::args::DemoArgs;
 use crate::collector::{Collector, TIMEOUT_MS};
 use crate::lanes::{end_on_all, make_lanes, passes_of, shut_down};
 use crate::sums::Sums;
+use batch_desk::DeskConfig;
+use batch_processor::{
+    Accounts, BatchBlank, BatchConfig, BatchProcessor, Clock, Naming, Parts, SystemClock,
+    WorkerPass,
+};
+use http_exporter::HttpExporter;
+use otlp_http::{DEFAULT_PATH, Target};
 use rand_core::SeedableRng;
 use rand_pcg::Pcg64;
 use std::alloc::Global;
@@ -14,12 +22,6 @@ use std::net::{Net, TcpListener, TcpStream};
 use std::sync::Wait;
 use std::thread::{self, JoinHandle, Threads};
 use std::time;
-use trace_kit::http::{DEFAULT_PATH, HttpExporter, Target};
-use trace_kit::processor::{
-    Accounts, BatchBlank, BatchConfig, BatchProcessor, Clock, Naming, Parts, SystemClock,
-    WorkerPass,
-};
-use trace_kit::queue::DeskConfig;
 
 /// The program `trace-demo`, whose words are those of its command line, the program's name first.
 /// Where they ask for a run it is done, as by `demo`. Where they ask for help it is printed, with
@@ -36,7 +38,9 @@ where
     R: Threads + Wait + Copy + Send + Sync + 'static,
     W: Write,
     F: Write,
-    ensures { result ≤ 3 }
+    ensures status { result ≤ 3 }
+    ensures asked { result ≡ 0 → IsTaken words.items ⊎ AskForHelp words.items }
+    ensures mistake { result ≡ 2 → AreMistaken words.items }
 {
     match DemoArgs::read(words) {
         Ok(args) => demo(rt, alloc, output, &args),
@@ -47,8 +51,8 @@ where
 /// Ends spans on threads, one of which is the caller's, while a worker posts them in batches to a
 /// collector on loopback, whose replies to good bodies are 200, 502, 429 and 200 over and over;
 /// behind 502 and 429 it may be tried again at once. Then the processor is shut down and closed
-/// out, and the collector is ended. Prints a line for each, with its number: `ended` (the ends that were
-/// answered `Queued` or `Dropped`), `handed`, `dropped`, `left`, `sum` (of the last three),
+/// out, and the collector is ended. Prints a line for each, with its number: `ended` (the ends that
+/// were answered `Queued` or `Dropped`), `handed`, `dropped`, `left`, `sum` (of the last three),
 /// `balanced` with `yes` or `no` (whether the sum is what ended), and `collected` (the spans of the
 /// distinct bodies that the collector could read). (profile)
 ///

@@ -1,9 +1,10 @@
 //! What became of the spans, in sums.
-ghost use Rattle.std.specs.Prelude.{◌≤◌};
+ghost use Rattle.std.specs.Prelude.{◌≡◌, ◌≤◌, ◌↔◌, IsTrue};
+ghost use Rattle.demo_program.specs.Balance.{IsEven, sum_of};
 
+use batch_processor::Accounts;
 use std::io;
 use std::io::Write;
-use trace_kit::processor::Accounts;
 
 /// What became of the spans of all threads.
 #[derive(Debug, Clone, Copy, PartialEq, Eq)]
@@ -25,7 +26,8 @@ impl Sums {
     pub(crate) fn new(ended: u64, accounts: &Accounts, collected: u64) -> Sums {
         let totals = accounts.desk.totals();
         let drops = totals.dropped;
-        let by_worker = drops.encode_memory.saturating_add(drops.abandoned);
+        let by_worker = drops.encode_memory.saturating_add(drops.too_large);
+        let by_worker = by_worker.saturating_add(drops.abandoned);
         Sums {
             ended,
             handed: totals.handed,
@@ -36,20 +38,25 @@ impl Sums {
     }
 
     /// How many were handed, dropped or left.
-    fn sum(&self) -> u64 {
+    fn sum(&self) -> u64
+        ensures { result ≡ sum_of self.now }
+    {
         let gone = self.handed.saturating_add(self.dropped);
         gone.saturating_add(self.left)
     }
 
     /// Whether each span that ended was handed, dropped or left.
-    fn is_balanced(&self) -> bool {
-        self.sum() == self.ended
+    fn is_balanced(&self) -> bool
+        ensures { IsTrue result ↔ (self.now.ended ≡ sum_of self.now) }
+    {
+        self.ended == self.sum()
     }
 
     /// The program's status: 0 where they are balanced and the collector has as many as were
     /// handed, and else 1.
     pub(crate) fn status(&self) -> u8
-        ensures { result ≤ 1 }
+        ensures least { result ≤ 1 }
+        ensures even { (result ≡ 0) ↔ IsEven self.now }
     {
         if self.is_balanced() && self.collected == self.handed {
             0
