@@ -18,11 +18,13 @@ use Rattle.batch_processor.specs.contracts.pass.Pass.TheInside as pass
 use Rattle.batch_processor.specs.contracts.shared.Shared as Shared
 use Rattle.batch_processor.specs.contracts.shared.Shared.TheInside as shared
 use Rattle.batch_processor.specs.contracts.config.Setup as Setup
-use Rattle.batch_processor.specs.contracts.worker.InHand as InHand
-use Rattle.batch_processor.specs.contracts.worker.InHand.TheInside as in_hand
-use Rattle.batch_processor.specs.contracts.worker.Stage as Stage
+use Rattle.batch_processor.specs.contracts.steps.InHand as InHand
+use Rattle.batch_processor.specs.contracts.steps.InHand.TheInside as in_hand
+use Rattle.batch_processor.specs.contracts.steps.Stage as Stage
+use Rattle.batch_processor.specs.contracts.steps.Worker as Worker
+use Rattle.batch_processor.specs.contracts.steps.Worker.TheInside as worker
 use Rattle.batch_processor.specs.contracts.worker.WorkerPass as WorkerPass
-use Rattle.batch_processor.specs.contracts.worker.WorkerPass.TheInside as worker
+use Rattle.batch_processor.specs.contracts.worker.WorkerPass.TheInside as worker_pass
 use Rattle.otlp_span.specs.contracts.data.SpanData as SpanData
 use Rattle.retry_core.specs.contracts.outcome.Outcome as Outcome
 
@@ -59,11 +61,17 @@ module _ (J : RattleType) (g : naming.Ghosts J.Denot) where
       (heap.Arc-send (Lock.the_row J Heap.the_row g ghosts) lock_send lock_sync, (account.the_send J Holding.the_row g, (as_row_send (row_field R) r, tt)))
       )
 
-  pub worker_send : (R : RattleType) → IsSend R → IsSend (WorkerPass.the_row J R Heap.the_row g ghosts)
-  worker_send R r =
-      let kept = heap.Vec-send Outcome.the_row outcome_send in
+  worker_part_send : (R : RattleType) → IsSend R → IsSend (Worker.the_row J R Heap.the_row g ghosts)
+  worker_part_send R r =
+      let outcomes = heap.Vec-send Outcome.the_row outcome_send in
       let spent = heap.Vec-send (SpanData.the_row Heap.the_row ghosts) data_send in
       view_send _ _ _ _ _ (
       declared_send (worker.the_type J R Heap.the_row g ghosts)
-      (heap.Arc-send (Lock.the_row J Heap.the_row g ghosts) lock_send lock_sync, (account.the_send J Holding.the_row g, (search (sendable, as_row_send, variants_send, in_hand_send) depth 60 fits 20000, (kept, (spent, (setup_send, (as_row_send (row_field Heap.the_row) heap.send, (as_row_send (row_field R) r, tt))))))))
+      (heap.Arc-send (Lock.the_row J Heap.the_row g ghosts) lock_send lock_sync, (account.the_send J Holding.the_row g, (outcomes, (spent, (setup_send, (as_row_send (row_field Heap.the_row) heap.send, (as_row_send (row_field R) r, tt)))))))
+      )
+
+  pub worker_send : (R : RattleType) → IsSend R → IsSend (WorkerPass.the_row J R Heap.the_row g ghosts)
+  worker_send R r = view_send _ _ _ _ _ (
+      declared_send (worker_pass.the_type J R Heap.the_row g ghosts)
+      (worker_part_send R r, (search (sendable, as_row_send, variants_send, in_hand_send) depth 60 fits 20000, tt))
       )

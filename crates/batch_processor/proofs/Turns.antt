@@ -1,14 +1,13 @@
 -- What each turn of the worker's pass does.
-use Rattle.std.proofs.Common.{◌≡◌, ℕ, ◌+◌, ◌<◌, ◌≤◌, min, Bool, true, false, List, [], ◌∷◌, ◌++◌, length, sym, refl, ap, ◌∙◌, subst, arith}
+use Rattle.std.proofs.Common.{◌≡◌, ℕ, ◌+◌, ◌≤◌, min, Bool, true, false, List, [], ◌∷◌, ◌++◌, length, sym, refl, ap, ◌∙◌, subst, arith}
 use Rattle.std.specs.Prelude.{IfSome, Option, Some, None, option_map, nat_lt, if◌then◌else◌}
 use Rattle.std.specs.List.{AllByRecursion, flat_map}
 use Rattle.std.specs.Option.{option_map_or}
-use Rattle.std.proofs.lemmas.Bool.{ltb-true}
 use Rattle.std.proofs.lemmas.List.{append-nil, append_assoc, length-append}
 use Rattle.std.proofs.lemmas.Grind.{flat_map-append}
 use Rattle.account_book.proofs.Facts.{each_append}
 use Rattle.span_model.specs.Spans.{EndedSpan}
-use Rattle.retry_model.specs.Retries.{Outcome, Fate, Next, again, fate_of, next_of}
+use Rattle.retry_model.specs.Retries.{Outcome, Fate, again, fate_of, next_of}
 use Rattle.retry_model.specs.Retries as retries
 use Rattle.retry_model.specs.Waits.{RetryConfig, next_after, retried, wait_ns, greatest_moment}
 use Rattle.retry_model.proofs.Again.{again-few}
@@ -16,9 +15,9 @@ use Rattle.span_exporter.specs.Handed.{Handed, Gains, handing}
 use Rattle.batch_desk.specs.Batch.{BatchView}
 use Rattle.batch_model.specs.Worker.{EndedBatch, OutBatch, WorkerAccount, settled}
 use Rattle.batch_model.specs.Clauses.{EachLeadsOn, IsBodyOf, IsByWork, IsOutByWork, IsSent, IsSentSoFar, LeadsTo, Origin}
-use Rattle.batch_model.specs.Holders.{Holder, after_drained, after_handed, after_settle, after_take, ended_with, handed_with, on_worker, settled_with, worker, worker_in}
-use Rattle.batch_processor.specs.Holds.{IsBatchSize}
-use Rattle.batch_processor.specs.Working.{GoesOn, Hand, HandStage, IsEncoded, IsPrepared, IsInHand, IsStage, IsWorking, Work, attempts_by, attempts_from, attempts_of, attempts_out, attempts_with, handed_at, in_hand, pending_at, to_encode, to_judge, to_retry, to_send, with_outcomes, work_of}
+use Rattle.batch_model.specs.Holders.{Holder, after_drained, after_handed, after_settle, after_take, ended_with, handed_with, on_worker, origin_in, settled_with, worker, worker_in}
+use Rattle.batch_processor.specs.Holds.{IsBatchOf, IsBatchSize, IsHandedBatchOf}
+use Rattle.batch_processor.specs.Working.{GoesOn, Hand, HandStage, HasRoom, IsExported, IsPrepared, IsReady, IsStage, IsWorking, IsWorkingWith, StepsAside, TakesStep, Work, WorkerState, attempts_by, attempts_from, attempts_of, attempts_out, attempts_with, encoded_at, hand_at, handed_at, in_hand, outcomes_out, pending_at, to_encode, to_judge, to_retry, to_send, with_outcomes, work_in, work_of}
 
 -- ---- attempts
 
@@ -110,25 +109,10 @@ module _ (origin : Origin) (w : WorkerAccount) (outcomes : List Outcome) where
     pub drained_goes : (told : Option (List Handed)) → GoesOn told told (work_of origin w outcomes None) (work_of origin (after_drained w) outcomes None)
     drained_goes told = goes_quiet told told (work_of origin w outcomes None) (work_of origin (after_drained w) outcomes None) refl refl refl refl
 
-  -- a batch is encoded, or is to be encoded later
-  module _ (batch : BatchView) (k : IsWorking origin w outcomes (Some (record { batch = batch; stage = to_encode }))) where
-    pub encoded_works : (room : ℕ → ℕ) (stage : HandStage) → IsEncoded origin.retry room batch.spans stage → IsWorking origin w outcomes (Some (record { batch = batch; stage = stage }))
-    encoded_works room to_encode e = k
-    encoded_works room (to_send body) e = record { retry = k.retry; by_work = k.by_work; again = k.again; tied = record { out = k.tied.out; room = k.tied.room; some = k.tied.some; few = k.tied.few; stage = (k.tied.stage, e.0) } }
-    encoded_works room (to_judge body o) e = absurd e
-    encoded_works room (to_retry body) e = absurd e
-
-    pub encoded_goes : (told told' : Option (List Handed)) (room : ℕ → ℕ) (stage : HandStage) → told' ≡ told → IsEncoded origin.retry room batch.spans stage → GoesOn told told' (work_of origin w outcomes (Some (record { batch = batch; stage = to_encode }))) (work_of origin w outcomes (Some (record { batch = batch; stage = stage })))
-    encoded_goes told told' room to_encode same e = goes_quiet told told' _ _ same refl refl refl
-    encoded_goes told told' room (to_send body) same e = goes_quiet told told' _ _ same refl refl refl
-    encoded_goes told told' room (to_judge body o) same e = absurd e
-    encoded_goes told told' room (to_retry body) same e = absurd e
-
-    pub encoded_room : (room : ℕ → ℕ) (stage : HandStage) → IsEncoded origin.retry room batch.spans stage → IsPrepared room (work_of origin w outcomes (Some (record { batch = batch; stage = stage })))
-    encoded_room room to_encode e = tt
-    encoded_room room (to_send body) e = let f = e.1 in omega arith
-    encoded_room room (to_judge body o) e = absurd e
-    encoded_room room (to_retry body) e = absurd e
+  -- a batch is encoded
+  module _ (batch : BatchView) (k : IsWorking origin w outcomes (hand_at batch to_encode)) where
+    encoded_works : (body : List ℕ) → IsBodyOf batch.spans body → IsWorking origin w outcomes (hand_at batch (to_send body))
+    encoded_works body means = record { retry = k.retry; by_work = k.by_work; again = k.again; tied = record { out = k.tied.out; room = k.tied.room; some = k.tied.some; few = k.tied.few; stage = (k.tied.stage, means) } }
 
   -- a body is handed to the exporter for the first time
   module _ (batch : BatchView) (body : List ℕ) (o : Outcome) (k : IsWorking origin w outcomes (Some (record { batch = batch; stage = to_send body }))) where
@@ -299,27 +283,6 @@ out_by_work origin w outcomes (Some hand) k =
     subst (λ (o : Option OutBatch). IfSome (with_outcomes (outcomes ++ pending_at hand.stage) o) (IsOutByWork origin)) (sym k.tied.out)
     (record { some = k.tied.some; few = k.tied.few; sent = out_at origin w outcomes hand k })
 
--- ---- where the parts of a pass are known by equations
-
-module _ (told told' : Option (List Handed)) (origin : Origin) (w w1 w2 : WorkerAccount) (os os1 os2 : List Outcome) (h h0 h1 h2 : Option Hand) where
-  pub goes_at : (old : Work) → work_of origin w os h ≡ old → h ≡ h0 → w2 ≡ w1 → os2 ≡ os1 → h2 ≡ h1
-      → GoesOn told told' (work_of origin w os h0) (work_of origin w1 os1 h1) → GoesOn told told' old (work_of origin w2 os2 h2)
-  goes_at old view was first second third k =
-      subst (λ (x : Work). GoesOn told told' x (work_of origin w2 os2 h2)) view
-      (subst (λ (x : Option Hand). GoesOn told told' (work_of origin w os x) (work_of origin w2 os2 h2)) (sym was)
-      (subst (λ (x : WorkerAccount). GoesOn told told' (work_of origin w os h0) (work_of origin x os2 h2)) (sym first)
-      (subst (λ (x : List Outcome). GoesOn told told' (work_of origin w os h0) (work_of origin w1 x h2)) (sym second)
-      (subst (λ (x : Option Hand). GoesOn told told' (work_of origin w os h0) (work_of origin w1 os1 x)) (sym third) k))))
-
-pub works_at : (origin : Origin) (w w0 : WorkerAccount) (os os0 : List Outcome) (h h0 : Option Hand) → w ≡ w0 → os ≡ os0 → h ≡ h0 → IsWorking origin w0 os0 h0 → IsWorking origin w os h
-works_at origin w w0 os os0 h h0 first second third k =
-    subst (λ (x : WorkerAccount). IsWorking origin x os h) (sym first)
-    (subst (λ (x : List Outcome). IsWorking origin w0 x h) (sym second)
-    (subst (λ (x : Option Hand). IsWorking origin w0 os0 x) (sym third) k))
-
-pub no_turn : (told : Option (List Handed)) (work : Work) → GoesOn told told work work
-no_turn told work = goes_quiet told told work work refl refl refl refl
-
 -- ---- what is told to the worker's account
 
 pub told_worker : (f : WorkerAccount → WorkerAccount) (origin : Origin) (a a' : Holder) → a' ≡ on_worker f a → a ≡ worker origin (worker_in a) → worker_in a' ≡ f (worker_in a)
@@ -328,14 +291,138 @@ told_worker f origin a a' told is = ap worker_in (told ∙ ap (on_worker f) is)
 pub told_account : (f : WorkerAccount → WorkerAccount) (origin : Origin) (a a' : Holder) → a' ≡ on_worker f a → a ≡ worker origin (worker_in a) → a' ≡ worker origin (worker_in a')
 told_account f origin a a' told is = told ∙ ap (on_worker f) is ∙ ap (worker origin) (sym (told_worker f origin a a' told is))
 
-pub take_goes : (told : Option (List Handed)) (origin : Origin) (w : WorkerAccount) (os : List Outcome) (batch : BatchView) → w.out ≡ None → GoesOn told told (work_of origin w os None) (work_of origin (after_take batch.number batch.spans w) os (Some (record { batch = batch; stage = to_encode })))
-take_goes told origin w os batch none = goes_quiet told told (work_of origin w os None) (work_of origin (after_take batch.number batch.spans w) os (Some (record { batch = batch; stage = to_encode }))) refl refl
-    (append-nil (before w) ∙ sym (attempts_none origin w os None none)) refl
+abbrev pub state_of : Origin → WorkerAccount → List Outcome → WorkerState
+state_of origin w os = record { origin = origin; account = w; outcomes = os }
 
-pub drained_either : (told : Option (List Handed)) (origin : Origin) (a a' : Holder) (os : List Outcome) (b : Bool) → a ≡ worker origin (worker_in a) → (b ≡ true → a' ≡ on_worker after_drained a) → (b ≡ false → a' ≡ a) → GoesOn told told (work_of origin (worker_in a) os None) (work_of origin (worker_in a') os None)
-drained_either told origin a a' os true is yes' no' =
-    subst (λ (w : WorkerAccount). GoesOn told told (work_of origin (worker_in a) os None) (work_of origin w os None)) (sym (told_worker after_drained origin a a' (yes' refl) is))
-    (goes_quiet told told (work_of origin (worker_in a) os None) (work_of origin (after_drained (worker_in a)) os None) refl refl refl refl)
-drained_either told origin a a' os false is yes' no' =
-    subst (λ (w : WorkerAccount). GoesOn told told (work_of origin (worker_in a) os None) (work_of origin w os None)) (sym (ap worker_in (no' refl)))
-    (no_turn told (work_of origin (worker_in a) os None))
+module _ (origin : Origin) (a : Holder) (os : List Outcome) (old : WorkerState) (is : a ≡ worker origin (worker_in a)) (view : state_of origin (worker_in a) os ≡ old) where
+  -- what is told changes the account alone
+  pub told_state : (a' : Holder) (f : WorkerAccount → WorkerAccount) → a' ≡ on_worker f a → state_of origin (worker_in a') os ≡ record old { account = f old.account }
+  told_state a' f told = ap (λ (w : WorkerAccount). state_of origin w os) (told_worker f origin a a' told is) ∙ ap (λ (s : WorkerState). record s { account = f s.account }) view
+
+  pub same_state : (a' : Holder) → a' ≡ a → state_of origin (worker_in a') os ≡ old
+  same_state a' same = ap (λ (h : Holder). state_of origin (worker_in h) os) same ∙ view
+
+-- ---- the room that the exporter has
+
+module _ (state : WorkerState) (batch : BatchView) (stage : HandStage) (room : ℕ → ℕ) (k : IsWorkingWith state (hand_at batch stage)) where
+  abbrev RoomWith : Option OutBatch → Type 0
+  RoomWith out = HasRoom state.origin.retry room (encoded_at stage) (outcomes_out (with_outcomes (state.outcomes ++ pending_at stage) out))
+
+  room_of : IsPrepared room (work_in state (hand_at batch stage)) → HasRoom state.origin.retry room (encoded_at stage) (state.outcomes ++ pending_at stage)
+  room_of = subst RoomWith k.tied.out
+
+  room_by : HasRoom state.origin.retry room (encoded_at stage) (state.outcomes ++ pending_at stage) → IsPrepared room (work_in state (hand_at batch stage))
+  room_by = subst RoomWith (sym k.tied.out)
+
+-- ---- steps
+
+pub no_turn : (told : Option (List Handed)) (work : Work) → GoesOn told told work work
+no_turn told work = goes_quiet told told work work refl refl refl refl
+
+pub no_step : (old new : WorkerState) (hand : Option Hand) → IsWorkingWith old hand → new ≡ old → StepsAside old hand new hand
+no_step old new hand k is = subst (λ (s : WorkerState). StepsAside old hand s hand) (sym is)
+    (λ told room prepared. record { ready = record { works = k; prepared = prepared }; goes_on = no_turn told (work_in old hand) })
+
+pub take_step : (old new : WorkerState) (batch : BatchView) → IsWorkingWith old None → batch.room ≡ old.origin.desk.batch → IsBatchSize old.origin batch.spans
+    → new ≡ record old { account = after_take batch.number batch.spans old.account } → StepsAside old None new (hand_at batch to_encode)
+take_step old new batch k room size is = subst (λ (s : WorkerState). StepsAside old None s (hand_at batch to_encode)) (sym is)
+    (λ told place prepared. record {
+      ready = record { works = taken_works old.origin old.account old.outcomes k batch room size; prepared = tt };
+      goes_on = taken_goes old.origin old.account old.outcomes k batch room size told;
+    })
+
+pub drained_step : (old mid new : WorkerState) (b : Bool) → StepsAside old None mid None → (b ≡ true → new ≡ record mid { account = after_drained mid.account }) → (b ≡ false → new ≡ mid) → StepsAside old None new None
+drained_step old mid new false s yes' no' = subst (λ (x : WorkerState). StepsAside old None x None) (sym (no' refl)) s
+drained_step old mid new true s yes' no' = subst (λ (x : WorkerState). StepsAside old None x None) (sym (yes' refl))
+    (λ told room prepared.
+    let t = s told room prepared in let k = t.ready.works in record {
+      ready = record { works = drained_works mid.origin mid.account mid.outcomes k; prepared = tt };
+      goes_on = goes_on told told told (work_in old None) (work_in mid None) (work_in (record mid { account = after_drained mid.account }) None) t.goes_on (drained_goes mid.origin mid.account mid.outcomes k told);
+    })
+
+pub take_told : (origin : Origin) (a a' : Holder) (os : List Outcome) (old : WorkerState) (batch : BatchView) → IsWorkingWith old None → a ≡ worker origin (worker_in a) → state_of origin (worker_in a) os ≡ old
+    → a' ≡ on_worker (after_take batch.number batch.spans) a → IsBatchOf a' batch → IsBatchSize (origin_in a) batch.spans → StepsAside old None (state_of origin (worker_in a') os) (hand_at batch to_encode)
+take_told origin a a' os old batch k is view told of size =
+    let f = after_take batch.number batch.spans in
+    let at : origin_in a ≡ old.origin = ap origin_in is ∙ ap (λ (s : WorkerState). s.origin) view in
+    let at' : origin_in a' ≡ old.origin = ap origin_in (told_account f origin a a' told is) ∙ ap (λ (s : WorkerState). s.origin) view in
+    take_step old (state_of origin (worker_in a') os) batch k (of.room ∙ ap (λ (o : Origin). o.desk.batch) at') (subst (λ (o : Origin). IsBatchSize o batch.spans) at size) (told_state origin a os old is view a' f told)
+
+module _ (told told' : Option (List Handed)) (room room' : ℕ → ℕ) (state : WorkerState) (batch : BatchView) where
+  module _ (r : IsReady room state (hand_at batch to_encode)) (same : told' ≡ told) where
+    pub encode_step : (body : List ℕ) → IsBodyOf batch.spans body → state.origin.retry.attempts ≤ room' (length body) → TakesStep told told' room' state (hand_at batch to_encode) state (hand_at batch (to_send body))
+    encode_step body means place =
+        let k = encoded_works state.origin state.account state.outcomes batch r.works body means in record {
+          ready = record { works = k; prepared = room_by state batch (to_send body) room' k (omega arith) };
+          goes_on = goes_quiet told told' (work_in state (hand_at batch to_encode)) (work_in state (hand_at batch (to_send body))) same refl refl refl;
+        }
+
+    pub encode_later : TakesStep told told' room' state (hand_at batch to_encode) state (hand_at batch to_encode)
+    encode_later = record {
+      ready = record { works = r.works; prepared = tt };
+      goes_on = goes_quiet told told' (work_in state (hand_at batch to_encode)) (work_in state (hand_at batch to_encode)) same refl refl refl;
+    }
+
+  module _ (body : List ℕ) (hand : Hand) (less : (len : ℕ) → room len ≤ room' len + 1) where
+    pub send_step : (new : WorkerState) → IsReady room state (hand_at batch (to_send body)) → IsExported told told' batch body 1 hand → new ≡ record state { account = after_handed body state.account } → TakesStep told told' room' state (hand_at batch (to_send body)) new (Some hand)
+    send_step new r sent is =
+        let mid : WorkerState = record state { account = after_handed body state.account } in
+        let k = sent_works state.origin state.account state.outcomes batch body sent.outcome r.works in
+        let p = room_of state batch (to_send body) room r.works r.prepared in let l = length-append state.outcomes [] in
+        let m = length-append state.outcomes (sent.outcome ∷ []) in let f = less (length body) in
+        subst (λ (s : WorkerState). TakesStep told told' room' state (hand_at batch (to_send body)) s (Some hand)) (sym is)
+        (subst (λ (h : Hand). TakesStep told told' room' state (hand_at batch (to_send body)) mid (Some h)) (sym sent.hand_is)
+        (record {
+          ready = record { works = k; prepared = room_by mid batch (to_judge body sent.outcome) room' k (omega arith) };
+          goes_on = sent_goes state.origin state.account state.outcomes batch body sent.outcome r.works told told' sent.gains;
+        }))
+
+    pub resend_step : (attempt : ℕ) → IsReady room state (hand_at batch (to_retry body)) → IsExported told told' batch body attempt hand → attempt ≡ 1 + length state.outcomes → TakesStep told told' room' state (hand_at batch (to_retry body)) state (Some hand)
+    resend_step attempt r sent count =
+        let k = resent_works state.origin state.account state.outcomes batch body sent.outcome r.works in
+        let p = room_of state batch (to_retry body) room r.works r.prepared in let l = length-append state.outcomes [] in
+        let m = length-append state.outcomes (sent.outcome ∷ []) in let f = less (length body) in
+        subst (λ (h : Hand). TakesStep told told' room' state (hand_at batch (to_retry body)) state (Some h)) (sym sent.hand_is)
+        (record {
+          ready = record { works = k; prepared = room_by state batch (to_judge body sent.outcome) room' k (omega arith) };
+          goes_on = resent_goes state.origin state.account state.outcomes batch body sent.outcome r.works told told' (subst (λ (n : ℕ). Gains (handing batch.number n body sent.outcome) told told') count sent.gains);
+        })
+
+module _ (state : WorkerState) (batch : BatchView) (body : List ℕ) (o : Outcome) (now word : ℕ) (k : IsWorkingWith state (hand_at batch (to_judge body o))) where
+  pub again_step : (new : WorkerState) (moment : ℕ) → next_after state.origin.retry (1 + length state.outcomes) o now word ≡ again moment → new ≡ record state { outcomes = state.outcomes ++ o ∷ [] } → StepsAside state (hand_at batch (to_judge body o)) new (hand_at batch (to_retry body))
+  again_step new moment next is =
+      let mid : WorkerState = record state { outcomes = state.outcomes ++ o ∷ [] } in
+      let k' = again_works state.origin state.account state.outcomes batch body o k now word moment next in
+      subst (λ (s : WorkerState). StepsAside state (hand_at batch (to_judge body o)) s (hand_at batch (to_retry body))) (sym is)
+      (λ told place prepared.
+      let p = room_of state batch (to_judge body o) place k prepared in let l = length-append (state.outcomes ++ o ∷ []) [] in record {
+        ready = record { works = k'; prepared = room_by mid batch (to_retry body) place k' (omega arith) };
+        goes_on = again_goes state.origin state.account state.outcomes batch body o k now word told;
+      })
+
+  pub settle_step : (new : WorkerState) (fate : Fate) → fate_of (next_after state.origin.retry (1 + length state.outcomes) o now word) ≡ Some fate
+      → new ≡ record state { account = after_settle (state.outcomes ++ o ∷ []) fate state.account; outcomes = [] } → StepsAside state (hand_at batch (to_judge body o)) new None
+  settle_step new fate ends is = subst (λ (s : WorkerState). StepsAside state (hand_at batch (to_judge body o)) s None) (sym is)
+      (λ told place prepared. record {
+        ready = record { works = settled_works state.origin state.account state.outcomes batch body o k now word fate ends; prepared = tt };
+        goes_on = settled_goes state.origin state.account state.outcomes batch body o k now word fate ends told;
+      })
+
+-- the batch in hand is the one that is out
+pub handed_out : (state : WorkerState) (batch : BatchView) (stage : HandStage) (body : List ℕ) → IsWorkingWith state (hand_at batch stage) → handed_at stage ≡ Some body → IsHandedBatchOf (worker state.origin state.account) batch
+handed_out state batch stage body k handed = record {
+  spans = batch.spans;
+  body = body;
+  out = k.tied.out ∙ ap (λ (b : Option (List ℕ)). Some (record { number = batch.number; spans = batch.spans; body = b; outcomes = [] })) handed;
+  room = k.tied.room;
+}
+
+-- a turn is a step
+pub turn_goes : (told told' : Option (List Handed)) (room : ℕ → ℕ) (old new : WorkerState) (h h0 h1 h2 : Option Hand) (work : Work) → work_in old h ≡ work → h ≡ h0 → h2 ≡ h1 → TakesStep told told' room old h0 new h1 → GoesOn told told' work (work_in new h2)
+turn_goes told told' room old new h h0 h1 h2 work view was is step =
+    subst (λ (x : Work). GoesOn told told' x (work_in new h2)) view
+    (subst (λ (x : Option Hand). GoesOn told told' (work_in old x) (work_in new h2)) (sym was)
+    (subst (λ (x : Option Hand). GoesOn told told' (work_in old h0) (work_in new x)) (sym is) step.goes_on))
+
+pub turn_ready : (told told' : Option (List Handed)) (room : ℕ → ℕ) (old new : WorkerState) (h0 h1 h2 : Option Hand) → h2 ≡ h1 → TakesStep told told' room old h0 new h1 → IsReady room new h2
+turn_ready told told' room old new h0 h1 h2 is step = subst (IsReady room new) (sym is) step.ready

@@ -10,8 +10,8 @@ use Rattle.span_exporter.specs.Handed.{Handed, Gains, handing}
 use Rattle.batch_desk.specs.Batch.{BatchView}
 use Rattle.batch_model.specs.Worker.{BatchEnd, settled, dropped, EndedBatch, OutBatch, WorkerAccount}
 use Rattle.batch_model.specs.Clauses.{EachLeadsOn, IsBodyOf, IsByWork, Origin}
-use Rattle.batch_processor.specs.declared.worker.Stage.{Stage}
-use Rattle.batch_processor.specs.declared.worker.Stage.TheVariants as stages
+use Rattle.batch_processor.specs.declared.steps.Stage.{Stage}
+use Rattle.batch_processor.specs.declared.steps.Stage.TheVariants as stages
 
 -- ---- attempts
 
@@ -165,14 +165,40 @@ pub record GoesOn (told told' : Option (List Handed)) (old new : Work) : Type 0 
   pub ended : new.account.ended ≡ old.account.ended ++ batches
   pub by_work : AllByRecursion (IsByWork old.origin) batches
 
--- ---- what a turn does
+-- ---- what a step does
 
--- The batch is to be sent, with a body that means its spans, or it is to be encoded later.
-abbrev pub IsEncoded : RetryConfig → (ℕ → ℕ) → List EndedSpan → HandStage → Type 0
-IsEncoded retry room spans (to_send body) =
-    IsBodyOf spans body × (retry.attempts ≤ room (length body))
-IsEncoded retry room spans to_encode = Unit {0}
-IsEncoded retry room spans _ = ⊥
+-- All that a worker's pass has but the batch in hand: what the processor began with, what the
+-- worker knows, and what the attempts of the batch that is out came to that were judged.
+pub record WorkerState : Type 0 where
+  pub origin : Origin
+  pub account : WorkerAccount
+  pub outcomes : List Outcome
+
+abbrev pub work_in : WorkerState → Option Hand → Work
+work_in state hand = work_of state.origin state.account state.outcomes hand
+
+abbrev pub IsWorkingWith : WorkerState → Option Hand → Type 0
+IsWorkingWith state hand = IsWorking state.origin state.account state.outcomes hand
+
+abbrev pub hand_at : BatchView → HandStage → Option Hand
+hand_at batch stage = Some (record { batch = batch; stage = stage })
+
+-- A step may be taken: it is as between two turns, and the exporter has room.
+pub record IsReady (room : ℕ → ℕ) (state : WorkerState) (hand : Option Hand) : Type 0 where
+  pub works : IsWorkingWith state hand
+  pub prepared : IsPrepared room (work_in state hand)
+
+-- A step went from the first hand to the second one: another one may be taken, and work went on.
+pub record TakesStep (told told' : Option (List Handed)) (room : ℕ → ℕ)
+    (old : WorkerState) (hand : Option Hand) (new : WorkerState) (hand' : Option Hand)
+    : Type 0 where
+  pub ready : IsReady room new hand'
+  pub goes_on : GoesOn told told' (work_in old hand) (work_in new hand')
+
+-- The same of a step that leaves the exporter alone, whatever room it has and whatever it tells.
+abbrev pub StepsAside : WorkerState → Option Hand → WorkerState → Option Hand → Type 0
+StepsAside old hand new hand' = (told : Option (List Handed)) (room : ℕ → ℕ)
+    → IsPrepared room (work_in old hand) → TakesStep told told room old hand new hand'
 
 -- The body was handed to the exporter, in this attempt, and what came of it is to be judged.
 pub record IsExported (told told' : Option (List Handed)) (batch : BatchView) (body : List ℕ)

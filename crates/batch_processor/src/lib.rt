@@ -12,6 +12,7 @@ mod lock;
 mod pass;
 mod processor;
 mod shared;
+mod steps;
 mod worker;
 
 pub use account_book::Naming;

@@ -28,6 +28,15 @@ pub(crate) struct Lock<J: Naming, A: Allocator> {
 }
 
 impl<J: Naming, A: Allocator + Copy> Lock<J, A> {
+    /// The lock of what lies under it. Nobody waits yet.
+    pub(crate) fn new(shared: Shared<J, A>) -> Lock<J, A> {
+        Lock {
+            shared: Mutex::new(shared),
+            to_do: Condvar::new(),
+            done: Condvar::new(),
+        }
+    }
+
     /// A span ends on a pass. The worker is called where a batch fills. Where the span waits, one
     /// that was sent is freed in its place, if one is left.
     pub(crate) fn admit<R: Wait>(

@@ -21,7 +21,7 @@ use batch_desk::Desk;
 use std::alloc::{AllocError, Allocator, Global};
 use std::fmt;
 use std::marker::Model;
-use std::sync::{Arc, Condvar, Mutex, Wait};
+use std::sync::{Arc, Wait};
 
 /// A batch processor (Trace SDK, "Batching processor"). In contracts it is what it began with.
 #[derive(Drop)]
@@ -197,8 +197,6 @@ impl<J: Naming, R: Wait + Copy, A: Allocator + Copy> BatchProcessor<J, R, A> {
         }
         let sizes = config.desk;
         let desk = Desk::new(alloc, sizes, now)?;
-        let outcomes = Vec::with_capacity(alloc, 5)?;
-        let left = Vec::with_capacity(alloc, sizes.batch)?;
         let spent = Vec::with_capacity(alloc, sizes.batch)?;
         let setup = Setup { passes, config };
         let mut book = blank.named::<J>();
@@ -209,28 +207,13 @@ impl<J: Naming, R: Wait + Copy, A: Allocator + Copy> BatchProcessor<J, R, A> {
         let accounts = book.open_all::<Holding, A>(alloc, passes)?;
         let shared = Shared {
             desk: Some(desk),
-            spent: left,
+            spent,
             book,
             setup,
         };
-        let lock = Lock {
-            shared: Mutex::new(shared),
-            to_do: Condvar::new(),
-            done: Condvar::new(),
-        };
-        let lock = Arc::new(alloc, lock)?;
-        let all = give_passes(alloc, rt, &lock, accounts)?;
-        let theirs = Arc::try_clone(&lock)?;
-        let worker = WorkerPass {
-            lock: theirs,
-            account: his,
-            in_hand: None,
-            outcomes,
-            spent,
-            setup,
-            alloc,
-            rt,
-        };
+        let lock = Arc::new(alloc, Lock::new(shared))?;
+        let passes = give_passes(alloc, rt, &lock, accounts)?;
+        let worker = WorkerPass::new(alloc, rt, &lock, his, &setup)?;
         let processor = BatchProcessor {
             lock,
             account,
@@ -239,7 +222,7 @@ impl<J: Naming, R: Wait + Copy, A: Allocator + Copy> BatchProcessor<J, R, A> {
         };
         Ok(Parts {
             processor,
-            passes: all,
+            passes,
             worker,
         })
     }

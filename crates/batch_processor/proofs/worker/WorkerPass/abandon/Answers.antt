@@ -5,5 +5,5 @@ use Rattle.batch_processor.specs.Working.{Work}
 use Rattle.batch_processor.proofs.Turns.{out_by_work}
 use Rattle.batch_processor.proofs.worker.WorkerPass.abandon.Goals as goal
 
-pub returns-clause-out : goal.returns-clause-out
-returns-clause-out g c = subst (λ (w : Work). IfSome w.account.out (IsOutByWork w.origin)) c.self.view_is (out_by_work _ _ _ _ c.self.invariant.2)
+pub returns-in-Some-clause-out : goal.returns-in-Some-clause-out
+returns-in-Some-clause-out g c = subst (λ (w : Work). IfSome w.account.out (IsOutByWork w.origin)) c.self.view_is (out_by_work _ _ _ _ c.self.invariant)

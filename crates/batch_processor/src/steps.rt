@@ -1,0 +1,325 @@
+//! The steps of a worker's work: a batch is taken, encoded once, handed to an exporter, judged by
+//! what came of it, sent again or settled.
+ghost use Rattle.std.specs.Prelude.{◌≡◌, ◌<◌, ◌≤◌, ◌+◌, ℕ, [], IfOk, IsTrue, Some, None, length, false};
+ghost use Rattle.retry_core.specs.Retries.{fate_view, outcome_view};
+ghost use Rattle.batch_model.specs.Clauses.{IsBodyOf, abandon};
+ghost use Rattle.otlp_span.specs.Dropped.{reason_view};
+ghost use Rattle.batch_model.specs.Holders.{after_drained, after_drop, after_settle, worker};
+ghost use Rattle.batch_processor.specs.Holds.{IsBatchOf, IsHandedBatchOf};
+ghost use Rattle.batch_processor.specs.Working.{IsExported, IsReady, IsWorkingWith, StepsAside, TakesStep, hand_at, to_encode, to_judge, to_retry, to_send, work_in};
+
+use crate::clock::Clock;
+use crate::config::Setup;
+use crate::encoder::body_of;
+use crate::holding::Holding;
+use crate::lock::{Lock, PAUSE_MS};
+use account_book::{Account, Naming};
+use batch_desk::Batch;
+use otlp_ids::OutOfMemory;
+use otlp_span::{Reason, SpanData};
+use rand_core::Rng;
+use retry_core::{Fate, Next, Outcome, decide};
+use span_exporter::Exporter;
+use std::alloc::Allocator;
+use std::marker::Model;
+use std::sync::{Arc, Wait};
+use std::time::Duration;
+use std::{thread, time};
+
+/// How far the batch in hand is.
+#[derive(Drop)]
+pub(crate) enum Stage<A: Allocator> {
+    /// It is to be encoded.
+    ToEncode,
+    /// This body of it is to be sent.
+    ToSend { body: Vec<u8, A> },
+    /// It was sent, and this came of it.
+    ToJudge { body: Vec<u8, A>, outcome: Outcome },
+    /// It is to be sent again from this moment on.
+    ToRetry { body: Vec<u8, A>, from: u64 },
+}
+
+/// The batch in hand.
+pub(crate) struct InHand<A: Allocator> {
+    pub(crate) batch: Batch<A>,
+    pub(crate) stage: Stage<A>,
+}
+
+impl<A: Allocator> Model for InHand<A> {
+    ghost use Rattle.batch_processor.specs.Working.{Hand, stage_view};
+
+    ghost Value = { Hand };
+
+    ghost view = { λ h. record { batch = h.batch; stage = stage_view h.stage } };
+}
+
+/// All that a worker's pass has but the batch in hand.
+pub(crate) struct Worker<J: Naming, R, A: Allocator> {
+    pub(crate) lock: Arc<Lock<J, A>, A>,
+    pub(crate) account: Account<J, Holding>,
+    // What the attempts of the batch in hand came to that were judged.
+    pub(crate) outcomes: Vec<Outcome, A>,
+    // Where the spans of a batch go that is settled.
+    pub(crate) spent: Vec<SpanData<A>, A>,
+    pub(crate) setup: Setup,
+    pub(crate) alloc: A,
+    pub(crate) rt: R,
+}
+
+impl<J: Naming, R, A: Allocator> Model for Worker<J, R, A> {
+    ghost use Rattle.std.specs.Prelude.{◌≡◌, ◌≤◌, vec_capacity};
+    ghost use Rattle.batch_model.specs.Holders.{worker, worker_in};
+    ghost use Rattle.batch_processor.specs.Views.{outcomes_view, setup_view};
+    ghost use Rattle.batch_processor.specs.Working.{WorkerState};
+
+    ghost Value = { WorkerState };
+
+    ghost view = { λ w. record {
+      origin = setup_view w.setup;
+      account = worker_in w.account;
+      outcomes = outcomes_view w.outcomes.items;
+    } };
+
+    ghost invariant = { λ w. (w.account ≡ worker (setup_view w.setup) (worker_in w.account))
+        × (5 ≤ vec_capacity w.outcomes) };
+}
+
+impl<J: Naming, R: Wait + time::Clock + Drop, A: Allocator + Copy> Worker<J, R, A> {
+    /// Takes the next batch, if it is due.
+    pub(crate) fn take(&mut self, now: u64) -> Option<InHand<A>>
+        requires { IsWorkingWith self.old None }
+        ensures { StepsAside self.old None self.new result }
+    {
+        let Some(batch) = self.lock.take(&self.rt, &mut self.account, now) else {
+            return None;
+        };
+        let stage = Stage::ToEncode;
+        Some(InHand { batch, stage })
+    }
+
+    /// Whether all is drained; if not, a short time has passed, or a batch is due.
+    pub(crate) fn drained(&mut self, now: u64) -> bool
+        ensures yes { IsTrue result
+            → self.new ≡ record self.old { account = after_drained self.old.account } }
+        ensures no { result ≡ false → self.new ≡ self.old }
+    {
+        self.lock.drained(&self.rt, &mut self.account, now)
+    }
+
+    /// Goes on with the batch in hand by a step. None is left in hand once it is settled.
+    pub(crate) fn step<E: Exporter, C: Clock, G: Rng>(
+        &mut self,
+        hand: InHand<A>,
+        exporter: &mut E,
+        clock: &C,
+        rng: &mut G,
+    ) -> Option<InHand<A>>
+        requires { IsReady (E.room exporter.old) self.old (Some hand) }
+        ensures { TakesStep (E.handed exporter.old) (E.handed exporter.new) (E.room exporter.new)
+            self.old (Some hand) self.new result }
+    {
+        let InHand { batch, stage } = hand;
+        match stage {
+            Stage::ToEncode => Some(self.encode(batch, exporter)),
+            Stage::ToSend { body } => Some(self.send(batch, body, exporter)),
+            Stage::ToJudge { body, outcome } => self.judge(batch, body, outcome, clock, rng),
+            Stage::ToRetry { body, from } => {
+                Some(self.send_again(batch, body, from, exporter, clock))
+            }
+        }
+    }
+
+    /// Encodes a batch, and makes room for its attempts. Where memory is refused, it waits a
+    /// little, and the batch is to be encoded later.
+    fn encode<E: Exporter>(&self, batch: Batch<A>, exporter: &mut E) -> InHand<A>
+        requires { IsReady (E.room exporter.old) self.now (hand_at batch to_encode) }
+        ensures { TakesStep (E.handed exporter.old) (E.handed exporter.new) (E.room exporter.new)
+            self.now (hand_at batch to_encode) self.now (Some result) }
+    {
+        match prepare_body(self.alloc, &self.setup, &batch, exporter) {
+            Ok(body) => {
+                let stage = Stage::ToSend { body };
+                InHand { batch, stage }
+            }
+            Err(OutOfMemory) => {
+                thread::sleep(&self.rt, Duration::from_millis(PAUSE_MS));
+                let stage = Stage::ToEncode;
+                InHand { batch, stage }
+            }
+        }
+    }
+
+    /// Hands a body to the exporter for the first time.
+    fn send<E: Exporter>(
+        &mut self,
+        batch: Batch<A>,
+        body: Vec<u8, A>,
+        exporter: &mut E,
+    ) -> InHand<A>
+        requires { IsReady (E.room exporter.old) self.old (hand_at batch (to_send body.items)) }
+        ensures { TakesStep (E.handed exporter.old) (E.handed exporter.new) (E.room exporter.new)
+            self.old (hand_at batch (to_send body.items)) self.new (Some result) }
+    {
+        self.lock
+            .shared
+            .lock(&self.rt)
+            .handed(&mut self.account, &batch, &body);
+        export(batch, body, 1, exporter)
+    }
+
+    /// Hands a body to the exporter once more, if it is time. If not, it waits a little.
+    fn send_again<E: Exporter, C: Clock>(
+        &self,
+        batch: Batch<A>,
+        body: Vec<u8, A>,
+        from: u64,
+        exporter: &mut E,
+        clock: &C,
+    ) -> InHand<A>
+        requires { IsReady (E.room exporter.old) self.now (hand_at batch (to_retry body.items)) }
+        ensures { TakesStep (E.handed exporter.old) (E.handed exporter.new) (E.room exporter.new)
+            self.now (hand_at batch (to_retry body.items)) self.now (Some result) }
+    {
+        if clock.now() < from {
+            thread::sleep(&self.rt, Duration::from_millis(PAUSE_MS));
+            let stage = Stage::ToRetry { body, from };
+            return InHand { batch, stage };
+        }
+        let attempt = self.outcomes.len() as u32 + 1;
+        export(batch, body, attempt, exporter)
+    }
+
+    /// Judges what an attempt came to: the batch is to be sent again, or it is settled.
+    fn judge<C: Clock, G: Rng>(
+        &mut self,
+        batch: Batch<A>,
+        body: Vec<u8, A>,
+        outcome: Outcome,
+        clock: &C,
+        rng: &mut G,
+    ) -> Option<InHand<A>>
+        requires { IsWorkingWith self.old
+            (hand_at batch (to_judge body.items (outcome_view outcome))) }
+        ensures { StepsAside self.old
+            (hand_at batch (to_judge body.items (outcome_view outcome))) self.new result }
+    {
+        let attempt = self.outcomes.len() as u32 + 1;
+        self.outcomes.push_reserved(outcome);
+        let retry = &self.setup.config.retry;
+        let next = decide(retry, attempt, &outcome, clock.now(), rng.next_u64());
+        if let Next::Again(from) = next {
+            let stage = Stage::ToRetry { body, from };
+            return Some(InHand { batch, stage });
+        }
+        let fate = next.fate().unwrap();
+        self.settle(batch, fate);
+        None
+    }
+}
+
+impl<J: Naming, R: Wait + Drop, A: Allocator + Copy> Worker<J, R, A> {
+    /// Settles a batch that was handed, behind the outcomes that were judged.
+    fn settle(&mut self, batch: Batch<A>, fate: Fate)
+        requires { IsHandedBatchOf (worker self.old.origin self.old.account) batch }
+        ensures { self.new ≡ record self.old {
+          account = after_settle self.old.outcomes (fate_view fate) self.old.account;
+          outcomes = [];
+        } }
+    {
+        self.lock.settle(
+            &self.rt,
+            &mut self.account,
+            batch,
+            &self.outcomes,
+            fate,
+            &mut self.spent,
+        );
+        self.outcomes.clear();
+    }
+
+    /// Drops a batch that was not handed, as abandoned.
+    fn drop_batch(&mut self, batch: Batch<A>)
+        requires { IsBatchOf (worker self.old.origin self.old.account) batch }
+        ensures { self.new ≡ record self.old {
+          account = after_drop (reason_view Reason.Abandoned) self.old.account;
+        } }
+    {
+        self.lock
+            .drop_batch(&self.rt, &mut self.account, batch, Reason::Abandoned);
+    }
+
+    /// Ends the batch in hand: it is dropped where it was not handed, and else settled.
+    pub(crate) fn abandon(mut self, hand: InHand<A>) -> Account<J, Holding>
+        requires { IsWorkingWith self (Some hand) }
+        ensures { result ≡ worker self.origin (abandon (work_in self (Some hand)).account) }
+    {
+        let InHand { batch, stage } = hand;
+        match stage {
+            Stage::ToEncode | Stage::ToSend { .. } => {
+                self.drop_batch(batch);
+                self.into_account()
+            }
+            Stage::ToJudge { outcome, .. } => {
+                self.outcomes.push_reserved(outcome);
+                self.settle(batch, Fate::Abandoned);
+                self.into_account()
+            }
+            Stage::ToRetry { .. } => {
+                self.settle(batch, Fate::Abandoned);
+                self.into_account()
+            }
+        }
+    }
+}
+
+impl<J: Naming, R: Drop, A: Allocator + Copy> Worker<J, R, A> {
+    /// What the worker knows, where no batch is in hand.
+    pub(crate) fn into_account(self) -> Account<J, Holding>
+        ensures { result ≡ worker self.origin self.account }
+    {
+        let Worker {
+            lock: _,
+            account,
+            outcomes: _,
+            spent: _,
+            setup: _,
+            alloc: _,
+            rt: _,
+        } = self;
+        account
+    }
+}
+
+/// The body of a batch, for whose attempts the exporter has room.
+fn prepare_body<E: Exporter, A: Allocator + Copy>(
+    alloc: A,
+    setup: &Setup,
+    batch: &Batch<A>,
+    exporter: &mut E,
+) -> Result<Vec<u8, A>, OutOfMemory>
+    ensures means { IfOk result (λ body. IsBodyOf batch.now.spans body.items) }
+    ensures room { IfOk result (λ body.
+        setup.now.config.retry.attempts ≤ E.room exporter.new (length body.items)) }
+    ensures nothing_is_sent { E.handed exporter.new ≡ E.handed exporter.old }
+{
+    let body = body_of(alloc, batch.spans())?;
+    exporter.prepare(body.len(), setup.config.retry.attempts())?;
+    Ok(body)
+}
+
+/// Hands a body to the exporter, in this attempt.
+fn export<E: Exporter, A: Allocator>(
+    batch: Batch<A>,
+    body: Vec<u8, A>,
+    attempt: u32,
+    exporter: &mut E,
+) -> InHand<A>
+    requires { 0 < E.room exporter.old (length body.items) }
+    ensures sent { IsExported (E.handed exporter.old) (E.handed exporter.new)
+        batch body.items attempt result }
+    ensures room { (len : ℕ) → E.room exporter.old len ≤ E.room exporter.new len + 1 }
+{
+    let outcome = exporter.export(batch.number(), attempt, body.as_slice());
+    let stage = Stage::ToJudge { body, outcome };
+    InHand { batch, stage }
+}
