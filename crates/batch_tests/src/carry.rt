@@ -3,11 +3,8 @@ ghost use Rattle.std.specs.Prelude.{◌≡◌};
 ghost use Rattle.batch_processor.specs.Working.{IsPrepared};
 
 use crate::equal::assert_equal;
-use crate::fixture::{END, close, config, sampled};
-use batch_processor::{
-    Accounts, BatchBlank, BatchProcessor, Flushed, ManualClock, Naming, Parts, Pass, WorkEnd,
-    WorkerPass,
-};
+use crate::fixture::{Left, close, config, end, make};
+use batch_processor::{BatchBlank, Flushed, ManualClock, Naming, Parts, Pass, WorkEnd, WorkerPass};
 use otlp_span::Reason;
 use span_exporter::Exporter;
 use std::alloc::Global;
@@ -77,7 +74,7 @@ fn end_spans<J: Naming, R: Wait + Abort + Copy>(
     may_be_late: bool,
 ) {
     for _ in 0..spans {
-        match sampled(&rt, alloc).end(pass, END) {
+        match end(&rt, alloc, pass) {
             Ended::Queued(_) | Ended::Dropped(_, Reason::QueueFull) => {}
             other => assert!(rt; may_be_late && other == Ended::Late, "{other:?}"),
         }
@@ -115,15 +112,11 @@ fn do_first<J: Naming, R: Wait + Abort + Clock + Copy>(
 ) {
     let spans = if matches!(task, Task::EndThree) { 3 } else { 1 };
     for ticket in 0..spans {
-        assert_equal(
-            &rt,
-            sampled(&rt, alloc).end(pass, END),
-            Ended::Queued(ticket),
-        );
+        assert_equal(&rt, end(&rt, alloc, pass), Ended::Queued(ticket));
     }
     if matches!(task, Task::EndWhileSending) {
         assert!(rt; is_reached(&rt, stage, SENDING, LOOKS), "nothing is sent");
-        assert_equal(&rt, sampled(&rt, alloc).end(pass, END), Ended::Queued(1));
+        assert_equal(&rt, end(&rt, alloc, pass), Ended::Queued(1));
     }
     if matches!(task, Task::Flush) {
         assert_equal(&rt, pass.force_flush(), Flushed);
@@ -158,7 +151,7 @@ where
     let last = passes.last_mut().expect(&rt, "a pass");
     assert_equal(&rt, last.shutdown(), Flushed);
     let first = passes.first_mut().expect(&rt, "a pass");
-    assert_equal(&rt, sampled(&rt, alloc).end(first, END), Ended::Late);
+    assert_equal(&rt, end(&rt, alloc, first), Ended::Late);
     passes
 }
 
@@ -183,7 +176,7 @@ pub(crate) fn carry<J, R, E>(
     plan: Plan,
     stage: &AtomicU64,
     exporter: &mut E,
-) -> Accounts
+) -> Left
 where
     J: Naming + Send + Sync + 'static,
     R: Threads + Wait + Abort + Clock + Copy + Send + Sync + 'static,
@@ -197,16 +190,15 @@ where
         turns,
     } = plan;
     let config = config(batch.saturating_mul(4), batch);
-    let made = BatchProcessor::<J, R>::new(alloc, rt, blank, config, passes, 0);
     let Parts {
         processor,
         passes,
         mut worker,
-    } = made.expect(&rt, "a processor");
+    } = make::<J, R, Global>(rt, alloc, blank, config, passes, 0);
     let (passes, ()) = thread::join(
         &rt,
         move || do_task(rt, alloc, passes, task, stage),
         || drain(rt, alloc, &mut worker, exporter, turns),
     );
-    close(rt, processor, passes, worker)
+    close(rt, alloc, processor, passes, worker)
 }

@@ -2,10 +2,11 @@
 ghost use Rattle.std.specs.Prelude.{◌≡◌};
 
 use crate::equal::{assert_equal, assert_equal_at};
-use crate::fixture::{END, close, config, entry, root, sampled};
+use crate::fixture::{END, close, config, end, entry, make, queue, root, sampled};
 use batch_desk::Totals;
 use batch_processor::{
     BatchBlank, BatchConfig, BatchProcessor, Flushed, MAX_PASSES, Missing, Naming, NewFault, Parts,
+    Pass,
 };
 use drop_ledger::DropCounts;
 use otlp_sampler::AlwaysOff;
@@ -21,26 +22,20 @@ use trace_api::Ended;
 fn pop_full<J: Naming, R: Wait + Abort + Copy>(rt: R, alloc: Global, blank: BatchBlank)
     requires { blank ≡ J.name }
 {
-    let made = BatchProcessor::<J, R>::new(alloc, rt, blank, config(1, 1), 2, 0);
     let Parts {
         processor,
         mut passes,
         worker,
-    } = made.expect(&rt, "a processor");
+    } = make::<J, R, Global>(rt, alloc, blank, config(1, 1), 2, 0);
     let mut other = passes.pop().expect(&rt, "a pass");
-    let mut pass = passes.pop().expect(&rt, "another pass");
-    assert_equal(
-        &rt,
-        sampled(&rt, alloc).end(&mut pass, END),
-        Ended::Queued(0),
-    );
+    queue(&rt, alloc, passes.as_mut_slice(), 0, 1);
+    let pass = passes.first_mut().expect(&rt, "another pass");
     let full = Ended::Dropped(1, Reason::QueueFull);
-    assert_equal(&rt, sampled(&rt, alloc).end(&mut pass, END), full);
+    assert_equal(&rt, end(&rt, alloc, pass), full);
     assert_equal(&rt, other.pop_entry(), Some(entry(1, Reason::QueueFull)));
     assert_equal(&rt, other.pop_entry(), None);
-    passes.push(pass).expect(&rt, "memory");
     passes.push(other).expect(&rt, "memory");
-    let desk = close(rt, processor, passes, worker).desk;
+    let left = close(rt, alloc, processor, passes, worker);
     let want = Totals {
         accepted: 1,
         left: 1,
@@ -50,8 +45,8 @@ fn pop_full<J: Naming, R: Wait + Abort + Copy>(rt: R, alloc: Global, blank: Batc
         },
         ..Totals::default()
     };
-    assert_equal(&rt, desk.totals(), want);
-    assert!(rt; desk.ledger().is_empty());
+    assert_equal(&rt, left.totals, want);
+    assert_equal(&rt, left.names.len(), 0);
 }
 
 #[test]
@@ -59,42 +54,44 @@ fn pops(rt: HostRuntime) {
     pop_full::<Brand, HostRuntime>(rt, rt.alloc(), BatchBlank::new());
 }
 
+/// Ends a span that is dropped, asks for all and shuts down, and ends a span twice behind that.
+fn end_late<J: Naming, R: Wait + Abort>(rt: &R, alloc: Global, pass: &mut Pass<J, R>) {
+    let mut dropped = root(rt, alloc, AlwaysOff, "");
+    assert_equal(rt, dropped.end(pass, END), Ended::NotSampled);
+    assert_equal(rt, pass.force_flush(), Flushed);
+    assert_equal(rt, pass.shutdown(), Flushed);
+    let mut span = sampled(rt, alloc);
+    assert_equal(rt, span.end(pass, END), Ended::Late);
+    assert_equal(rt, span.end(pass, END), Ended::AlreadyEnded);
+}
+
 /// Nothing was queued, so a shutdown waits for nothing, and the span that ends behind it is late.
 /// With a pass missing, all is given back.
 fn give_back<J: Naming, R: Wait + Abort + Copy>(rt: R, alloc: Global, blank: BatchBlank)
     requires { blank ≡ J.name }
 {
-    let made = BatchProcessor::<J, R>::new(alloc, rt, blank, config(8, 4), 2, 0);
     let Parts {
         processor,
         mut passes,
         worker,
-    } = made.expect(&rt, "a processor");
+    } = make::<J, R, Global>(rt, alloc, blank, config(8, 4), 2, 0);
     let mut last = passes.pop().expect(&rt, "a pass");
-    let mut dropped = root(&rt, alloc, AlwaysOff, "");
-    assert_equal(&rt, dropped.end(&mut last, END), Ended::NotSampled);
-    assert_equal(&rt, last.force_flush(), Flushed);
-    assert_equal(&rt, last.shutdown(), Flushed);
-    let mut span = sampled(&rt, alloc);
-    assert_equal(&rt, span.end(&mut last, END), Ended::Late);
-    assert_equal(&rt, span.end(&mut last, END), Ended::AlreadyEnded);
+    end_late(&rt, alloc, &mut last);
+    let missing = processor.close_out(passes, worker).err();
     let Missing {
         processor,
         mut passes,
         worker,
-    } = processor
-        .close_out(passes, worker)
-        .err()
-        .expect(&rt, "a pass is missing");
+    } = missing.expect(&rt, "a pass is missing");
     assert_equal(&rt, passes.len(), 1);
     passes.push(last).expect(&rt, "memory");
-    let desk = close(rt, processor, passes, worker).desk;
+    let totals = close(rt, alloc, processor, passes, worker).totals;
     let want = Totals {
         late: 1,
         closed: true,
         ..Totals::default()
     };
-    assert_equal(&rt, desk.totals(), want);
+    assert_equal(&rt, totals, want);
 }
 
 #[test]
@@ -121,7 +118,7 @@ fn count_passes<J: Naming, R: Wait + Abort + Copy>(
             },
         ) => {
             let count = passes.len();
-            close(rt, processor, passes, worker);
+            close(rt, alloc, processor, passes, worker);
             Ok(count)
         }
         Err(fault) => Err(fault),
@@ -145,6 +142,10 @@ fn settings_are_looked_at_first(rt: HostRuntime) {
         let count = count_passes::<Brand, HostRuntime>(rt, rt.alloc(), blank, config, passes);
         assert_equal_at(&rt, count, want, (passes, queue, batch));
     }
+}
+
+#[test]
+fn each_fault_tells_itself(rt: HostRuntime) {
     for (fault, want) in [
         (NewFault::BadPasses, "a processor has 1 to 64 passes"),
         (
@@ -164,6 +165,10 @@ fn settings_are_looked_at_first(rt: HostRuntime) {
         let told = format!(in rt.alloc(); "{fault}").expect(&rt, "memory");
         assert_equal(&rt, told.as_str(), want);
     }
+}
+
+#[test]
+fn the_standards_numbers_are_the_defaults(rt: HostRuntime) {
     let BatchConfig { desk, retry } = BatchConfig::default();
     assert_equal(
         &rt,

@@ -1,16 +1,24 @@
-//! What the tests start spans with, the clocks that they work by, and how they read bodies.
-use batch_desk::DeskConfig;
-use batch_processor::{Accounts, BatchConfig, BatchProcessor, Naming, Pass, WorkerPass};
+//! What the tests start spans with, how they make, lead and close out a processor, and how they
+//! read bodies.
+ghost use Rattle.std.specs.Prelude.{◌≡◌, ℕ};
+ghost use Rattle.batch_processor.specs.Working.{IsPrepared};
+
+use crate::equal::assert_equal;
+use batch_desk::{DeskConfig, Totals};
+use batch_processor::{
+    BatchBlank, BatchConfig, BatchProcessor, ManualClock, Naming, Parts, Pass, WorkEnd, WorkerPass,
+};
 use otlp_ids::{SpanContext, SpanId, TraceId};
 use otlp_sampler::{AlwaysOn, Sampler};
 use otlp_span::{Entry, Kind, Reason, Resource, Scope, SpanLimits};
 use otlp_wire::{Field, Fields, Payload};
 use retry_core::{Outcome, RetryConfig};
-use span_exporter::{Handed, MemoryExporter};
+use span_exporter::{Exporter, Handed, MemoryExporter};
 use std::alloc::{Allocator, Global};
 use std::process::Abort;
 use std::sync::{Arc, Wait};
-use trace_api::{Provider, Span};
+use std::time::Clock;
+use trace_api::{Ended, Provider, Span};
 use words_rng::WordsRng;
 
 /// The words of the identifiers of each span.
@@ -136,13 +144,90 @@ pub(crate) fn count_spans<A: Allocator + Copy>(
     count
 }
 
+/// A processor that is made with ample memory.
+pub(crate) fn make<J: Naming, R: Wait + Abort + Copy, A: Allocator + Copy>(
+    rt: R,
+    alloc: A,
+    blank: BatchBlank,
+    config: BatchConfig,
+    passes: usize,
+    now: u64,
+) -> Parts<J, R, A>
+    requires { blank ≡ J.name }
+    ensures { (room : ℕ → ℕ) → IsPrepared room result.worker }
+{
+    let made = BatchProcessor::<J, R, A>::new(alloc, rt, blank, config, passes, now);
+    made.expect(&rt, "a processor")
+}
+
+/// How a span is answered that is sampled and ends on a pass.
+pub(crate) fn end<J: Naming, R: Wait + Abort, A: Allocator + Copy>(
+    rt: &R,
+    alloc: A,
+    pass: &mut Pass<J, R, A>,
+) -> Ended {
+    sampled(rt, alloc).end(pass, END)
+}
+
+/// So many spans end on the first pass. Each is queued, from this ticket on.
+pub(crate) fn queue<J: Naming, R: Wait + Abort, A: Allocator + Copy>(
+    rt: &R,
+    alloc: A,
+    passes: &mut [Pass<J, R, A>],
+    first: u64,
+    spans: u64,
+) {
+    let pass = passes.first_mut().expect(rt, "a pass");
+    for ticket in first..first.saturating_add(spans) {
+        assert_equal(rt, end(rt, alloc, pass), Ended::Queued(ticket));
+    }
+}
+
+/// Works so many turns at this moment. All of them are spent.
+pub(crate) fn work<J, R, A, E>(
+    rt: R,
+    alloc: A,
+    worker: &mut WorkerPass<J, R, A>,
+    exporter: &mut E,
+    now: u64,
+    turns: u64,
+)
+where
+    J: Naming,
+    R: Wait + Abort + Clock + Copy,
+    A: Allocator + Copy,
+    E: Exporter,
+    requires { IsPrepared (E.room exporter.old) worker.old }
+    ensures { IsPrepared (E.room exporter.new) worker.new }
+{
+    let mut rng = WordsRng::new(Vec::new(alloc));
+    let end = worker.work(exporter, &ManualClock::new(now), &mut rng, turns);
+    assert_equal(&rt, end, WorkEnd::TurnsSpent);
+}
+
+/// What a processor comes to: its totals, and the names in its ledger, the newest one first.
+#[derive(Drop)]
+pub(crate) struct Left<A: Allocator = Global> {
+    pub(crate) totals: Totals,
+    pub(crate) names: Vec<Entry, A>,
+}
+
 /// What a processor comes to whose passes are all back.
 pub(crate) fn close<J: Naming, R: Wait + Abort + Copy, A: Allocator + Copy>(
     rt: R,
+    alloc: A,
     processor: BatchProcessor<J, R, A>,
     passes: Vec<Pass<J, R, A>, A>,
     worker: WorkerPass<J, R, A>,
-) -> Accounts<A> {
+) -> Left<A> {
     let accounts = processor.close_out(passes, worker).ok();
-    accounts.expect(&rt, "all passes are there")
+    let desk = accounts.expect(&rt, "all passes are there").desk;
+    let mut names = Vec::new(alloc);
+    names
+        .extend(desk.ledger().iter().copied())
+        .expect(&rt, "memory");
+    Left {
+        totals: desk.totals(),
+        names,
+    }
 }

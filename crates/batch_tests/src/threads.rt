@@ -3,7 +3,7 @@ ghost use Rattle.std.specs.Prelude.{◌≡◌};
 
 use crate::carry::{Plan, Task, carry};
 use crate::equal::assert_equal;
-use crate::fixture::{count_spans, exporter};
+use crate::fixture::{Left, count_spans, exporter};
 use batch_desk::FateCounts;
 use batch_processor::{BatchBlank, Naming};
 use drop_ledger::DropCounts;
@@ -16,9 +16,34 @@ use std::sync::atomic::AtomicU64;
 use std::thread::Threads;
 use std::time::Clock;
 
+/// Asserts that each of so many spans, and one behind the shutdown, was handed over, or dropped
+/// since the queue was full, or late, and that none is left.
+fn assert_balanced(rt: &impl Abort, left: &Left, attempts: u64, ended: u64) {
+    let (totals, named) = (left.totals, left.names.len() as u64);
+    assert_equal(rt, (totals.closed, totals.late >= 1), (true, true));
+    assert_equal(rt, (totals.left, totals.accepted), (0, totals.handed));
+    assert_equal(rt, totals.taken, totals.handed);
+    let fates = FateCounts {
+        delivered: attempts,
+        ..FateCounts::default()
+    };
+    assert_equal(rt, totals.fates, fates);
+    let dropped = DropCounts {
+        queue_full: named,
+        ..DropCounts::default()
+    };
+    assert_equal(rt, totals.dropped, dropped);
+    for entry in &left.names {
+        assert_equal(rt, entry.reason, Reason::QueueFull);
+    }
+    let counted = totals.handed.saturating_add(named);
+    let all = ended.saturating_add(1);
+    assert_equal(rt, counted.saturating_add(totals.late), all);
+}
+
 /// Does a task with so many passes, in which so many spans end, and one behind the shutdown. Each
-/// was handed over, once, in a body, or dropped since the queue was full, or it was late, and none
-/// is left. Answers how many were handed over, and how many were late.
+/// was handed over, once, in a body, or dropped, or late. Answers how many were handed over, and
+/// how many were late.
 fn balance<J, R>(
     rt: R,
     alloc: Global,
@@ -40,50 +65,26 @@ where
         task,
         turns: ended.saturating_add(2000),
     };
-    let accounts = carry::<J, R, _>(rt, alloc, blank, plan, &stage, &mut exporter);
-    let (totals, ledger) = (accounts.desk.totals(), accounts.desk.ledger());
-    assert!(rt; totals.closed);
-    assert_equal(&rt, (totals.left, totals.accepted), (0, totals.handed));
-    assert_equal(&rt, (totals.taken, totals.late >= 1), (totals.handed, true));
-    assert_equal(
-        &rt,
-        count_spans(&rt, alloc, exporter.handed()) as u64,
-        totals.handed,
-    );
-    let fates = FateCounts {
-        delivered: exporter.handed().len() as u64,
-        ..FateCounts::default()
-    };
-    assert_equal(&rt, totals.fates, fates);
-    let dropped = DropCounts {
-        queue_full: ledger.len(),
-        ..DropCounts::default()
-    };
-    assert_equal(&rt, totals.dropped, dropped);
-    assert!(rt; ledger.iter().all(|entry| entry.reason == Reason::QueueFull));
-    let counted = totals.handed.saturating_add(ledger.len());
-    assert_equal(
-        &rt,
-        counted.saturating_add(totals.late),
-        ended.saturating_add(1),
-    );
-    (totals.handed, totals.late)
+    let left = carry::<J, R, _>(rt, alloc, blank, plan, &stage, &mut exporter);
+    let handed = exporter.handed();
+    assert_balanced(&rt, &left, handed.len() as u64, ended);
+    let (sent, late) = (left.totals.handed, left.totals.late);
+    assert_equal(&rt, count_spans(&rt, alloc, handed) as u64, sent);
+    (sent, late)
 }
 
 #[test]
 fn four_threads(rt: HostRuntime) {
     let (blank, task) = (BatchBlank::new(), Task::EndMany(100));
     let (handed, late) = balance::<Brand, HostRuntime>(rt, rt.alloc(), blank, 4, task, 400);
-    assert!(rt; handed >= 64, "{handed} were handed");
-    assert_equal(&rt, late, 1);
+    assert_equal(&rt, (handed >= 64, late), (true, 1));
 }
 
 #[test]
 fn each_of_63_000_spans_is_accounted_for(rt: HostRuntime) {
     let (blank, task) = (BatchBlank::new(), Task::EndMany(1000));
     let (handed, late) = balance::<Brand, HostRuntime>(rt, rt.alloc(), blank, 63, task, 63_000);
-    assert!(rt; handed >= 64, "{handed} were handed");
-    assert_equal(&rt, late, 1);
+    assert_equal(&rt, (handed >= 64, late), (true, 1));
 }
 
 #[test]

@@ -1,19 +1,19 @@
 //! Turns of work on one thread: what is sent, and when again.
-ghost use Rattle.std.specs.Prelude.{◌≡◌, None};
+ghost use Rattle.std.specs.Prelude.{◌≡◌};
 ghost use Rattle.batch_processor.specs.Working.{IsPrepared};
 
 use crate::equal::{assert_equal, assert_equal_at};
 use crate::fixture::{
-    END, SECOND, close, config, count_body, count_spans, entry, exporter, root, sampled,
+    END, Left, SECOND, close, config, count_body, count_spans, end, entry, exporter, make, queue,
+    root, work,
 };
 use batch_processor::{
-    Accounts, BatchBlank, BatchConfig, BatchProcessor, Clock, ManualClock, Naming, Parts, Pass,
-    WorkEnd, WorkerPass,
+    BatchBlank, BatchConfig, BatchProcessor, Clock, Naming, Parts, Pass, WorkEnd, WorkerPass,
 };
 use otlp_sampler::AlwaysOn;
-use otlp_span::Reason;
+use otlp_span::{Entry, Reason};
 use retry_core::{Outcome, RetryAfter};
-use span_exporter::{Exporter, MemoryExporter};
+use span_exporter::{Exporter, Handed, MemoryExporter};
 use std::alloc::Global;
 use std::cell::Cell;
 use std::marker::Brand;
@@ -29,6 +29,17 @@ const LATER: Outcome = Outcome::Later {
     after: Some(RetryAfter::Seconds(2)),
 };
 
+/// Asserts that a batch of one span was sent twice.
+fn assert_sent_twice(rt: &impl Abort, alloc: Global, handed: &[Handed]) {
+    let wanted = [(1, LATER), (2, Outcome::Delivered)];
+    assert_equal(rt, handed.len(), wanted.len());
+    for (attempt, (number, outcome)) in handed.iter().zip(wanted) {
+        assert_equal(rt, (attempt.number, attempt.attempt), (1, number));
+        assert_equal(rt, attempt.outcome, outcome);
+        assert_equal(rt, count_body(rt, alloc, attempt.body.as_slice()), (1, 1));
+    }
+}
+
 /// A second after the processor was made, the delay has passed, so a batch that isn't full is sent.
 /// Two seconds behind the reply it is sent again.
 fn send_again<J, R>(rt: R, alloc: Global, blank: BatchBlank)
@@ -37,71 +48,43 @@ where
     R: Wait + Abort + time::Clock + Copy,
     requires { blank ≡ J.name }
 {
-    let mut exporter = exporter(&rt, alloc, &[LATER]);
-    let mut rng = WordsRng::new(Vec::new(alloc));
     let mut settings = config(2, 2);
     settings.desk.delay_ms = 1000;
-    let made = BatchProcessor::<J, R>::new(alloc, rt, blank, settings, 1, SECOND);
     let Parts {
         processor,
         mut passes,
         mut worker,
-    } = made.expect(&rt, "a processor");
-    let mut pass = passes.pop().expect(&rt, "a pass");
-    assert_equal(
-        &rt,
-        sampled(&rt, alloc).end(&mut pass, END),
-        Ended::Queued(0),
-    );
-    passes.push(pass).expect(&rt, "memory");
-    let clock = ManualClock::new(2 * SECOND - 1);
-    let end = worker.work(&mut exporter, &clock, &mut rng, 10);
-    assert_equal(
-        &rt,
-        (end, exporter.handed().len()),
-        (WorkEnd::TurnsSpent, 0),
-    );
-    clock.set(2 * SECOND);
-    let end = worker.work(&mut exporter, &clock, &mut rng, 4);
-    assert_equal(
-        &rt,
-        (end, exporter.handed().len()),
-        (WorkEnd::TurnsSpent, 1),
-    );
-    clock.set(4 * SECOND - 1);
-    let end = worker.work(&mut exporter, &clock, &mut rng, 100);
-    assert_equal(
-        &rt,
-        (end, exporter.handed().len()),
-        (WorkEnd::TurnsSpent, 1),
-    );
-    clock.set(4 * SECOND);
-    let end = worker.work(&mut exporter, &clock, &mut rng, 10);
-    assert_equal(
-        &rt,
-        (end, exporter.handed().len()),
-        (WorkEnd::TurnsSpent, 2),
-    );
-    let desk = close(rt, processor, passes, worker).desk;
-    assert_equal(
-        &rt,
-        (desk.totals().handed, desk.totals().fates.delivered),
-        (1, 1),
-    );
-    for (attempt, (number, outcome)) in exporter
-        .handed()
-        .iter()
-        .zip([(1, LATER), (2, Outcome::Delivered)])
-    {
-        assert_equal(&rt, (attempt.number, attempt.attempt), (1, number));
-        assert_equal(&rt, attempt.outcome, outcome);
-        assert_equal(&rt, count_body(&rt, alloc, attempt.body.as_slice()), (1, 1));
-    }
+    } = make::<J, R, Global>(rt, alloc, blank, settings, 1, SECOND);
+    let mut exporter = exporter(&rt, alloc, &[LATER]);
+    queue(&rt, alloc, passes.as_mut_slice(), 0, 1);
+    work(rt, alloc, &mut worker, &mut exporter, 2 * SECOND - 1, 10);
+    assert_equal(&rt, exporter.handed().len(), 0);
+    work(rt, alloc, &mut worker, &mut exporter, 2 * SECOND, 4);
+    assert_equal(&rt, exporter.handed().len(), 1);
+    work(rt, alloc, &mut worker, &mut exporter, 4 * SECOND - 1, 100);
+    assert_equal(&rt, exporter.handed().len(), 1);
+    work(rt, alloc, &mut worker, &mut exporter, 4 * SECOND, 10);
+    let totals = close(rt, alloc, processor, passes, worker).totals;
+    assert_equal(&rt, (totals.handed, totals.fates.delivered), (1, 1));
+    assert_sent_twice(&rt, alloc, exporter.handed());
 }
 
 #[test]
 fn waits_again(rt: HostRuntime) {
     send_again::<Brand, HostRuntime>(rt, rt.alloc(), BatchBlank::new());
+}
+
+/// Asserts how the parts of a processor of two passes are shown.
+fn assert_shown<J: Naming, R: Wait + Abort + Copy>(
+    rt: R,
+    alloc: Global,
+    processor: &BatchProcessor<J, R>,
+    pass: &Pass<J, R>,
+    worker: &WorkerPass<J, R>,
+) {
+    let told = format!(in alloc; "{processor:?} {pass:?} {worker:?}").expect(&rt, "memory");
+    let want = "BatchProcessor { passes: 2, .. } Pass { .. } WorkerPass { .. }";
+    assert_equal(&rt, told.as_str(), want);
 }
 
 /// A batch is in hand while a pass is missing. What was to be closed out is let go, and the missing
@@ -112,25 +95,16 @@ where
     R: Wait + Abort + time::Clock + Copy,
     requires { blank ≡ J.name }
 {
-    let mut exporter = exporter(&rt, alloc, &[]);
-    let mut rng = WordsRng::new(Vec::new(alloc));
-    let made = BatchProcessor::<J, R>::new(alloc, rt, blank, config(1, 1), 2, 0);
     let Parts {
         processor,
         mut passes,
         mut worker,
-    } = made.expect(&rt, "a processor");
+    } = make::<J, R, Global>(rt, alloc, blank, config(1, 1), 2, 0);
+    let mut exporter = exporter(&rt, alloc, &[]);
     let mut last = passes.pop().expect(&rt, "a pass");
-    assert_equal(
-        &rt,
-        sampled(&rt, alloc).end(&mut last, END),
-        Ended::Queued(0),
-    );
-    let end = worker.work(&mut exporter, &ManualClock::new(0), &mut rng, 1);
-    assert_equal(&rt, end, WorkEnd::TurnsSpent);
-    let told = format!(in alloc; "{processor:?} {last:?} {worker:?}").expect(&rt, "memory");
-    let want = "BatchProcessor { passes: 2, .. } Pass { .. } WorkerPass { .. }";
-    assert_equal(&rt, told.as_str(), want);
+    assert_equal(&rt, end(&rt, alloc, &mut last), Ended::Queued(0));
+    work(rt, alloc, &mut worker, &mut exporter, 0, 1);
+    assert_shown(rt, alloc, &processor, &last, &worker);
     let missing = processor.close_out(passes, worker).err();
     missing.expect(&rt, "a pass is missing").discard();
     assert_equal(&rt, last.pop_entry(), Some(entry(0, Reason::Abandoned)));
@@ -166,18 +140,28 @@ impl Clock for Minutes {
     }
 }
 
-/// Ends the spans of a job on a pass. Each is queued.
-fn end_spans<J: Naming, R: Wait + Abort + Copy>(
-    rt: R,
+/// How a span is answered that ends on a pass, in this schema.
+fn end_in<J: Naming, R: Wait + Abort>(
+    rt: &R,
+    alloc: Global,
+    schema: &str,
+    pass: &mut Pass<J, R>,
+) -> Ended {
+    root(rt, alloc, AlwaysOn, schema).end(pass, END)
+}
+
+/// Ends the spans of a job on the first pass. Each is queued.
+fn end_spans<J: Naming, R: Wait + Abort>(
+    rt: &R,
     alloc: Global,
     job: &Job<'_>,
-    pass: &mut Pass<J, R>,
+    passes: &mut [Pass<J, R>],
 ) {
+    let pass = passes.first_mut().expect(rt, "a pass");
     let mut ticket = 0u64;
     for _ in 0..job.spans {
         for schema in job.schemas {
-            let mut span = root(&rt, alloc, AlwaysOn, schema);
-            assert_equal(&rt, span.end(pass, END), Ended::Queued(ticket));
+            assert_equal(rt, end_in(rt, alloc, schema, pass), Ended::Queued(ticket));
             ticket = ticket.saturating_add(1);
         }
     }
@@ -206,29 +190,21 @@ where
 }
 
 /// Does a job with a processor of one pass, and closes it out.
-fn do_job<J, R>(
-    rt: R,
-    alloc: Global,
-    blank: BatchBlank,
-    job: &Job<'_>,
-) -> (Accounts, MemoryExporter)
+fn do_job<J, R>(rt: R, alloc: Global, blank: BatchBlank, job: &Job<'_>) -> (Left, MemoryExporter)
 where
     J: Naming,
     R: Wait + Abort + time::Clock + Copy,
     requires { blank ≡ J.name }
 {
-    let mut exporter = exporter(&rt, alloc, job.outcomes);
-    let made = BatchProcessor::<J, R>::new(alloc, rt, blank, job.config, 1, 0);
     let Parts {
         processor,
         mut passes,
         mut worker,
-    } = made.expect(&rt, "a processor");
-    let mut pass = passes.pop().expect(&rt, "a pass");
-    end_spans(rt, alloc, job, &mut pass);
-    passes.push(pass).expect(&rt, "memory");
+    } = make::<J, R, Global>(rt, alloc, blank, job.config, 1, 0);
+    let mut exporter = exporter(&rt, alloc, job.outcomes);
+    end_spans(&rt, alloc, job, passes.as_mut_slice());
     call_worker(rt, alloc, job, &mut worker, &mut exporter);
-    (close(rt, processor, passes, worker), exporter)
+    (close(rt, alloc, processor, passes, worker), exporter)
 }
 
 #[test]
@@ -256,11 +232,21 @@ fn one_turn_at_a_time_sends_the_same(rt: HostRuntime) {
     }
     let (singly, one_by_one) = done.pop().expect(&rt, "the second job");
     let (at_once, all) = done.pop().expect(&rt, "the first job");
-    assert_equal(&rt, singly.desk.totals(), at_once.desk.totals());
+    assert_equal(&rt, singly.totals, at_once.totals);
     assert!(rt; one_by_one.handed() == all.handed(), "other batches");
     // The first batch takes 8 turns, for three attempts, and each other one 4.
     assert_equal(&rt, all.handed().len(), 251);
     assert_equal(&rt, count_spans(&rt, rt.alloc(), all.handed()), 747);
+}
+
+/// Asserts that these name so many spans, the first ones that ended, as abandoned.
+fn assert_abandoned(rt: &impl Abort, names: &[Entry], count: u64) {
+    assert_equal(rt, names.len() as u64, count);
+    let mut ticket = count;
+    for named in names {
+        ticket = ticket.saturating_sub(1);
+        assert_equal(rt, *named, entry(ticket, Reason::Abandoned));
+    }
 }
 
 /// How a batch of two spans ends that is in hand behind so many turns.
@@ -276,18 +262,13 @@ fn a_batch_in_hand_is_abandoned(rt: HostRuntime) {
             outcomes: &[LATER],
         };
         let blank = BatchBlank::new();
-        let (accounts, exporter) = do_job::<Brand, HostRuntime>(rt, rt.alloc(), blank, &job);
-        let totals = accounts.desk.totals();
+        let (left, exporter) = do_job::<Brand, HostRuntime>(rt, rt.alloc(), blank, &job);
+        let totals = left.totals;
         assert_equal_at(&rt, exporter.handed().len(), attempts, turns);
         assert_equal_at(&rt, totals.dropped.abandoned, abandoned, turns);
         assert_equal_at(&rt, totals.handed.saturating_add(abandoned), 2, turns);
         assert_equal_at(&rt, totals.fates.abandoned, attempts as u64, turns);
-        let mut ticket = abandoned;
-        for named in accounts.desk.ledger().iter() {
-            ticket = ticket.saturating_sub(1);
-            assert_equal(&rt, *named, entry(ticket, Reason::Abandoned));
-        }
-        assert_equal(&rt, accounts.desk.ledger().len(), abandoned);
+        assert_abandoned(&rt, left.names.as_slice(), abandoned);
     }
 }
 
@@ -302,8 +283,8 @@ fn two_providers_feed_one_processor(rt: HostRuntime) {
         outcomes: &[],
     };
     let blank = BatchBlank::new();
-    let (accounts, exporter) = do_job::<Brand, HostRuntime>(rt, rt.alloc(), blank, &job);
-    assert_equal(&rt, accounts.desk.totals().fates.delivered, 1);
+    let (left, exporter) = do_job::<Brand, HostRuntime>(rt, rt.alloc(), blank, &job);
+    assert_equal(&rt, left.totals.fates.delivered, 1);
     assert_eq!(rt; exporter.handed().len(), 1);
     let body = exporter.handed()[0].body.as_slice();
     assert_equal(&rt, count_body(&rt, rt.alloc(), body), (2, 6));
@@ -320,16 +301,13 @@ fn large_batches_are_sent_whole(rt: HostRuntime) {
         outcomes: &[],
     };
     let blank = BatchBlank::new();
-    let (accounts, exporter) = do_job::<Brand, HostRuntime>(rt, rt.alloc(), blank, &job);
-    let totals = accounts.desk.totals();
+    let (left, exporter) = do_job::<Brand, HostRuntime>(rt, rt.alloc(), blank, &job);
+    let totals = left.totals;
     assert_equal(&rt, (totals.handed, totals.fates.delivered), (4096, 2));
     assert_equal(&rt, exporter.handed().len(), 2);
     for attempt in exporter.handed() {
-        assert!(rt; attempt.body.len() > 65_536);
-        assert_equal(
-            &rt,
-            count_body(&rt, rt.alloc(), attempt.body.as_slice()),
-            (1, 2048),
-        );
+        let body = attempt.body.as_slice();
+        assert_equal(&rt, body.len() > 65_536, true);
+        assert_equal(&rt, count_body(&rt, rt.alloc(), body), (1, 2048));
     }
 }

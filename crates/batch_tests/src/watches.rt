@@ -76,8 +76,8 @@ where
         task,
         turns: 2000,
     };
-    let accounts = carry::<J, R, _>(rt, alloc, blank, plan, &stage, &mut exporter);
-    assert_equal(&rt, accounts.desk.totals().late, 1);
+    let left = carry::<J, R, _>(rt, alloc, blank, plan, &stage, &mut exporter);
+    assert_equal(&rt, left.totals.late, 1);
     (exporter.sent, exporter.seen)
 }
 
