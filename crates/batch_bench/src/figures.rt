@@ -61,9 +61,9 @@ pub struct Row {
     pub span: u64,
     /// How long an end took: its longest is that of all rounds.
     pub ends: Spread,
-    /// How many spans of all rounds were handed to the exporter.
+    /// How many spans of the rounds in which no end was timed were handed to the exporter.
     pub handed: u64,
-    /// How many were dropped.
+    /// How many of them were dropped since the queue was full.
     pub dropped: u64,
 }
 

@@ -22,7 +22,7 @@ use std::time::{self, CpuClock, Duration};
 pub struct Counts {
     /// How many were handed to the exporter.
     pub handed: u64,
-    /// How many were dropped.
+    /// How many were dropped since the queue was full.
     pub dropped: u64,
     /// How many are left.
     pub left: u64,

@@ -146,7 +146,7 @@ impl<J: Naming, R: Wait + time::Clock + Drop, A: Allocator + Copy> WorkerPass<J,
     }
 }
 
-/// Puts what is left of a batch into a hand that is empty.
+/// Puts a batch, or none, into a hand that is empty.
 fn keep<A: Allocator>(in_hand: &mut Option<InHand<A>>, left: Option<InHand<A>>)
     requires { in_hand.old ≡ None }
     ensures { in_hand.new ≡ left }

@@ -57,7 +57,7 @@ pub data HasOutcome (limits : HeadLimits) (old new : Option (List ℕ)) (before 
       → outcome ≡ no_outcome
       → HasOutcome limits old new before after written writes outcome
 
--- The connection is served so, and what is known of the output gained so many bytes of its text.
+-- The connection is served so, and what is known of the output gained its text.
 pub record PrintsServed (limits : HeadLimits) (number : ℕ) (old new : Option (List ℕ))
     (before after : ℕ) (written writes printed prints : Option (List ℕ)) : Type 0 where
   pub outcome : Outcome

@@ -168,7 +168,7 @@ fn the_spans_of_a_request_are_printed(rt: HostRuntime) {
 }
 
 #[test]
-fn a_client_that_still_sends_gets_the_whole_reply(rt: HostRuntime) {
+fn a_client_that_sends_more_than_is_read_gets_the_whole_reply(rt: HostRuntime) {
     let alloc = rt.alloc();
     let text = request(&rt, alloc, "POST /v1/traces", TYPE, &[0; 50_000]);
     let texts = vec![in alloc; text].expect(&rt, "memory");

@@ -1,5 +1,5 @@
 -- The command line of the program, as clap reads it.
-use Rattle.std.specs.Prelude.{◌≡◌, ◌≢◌, ◌⊎◌, ◌<◌, ℕ, ◌^◌, ◌-◌, ⊤, List, [], Option, Some, String}
+use Rattle.std.specs.Prelude.{◌≡◌, ◌≢◌, ◌⊎◌, ◌<◌, ◌≤◌, ℕ, ◌^◌, ◌-◌, ⊤, List, [], Option, Some, String}
 use Rattle.std.specs.Prelude.{map, string_bytes, codes, IfSome}
 use Rattle.std.specs.Option.{option_map_or}
 use Rattle.std.specs.Str.Parse.{digits_value, without_leading_plus}
@@ -89,6 +89,10 @@ pub record IsAskedBy {A : Type 0} (words : List (String A)) (args : DemoArgs) : 
   pub spans : args.spans ≡ number_in (codes "spans") 1000 words
   pub queue : args.queue ≡ queue_in words
   pub batch : args.batch ≡ batch_in words
+
+-- clap takes the words, and the batch that they ask for fits into the queue
+abbrev pub AskForRun : {A : Type 0} → List (String A) → Type 0
+AskForRun words = IsTaken words × (batch_in words ≤ queue_in words)
 
 -- clap takes the words, and the batch that they ask for is larger than the queue
 abbrev pub HaveLargeBatch : {A : Type 0} → List (String A) → Type 0

@@ -1,5 +1,6 @@
 //! Why the words of the command line ask for no run, and how that is told.
 ghost use Rattle.std.specs.Prelude.{◌≡◌, ◌⊎◌};
+ghost use Rattle.std.specs.Io.KnownBytes.{Keeps};
 ghost use Rattle.demo_program.specs.Faults.{fault_of_error, status_of};
 ghost use Rattle.demo_program.specs.declared.fault.ArgFault.TheVariants as faults;
 
@@ -16,7 +17,8 @@ pub enum ArgFault {
     /// They ask for help, which is the text.
     #[error("{0}")]
     Help(Error),
-    /// A word isn't known, stands twice, is no number, or a number is out of its range.
+    /// A word isn't known, an option stands twice or without its number, a number is none or out of
+    /// its range, or the batch is larger than the queue.
     #[error("{0}")]
     Mistake(Error),
     /// Memory was refused.
@@ -48,17 +50,25 @@ impl ArgFault {
     /// Prints help, or tells a mistake or refused memory. Answers the program's status: 0 behind
     /// help, 2 for a mistake, 3 for memory, or 1 where the text could not be written.
     pub fn tell<W: Write, F: Write>(&self, output: &mut W, faults: &mut F) -> u8
-        ensures { (result ≡ status_of self.now) ⊎ (result ≡ 1) }
+        ensures status { (result ≡ status_of self.now) ⊎ (result ≡ 1) }
+        ensures quiet { result ≡ 2 → Keeps (W.contents output.old) (W.contents output.new) }
+        ensures untold { result ≡ 0 → Keeps (F.contents faults.old) (F.contents faults.new) }
     {
-        let (told, status) = match self {
-            ArgFault::Help(text) => (print_text(output, text), 0),
-            ArgFault::Mistake(text) => (print_text(faults, text), 2),
-            ArgFault::OutOfMemory => (print_text(faults, &"out of memory\n"), 3),
-        };
-        match told {
-            Ok(()) => status,
-            Err(_) => 1,
+        match self {
+            ArgFault::Help(text) => status_behind(print_text(output, text), 0),
+            ArgFault::Mistake(text) => status_behind(print_text(faults, text), 2),
+            ArgFault::OutOfMemory => status_behind(print_text(faults, &"out of memory\n"), 3),
         }
+    }
+}
+
+/// This status behind a text that was written, and else 1.
+fn status_behind(told: io::Result<()>, status: u8) -> u8
+    ensures { (result ≡ status) ⊎ (result ≡ 1) }
+{
+    match told {
+        Ok(()) => status,
+        Err(_) => 1,
     }
 }
 

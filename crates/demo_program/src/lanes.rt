@@ -40,8 +40,8 @@ where
     Some(lanes)
 }
 
-/// Ends so many spans on each lane, each on a thread of its own, of which one is the caller's. Where
-/// a thread can't be made, the one that was to make it does its work too.
+/// Ends so many spans on each lane, each on a thread of its own, one of which is the caller's.
+/// Where a thread can't be made, the one that was to make it does its work too.
 pub(crate) fn end_on_all<J, R>(rt: R, alloc: Global, lanes: &mut [Lane<J, R>], spans: u64)
 where
     J: Naming + Send + Sync + 'static,

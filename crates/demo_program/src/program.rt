@@ -1,6 +1,7 @@
 //! The program `trace-demo`.
 ghost use Rattle.std.specs.Prelude.{◌≡◌, ◌≤◌, ◌⊎◌, None};
-ghost use Rattle.demo_program.specs.Command.{AreMistaken, AskForHelp, IsTaken};
+ghost use Rattle.std.specs.Io.KnownBytes.{Keeps};
+ghost use Rattle.demo_program.specs.Command.{AreMistaken, AskForHelp, AskForRun};
 
 use crate::args::DemoArgs;
 use crate::collector::{Collector, TIMEOUT_MS};
@@ -39,8 +40,10 @@ where
     W: Write,
     F: Write,
     ensures status { result ≤ 3 }
-    ensures asked { result ≡ 0 → IsTaken words.items ⊎ AskForHelp words.items }
+    ensures asked { result ≡ 0 → AskForRun words.items ⊎ AskForHelp words.items }
     ensures mistake { result ≡ 2 → AreMistaken words.items }
+    ensures quiet { result ≡ 2 → Keeps (W.contents output.old) (W.contents output.new) }
+    ensures untold { result ≡ 0 → Keeps (F.contents faults.old) (F.contents faults.new) }
 {
     match DemoArgs::read(words) {
         Ok(args) => demo(rt, alloc, output, &args),

@@ -1,6 +1,6 @@
 //! What became of the spans, in sums.
 ghost use Rattle.std.specs.Prelude.{◌≡◌, ◌≤◌, ◌↔◌, IsTrue};
-ghost use Rattle.demo_program.specs.Balance.{IsEven, sum_of};
+ghost use Rattle.demo_program.specs.Balance.{Balances, accounted_for};
 
 use batch_processor::Accounts;
 use std::io;
@@ -39,7 +39,7 @@ impl Sums {
 
     /// How many were handed, dropped or left.
     fn sum(&self) -> u64
-        ensures { result ≡ sum_of self.now }
+        ensures { result ≡ accounted_for self.now }
     {
         let gone = self.handed.saturating_add(self.dropped);
         gone.saturating_add(self.left)
@@ -47,7 +47,7 @@ impl Sums {
 
     /// Whether each span that ended was handed, dropped or left.
     fn is_balanced(&self) -> bool
-        ensures { IsTrue result ↔ (self.now.ended ≡ sum_of self.now) }
+        ensures { IsTrue result ↔ (self.now.ended ≡ accounted_for self.now) }
     {
         self.ended == self.sum()
     }
@@ -56,7 +56,7 @@ impl Sums {
     /// handed, and else 1.
     pub(crate) fn status(&self) -> u8
         ensures least { result ≤ 1 }
-        ensures even { (result ≡ 0) ↔ IsEven self.now }
+        ensures balanced { (result ≡ 0) ↔ Balances self.now }
     {
         if self.is_balanced() && self.collected == self.handed {
             0

@@ -19,8 +19,9 @@ impl DemoArgs {
     ///
     /// # Errors
     ///
-    /// `Help` where the words ask for it. `Mistake` where a word isn't known, stands twice, is no
-    /// number, or a number is out of its range. `OutOfMemory` where memory was refused.
+    /// `Help` where the words ask for it. `Mistake` where a word isn't known, an option stands twice
+    /// or without its number, a number is none or out of its range, or the batch is larger than the
+    /// queue. `OutOfMemory` where memory was refused.
     pub fn read(words: Vec<String>) -> Result<DemoArgs, ArgFault>
         ensures taken { IfOk result (λ _. IsTaken words.items) }
         ensures values { IfOk result (IsAskedBy words.items) }
@@ -80,7 +81,7 @@ fn number<'a>(alloc: Global, name: &'a str, least: u64, most: u64, help: &'a str
 fn seed<'a>(alloc: Global) -> Arg<'a>
     ensures { rule_of result ≡ number_option (codes "seed") 0 (2 ^ 64 - 1) }
 {
-    let help = "The first thread's seed, to which the next one's adds one [default: 1]";
+    let help = "The first thread's seed; each further one is one more [default: 1]";
     number(alloc, "seed", 0, u64::MAX, help)
 }
 

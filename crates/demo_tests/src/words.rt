@@ -8,9 +8,10 @@ use std::process::Abort;
 type Numbers = (u64, usize, u64, usize, usize);
 
 /// Words that are taken, and what they ask for.
-const TAKEN: [(&str, Numbers); 14] = [
+const TAKEN: [(&str, Numbers); 15] = [
     ("", (1, 4, 1000, 64, 16)),
     ("--seed 0", (0, 4, 1000, 64, 16)),
+    ("--seed +5", (5, 4, 1000, 64, 16)),
     (
         "--seed 18446744073709551615",
         (18_446_744_073_709_551_615, 4, 1000, 64, 16),

@@ -172,7 +172,7 @@ fn a_canned_reply_stands_in_place_of_a_200(rt: HostRuntime) {
     }
 }
 
-/// What a request is answered before a reply that is canned, with this status.
+/// Checks what a request is answered, with this status, before a reply that is canned.
 fn assert_before_canned(
     rt: &impl Abort,
     alloc: Global,

@@ -3,6 +3,7 @@
 use crate::equal::assert_equal;
 use crate::fixture::wire;
 use failing_allocator::FailingAllocator;
+use http_wire::{FRONT_ROOM, Front};
 use linked_list_allocator::LocalHeap;
 use otlp_http::{Counted, DeviceFailed, FailingCalls, FailingWire, FaultRead, FaultWrite};
 use std::io::{self, ErrorKind, Read, Write};
@@ -98,6 +99,18 @@ fn bytes_that_are_written_pass_through(rt: HostRuntime) {
     assert_equal(&rt, FaultWrite::failures(&writer), 0);
     let taken = writer.into_inner();
     assert_equal(&rt, taken.as_slice(), b"xy".as_slice());
+}
+
+#[test]
+fn a_front_takes_bytes_while_there_is_room(rt: HostRuntime) {
+    let mut front = Front::default();
+    let bytes = [7; FRONT_ROOM];
+    for (size, wanted) in [(1_000, Ok(1_000)), (100, Ok(24)), (1, Err(DeviceFailed))] {
+        let piece = bytes.get(..size).expect(&rt, "a piece");
+        assert_equal(&rt, front.write(piece), wanted);
+    }
+    assert_equal(&rt, front.failures(), 1);
+    assert_equal(&rt, front.taken(), bytes.as_slice());
 }
 
 #[test]

@@ -54,7 +54,7 @@ fn a_reply_that_is_cut(rt: HostRuntime) {
 }
 
 #[test]
-fn a_status_tells(rt: HostRuntime) {
+fn a_head_tells(rt: HostRuntime) {
     let rows: [(&[u8], Outcome); 5] = [
         (b"HTTP/x", Outcome::Bad),
         (b"HTTP/1.1 204 No Content\r\n\r\n", Outcome::Delivered),

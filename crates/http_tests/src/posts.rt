@@ -150,7 +150,7 @@ fn a_length_that_is_none_is_bad(rt: HostRuntime) {
     }
 }
 
-/// Checks that a text is no request, by each wire, however many of its bytes are left.
+/// Checks that a text is no request, however many of its bytes are left.
 fn assert_bad(rt: &impl Abort, alloc: Global, text: &[u8]) {
     let mut wire = wire(rt, alloc, text, 65_536, FailingCalls::Never);
     let answer = read(alloc, &mut wire);

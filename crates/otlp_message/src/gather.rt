@@ -52,8 +52,8 @@ fn gather<'a, G: GatherFields<'a>>(gathered: &mut G, content: &'a [u8]) -> Resul
     Ok(())
 }
 
-/// Takes the fields of the message that the field is, where it has this number: they are joined with
-/// those that came before (Protocol Buffers, Encoding, "Last One Wins").
+/// Takes the fields of the message that the field is, where it has this number: they are joined
+/// with those that came before (Protocol Buffers, Encoding, "Last One Wins").
 ///
 /// # Errors
 ///
