@@ -19,9 +19,9 @@ impl DemoArgs {
     ///
     /// # Errors
     ///
-    /// `Help` where the words ask for it. `Mistake` where a word isn't known, an option stands twice
-    /// or without its number, a number is none or out of its range, or the batch is larger than the
-    /// queue. `OutOfMemory` where memory was refused.
+    /// `Help` where the words ask for it. `Mistake` where a word isn't known, an option stands
+    /// twice or without its number, a number is none or out of its range, or the batch is larger
+    /// than the queue. `OutOfMemory` where memory was refused.
     pub fn read(words: Vec<String>) -> Result<DemoArgs, ArgFault>
         ensures taken { IfOk result (λ _. IsTaken words.items) }
         ensures values { IfOk result (IsAskedBy words.items) }

@@ -122,9 +122,9 @@ BytesBehindAreLeft =
 
 -- ---- why a collector is unavailable
 
--- Where 503 may come from: the head of a request wasn't whole yet, its fields or its body were being
--- kept, or the request came and isn't refused, and its body was being read. That memory was really
--- refused there no contract of an allocator says. (profile)
+-- Where 503 may come from: the head of a request wasn't whole yet, its fields or its body were
+-- being kept, or the request came and isn't refused, and its body was being read. That memory was
+-- really refused there no contract of an allocator says. (profile)
 pub data WantsMemory (limits : HeadLimits) (old new : Option (List ℕ)) (before after : ℕ)
     : Type 0 where
   for_head : HasNoPost limits old new (HasFailed before after) (Head faults.OutOfMemory)
