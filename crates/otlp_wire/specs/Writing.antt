@@ -1,5 +1,5 @@
 -- What a writer puts behind the bytes of a vector (Protocol Buffers, Encoding).
-use Rattle.std.specs.Prelude.{◌≡◌, ℕ, ◌+◌, ◌≤◌, List, ◌++◌, length, Vec, vec_len, vec_capacity}
+use Rattle.std.specs.Prelude.{◌≡◌, ℕ, ◌+◌, ◌≤◌, List, ◌++◌, length, take, drop, Vec, vec_len, vec_capacity}
 use Rattle.message_model.specs.Wire.{Payload}
 use Rattle.message_model.specs.Spelling.{IsVarint, IsPayload}
 use Rattle.message_model.specs.Canon.{payload_bytes}
@@ -23,3 +23,13 @@ pub record IsReachedSize (n size : ℕ) : Type 0 where
   pub spelling : List ℕ
   pub spells : IsVarint spelling n
   pub exact : length spelling ≡ size
+
+-- so many bytes have room from the place on
+abbrev pub FitsAt : List ℕ → ℕ → List ℕ → Type 0
+FitsAt bytes at out = at + length bytes ≤ length out
+
+-- the bytes stand from the place up to the next one, and nothing else is changed
+pub record PutsAt (bytes : List ℕ) (at : ℕ) (old new : List ℕ) (next : ℕ) : Type 0 where
+  pub place : next ≡ at + length bytes
+  pub front : take next new ≡ take at old ++ bytes
+  pub behind : drop next new ≡ drop next old

@@ -1,8 +1,9 @@
 //! Fields of messages as Protocol Buffers have them on the wire ("Encoding"): writers of their
-//! payloads, each of which appends to a vector, which is unchanged where it could not grow, and a
-//! reader of a message's fields.
+//! payloads, each of which appends to a vector, which is unchanged where it could not grow, or puts
+//! its bytes at a place of a slice that has room; and a reader of a message's fields.
 #![tactic(auto)]
 
+mod places;
 mod reader;
 
 ghost use Rattle.std.specs.Prelude.{◌≡◌, ◌+◌, ◌-◌, ◌≤◌, ◌<◌, ◌++◌, length, OnOk, OnErr, IsOk, vec_len, vec_capacity};
@@ -11,6 +12,7 @@ ghost use Rattle.message_model.specs.Canon.{shortest, payload_bytes};
 ghost use Rattle.otlp_wire.specs.Writing.{Appends, FitsCapacity, IsLeastSize, IsReachedSize};
 
 use otlp_ids::OutOfMemory;
+pub use places::{put_bytes, put_fixed32, put_fixed64, put_varint};
 pub use reader::{Field, Fields, Payload, WireFault};
 use std::alloc::Allocator;
 
@@ -50,12 +52,12 @@ pub fn write_varint<A: Allocator>(out: &mut Vec<u8, A>, value: u64) -> Result<()
     ensures capacity { vec_capacity out.old ≤ vec_capacity out.new }
 {
     out.reserve(varint_size(value))?;
-    put_varint(out, value);
+    push_varint(out, value);
     Ok(())
 }
 
 // Appends the shortest varint of the value, where there is room for it.
-fn put_varint<A: Allocator>(out: &mut Vec<u8, A>, value: u64)
+fn push_varint<A: Allocator>(out: &mut Vec<u8, A>, value: u64)
     requires { FitsCapacity (Wire.varint value) out.old }
     ensures canonical { out.new.items ≡ out.old.items ++ payload_bytes (Wire.varint value) }
     ensures capacity { vec_capacity out.new ≡ vec_capacity out.old }
@@ -125,7 +127,7 @@ pub fn write_len<A: Allocator>(out: &mut Vec<u8, A>, bytes: &[u8]) -> Result<(),
 {
     let length = bytes.len() as u64;
     out.reserve(varint_size(length) + bytes.len())?;
-    put_varint(out, length);
+    push_varint(out, length);
     out.extend_from_slice(bytes)?;
     Ok(())
 }

@@ -1,0 +1,12 @@
+use Rattle.std.proofs.Common.{ap, ◌∙◌, length, ◌+◌, ◌≤◌, subst, sym}
+use Rattle.message_model.specs.Canon.{payload_bytes}
+use Rattle.otlp_wire.specs.Writing.{FitsAt, PutsAt}
+use Rattle.otlp_wire.proofs.places.put_fixed64.Goals as goal
+
+pub put_bytes-requires : goal.put_bytes-requires
+unfolding payload_bytes
+put_bytes-requires c = rw c.to_le_bytes.ensures c.requires
+
+pub returns : goal.returns
+unfolding payload_bytes
+returns c = rw c.to_le_bytes.ensures at c.put_bytes.ensures
