@@ -1,4 +1,6 @@
-mod Read
-mod Values
+mod Laying
 mod Writing
+mod Values
+mod Lens
+mod Read
 mod Carried

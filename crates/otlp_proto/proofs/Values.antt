@@ -1,7 +1,7 @@
 -- A value is written by its one member, and an array by its values, one behind the other.
-use Rattle.std.proofs.Common.{◌≡◌, map, refl, sym, ap, ◌∙◌, ℕ, ℤ, zero, suc, ◌≤◌, List, [], ◌∷◌, ◌++◌, append_assoc, Bool, true, false, arith}
-use Rattle.std.proofs.lemmas.List.{append-nil}
+use Rattle.std.proofs.Common.{◌≡◌, map, refl, sym, ap, ◌∙◌, ℕ, ℤ, zero, suc, ◌≤◌, List, [], ◌∷◌, Bool, true, false, arith}
 use Rattle.std.specs.Int.{w64, cast_unsigned}
+use Rattle.std.specs.List.{AllByRecursion}
 use mir.Val.{SFits, bool_byte}
 use Rattle.message_model.specs.Wire.{Field, varint}
 use Rattle.message_model.specs.AnyValue.{AnyValue, AnyValues, no_values, value, KeyValues, no_pairs, pair, as_values}
@@ -9,8 +9,8 @@ use Rattle.message_model.specs.Tables.{any}
 use Rattle.message_model.specs.Messages.{max_depth}
 use Rattle.message_model.specs.Canon.{field_bytes, bytes_field, row_bytes, shape_fields, value_fields, values_fields}
 use Rattle.message_model.specs.Whole.{IsText, EachValue, EachPair, IsMember, IsValue}
-use Rattle.message_model.proofs.Composed.{row_bytes-append}
-use Rattle.otlp_proto.specs.Encode.{Puts, PutsMember}
+use Rattle.otlp_proto.specs.Encode.{Cursor, Lays, Carries, Puts}
+use Rattle.otlp_proto.proofs.Laying.{lays-as}
 use Rattle.otlp_proto.proofs.Writing.{one-field}
 
 -- ---- levels
@@ -40,68 +40,50 @@ more-levels zero m l v h = absurd h
 more-levels (suc n) zero l v h = absurd (omega arith)
 more-levels (suc n) (suc m) l v h = each-member (IsValue n) (IsValue m) (more-levels n m (omega arith)) v h
 
-pub put-value : {n : ℕ} {v : AnyValue} {bs old new : List ℕ} → PutsMember 2 v [] bs → new ≡ old ++ field_bytes (bytes_field n bs) → Puts n any v old new
+pub put-value : {n : ℕ} {v : AnyValue} {c d : Cursor} → Carries (field_bytes (bytes_field n (row_bytes (value_fields v)))) (IsValue 2 v) c d → Puts n any v c d
 unfolding shape_fields
-put-value {n} {v} {bs} {old} w e = record {
-  bytes = e ∙ ap (λ b. old ++ field_bytes (bytes_field n b)) w.bytes ∙ ap (λ b. old ++ b) (sym (one-field (bytes_field n (row_bytes (value_fields v)))));
+put-value {n} {v} {c} {d} w = record {
+  bytes = lays-as c d (sym (one-field (bytes_field n (row_bytes (value_fields v))))) w.bytes;
   whole = more-levels 2 max_depth (omega arith) v w.whole;
 }
 
--- values of one level, put behind what stands as those of an array
-pub record PutsValues (vs : List AnyValue) (old new : List ℕ) : Type 0 where
-  pub bytes : new ≡ old ++ row_bytes (values_fields (as_values vs))
-  pub whole : EachValue (IsValue 1) (as_values vs)
-
 -- ---- members
 
-member : {levels : ℕ} {v : AnyValue} {old new : List ℕ} (f : Field) → value_fields v ≡ f ∷ [] → IsValue levels v → new ≡ old ++ field_bytes f → PutsMember levels v old new
-member {levels} {v} {old} f e w q = record { bytes = q ∙ ap (λ bs. old ++ bs) (sym (ap row_bytes e ∙ one-field f)); whole = w }
+member : (levels : ℕ) (v : AnyValue) {c d : Cursor} (f : Field) → value_fields v ≡ f ∷ [] → IsValue levels v → Lays (field_bytes f) c d → Carries (row_bytes (value_fields v)) (IsValue levels v) c d
+member levels v {c} {d} f e w q = record { bytes = lays-as c d (sym (ap row_bytes e ∙ one-field f)) q; whole = w }
 
-pub text-member : {t old new : List ℕ} → IsText t → new ≡ old ++ field_bytes (bytes_field 1 t) → PutsMember 1 (AnyValue.text t) old new
+pub text-member : (t : List ℕ) {c d : Cursor} → IsText t → Lays (field_bytes (bytes_field 1 t)) c d → Carries (row_bytes (value_fields (AnyValue.text t))) (IsValue 1 (AnyValue.text t)) c d
 unfolding IsValue value_fields
-text-member {t} w q = member (bytes_field 1 t) refl w q
+text-member t w q = member 1 (AnyValue.text t) (bytes_field 1 t) refl w q
 
-pub bool-member : (b : Bool) {old new : List ℕ} → new ≡ old ++ field_bytes (record { number = 2; payload = varint (bool_byte b) }) → PutsMember 1 (AnyValue.bool b) old new
+pub bool-member : (b : Bool) {c d : Cursor} → Lays (field_bytes (record { number = 2; payload = varint (bool_byte b) })) c d → Carries (row_bytes (value_fields (AnyValue.bool b))) (IsValue 1 (AnyValue.bool b)) c d
 unfolding IsValue value_fields
-bool-member true q = member (record { number = 2; payload = varint 1 }) refl tt q
-bool-member false q = member (record { number = 2; payload = varint 0 }) refl tt q
+bool-member true q = member 1 (AnyValue.bool true) (record { number = 2; payload = varint 1 }) refl tt q
+bool-member false q = member 1 (AnyValue.bool false) (record { number = 2; payload = varint 0 }) refl tt q
 
-pub int-member : {i : ℤ} {old new : List ℕ} → SFits w64 i → new ≡ old ++ field_bytes (record { number = 3; payload = varint (cast_unsigned w64 i) }) → PutsMember 1 (AnyValue.int i) old new
+pub int-member : (i : ℤ) {c d : Cursor} → SFits w64 i → Lays (field_bytes (record { number = 3; payload = varint (cast_unsigned w64 i) })) c d → Carries (row_bytes (value_fields (AnyValue.int i))) (IsValue 1 (AnyValue.int i)) c d
 unfolding IsValue value_fields
-int-member {i} w q = member (record { number = 3; payload = varint (cast_unsigned w64 i) }) refl w q
-
-pub array-member : {vs : List AnyValue} {bs old new : List ℕ} → PutsValues vs [] bs → new ≡ old ++ field_bytes (bytes_field 5 bs) → PutsMember 2 (AnyValue.array (as_values vs)) old new
-unfolding IsValue value_fields
-array-member {vs} {bs} {old} w q = member (bytes_field 5 (row_bytes (values_fields (as_values vs)))) refl w.whole (q ∙ ap (λ b. old ++ field_bytes (bytes_field 5 b)) w.bytes)
+int-member i w q = member 1 (AnyValue.int i) (record { number = 3; payload = varint (cast_unsigned w64 i) }) refl w q
 
 -- a value of one level where two are allowed
-pub one-level : {v : AnyValue} {old new : List ℕ} → PutsMember 1 v old new → PutsMember 2 v old new
-one-level {v} p = record { bytes = p.bytes; whole = more-levels 1 2 (omega arith) v p.whole }
+pub one-level : (v : AnyValue) {c d : Cursor} → Carries (row_bytes (value_fields v)) (IsValue 1 v) c d → Carries (row_bytes (value_fields v)) (IsValue 2 v) c d
+one-level v p = record { bytes = p.bytes; whole = more-levels 1 2 (omega arith) v p.whole }
 
--- ---- the values of an array
+-- ---- arrays
 
-pub no-values : {out : List ℕ} → PutsValues [] out out
-unfolding row_bytes values_fields
-no-values {out} = record { bytes = sym (append-nil out); whole = tt }
-
-values-more : (vs : List AnyValue) (v : AnyValue) → values_fields (as_values (vs ++ v ∷ [])) ≡ values_fields (as_values vs) ++ bytes_field 1 (row_bytes (value_fields v)) ∷ []
+array-fields : (vs : List AnyValue) → values_fields (as_values vs) ≡ map (λ v. bytes_field 1 (row_bytes (value_fields v))) vs
 unfolding values_fields
-values-more [] v = refl
-values-more (w ∷ vs) v = ap (λ fields. bytes_field 1 (row_bytes (value_fields w)) ∷ fields) (values-more vs v)
+array-fields [] = refl
+array-fields (v ∷ vs) = ap (λ fields. bytes_field 1 (row_bytes (value_fields v)) ∷ fields) (array-fields vs)
 
-whole-more : (P : AnyValue → Type 0) (vs : List AnyValue) (v : AnyValue) → EachValue P (as_values vs) → P v → EachValue P (as_values (vs ++ v ∷ []))
-whole-more P [] v h k = (k, tt)
-whole-more P (w ∷ vs) v h k = (h.0, whole-more P vs v h.1 k)
+array-whole : (vs : List AnyValue) → AllByRecursion (IsValue 1) vs → EachValue (IsValue 1) (as_values vs)
+array-whole [] h = tt
+array-whole (v ∷ vs) h = (h.0, array-whole vs h.1)
 
-pub value-more : {vs : List AnyValue} {v : AnyValue} {bs old mid new : List ℕ} → PutsValues vs old mid → PutsMember 1 v [] bs → new ≡ mid ++ field_bytes (bytes_field 1 bs) → PutsValues (vs ++ v ∷ []) old new
-value-more {vs} {v} {bs} {old} {mid} p w q =
-    let before : List Field = values_fields (as_values vs) in
-    let own : Field = bytes_field 1 (row_bytes (value_fields v)) in
-    let all : row_bytes (values_fields (as_values (vs ++ v ∷ []))) ≡ row_bytes before ++ field_bytes own =
-    ap row_bytes (values-more vs v) ∙ row_bytes-append before (own ∷ []) ∙ ap (λ b. row_bytes before ++ b) (one-field own) in record {
-      bytes = q ∙ ap (λ b. mid ++ field_bytes (bytes_field 1 b)) w.bytes ∙ ap (λ b. b ++ field_bytes own) p.bytes ∙ append_assoc old (row_bytes before) (field_bytes own) ∙ ap (λ b. old ++ b) (sym all);
-      whole = whole-more (IsValue 1) vs v p.whole w.whole;
-    }
+pub array-member : (vs : List AnyValue) {c d : Cursor} → Carries (field_bytes (bytes_field 5 (row_bytes (map (λ v. bytes_field 1 (row_bytes (value_fields v))) vs)))) (AllByRecursion (IsValue 1) vs) c d →
+    Carries (row_bytes (value_fields (AnyValue.array (as_values vs)))) (IsValue 2 (AnyValue.array (as_values vs))) c d
+unfolding IsValue value_fields
+array-member vs {c} {d} p = member 2 (AnyValue.array (as_values vs)) (bytes_field 5 (row_bytes (values_fields (as_values vs)))) refl (array-whole vs p.whole) (lays-as c d (ap (λ fields. field_bytes (bytes_field 5 (row_bytes fields))) (sym (array-fields vs))) p.bytes)
 
 pub map-map : {A B C : Type 0} (f : B → C) (g : A → B) (xs : List A) → map f (map g xs) ≡ map (λ x. f (g x)) xs
 map-map f g [] = refl

@@ -1,5 +1,5 @@
 -- A message is written when its fields are, one behind the other.
-use Rattle.std.proofs.Common.{◌≡◌, ◌≢◌, map, take, get_or, refl, sym, ap, ◌∙◌, ℕ, zero, suc, ◌+◌, ◌*◌, ◌/◌, ◌%◌, ◌<◌, ◌^◌, ◌==◌, pos, List, [], ◌∷◌, ◌++◌, append_assoc, length, true, false, cond, nat_lt, Result, Ok, Err, OnOk, arith, add-one}
+use Rattle.std.proofs.Common.{◌≡◌, ◌≢◌, map, take, get_or, refl, sym, ap, ◌∙◌, ℕ, zero, suc, ◌+◌, ◌*◌, ◌/◌, ◌%◌, ◌<◌, ◌^◌, ◌==◌, pos, List, [], ◌∷◌, ◌++◌, append_assoc, length, true, false, cond, nat_lt, arith, add-one}
 use Rattle.std.proofs.lemmas.List.{append-nil, length-append, map-append}
 use Rattle.std.proofs.Math.Seq.{take-suc}
 use Rattle.std.proofs.lemmas.Bool.{eqb-true, ne_eqb}
@@ -7,90 +7,44 @@ use Rattle.std.specs.List.{AllByRecursion}
 use Rattle.message_model.specs.Wire.{Field, varint, i64}
 use Rattle.message_model.specs.Tables.{Shape, text, bytes, uint32, enum, fixed64, message, repeated, Table, end, ◌⦂◌◂◌, ValueOf, Message}
 use Rattle.message_model.specs.Messages.{wire_type}
-use Rattle.message_model.specs.Canon.{septets_of, shortest, payload_bytes, field_bytes, bytes_field, unless_empty, unless_no_fields, message_field, is_flat, row_bytes, shape_fields, shape_bytes, table_fields, canon}
+use Rattle.message_model.specs.Canon.{septets_of, shortest, payload_bytes, field_bytes, bytes_field, unless_empty, unless_no_fields, is_flat, row_bytes, shape_fields, shape_bytes, table_fields, canon}
 use Rattle.message_model.specs.Whole.{IsText, IsWhole, IsMessage}
-use Rattle.message_model.proofs.Composed.{canon-field, canon-end, repeated-none, repeated-more}
-use Rattle.otlp_proto.specs.Encode.{Puts, PutsAll, IsWritten}
+use Rattle.message_model.proofs.Composed.{canon-field, canon-end, row_bytes-append}
+use Rattle.otlp_proto.specs.Encode.{Cursor, Lays, Carries, Puts, PutsAll}
+use Rattle.otlp_proto.proofs.Laying.{lays-none, lays-both, lays-as}
 
-pub no-field : (out : List ℕ) → PutsAll end tt out out
-no-field out = record { bytes = sym (ap (λ bs. out ++ bs) canon-end ∙ append-nil out); whole = tt }
+-- ---- the fields of a table
 
-pub and-field : {n : ℕ} {s : Shape} {t : Table} {x : ValueOf s} {r : Message t} {old mid new : List ℕ} → Puts n s x old mid → PutsAll t r mid new → PutsAll (n ⦂ s ◂ t) (x, r) old new
-and-field {n} {s} {t} {x} {r} {old} p q = record {
-  bytes = q.bytes ∙ ap (λ bs. bs ++ canon t r) p.bytes ∙ append_assoc old (shape_bytes n s x) (canon t r) ∙ ap (λ bs. old ++ bs) (sym (canon-field n s t x r));
+pub no-field : {c : Cursor} → PutsAll end tt c c
+no-field {c} = record { bytes = lays-as c c (sym canon-end) (lays-none c); whole = tt }
+
+pub and-field : {n : ℕ} {s : Shape} {t : Table} {x : ValueOf s} {r : Message t} {c d e : Cursor} → Puts n s x c d → PutsAll t r d e → PutsAll (n ⦂ s ◂ t) (x, r) c e
+and-field {n} {s} {t} {x} {r} {c} {d} {e} p q = record {
+  bytes = lays-as c e (sym (canon-field n s t x r)) (lays-both (shape_bytes n s x) (canon t r) c d e p.bytes q.bytes);
   whole = (p.whole, q.whole);
 }
 
--- a field with nothing to write
-pub nothing : {n : ℕ} {s : Shape} {x : ValueOf s} {out : List ℕ} → shape_bytes n s x ≡ [] → IsWhole s x → Puts n s x out out
-nothing {n} {s} {x} {out} e w = record { bytes = sym (ap (λ bs. out ++ bs) e ∙ append-nil out); whole = w }
+-- a message of a table, all of it
+pub carries : {t : Table} {r : Message t} {c d : Cursor} → PutsAll t r c d → Carries (canon t r) (IsMessage t r) c d
+carries p = record { bytes = p.bytes; whole = p.whole }
+
+pub written : {t : Table} {r : Message t} {c d : Cursor} → Carries (canon t r) (IsMessage t r) c d → PutsAll t r c d
+written p = record { bytes = p.bytes; whole = p.whole }
+
+-- ---- one field
 
 pub one-field : (f : Field) → row_bytes (f ∷ []) ≡ field_bytes f
 unfolding row_bytes
 one-field f = append-nil (field_bytes f)
 
--- a message that is written as one field, whatever it has
-one-message : (n : ℕ) {t : Table} {r : Message t} {bs : List ℕ} (old : List ℕ) {new : List ℕ} → IsWritten t r bs → new ≡ old ++ field_bytes (bytes_field n bs) → new ≡ old ++ row_bytes (bytes_field n (canon t r) ∷ [])
-one-message n {t} {r} old w e = e ∙ ap (λ b. old ++ field_bytes (bytes_field n b)) w.bytes ∙ ap (λ b. old ++ b) (sym (one-field (bytes_field n (canon t r))))
+-- where the shape has just this one to write
+one : {n : ℕ} {s : Shape} {x : ValueOf s} {c d : Cursor} (f : Field) → shape_fields n s x ≡ f ∷ [] → IsWhole s x → Lays (field_bytes f) c d → Puts n s x c d
+one {n} {s} {x} {c} {d} f e w q = record { bytes = lays-as c d (sym (ap row_bytes e ∙ one-field f)) q; whole = w }
 
--- a message that is not flat
-pub put-message : {n : ℕ} {t : Table} {r : Message t} {bs old new : List ℕ} → is_flat t ≡ false → IsWritten t r bs → new ≡ old ++ field_bytes (bytes_field n bs) → Puts n (message t) r old new
-unfolding shape_fields canon
-put-message {n} {t} {r} {bs} {old} {new} deep w e = record {
-  bytes = one-message n old w e ∙ ap (λ b. old ++ row_bytes (cond b (unless_no_fields n (table_fields t r)) (message_field n (table_fields t r) ∷ []))) (sym deep);
-  whole = w.whole;
-}
-
--- ---- a repeated field
-
-pub none_yet : {n : ℕ} {s : Shape} (out : List ℕ) → Puts n (repeated s) [] out out
-none_yet {n} {s} out = nothing (repeated-none n s) tt
-
-pub all-more : {A : Type 0} (P : A → Type 0) (xs : List A) (x : A) → AllByRecursion P xs → P x → AllByRecursion P (xs ++ x ∷ [])
-all-more P [] x h k = (k, tt)
-all-more P (y ∷ xs) x h k = (h.0, all-more P xs x h.1 k)
-
-one-more : {n : ℕ} {t : Table} {rs : List (Message t)} {r : Message t} {bs old mid new : List ℕ} → Puts n (repeated (message t)) rs old mid → IsWritten t r bs → new ≡ mid ++ field_bytes (bytes_field n bs) →
-    Puts n (repeated (message t)) (rs ++ r ∷ []) old new
-unfolding shape_fields canon
-one-more {n} {t} {rs} {r} {bs} {old} {mid} p w e =
-    let own : List ℕ = row_bytes (bytes_field n (canon t r) ∷ []) in record {
-      bytes = one-message n mid w e ∙ ap (λ b. b ++ own) p.bytes ∙ append_assoc old (shape_bytes n (repeated (message t)) rs) own ∙ ap (λ b. old ++ b) (sym (repeated-more n (message t) rs r));
-      whole = all-more (λ y. IsMessage t y) rs r p.whole w.whole;
-    }
-
-pub through-index : {X Y : Type 0} (f : X → Y) (xs : List X) (i : ℕ) (x : X) → i < length xs → x ≡ get_or xs i x → map f (take (i + 1) xs) ≡ map f (take i xs) ++ f x ∷ []
-through-index f xs i x l e = rw (add-one, take-suc xs i x l) (map-append f (take i xs) (get_or xs i x ∷ []) ∙ ap (λ y. map f (take i xs) ++ f y ∷ []) (sym e))
-
-pub through-index-2 : {X Y Z : Type 0} (f : Y → Z) (g : X → Y) (xs : List X) (i : ℕ) (x : X) → i < length xs → x ≡ get_or xs i x →
-    map f (map g (take (i + 1) xs)) ≡ map f (map g (take i xs)) ++ f (g x) ∷ []
-through-index-2 f g xs i x l e = ap (map f) (through-index g xs i x l e) ∙ map-append f (map g (take i xs)) (g x ∷ [])
-
--- one message more, in a loop over what the messages are made of
-pub message-more : {X Y : Type 0} {n : ℕ} {t : Table} {bs old mid new : List ℕ} (f : Y → Message t) (g : X → Y) (xs : List X) (i : ℕ) (x : X) → i < length xs → x ≡ get_or xs i x →
-    Puts n (repeated (message t)) (map f (map g (take i xs))) old mid → IsWritten t (f (g x)) bs → new ≡ mid ++ field_bytes (bytes_field n bs) → Puts n (repeated (message t)) (map f (map g (take (i + 1) xs))) old new
-message-more {n = n} {t = t} {bs = bs} {old = old} {mid = mid} {new = new} f g xs i x l e p w q =
-    rw (through-index-2 f g xs i x l e) (one-more {n = n} {t = t} {rs = map f (map g (take i xs))} {r = f (g x)} {bs = bs} {old = old} {mid = mid} {new = new} p w q)
-
--- ---- fields
-
-pub on-ok : {T E : Type 0} {P Q : Type 0} (r : Result T E) → (P → Q) → OnOk r P → OnOk r Q
-on-ok (Ok x) f h = f h
-on-ok (Err e) f h = tt
-
--- a tag, and the payload behind it
-pub tagged : (f : Field) (old mid new : List ℕ) → mid ≡ old ++ shortest (f.number * 8 + wire_type f.payload) → new ≡ mid ++ payload_bytes f.payload → new ≡ old ++ field_bytes f
-unfolding field_bytes
-tagged f old mid new p q = q ∙ ap (λ bs. bs ++ payload_bytes f.payload) p ∙ append_assoc old (shortest (f.number * 8 + wire_type f.payload)) (payload_bytes f.payload)
-
--- one field, where the shape has just this one to write
-one : {n : ℕ} {s : Shape} {x : ValueOf s} {old new : List ℕ} (f : Field) → shape_fields n s x ≡ f ∷ [] → IsWhole s x → new ≡ old ++ field_bytes f → Puts n s x old new
-one {n} {s} {x} {old} f e w q = record { bytes = q ∙ ap (λ bs. old ++ bs) (sym (ap row_bytes e ∙ one-field f)); whole = w }
-
--- no field, where the shape has none to write
-none : {n : ℕ} {s : Shape} {x : ValueOf s} {out : List ℕ} → shape_fields n s x ≡ [] → IsWhole s x → Puts n s x out out
+-- where the shape has none to write
+none : {n : ℕ} {s : Shape} {x : ValueOf s} {c : Cursor} → shape_fields n s x ≡ [] → IsWhole s x → Puts n s x c c
 unfolding row_bytes
-none e w = nothing (ap row_bytes e) w
+none {c = c} e w = record { bytes = lays-as c c (sym (ap row_bytes e)) (lays-none c); whole = w }
 
 some-bytes : (n : ℕ) (bs : List ℕ) → (length bs == 0) ≡ false → unless_empty n bs ≡ bytes_field n bs ∷ []
 some-bytes n [] e = cc
@@ -100,53 +54,58 @@ no-bytes : (n : ℕ) (bs : List ℕ) → (length bs == 0) ≡ true → unless_em
 no-bytes n [] e = refl
 no-bytes n (b ∷ bs) e = absurd (let l : length (b ∷ bs) ≡ 0 = eqb-true (length (b ∷ bs)) 0 e in omega (arith, l))
 
-pub some-text : {n : ℕ} {t old new : List ℕ} → (length t == 0) ≡ false → IsText t → new ≡ old ++ field_bytes (bytes_field n t) → Puts n text t old new
+pub some-text : {n : ℕ} {t : List ℕ} {c d : Cursor} → (length t == 0) ≡ false → IsText t → Lays (field_bytes (bytes_field n t)) c d → Puts n text t c d
 unfolding shape_fields
 some-text {n} {t} e w q = one (bytes_field n t) (some-bytes n t e) w q
 
-pub no-text : {n : ℕ} {t out : List ℕ} → (length t == 0) ≡ true → IsText t → Puts n text t out out
+pub no-text : {n : ℕ} {t : List ℕ} {c : Cursor} → (length t == 0) ≡ true → IsText t → Puts n text t c c
 unfolding shape_fields
 no-text {n} {t} e w = none (no-bytes n t e) w
 
-pub some-octets : {n : ℕ} {t old new : List ℕ} → (length t == 0) ≡ false → new ≡ old ++ field_bytes (bytes_field n t) → Puts n bytes t old new
+pub some-octets : {n : ℕ} {t : List ℕ} {c d : Cursor} → (length t == 0) ≡ false → Lays (field_bytes (bytes_field n t)) c d → Puts n bytes t c d
 unfolding shape_fields
 some-octets {n} {t} e q = one (bytes_field n t) (some-bytes n t e) tt q
 
-pub no-octets : {n : ℕ} {t out : List ℕ} → (length t == 0) ≡ true → Puts n bytes t out out
+pub no-octets : {n : ℕ} {t : List ℕ} {c : Cursor} → (length t == 0) ≡ true → Puts n bytes t c c
 unfolding shape_fields
 no-octets {n} {t} e = none (no-bytes n t e) tt
 
 not-zero : (x : ℕ) → x ≢ 0 → (x == 0) ≡ false
 not-zero x h = ne_eqb x 0 h
 
-pub some-uint32 : {n x : ℕ} {old new : List ℕ} → x ≢ 0 → x < 2 ^ 32 → new ≡ old ++ field_bytes (record { number = n; payload = varint x }) → Puts n uint32 x old new
+pub some-uint32 : {n x : ℕ} {c d : Cursor} → x ≢ 0 → x < 2 ^ 32 → Lays (field_bytes (record { number = n; payload = varint x })) c d → Puts n uint32 x c d
 unfolding shape_fields
 some-uint32 {n} {x} h w q = one (record { number = n; payload = varint x }) (rw (not-zero x h) refl) w q
 
-pub no-uint32 : {n : ℕ} {out : List ℕ} → Puts n uint32 0 out out
+pub no-uint32 : {n : ℕ} {c : Cursor} → Puts n uint32 0 c c
 unfolding shape_fields
 no-uint32 = none refl (omega arith)
 
-pub some-enum : {n x : ℕ} {old new : List ℕ} → x ≢ 0 → x < 2 ^ 31 → new ≡ old ++ field_bytes (record { number = n; payload = varint x }) → Puts n enum (pos x) old new
+pub some-enum : {n x : ℕ} {c d : Cursor} → x ≢ 0 → x < 2 ^ 31 → Lays (field_bytes (record { number = n; payload = varint x })) c d → Puts n enum (pos x) c d
 unfolding shape_fields
 some-enum {n} {x} h w q = one (record { number = n; payload = varint x }) (rw (not-zero x h) refl) (x, w, refl) q
 
-pub no-enum : {n : ℕ} {out : List ℕ} → Puts n enum (pos 0) out out
+pub no-enum : {n : ℕ} {c : Cursor} → Puts n enum (pos 0) c c
 unfolding shape_fields
 no-enum = none refl (0, omega arith, refl)
 
-pub some-fixed64 : {n x : ℕ} {old new : List ℕ} → x ≢ 0 → x < 2 ^ 64 → new ≡ old ++ field_bytes (record { number = n; payload = i64 x }) → Puts n fixed64 x old new
+pub some-fixed64 : {n x : ℕ} {c d : Cursor} → x ≢ 0 → x < 2 ^ 64 → Lays (field_bytes (record { number = n; payload = i64 x })) c d → Puts n fixed64 x c d
 unfolding shape_fields
 some-fixed64 {n} {x} h w q = one (record { number = n; payload = i64 x }) (rw (not-zero x h) refl) w q
 
-pub no-fixed64 : {n : ℕ} {out : List ℕ} → Puts n fixed64 0 out out
+pub no-fixed64 : {n : ℕ} {c : Cursor} → Puts n fixed64 0 c c
 unfolding shape_fields
 no-fixed64 = none refl (omega arith)
 
-pub no-octets-at-all : {n : ℕ} {out : List ℕ} → Puts n bytes [] out out
+pub no-octets-at-all : {n : ℕ} {c : Cursor} → Puts n bytes [] c c
 no-octets-at-all = no-octets refl
 
--- ---- a message that is left out where it has no field
+-- ---- a message in a field
+
+-- one that is not flat
+pub put-message : {n : ℕ} {t : Table} {r : Message t} {c d : Cursor} → is_flat t ≡ false → Carries (field_bytes (bytes_field n (canon t r))) (IsMessage t r) c d → Puts n (message t) r c d
+unfolding shape_fields canon
+put-message {n} {t} {r} deep w = one (bytes_field n (canon t r)) (rw deep refl) w.whole w.bytes
 
 groups-some : (room n : ℕ) → 0 < length (septets_of room n)
 unfolding septets_of
@@ -161,19 +120,58 @@ field-some f fields =
     let all = length-append (field_bytes f) (row_bytes fields) in
     omega (arith, tag, own, all)
 
-row-some : (n : ℕ) (fields : List Field) → (length (row_bytes fields) == 0) ≡ false → unless_no_fields n fields ≡ bytes_field n (row_bytes fields) ∷ []
+row-some : (n : ℕ) (fields : List Field) → length (row_bytes fields) ≢ 0 → unless_no_fields n fields ≡ bytes_field n (row_bytes fields) ∷ []
 unfolding row_bytes
-row-some n [] e = cc
+row-some n [] e = absurd (e refl)
 row-some n (f ∷ fields) e = refl
 
-row-none : (n : ℕ) (fields : List Field) → (length (row_bytes fields) == 0) ≡ true → unless_no_fields n fields ≡ []
+row-none : (n : ℕ) (fields : List Field) → length (row_bytes fields) ≡ 0 → unless_no_fields n fields ≡ []
 row-none n [] e = refl
-row-none n (f ∷ fields) e = absurd (let l : length (row_bytes (f ∷ fields)) ≡ 0 = eqb-true (length (row_bytes (f ∷ fields))) 0 e in omega (arith, l, field-some f fields))
+row-none n (f ∷ fields) e = absurd (omega (arith, e, field-some f fields))
 
-pub some-message : {n : ℕ} {t : Table} {r : Message t} {bs old new : List ℕ} → is_flat t ≡ true → IsWritten t r bs → (length bs == 0) ≡ false → new ≡ old ++ field_bytes (bytes_field n bs) → Puts n (message t) r old new
+-- one that is left out where it has no field
+pub some-message : {n : ℕ} {t : Table} {r : Message t} {c d : Cursor} → is_flat t ≡ true → length (canon t r) ≢ 0 → Carries (field_bytes (bytes_field n (canon t r))) (IsMessage t r) c d → Puts n (message t) r c d
 unfolding shape_fields canon
-some-message {n} {t} {r} {bs} {old} flat w e q = one (bytes_field n (canon t r)) (rw flat (row-some n (table_fields t r) (ap (λ b. length b == 0) (sym w.bytes) ∙ e))) w.whole (q ∙ ap (λ b. old ++ field_bytes (bytes_field n b)) w.bytes)
+some-message {n} {t} {r} flat e w = one (bytes_field n (canon t r)) (rw flat (row-some n (table_fields t r) e)) w.whole w.bytes
 
-pub no-message : {n : ℕ} {t : Table} {r : Message t} {bs out : List ℕ} → is_flat t ≡ true → IsWritten t r bs → (length bs == 0) ≡ true → Puts n (message t) r out out
+pub no-message : {n : ℕ} {t : Table} {r : Message t} {c : Cursor} → is_flat t ≡ true → length (canon t r) ≡ 0 → IsMessage t r → Puts n (message t) r c c
 unfolding shape_fields canon
-no-message {n} {t} {r} flat w e = none (rw flat (row-none n (table_fields t r) (ap (λ b. length b == 0) (sym w.bytes) ∙ e))) w.whole
+no-message {n} {t} {r} flat e w = none (rw flat (row-none n (table_fields t r) e)) w
+
+-- ---- fields of one number, one for each item
+
+pub through-index : {X Y : Type 0} (f : X → Y) (xs : List X) (i : ℕ) (x : X) → i < length xs → x ≡ get_or xs i x → map f (take (i + 1) xs) ≡ map f (take i xs) ++ f x ∷ []
+through-index f xs i x l e = rw (add-one, take-suc xs i x l) (map-append f (take i xs) (get_or xs i x ∷ []) ∙ ap (λ y. map f (take i xs) ++ f y ∷ []) (sym e))
+
+pub all-more : {A : Type 0} (P : A → Type 0) (xs : List A) (x : A) → AllByRecursion P xs → P x → AllByRecursion P (xs ++ x ∷ [])
+all-more P [] x h k = (k, tt)
+all-more P (y ∷ xs) x h k = (h.0, all-more P xs x h.1 k)
+
+pub each-none : {A : Type 0} (n : ℕ) (bytes_of : A → List ℕ) (P : A → Type 0) {c : Cursor} → Carries (row_bytes (map (λ x. bytes_field n (bytes_of x)) [])) (AllByRecursion P []) c c
+unfolding row_bytes
+each-none n bytes_of P {c} = record { bytes = lays-none c; whole = tt }
+
+pub each-more : {A : Type 0} (n : ℕ) (bytes_of : A → List ℕ) (P : A → Type 0) (xs : List A) (x : A) {c d e : Cursor} →
+    Carries (row_bytes (map (λ y. bytes_field n (bytes_of y)) xs)) (AllByRecursion P xs) c d → Carries (field_bytes (bytes_field n (bytes_of x))) (P x) d e →
+    Carries (row_bytes (map (λ y. bytes_field n (bytes_of y)) (xs ++ x ∷ []))) (AllByRecursion P (xs ++ x ∷ [])) c e
+each-more {A} n bytes_of P xs x {c} {d} {e} p q =
+    let own : A → Field = λ y. bytes_field n (bytes_of y) in
+    let one-more : row_bytes (map own (xs ++ x ∷ [])) ≡ row_bytes (map own xs) ++ field_bytes (own x) =
+    ap row_bytes (map-append own xs (x ∷ [])) ∙ row_bytes-append (map own xs) (own x ∷ []) ∙ ap (λ bs. row_bytes (map own xs) ++ bs) (one-field (own x)) in record {
+      bytes = lays-as c e (sym one-more) (lays-both (row_bytes (map own xs)) (field_bytes (own x)) c d e p.bytes q.bytes);
+      whole = all-more P xs x p.whole q.whole;
+    }
+
+each-messages : (n : ℕ) {V : Type 0} (t : Table) (f : V → Message t) (xs : List V) → shape_fields n (repeated (message t)) (map f xs) ≡ map (λ x. bytes_field n (canon t (f x))) xs
+unfolding shape_fields canon
+each-messages n t f [] = refl
+each-messages n t f (x ∷ xs) = ap (λ fields. bytes_field n (row_bytes (table_fields t (f x))) ∷ fields) (each-messages n t f xs)
+
+each-whole : {V : Type 0} (t : Table) (f : V → Message t) (xs : List V) → AllByRecursion (λ x. IsMessage t (f x)) xs → AllByRecursion (λ r. IsMessage t r) (map f xs)
+each-whole t f [] h = tt
+each-whole t f (x ∷ xs) h = (h.0, each-whole t f xs h.1)
+
+-- the messages of a repeated field
+pub put-messages : {n : ℕ} {V : Type 0} {t : Table} (f : V → Message t) (xs : List V) {c d : Cursor} → Carries (row_bytes (map (λ x. bytes_field n (canon t (f x))) xs)) (AllByRecursion (λ x. IsMessage t (f x)) xs) c d →
+    Puts n (repeated (message t)) (map f xs) c d
+put-messages {n} {t = t} f xs {c} {d} p = record { bytes = lays-as c d (ap row_bytes (sym (each-messages n t f xs))) p.bytes; whole = each-whole t f xs p.whole }

@@ -1,3 +1,4 @@
 pub mod Encode
+pub mod Grouped
 pub mod Bodies
 pub mod WireTypes

@@ -16,7 +16,7 @@ use std::alloc::Allocator;
 /// # Errors
 ///
 /// `OutOfMemory` where memory was refused; without spans none is taken. `TooLarge` where the body
-/// has more than `max` bytes: it is made before it is measured, so want of memory is told first.
+/// has more than `max` bytes, which is told before memory for it is taken.
 pub fn body_of<A: Allocator + Copy>(
     alloc: A,
     spans: &[SpanData<A>],

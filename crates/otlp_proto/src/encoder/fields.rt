@@ -1,18 +1,16 @@
-//! Fields of messages, appended to a vector (Protocol Buffers, "Encoding").
-ghost use Rattle.std.specs.Prelude.{◌≡◌, ◌+◌, ◌*◌, ◌++◌, ◌<◌, ◌^◌, OnOk, pos};
+//! Fields of messages (Protocol Buffers, "Encoding").
+ghost use Rattle.std.specs.Prelude.{◌≡◌, ◌+◌, ◌*◌, ◌<◌, pos};
 ghost use Rattle.message_model.specs.Wire;
 ghost use Rattle.message_model.specs.Tables;
 ghost use Rattle.message_model.specs.Canon.{field_bytes, shortest};
-ghost use Rattle.otlp_proto.specs.Encode.{Puts};
+ghost use Rattle.otlp_proto.specs.Encode.{Lays, Puts};
 ghost use Rattle.otlp_proto.specs.WireTypes.{wire_type_number};
 
-use otlp_ids::OutOfMemory;
-use otlp_wire::{write_fixed64, write_len, write_varint};
-use std::alloc::Allocator;
+use crate::encoder::sink::Sink;
 
 /// How the payload of a field is spelled (Protocol Buffers, Encoding, "Message Structure").
 #[derive(Clone, Copy)]
-enum WireType {
+pub enum WireType {
     /// A varint.
     Varint,
     /// Eight bytes.
@@ -35,119 +33,75 @@ impl WireType {
     }
 }
 
-/// Appends the tag of a field: its number and its wire type.
-fn put_key<A: Allocator>(
-    out: &mut Vec<u8, A>,
-    number: u32,
-    wire_type: WireType,
-) -> Result<(), OutOfMemory>
-    requires { number < 2 ^ 29 }
-    ensures { OnOk result (out.new.items
-        ≡ out.old.items ++ shortest (number * 8 + wire_type_number wire_type)) }
+/// Puts the tag of a field: its number and its wire type.
+pub fn put_key<S: Sink>(sink: &mut S, number: u32, wire_type: WireType)
+    ensures { Lays (shortest (number * 8 + wire_type_number wire_type))
+        (S.cursor sink.old) (S.cursor sink.new) }
 {
-    write_varint(out, number as u64 * 8 + wire_type.number())
+    sink.put_varint(number as u64 * 8 + wire_type.number());
 }
 
-/// Appends a field that holds a number, whatever number it is.
-pub fn put_varint<A: Allocator>(
-    out: &mut Vec<u8, A>,
-    number: u32,
-    value: u64,
-) -> Result<(), OutOfMemory>
-    requires { number < 2 ^ 29 }
-    ensures { OnOk result (out.new.items
-        ≡ out.old.items ++ field_bytes (record { number = number; payload = Wire.varint value })) }
+/// Puts a field that holds a number, whatever number it is.
+pub fn put_varint<S: Sink>(sink: &mut S, number: u32, value: u64)
+    ensures { Lays (field_bytes (record { number = number; payload = Wire.varint value }))
+        (S.cursor sink.old) (S.cursor sink.new) }
 {
-    put_key(out, number, WireType::Varint)?;
-    write_varint(out, value)
+    put_key(sink, number, WireType::Varint);
+    sink.put_varint(value);
 }
 
-/// Appends a field that holds bytes, also where there are none.
-pub fn put_len<A: Allocator>(
-    out: &mut Vec<u8, A>,
-    number: u32,
-    bytes: &[u8],
-) -> Result<(), OutOfMemory>
-    requires { number < 2 ^ 29 }
-    ensures { OnOk result (out.new.items
-        ≡ out.old.items ++ field_bytes (record { number = number; payload = Wire.len bytes.now })) }
+/// Puts a field that holds bytes, also where there are none.
+pub fn put_len<S: Sink>(sink: &mut S, number: u32, bytes: &[u8])
+    ensures { Lays (field_bytes (record { number = number; payload = Wire.len bytes.now }))
+        (S.cursor sink.old) (S.cursor sink.new) }
 {
-    put_key(out, number, WireType::LengthDelimited)?;
-    write_len(out, bytes)
+    put_key(sink, number, WireType::LengthDelimited);
+    sink.put_varint(bytes.len() as u64);
+    sink.put_bytes(bytes);
 }
 
-/// Appends a text, unless it is empty.
-pub fn put_text<A: Allocator>(
-    out: &mut Vec<u8, A>,
-    number: u32,
-    text: &str,
-) -> Result<(), OutOfMemory>
-    requires { number < 2 ^ 29 }
-    ensures { OnOk result (Puts number Tables.text text.now out.old.items out.new.items) }
+/// Puts a text, unless it is empty.
+pub fn put_text<S: Sink>(sink: &mut S, number: u32, text: &str)
+    ensures { Puts number Tables.text text.now (S.cursor sink.old) (S.cursor sink.new) }
 {
     if !text.is_empty() {
-        put_len(out, number, text.as_bytes())?;
+        put_len(sink, number, text.as_bytes());
     }
-    Ok(())
 }
 
-/// Appends bytes, unless there are none.
-pub fn put_bytes<A: Allocator>(
-    out: &mut Vec<u8, A>,
-    number: u32,
-    bytes: &[u8],
-) -> Result<(), OutOfMemory>
-    requires { number < 2 ^ 29 }
-    ensures { OnOk result (Puts number Tables.bytes bytes.now out.old.items out.new.items) }
+/// Puts bytes, unless there are none.
+pub fn put_bytes<S: Sink>(sink: &mut S, number: u32, bytes: &[u8])
+    ensures { Puts number Tables.bytes bytes.now (S.cursor sink.old) (S.cursor sink.new) }
 {
     if !bytes.is_empty() {
-        put_len(out, number, bytes)?;
+        put_len(sink, number, bytes);
     }
-    Ok(())
 }
 
-/// Appends a number of 32 bits, unless it is 0.
-pub fn put_uint32<A: Allocator>(
-    out: &mut Vec<u8, A>,
-    number: u32,
-    value: u32,
-) -> Result<(), OutOfMemory>
-    requires { number < 2 ^ 29 }
-    ensures { OnOk result (Puts number Tables.uint32 value out.old.items out.new.items) }
+/// Puts a number of 32 bits, unless it is 0.
+pub fn put_uint32<S: Sink>(sink: &mut S, number: u32, value: u32)
+    ensures { Puts number Tables.uint32 value (S.cursor sink.old) (S.cursor sink.new) }
 {
     if value != 0 {
-        put_varint(out, number, value as u64)?;
+        put_varint(sink, number, value as u64);
     }
-    Ok(())
 }
 
-/// Appends the number of an enumeration's case, unless it is 0.
-pub fn put_enum<A: Allocator>(
-    out: &mut Vec<u8, A>,
-    number: u32,
-    value: u8,
-) -> Result<(), OutOfMemory>
-    requires { number < 2 ^ 29 }
-    ensures { OnOk result (Puts number Tables.enum (pos value) out.old.items out.new.items) }
+/// Puts the number of an enumeration's case, unless it is 0.
+pub fn put_enum<S: Sink>(sink: &mut S, number: u32, value: u8)
+    ensures { Puts number Tables.enum (pos value) (S.cursor sink.old) (S.cursor sink.new) }
 {
     if value != 0 {
-        put_varint(out, number, value as u64)?;
+        put_varint(sink, number, value as u64);
     }
-    Ok(())
 }
 
-/// Appends a number of 64 bits in eight bytes, unless it is 0.
-pub fn put_fixed64<A: Allocator>(
-    out: &mut Vec<u8, A>,
-    number: u32,
-    value: u64,
-) -> Result<(), OutOfMemory>
-    requires { number < 2 ^ 29 }
-    ensures { OnOk result (Puts number Tables.fixed64 value out.old.items out.new.items) }
+/// Puts a number of 64 bits in eight bytes, unless it is 0.
+pub fn put_fixed64<S: Sink>(sink: &mut S, number: u32, value: u64)
+    ensures { Puts number Tables.fixed64 value (S.cursor sink.old) (S.cursor sink.new) }
 {
     if value != 0 {
-        put_key(out, number, WireType::SixtyFourBit)?;
-        write_fixed64(out, value)?;
+        put_key(sink, number, WireType::SixtyFourBit);
+        sink.put_fixed64(value);
     }
-    Ok(())
 }

@@ -1,11 +1,11 @@
 //! Messages in fields of others (Protocol Buffers, Encoding, "Submessages").
-ghost use Rattle.std.specs.Prelude.{◌<◌, ◌^◌, IfOk, OnOk, map};
-ghost use Rattle.message_model.specs.Tables;
-ghost use Rattle.otlp_proto.specs.Encode.{Puts, IsWritten};
+ghost use Rattle.std.specs.Prelude.{ℕ, List, map};
+ghost use Rattle.std.specs.List.{AllByRecursion};
+ghost use Rattle.message_model.specs.Canon.{field_bytes, row_bytes, bytes_field};
+ghost use Rattle.otlp_proto.specs.Encode.{Carries, Measures};
 
-use crate::encoder::fields::put_len;
-use otlp_ids::OutOfMemory;
-use std::alloc::Allocator;
+use crate::encoder::fields::{WireType, put_key};
+use crate::encoder::sink::{Length, Sink};
 
 /// What is written as a message in a field of another.
 pub trait Submessage {
@@ -13,30 +13,55 @@ pub trait Submessage {
 
     ghost view: { Self → viewed };
 
-    ghost table: { Tables.Table };
+    ghost bytes: { viewed → List ℕ };
 
-    ghost message: { viewed → Tables.Message table };
+    ghost is_whole: { viewed → Type 0 };
 
-    /// Its message.
-    fn encode<A: Allocator + Copy>(&self, alloc: A) -> Result<Vec<u8, A>, OutOfMemory>
-        ensures { IfOk result (λ v. IsWritten table (message (view self.now)) v.items) };
+    /// Puts the fields of its message.
+    fn put<S: Sink>(&self, sink: &mut S)
+        ensures { Carries (bytes (view self.now)) (is_whole (view self.now))
+            (S.cursor sink.old) (S.cursor sink.new) };
 }
 
-/// Appends the message of each item as a field of this number.
-#[tactic(auto, using(crate::proofs::Writing::none_yet))]
-pub fn put_messages<T: Submessage, A: Allocator + Copy>(
-    alloc: A,
-    out: &mut Vec<u8, A>,
-    number: u32,
-    items: &[T],
-) -> Result<(), OutOfMemory>
-    requires { number < 2 ^ 29 }
-    ensures { OnOk result (Puts number (Tables.repeated (Tables.message T.table))
-        (map T.message (map T.view items.now)) out.old.items out.new.items) }
+/// How many bytes its message has; 2^64 - 1 stands for that many and for more.
+pub fn encoded_len<T: Submessage>(item: &T) -> usize
+    ensures { Measures (T.bytes (T.view item.now)) (T.is_whole (T.view item.now)) result }
+{
+    let mut length = Length::new();
+    item.put(&mut length);
+    length.len()
+}
+
+/// Puts a message of this length as a field.
+pub fn put_sized<T: Submessage, S: Sink>(sink: &mut S, number: u32, item: &T, len: usize)
+    requires { Measures (T.bytes (T.view item.now)) (T.is_whole (T.view item.now)) len }
+    ensures { Carries (field_bytes (bytes_field number (T.bytes (T.view item.now))))
+        (T.is_whole (T.view item.now)) (S.cursor sink.old) (S.cursor sink.new) }
+{
+    put_key(sink, number, WireType::LengthDelimited);
+    sink.put_varint(len as u64);
+    if !sink.skip(len) {
+        item.put(sink);
+    }
+}
+
+/// Puts a message as a field, also where it has no byte.
+pub fn put_one<T: Submessage, S: Sink>(sink: &mut S, number: u32, item: &T)
+    ensures { Carries (field_bytes (bytes_field number (T.bytes (T.view item.now))))
+        (T.is_whole (T.view item.now)) (S.cursor sink.old) (S.cursor sink.new) }
+{
+    let len = encoded_len(item);
+    put_sized(sink, number, item, len);
+}
+
+/// Puts each message as a field of this number.
+pub fn put_each<T: Submessage, S: Sink>(sink: &mut S, number: u32, items: &[T])
+    ensures { Carries
+        (row_bytes (map (λ v. bytes_field number (T.bytes v)) (map T.view items.now)))
+        (AllByRecursion T.is_whole (map T.view items.now))
+        (S.cursor sink.old) (S.cursor sink.new) }
 {
     for item in items {
-        let message = item.encode(alloc)?;
-        put_len(out, number, message.as_slice())?;
+        put_one(sink, number, item);
     }
-    Ok(())
 }

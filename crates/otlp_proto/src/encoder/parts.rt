@@ -1,19 +1,21 @@
-//! Events, links and the status of a span (opentelemetry-proto, trace.proto: Span.Event, Span.Link,
-//! Status).
-ghost use Rattle.std.specs.Prelude.{◌≡◌, ◌<◌, ◌^◌, IfOk, OnOk, pos};
+//! Events, links and the status of a span, resources and scopes (opentelemetry-proto, trace.proto:
+//! Span.Event, Span.Link, Status; resource.proto: Resource; common.proto: InstrumentationScope).
+ghost use Rattle.std.specs.Prelude.{◌≡◌, pos};
 ghost use Rattle.message_model.specs.Tables;
 ghost use Rattle.export_model.specs.Export as model;
 ghost use Rattle.otlp_span.specs.Parts.{status_view};
-ghost use Rattle.otlp_proto.specs.Encode.{Puts, IsWritten};
+ghost use Rattle.otlp_proto.specs.Encode.{Puts};
 
-use crate::encoder::fields::{put_bytes, put_enum, put_fixed64, put_len, put_text, put_uint32};
-use crate::encoder::messages::{Submessage, put_messages};
-use otlp_ids::OutOfMemory;
-use otlp_span::{Event, Link, Status};
+use crate::encoder::fields::{put_bytes, put_enum, put_fixed64, put_text, put_uint32};
+use crate::encoder::messages::{Submessage, encoded_len, put_each, put_sized};
+use crate::encoder::sink::Sink;
+use otlp_span::{Event, Link, Resource, Scope, Status};
 use std::alloc::Allocator;
 
 impl<B: Allocator> Submessage for Event<B> {
     ghost use Rattle.message_model.specs.Tables;
+    ghost use Rattle.message_model.specs.Canon.{canon};
+    ghost use Rattle.message_model.specs.Whole.{IsMessage};
     ghost use Rattle.span_model.specs.Spans as spans;
     ghost use Rattle.export_model.specs.Export as model;
     ghost use Rattle.otlp_span.specs.Parts.{event_view};
@@ -22,22 +24,22 @@ impl<B: Allocator> Submessage for Event<B> {
 
     ghost view = { event_view };
 
-    ghost table = { Tables.event };
+    ghost bytes = { λ e. canon Tables.event (model.event_message e) };
 
-    ghost message = { model.event_message };
+    ghost is_whole = { λ e. IsMessage Tables.event (model.event_message e) };
 
-    fn encode<A: Allocator + Copy>(&self, alloc: A) -> Result<Vec<u8, A>, OutOfMemory> {
-        let mut out = Vec::new(alloc);
-        put_fixed64(&mut out, 1, self.timestamp)?;
-        put_text(&mut out, 2, self.name.as_str())?;
-        put_messages(alloc, &mut out, 3, self.attributes.as_slice())?;
-        put_uint32(&mut out, 4, self.dropped_attributes_count)?;
-        Ok(out)
+    fn put<S: Sink>(&self, sink: &mut S) {
+        put_fixed64(sink, 1, self.timestamp);
+        put_text(sink, 2, self.name.as_str());
+        put_each(sink, 3, self.attributes.as_slice());
+        put_uint32(sink, 4, self.dropped_attributes_count);
     }
 }
 
 impl<B: Allocator> Submessage for Link<B> {
     ghost use Rattle.message_model.specs.Tables;
+    ghost use Rattle.message_model.specs.Canon.{canon};
+    ghost use Rattle.message_model.specs.Whole.{IsMessage};
     ghost use Rattle.span_model.specs.Spans as spans;
     ghost use Rattle.export_model.specs.Export as model;
     ghost use Rattle.otlp_span.specs.Parts.{link_view};
@@ -46,19 +48,61 @@ impl<B: Allocator> Submessage for Link<B> {
 
     ghost view = { link_view };
 
-    ghost table = { Tables.link };
+    ghost bytes = { λ l. canon Tables.link (model.link_message l) };
 
-    ghost message = { model.link_message };
+    ghost is_whole = { λ l. IsMessage Tables.link (model.link_message l) };
 
-    fn encode<A: Allocator + Copy>(&self, alloc: A) -> Result<Vec<u8, A>, OutOfMemory> {
-        let mut out = Vec::new(alloc);
+    fn put<S: Sink>(&self, sink: &mut S) {
         let context = &self.span_context;
-        put_bytes(&mut out, 1, &context.trace.0)?;
-        put_bytes(&mut out, 2, &context.span.0)?;
-        put_text(&mut out, 3, context.state.as_str())?;
-        put_messages(alloc, &mut out, 4, self.attributes.as_slice())?;
-        put_uint32(&mut out, 5, self.dropped_attributes_count)?;
-        Ok(out)
+        put_bytes(sink, 1, &context.trace.0);
+        put_bytes(sink, 2, &context.span.0);
+        put_text(sink, 3, context.state.as_str());
+        put_each(sink, 4, self.attributes.as_slice());
+        put_uint32(sink, 5, self.dropped_attributes_count);
+    }
+}
+
+impl<B: Allocator> Submessage for Resource<B> {
+    ghost use Rattle.message_model.specs.Tables;
+    ghost use Rattle.message_model.specs.Canon.{canon};
+    ghost use Rattle.message_model.specs.Whole.{IsMessage};
+    ghost use Rattle.span_model.specs.Spans as spans;
+    ghost use Rattle.export_model.specs.Export as model;
+    ghost use Rattle.otlp_span.specs.Parts.{resource_view};
+
+    ghost viewed = { spans.Resource };
+
+    ghost view = { resource_view };
+
+    ghost bytes = { λ r. canon Tables.resource (model.resource_message r) };
+
+    ghost is_whole = { λ r. IsMessage Tables.resource (model.resource_message r) };
+
+    fn put<S: Sink>(&self, sink: &mut S) {
+        put_each(sink, 1, self.attributes.as_slice());
+    }
+}
+
+impl<B: Allocator> Submessage for Scope<B> {
+    ghost use Rattle.message_model.specs.Tables;
+    ghost use Rattle.message_model.specs.Canon.{canon};
+    ghost use Rattle.message_model.specs.Whole.{IsMessage};
+    ghost use Rattle.span_model.specs.Spans as spans;
+    ghost use Rattle.export_model.specs.Export as model;
+    ghost use Rattle.otlp_span.specs.Parts.{scope_view};
+
+    ghost viewed = { spans.Scope };
+
+    ghost view = { scope_view };
+
+    ghost bytes = { λ s. canon Tables.scope (model.scope_message s) };
+
+    ghost is_whole = { λ s. IsMessage Tables.scope (model.scope_message s) };
+
+    fn put<S: Sink>(&self, sink: &mut S) {
+        put_text(sink, 1, self.name.as_str());
+        put_text(sink, 2, self.version.as_str());
+        put_each(sink, 3, self.attributes.as_slice());
     }
 }
 
@@ -85,34 +129,36 @@ fn status_code<A: Allocator>(status: &Status<A>) -> u8
     }
 }
 
-/// The message of a status, which has no byte where that is Unset.
-fn encode_status<A: Allocator + Copy>(
-    alloc: A,
-    status: &Status<A>,
-) -> Result<Vec<u8, A>, OutOfMemory>
-    ensures { IfOk result
-        (λ v. IsWritten Tables.status (model.status_message (status_view status.now)) v.items) }
-{
-    let mut out = Vec::new(alloc);
-    put_text(&mut out, 2, status_message(status))?;
-    put_enum(&mut out, 3, status_code(status))?;
-    Ok(out)
+impl<B: Allocator> Submessage for Status<B> {
+    ghost use Rattle.message_model.specs.Tables;
+    ghost use Rattle.message_model.specs.Canon.{canon};
+    ghost use Rattle.message_model.specs.Whole.{IsMessage};
+    ghost use Rattle.span_model.specs.Spans as spans;
+    ghost use Rattle.export_model.specs.Export as model;
+    ghost use Rattle.otlp_span.specs.Parts.{status_view};
+
+    ghost viewed = { spans.Status };
+
+    ghost view = { status_view };
+
+    ghost bytes = { λ s. canon Tables.status (model.status_message s) };
+
+    ghost is_whole = { λ s. IsMessage Tables.status (model.status_message s) };
+
+    /// No byte where it is Unset.
+    fn put<S: Sink>(&self, sink: &mut S) {
+        put_text(sink, 2, status_message(self));
+        put_enum(sink, 3, status_code(self));
+    }
 }
 
-/// Appends a status, unless its message has no field, as where it is Unset.
-pub fn put_status<A: Allocator + Copy>(
-    alloc: A,
-    out: &mut Vec<u8, A>,
-    number: u32,
-    status: &Status<A>,
-) -> Result<(), OutOfMemory>
-    requires { number < 2 ^ 29 }
-    ensures { OnOk result (Puts number (Tables.message Tables.status)
-        (model.status_message (status_view status.now)) out.old.items out.new.items) }
+/// Puts a status as a field, unless its message has no byte, as where it is Unset.
+pub fn put_status<A: Allocator, S: Sink>(sink: &mut S, number: u32, status: &Status<A>)
+    ensures { Puts number (Tables.message Tables.status)
+        (model.status_message (status_view status.now)) (S.cursor sink.old) (S.cursor sink.new) }
 {
-    let message = encode_status(alloc, status)?;
-    if message.is_empty() {
-        return Ok(());
+    let len = encoded_len(status);
+    if len != 0 {
+        put_sized(sink, number, status, len);
     }
-    put_len(out, number, message.as_slice())
 }

@@ -1,91 +1,125 @@
 //! Attributes and their values (opentelemetry-proto, common.proto: KeyValue, AnyValue, ArrayValue).
-ghost use Rattle.std.specs.Prelude.{OnOk, map, string_bytes};
-ghost use Rattle.message_model.specs.AnyValue.{AnyValue, as_values};
-ghost use Rattle.export_model.specs.Export as model;
-ghost use Rattle.otlp_value.specs.Value.{value_view};
-ghost use Rattle.otlp_proto.specs.Encode.{PutsMember};
 
 use crate::encoder::fields::{put_len, put_text, put_varint};
-use crate::encoder::messages::Submessage;
-use otlp_ids::OutOfMemory;
+use crate::encoder::messages::{Submessage, put_each, put_one};
+use crate::encoder::sink::Sink;
 use otlp_value::Value;
 use std::alloc::Allocator;
 
-/// What an AnyValue holds by itself, and an ArrayValue holds any number of.
-trait Scalar {
-    ghost value: { Self → AnyValue };
+// Each of the types below is written as the one member that an AnyValue has, which is there also
+// where it is the default.
 
-    /// Appends it as a value's member, also where it is the default.
-    fn put<A: Allocator>(&self, out: &mut Vec<u8, A>) -> Result<(), OutOfMemory>
-        ensures { OnOk result (PutsMember 1 (value self.now) out.old.items out.new.items) };
-}
+impl<B: Allocator> Submessage for String<B> {
+    ghost use Rattle.std.specs.Prelude.{string_bytes};
+    ghost use Rattle.message_model.specs.AnyValue.{AnyValue};
+    ghost use Rattle.message_model.specs.Canon.{value_fields, row_bytes};
+    ghost use Rattle.message_model.specs.Whole.{IsValue};
 
-impl<B: Allocator> Scalar for String<B> {
-    ghost value = { λ text. AnyValue.text (string_bytes text) };
+    ghost viewed = { AnyValue };
 
-    fn put<A: Allocator>(&self, out: &mut Vec<u8, A>) -> Result<(), OutOfMemory> {
-        put_len(out, 1, self.as_str().as_bytes())
+    ghost view = { λ text. AnyValue.text (string_bytes text) };
+
+    ghost bytes = { λ v. row_bytes (value_fields v) };
+
+    ghost is_whole = { IsValue 1 };
+
+    fn put<S: Sink>(&self, sink: &mut S) {
+        put_len(sink, 1, self.as_str().as_bytes());
     }
 }
 
-impl Scalar for bool {
-    ghost value = { AnyValue.bool };
+impl Submessage for bool {
+    ghost use Rattle.message_model.specs.AnyValue.{AnyValue};
+    ghost use Rattle.message_model.specs.Canon.{value_fields, row_bytes};
+    ghost use Rattle.message_model.specs.Whole.{IsValue};
 
-    fn put<A: Allocator>(&self, out: &mut Vec<u8, A>) -> Result<(), OutOfMemory> {
-        put_varint(out, 2, *self as u64)
+    ghost viewed = { AnyValue };
+
+    ghost view = { AnyValue.bool };
+
+    ghost bytes = { λ v. row_bytes (value_fields v) };
+
+    ghost is_whole = { IsValue 1 };
+
+    fn put<S: Sink>(&self, sink: &mut S) {
+        put_varint(sink, 2, *self as u64);
     }
 }
 
-impl Scalar for i64 {
-    ghost value = { AnyValue.int };
+impl Submessage for i64 {
+    ghost use Rattle.message_model.specs.AnyValue.{AnyValue};
+    ghost use Rattle.message_model.specs.Canon.{value_fields, row_bytes};
+    ghost use Rattle.message_model.specs.Whole.{IsValue};
+
+    ghost viewed = { AnyValue };
+
+    ghost view = { AnyValue.int };
+
+    ghost bytes = { λ v. row_bytes (value_fields v) };
+
+    ghost is_whole = { IsValue 1 };
 
     /// In two's complement of 64 bits.
-    fn put<A: Allocator>(&self, out: &mut Vec<u8, A>) -> Result<(), OutOfMemory> {
+    fn put<S: Sink>(&self, sink: &mut S) {
         let number = *self;
-        put_varint(out, 3, number.cast_unsigned())
+        put_varint(sink, 3, number.cast_unsigned());
     }
 }
 
-/// Appends an ArrayValue as a value's member, each of its values with its own member.
-fn put_array<T: Scalar, A: Allocator + Copy>(
-    alloc: A,
-    out: &mut Vec<u8, A>,
-    items: &[T],
-) -> Result<(), OutOfMemory>
-    ensures { OnOk result (PutsMember 2
-        (AnyValue.array (as_values (map T.value items.now))) out.old.items out.new.items) }
-{
-    let mut array = Vec::new(alloc);
-    for item in items {
-        let mut member = Vec::new(alloc);
-        item.put(&mut member)?;
-        put_len(&mut array, 1, member.as_slice())?;
+/// The values of an array, as an ArrayValue: each with its own member.
+#[derive(Drop)]
+struct ArrayValue<'a, T>(&'a [T]);
+
+impl<T: Submessage> Submessage for ArrayValue<'_, T> {
+    ghost use Rattle.std.specs.Prelude.{List, map};
+    ghost use Rattle.std.specs.List.{AllByRecursion};
+    ghost use Rattle.message_model.specs.Canon.{row_bytes, bytes_field};
+
+    ghost viewed = { List T.viewed };
+
+    ghost view = { λ array. map T.view array.0.now };
+
+    ghost bytes = { λ values. row_bytes (map (λ v. bytes_field 1 (T.bytes v)) values) };
+
+    ghost is_whole = { λ values. AllByRecursion T.is_whole values };
+
+    fn put<S: Sink>(&self, sink: &mut S) {
+        put_each(sink, 1, self.0);
     }
-    put_len(out, 5, array.as_slice())
 }
 
-/// Appends the one member that a value has, also where that is the default. An empty array is one
-/// without values.
-fn put_member<A: Allocator + Copy, B: Allocator>(
-    alloc: A,
-    out: &mut Vec<u8, A>,
-    value: &Value<B>,
-) -> Result<(), OutOfMemory>
-    ensures { OnOk result
-        (PutsMember 2 (model.value_message (value_view value.now)) out.old.items out.new.items) }
-{
-    match value {
-        Value::Text(text) => text.put(out),
-        Value::Bool(truth) => truth.put(out),
-        Value::Int(number) => number.put(out),
-        Value::Texts(texts) => put_array(alloc, out, texts.as_slice()),
-        Value::Bools(truths) => put_array(alloc, out, truths.as_slice()),
-        Value::Ints(numbers) => put_array(alloc, out, numbers.as_slice()),
+impl<B: Allocator> Submessage for Value<B> {
+    ghost use Rattle.message_model.specs.AnyValue.{AnyValue};
+    ghost use Rattle.message_model.specs.Canon.{value_fields, row_bytes};
+    ghost use Rattle.message_model.specs.Whole.{IsValue};
+    ghost use Rattle.export_model.specs.Export as model;
+    ghost use Rattle.otlp_value.specs.Value.{value_view};
+
+    ghost viewed = { AnyValue };
+
+    ghost view = { λ value. model.value_message (value_view value) };
+
+    ghost bytes = { λ v. row_bytes (value_fields v) };
+
+    ghost is_whole = { IsValue 2 };
+
+    /// An empty array is one without values.
+    fn put<S: Sink>(&self, sink: &mut S) {
+        match self {
+            Value::Text(text) => text.put(sink),
+            Value::Bool(truth) => truth.put(sink),
+            Value::Int(number) => number.put(sink),
+            Value::Texts(texts) => put_one(sink, 5, &ArrayValue(texts.as_slice())),
+            Value::Bools(truths) => put_one(sink, 5, &ArrayValue(truths.as_slice())),
+            Value::Ints(numbers) => put_one(sink, 5, &ArrayValue(numbers.as_slice())),
+        }
     }
 }
 
 impl<B: Allocator> Submessage for (String<B>, Value<B>) {
     ghost use Rattle.message_model.specs.Tables;
+    ghost use Rattle.message_model.specs.Canon.{canon};
+    ghost use Rattle.message_model.specs.Whole.{IsMessage};
     ghost use Rattle.span_model.specs.Attributes as attributes;
     ghost use Rattle.export_model.specs.Export as model;
     ghost use Rattle.otlp_value.specs.Value.{attribute_view};
@@ -94,18 +128,14 @@ impl<B: Allocator> Submessage for (String<B>, Value<B>) {
 
     ghost view = { attribute_view };
 
-    ghost table = { Tables.key_value };
+    ghost bytes = { λ p. canon Tables.key_value (model.attribute_message p) };
 
-    ghost message = { model.attribute_message };
+    ghost is_whole = { λ p. IsMessage Tables.key_value (model.attribute_message p) };
 
-    /// The message of an attribute: its key, and its value.
-    fn encode<A: Allocator + Copy>(&self, alloc: A) -> Result<Vec<u8, A>, OutOfMemory> {
+    /// The key of an attribute, and its value.
+    fn put<S: Sink>(&self, sink: &mut S) {
         let (key, value) = self;
-        let mut out = Vec::new(alloc);
-        put_text(&mut out, 1, key.as_str())?;
-        let mut member = Vec::new(alloc);
-        put_member(alloc, &mut member, value)?;
-        put_len(&mut out, 2, member.as_slice())?;
-        Ok(out)
+        put_text(sink, 1, key.as_str());
+        put_one(sink, 2, value);
     }
 }

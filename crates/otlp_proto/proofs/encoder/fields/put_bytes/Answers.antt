@@ -2,8 +2,8 @@ use Rattle.std.proofs.Common.{sym, ◌∙◌}
 use Rattle.otlp_proto.proofs.Writing.{some-octets, no-octets}
 use Rattle.otlp_proto.proofs.encoder.fields.put_bytes.Goals as goal
 
-pub returns-in_ok-put_len : goal.returns-in_ok-put_len
-returns-in_ok-put_len g c = some-octets (sym c.is_empty.ensures ∙ c.if-not-is_empty.true) c.in_ok-put_len.ensures
+pub returns-then-not-is_empty : goal.returns-then-not-is_empty
+returns-then-not-is_empty g c = some-octets (sym c.is_empty.ensures ∙ c.if-not-is_empty.true) c.put_len.ensures
 
 pub returns-else-not-is_empty : goal.returns-else-not-is_empty
 returns-else-not-is_empty g c = no-octets (sym c.is_empty.ensures ∙ c.if-not-is_empty.false)

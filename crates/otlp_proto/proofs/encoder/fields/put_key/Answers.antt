@@ -3,4 +3,4 @@ use Rattle.otlp_proto.proofs.encoder.fields.put_key.Goals as goal
 
 pub returns : goal.returns
 unfolding payload_bytes
-returns g c = rw (← c.number.ensures.value) c.write_varint.ensures.canonical
+returns g c = rw (← c.number.ensures.value) c.put_varint.ensures

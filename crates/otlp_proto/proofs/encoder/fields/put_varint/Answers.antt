@@ -1,8 +1,6 @@
 use Rattle.message_model.specs.Wire
-use Rattle.otlp_proto.proofs.Writing.{on-ok, tagged}
+use Rattle.otlp_proto.proofs.Laying.{tagged}
 use Rattle.otlp_proto.proofs.encoder.fields.put_varint.Goals as goal
 
 pub returns : goal.returns
-returns g c =
-    on-ok c.write_varint.result (tagged (record { number = c.args.number; payload = Wire.varint c.args.value }) _ _ _ c.in_ok-put_key.ensures)
-    c.write_varint.ensures.canonical
+returns g c = tagged (record { number = c.args.number; payload = Wire.varint c.args.value }) _ (g.S.Sink.cursor c.put_key.new.sink) _ c.put_key.ensures c.put_varint.ensures

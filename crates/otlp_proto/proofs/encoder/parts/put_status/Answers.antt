@@ -1,14 +1,17 @@
-use Rattle.std.proofs.Common.{◌≡◌, refl, sym, ◌∙◌, length, vec_len, arith}
-use Rattle.otlp_proto.proofs.Writing.{on-ok, some-message, no-message}
+use Rattle.std.proofs.Common.{◌≡◌, ◌≢◌, refl, length, arith}
+use Rattle.message_model.specs.Tables
+use Rattle.message_model.specs.Canon.{canon}
+use Rattle.export_model.specs.Export.{status_message}
+use Rattle.otlp_span.specs.Parts.{status_view}
+use Rattle.otlp_proto.proofs.Writing.{some-message, no-message}
 use Rattle.otlp_proto.proofs.encoder.parts.put_status.Goals as goal
 
-pub returns-then-is_empty : goal.returns-then-is_empty
-returns-then-is_empty g c =
-    let all : vec_len c.in_ok-message.message ≡ length c.in_ok-message.message.items = omega (arith, c.in_ok-message.message.ok) in
-    no-message refl c.in_ok-message.ensures (rw all at (sym c.is_empty.ensures ∙ c.if-is_empty.true))
+pub returns-then-len-ne0 : goal.returns-then-len-ne0
+returns-then-len-ne0 g c =
+    let some : length (canon Tables.status (status_message (status_view c.args.status.now))) ≢ 0 = λ e. c.if-len-ne0.true (omega (arith, e, c.encoded_len-len.ensures.size)) in
+    some-message refl some c.put_sized.ensures
 
-pub returns : goal.returns
-returns g c =
-    let all : vec_len c.in_ok-message.message ≡ length c.in_ok-message.message.items = omega (arith, c.in_ok-message.message.ok) in
-    let written = rw c.as_slice.ensures.value at c.put_len.ensures in
-    on-ok c.put_len.result (some-message refl c.in_ok-message.ensures (rw all at (sym c.is_empty.ensures ∙ c.if-is_empty.false))) written
+pub returns-else-len-ne0 : goal.returns-else-len-ne0
+returns-else-len-ne0 g c =
+    let none : length (canon Tables.status (status_message (status_view c.args.status.now))) ≡ 0 = omega (arith, c.if-len-ne0.false, c.encoded_len-len.ensures.size) in
+    no-message refl none c.encoded_len-len.ensures.whole

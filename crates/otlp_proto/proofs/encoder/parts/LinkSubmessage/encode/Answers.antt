@@ -1,9 +1,0 @@
-use Rattle.otlp_proto.proofs.Writing.{no-field, and-field}
-use Rattle.otlp_proto.proofs.encoder.parts.LinkSubmessage.encode.Goals as goal
-
-pub returns : goal.returns
-returns g c =
-    let trace = rw c.new-out.ensures.items at c.in_ok-put_bytes.ensures in
-    let state = rw c.as_str.ensures.value at c.in_ok-put_text.ensures in
-    let attributes = rw c.as_slice.ensures.value at c.in_ok-put_messages.ensures in
-    and-field trace (and-field c.in_ok-put_bytes-2.ensures (and-field state (and-field attributes (and-field c.in_ok-put_uint32.ensures (no-field _)))))

@@ -1,0 +1,9 @@
+use Rattle.export_model.specs.Export.{attribute_message}
+use Rattle.otlp_proto.proofs.Writing.{no-field, and-field, carries, put-messages}
+use Rattle.otlp_proto.proofs.encoder.parts.LinkSubmessage.put.Goals as goal
+
+pub returns : goal.returns
+returns g c =
+    let state = rw c.as_str.ensures.value at c.put_text.ensures in
+    let attributes = rw c.as_slice.ensures.value at c.put_each.ensures in
+    carries (and-field c.put_bytes.ensures (and-field c.put_bytes-2.ensures (and-field state (and-field (put-messages attribute_message _ attributes) (and-field c.put_uint32.ensures no-field)))))

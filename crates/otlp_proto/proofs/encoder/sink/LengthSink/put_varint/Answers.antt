@@ -1,0 +1,7 @@
+use Rattle.message_model.specs.Canon.{payload_bytes}
+use Rattle.otlp_proto.proofs.Laying.{count-saturates}
+use Rattle.otlp_proto.proofs.encoder.sink.LengthSink.put_varint.Goals as goal
+
+pub returns : goal.returns
+unfolding payload_bytes
+returns c = count-saturates c.args.self.now.0 _ _ _ c.add.ensures c.varint_size.ensures.size

@@ -1,9 +1,0 @@
-use Rattle.std.proofs.lemmas.Str.{is_utf8-from_IsUtf8}
-use Rattle.otlp_proto.proofs.Writing.{on-ok}
-use Rattle.otlp_proto.proofs.Values.{text-member}
-use Rattle.otlp_proto.proofs.encoder.values.StringScalar.put.Goals as goal
-
-pub returns : goal.returns
-returns g c =
-    let text = rw c.as_str.ensures.value at (is_utf8-from_IsUtf8 c.as_str.result.now c.as_str.utf8) in
-    on-ok c.put_len.result (text-member text) (rw (c.as_bytes.ensures.value, c.as_str.ensures.value) at c.put_len.ensures)
