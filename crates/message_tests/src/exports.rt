@@ -2,6 +2,7 @@
 
 use crate::equal::{assert_equal, assert_equal_at};
 use crate::samples::{full_span, open, pair, text};
+use failing_allocator::FailingAllocator;
 use linked_list_allocator::LocalHeap;
 use otlp_ids::OutOfMemory;
 use otlp_proto::{EncodeFault, body_of, encode};
@@ -150,6 +151,29 @@ fn tells_refused_memory(rt: HostRuntime) {
     }
     assert!(rt; refused > 50, "{refused} refused");
     assert!(rt; made > 50, "{made} made");
+}
+
+/// How many calls for memory there were before a body of the full span's group was made, how many
+/// its making took, and whether it was made, where the call of this index is refused.
+fn memory_calls(rt: &impl Abort, alloc: Global, fail_index: u64) -> (u64, u64, bool) {
+    let heap = LocalHeap::new(alloc, 100_000).expect(rt, "memory");
+    let scarce = FailingAllocator::new(&heap, fail_index);
+    let spans = [full_span(&scarce).expect(rt, "memory")];
+    let groups = group(&scarce, &spans).expect(rt, "memory");
+    let before = scarce.calls();
+    let is_made = encode(&scarce, groups.as_slice(), 219).is_ok();
+    (before, scarce.calls().saturating_sub(before), is_made)
+}
+
+#[test]
+fn takes_memory_twice(rt: HostRuntime) {
+    let (before, taken, is_made) = memory_calls(&rt, rt.alloc(), u64::MAX);
+    assert_equal(&rt, (taken, is_made), (2, true));
+    for (growth, calls) in [(0u64, 1u64), (1, 2), (2, 2)] {
+        let fail_index = before.saturating_add(growth);
+        let (_, taken, is_made) = memory_calls(&rt, rt.alloc(), fail_index);
+        assert_equal_at(&rt, (taken, is_made), (calls, growth == 2), growth);
+    }
 }
 
 /// A text of 70,000 bytes.

@@ -3,7 +3,10 @@
 use crate::equal::{assert_equal, assert_equal_at};
 use linked_list_allocator::LocalHeap;
 use otlp_ids::OutOfMemory;
-use otlp_wire::{varint_size, write_fixed32, write_fixed64, write_len, write_varint};
+use otlp_wire::{
+    put_bytes, put_fixed32, put_fixed64, put_varint, varint_size, write_fixed32, write_fixed64,
+    write_len, write_varint,
+};
 use std::alloc::{Allocator, Global};
 use std::process::Abort;
 
@@ -62,6 +65,53 @@ fn appends_each_payload(rt: HostRuntime) {
     assert!(rt; out.as_slice().starts_with(varints), "{out:?}");
     assert!(rt; out.as_slice().ends_with(others), "{out:?}");
     assert_equal(&rt, out.len(), varints.len() + others.len());
+}
+
+/// Puts the payload at the place, a LEN's bytes without their length.
+#[tactic(auto, unfolding(message_model::specs::Canon::payload_bytes))]
+fn put(rt: &impl Abort, out: &mut [u8], at: usize, payload: Payload) -> usize {
+    assert!(rt; at <= out.len());
+    let room = out.len() - at;
+    match payload {
+        Payload::Varint(value) => {
+            assert!(rt; varint_size(value) <= room);
+            put_varint(out, at, value)
+        }
+        Payload::Fixed64(value) => {
+            assert!(rt; 8 <= room);
+            put_fixed64(out, at, value)
+        }
+        Payload::Fixed32(value) => {
+            assert!(rt; 4 <= room);
+            put_fixed32(out, at, value)
+        }
+        Payload::Len(bytes) => {
+            assert!(rt; bytes.len() <= room);
+            put_bytes(out, at, bytes)
+        }
+    }
+}
+
+#[test]
+fn puts_each_payload_at_its_place(rt: HostRuntime) {
+    let mut out = [b'.'; 33];
+    let mut at = 1usize;
+    for payload in [
+        Payload::Varint(150),
+        Payload::Varint(0),
+        Payload::Varint(u64::MAX),
+        Payload::Fixed64(1),
+        Payload::Fixed32(1),
+        Payload::Len(b"testing"),
+        Payload::Len(b""),
+    ] {
+        at = put(&rt, &mut out, at, payload);
+    }
+    let varints = b".\x96\x01\x00\xff\xff\xff\xff\xff\xff\xff\xff\xff\x01";
+    let others = b"\x01\0\0\0\0\0\0\0\x01\0\0\0testing";
+    assert_equal(&rt, at, 33);
+    assert!(rt; out.starts_with(varints), "{out:?}");
+    assert!(rt; out.ends_with(others), "{out:?}");
 }
 
 // Whether the writer got its memory, on a heap of so many bytes, or nothing where not even the

@@ -1,9 +1,9 @@
 -- Bytes that are laid behind what a sink has taken: none, some behind others, and those of a message
 -- whose length is known.
-use Rattle.std.proofs.Common.{◌≡◌, refl, sym, ap, ◌∙◌, subst, ℕ, ◌+◌, ◌-◌, ◌*◌, ◌≤◌, ◌<◌, ◌^◌, List, [], ◌∷◌, ◌++◌, append_assoc, append-nil, take, drop, length, min, inl, inr, arith}
+use Rattle.std.proofs.Common.{◌≡◌, sym, ap, ◌∙◌, subst, ℕ, ◌+◌, ◌-◌, ◌*◌, ◌≤◌, ◌<◌, ◌^◌, List, [], ◌++◌, append_assoc, append-nil, take, length, min, inl, inr, arith}
 use Rattle.std.proofs.lemmas.List.{length-append, length-drop}
 use Rattle.std.proofs.lemmas.Bool.{cases_lt}
-use Rattle.message_model.specs.Wire.{Field, varint, i64}
+use Rattle.message_model.specs.Wire.{Field, varint}
 use Rattle.message_model.specs.Messages.{wire_type}
 use Rattle.message_model.specs.Canon.{shortest, payload_bytes, field_bytes, bytes_field}
 use Rattle.otlp_wire.specs.Writing.{PutsAt}

@@ -1,5 +1,5 @@
 -- What is written is read: a body means the spans of the groups that it carries.
-use Rattle.std.proofs.Common.{◌≡◌, refl, ap, ◌∙◌, sym, ℕ, List, [], ◌++◌, ◌-◌, ◌≤◌, ◌<◌, ◌^◌, length, arith}
+use Rattle.std.proofs.Common.{◌≡◌, refl, ap, ◌∙◌, ℕ, List, [], ◌<◌, ◌^◌, length, arith}
 use Rattle.message_model.specs.Reading.{Reading, Reads, done}
 use Rattle.message_model.specs.Tables
 use Rattle.message_model.specs.Tables.{Table, Message}

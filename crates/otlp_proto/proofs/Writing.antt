@@ -1,5 +1,5 @@
 -- A message is written when its fields are, one behind the other.
-use Rattle.std.proofs.Common.{◌≡◌, ◌≢◌, map, take, get_or, refl, sym, ap, ◌∙◌, ℕ, zero, suc, ◌+◌, ◌*◌, ◌/◌, ◌%◌, ◌<◌, ◌^◌, ◌==◌, pos, List, [], ◌∷◌, ◌++◌, append_assoc, length, true, false, cond, nat_lt, arith, add-one}
+use Rattle.std.proofs.Common.{◌≡◌, ◌≢◌, map, take, get_or, refl, sym, ap, ◌∙◌, ℕ, zero, suc, ◌+◌, ◌*◌, ◌/◌, ◌%◌, ◌<◌, ◌^◌, ◌==◌, pos, List, [], ◌∷◌, ◌++◌, length, true, false, cond, nat_lt, arith, add-one}
 use Rattle.std.proofs.lemmas.List.{append-nil, length-append, map-append}
 use Rattle.std.proofs.Math.Seq.{take-suc}
 use Rattle.std.proofs.lemmas.Bool.{eqb-true, ne_eqb}

@@ -4,7 +4,7 @@ use Rattle.message_model.specs.Canon.{canon}
 use Rattle.export_model.specs.Export.{request_message, body_length}
 use Rattle.scope_group.specs.Group.{groups_view}
 use Rattle.otlp_proto.specs.Bodies.{body_bytes}
-use Rattle.otlp_proto.specs.Encode.{filled, PutsAll}
+use Rattle.otlp_proto.specs.Encode.{PutsAll}
 use Rattle.otlp_proto.proofs.Laying.{counted-len}
 use Rattle.otlp_proto.proofs.Lens.{begin-all, no-items}
 use Rattle.otlp_proto.proofs.Read.{filled-message, reads-written, spans-written, length-written, no-groups, no-groups-whole}

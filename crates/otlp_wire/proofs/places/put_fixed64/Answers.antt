@@ -1,6 +1,4 @@
-use Rattle.std.proofs.Common.{ap, ◌∙◌, length, ◌+◌, ◌≤◌, subst, sym}
 use Rattle.message_model.specs.Canon.{payload_bytes}
-use Rattle.otlp_wire.specs.Writing.{FitsAt, PutsAt}
 use Rattle.otlp_wire.proofs.places.put_fixed64.Goals as goal
 
 pub put_bytes-requires : goal.put_bytes-requires

@@ -1,4 +1,4 @@
-use Rattle.std.proofs.Common.{map, take, drop, take_all, refl, length}
+use Rattle.std.proofs.Common.{take, take_all, refl}
 use Rattle.message_model.specs.Tables
 use Rattle.message_model.specs.Canon.{canon}
 use Rattle.message_model.specs.Whole.{IsMessage}
@@ -18,10 +18,11 @@ put_resource-rest-requires g c =
 
 pub loop-group-preserved : goal.loop-group-preserved
 loop-group-preserved g c =
-    let before = groups_view (take c.loop-group.group-index c.args.groups.now) in
-    (rw (through-index resource_group_view c.args.groups.now c.loop-group.group-index c.group-item.result c.loop-group-test.true c.group-item.is)
-    (each-more 1 (λ x. canon Tables.resource_spans (resource_spans_message x)) (λ x. IsMessage Tables.resource_spans (resource_spans_message x)) before (resource_group_view c.group-item.result) c.loop-group.invariant.0 c.put_resource-rest.ensures.put),
-    drop-next spans_in resource_group_view c.args.groups.now c.args.lens.now c.loop-group.rest.now c.loop-group.group-index c.group-item.result c.loop-group-test.true c.group-item.is c.loop-group.invariant.1 c.put_resource-rest.ensures.behind)
+    let before = groups_view (take c.loop-group.group-index c.args.groups.now) in (
+      rw (through-index resource_group_view c.args.groups.now c.loop-group.group-index c.group-item.result c.loop-group-test.true c.group-item.is)
+          (each-more 1 (λ x. canon Tables.resource_spans (resource_spans_message x)) (λ x. IsMessage Tables.resource_spans (resource_spans_message x)) before (resource_group_view c.group-item.result) c.loop-group.invariant.0 c.put_resource-rest.ensures.put),
+      drop-next spans_in resource_group_view c.args.groups.now c.args.lens.now c.loop-group.rest.now c.loop-group.group-index c.group-item.result c.loop-group-test.true c.group-item.is c.loop-group.invariant.1 c.put_resource-rest.ensures.behind,
+    )
 
 pub returns : goal.returns
 unfolding request_message

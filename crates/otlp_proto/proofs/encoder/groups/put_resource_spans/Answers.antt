@@ -1,4 +1,4 @@
-use Rattle.std.proofs.Common.{map, take, drop, take_all, refl, length}
+use Rattle.std.proofs.Common.{map, take, take_all, refl}
 use Rattle.message_model.specs.Tables
 use Rattle.message_model.specs.Canon.{canon}
 use Rattle.message_model.specs.Whole.{IsMessage}
@@ -18,10 +18,11 @@ put_scope-rest-requires g c =
 pub loop-scope_group-preserved : goal.loop-scope_group-preserved
 loop-scope_group-preserved g c =
     let items = c.deref-scope_group-items.result.now in
-    let before = map scope_group_view (take c.loop-scope_group.scope_group-index items) in
-    (rw (through-index scope_group_view items c.loop-scope_group.scope_group-index c.scope_group-item.result c.loop-scope_group-test.true c.scope_group-item.is)
-    (each-more 2 (λ x. canon Tables.scope_spans (scope_spans_message x)) (λ x. IsMessage Tables.scope_spans (scope_spans_message x)) before (scope_group_view c.scope_group-item.result) c.loop-scope_group.invariant.0 c.put_scope-rest.ensures.put),
-    drop-next (λ scope. scope.items) scope_group_view items c.args.lens.now c.loop-scope_group.rest.now c.loop-scope_group.scope_group-index c.scope_group-item.result c.loop-scope_group-test.true c.scope_group-item.is c.loop-scope_group.invariant.1 c.put_scope-rest.ensures.behind)
+    let before = map scope_group_view (take c.loop-scope_group.scope_group-index items) in (
+      rw (through-index scope_group_view items c.loop-scope_group.scope_group-index c.scope_group-item.result c.loop-scope_group-test.true c.scope_group-item.is)
+          (each-more 2 (λ x. canon Tables.scope_spans (scope_spans_message x)) (λ x. IsMessage Tables.scope_spans (scope_spans_message x)) before (scope_group_view c.scope_group-item.result) c.loop-scope_group.invariant.0 c.put_scope-rest.ensures.put),
+      drop-next (λ scope. scope.items) scope_group_view items c.args.lens.now c.loop-scope_group.rest.now c.loop-scope_group.scope_group-index c.scope_group-item.result c.loop-scope_group-test.true c.scope_group-item.is c.loop-scope_group.invariant.1 c.put_scope-rest.ensures.behind,
+    )
 
 pub returns-clause-put : goal.returns-clause-put
 returns-clause-put g c =

@@ -1,4 +1,4 @@
-use Rattle.std.proofs.Common.{subst, arith}
+use Rattle.std.proofs.Common.{subst}
 use Rattle.message_model.specs.Tables
 use Rattle.message_model.specs.Canon.{canon}
 use Rattle.export_model.specs.Export.{scope_spans_message}

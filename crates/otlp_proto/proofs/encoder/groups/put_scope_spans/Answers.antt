@@ -1,4 +1,4 @@
-use Rattle.std.proofs.Common.{map, take, take_all, refl, sym, ap, ◌∙◌, length, arith}
+use Rattle.std.proofs.Common.{map, take, take_all, refl, sym, ap, ◌∙◌, arith}
 use Rattle.std.proofs.lemmas.List.{length-map, get_or-map}
 use Rattle.export_model.specs.Export.{span_message}
 use Rattle.otlp_proto.specs.Encode.{span_bytes, IsWholeSpan}

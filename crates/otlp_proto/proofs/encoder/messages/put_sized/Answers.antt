@@ -1,5 +1,5 @@
-use Rattle.std.proofs.Common.{subst, sym}
-use Rattle.otlp_proto.specs.Encode.{Cursor, Lays, Skips}
+use Rattle.std.proofs.Common.{subst}
+use Rattle.otlp_proto.specs.Encode.{Lays}
 use Rattle.otlp_proto.proofs.Laying.{sized-field}
 use Rattle.otlp_proto.proofs.encoder.messages.put_sized.Goals as goal
 

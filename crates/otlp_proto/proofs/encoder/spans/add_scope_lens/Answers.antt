@@ -1,4 +1,4 @@
-use Rattle.std.proofs.Common.{map, take, take_all, refl}
+use Rattle.std.proofs.Common.{take_all}
 use Rattle.otlp_proto.proofs.Writing.{through-index}
 use Rattle.otlp_proto.proofs.Lens.{adds-none, adds-both, adds-one}
 use Rattle.otlp_proto.proofs.encoder.spans.add_scope_lens.Goals as goal

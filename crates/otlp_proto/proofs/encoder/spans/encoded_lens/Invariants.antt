@@ -1,4 +1,4 @@
-use Rattle.std.proofs.Common.{map, take, []}
+use Rattle.std.proofs.Common.{take, []}
 use Rattle.scope_group.specs.Group.{groups_view}
 use Rattle.otlp_proto.specs.Encode.{AddsLens}
 use Rattle.otlp_proto.specs.Grouped.{all_spans}

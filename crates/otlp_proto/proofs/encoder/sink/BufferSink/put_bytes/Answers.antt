@@ -1,4 +1,4 @@
-use Rattle.std.proofs.Common.{arith, ◌≡◌, sym, subst, length, ap, ◌∙◌}
+use Rattle.std.proofs.Common.{arith, sym, subst, length, ap}
 use Rattle.otlp_proto.specs.Encode.{Lays}
 use Rattle.otlp_proto.proofs.Laying.{no-room}
 use Rattle.otlp_proto.proofs.encoder.sink.BufferSink.put_bytes.Goals as goal

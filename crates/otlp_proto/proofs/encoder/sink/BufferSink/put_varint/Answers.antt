@@ -1,4 +1,4 @@
-use Rattle.std.proofs.Common.{arith, ◌≡◌, sym, subst, length, ap, ◌∙◌}
+use Rattle.std.proofs.Common.{arith, sym, subst, length, ap}
 use Rattle.message_model.specs.Wire
 use Rattle.message_model.specs.Canon.{payload_bytes}
 use Rattle.otlp_proto.specs.Encode.{Lays}
