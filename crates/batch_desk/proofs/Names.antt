@@ -1,27 +1,23 @@
--- The spans of a run that are moved, and the names that go onto the ledger, one after the other.
-use Rattle.std.proofs.Common.{◌≡◌, ◌≢◌, refl, sym, ap, ◌∙◌, ℕ, zero, suc, ◌+◌, false, List, [], ◌∷◌, ◌++◌, length, drop, take, append_assoc, drop-drop, Some, add-one}
+-- The spans of a run that are moved, and the names that go onto the ledger, the last one first.
+use Rattle.std.proofs.Common.{◌≡◌, ◌≢◌, refl, sym, ap, ◌∙◌, ℕ, zero, suc, ◌+◌, false, List, [], ◌∷◌, ◌++◌, drop, take, append_assoc, Some, add-one}
+use Rattle.std.proofs.lemmas.List.{map-append, reverse-append}
 use Rattle.std.specs.Prelude.{map, reverse, slice_get}
-use Rattle.std.proofs.lemmas.Grind.{reverse_onto}
 use Rattle.span_model.specs.Dropped.{queue_full, is_reason}
 use Rattle.otlp_span.specs.Dropped.{reason_view}
 use Rattle.otlp_span.specs.declared.reason.Reason.{Reason}
 use Rattle.otlp_span.specs.declared.reason.Reason.TheVariants.{QueueFull, EncodeMemory, TooLarge, Abandoned}
 
--- the first one goes first, and the others onto it
-pub names-first : {X Y : Type 0} (f : X → Y) (items rest : List X) (x : X) (below above : List Y) → slice_get items 0 ≡ Some x → rest ≡ drop 1 items → above ≡ f x ∷ below → reverse (map f rest) ++ above ≡ reverse (map f items) ++ below
-names-first f [] rest x below above e r a = cc
-names-first f (y ∷ ys) rest x below above e r a =
-    let same : x ≡ y = cc in
-    let onto : reverse (f y ∷ map f ys) ≡ reverse (map f ys) ++ (f y ∷ []) = reverse_onto (map f ys) (f y) [] in
-    ap (λ zs. reverse (map f zs) ++ above) r
-    ∙ ap (λ zs. reverse (map f ys) ++ zs) (a ∙ ap (λ z. f z ∷ below) same)
-    ∙ sym (append_assoc (reverse (map f ys)) (f y ∷ []) below)
-    ∙ ap (λ zs. zs ++ below) (sym onto)
+-- the last one goes in front of those that are named
+pub names-last : {X Y : Type 0} (f : X → Y) (items rest : List X) (x : X) (below above : List Y) → items ≡ rest ++ x ∷ [] → above ≡ f x ∷ below
+    → map f rest ++ above ≡ map f items ++ below
+names-last f items rest x below above e a =
+    ap (λ ys. map f rest ++ ys) a
+    ∙ sym (append_assoc (map f rest) (f x ∷ []) below)
+    ∙ ap (λ ys. ys ++ below) (sym (map-append f rest (x ∷ [])) ∙ ap (map f) (sym e))
 
--- one fewer is left
-pub length-first : {X : Type 0} (items rest : List X) (x : X) → slice_get items 0 ≡ Some x → rest ≡ drop 1 items → length items ≡ length rest + 1
-length-first [] rest x e r = cc
-length-first (y ∷ ys) rest x e r = ap (λ zs. suc (length zs)) (sym r) ∙ sym (add-one (length rest))
+-- the last one is the first of them all turned
+pub turned-last : {X : Type 0} (items rest : List X) (x : X) → items ≡ rest ++ x ∷ [] → reverse items ≡ x ∷ reverse rest
+turned-last items rest x e = ap reverse e ∙ reverse-append rest (x ∷ [])
 
 -- the first one of those that are left behind the first ones
 next-taken : {X : Type 0} (items : List X) (count : ℕ) (x : X) → slice_get (drop count items) 0 ≡ Some x → take (suc count) items ≡ take count items ++ x ∷ []

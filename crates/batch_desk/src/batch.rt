@@ -1,9 +1,8 @@
-ghost use Rattle.std.specs.Prelude.{◌≡◌, ◌≢◌, ◌≤◌, ◌+◌, ◌-◌, ◌++◌, [], drop, length, take, vec_capacity, vec_len};
+ghost use Rattle.std.specs.Prelude.{◌≡◌, ◌≢◌, ◌≤◌, ◌+◌, ◌-◌, ◌++◌, [], length, reverse, take, vec_capacity, vec_len};
 ghost use Rattle.otlp_span.specs.Dropped.{reason_view};
 ghost use Rattle.batch_desk.specs.Batch.{named_batch};
 
 use crate::named::{NamedBatch, names_of};
-use drop_ledger::Ledger;
 use otlp_span::{Reason, SpanData};
 use span_ring::Run;
 use std::alloc::{Allocator, Global};
@@ -55,7 +54,8 @@ impl<A: Allocator> Batch<A> {
         ensures capacity { vec_capacity spent.new ≡ vec_capacity spent.old }
     {
         let count = self.run.len().min(spent.capacity() - spent.len());
-        move_front(&mut self.run, count, spent);
+        self.run.reverse();
+        move_last(&mut self.run, count, spent);
         self.run.clear();
     }
 
@@ -68,9 +68,7 @@ impl<A: Allocator> Batch<A> {
         ensures { result ≡ named_batch (reason_view reason) self }
     {
         let Batch { number, mut run } = self;
-        let newest_first = names_of(&mut run, reason);
-        let mut names = Ledger::new();
-        names.append_reversed(newest_first);
+        let names = names_of(&mut run, reason);
         NamedBatch {
             number,
             run,
@@ -87,19 +85,20 @@ impl<A: Allocator> Batch<A> {
     }
 }
 
-/// Moves the first `count` spans of a run behind those of `into`, where there is room for them.
-fn move_front<A: Allocator>(
+/// Moves the last `count` spans of a run, the last one first, behind those of `into`, where there
+/// is room for them.
+fn move_last<A: Allocator>(
     run: &mut Run<SpanData<A>, A>,
     count: usize,
     into: &mut Vec<SpanData<A>, A>,
 )
     requires there { count ≤ length run.old.items }
     requires room { vec_len into.old + count ≤ vec_capacity into.old }
-    ensures run { run.new ≡ record run.old { items = drop count run.old.items } }
-    ensures into { into.new.items ≡ into.old.items ++ take count run.old.items }
+    ensures room { run.new.room ≡ run.old.room }
+    ensures into { into.new.items ≡ into.old.items ++ take count (reverse run.old.items) }
     ensures capacity { vec_capacity into.new ≡ vec_capacity into.old }
 {
     for _ in 0..count {
-        into.push_reserved(run.pop_front().unwrap());
+        into.push_reserved(run.pop_back().unwrap());
     }
 }

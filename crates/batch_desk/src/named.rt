@@ -1,4 +1,4 @@
-ghost use Rattle.std.specs.Prelude.{◌≡◌, ◌-◌, ◌^◌, ◌<◌, ◌∷◌, [], length, map, reverse};
+ghost use Rattle.std.specs.Prelude.{◌≡◌, ◌-◌, ◌^◌, ◌<◌, ◌∷◌, [], length, map};
 ghost use Rattle.span_model.specs.Dropped.{entry_of};
 ghost use Rattle.otlp_span.specs.Dropped.{reason_view};
 
@@ -77,15 +77,15 @@ pub(crate) fn name_span<A: Allocator>(
     remains
 }
 
-/// Names the spans of a run, the first one first, and frees all else of them: the names, the last
-/// one first.
+/// Names the spans of a run, the last one first, and frees all else of them: the names, in the
+/// order of the spans.
 pub(crate) fn names_of<A: Allocator>(run: &mut Run<SpanData<A>, A>, reason: Reason) -> Ledger<A>
-    ensures names { result ≡ reverse (map (entry_of (reason_view reason)) run.old.items) }
+    ensures names { result ≡ map (entry_of (reason_view reason)) run.old.items }
     ensures run { run.new ≡ record run.old { items = [] } }
 {
     let mut ledger = Ledger::new();
     for _ in 0..run.len() {
-        let span = run.pop_front().unwrap();
+        let span = run.pop_back().unwrap();
         name_span(&mut ledger, span, reason);
     }
     ledger

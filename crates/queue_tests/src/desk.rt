@@ -283,7 +283,7 @@ fn fault_of<A: Allocator + Copy>(alloc: A) -> Option<RingFault> {
 #[test]
 fn each_memory_that_new_wants_may_be_refused(rt: HostRuntime) -> Result<(), Fail> {
     let (mut refused, mut made) = (0u32, 0u32);
-    for size in (0..200usize).step_by(8) {
+    for size in (0..400usize).step_by(8) {
         let scarce = LocalHeap::new(rt.alloc(), size)?;
         match fault_of(&scarce) {
             Some(fault) => {

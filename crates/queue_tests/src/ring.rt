@@ -101,8 +101,10 @@ fn rings_and_runs_are_shown(rt: HostRuntime) {
     fill(&rt, &mut ring, 0..3);
     let text = "SpanRing { items: [0, 1, 2], queue: 5, batch: 2, run_out: false }";
     assert_shown(&rt, alloc, &ring, text);
-    let run = ring.take_run().expect(&rt, "items wait");
+    let mut run = ring.take_run().expect(&rt, "items wait");
     assert_shown(&rt, alloc, &run, "[0, 1]");
+    run.reverse();
+    assert_shown(&rt, alloc, &run, "[1, 0]");
     let text = "SpanRing { items: [2], queue: 5, batch: 2, run_out: true }";
     assert_shown(&rt, alloc, &ring, text);
     ring.give_back(run);
@@ -121,9 +123,9 @@ fn runs_leave_in_order(rt: HostRuntime) -> Result<(), Fail> {
     assert_equal(&rt, ring.run_out(), true);
     assert_equal(&rt, run.as_slice(), [2].as_slice());
     assert_equal(&rt, run.room(), 2);
-    assert_equal(&rt, run.pop_front(), Some(2));
+    assert_equal(&rt, run.pop_back(), Some(2));
     assert_equal(&rt, run.is_empty(), true);
-    assert_equal(&rt, run.pop_front(), None);
+    assert_equal(&rt, run.pop_back(), None);
     ring.give_back(run);
     expect_run(&rt, &mut ring, &[3, 4]);
     expect_run(&rt, &mut ring, &[5, 6]);
@@ -173,7 +175,7 @@ fn each_item_is_dropped_once(rt: HostRuntime) -> Result<(), Fail> {
         assert!(rt; ring.push(Counted(&drops)).is_ok());
         assert!(rt; ring.push(Counted(&drops)).is_ok());
         let mut run = ring.take_run().expect(&rt, "three items wait");
-        drop(run.pop_front());
+        drop(run.pop_back());
         assert_equal(&rt, drops.get(), 1);
         ring.give_back(run);
         assert_equal(&rt, drops.get(), 3);

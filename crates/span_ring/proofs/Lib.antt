@@ -1,5 +1,2 @@
-pub mod Crosses
-pub mod Memory
-pub mod Places
-pub mod Runs
-pub mod Sharing
+pub mod Lengths
+pub mod Steps

@@ -1,6 +1,4 @@
--- What contracts see of a ring and of a run, and what the places of a block hold.
-pub mod Blocks
-pub mod Ownership
-pub mod Places
+-- What contracts see of a ring and of a run, and how the segments of a ring hold its items.
 pub mod Run
+pub mod Segments
 pub mod SpanRing

@@ -3,8 +3,8 @@ ghost use Rattle.span_ring.specs.SpanRing.{empty_ring, IsRingSize};
 
 use crate::fault::RingFault;
 use crate::run::Run;
+use crate::segments::Segments;
 use std::alloc::{AllocError, Allocator, Global};
-use std::collections::VecDeque;
 use std::fmt;
 use std::marker::Model;
 
@@ -19,48 +19,37 @@ const _: () = prove!(MAX_QUEUE == 65_536);
 /// At most `queue` items wait in it, and a run takes at most `batch` of them. One run may be out at
 /// a time: it is handed out by [`take_run`](SpanRing::take_run) and comes back by
 /// [`give_back`](SpanRing::give_back). All memory is taken by [`new`](SpanRing::new).
+#[derive(Drop)]
 pub struct SpanRing<T, A: Allocator = Global> {
-    waiting: VecDeque<T, A>,
-    // The one run, without items, while it is not out.
-    spare: Option<Run<T, A>>,
+    // All segments but the one that is out.
+    segments: Segments<T, A>,
+    len: usize,
     queue: usize,
     batch: usize,
+    run_out: bool,
 }
 
 impl<T, A: Allocator> Model for SpanRing<T, A> {
-    ghost use Rattle.std.specs.Prelude.{◌≡◌, ◌≤◌, length, is_none};
-    ghost use Rattle.std.specs.Option.{ForSome};
+    ghost use Rattle.std.specs.Prelude.{◌≤◌, vec_capacity};
     ghost use Rattle.std.specs.VecDeque.{deque_capacity};
-    ghost use Rattle.span_ring.specs.Run.{empty_run};
-    ghost use Rattle.span_ring.specs.SpanRing.{RingView, IsRingSize};
+    ghost use Rattle.span_ring.specs.SpanRing.{RingView};
+    ghost use Rattle.span_ring.specs.Segments.{AreSegments, items_of, others};
 
     ghost Value = { RingView T };
 
     ghost view = { λ r. record {
-      items = r.waiting.items;
+      items = items_of r.segments.full.items r.segments.filling;
       queue = r.queue;
       batch = r.batch;
-      run_out = is_none r.spare;
+      run_out = r.run_out;
     } };
 
-    ghost invariant = { λ r. IsRingSize r.queue r.batch × (length r.waiting.items ≤ r.queue)
-        × (r.queue ≤ deque_capacity r.waiting)
-        × ForSome r.spare (λ run. run ≡ empty_run r.batch) };
-}
-
-impl<T: Drop, A: Allocator> Drop for SpanRing<T, A> {
-    fn drop(self) {
-        let SpanRing {
-            waiting,
-            spare,
-            queue: _,
-            batch: _,
-        } = self;
-        drop(waiting);
-        if let Some(run) = spare {
-            run.release();
-        }
-    }
+    ghost invariant = { λ r. AreSegments r.segments.full.items r.segments.filling
+        r.segments.spare.items r.len r.queue r.batch r.run_out
+        × (others r.segments.full.items r.segments.spare.items r.run_out
+        ≤ deque_capacity r.segments.full)
+        × (others r.segments.full.items r.segments.spare.items r.run_out
+        ≤ vec_capacity r.segments.spare) };
 }
 
 impl<T, A: Allocator + Copy> SpanRing<T, A> {
@@ -103,13 +92,14 @@ impl<T, A: Allocator + Copy> SpanRing<T, A> {
         requires { IsRingSize queue batch }
         ensures { IfOk result (λ ring. ring ≡ empty_ring queue batch) }
     {
-        let waiting = VecDeque::with_capacity(alloc, queue)?;
-        let spare = Run::with_room(alloc, batch)?;
+        // As many as the queue fills, and one that is out or is filled meanwhile.
+        let segments = Segments::with_room(alloc, queue.div_ceil(batch), batch)?;
         Ok(SpanRing {
-            waiting,
-            spare: Some(spare),
+            segments,
+            len: 0,
             queue,
             batch,
+            run_out: false,
         })
     }
 }
@@ -121,14 +111,14 @@ impl<T, A: Allocator> SpanRing<T, A> {
         ensures within { result ≤ self.now.queue }
         ensures sizes { IsRingSize self.now.queue self.now.batch }
     {
-        self.waiting.len()
+        self.len
     }
 
     /// Whether no item waits.
     pub fn is_empty(&self) -> bool
         ensures { result ≡ (length self.now.items == 0) }
     {
-        self.waiting.is_empty()
+        self.len == 0
     }
 
     /// How many items may wait.
@@ -149,7 +139,7 @@ impl<T, A: Allocator> SpanRing<T, A> {
     pub fn run_out(&self) -> bool
         ensures { result ≡ self.now.run_out }
     {
-        self.spare.is_none()
+        self.run_out
     }
 
     /// Lets the item wait behind the others, also while a run is out.
@@ -164,10 +154,12 @@ impl<T, A: Allocator> SpanRing<T, A> {
         } }
         ensures handed_back { IfErr result (λ back. back ≡ item) }
     {
-        if self.waiting.len() == self.queue {
+        if self.len == self.queue {
             return Err(item);
         }
-        self.waiting.push_back_reserved(item);
+        self.segments.make_room(self.batch);
+        self.segments.filling.push(item);
+        self.len += 1;
         Ok(())
     }
 
@@ -184,38 +176,37 @@ impl<T, A: Allocator> SpanRing<T, A> {
           run_out = is_some result;
         } }
     {
-        if self.waiting.is_empty() {
+        if self.len == 0 {
             return None;
         }
-        let mut run = self.spare.take().unwrap();
-        let count = self.batch.min(self.waiting.len());
-        run.fill(&mut self.waiting, count);
-        Some(run)
+        let segment = self.segments.detach_front(self.batch);
+        self.len -= segment.len();
+        self.run_out = true;
+        Some(Run { segment })
     }
 
     /// Takes the run back, whose [`room`](Run::room) is the batch's, and drops what it still has.
-    pub fn give_back(&mut self, mut run: Run<T, A>)
+    pub fn give_back(&mut self, run: Run<T, A>)
     where
         T: Drop,
         requires out { self.old.run_out ≡ true }
         requires room { run.room ≡ self.old.batch }
         ensures { self.new ≡ record self.old { run_out = false } }
     {
-        run.clear();
-        // A run was out, so there is no other.
-        if let Some(other) = self.spare.replace(run) {
-            other.release();
-        }
+        let Run { mut segment } = run;
+        segment.clear();
+        self.segments.spare.push_reserved(segment);
+        self.run_out = false;
     }
 }
 
 impl<T: fmt::Debug, A: Allocator> fmt::Debug for SpanRing<T, A> {
     fn fmt<W: fmt::Write>(&self, f: &mut fmt::Formatter<W>) -> fmt::Result {
         f.debug_struct("SpanRing")
-            .field("items", &self.waiting)
+            .field("items", &self.segments)
             .field("queue", &self.queue)
             .field("batch", &self.batch)
-            .field("run_out", &self.run_out())
+            .field("run_out", &self.run_out)
             .finish()
     }
 }

@@ -2,7 +2,7 @@
 ghost use Rattle.std.specs.Prelude.{◌≡◌, option_map};
 ghost use Rattle.trace_run.specs.Report.{after_close};
 
-use crate::sending::{BatchExport, ExportStage};
+use crate::sending::BatchExport;
 use batch_desk::{Batch, Desk};
 use otlp_span::Reason;
 use retry_core::Fate;
@@ -67,12 +67,12 @@ impl<A: Allocator> RunReport<A> {
         let Some(out) = out else {
             return desk;
         };
-        let BatchExport { batch, stage } = out;
-        match stage {
-            ExportStage::ToJudge { .. } | ExportStage::ToRetry { .. } => {
-                desk.settle(batch, Fate::Abandoned);
-            }
-            _ => desk.drop_batch(batch, Reason::Abandoned),
+        let is_sent = out.is_sent();
+        let BatchExport { batch, stage: _ } = out;
+        if is_sent {
+            desk.settle(batch, Fate::Abandoned);
+        } else {
+            desk.drop_batch(batch, Reason::Abandoned);
         }
         desk
     }

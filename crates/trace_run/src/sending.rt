@@ -4,7 +4,7 @@ ghost use Rattle.export_model.specs.Export.{groups, body_length};
 ghost use Rattle.retry_model.specs.Waits.{IsRetryConfig, RetryConfig};
 ghost use Rattle.run_model.specs.Answers.{take_answer};
 ghost use Rattle.trace_history.specs.Answers.{answer_view};
-ghost use Rattle.trace_run.specs.Out.{Encodes, EncodesBatch, IsBodyOf, IsCounted, IsReady, IsTied, Replies, Sends, SendsBody, Takes};
+ghost use Rattle.trace_run.specs.Out.{Encodes, EncodesBatch, IsBodyOf, IsCounted, IsReady, IsTied, Replies, Sends, SendsBody, Takes, is_sent};
 
 use batch_desk::{Batch, Desk};
 use otlp_ids::OutOfMemory;
@@ -53,6 +53,18 @@ impl<A: Allocator> Model for BatchExport<A> {
     ghost Value = { Out };
 
     ghost view = { λ o. record { batch = o.batch; stage = stage_view o.stage } };
+}
+
+impl<A: Allocator> BatchExport<A> {
+    /// Whether the batch is with the exporter: it was sent, and isn't ended.
+    pub(crate) fn is_sent(&self) -> bool
+        ensures { result ≡ is_sent self.now.stage }
+    {
+        match self.stage {
+            ExportStage::ToEncode | ExportStage::ToSend { .. } => false,
+            ExportStage::ToJudge { .. } | ExportStage::ToRetry { .. } => true,
+        }
+    }
 }
 
 /// Takes the next batch, if it is due and none is out.
