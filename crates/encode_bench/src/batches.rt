@@ -5,8 +5,16 @@ use otlp_value::Value;
 use std::alloc::Global;
 use std::sync::Arc;
 
-/// How many spans a batch has.
-pub const SPANS: u32 = 512;
+/// What a batch is made of.
+#[derive(Clone, Copy)]
+pub struct Shape {
+    /// How many spans it has.
+    pub spans: u32,
+    /// How many scopes take turns.
+    pub scopes: u32,
+    /// How many attributes each span has, at most five.
+    pub attributes: usize,
+}
 
 /// A resource with three attributes.
 fn resource(alloc: Global) -> Result<Arc<Resource>, OutOfMemory> {
@@ -81,14 +89,14 @@ fn ended_span(
     Ok(record.close(2))
 }
 
-/// A batch over so many scopes, which take turns. Each span has so many attributes, at most five.
-pub fn batch(alloc: Global, count: u32, attributes: usize) -> Result<Vec<SpanData>, OutOfMemory> {
+/// A batch of this shape.
+pub fn batch(alloc: Global, shape: Shape) -> Result<Vec<SpanData>, OutOfMemory> {
     let resource = resource(alloc)?;
-    let scopes = scopes(alloc, count)?;
+    let scopes = scopes(alloc, shape.scopes)?;
     let mut spans = Vec::new(alloc);
-    for _ in 0..SPANS.checked_div(count).unwrap_or(0) {
+    for _ in 0..shape.spans.checked_div(shape.scopes).unwrap_or(0) {
         for scope in &scopes {
-            spans.push(ended_span(alloc, &resource, scope, attributes)?)?;
+            spans.push(ended_span(alloc, &resource, scope, shape.attributes)?)?;
         }
     }
     Ok(spans)
