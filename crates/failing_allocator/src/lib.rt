@@ -80,6 +80,3 @@ unsafe impl<B: Allocator> Allocator for FailingAllocator<B> {
         self.inner().deallocate(ptr, size, align);
     }
 }
-
-#[cfg(test)]
-mod tests;

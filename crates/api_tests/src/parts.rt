@@ -1,5 +1,7 @@
+//! What a resource and a scope are made of.
+use crate::all_calls::pairs;
 use crate::equal::assert_equal;
-use crate::fixture::{pairs, text};
+use crate::spans::text;
 use linked_list_allocator::LocalHeap;
 use otlp_span::{Resource, Scope};
 use std::alloc::Allocator;

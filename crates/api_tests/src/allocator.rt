@@ -1,5 +1,6 @@
 //! Vectors and boxes whose memory is refused once.
-use crate::FailingAllocator;
+use crate::equal::{assert_equal, assert_equal_at};
+use failing_allocator::FailingAllocator;
 use linked_list_allocator::LocalHeap;
 use std::alloc::Allocator;
 use std::process::Abort;
@@ -22,22 +23,25 @@ fn each_growth_of_a_vector_is_refused_once(rt: HostRuntime) {
     let ample = LocalHeap::new(rt.alloc(), 8192).expect(&rt, "memory");
     for fail_index in 0..GROWTHS {
         let heap = FailingAllocator::new(&ample, fail_index);
-        assert_eq!(rt; count_pushed(&heap), 99, "{fail_index}");
-        assert_eq!(rt; heap.calls(), GROWTHS + 1, "{fail_index}");
-        assert!(rt; heap.has_failed(), "{fail_index}");
-        assert_eq!(rt; ample.used(), 0, "{fail_index}");
+        let pushed = count_pushed(&heap);
+        let told = (heap.calls(), heap.has_failed());
+        assert_equal_at(&rt, (pushed, told), (99, (GROWTHS + 1, true)), fail_index);
+        assert_equal_at(&rt, ample.used(), 0, fail_index);
     }
 }
 
 #[test]
 fn behind_the_last_call_none_is_refused(rt: HostRuntime) {
     let heap = FailingAllocator::new(rt.alloc(), GROWTHS);
-    assert_eq!(rt; (heap.calls(), heap.has_failed()), (0, false));
-    assert_eq!(rt; count_pushed(&heap), 100);
-    assert_eq!(rt; (heap.calls(), heap.has_failed()), (GROWTHS, false));
-    assert_eq!(rt; count_pushed(&heap), 99);
-    assert_eq!(rt; (heap.calls(), heap.has_failed()), (2 * GROWTHS + 1, true));
-    assert_eq!(rt; count_pushed(&heap), 100);
+    assert_equal(&rt, (heap.calls(), heap.has_failed()), (0, false));
+    for (pushed, calls, has_failed) in [
+        (100, GROWTHS, false),
+        (99, 2 * GROWTHS + 1, true),
+        (100, 3 * GROWTHS + 1, true),
+    ] {
+        assert_equal(&rt, count_pushed(&heap), pushed);
+        assert_equal(&rt, (heap.calls(), heap.has_failed()), (calls, has_failed));
+    }
 }
 
 /// Whether a box is made, which is dropped at once.
@@ -50,16 +54,16 @@ fn a_call_is_refused_where_an_earlier_block_would_do(rt: HostRuntime) {
     let ample = LocalHeap::new(rt.alloc(), 8192).expect(&rt, "memory");
     let heap = FailingAllocator::new(&ample, 2);
     for (index, want) in [(0, true), (1, true), (2, false), (3, true)] {
-        assert_eq!(rt; is_boxed(&heap), want, "{index}");
-        assert_eq!(rt; ample.used(), 0, "{index}");
+        let is_boxed = is_boxed(&heap);
+        assert_equal_at(&rt, (is_boxed, ample.used()), (want, 0), index);
     }
-    assert_eq!(rt; heap.calls(), 4);
+    assert_equal(&rt, heap.calls(), 4);
 }
 
 #[test]
 fn what_the_inner_allocator_refuses_is_refused(rt: HostRuntime) {
     let none = LocalHeap::new(rt.alloc(), 0).expect(&rt, "memory");
     let heap = FailingAllocator::new(&none, 5);
-    assert_eq!(rt; count_pushed(&heap), 0);
-    assert_eq!(rt; (heap.calls(), heap.has_failed()), (100, true));
+    assert_equal(&rt, count_pushed(&heap), 0);
+    assert_equal(&rt, (heap.calls(), heap.has_failed()), (100, true));
 }

@@ -1,4 +1,5 @@
 //! A span on which a call of each kind is made, and some that aren't kept.
+use crate::spans::text;
 use otlp_ids::{SpanContext, SpanId, TraceFlags, TraceId};
 use otlp_span::{Kind, Open, Resource, Scope, SpanCall, SpanLimits, Status};
 use otlp_value::Value;
@@ -23,11 +24,6 @@ pub(crate) const SPAN: SpanId = SpanId([2; 8]);
 pub(crate) const PARENT: SpanId = SpanId([3; 8]);
 
 type Pairs<A> = Vec<(String<A>, Value<A>), A>;
-
-/// A text, where memory is ample.
-pub(crate) fn text<A: Allocator>(rt: &impl Abort, alloc: A, text: &str) -> String<A> {
-    String::from_str(alloc, text).expect(rt, "memory")
-}
 
 pub(crate) fn pairs<A: Allocator + Copy>(
     rt: &impl Abort,
