@@ -11,7 +11,6 @@ use span_ring::RingFault;
 use std::alloc::{Allocator, Global};
 use std::ops::Range;
 use std::process::Abort;
-use std::test::Fail;
 
 /// Moments of desks whose delay is 5000 ms, in nanoseconds.
 const DELAY: u64 = 5_000_000_000;
@@ -114,7 +113,7 @@ pub(crate) fn name(number: u64, reason: Reason) -> Entry {
 }
 
 #[test]
-fn a_full_queue_drops_the_span_that_ends(rt: HostRuntime) -> Result<(), Fail> {
+fn a_full_queue_drops_the_span_that_ends(rt: HostRuntime) {
     let spans = Spans::new(&rt, rt.alloc());
     let mut desk = desk_of(&rt, rt.alloc(), 4, 2);
     queue(&rt, &mut desk, &spans, 0..4);
@@ -145,11 +144,10 @@ fn a_full_queue_drops_the_span_that_ends(rt: HostRuntime) -> Result<(), Fail> {
         closed: false,
     };
     assert_equal(&rt, desk.totals(), totals);
-    Ok(())
 }
 
 #[test]
-fn a_flush_asks_for_those_that_wait(rt: HostRuntime) -> Result<(), Fail> {
+fn a_flush_asks_for_those_that_wait(rt: HostRuntime) {
     let spans = Spans::new(&rt, rt.alloc());
     let mut desk = desk_of(&rt, rt.alloc(), 5, 2);
     queue(&rt, &mut desk, &spans, 0..3);
@@ -166,13 +164,12 @@ fn a_flush_asks_for_those_that_wait(rt: HostRuntime) -> Result<(), Fail> {
     pass(&rt, &mut desk, 0, 4, &[5, 6]);
     take_none(&rt, &mut desk, 0);
     assert_equal(&rt, desk.totals().left, 1);
-    Ok(())
 }
 
 #[test]
-fn a_batch_is_due_after_the_delay(rt: HostRuntime) -> Result<(), Fail> {
+fn a_batch_is_due_after_the_delay(rt: HostRuntime) {
     let spans = Spans::new(&rt, rt.alloc());
-    let mut desk = Desk::new(rt.alloc(), DeskConfig::default(), 0)?;
+    let mut desk = Desk::new(rt.alloc(), DeskConfig::default(), 0).expect(&rt, "memory");
     queue(&rt, &mut desk, &spans, 0..1);
     take_none(&rt, &mut desk, DELAY - 1);
     let batch = take(&rt, &mut desk, DELAY, 1, &[0]);
@@ -183,11 +180,10 @@ fn a_batch_is_due_after_the_delay(rt: HostRuntime) -> Result<(), Fail> {
     let batch = take(&rt, &mut desk, 2 * DELAY, 2, &[1]);
     drop_batch(&rt, &mut desk, batch);
     assert_equal(&rt, desk.totals().fates.refused, 1);
-    Ok(())
 }
 
 #[test]
-fn a_shutdown_asks_for_all_and_closes(rt: HostRuntime) -> Result<(), Fail> {
+fn a_shutdown_asks_for_all_and_closes(rt: HostRuntime) {
     let spans = Spans::new(&rt, rt.alloc());
     let mut desk = desk_of(&rt, rt.alloc(), 4, 4);
     queue(&rt, &mut desk, &spans, 0..2);
@@ -215,11 +211,10 @@ fn a_shutdown_asks_for_all_and_closes(rt: HostRuntime) -> Result<(), Fail> {
         closed: true,
     };
     assert_equal(&rt, desk.totals(), totals);
-    Ok(())
 }
 
 #[test]
-fn a_dropped_batch_is_named_in_its_order(rt: HostRuntime) -> Result<(), Fail> {
+fn a_dropped_batch_is_named_in_its_order(rt: HostRuntime) {
     let spans = Spans::new(&rt, rt.alloc());
     let mut desk = desk_of(&rt, rt.alloc(), 3, 2);
     queue(&rt, &mut desk, &spans, 0..3);
@@ -231,11 +226,10 @@ fn a_dropped_batch_is_named_in_its_order(rt: HostRuntime) -> Result<(), Fail> {
     assert_equal(&rt, desk.pop_entry(), Some(name(3, Reason::QueueFull)));
     assert_equal(&rt, desk.pop_entry(), None);
     assert_equal(&rt, desk.totals().dropped.encode_memory, 2);
-    Ok(())
 }
 
 #[test]
-fn a_desk_goes_with_what_it_has(rt: HostRuntime) -> Result<(), Fail> {
+fn a_desk_goes_with_what_it_has(rt: HostRuntime) {
     let spans = Spans::new(&rt, rt.alloc());
     let mut desk = desk_of(&rt, rt.alloc(), 2, 1);
     queue(&rt, &mut desk, &spans, 0..2);
@@ -247,11 +241,10 @@ fn a_desk_goes_with_what_it_has(rt: HostRuntime) -> Result<(), Fail> {
     assert_equal(&rt, desk.totals().left, 2);
     assert_equal(&rt, desk.ledger().len(), 2);
     drop(desk);
-    Ok(())
 }
 
 #[test]
-fn new_tells_the_first_fault(rt: HostRuntime) -> Result<(), Fail> {
+fn new_tells_the_first_fault(rt: HostRuntime) {
     let cases = [
         (0, 1, RingFault::ZeroSize),
         (4, 5, RingFault::BatchAboveQueue),
@@ -266,7 +259,6 @@ fn new_tells_the_first_fault(rt: HostRuntime) -> Result<(), Fail> {
         let made = Desk::new(rt.alloc(), config, 0);
         assert_equal_at(&rt, made.err(), Some(want), (queue, batch));
     }
-    Ok(())
 }
 
 /// The fault of a desk on this memory.
@@ -281,10 +273,10 @@ fn fault_of<A: Allocator + Copy>(alloc: A) -> Option<RingFault> {
 }
 
 #[test]
-fn each_memory_that_new_wants_may_be_refused(rt: HostRuntime) -> Result<(), Fail> {
+fn each_memory_that_new_wants_may_be_refused(rt: HostRuntime) {
     let (mut refused, mut made) = (0u32, 0u32);
     for size in (0..400usize).step_by(8) {
-        let scarce = LocalHeap::new(rt.alloc(), size)?;
+        let scarce = LocalHeap::new(rt.alloc(), size).expect(&rt, "memory");
         match fault_of(&scarce) {
             Some(fault) => {
                 assert_equal(&rt, fault, RingFault::OutOfMemory);
@@ -295,5 +287,4 @@ fn each_memory_that_new_wants_may_be_refused(rt: HostRuntime) -> Result<(), Fail
         assert_equal(&rt, scarce.used(), 0);
     }
     assert_equal_at(&rt, refused > 4 && made > 4, true, (refused, made));
-    Ok(())
 }

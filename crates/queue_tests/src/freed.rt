@@ -8,7 +8,6 @@ use otlp_span::{Entry, Reason, SpanData};
 use retry_core::Fate;
 use std::alloc::{Allocator, Global};
 use std::process::Abort;
-use std::test::Fail;
 
 /// The most spans that a queue has by the standard's numbers.
 const MANY: u64 = 2048;
@@ -40,7 +39,7 @@ fn shown(rt: &impl Abort, alloc: Global, desk: &mut Desk, span: SpanData) -> Str
 }
 
 #[test]
-fn what_is_left_of_a_span_is_handed_back(rt: HostRuntime) -> Result<(), Fail> {
+fn what_is_left_of_a_span_is_handed_back(rt: HostRuntime) {
     let spans = Spans::new(&rt, rt.alloc());
     let mut desk = desk_of(&rt, rt.alloc(), 2, 1);
     for number in 0..2 {
@@ -63,11 +62,10 @@ fn what_is_left_of_a_span_is_handed_back(rt: HostRuntime) -> Result<(), Fail> {
     let shown = shown(&rt, rt.alloc(), &mut desk, spans.ended(&rt, 4));
     let is_shown = shown.as_str().starts_with("Some(SpanRemains");
     assert_equal(&rt, is_shown, true);
-    Ok(())
 }
 
 #[test]
-fn a_cleared_batch_is_settled(rt: HostRuntime) -> Result<(), Fail> {
+fn a_cleared_batch_is_settled(rt: HostRuntime) {
     let spans = Spans::new(&rt, rt.alloc());
     let mut desk = desk_of(&rt, rt.alloc(), 3, 2);
     queue(&rt, &mut desk, &spans, 0..3);
@@ -83,7 +81,6 @@ fn a_cleared_batch_is_settled(rt: HostRuntime) -> Result<(), Fail> {
     let totals = desk.totals();
     assert_equal(&rt, (totals.handed, totals.fates.delivered), (2, 1));
     assert_equal(&rt, desk.ledger().is_empty(), true);
-    Ok(())
 }
 
 /// Room for so many spans, the first of which are there, with tickets from 7 on.
@@ -156,33 +153,47 @@ fn with_batch(rt: &impl Abort, alloc: Global) -> (Desk, Batch) {
     (desk, batch)
 }
 
-#[test]
-fn a_named_batch_is_dropped_as_another(rt: HostRuntime) -> Result<(), Fail> {
-    let (mut plain, batch) = with_batch(&rt, rt.alloc());
-    assert!(rt; plain.is_in_hand(&batch));
-    plain.drop_batch(batch, Reason::TooLarge);
-    let (mut desk, batch) = with_batch(&rt, rt.alloc());
+/// A desk whose batch was dropped without being named first.
+fn dropped_plain(rt: &impl Abort, alloc: Global) -> Desk {
+    let (mut desk, batch) = with_batch(rt, alloc);
+    assert!(rt; desk.is_in_hand(&batch));
+    desk.drop_batch(batch, Reason::TooLarge);
+    desk
+}
+
+/// A desk whose batch was named and then dropped, with its names from the first on.
+fn dropped_named(rt: &impl Abort, alloc: Global) -> (Desk, Vec<Entry>) {
+    let (mut desk, batch) = with_batch(rt, alloc);
     let named = batch.into_named(Reason::TooLarge);
-    let mut names: Vec<Entry> = Vec::new(rt.alloc());
-    names.extend(named.names().copied()).expect(&rt, "memory");
-    let want = [name(0, Reason::TooLarge), name(1, Reason::TooLarge)];
-    assert_equal(&rt, names.as_slice(), want.as_slice());
+    let mut names = Vec::new(alloc);
+    names.extend(named.names().copied()).expect(rt, "memory");
     assert!(rt; desk.can_drop(&named));
     desk.drop_named(named);
-    assert_equal(&rt, (desk.out(), desk.totals()), (None, plain.totals()));
-    for number in [1, 0] {
-        assert_equal(&rt, desk.pop_entry(), Some(name(number, Reason::TooLarge)));
+    (desk, names)
+}
+
+/// Pops the names of a desk's ledger, which have to be these, the newest first.
+fn pop_names(rt: &impl Abort, desk: &mut Desk, names: &[Entry]) {
+    for name in names {
+        assert_equal(rt, desk.pop_entry().as_ref(), Some(name));
     }
-    assert_equal(&rt, desk.pop_entry(), Some(name(3, Reason::QueueFull)));
-    assert_equal(&rt, desk.pop_entry(), None);
-    for number in [1, 0] {
-        assert_equal(&rt, plain.pop_entry(), Some(name(number, Reason::TooLarge)));
-    }
-    Ok(())
+    assert_equal(rt, desk.pop_entry(), None);
 }
 
 #[test]
-fn a_batch_of_thousands_is_named(rt: HostRuntime) -> Result<(), Fail> {
+fn a_named_batch_is_dropped_as_another(rt: HostRuntime) {
+    let (first, second) = (name(0, Reason::TooLarge), name(1, Reason::TooLarge));
+    let mut plain = dropped_plain(&rt, rt.alloc());
+    let (mut desk, names) = dropped_named(&rt, rt.alloc());
+    assert_equal(&rt, names.as_slice(), [first, second].as_slice());
+    assert_equal(&rt, (desk.out(), desk.totals()), (None, plain.totals()));
+    let popped = [second, first, name(3, Reason::QueueFull)];
+    pop_names(&rt, &mut desk, &popped);
+    pop_names(&rt, &mut plain, &popped);
+}
+
+#[test]
+fn a_batch_of_thousands_is_named(rt: HostRuntime) {
     let spans = Spans::new(&rt, rt.alloc());
     let mut desk = desk_of(&rt, rt.alloc(), MANY as usize, MANY as usize);
     queue(&rt, &mut desk, &spans, 0..MANY);
@@ -194,7 +205,6 @@ fn a_batch_of_thousands_is_named(rt: HostRuntime) -> Result<(), Fail> {
         assert_equal(&rt, desk.pop_entry(), Some(name(number, Reason::Abandoned)));
     }
     assert_equal(&rt, desk.pop_entry(), None);
-    Ok(())
 }
 
 /// Offers a span, whose answer has to be this one: the call itself takes and frees nothing, and who
@@ -214,6 +224,42 @@ fn offer<A: Allocator>(
     assert_equal(rt, heap.used() < used, is_left);
 }
 
+/// Takes the next batch: that takes and frees no memory.
+fn take_next<A: Allocator>(rt: &impl Abort, heap: &LocalHeap, desk: &mut Desk<A>) -> Batch<A> {
+    let used = heap.used();
+    let batch = desk.take(0).expect(rt, "a batch is due");
+    assert_equal(rt, heap.used(), used);
+    batch
+}
+
+/// Drops the next batch: its spans are freed where they are named, and the desk then frees nothing.
+fn drop_next<A: Allocator>(rt: &impl Abort, heap: &LocalHeap, desk: &mut Desk<A>) {
+    let batch = take_next(rt, heap, desk);
+    let used = heap.used();
+    let named = batch.into_named(Reason::TooLarge);
+    let named_used = heap.used();
+    assert!(rt; desk.can_drop(&named));
+    desk.drop_named(named);
+    assert_equal(rt, (named_used < used, heap.used()), (true, named_used));
+}
+
+/// Settles the next batch, whose one span goes into this room: the desk frees nothing.
+fn settle_next<A: Allocator>(
+    rt: &impl Abort,
+    heap: &LocalHeap,
+    desk: &mut Desk<A>,
+    spent: &mut Vec<SpanData<A>, A>,
+) {
+    let mut batch = take_next(rt, heap, desk);
+    let used = heap.used();
+    assert_eq!(rt; desk.out(), Some((batch.number(), false)));
+    desk.handed(batch.number());
+    batch.clear_into(spent);
+    assert!(rt; desk.can_settle(&batch));
+    desk.settle(batch, Fate::Delivered);
+    assert_equal(rt, heap.used(), used);
+}
+
 /// On this heap the calls that a lock is held for neither take nor free memory.
 fn hold_nothing_up<A: Allocator + Copy>(rt: &impl Abort, alloc: A, heap: &LocalHeap) {
     let config = DeskConfig {
@@ -226,36 +272,20 @@ fn hold_nothing_up<A: Allocator + Copy>(rt: &impl Abort, alloc: A, heap: &LocalH
     offer(rt, heap, &mut desk, spans.ended(rt, 0), Admitted::Queued(0));
     offer(rt, heap, &mut desk, spans.ended(rt, 1), Admitted::Queued(1));
     offer(rt, heap, &mut desk, spans.ended(rt, 2), Admitted::Full(2));
-    let used = heap.used();
-    let batch = desk.take(0).expect(rt, "a batch is due");
-    assert_equal(rt, heap.used(), used);
-    let named = batch.into_named(Reason::TooLarge);
-    let named_used = heap.used();
-    assert_equal(rt, named_used < used, true);
-    assert!(rt; desk.can_drop(&named));
-    desk.drop_named(named);
-    assert_equal(rt, heap.used(), named_used);
+    drop_next(rt, heap, &mut desk);
     offer(rt, heap, &mut desk, spans.ended(rt, 3), Admitted::Queued(3));
     desk.shutdown();
     offer(rt, heap, &mut desk, spans.ended(rt, 4), Admitted::Late);
     let mut spent = Vec::with_capacity(alloc, 1).expect(rt, "memory");
+    settle_next(rt, heap, &mut desk, &mut spent);
     let used = heap.used();
-    let mut batch = desk.take(0).expect(rt, "a batch is due");
-    assert_eq!(rt; desk.out(), Some((batch.number(), false)));
-    desk.handed(batch.number());
-    batch.clear_into(&mut spent);
-    assert!(rt; desk.can_settle(&batch));
-    desk.settle(batch, Fate::Delivered);
-    assert_equal(rt, heap.used(), used);
     drop(spent);
-    assert_equal(rt, heap.used() < used, true);
-    assert_equal(rt, desk.ledger().len(), 3);
+    assert_equal(rt, (heap.used() < used, desk.ledger().len()), (true, 3));
 }
 
 #[test]
-fn no_call_under_a_lock_takes_or_frees_memory(rt: HostRuntime) -> Result<(), Fail> {
-    let heap = LocalHeap::new(rt.alloc(), 16_384)?;
+fn no_call_under_a_lock_takes_or_frees_memory(rt: HostRuntime) {
+    let heap = LocalHeap::new(rt.alloc(), 16_384).expect(&rt, "memory");
     hold_nothing_up(&rt, &heap, &heap);
     assert_equal(&rt, heap.used(), 0);
-    Ok(())
 }

@@ -5,7 +5,6 @@ use drop_ledger::Ledger;
 use otlp_ids::SpanId;
 use otlp_span::{Entry, Reason};
 use std::process::Abort;
-use std::test::Fail;
 
 /// More names than a recursion could let go.
 const MANY: u64 = 70_000;
@@ -29,7 +28,7 @@ fn name(number: u64, ticket: u64, reason: Reason) -> Entry {
 }
 
 #[test]
-fn unlink_gives_back_what_was_linked(rt: HostRuntime) -> Result<(), Fail> {
+fn unlink_gives_back_what_was_linked(rt: HostRuntime) {
     let spans = Spans::new(&rt, rt.alloc());
     let first = spans.ended(&rt, 1);
     let mut second = spans.ended(&rt, 2);
@@ -50,7 +49,6 @@ fn unlink_gives_back_what_was_linked(rt: HostRuntime) -> Result<(), Fail> {
     assert_equal(&rt, newest, high);
     let (oldest, none) = below.expect(&rt, "a slip below").unlink();
     assert_equal(&rt, (oldest, none.is_none()), (low, true));
-    Ok(())
 }
 
 /// Drops the span of this number, which is its ticket: for lack of room where it is even.
@@ -72,7 +70,7 @@ fn reason_of(number: u64) -> Reason {
 }
 
 #[test]
-fn a_long_ledger_is_counted_and_let_go(rt: HostRuntime) -> Result<(), Fail> {
+fn a_long_ledger_is_counted_and_let_go(rt: HostRuntime) {
     let spans = Spans::new(&rt, rt.alloc());
     let mut ledger = Ledger::new();
     for number in 0..MANY {
@@ -95,11 +93,10 @@ fn a_long_ledger_is_counted_and_let_go(rt: HostRuntime) -> Result<(), Fail> {
         (MANY, Some(name(0, 0, Reason::QueueFull))),
     );
     drop(ledger);
-    Ok(())
 }
 
 #[test]
-fn a_chain_is_linked_anew(rt: HostRuntime) -> Result<(), Fail> {
+fn a_chain_is_linked_anew(rt: HostRuntime) {
     let spans = Spans::new(&rt, rt.alloc());
     let slip = |number: u64| {
         let span = spans.ended(&rt, number);
@@ -117,11 +114,10 @@ fn a_chain_is_linked_anew(rt: HostRuntime) -> Result<(), Fail> {
     let (newest, below) = chain.unlink();
     assert_equal(&rt, newest, three);
     assert_equal(&rt, below.expect(&rt, "a slip below").unlink().0, two);
-    Ok(())
 }
 
 #[test]
-fn a_ledger_goes_onto_another_the_other_way_round(rt: HostRuntime) -> Result<(), Fail> {
+fn a_ledger_goes_onto_another_the_other_way_round(rt: HostRuntime) {
     let spans = Spans::new(&rt, rt.alloc());
     let (mut ledger, mut more) = (Ledger::new(), Ledger::new());
     drop_span(&rt, &spans, &mut ledger, 0);
@@ -143,11 +139,10 @@ fn a_ledger_goes_onto_another_the_other_way_round(rt: HostRuntime) -> Result<(),
         );
     }
     assert_equal(&rt, ledger.is_empty(), true);
-    Ok(())
 }
 
 #[test]
-fn the_newest_name_is_popped_first(rt: HostRuntime) -> Result<(), Fail> {
+fn the_newest_name_is_popped_first(rt: HostRuntime) {
     let spans = Spans::new(&rt, rt.alloc());
     let mut ledger = Ledger::new();
     assert_equal(&rt, (ledger.pop(), ledger.is_empty()), (None, true));
@@ -168,5 +163,4 @@ fn the_newest_name_is_popped_first(rt: HostRuntime) -> Result<(), Fail> {
         (ledger.newest().is_none(), ledger.iter().count()),
         (true, 0),
     );
-    Ok(())
 }
