@@ -1,8 +1,8 @@
 //! Batches, from the queue to what came of them.
 use crate::equal::assert_equal;
 use crate::fixture::{
-    Do, assert_handed, assert_left, config, desk, encoded, exporter, full, name, queued, replied,
-    roots, run_program, sent, started, taken, words,
+    Do, assert_handed, assert_program, config, desk, encoded, exporter, full, name, queued,
+    replied, roots, run_program, sent, started, taken, words,
 };
 use batch_desk::DeskConfig;
 use otlp_ids::{SpanId, TraceId};
@@ -54,7 +54,6 @@ fn a_span_is_handed_to_the_exporter(rt: HostRuntime) {
     let alloc = rt.alloc();
     let drawn = words(&rt, alloc, &WORDS);
     let config = config(&rt, alloc, AlwaysOn, DeskConfig::default(), drawn);
-    let mut exporter = exporter(&rt, alloc, &[]);
     let program = [
         (Do::Root, ROOT),
         (Do::End(0, 2), queued(0)),
@@ -64,8 +63,7 @@ fn a_span_is_handed_to_the_exporter(rt: HostRuntime) {
         (Do::Attempt, sent(1, Outcome::Delivered)),
         (Do::Reply, replied(1, Next::Done)),
     ];
-    let report = run_program(&rt, alloc, config, &mut exporter, &program);
-    assert_left(&rt, report, 0, &[], 0);
+    let exporter = assert_program(&rt, alloc, config, &[], &program, (0, &[], 0));
     assert_handed(&rt, alloc, &exporter, &[(1, Outcome::Delivered, ONE_SPAN)]);
 }
 
@@ -74,7 +72,6 @@ fn two_spans_are_handed_in_one_body(rt: HostRuntime) {
     let alloc = rt.alloc();
     let drawn = words(&rt, alloc, &WORDS);
     let config = config(&rt, alloc, AlwaysOn, desk(4, 2), drawn);
-    let mut exporter = exporter(&rt, alloc, &[]);
     let program = [
         (Do::Root, ROOT),
         (Do::Root, ROOT),
@@ -85,8 +82,7 @@ fn two_spans_are_handed_in_one_body(rt: HostRuntime) {
         (Do::Attempt, sent(1, Outcome::Delivered)),
         (Do::Reply, replied(1, Next::Done)),
     ];
-    let report = run_program(&rt, alloc, config, &mut exporter, &program);
-    assert_left(&rt, report, 0, &[], 0);
+    let exporter = assert_program(&rt, alloc, config, &[], &program, (0, &[], 0));
     assert_handed(&rt, alloc, &exporter, &[(1, Outcome::Delivered, TWO_SPANS)]);
 }
 
@@ -94,7 +90,6 @@ fn two_spans_are_handed_in_one_body(rt: HostRuntime) {
 fn batches_leave_in_order(rt: HostRuntime) {
     let alloc = rt.alloc();
     let config = config(&rt, alloc, AlwaysOn, desk(4, 2), roots(&rt, alloc, 5));
-    let mut exporter = exporter(&rt, alloc, &[]);
     let program = [
         (Do::Root, started(0)),
         (Do::Root, started(1)),
@@ -117,15 +112,13 @@ fn batches_leave_in_order(rt: HostRuntime) {
         (Do::Reply, replied(2, Next::Done)),
         (Do::Take(DELAY), Answer::NotTaken),
     ];
-    let report = run_program(&rt, alloc, config, &mut exporter, &program);
-    assert_left(&rt, report, 0, &[name(4, 4)], 0);
+    assert_program(&rt, alloc, config, &[], &program, (0, &[name(4, 4)], 0));
 }
 
 #[test]
 fn a_flush_asks_for_those_that_wait(rt: HostRuntime) {
     let alloc = rt.alloc();
     let config = config(&rt, alloc, AlwaysOn, desk(5, 2), roots(&rt, alloc, 9));
-    let mut exporter = exporter(&rt, alloc, &[]);
     let program = [
         (Do::Root, started(0)),
         (Do::Root, started(1)),
@@ -164,8 +157,7 @@ fn a_flush_asks_for_those_that_wait(rt: HostRuntime) {
         (Do::Reply, replied(4, Next::Done)),
         (Do::Take(0), Answer::NotTaken),
     ];
-    let report = run_program(&rt, alloc, config, &mut exporter, &program);
-    assert_left(&rt, report, 1, &[name(8, 8)], 0);
+    assert_program(&rt, alloc, config, &[], &program, (1, &[name(8, 8)], 0));
 }
 
 #[test]
@@ -173,7 +165,6 @@ fn a_batch_is_due_after_the_delay(rt: HostRuntime) {
     let alloc = rt.alloc();
     let drawn = roots(&rt, alloc, 2);
     let config = config(&rt, alloc, AlwaysOn, DeskConfig::default(), drawn);
-    let mut exporter = exporter(&rt, alloc, &[]);
     let program = [
         (Do::Take(DELAY), Answer::NotTaken),
         (Do::Root, started(0)),
@@ -191,15 +182,13 @@ fn a_batch_is_due_after_the_delay(rt: HostRuntime) {
         (Do::Attempt, sent(2, Outcome::Delivered)),
         (Do::Reply, replied(2, Next::Done)),
     ];
-    let report = run_program(&rt, alloc, config, &mut exporter, &program);
-    assert_left(&rt, report, 0, &[], 0);
+    assert_program(&rt, alloc, config, &[], &program, (0, &[], 0));
 }
 
 #[test]
 fn steps_for_no_batch_do_nothing(rt: HostRuntime) {
     let alloc = rt.alloc();
     let config = config(&rt, alloc, AlwaysOn, desk(1, 1), roots(&rt, alloc, 1));
-    let mut exporter = exporter(&rt, alloc, &[]);
     let program = [
         (Do::Encode, Answer::Nothing),
         (Do::Attempt, Answer::Nothing),
@@ -221,8 +210,7 @@ fn steps_for_no_batch_do_nothing(rt: HostRuntime) {
         (Do::Attempt, Answer::Nothing),
         (Do::Reply, Answer::Nothing),
     ];
-    let report = run_program(&rt, alloc, config, &mut exporter, &program);
-    assert_left(&rt, report, 0, &[], 0);
+    assert_program(&rt, alloc, config, &[], &program, (0, &[], 0));
 }
 
 #[test]
@@ -244,7 +232,6 @@ fn each_outcome_of_the_last_attempt_has_its_reply(rt: HostRuntime) {
         let drawn = words(&rt, alloc, &WORDS);
         let mut config = config(&rt, alloc, AlwaysOn, desk(1, 1), drawn);
         config.retry = RetryConfig::single_attempt();
-        let mut exporter = exporter(&rt, alloc, &[outcome]);
         let program = [
             (Do::Root, ROOT),
             (Do::End(0, 2), queued(0)),
@@ -254,8 +241,7 @@ fn each_outcome_of_the_last_attempt_has_its_reply(rt: HostRuntime) {
             (Do::Reply, replied(1, next)),
             (Do::Take(DELAY), Answer::NotTaken),
         ];
-        let report = run_program(&rt, alloc, config, &mut exporter, &program);
-        assert_left(&rt, report, 0, &[], 0);
+        let exporter = assert_program(&rt, alloc, config, &[outcome], &program, (0, &[], 0));
         assert_handed(&rt, alloc, &exporter, &[(1, outcome, ONE_SPAN)]);
     }
 }

@@ -1,7 +1,7 @@
 //! Ends of spans, and what becomes of them.
 use crate::fixture::{
-    Do, assert_handed, assert_left, config, desk, encoded, exporter, full, name, queued, replied,
-    roots, run_program, sent, started, taken,
+    Do, assert_handed, assert_program, config, desk, encoded, full, name, queued, replied, roots,
+    sent, started, taken,
 };
 use otlp_sampler::{AlwaysOff, AlwaysOn};
 use retry_core::{Next, Outcome};
@@ -19,7 +19,6 @@ const BODY: &str = concat!(
 fn behind_its_end_a_span_stays_as_it_is(rt: HostRuntime) {
     let alloc = rt.alloc();
     let config = config(&rt, alloc, AlwaysOn, desk(4, 2), roots(&rt, alloc, 1));
-    let mut exporter = exporter(&rt, alloc, &[]);
     let program = [
         (Do::Root, started(0)),
         (Do::End(0, 2), queued(0)),
@@ -31,8 +30,7 @@ fn behind_its_end_a_span_stays_as_it_is(rt: HostRuntime) {
         (Do::Attempt, sent(1, Outcome::Delivered)),
         (Do::Reply, replied(1, Next::Done)),
     ];
-    let report = run_program(&rt, alloc, config, &mut exporter, &program);
-    assert_left(&rt, report, 0, &[], 0);
+    let exporter = assert_program(&rt, alloc, config, &[], &program, (0, &[], 0));
     assert_handed(&rt, alloc, &exporter, &[(1, Outcome::Delivered, BODY)]);
 }
 
@@ -40,7 +38,6 @@ fn behind_its_end_a_span_stays_as_it_is(rt: HostRuntime) {
 fn a_full_queue_drops_the_span_that_ends(rt: HostRuntime) {
     let alloc = rt.alloc();
     let config = config(&rt, alloc, AlwaysOn, desk(1, 1), roots(&rt, alloc, 2));
-    let mut exporter = exporter(&rt, alloc, &[]);
     let program = [
         (Do::Root, started(0)),
         (Do::Root, started(1)),
@@ -48,15 +45,13 @@ fn a_full_queue_drops_the_span_that_ends(rt: HostRuntime) {
         (Do::End(1, 2), full(1)),
         (Do::End(1, 3), Answer::Ended(Ended::AlreadyEnded)),
     ];
-    let report = run_program(&rt, alloc, config, &mut exporter, &program);
-    assert_left(&rt, report, 1, &[name(1, 1)], 0);
+    assert_program(&rt, alloc, config, &[], &program, (1, &[name(1, 1)], 0));
 }
 
 #[test]
 fn behind_a_shutdown_ends_are_late(rt: HostRuntime) {
     let alloc = rt.alloc();
     let config = config(&rt, alloc, AlwaysOn, desk(4, 2), roots(&rt, alloc, 3));
-    let mut exporter = exporter(&rt, alloc, &[]);
     let program = [
         (Do::Root, started(0)),
         (Do::Root, started(1)),
@@ -71,15 +66,13 @@ fn behind_a_shutdown_ends_are_late(rt: HostRuntime) {
         (Do::End(2, 4), Answer::Ended(Ended::Late)),
         (Do::End(0, 4), Answer::Ended(Ended::AlreadyEnded)),
     ];
-    let report = run_program(&rt, alloc, config, &mut exporter, &program);
-    assert_left(&rt, report, 1, &[], 2);
+    assert_program(&rt, alloc, config, &[], &program, (1, &[], 2));
 }
 
 #[test]
 fn spans_that_are_not_sampled_have_no_ticket(rt: HostRuntime) {
     let alloc = rt.alloc();
     let config = config(&rt, alloc, AlwaysOff, desk(4, 2), roots(&rt, alloc, 2));
-    let mut exporter = exporter(&rt, alloc, &[]);
     let program = [
         (Do::Root, started(0)),
         (Do::Root, started(1)),
@@ -90,6 +83,5 @@ fn spans_that_are_not_sampled_have_no_ticket(rt: HostRuntime) {
         (Do::End(1, 3), Answer::Ended(Ended::NotSampled)),
         (Do::End(1, 3), Answer::Ended(Ended::AlreadyEnded)),
     ];
-    let report = run_program(&rt, alloc, config, &mut exporter, &program);
-    assert_left(&rt, report, 0, &[], 0);
+    assert_program(&rt, alloc, config, &[], &program, (0, &[], 0));
 }

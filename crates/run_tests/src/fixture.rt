@@ -271,22 +271,39 @@ pub(crate) fn assert_answers(rt: &impl Abort, answers: &[Answer], program: &[(Do
 
 /// Asserts what a report leaves: how many wait, whom the ledger names, the newest first, and how
 /// many were late. No batch is out, so the desk is this one when the report is closed.
-pub(crate) fn assert_left<A: Allocator>(
+fn assert_left<A: Allocator>(
     rt: &impl Abort,
     report: RunReport<A>,
     left: u64,
     names: &[Entry],
     late: u64,
 ) {
-    assert!(rt; report.out().is_none());
     let totals = report.desk().totals();
-    assert_equal(rt, (totals.left, totals.late), (left, late));
+    let told = (report.out().is_none(), totals.left, totals.late);
+    assert_equal(rt, told, (true, left, late));
     let desk = report.close();
-    assert_equal(rt, desk.totals(), totals);
-    assert_equal(rt, desk.ledger().len(), names.len() as u64);
+    let closed = (desk.totals(), desk.ledger().len());
+    assert_equal(rt, closed, (totals, names.len() as u64));
     for (entry, want) in desk.ledger().iter().zip(names) {
         assert_equal(rt, entry, want);
     }
+}
+
+/// Runs a program whose exporter has these outcomes, asserts its answers and what its report leaves
+/// (`assert_left`), and answers the exporter.
+pub(crate) fn assert_program<S: Sampler + Drop, A: Allocator + Copy>(
+    rt: &impl Abort,
+    alloc: A,
+    config: RunConfig<S, WordsRng<A>, A>,
+    outcomes: &[Outcome],
+    program: &[(Do, Answer)],
+    left: (u64, &[Entry], u64),
+) -> MemoryExporter<A> {
+    let mut exporter = exporter(rt, alloc, outcomes);
+    let report = run_program(rt, alloc, config, &mut exporter, program);
+    let (waiting, names, late) = left;
+    assert_left(rt, report, waiting, names, late);
+    exporter
 }
 
 /// Asserts the bodies that were handed, in hexadecimal digits, each with its batch and outcome.
@@ -299,8 +316,8 @@ pub(crate) fn assert_handed<A: Allocator + Copy>(
     assert_equal(rt, exporter.handed().len(), want.len());
     for (handed, (batch, outcome, digits)) in exporter.handed().iter().zip(want) {
         let body = hex::encode(alloc, handed.body.as_slice()).expect(rt, "memory");
-        assert_equal(rt, (handed.number, handed.attempt), (*batch, 1));
-        assert_equal(rt, handed.outcome, *outcome);
+        let found = (handed.number, handed.attempt, handed.outcome);
+        assert_equal(rt, found, (*batch, 1, *outcome));
         assert_equal(rt, body.as_str(), *digits);
     }
 }

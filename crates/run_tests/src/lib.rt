@@ -1,7 +1,12 @@
-//! Tests of runs over their public calls: the answers of whole programs, what the exporter was
-//! handed, what a report tells, and each refusal of memory. The crate has no items of its own.
+//! Tests over public calls: of runs, with the answers of whole programs, what the exporter was
+//! handed, what a report tells, and each refusal of memory; of the table of spans; and of the text
+//! of a run. The crate has no items of its own.
 #![tactic(auto)]
 
+#[cfg(test)]
+mod answer_lines;
+#[cfg(test)]
+mod answered;
 #[cfg(test)]
 mod batches;
 #[cfg(test)]
@@ -15,6 +20,14 @@ mod fixture;
 #[cfg(test)]
 mod memory;
 #[cfg(test)]
+mod report;
+#[cfg(test)]
 mod retries;
 #[cfg(test)]
 mod starts;
+#[cfg(test)]
+mod table_memory;
+#[cfg(test)]
+mod table_steps;
+#[cfg(test)]
+mod tables;

@@ -2,7 +2,7 @@
 //! Throttling").
 use crate::equal::assert_equal;
 use crate::fixture::{
-    Do, assert_left, config, desk, encoded, exporter, queued, replied, roots, run_program, sent,
+    Do, assert_program, config, desk, encoded, exporter, queued, replied, roots, run_program, sent,
     sent_again, started, taken,
 };
 use otlp_sampler::AlwaysOn;
@@ -41,7 +41,6 @@ fn assert_repeats<A: Allocator>(rt: &impl Abort, exporter: &MemoryExporter<A>, a
 fn an_attempt_waits_as_the_collector_asks(rt: HostRuntime) {
     let alloc = rt.alloc();
     let config = config(&rt, alloc, AlwaysOn, desk(2, 1), roots(&rt, alloc, 2));
-    let mut exporter = exporter(&rt, alloc, &[UNAVAILABLE]);
     let program = [
         (Do::Root, started(0)),
         (Do::Root, started(1)),
@@ -63,16 +62,14 @@ fn an_attempt_waits_as_the_collector_asks(rt: HostRuntime) {
         ),
         (Do::ReplyAt(3 * SECOND, 0), replied(1, Next::Done)),
     ];
-    let report = run_program(&rt, alloc, config, &mut exporter, &program);
+    let exporter = assert_program(&rt, alloc, config, &[UNAVAILABLE], &program, (1, &[], 0));
     assert_repeats(&rt, &exporter, 2);
-    assert_left(&rt, report, 1, &[], 0);
 }
 
 #[test]
 fn the_fifth_attempt_is_the_last(rt: HostRuntime) {
     let alloc = rt.alloc();
     let config = config(&rt, alloc, AlwaysOn, desk(1, 1), roots(&rt, alloc, 1));
-    let mut exporter = exporter(&rt, alloc, &[Outcome::NoReply; 5]);
     let none = Outcome::NoReply;
     let program = [
         (Do::Root, started(0)),
@@ -99,9 +96,15 @@ fn the_fifth_attempt_is_the_last(rt: HostRuntime) {
             replied(1, Next::GiveUp(Cause::Attempts)),
         ),
     ];
-    let report = run_program(&rt, alloc, config, &mut exporter, &program);
+    let exporter = assert_program(
+        &rt,
+        alloc,
+        config,
+        &[Outcome::NoReply; 5],
+        &program,
+        (0, &[], 0),
+    );
     assert_repeats(&rt, &exporter, 5);
-    assert_left(&rt, report, 0, &[], 0);
 }
 
 #[test]

@@ -1,7 +1,6 @@
 //! Starts of spans, and calls on spans that didn't start.
 use crate::fixture::{
-    Do, TRACE, assert_left, config, desk, exporter, queued, roots, run_program, span_id, started,
-    words,
+    Do, TRACE, assert_program, config, desk, queued, roots, span_id, started, words,
 };
 use otlp_ids::{SpanId, TraceId};
 use otlp_sampler::AlwaysOn;
@@ -18,7 +17,6 @@ fn words_that_are_zero_are_drawn_again(rt: HostRuntime) {
         0x1112131415161718,
     ];
     let config = config(&rt, alloc, AlwaysOn, desk(4, 2), words(&rt, alloc, &drawn));
-    let mut exporter = exporter(&rt, alloc, &[]);
     let program = [(
         Do::Root,
         Answer::Started {
@@ -26,8 +24,7 @@ fn words_that_are_zero_are_drawn_again(rt: HostRuntime) {
             span: SpanId([17, 18, 19, 20, 21, 22, 23, 24]),
         },
     )];
-    let report = run_program(&rt, alloc, config, &mut exporter, &program);
-    assert_left(&rt, report, 0, &[], 0);
+    assert_program(&rt, alloc, config, &[], &program, (0, &[], 0));
 }
 
 #[test]
@@ -38,7 +35,6 @@ fn sixteen_words_of_zero_are_no_randomness(rt: HostRuntime) {
     drawn[17] = 2;
     drawn[18] = 3;
     let config = config(&rt, alloc, AlwaysOn, desk(4, 2), words(&rt, alloc, &drawn));
-    let mut exporter = exporter(&rt, alloc, &[]);
     let program = [
         (Do::Root, Answer::NoRandomness),
         (Do::Set(0), Answer::NoSpan),
@@ -54,15 +50,13 @@ fn sixteen_words_of_zero_are_no_randomness(rt: HostRuntime) {
         ),
         (Do::End(2, 2), queued(0)),
     ];
-    let report = run_program(&rt, alloc, config, &mut exporter, &program);
-    assert_left(&rt, report, 1, &[], 0);
+    assert_program(&rt, alloc, config, &[], &program, (1, &[], 0));
 }
 
 #[test]
 fn no_span_starts_where_none_is_named(rt: HostRuntime) {
     let alloc = rt.alloc();
     let config = config(&rt, alloc, AlwaysOn, desk(4, 2), roots(&rt, alloc, 3));
-    let mut exporter = exporter(&rt, alloc, &[]);
     let child = Answer::Started {
         trace: TRACE,
         span: SpanId([1; 8]),
@@ -81,15 +75,13 @@ fn no_span_starts_where_none_is_named(rt: HostRuntime) {
         (Do::Set(4), Answer::Done),
         (Do::End(3, 3), queued(1)),
     ];
-    let report = run_program(&rt, alloc, config, &mut exporter, &program);
-    assert_left(&rt, report, 2, &[], 0);
+    assert_program(&rt, alloc, config, &[], &program, (2, &[], 0));
 }
 
 #[test]
 fn a_child_of_elsewhere_is_in_its_trace(rt: HostRuntime) {
     let alloc = rt.alloc();
     let config = config(&rt, alloc, AlwaysOn, desk(4, 2), words(&rt, alloc, &[5]));
-    let mut exporter = exporter(&rt, alloc, &[]);
     let child = Answer::Started {
         trace: TraceId([7; 16]),
         span: span_id(4),
@@ -99,8 +91,7 @@ fn a_child_of_elsewhere_is_in_its_trace(rt: HostRuntime) {
         (Do::End(0, 2), queued(0)),
         (Do::RemoteChild, Answer::NoRandomness),
     ];
-    let report = run_program(&rt, alloc, config, &mut exporter, &program);
-    assert_left(&rt, report, 1, &[], 0);
+    assert_program(&rt, alloc, config, &[], &program, (1, &[], 0));
 }
 
 #[test]

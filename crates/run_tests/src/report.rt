@@ -1,5 +1,6 @@
-//! The report.
-use crate::runs::{SPAN, TRACE};
+//! The report, in the text of a run.
+use crate::answered::{SPAN, TRACE};
+use crate::equal::assert_equal;
 use drop_ledger::Ledger;
 use otlp_ids::{SpanContext, SpanId, TraceFlags};
 use otlp_span::{Kind, Open, Reason, Resource, Scope, SpanData, SpanLimits, SpanRecord};
@@ -7,7 +8,6 @@ use run_text::write_report;
 use std::alloc::Global;
 use std::process::Abort;
 use std::sync::Arc;
-use std::test::Fail;
 
 /// A span that has ended.
 fn ended(rt: &impl Abort, alloc: Global, span: SpanId) -> SpanData {
@@ -53,7 +53,7 @@ const NAMES: &str = concat!(
 );
 
 #[test]
-fn a_report_names_the_newest_first(rt: HostRuntime) -> Result<(), Fail> {
+fn a_report_names_the_newest_first(rt: HostRuntime) {
     let alloc = rt.alloc();
     let mut ledger = Ledger::new();
     name(&rt, alloc, &mut ledger, 10, Reason::QueueFull);
@@ -62,14 +62,12 @@ fn a_report_names_the_newest_first(rt: HostRuntime) -> Result<(), Fail> {
     name(&rt, alloc, &mut ledger, 8, Reason::Abandoned);
     let mut out = String::new(alloc);
     write_report(&mut out, 2, &ledger, u64::MAX).expect(&rt, "memory");
-    assert_eq!(rt; out.as_str(), NAMES);
-    Ok(())
+    assert_equal(&rt, out.as_str(), NAMES);
 }
 
 #[test]
-fn a_report_without_names(rt: HostRuntime) -> Result<(), Fail> {
+fn a_report_without_names(rt: HostRuntime) {
     let mut out = String::new(rt.alloc());
     write_report(&mut out, 0, &Ledger::new(), 0).expect(&rt, "memory");
-    assert_eq!(rt; out.as_str(), "queued 0\nlate 0\n");
-    Ok(())
+    assert_equal(&rt, out.as_str(), "queued 0\nlate 0\n");
 }

@@ -1,4 +1,5 @@
 //! What the tests make tables of.
+use crate::fixture::{text, words};
 use otlp_ids::{SpanId, TraceId};
 use otlp_sampler::Sampler;
 use otlp_span::{Resource, Scope, SpanCall, SpanLimits};
@@ -23,12 +24,9 @@ const WORDS: [u64; 4] = [
     0x191a1b1c1d1e1f20,
 ];
 
-pub(crate) fn text<A: Allocator>(rt: &impl Abort, alloc: A, text: &str) -> String<A> {
-    String::from_str(alloc, text).expect(rt, "memory")
-}
-
-pub(crate) fn words<A: Allocator>(rt: &impl Abort, alloc: A) -> WordsRng<A> {
-    WordsRng::new(Vec::from_slice(alloc, &WORDS).expect(rt, "memory"))
+/// A generator of these words.
+pub(crate) fn drawn<A: Allocator>(rt: &impl Abort, alloc: A) -> WordsRng<A> {
+    words(rt, alloc, &WORDS)
 }
 
 /// A provider of a resource without attributes.

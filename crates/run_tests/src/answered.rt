@@ -1,4 +1,5 @@
 //! Steps with their answers, as a run might give them.
+use crate::fixture::{encoded, sent_again, taken};
 use otlp_ids::{SpanId, TraceId};
 use otlp_span::{Kind, Reason, SpanCall};
 use retry_core::{Cause, Next, Outcome};
@@ -165,20 +166,8 @@ fn first_batch<A: Allocator + Copy>(rt: &impl Abort, run: &mut Run<A>) {
     run.step(rt, Step::Reply { at: 1, word: 0 }, Answer::Nothing);
 }
 
-fn taken(batch: u64, spans: usize) -> Answer {
-    Answer::Taken { batch, spans }
-}
-
-fn encoded(batch: u64, length: usize) -> Answer {
-    Answer::Encoded { batch, length }
-}
-
 fn sent(batch: u64, attempt: u32) -> Answer {
-    Answer::Sent {
-        batch,
-        attempt,
-        outcome: Outcome::Delivered,
-    }
+    sent_again(batch, attempt, Outcome::Delivered)
 }
 
 /// What the exporter was handed by these steps.

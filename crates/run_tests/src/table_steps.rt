@@ -1,8 +1,9 @@
-//! What starts, calls and ends are answered.
+//! What a table answers to starts, calls and ends.
 ghost use Rattle.std.specs.Prelude.{◌≡◌, ◌+◌, ◌<◌, length};
 
 use crate::equal::assert_equal;
-use crate::parts::{CHILD, SPAN, TRACE, attribute, provider, scopes, text, words};
+use crate::fixture::text;
+use crate::tables::{CHILD, SPAN, TRACE, attribute, drawn, provider, scopes};
 use otlp_sampler::{AlwaysOff, AlwaysOn, Sampler};
 use otlp_span::{Kind, SpanCall};
 use rand_core::Rng;
@@ -45,7 +46,7 @@ fn assert_call<S: Sampler, R: Rng, A: Allocator + Copy>(
 fn starts_are_numbered_and_answered(rt: HostRuntime) {
     let alloc = rt.alloc();
     let provider = provider(&rt, alloc, AlwaysOn);
-    let table = SpanTable::new(alloc, &provider, scopes(&rt, alloc), words(&rt, alloc), 5);
+    let table = SpanTable::new(alloc, &provider, scopes(&rt, alloc), drawn(&rt, alloc), 5);
     let mut table = table.expect(&rt, "memory");
     let (trace, span) = (TRACE, SPAN);
     assert_start(
@@ -96,7 +97,7 @@ fn assert_calls<S: Sampler, R: Rng, A: Allocator + Copy>(
 fn calls_count_until_the_first_end(rt: HostRuntime) {
     let alloc = rt.alloc();
     let provider = provider(&rt, alloc, AlwaysOn);
-    let table = SpanTable::new(alloc, &provider, scopes(&rt, alloc), words(&rt, alloc), 2);
+    let table = SpanTable::new(alloc, &provider, scopes(&rt, alloc), drawn(&rt, alloc), 2);
     let mut table = table.expect(&rt, "memory");
     let (trace, span) = (TRACE, SPAN);
     assert_start(
@@ -128,7 +129,7 @@ fn assert_ignored<S: Sampler, R: Rng, A: Allocator + Copy>(
 fn a_dropped_span_goes_to_no_pass(rt: HostRuntime) {
     let alloc = rt.alloc();
     let provider = provider(&rt, alloc, AlwaysOff);
-    let table = SpanTable::new(alloc, &provider, scopes(&rt, alloc), words(&rt, alloc), 1);
+    let table = SpanTable::new(alloc, &provider, scopes(&rt, alloc), drawn(&rt, alloc), 1);
     let mut table = table.expect(&rt, "memory");
     let (trace, span) = (TRACE, SPAN);
     assert_start(
@@ -151,7 +152,7 @@ fn assert_written<T: Debug>(rt: &impl Abort, alloc: Global, value: &T, text: &st
 fn a_table_writes_how_many_spans_it_has(rt: HostRuntime) {
     let alloc = rt.alloc();
     let provider = provider(&rt, alloc, AlwaysOn);
-    let table = SpanTable::new(alloc, &provider, scopes(&rt, alloc), words(&rt, alloc), 1);
+    let table = SpanTable::new(alloc, &provider, scopes(&rt, alloc), drawn(&rt, alloc), 1);
     let mut table = table.expect(&rt, "memory");
     assert_start(&rt, &mut table, 1, Parent::Root, Answer::NoSpan);
     assert_written(&rt, alloc, &table, "SpanTable { tracers: 1, spans: 1, .. }");

@@ -1,8 +1,8 @@
-//! Starts and calls on scarce memory.
+//! Starts and calls of a table on scarce memory.
 ghost use Rattle.std.specs.Prelude.{◌<◌, length};
 
 use crate::equal::{assert_equal, assert_equal_at};
-use crate::parts::{attribute, provider, scopes, words};
+use crate::tables::{attribute, drawn, provider, scopes};
 use linked_list_allocator::LocalHeap;
 use otlp_sampler::{AlwaysOff, AlwaysOn, Sampler};
 use otlp_span::{Kind, SpanCall};
@@ -45,7 +45,7 @@ fn make_answers<S: Sampler + Drop, A: Allocator + Copy>(
     sampler: S,
 ) -> Option<Answers> {
     let provider = provider(rt, ample, sampler);
-    let table = SpanTable::new(scarce, &provider, scopes(rt, ample), words(rt, ample), 1);
+    let table = SpanTable::new(scarce, &provider, scopes(rt, ample), drawn(rt, ample), 1);
     let Ok(mut table) = table else {
         return None;
     };
