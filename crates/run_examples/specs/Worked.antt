@@ -72,20 +72,30 @@ desk_of_size queue = record { queue = queue; batch = 2; delay_ms = 5000 }
 abbrev pub five_attempts : RetryConfig
 five_attempts = record { attempts = 5; initial_ms = 1000; max_ms = 30000; least_ms = 0 }
 
+-- the greatest body, where none other is set
+abbrev pub four_mebibytes : ℕ
+four_mebibytes = 4194304
+
 -- all spans are sampled
 abbrev pub queue_of : ℕ → RunConfig
 queue_of queue = record {
   setup = setup_with always_on counting;
   desk = desk_of_size queue;
   retry = five_attempts;
+  max_body = four_mebibytes;
 }
 
--- the same, with one attempt
+-- the same, with a queue of four and this greatest body
+abbrev pub bodies_of : ℕ → RunConfig
+bodies_of greatest = record (queue_of 4) { max_body = greatest }
+
+-- a queue of so many, and one attempt
 abbrev pub once_of : ℕ → RunConfig
 once_of queue = record {
   setup = setup_with always_on counting;
   desk = desk_of_size queue;
   retry = record five_attempts { attempts = 1 };
+  max_body = four_mebibytes;
 }
 
 -- a queue of one, and batches of one
@@ -94,6 +104,7 @@ single = record {
   setup = setup_with always_on counting;
   desk = record { queue = 1; batch = 1; delay_ms = 5000 };
   retry = five_attempts;
+  max_body = four_mebibytes;
 }
 
 -- a queue of four, with this sampler and these words, behind which are zeros
@@ -102,6 +113,7 @@ run_with sampler words = record {
   setup = setup_with sampler (slice_index words);
   desk = desk_of_size 4;
   retry = five_attempts;
+  max_body = four_mebibytes;
 }
 
 -- ---- steps
@@ -176,6 +188,11 @@ unfoldable pub answers_by : List Outcome → ℕ → RunConfig → List Step →
 unfolding history_behind
 answers_by outcomes n run done = drop n (answers_of (history_behind run [] [] outcomes done))
 
+-- the names of the spans that are dropped, the newest first, where memory is refused at these places
+unfoldable pub named_by : List ℕ → RunConfig → List Step → List Entry
+unfolding history_behind
+named_by scarce run done = (desk_after run (history_behind run scarce [] [] done)).ledger
+
 -- the spans that a run ends, where memory is refused at these places
 unfoldable pub ended_without : List ℕ → RunConfig → List Step → List EndedSpan
 unfolding history_behind
@@ -242,9 +259,9 @@ first_span ticket = ended_span ticket 3 None "a" []
 abbrev pub child_span : ℕ → ℕ → EndedSpan
 child_span ticket word = ended_span ticket word (Some (id 3)) "a" []
 
--- the name of a dropped child
-abbrev pub child_entry : Reason → ℕ → ℕ → Entry
-child_entry reason ticket word =
+-- the name of a dropped span of this word
+abbrev pub dropped_entry : Reason → ℕ → ℕ → Entry
+dropped_entry reason ticket word =
     record { trace = id 1 ++ id 2; span = id word; ticket = ticket; reason = reason }
 
 abbrev pub set : String → ℤ → Call

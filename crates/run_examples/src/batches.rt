@@ -2,11 +2,12 @@
 //! lengths stand here.
 
 ghost use Rattle.std.specs.Prelude.{◌≡◌, [], ◌∷◌, ◌++◌, pos, Some, None};
+ghost use Rattle.span_model.specs.Dropped.{encode_memory, too_large};
 ghost use Rattle.span_model.specs.Sampling.{always_on};
 ghost use Rattle.retry_model.specs.Retries.{Outcome, later, no_reply, bad, seconds, Next, give_up, Cause, attempts};
 ghost use Rattle.history_model.specs.Steps.{Step};
-ghost use Rattle.run_model.specs.Runs.{Answer, taken, encoded, sent, replied, nothing, out_of_memory};
-ghost use Rattle.run_examples.specs.Worked.{queue_of, once_of, run_with, first, child, family, ends, sends, answers_from, answers_without, answers_by, queued, delivers};
+ghost use Rattle.run_model.specs.Runs.{Answer, taken, encoded, sent, replied, nothing};
+ghost use Rattle.run_examples.specs.Worked.{queue_of, once_of, bodies_of, run_with, first, child, family, ends, sends, answers_from, answers_without, answers_by, named_by, dropped_entry, queued, delivers};
 
 /// A batch is encoded once, then sent once, and then that is judged once.
 #[tactic(auto, unfolding(crate::specs::Worked::answers_from))]
@@ -37,19 +38,49 @@ pub fn in_order()
         queued 0 ∷ queued 1 ∷ taken 1 2 ∷ delivers 1 117 }
 {}
 
-/// Where memory is refused to an encoding, the batch stays out and can be encoded later.
-#[tactic(auto, unfolding(crate::specs::Worked::answers_without))]
+/// Where memory is refused to an encoding, the batch is dropped, and its spans are named.
+#[tactic(auto, unfolding(crate::specs::Worked::answers_without, crate::specs::Worked::named_by))]
 pub fn refused()
-    ensures encoded_later { answers_without (4 ∷ 6 ∷ []) 3 (queue_of 4)
+    ensures dropped { answers_without (4 ∷ []) 3 (queue_of 4)
         (first ∷ ends 0 ∷ Step.shutdown ∷ Step.take 10 ∷ Step.encode ∷ Step.attempt 0 ∷
-        Step.encode ∷ Step.take 10 ∷ sends) ≡
-        taken 1 1 ∷ out_of_memory ∷ nothing ∷ out_of_memory ∷ Answer.not_taken ∷ delivers 1 64 }
+        Step.reply 0 0 ∷ Step.encode ∷ []) ≡
+        taken 1 1 ∷ Answer.dropped 1 encode_memory ∷ nothing ∷ nothing ∷ nothing ∷ [] }
+    ensures named { named_by (4 ∷ []) (queue_of 4)
+        (first ∷ ends 0 ∷ Step.shutdown ∷ Step.take 10 ∷ Step.encode ∷ []) ≡
+        dropped_entry encode_memory 0 3 ∷ [] }
+    // The next batch is no longer concerned.
+    ensures next_batch { answers_without (5 ∷ []) 5 (queue_of 4)
+        (family 1 ++ ends 0 ∷ Step.flush ∷ Step.take 0 ∷ Step.encode ∷ ends 1 ∷ Step.flush ∷
+        Step.take 0 ∷ sends) ≡
+        Answer.dropped 1 encode_memory ∷ queued 1 ∷ Answer.flush ∷ taken 2 1 ∷ delivers 2 74 }
     // Where there is nothing to encode, none is wanted; nor do other steps want any.
     ensures nothing_to_encode { answers_without (0 ∷ []) 0 (queue_of 4) (Step.encode ∷ []) ≡
         nothing ∷ [] }
     ensures others { answers_without (2 ∷ 3 ∷ 5 ∷ 6 ∷ []) 2 (queue_of 4)
         (first ∷ ends 0 ∷ Step.flush ∷ Step.take 0 ∷ sends) ≡
         Answer.flush ∷ taken 1 1 ∷ delivers 1 64 }
+{}
+
+/// A body may have as many bytes as the greatest, and no more: a batch of a larger one is dropped,
+/// and its spans are named.
+#[tactic(auto, unfolding(crate::specs::Worked::answers_from, crate::specs::Worked::answers_without, crate::specs::Worked::named_by))]
+pub fn greatest()
+    ensures fits { answers_from 2 (bodies_of 64) (first ∷ ends 0 ∷ Step.take 5000000000 ∷ sends) ≡
+        taken 1 1 ∷ delivers 1 64 }
+    ensures too_large { answers_from 2 (bodies_of 63)
+        (first ∷ ends 0 ∷ Step.take 5000000000 ∷ sends) ≡
+        taken 1 1 ∷ Answer.dropped 1 too_large ∷ nothing ∷ nothing ∷ [] }
+    // Two spans with the same identifiers are named each.
+    ensures names_each { let run = record (run_with always_on (1 ∷ 2 ∷ 3 ∷ 1 ∷ 2 ∷ 3 ∷ [])) {
+      max_body = 116;
+    } in
+        named_by [] run
+        (first ∷ first ∷ ends 0 ∷ ends 1 ∷ Step.take 0 ∷ Step.encode ∷ []) ≡
+        dropped_entry too_large 1 3 ∷ dropped_entry too_large 0 3 ∷ [] }
+    // Want of memory is told first.
+    ensures memory_first { answers_without (3 ∷ []) 3 (bodies_of 63)
+        (first ∷ ends 0 ∷ Step.take 5000000000 ∷ Step.encode ∷ []) ≡
+        Answer.dropped 1 encode_memory ∷ [] }
 {}
 
 /// What follows from the outcome of an attempt that is the last.

@@ -8,7 +8,7 @@ ghost use Rattle.retry_model.specs.Retries.{Outcome, Fate};
 ghost use Rattle.desk_model.specs.Queue as desk;
 ghost use Rattle.run_model.specs.Answers.{not_out, to_encode, to_send, to_judge, AreAnswers};
 ghost use Rattle.run_model.specs.Headline.{EachOnce, attempts, batch_numbers, AreNumbered};
-ghost use Rattle.run_examples.specs.Worked.{desk_of_size, queue_of, history, worked, worked_steps, worked_spans, worked_events, worked_desk, worked_out, worked_places, worked_batch, progress_after, first_span, child_span, child_entry, tried};
+ghost use Rattle.run_examples.specs.Worked.{desk_of_size, queue_of, history, worked, worked_steps, worked_spans, worked_events, worked_desk, worked_out, worked_places, worked_batch, progress_after, first_span, child_span, dropped_entry, tried};
 
 /// Its answers are the right ones.
 #[tactic(auto, unfolding(crate::specs::Worked::history))]
@@ -36,7 +36,7 @@ pub fn left()
       config = desk_of_size 2;
       waiting = child_span 4 7 ∷ [];
       out = Some (record { number = 2; size = 1; is_handed = false });
-      ledger = child_entry queue_full 2 5 ∷ [];
+      ledger = dropped_entry queue_full 2 5 ∷ [];
       next_ticket = 5;
       taken = 3;
       batches = 2;

@@ -2,6 +2,7 @@
 //! ledger: profile). Each breaks one of the conditions that the right one meets.
 
 ghost use Rattle.std.specs.Prelude.{◌≡◌, [], ◌∷◌, ◌++◌, None};
+ghost use Rattle.span_model.specs.Dropped.{too_large};
 ghost use Rattle.retry_model.specs.Retries.{Outcome};
 ghost use Rattle.run_model.specs.Runs.{Answer, not_taken, nothing};
 ghost use Rattle.run_model.specs.Answers.{AreAnswers};
@@ -33,6 +34,8 @@ pub fn answers()
     ensures same_number { ¬ (AreAnswers (queue_of 2) (with_answer second_take (Answer.taken 1 1))) }
     ensures other_length { ¬ (AreAnswers (queue_of 2)
         (with_answer first_encode (Answer.encoded 1 126))) }
+    ensures too_large_though_it_fits { ¬ (AreAnswers (queue_of 2)
+        (with_answer first_encode (Answer.dropped 1 too_large))) }
     ensures second_attempt { ¬ (AreAnswers (queue_of 2)
         (with_answer first_attempt (Answer.sent 1 2 Outcome.delivered))) }
     ensures not_sent { ¬ (AreAnswers (queue_of 2) (with_answer first_attempt nothing)) }

@@ -1,9 +1,9 @@
 -- What ends and takes answer, and what no other step answers.
-use Rattle.std.proofs.Common.{◌≡◌, refl, sym, ap, ◌∙◌, ℕ, ◌+◌, nat_lt, min, List, length, Bool, true, false, true≢false, not, ◌&&◌, Option, Some, None}
+use Rattle.std.proofs.Common.{◌≡◌, refl, sym, ap, ◌∙◌, ℕ, ◌+◌, nat_lt, nat_le, min, List, length, Bool, true, false, true≢false, not, ◌&&◌, Option, Some, None}
 use Rattle.std.specs.Prelude.{is_none, if◌then◌else◌}
 use Rattle.std.specs.List.{list_any}
 use Rattle.std.specs.Option.{option_map_or}
-use Rattle.span_model.specs.Dropped.{queue_full}
+use Rattle.span_model.specs.Dropped.{Reason, queue_full, encode_memory, too_large}
 use Rattle.span_model.specs.Sampling.{is_sampled}
 use Rattle.span_model.specs.Spans.{Call, is_end}
 use Rattle.span_model.specs.Starts.{Ids, StartedSpan}
@@ -12,7 +12,7 @@ use Rattle.desk_model.specs.Desks.{Desk, is_due, desk_of}
 use Rattle.history_model.specs.Steps.{Step}
 use Rattle.history_model.specs.History.{Setup}
 use Rattle.run_model.specs.Runs.{Ended, queued, late, not_sampled, already_ended, Answer, started, no_randomness, no_span, out_of_memory, done, ended, taken, not_taken, encoded, sent, early, replied, nothing, Answered, span_at, calls_so_far}
-use Rattle.run_model.specs.Answers.{RunConfig, Given, Progress, not_out, to_encode, to_send, to_judge, to_retry, takes_memory, is_live, start_answer, end_answer, call_answer, take_answer, encode_answer, attempt_answer, reply_answer, desk_after, answer_to, progress, last_attempt, IsAnswer}
+use Rattle.run_model.specs.Answers.{RunConfig, Given, Progress, not_out, to_encode, to_send, to_judge, to_retry, takes_memory, is_live, start_answer, end_answer, call_answer, take_answer, encode_answer, attempt_answer, reply_answer, last_length, desk_after, answer_to, progress, last_attempt, IsAnswer}
 use Rattle.run_laws.specs.Laws.{is_first_end, was_shut, is_full, says_late, says_full, says_queued, may_take, says_taken, LateBehindShutdown, DroppedWhereFull, QueuedWhereRoom, TakenWhereDue, TakesTheFirst, OfRuns}
 use Rattle.run_laws.proofs.Histories.{answer-at}
 
@@ -28,6 +28,7 @@ record Quiet (f : Answer → Bool) : Type 0 where
   of_shutdown : f Answer.shutdown ≡ false
   of_not_taken : f not_taken ≡ false
   of_early : f early ≡ false
+  of_dropped : (number : ℕ) (reason : Reason) → f (Answer.dropped number reason) ≡ false
   of_replied : (number : ℕ) (next : Next) → f (replied number next) ≡ false
   of_nothing : f nothing ≡ false
 
@@ -41,13 +42,17 @@ module _ (f : Answer → Bool) (q : Quiet f) where
       by true = q.of_memory
       by false = q.of_start _
 
-  quiet-encode : ((number size : ℕ) → f (encoded number size) ≡ false) → (before : List Answered) (desk : Desk) (setup : Setup) (refused : Bool) (p : Progress) → f (encode_answer before desk setup refused p) ≡ false
-  quiet-encode t before desk setup true to_encode = q.of_memory
-  quiet-encode t before desk setup false to_encode = t _ _
-  quiet-encode t before desk setup refused not_out = q.of_nothing
-  quiet-encode t before desk setup refused to_send = q.of_nothing
-  quiet-encode t before desk setup refused (to_judge outcome) = q.of_nothing
-  quiet-encode t before desk setup refused (to_retry moment) = q.of_nothing
+  quiet-encode : ((number size : ℕ) → f (encoded number size) ≡ false) → (run : RunConfig) (before : List Answered) (desk : Desk) (refused : Bool) (p : Progress) → f (encode_answer run before desk refused p) ≡ false
+  quiet-encode t run before desk true to_encode = q.of_dropped _ encode_memory
+  quiet-encode t run before desk false to_encode = by (nat_le (last_length run.setup before) run.max_body)
+    where
+      by : (b : Bool) → f (if b then encoded desk.batches (last_length run.setup before) else Answer.dropped desk.batches too_large) ≡ false
+      by true = t _ _
+      by false = q.of_dropped _ too_large
+  quiet-encode t run before desk refused not_out = q.of_nothing
+  quiet-encode t run before desk refused to_send = q.of_nothing
+  quiet-encode t run before desk refused (to_judge outcome) = q.of_nothing
+  quiet-encode t run before desk refused (to_retry moment) = q.of_nothing
 
   quiet-attempt : ((number attempt : ℕ) (outcome : Outcome) → f (sent number attempt outcome) ≡ false) → (before : List Answered) (desk : Desk) (outcome : Outcome) (now : ℕ) (p : Progress) → f (attempt_answer before desk outcome now p) ≡ false
   quiet-attempt t before desk outcome now to_send = t _ _ _
@@ -129,7 +134,7 @@ module _ (f : Answer → Bool) (says : Bool → Bool → Bool) (t : TellsEnds f 
   ends-told given Step.flush = t.quiet.of_flush
   ends-told given Step.shutdown = t.quiet.of_shutdown
   ends-told given (Step.take now) = quiet-take f t.quiet t.of_taken (desk_after run before) now
-  ends-told given Step.encode = quiet-encode f t.quiet t.of_encoded before (desk_after run before) run.setup given.refused (progress before)
+  ends-told given Step.encode = quiet-encode f t.quiet t.of_encoded run before (desk_after run before) given.refused (progress before)
   ends-told given (Step.attempt now) = quiet-attempt f t.quiet t.of_sent before (desk_after run before) given.outcome now (progress before)
   ends-told given (Step.reply now word) = quiet-reply f t.quiet run before (desk_after run before) now word (progress before)
 
@@ -159,7 +164,7 @@ of-queued false true false false ticket = refl
 
 tells-late : TellsEnds says_late (λ shut full. shut)
 tells-late = record {
-  quiet = record { of_start = λ ids. refl; of_no_randomness = refl; of_no_span = refl; of_memory = refl; of_done = refl; of_flush = refl; of_shutdown = refl; of_not_taken = refl; of_early = refl; of_replied = λ n x. refl; of_nothing = refl };
+  quiet = record { of_start = λ ids. refl; of_no_randomness = refl; of_no_span = refl; of_memory = refl; of_done = refl; of_flush = refl; of_shutdown = refl; of_not_taken = refl; of_early = refl; of_dropped = λ n r. refl; of_replied = λ n x. refl; of_nothing = refl };
   of_taken = λ n s. refl;
   of_encoded = λ n s. refl;
   of_sent = λ n a o. refl;
@@ -168,7 +173,7 @@ tells-late = record {
 
 tells-full : TellsEnds says_full (λ shut full. not shut && full)
 tells-full = record {
-  quiet = record { of_start = λ ids. refl; of_no_randomness = refl; of_no_span = refl; of_memory = refl; of_done = refl; of_flush = refl; of_shutdown = refl; of_not_taken = refl; of_early = refl; of_replied = λ n x. refl; of_nothing = refl };
+  quiet = record { of_start = λ ids. refl; of_no_randomness = refl; of_no_span = refl; of_memory = refl; of_done = refl; of_flush = refl; of_shutdown = refl; of_not_taken = refl; of_early = refl; of_dropped = λ n r. refl; of_replied = λ n x. refl; of_nothing = refl };
   of_taken = λ n s. refl;
   of_encoded = λ n s. refl;
   of_sent = λ n a o. refl;
@@ -177,7 +182,7 @@ tells-full = record {
 
 tells-queued : TellsEnds says_queued (λ shut full. not shut && not full)
 tells-queued = record {
-  quiet = record { of_start = λ ids. refl; of_no_randomness = refl; of_no_span = refl; of_memory = refl; of_done = refl; of_flush = refl; of_shutdown = refl; of_not_taken = refl; of_early = refl; of_replied = λ n x. refl; of_nothing = refl };
+  quiet = record { of_start = λ ids. refl; of_no_randomness = refl; of_no_span = refl; of_memory = refl; of_done = refl; of_flush = refl; of_shutdown = refl; of_not_taken = refl; of_early = refl; of_dropped = λ n r. refl; of_replied = λ n x. refl; of_nothing = refl };
   of_taken = λ n s. refl;
   of_encoded = λ n s. refl;
   of_sent = λ n a o. refl;
@@ -204,7 +209,7 @@ queued-where-room run h w before later x e =
 -- ---- takes
 
 quiet-taken : Quiet says_taken
-quiet-taken = record { of_start = λ ids. refl; of_no_randomness = refl; of_no_span = refl; of_memory = refl; of_done = refl; of_flush = refl; of_shutdown = refl; of_not_taken = refl; of_early = refl; of_replied = λ n x. refl; of_nothing = refl }
+quiet-taken = record { of_start = λ ids. refl; of_no_randomness = refl; of_no_span = refl; of_memory = refl; of_done = refl; of_flush = refl; of_shutdown = refl; of_not_taken = refl; of_early = refl; of_dropped = λ n r. refl; of_replied = λ n x. refl; of_nothing = refl }
 
 take-told : (run : RunConfig) (before : List Answered) (given : Given) (step : Step) → says_taken (answer_to run before given step) ≡ may_take run before step
 take-told run before given (Step.start scope parent kind at name) = quiet-start says_taken quiet-taken _ given.refused _
@@ -216,7 +221,7 @@ take-told run before given (Step.take now) = by (is_due (desk_after run before) 
     by : (b : Bool) → says_taken (if b then taken ((desk_after run before).batches + 1) (min (desk_after run before).config.batch (length (desk_after run before).waiting)) else not_taken) ≡ b
     by true = refl
     by false = refl
-take-told run before given Step.encode = quiet-encode says_taken quiet-taken (λ n s. refl) before (desk_after run before) run.setup given.refused (progress before)
+take-told run before given Step.encode = quiet-encode says_taken quiet-taken (λ n s. refl) run before (desk_after run before) given.refused (progress before)
 take-told run before given (Step.attempt now) = quiet-attempt says_taken quiet-taken (λ n a o. refl) before (desk_after run before) given.outcome now (progress before)
 take-told run before given (Step.reply now word) = quiet-reply says_taken quiet-taken run before (desk_after run before) now word (progress before)
 

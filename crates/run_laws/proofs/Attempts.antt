@@ -1,11 +1,12 @@
 -- How often a batch was sent, and what each right answer keeps of that.
-use Rattle.std.proofs.Common.{◌≡◌, refl, sym, ap, subst, ◌∙◌, ℕ, ◌+◌, ◌<◌, ◌≤◌, ◌==◌, nat_lt, min, arith, List, [], ◌∷◌, ◌++◌, length, Bool, true, false, true≢false, cond, ◌&&◌, map, suc, Option, Some, None, option_map, filter_map, length-append}
+use Rattle.std.proofs.Common.{◌≡◌, refl, sym, ap, subst, ◌∙◌, ℕ, ◌+◌, ◌<◌, ◌≤◌, ◌==◌, nat_lt, nat_le, min, arith, List, [], ◌∷◌, ◌++◌, length, Bool, true, false, true≢false, cond, ◌&&◌, map, suc, Option, Some, None, option_map, filter_map, length-append}
 use Rattle.std.specs.Prelude.{is_none, if◌then◌else◌}
 use Rattle.std.specs.List.{AllByRecursion, cons_option, range_with_len}
 use Rattle.std.proofs.lemmas.List.{append-nil, map-append}
 use Rattle.std.proofs.lemmas.List.Elements.{filter-append}
-use Rattle.std.proofs.lemmas.Bool.{eqb-true, eq-eqb, ltb-false, false_from_ne_true}
+use Rattle.std.proofs.lemmas.Bool.{eqb-true, eq-eqb, ltb-false, leb-true, leb-false, false_from_ne_true}
 use Rattle.span_model.specs.Attributes.{last_or}
+use Rattle.span_model.specs.Dropped.{Reason, too_large}
 use Rattle.span_model.specs.Spans.{EndedSpan, Call, is_end}
 use Rattle.span_model.specs.Starts.{StartedSpan}
 use Rattle.retry_model.specs.Retries.{Outcome, Next, again, give_up, Fate, fate_of}
@@ -19,10 +20,10 @@ use Rattle.desk_laws.proofs.Batches.{range-more}
 use Rattle.history_model.specs.Steps.{Step}
 use Rattle.history_model.specs.History.{Setup}
 use Rattle.run_model.specs.Runs.{Answer, started, out_of_memory, done, ended, taken, not_taken, encoded, sent, early, replied, Answered, span_at, calls_so_far, event_by, events_behind, desk_events}
-use Rattle.run_model.specs.Answers.{RunConfig, Progress, not_out, to_encode, to_send, to_judge, to_retry, progress_by, progress, attempts_by, last_attempt, takes_memory, is_live, Given, start_answer, end_answer, call_answer, take_answer, encode_answer, attempt_answer, reply_answer, desk_after, answer_to, IsAnswer, AreAnswers}
+use Rattle.run_model.specs.Answers.{RunConfig, Progress, not_out, to_encode, to_send, to_judge, to_retry, progress_by, progress, attempts_by, last_attempt, takes_memory, is_live, Given, start_answer, end_answer, call_answer, take_answer, last_length, encode_answer, attempt_answer, reply_answer, desk_after, answer_to, IsAnswer, AreAnswers}
 use Rattle.run_model.specs.Headline.{Attempt, attempt_by, attempts, attempts_with, attempts_of, AreNumbered}
 use Rattle.run_model.proofs.More.{progress-none, progress-some, last_attempt-none, last_attempt-some, attempts-none, attempts-some}
-use Rattle.run_laws.specs.Laws.{OfRuns, OfSettings, moment_by, retry_moment, AttemptsAreNumbered, AttemptsAreFew, AttemptsAreFiveAtMost, NoAttemptIsEarly, RepliesAreDecided}
+use Rattle.run_laws.specs.Laws.{OfRuns, OfSettings, KeepsFromEncoding, moment_by, retry_moment, AttemptsAreNumbered, AttemptsAreFew, AttemptsAreFiveAtMost, NoAttemptIsEarly, RepliesAreDecided}
 use Rattle.run_laws.proofs.Histories.{by-steps, front, answer-at}
 use Rattle.run_laws.proofs.Cases.{size_by, IsSilent, EventCases, by-event, by-answer}
 
@@ -164,7 +165,8 @@ pub record Replies (run : RunConfig) (h : List Answered) (step : Step) (next : N
 
 abbrev pub Told : RunConfig → List Answered → Step → Answer → Type 0
 Told run h step (taken number size) = number ≡ (desk_after run h).batches + 1
-Told run h step (encoded number size) = progress h ≡ to_encode
+Told run h step (encoded number size) = (progress h ≡ to_encode) × (number ≡ (desk_after run h).batches) × (size ≡ last_length run.setup h) × (size ≤ run.max_body)
+Told run h step (Answer.dropped number reason) = (step ≡ Step.encode) × (number ≡ (desk_after run h).batches) × KeepsFromEncoding run h reason
 Told run h step (sent number attempt outcome) = (number ≡ (desk_after run h).batches) × Sends run h step number attempt
 Told run h step (replied number next) = (number ≡ (desk_after run h).batches) × Replies run h step next
 Told run h step _ = Unit {0}
@@ -195,9 +197,14 @@ module _ (run : RunConfig) (h : List Answered) where
       by true = refl
       by false = tt
 
-  told-encode : (refused : Bool) (p : Progress) → progress h ≡ p → Told run h Step.encode (encode_answer h (desk_after run h) run.setup refused p)
-  told-encode true to_encode e = tt
-  told-encode false to_encode e = e
+  told-encode : (refused : Bool) (p : Progress) → progress h ≡ p → Told run h Step.encode (encode_answer run h (desk_after run h) refused p)
+  told-encode true to_encode e = (refl, refl, tt)
+  told-encode false to_encode e = by (nat_le (last_length run.setup h) run.max_body) refl
+    where
+      by : (b : Bool) → nat_le (last_length run.setup h) run.max_body ≡ b
+          → Told run h Step.encode (if b then encoded (desk_after run h).batches (last_length run.setup h) else Answer.dropped (desk_after run h).batches too_large)
+      by true k = (e, refl, refl, leb-true (last_length run.setup h) run.max_body k)
+      by false k = (refl, refl, leb-false (last_length run.setup h) run.max_body k)
   told-encode refused not_out e = tt
   told-encode refused to_send e = tt
   told-encode refused (to_judge outcome) e = tt
@@ -260,6 +267,7 @@ sizes-are step = record {
   of_shutdown = refl;
   of_taken = λ n size. refl;
   of_encoded = λ n size. refl;
+  of_dropped = λ n r. refl;
   of_sent = λ n attempt outcome. by-handed (attempt == 1);
   of_replied = λ n next. by-settled (fate_of next);
   of_other = λ a s. sym s.no_size;
@@ -376,7 +384,8 @@ module _ (run : RunConfig) (h : List Answered) (x : Answered) (t : Tried run h) 
   after-step k = by-answer (λ a. x.answer ≡ a → Told run h x.step a → After)
       (record {
         of_taken = λ n size e k. after-taken n size e;
-        of_encoded = λ n size e k. after-encoded n size e k;
+        of_encoded = λ n size e k. after-encoded n size e k.0;
+        of_dropped = λ n r e k. after-end (ap attempt_by e) (ap size_by e) (ap attempts_by e) (ap moment_by e) (ap progress_by e);
         of_sent = λ n attempt outcome e k. after-sent attempt outcome (e ∙ ap (λ (m : ℕ). sent m attempt outcome) (k.0 ∙ desk-batches run h)) (numbered x.step n attempt k.1) (few x.step n attempt k.1);
         of_replied = replied-after;
         of_other = λ a s e k. after-silent (subst IsSilent (sym e) s);

@@ -40,6 +40,7 @@ told-out setup a = by-answer TellsOut
     (record {
       of_taken = λ n size p r e. let k : to_encode ≡ p = cc in ap is_out (sym k);
       of_encoded = λ n size p r e. let k : to_send ≡ p = cc in ap is_out (sym k);
+      of_dropped = λ n reason p r e. absurd (true≢false r);
       of_sent = λ n attempt outcome p r e. let k : to_judge outcome ≡ p = cc in ap is_out (sym k);
       of_replied = replied-out;
       of_other = λ a s p r e. absurd (none-some p (sym s.no_progress ∙ e));
@@ -87,6 +88,7 @@ says-taken setup a = by-answer (λ a. says_taken a ≡ true → progress_by a �
     (record {
       of_taken = λ n size e. refl;
       of_encoded = λ n size e. absurd (true≢false (sym e));
+      of_dropped = λ n reason e. absurd (true≢false (sym e));
       of_sent = λ n attempt outcome e. absurd (true≢false (sym e));
       of_replied = λ n next e. absurd (true≢false (sym e));
       of_other = λ a s e. absurd (true≢false (sym e ∙ s.no_take));

@@ -1,7 +1,7 @@
 -- What an answer says of the queue and of a batch, case by case.
 use Rattle.std.proofs.Common.{◌≡◌, refl, ℕ, false, Option, Some, None, option_map}
 use Rattle.std.specs.Prelude.{◌==◌, if◌then◌else◌, List, []}
-use Rattle.span_model.specs.Dropped.{queue_full, encode_memory, too_large, abandoned}
+use Rattle.span_model.specs.Dropped.{Reason, queue_full, encode_memory, too_large, abandoned}
 use Rattle.span_model.specs.Spans.{EndedSpan}
 use Rattle.retry_model.specs.Retries.{Outcome, Next, fate_of}
 use Rattle.desk_model.specs.Queue.{DeskEvent}
@@ -37,6 +37,7 @@ pub record EventCases (step : Step) (P : Answer → Option DeskEvent → Type 0)
   pub of_shutdown : P Answer.shutdown (Some desk.shutdown)
   pub of_taken : (number size : ℕ) → P (taken number size) (Some (desk.taken (take_moment step) size))
   pub of_encoded : (number size : ℕ) → P (encoded number size) None
+  pub of_dropped : (number : ℕ) (reason : Reason) → P (Answer.dropped number reason) (Some (desk.dropped reason))
   pub of_sent : (number attempt : ℕ) (outcome : Outcome) → P (sent number attempt outcome) (if attempt == 1 then Some desk.handed else None)
   pub of_replied : (number : ℕ) (next : Next) → P (replied number next) (option_map desk.settled (fate_of next))
   -- those that do nothing there and say nothing of a batch
@@ -51,6 +52,7 @@ module _ (setup : Setup) (before : List Answered) (step : Step) (P : Answer → 
   by-event Answer.shutdown = c.of_shutdown
   by-event (taken number size) = c.of_taken number size
   by-event (encoded number size) = c.of_encoded number size
+  by-event (Answer.dropped number reason) = c.of_dropped number reason
   by-event (sent number attempt outcome) = c.of_sent number attempt outcome
   by-event (replied number next) = c.of_replied number next
   by-event (ended (handed n)) = c.of_other (ended (handed n)) (record { no_progress = refl; no_size = refl; no_number = refl; no_attempt = refl; no_moment = refl; no_take = refl; no_end = refl })
@@ -72,6 +74,7 @@ module _ (setup : Setup) (before : List Answered) (step : Step) (P : Answer → 
 pub record AnswerCases (P : Answer → Type 0) : Type 0 where
   pub of_taken : (number size : ℕ) → P (taken number size)
   pub of_encoded : (number size : ℕ) → P (encoded number size)
+  pub of_dropped : (number : ℕ) (reason : Reason) → P (Answer.dropped number reason)
   pub of_sent : (number attempt : ℕ) (outcome : Outcome) → P (sent number attempt outcome)
   pub of_replied : (number : ℕ) (next : Next) → P (replied number next)
   -- those that say nothing of a batch
@@ -86,6 +89,7 @@ answer-cases step P c = record {
   of_shutdown = c.of_other Answer.shutdown (record { no_progress = refl; no_size = refl; no_number = refl; no_attempt = refl; no_moment = refl; no_take = refl; no_end = refl });
   of_taken = c.of_taken;
   of_encoded = c.of_encoded;
+  of_dropped = c.of_dropped;
   of_sent = c.of_sent;
   of_replied = c.of_replied;
   of_other = c.of_other;

@@ -76,6 +76,7 @@ hands-are events step = record {
   of_shutdown = none refl refl;
   of_taken = λ n size. none refl refl;
   of_encoded = λ n size. none refl refl;
+  of_dropped = λ n r. none refl refl;
   of_sent = λ n attempt outcome. sent-hands n attempt outcome (attempt == 1) refl;
   of_replied = λ n next. settled-hands n next (fate_of next);
   of_other = λ a s. none s.no_attempt refl;

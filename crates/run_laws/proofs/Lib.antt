@@ -9,3 +9,4 @@ pub mod Attempts
 pub mod Steps
 pub mod Batches
 pub mod Handed
+pub mod Encodings

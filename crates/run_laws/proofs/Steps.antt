@@ -4,7 +4,7 @@ use Rattle.std.specs.Prelude.{is_none, if◌then◌else◌}
 use Rattle.std.specs.List.{list_any}
 use Rattle.std.proofs.lemmas.Bool.{eqb-true, eq-eqb, false_from_ne_true, cases_order}
 use Rattle.std.proofs.lemmas.List.Sorted.{sum_by-IsPermutation}
-use Rattle.span_model.specs.Dropped.{queue_full}
+use Rattle.span_model.specs.Dropped.{Reason, queue_full, encode_memory, too_large, is_reason}
 use Rattle.span_model.specs.Sampling.{is_sampled}
 use Rattle.span_model.specs.Spans.{EndedSpan, Kind, Call, is_end}
 use Rattle.span_model.specs.Starts.{StartedSpan}
@@ -20,8 +20,8 @@ use Rattle.desk_laws.proofs.Counts.{queue-bounded}
 use Rattle.desk_laws.proofs.Tickets.{in-places, each-once, times-below}
 use Rattle.history_model.specs.Steps.{Step, Parent, is_shutdown}
 use Rattle.history_model.specs.History.{Setup}
-use Rattle.run_model.specs.Runs.{Ended, queued, late, not_sampled, already_ended, Answer, started, no_randomness, no_span, out_of_memory, done, ended, taken, not_taken, sent, early, replied, nothing, Answered, span_at, calls_so_far, ended_by, event_by, desk_events}
-use Rattle.run_model.specs.Answers.{RunConfig, Given, Progress, not_out, to_encode, to_send, to_judge, to_retry, last_attempt, progress_by, progress, takes_memory, is_live, start_answer, end_answer, call_answer, take_answer, encode_answer, attempt_answer, reply_answer, desk_after, answer_to, IsAnswer, AreAnswers}
+use Rattle.run_model.specs.Runs.{Ended, queued, late, not_sampled, already_ended, Answer, started, no_randomness, no_span, out_of_memory, done, ended, taken, not_taken, encoded, sent, early, replied, nothing, Answered, span_at, calls_so_far, ended_by, event_by, desk_events}
+use Rattle.run_model.specs.Answers.{RunConfig, Given, Progress, not_out, to_encode, to_send, to_judge, to_retry, last_attempt, progress_by, progress, takes_memory, is_live, start_answer, end_answer, call_answer, take_answer, last_length, encode_answer, attempt_answer, reply_answer, desk_after, answer_to, IsAnswer, AreAnswers}
 use Rattle.run_model.proofs.More.{is_shut, ended-shut, ended-none, span-of-end, progress-none, progress-some}
 use Rattle.run_model.specs.Headline.{numbers_below, EachOnce}
 use Rattle.run_laws.specs.Laws.{OfHistories, OfRuns, HandedAreNotDropped, TakenBehindShutdown, was_shut, may_take, EventsAreAllowed, NoneUnaccountedFor, WaitingAreEnded, BatchesAreEnded, DropsNameEnded}
@@ -80,18 +80,31 @@ module _ (run : RunConfig) (h : List Answered) (a : Account run h) (tried : (mom
   after-nothing : (step : Step) → ended_by run.setup (h ++ told step nothing ∷ []) ≡ ended_by run.setup h → is_shutdown step ≡ false → After step nothing
   after-nothing step e s = quiet run h (told step nothing) e refl (ap stage_of (progress-none h (told step nothing) refl)) s a
 
-  after-encode : (desk_now : Desk) (refused : Bool) (p : Progress) → progress h ≡ p → After Step.encode (encode_answer h desk_now run.setup refused p)
-  after-encode d true to_encode e = quiet run h (told Step.encode out_of_memory) (ended-none run.setup h (told Step.encode out_of_memory) refl) refl (ap stage_of (progress-none h (told Step.encode out_of_memory) refl)) refl a
-  after-encode d false to_encode e = quiet run h (told Step.encode (encode_answer h d run.setup false to_encode)) (ended-none run.setup h (told Step.encode (encode_answer h d run.setup false to_encode)) refl) refl
-      (ap stage_of (progress-some h (told Step.encode (encode_answer h d run.setup false to_encode)) to_send refl) ∙ ap stage_of (sym e)) refl a
+  in-hand : stage events ≡ in_hand → is_in_hand (desk_of run.desk 0 events).out ≡ true
+  unfolding desk_of
+  in-hand e = ap (λ s. is_in_hand (out_as s (last_batch events) (last_size events))) e
+
+  after-dropped : (number : ℕ) (reason : Reason) → is_reason queue_full reason ≡ false → progress h ≡ to_encode → After Step.encode (Answer.dropped number reason)
+  after-dropped number reason r e =
+      tells run h (told Step.encode (Answer.dropped number reason)) (desk.dropped reason) (ended-none run.setup h (told Step.encode (Answer.dropped number reason)) refl) refl refl
+      (stage-told events (desk.dropped reason) desk.not_out refl ∙ ap stage_of (sym (progress-some h (told Step.encode (Answer.dropped number reason)) not_out refl))) refl
+      (in-hand (a.stands ∙ ap stage_of e), r) a
+
+  after-encoded : (number many : ℕ) → progress h ≡ to_encode → After Step.encode (encoded number many)
+  after-encoded number many e = quiet run h (told Step.encode (encoded number many)) (ended-none run.setup h (told Step.encode (encoded number many)) refl) refl
+      (ap stage_of (progress-some h (told Step.encode (encoded number many)) to_send refl) ∙ ap stage_of (sym e)) refl a
+
+  after-encode : (desk_now : Desk) (refused : Bool) (p : Progress) → progress h ≡ p → After Step.encode (encode_answer run h desk_now refused p)
+  after-encode d true to_encode e = after-dropped d.batches encode_memory refl e
+  after-encode d false to_encode e = by (nat_le (last_length run.setup h) run.max_body)
+    where
+      by : (b : Bool) → After Step.encode (if b then encoded d.batches (last_length run.setup h) else Answer.dropped d.batches too_large)
+      by true = after-encoded d.batches (last_length run.setup h) e
+      by false = after-dropped d.batches too_large refl e
   after-encode d refused not_out e = after-nothing Step.encode (ended-none run.setup h (told Step.encode nothing) refl) refl
   after-encode d refused to_send e = after-nothing Step.encode (ended-none run.setup h (told Step.encode nothing) refl) refl
   after-encode d refused (to_judge outcome) e = after-nothing Step.encode (ended-none run.setup h (told Step.encode nothing) refl) refl
   after-encode d refused (to_retry moment) e = after-nothing Step.encode (ended-none run.setup h (told Step.encode nothing) refl) refl
-
-  in-hand : stage events ≡ in_hand → is_in_hand (desk_of run.desk 0 events).out ≡ true
-  unfolding desk_of
-  in-hand e = ap (λ s. is_in_hand (out_as s (last_batch events) (last_size events))) e
 
   with-exporter : stage events ≡ with_exporter → is_with_exporter (desk_of run.desk 0 events).out ≡ true
   unfolding desk_of

@@ -167,6 +167,7 @@ never-popped step = record {
   of_shutdown = refl;
   of_taken = λ n s. refl;
   of_encoded = λ n s. tt;
+  of_dropped = λ n r. refl;
   of_sent = λ n attempt outcome. by-handed (attempt == 1);
   of_replied = λ n next. by-settled (fate_of next);
   of_other = λ a s. tt;

@@ -4,11 +4,11 @@ use Rattle.std.specs.Prelude.{◌≡◌, ℕ, ◌+◌, ◌-◌, ◌^◌, ◌<◌
 use Rattle.std.specs.List.{list_any, AllByRecursion}
 use Rattle.std.specs.Option.{option_map_or}
 use Rattle.span_model.specs.Attributes.{last_or}
-use Rattle.span_model.specs.Dropped.{queue_full, Entry, entry_of}
+use Rattle.span_model.specs.Dropped.{Reason, queue_full, encode_memory, too_large, Entry, entry_of}
 use Rattle.span_model.specs.Sampling.{is_sampled}
 use Rattle.span_model.specs.Spans.{EndedSpan, is_end}
 use Rattle.retry_model.specs.Retries.{Outcome, Next, again, give_up}
-use Rattle.desk_model.specs.Queue.{waiting_spans, batch_spans, handed_spans, drops}
+use Rattle.desk_model.specs.Queue.{waiting_spans, batch_spans, last_spans, handed_spans, drops}
 use Rattle.desk_model.specs.Desks.{is_due, AreAllowed}
 use Rattle.desk_laws.specs.Queues.{times}
 use Rattle.retry_model.specs.Waits.{IsRetryConfig, next_after}
@@ -16,7 +16,7 @@ use Rattle.history_model.specs.Steps.{Step, is_shutdown}
 use Rattle.history_model.specs.History.{Setup, ended_spans, granted_steps}
 use Rattle.run_model.specs.Runs.{Ended, Answer, started, no_randomness, no_span, out_of_memory, ended, taken, not_taken, encoded, sent, early, replied, nothing, Answered, is_refused, span_at, calls_so_far, ended_by, desk_events}
 use Rattle.run_model.specs.Runs as runs
-use Rattle.run_model.specs.Answers.{RunConfig, desk_after, AreAnswers}
+use Rattle.run_model.specs.Answers.{RunConfig, last_length, desk_after, AreAnswers}
 use Rattle.run_model.specs.Headline.{EachOnce, Attempt, attempts, attempts_of, batch_numbers}
 
 -- whatever is done, and whatever of it ends
@@ -118,6 +118,7 @@ abbrev pub ends_batch : Answer → Bool
 ends_batch (replied number Next.done) = true
 ends_batch (replied number (Next.partial rejected)) = true
 ends_batch (replied number (give_up cause)) = true
+ends_batch (Answer.dropped number reason) = true
 ends_batch (replied number (again moment)) = false
 ends_batch (taken number size) = false
 ends_batch (encoded number size) = false
@@ -134,13 +135,45 @@ ends_batch not_taken = false
 ends_batch early = false
 ends_batch nothing = false
 
--- At most one batch is out: before a next one is taken, the last one was settled. (profile)
+-- At most one batch is out: before a next one is taken, the last one was settled or dropped.
+-- (profile)
 abbrev pub OneBatchIsOut : List Answered → Type 0
 OneBatchIsOut history =
     (before between later : List Answered) (x y : Answered)
     → before ++ x ∷ between ++ y ∷ later ≡ history
     → says_taken x.answer ≡ true → says_taken y.answer ≡ true
     → list_any (λ z. ends_batch z.answer) between ≡ true
+
+-- ---- encoding
+
+-- A batch has a body only where that isn't larger than it may be. Its length is that of the request
+-- that exports its spans. (OTLP Specification; profile)
+abbrev pub EncodedWhereItFits : RunConfig → List Answered → Type 0
+EncodedWhereItFits run = AtEachStep (λ before x.
+    (number size : ℕ) → x.answer ≡ encoded number size
+    → (number ≡ (desk_after run before).batches) × (size ≡ last_length run.setup before)
+    × (size ≤ run.max_body))
+
+-- Why a batch has no body: memory was refused, or it would be larger than it may be.
+abbrev pub KeepsFromEncoding : RunConfig → List Answered → Reason → Type 0
+KeepsFromEncoding run before encode_memory = Unit {0}
+KeepsFromEncoding run before too_large = run.max_body < last_length run.setup before
+KeepsFromEncoding run before _ = ⊥
+
+-- A batch is dropped only in place of its encoding, and for such a reason. (profile)
+abbrev pub DroppedUnencoded : RunConfig → List Answered → Type 0
+DroppedUnencoded run = AtEachStep (λ before x.
+    (number : ℕ) (reason : Reason) → x.answer ≡ Answer.dropped number reason
+    → (x.step ≡ Step.encode) × (number ≡ (desk_after run before).batches)
+    × KeepsFromEncoding run before reason)
+
+-- Its spans are then named as dropped for this reason, in their order, and no others are. (profile)
+abbrev pub DroppedBatchIsNamed : Setup → List Answered → Type 0
+DroppedBatchIsNamed setup = AtEachStep (λ before x.
+    (number : ℕ) (reason : Reason) → x.answer ≡ Answer.dropped number reason
+    → let events = desk_events setup before in
+    drops (desk_events setup (before ++ x ∷ []))
+    ≡ drops events ++ map (entry_of reason) (last_spans events))
 
 -- ---- attempts
 

@@ -6,7 +6,7 @@ ghost use Rattle.std.specs.Prelude.{List};
 ghost use Rattle.run_model.specs.Runs.{Answered};
 ghost use Rattle.run_model.specs.Answers.{RunConfig};
 ghost use Rattle.run_model.specs.Headline.{EachOnce, attempts, AreNumbered};
-ghost use Rattle.run_laws.specs.Laws.{OfHistories, OfRuns, LateBehindShutdown, DroppedWhereFull, QueuedWhereRoom, TakenWhereDue, TakesTheFirst, TakenBehindShutdown, OneBatchIsOut, AttemptsAreNumbered, AttemptsAreFew, AttemptsAreFiveAtMost, OfSettings, NoAttemptIsEarly, RepliesAreDecided, EndedSpansStay, EndedAreFew, EventsAreAllowed, NoneUnaccountedFor, IsAllowed, HandedAreTheBatches, HandedAreNotDropped, LedgerNamesTheDropped, WaitingAreEnded, BatchesAreEnded, DropsNameEnded, EndedByTheSteps};
+ghost use Rattle.run_laws.specs.Laws.{OfHistories, OfRuns, LateBehindShutdown, DroppedWhereFull, QueuedWhereRoom, TakenWhereDue, TakesTheFirst, TakenBehindShutdown, OneBatchIsOut, EncodedWhereItFits, DroppedUnencoded, DroppedBatchIsNamed, AttemptsAreNumbered, AttemptsAreFew, AttemptsAreFiveAtMost, OfSettings, NoAttemptIsEarly, RepliesAreDecided, EndedSpansStay, EndedAreFew, EventsAreAllowed, NoneUnaccountedFor, IsAllowed, HandedAreTheBatches, HandedAreNotDropped, LedgerNamesTheDropped, WaitingAreEnded, BatchesAreEnded, DropsNameEnded, EndedByTheSteps};
 
 /// The first end of a sampled span: behind a shutdown it is late; else it is dropped where the
 /// queue is full, and waits where it isn't. Nothing else is late, dropped there or queued. (Trace
@@ -26,9 +26,18 @@ pub fn takes_are_answered()
     ensures shutdown { OfRuns TakenBehindShutdown }
 {}
 
-/// At most one batch is out: it is settled before a next one is taken. (profile)
+/// At most one batch is out: it is settled or dropped before a next one is taken. (profile)
 pub fn one_batch_is_out()
     ensures one { OfRuns (λ run. OneBatchIsOut) }
+{}
+
+/// A batch has a body only where that isn't larger than it may be. It is dropped only in place of
+/// its encoding: for want of memory, or where its body would be larger; its spans are then named
+/// for this reason. (profile)
+pub fn encodings_are_answered()
+    ensures fits { OfRuns EncodedWhereItFits }
+    ensures dropped { OfRuns DroppedUnencoded }
+    ensures named { OfHistories DroppedBatchIsNamed }
 {}
 
 /// The attempts of a batch are numbered from 1 on, and are as many as are configured at most, and

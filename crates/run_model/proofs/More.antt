@@ -152,6 +152,7 @@ quiet-attempts (taken number size) e = cc
 quiet-attempts (encoded number size) e = refl
 quiet-attempts (sent number attempt outcome) e = cc
 quiet-attempts (replied number next) e = refl
+quiet-attempts (Answer.dropped number reason) e = refl
 quiet-attempts (ended o) e = refl
 quiet-attempts (started ids) e = refl
 quiet-attempts no_randomness e = refl

@@ -1,9 +1,9 @@
 -- The answer to each step of a run. (Trace API; Trace SDK, Batching processor; OTLP Specification,
 -- OTLP/HTTP)
-use Rattle.std.specs.Prelude.{◌≡◌, ℕ, ◌+◌, ◌==◌, nat_lt, min, Bool, false, not, ◌&&◌, ◌||◌, if◌then◌else◌, List, [], ◌∷◌, ◌++◌, length, filter_map, Option, Some, None, is_some, is_none, slice_get}
+use Rattle.std.specs.Prelude.{◌≡◌, ℕ, ◌+◌, ◌==◌, nat_lt, nat_le, min, Bool, false, not, ◌&&◌, ◌||◌, if◌then◌else◌, List, [], ◌∷◌, ◌++◌, length, filter_map, Option, Some, None, is_some, is_none, slice_get}
 use Rattle.std.specs.List.{list_any}
 use Rattle.span_model.specs.Attributes.{is_empty, last_or}
-use Rattle.span_model.specs.Dropped.{queue_full}
+use Rattle.span_model.specs.Dropped.{queue_full, encode_memory, too_large}
 use Rattle.span_model.specs.Sampling.{is_sampled, is_recording}
 use Rattle.span_model.specs.Spans.{Call, is_end}
 use Rattle.span_model.specs.Starts.{StartedSpan}
@@ -21,6 +21,8 @@ pub record RunConfig : Type 0 where
   pub setup : Setup
   pub desk : DeskConfig
   pub retry : RetryConfig
+  -- the greatest body that is sent, in bytes
+  pub max_body : ℕ
 
 -- ---- spans
 
@@ -85,6 +87,7 @@ progress_by (encoded number size) = Some to_send
 progress_by (sent number attempt outcome) = Some (to_judge outcome)
 progress_by (replied number (again moment)) = Some (to_retry moment)
 -- These end it.
+progress_by (Answer.dropped number reason) = Some not_out
 progress_by (replied number Next.done) = Some not_out
 progress_by (replied number (Next.partial rejected)) = Some not_out
 progress_by (replied number (give_up cause)) = Some not_out
@@ -114,13 +117,19 @@ attempts_by _ = None
 unfoldable pub last_attempt : List Answered → ℕ
 last_attempt history = last_or 0 (filter_map (λ x. attempts_by x.answer) history)
 
--- The length is that of the request that exports its spans. Where memory is refused, the batch can
--- be encoded later. (OTLP Specification; profile)
-abbrev pub encode_answer : List Answered → Desk → Setup → Bool → Progress → Answer
-encode_answer before desk setup refused to_encode =
-    if refused then out_of_memory
-    else encoded desk.batches (body_length (groups (last_spans (desk_events setup before))))
-encode_answer before desk setup refused _ = nothing
+-- the length of the request that exports the spans of the last batch (OTLP Specification)
+abbrev pub last_length : Setup → List Answered → ℕ
+last_length setup before = body_length (groups (last_spans (desk_events setup before)))
+
+-- The batch has a body, unless memory is refused or the body would be larger than it may be: then
+-- it is dropped. (profile)
+abbrev pub encode_answer : RunConfig → List Answered → Desk → Bool → Progress → Answer
+encode_answer run before desk refused to_encode =
+    if refused then Answer.dropped desk.batches encode_memory
+    else if nat_le (last_length run.setup before) run.max_body
+    then encoded desk.batches (last_length run.setup before)
+    else Answer.dropped desk.batches too_large
+encode_answer run before desk refused _ = nothing
 
 -- The attempts of a batch are numbered from 1 on. None stands before the moment from which the
 -- batch is to be sent again. (OTLP Specification, Retryable Response Codes)
@@ -159,7 +168,7 @@ answer_to run before given Step.flush = Answer.flush
 answer_to run before given Step.shutdown = Answer.shutdown
 answer_to run before given (Step.take now) = take_answer (desk_after run before) now
 answer_to run before given Step.encode =
-    encode_answer before (desk_after run before) run.setup given.refused (progress before)
+    encode_answer run before (desk_after run before) given.refused (progress before)
 answer_to run before given (Step.attempt now) =
     attempt_answer before (desk_after run before) given.outcome now (progress before)
 answer_to run before given (Step.reply now word) =

@@ -27,7 +27,7 @@ pub data Answer : Type 0 where
   no_randomness : Answer
   -- there is no such span, or, to a start, no such scope or parent
   no_span : Answer
-  -- a start, a call or an encoding: memory was refused
+  -- a start or a call: memory was refused
   out_of_memory : Answer
   -- a call that is no end; one that is
   done : Answer
@@ -38,6 +38,8 @@ pub data Answer : Type 0 where
   not_taken : Answer
   -- the body of the batch of this number has so many bytes
   encoded : ℕ → ℕ → Answer
+  -- the batch of this number can't be encoded, and is dropped for this reason
+  dropped : ℕ → Reason → Answer
   -- this is the batch of this number, this attempt of it, from 1 on, and what came of it; or its
   -- next attempt isn't due
   sent : ℕ → ℕ → Outcome → Answer
@@ -103,7 +105,7 @@ take_moment _ = 0
 abbrev pub event_by : Setup → List Answered → Answer → Step → Option DeskEvent
 event_by setup before (ended (queued ticket)) step =
     option_map desk.queued (span_of_end setup before step ticket)
-event_by setup before (ended (dropped ticket queue_full)) step =
+event_by setup before (ended (Ended.dropped ticket queue_full)) step =
     option_map desk.full (span_of_end setup before step ticket)
 event_by setup before (ended late) step = Some desk.late
 event_by setup before flush step = Some desk.flush
@@ -112,12 +114,13 @@ event_by setup before (taken number size) step = Some (desk.taken (take_moment s
 -- Its first attempt hands the batch to the exporter.
 event_by setup before (sent number attempt outcome) step =
     if attempt == 1 then Some desk.handed else None
+event_by setup before (Answer.dropped number reason) step = Some (desk.dropped reason)
 event_by setup before (replied number next) step = option_map desk.settled (fate_of next)
 -- No span is handed by its end, and none is dropped there for another reason.
 event_by setup before (ended (handed ticket)) step = None
-event_by setup before (ended (dropped ticket encode_memory)) step = None
-event_by setup before (ended (dropped ticket too_large)) step = None
-event_by setup before (ended (dropped ticket abandoned)) step = None
+event_by setup before (ended (Ended.dropped ticket encode_memory)) step = None
+event_by setup before (ended (Ended.dropped ticket too_large)) step = None
+event_by setup before (ended (Ended.dropped ticket abandoned)) step = None
 -- The others do nothing there.
 event_by setup before (ended not_sampled) step = None
 event_by setup before (ended already_ended) step = None

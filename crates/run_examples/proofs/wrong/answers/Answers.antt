@@ -1,5 +1,6 @@
 use Rattle.std.proofs.Common.{◌≡◌, ap, ℕ, ◌+◌, ◌∷◌, ◌++◌, take, drop, Bool, true, false, if◌then◌else◌, arith}
 use Rattle.message_model.specs.Canon.{canon, septets_of}
+use Rattle.span_model.specs.Dropped.{encode_memory, too_large}
 use Rattle.span_model.specs.Identifiers.{first_valid}
 use Rattle.span_model.specs.Spans.{span}
 use Rattle.span_model.specs.Starts.{started_span, ids_of, ids_words}
@@ -8,7 +9,7 @@ use Rattle.retry_model.specs.Retries.{Outcome}
 use Rattle.desk_model.specs.Desks.{desk_of}
 use Rattle.history_model.specs.Steps.{Step}
 use Rattle.history_model.specs.History.{start_results_behind}
-use Rattle.run_model.specs.Runs.{Answer, taken, not_taken, encoded, sent, nothing, out_of_memory, ended_by, desk_events}
+use Rattle.run_model.specs.Runs.{Answer, taken, not_taken, encoded, sent, nothing, ended_by, desk_events}
 use Rattle.run_model.specs.Answers.{progress, desk_after, IsAnswer, AreAnswers}
 use Rattle.run_examples.specs.Worked.{queue_of, worked, told, ends, queued, full, late}
 use Rattle.run_model.proofs.More.{answer-at}
@@ -22,9 +23,13 @@ abbrev size-of : Answer → ℕ
 size-of (encoded number size) = size
 size-of _ = 0
 
-is-encoded : (refused : Bool) → encoded 1 126 ≡ (if refused then out_of_memory else encoded 1 127) → ⊥
+is-encoded : (refused : Bool) → encoded 1 126 ≡ (if refused then Answer.dropped 1 encode_memory else encoded 1 127) → ⊥
 is-encoded true e = cc
 is-encoded false e = let s : 126 ≡ 127 = ap size-of e in omega (arith, s)
+
+is-dropped : (refused : Bool) → Answer.dropped 1 too_large ≡ (if refused then Answer.dropped 1 encode_memory else encoded 1 127) → ⊥
+is-dropped true e = cc
+is-dropped false e = cc
 
 pub returns : goal.returns
 unfolding desk_after desk_of desk_events ended_by progress start_results_behind started_span ids_of ids_words first_valid span groups body_length canon septets_of
@@ -37,6 +42,7 @@ returns c = record {
   too_few = λ w. let e : taken 2 0 ≡ taken 2 1 = (told-at 15 (Step.take 7) (taken 2 0) w).is in cc;
   same_number = λ w. let e : taken 1 1 ≡ taken 2 1 = (told-at 15 (Step.take 7) (taken 1 1) w).is in cc;
   other_length = λ w. let i = told-at 10 Step.encode (encoded 1 126) w in is-encoded i.given.refused i.is;
+  too_large_though_it_fits = λ w. let i = told-at 10 Step.encode (Answer.dropped 1 too_large) w in is-dropped i.given.refused i.is;
   second_attempt = λ w. let i = told-at 11 (Step.attempt 0) (sent 1 2 Outcome.delivered) w in let e : sent 1 2 Outcome.delivered ≡ sent 1 1 i.given.outcome = i.is in cc;
   not_sent = λ w. let i = told-at 11 (Step.attempt 0) nothing w in let e : nothing ≡ sent 1 1 i.given.outcome = i.is in cc;
 }
