@@ -157,6 +157,7 @@ pub(crate) fn config<S: Sampler, A: Allocator + Copy>(
         scopes,
         desk,
         retry: RetryConfig::default(),
+        max_body: 4_194_304,
         rng,
     }
 }

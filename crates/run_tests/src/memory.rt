@@ -76,12 +76,21 @@ fn tickets<A: Allocator + Copy>(rt: &impl Abort, alloc: A, answers: &[Answer]) -
     tickets
 }
 
+/// Whether a step was refused memory.
+fn is_refused(answer: &Answer) -> bool {
+    matches!(
+        answer,
+        Answer::OutOfMemory
+            | Answer::Dropped {
+                reason: Reason::EncodeMemory,
+                ..
+            }
+    )
+}
+
 /// How many steps were refused memory.
 fn count_refused(answers: &[Answer]) -> usize {
-    answers
-        .iter()
-        .filter(|answer| **answer == Answer::OutOfMemory)
-        .count()
+    answers.iter().filter(|answer| is_refused(answer)).count()
 }
 
 /// How often a span stands in the bodies that were handed: each has the identifier of its span as

@@ -103,6 +103,7 @@ made-by c old new answers.Shutdown h = absurd h
 made-by c old new (answers.Taken batch spans) h = absurd h
 made-by c old new answers.NotTaken h = absurd h
 made-by c old new (answers.Encoded batch length) h = absurd h
+made-by c old new (answers.Dropped batch reason) h = absurd h
 made-by c old new (answers.Sent batch attempt outcome) h = absurd h
 made-by c old new (answers.Replied batch next) h = absurd h
 made-by c old new answers.Early h = absurd h

@@ -292,6 +292,7 @@ tells-none there o answers.Shutdown h = absurd h
 tells-none there o (answers.Taken batch spans) h = absurd h
 tells-none there o answers.NotTaken h = absurd h
 tells-none there o (answers.Encoded batch length) h = absurd h
+tells-none there o (answers.Dropped batch reason) h = absurd h
 tells-none there o (answers.Sent batch attempt outcome) h = absurd h
 tells-none there o (answers.Replied batch next) h = absurd h
 tells-none there o answers.Early h = absurd h

@@ -33,6 +33,7 @@ answer_view answers.Shutdown = model.shutdown
 answer_view (answers.Taken batch spans) = model.taken batch spans
 answer_view answers.NotTaken = model.not_taken
 answer_view (answers.Encoded batch length) = model.encoded batch length
+answer_view (answers.Dropped batch reason) = model.Answer.dropped batch (reason_view reason)
 answer_view (answers.Sent batch attempt outcome) = model.sent batch attempt (outcome_view outcome)
 answer_view answers.Early = model.early
 answer_view (answers.Replied batch next) = model.replied batch (next_view next)

@@ -1,6 +1,7 @@
 //! What is answered to a step.
 
 use otlp_ids::{SpanId, TraceId};
+use otlp_span::Reason;
 use retry_core::{Next, Outcome};
 use trace_api::Ended;
 
@@ -16,8 +17,8 @@ pub enum Answer {
     },
     /// To a start: the generator gave only zeros, in eight draws of an identifier.
     NoRandomness,
-    /// To a start, a call that is no end, or an encoding: memory was refused. Nothing has changed,
-    /// but a start has its number and has spent the words that it drew.
+    /// To a start or a call that is no end: memory was refused. Nothing has changed, but a start has
+    /// its number and has spent the words that it drew.
     OutOfMemory,
     /// To a call: there is no span of this number. To a start: the scope or the parent isn't there.
     /// Nothing has changed, but a start has its number.
@@ -45,6 +46,14 @@ pub enum Answer {
         batch: u64,
         /// The length of its body, in bytes.
         length: usize,
+    },
+    /// To an encoding: the batch has no body. It is out no more, and the ledger names its spans.
+    Dropped {
+        /// The number of the batch.
+        batch: u64,
+        /// Why: `EncodeMemory` where memory was refused, or `TooLarge` where the body would be
+        /// longer than the greatest.
+        reason: Reason,
     },
     /// To an attempt: the exporter was handed the batch, for the first time or once more.
     Sent {

@@ -1,9 +1,10 @@
 -- One more step of a run at its queue: where it stands behind it.
-use Rattle.std.proofs.Common.{◌≡◌, refl, sym, ap, subst, ◌∙◌, ℕ, ◌+◌, ◌≤◌, arith, List, [], ◌∷◌, ◌++◌, length, Bool, true, false, ◌||◌, ◌⊎◌, Option, Some, None, inl, inr}
+use Rattle.std.proofs.Common.{◌≡◌, refl, sym, ap, subst, ◌∙◌, ℕ, ◌+◌, ◌<◌, ◌≤◌, arith, List, [], ◌∷◌, ◌++◌, length, Bool, true, false, ◌||◌, ◌⊎◌, Option, Some, None, inl, inr}
 use Rattle.std.specs.Prelude.{if◌then◌else◌}
-use Rattle.std.proofs.lemmas.Bool.{ne_eqb, lt-ltb, le-ltb}
+use Rattle.std.proofs.lemmas.Bool.{ne_eqb, lt-ltb, le-ltb, le-leb, lt-leb}
 use Rattle.rand_core.specs.Stream.{Stream}
 use Rattle.span_model.specs.Sampling.{SamplerMeaning}
+use Rattle.span_model.specs.Dropped.{Reason as model-Reason, too_large as model-too_large}
 use Rattle.span_model.specs.Spans.{EndedSpan}
 use Rattle.export_model.specs.Export.{groups, body_length}
 use Rattle.retry_model.specs.Retries as retries
@@ -18,10 +19,13 @@ use Rattle.history_model.specs.Steps.{Step, is_shutdown, flush, shutdown, take, 
 use Rattle.run_model.specs.Runs as runs
 use Rattle.run_model.specs.Runs.{Answer, Answered, is_refused, span_steps, event_by, desk_events}
 use Rattle.run_model.specs.Answers as model
-use Rattle.run_model.specs.Answers.{RunConfig, Progress, progress, progress_by, last_attempt, desk_after, IsAnswer, take_answer, encode_answer, attempt_answer, reply_answer}
+use Rattle.run_model.specs.Answers.{RunConfig, Progress, progress, progress_by, last_attempt, last_length, desk_after, IsAnswer, take_answer, encode_answer, attempt_answer, reply_answer}
 use Rattle.run_model.specs.Headline as headline
 use Rattle.run_model.specs.Headline.{pending_as}
 use Rattle.run_model.proofs.More.{is_shut, steps-none, ended-none, events-more, progress-some, last_attempt-none, last_attempt-some}
+use Rattle.otlp_span.specs.Dropped.{reason_view}
+use Rattle.otlp_span.specs.declared.reason.Reason.{Reason}
+use Rattle.otlp_span.specs.declared.reason.Reason.TheVariants.{QueueFull, EncodeMemory, TooLarge, Abandoned}
 use Rattle.batch_desk.specs.Batch.{BatchView}
 use Rattle.batch_desk.specs.Desk.{IsOut}
 use Rattle.retry_core.specs.Retries.{outcome_view, next_view}
@@ -30,7 +34,7 @@ use Rattle.trace_history.specs.declared.answer.Answer.{Answer as CodeAnswer}
 use Rattle.trace_history.specs.declared.answer.Answer.TheVariants as answers
 use Rattle.span_exporter.specs.Handed.{Handed}
 use Rattle.span_table.specs.Table.{IsTable, TableWith}
-use Rattle.trace_run.specs.Out.{ExportStage, to_encode, to_send, to_judge, to_retry, Out, progress_of, attempts_at, is_sent, shown_as, shown, IsTied, IsIdle, Takes, TakesBatch, Encodes, EncodesAt, EncodesBatch, HasBody, Sends, SendsAt, SendsFirst, SendsAgain, IsEarly, SendsNone, Replies, JudgesAt, Judges, Settles, PutsOff, SettlesNone}
+use Rattle.trace_run.specs.Out.{ExportStage, to_encode, to_send, to_judge, to_retry, Out, progress_of, attempts_at, is_sent, shown_as, shown, IsTied, IsIdle, Takes, TakesBatch, DoesNothing, Encodes, EncodesAt, EncodesBatch, HasBody, LacksBody, DropsBatch, Sends, SendsAt, SendsFirst, SendsAgain, IsEarly, SendsNone, Replies, JudgesAt, Judges, Settles, PutsOff}
 use Rattle.trace_run.specs.State.{Stands}
 use Rattle.trace_run.proofs.Standing.{IsQuiet, or-false, tied-kept, desk-is, stands-on, out-stays, quiet-on}
 
@@ -174,6 +178,7 @@ module _ {S R : Type 0} (meaning : S → SamplerMeaning) (stream : R → Stream)
   take-on now answers.Flush desk2 out2 right t = absurd t
   take-on now answers.Shutdown desk2 out2 right t = absurd t
   take-on now (answers.Encoded number size) desk2 out2 right t = absurd t
+  take-on now (answers.Dropped number reason) desk2 out2 right t = absurd t
   take-on now (answers.Sent number k outcome) desk2 out2 right t = absurd t
   take-on now (answers.Replied number next) desk2 out2 right t = absurd t
   take-on now answers.Early desk2 out2 right t = absurd t
@@ -187,6 +192,9 @@ module _ {S R : Type 0} (meaning : S → SamplerMeaning) (stream : R → Stream)
   out-none : out ≡ None → progress h ≡ model.not_out
   out-none e = sym (progress-is (progress h) (last_spans events) (last_batch events) (last_attempt h) None (sym (ap shown e) ∙ at.out_is))
 
+  number-of : (o : Out) → out ≡ Some o → o.batch.number ≡ (desk_after run h).batches
+  number-of o e = let sh = out-shows o e in sh.number ∙ sym number-is ∙ ap (λ k. k.batches) (desk-is meaning stream run h table desk out at)
+
   -- nothing is done where the batch stands elsewhere, or none is out
   nothing-on : (step : Step) (answer : CodeAnswer) (desk2 : Desk) (out2 : Option Out) → IsIdle out answer out2 → desk2 ≡ desk → is_shutdown step ≡ false
       → ((refused : Bool) → Rattle.history_model.specs.History.span_step refused step ≡ None) → IsAnswer run h (record { step = step; answer = runs.nothing })
@@ -197,77 +205,103 @@ module _ {S R : Type 0} (meaning : S → SamplerMeaning) (stream : R → Stream)
       (idle-on (record { step = step; answer = runs.nothing }) (record { event = λ setup h. refl; stage = refl; attempt = refl }) (none false) f right)))
 
   -- the batch that is out goes on, and the queue knows nothing of it
-  encoded-on : (o : Out) → out ≡ Some o → o.stage ≡ to_encode → (number size : ℕ) (out2 : Option Out) → HasBody o.batch number size out2
-      → Stands meaning stream run (h ++ record { step = encode; answer = runs.encoded number size } ∷ []) table desk out2
-  encoded-on o e s number size out2 b =
+  encoded-on : (o : Out) → out ≡ Some o → o.stage ≡ to_encode → (number size : ℕ) (desk2 : Desk) (out2 : Option Out) → HasBody run.max_body o.batch number size desk desk2 out2
+      → Stands meaning stream run (h ++ record { step = encode; answer = runs.encoded number size } ∷ []) table desk2 out2
+  encoded-on o e s number size desk2 out2 b =
       let x : Answered = record { step = encode; answer = runs.encoded number size } in
       let same = ended-none run.setup h x refl in
       let sh = out-shows o e in
       let grown : desk_events run.setup (h ++ x ∷ []) ≡ events = events-more run.setup h x None refl ∙ Rattle.std.proofs.lemmas.List.append-nil events in
       let tied : IsOut (is_sent o.stage) desk o.batch = subst (IsTied desk) e at.tied in
-      stands-on meaning stream run h table desk out at x table desk out2 None (same-spans x refl) same refl (subst (λ es. IsDesk 0 es desk) (sym (Rattle.std.proofs.lemmas.List.append-nil events)) at.history)
+      subst (λ d. Stands meaning stream run (h ++ x ∷ []) table d out2) (sym b.desk_same)
+      (stands-on meaning stream run h table desk out at x table desk out2 None (same-spans x refl) same refl (subst (λ es. IsDesk 0 es desk) (sym (Rattle.std.proofs.lemmas.List.append-nil events)) at.history)
       refl refl (at.closed ∙ sym (or-false (is_shut h))) no-more (subst (IsTied desk) (sym b.out) (subst (λ g. IsOut (is_sent g) desk o.batch) s tied))
       (ap shown b.out ∙ (λ i. pending_as (sym (progress-some h x model.to_send refl) i) ((sh.spans ∙ ap last_spans (sym grown)) i) ((sh.number ∙ ap last_batch (sym grown)) i) ((sym (ap attempts_at s) ∙ sh.attempts ∙ sym (last_attempt-none h x refl)) i)))
       (record {
         given = record { refused = false; outcome = delivered };
         is =
-            let d = desk-is meaning stream run h table desk out at in
             let p : progress h ≡ model.to_encode = sym sh.stage ∙ ap progress_of s in
-            let n : number ≡ (desk_after run h).batches = b.numbered ∙ sh.number ∙ sym number-is ∙ ap (λ k. k.batches) d in
-            let l : size ≡ body_length (groups (last_spans events)) = b.measured ∙ b.length ∙ ap (λ ss. body_length (groups ss)) sh.spans in
-            (λ i. runs.encoded (n i) (l i)) ∙ ap (encode_answer h (desk_after run h) run.setup false) (sym p);
-      })
+            let l : size ≡ last_length run.setup h = b.measured ∙ b.length ∙ ap (λ ss. body_length (groups ss)) sh.spans in
+            let fits : last_length run.setup h ≤ run.max_body = subst (λ n. n ≤ run.max_body) (sym b.measured ∙ l) b.fits in
+            (λ i. runs.encoded ((b.numbered ∙ number-of o e) i) (l i))
+            ∙ ap (λ c. if c then runs.encoded (desk_after run h).batches (last_length run.setup h) else Answer.dropped (desk_after run h).batches model-too_large) (sym (le-leb (last_length run.setup h) run.max_body fits))
+            ∙ ap (encode_answer run h (desk_after run h) false) (sym p);
+      }))
 
-  refused-on : (o : Out) → out ≡ Some o → o.stage ≡ to_encode → Stands meaning stream run (h ++ record { step = encode; answer = runs.out_of_memory } ∷ []) table desk out
-  refused-on o e s =
+  -- why it is dropped
+  lacks-answer : (o : Out) → out ≡ Some o → o.stage ≡ to_encode → (reason : Reason) → LacksBody run.max_body o.batch.spans reason → IsAnswer run h (record { step = encode; answer = Answer.dropped (desk_after run h).batches (reason_view reason) })
+  lacks-answer o e s EncodeMemory l =
       let sh = out-shows o e in
-      idle-on (record { step = encode; answer = runs.out_of_memory }) (record { event = λ setup h. refl; stage = refl; attempt = refl }) refl refl
-      (record { given = record { refused = true; outcome = delivered }; is = ap (encode_answer h (desk_after run h) run.setup true) (sym (sym sh.stage ∙ ap progress_of s)) })
+      record { given = record { refused = true; outcome = delivered }; is = ap (encode_answer run h (desk_after run h) true) (sym (sym sh.stage ∙ ap progress_of s)) }
+  lacks-answer o e s TooLarge l =
+      let sh = out-shows o e in
+      let larger : run.max_body < last_length run.setup h = subst (λ ss. run.max_body < body_length (groups ss)) sh.spans l in
+      record {
+        given = record { refused = false; outcome = delivered };
+        is =
+            ap (λ c. if c then runs.encoded (desk_after run h).batches (last_length run.setup h) else Answer.dropped (desk_after run h).batches model-too_large) (sym (lt-leb (last_length run.setup h) run.max_body larger))
+            ∙ ap (encode_answer run h (desk_after run h) false) (sym (sym sh.stage ∙ ap progress_of s));
+      }
+  lacks-answer o e s QueueFull l = absurd l
+  lacks-answer o e s Abandoned l = absurd l
 
-  encodes-batch : (o : Out) → out ≡ Some o → o.stage ≡ to_encode → (answer : CodeAnswer) (out2 : Option Out) → EncodesBatch o.batch answer out2
-      → Stands meaning stream run (h ++ record { step = encode; answer = answer_view answer } ∷ []) table desk out2
-  encodes-batch o e s (answers.Encoded number size) out2 t = encoded-on o e s number size out2 t
-  encodes-batch o e s answers.OutOfMemory out2 t =
-      let back : out2 ≡ out = t ∙ sym (e ∙ ap (λ g. Some (record { batch = o.batch; stage = g })) s) in
-      subst (λ b. Stands meaning stream run (h ++ record { step = encode; answer = runs.out_of_memory } ∷ []) table desk b) (sym back) (refused-on o e s)
-  encodes-batch o e s (answers.Taken number count) out2 t = absurd t
-  encodes-batch o e s answers.NotTaken out2 t = absurd t
-  encodes-batch o e s (answers.Started trace span) out2 t = absurd t
-  encodes-batch o e s answers.NoRandomness out2 t = absurd t
-  encodes-batch o e s answers.NoSpan out2 t = absurd t
-  encodes-batch o e s answers.Done out2 t = absurd t
-  encodes-batch o e s (answers.Ended x) out2 t = absurd t
-  encodes-batch o e s answers.Flush out2 t = absurd t
-  encodes-batch o e s answers.Shutdown out2 t = absurd t
-  encodes-batch o e s (answers.Sent number k outcome) out2 t = absurd t
-  encodes-batch o e s (answers.Replied number next) out2 t = absurd t
-  encodes-batch o e s answers.Early out2 t = absurd t
-  encodes-batch o e s answers.Nothing out2 t = absurd t
+  -- its spans are named, and it is out no more
+  dropped-on : (o : Out) → out ≡ Some o → o.stage ≡ to_encode → (number : ℕ) (reason : Reason) (desk2 : Desk) (out2 : Option Out) → DropsBatch run.max_body o.batch number reason desk desk2 out2
+      → Stands meaning stream run (h ++ record { step = encode; answer = Answer.dropped number (reason_view reason) } ∷ []) table desk2 out2
+  dropped-on o e s number reason desk2 out2 t =
+      let why : model-Reason = reason_view reason in
+      let x : Answered = record { step = encode; answer = Answer.dropped number why } in
+      let same = ended-none run.setup h x refl in
+      let sh = out-shows o e in
+      stands-on meaning stream run h table desk out at x table desk2 out2 (Some (queue.dropped why)) (same-spans x refl) same refl (t.drops 0 events at.history sh.spans)
+      t.keeps.config t.keeps.next_ticket (t.keeps.closed ∙ at.closed ∙ sym (or-false (is_shut h))) no-more (subst (IsTied desk2) (sym t.out) t.gone)
+      (ap shown t.out ∙ ap (λ p. pending_as p (last_spans (desk_events run.setup (h ++ x ∷ []))) (last_batch (desk_events run.setup (h ++ x ∷ []))) (last_attempt (h ++ x ∷ []))) (sym (progress-some h x model.not_out refl)))
+      (subst (λ n. IsAnswer run h (record { step = encode; answer = Answer.dropped n why })) (sym (t.numbered ∙ number-of o e)) (lacks-answer o e s reason t.lacks))
+
+  encodes-batch : (o : Out) → out ≡ Some o → o.stage ≡ to_encode → (answer : CodeAnswer) (desk2 : Desk) (out2 : Option Out) → EncodesBatch run.max_body o.batch answer desk desk2 out2
+      → Stands meaning stream run (h ++ record { step = encode; answer = answer_view answer } ∷ []) table desk2 out2
+  encodes-batch o e s (answers.Encoded number size) desk2 out2 t = encoded-on o e s number size desk2 out2 t
+  encodes-batch o e s (answers.Dropped number reason) desk2 out2 t = dropped-on o e s number reason desk2 out2 t
+  encodes-batch o e s answers.OutOfMemory desk2 out2 t = absurd t
+  encodes-batch o e s (answers.Taken number count) desk2 out2 t = absurd t
+  encodes-batch o e s answers.NotTaken desk2 out2 t = absurd t
+  encodes-batch o e s (answers.Started trace span) desk2 out2 t = absurd t
+  encodes-batch o e s answers.NoRandomness desk2 out2 t = absurd t
+  encodes-batch o e s answers.NoSpan desk2 out2 t = absurd t
+  encodes-batch o e s answers.Done desk2 out2 t = absurd t
+  encodes-batch o e s (answers.Ended x) desk2 out2 t = absurd t
+  encodes-batch o e s answers.Flush desk2 out2 t = absurd t
+  encodes-batch o e s answers.Shutdown desk2 out2 t = absurd t
+  encodes-batch o e s (answers.Sent number k outcome) desk2 out2 t = absurd t
+  encodes-batch o e s (answers.Replied number next) desk2 out2 t = absurd t
+  encodes-batch o e s answers.Early desk2 out2 t = absurd t
+  encodes-batch o e s answers.Nothing desk2 out2 t = absurd t
 
   -- where the batch stands elsewhere
-  idle-encode : (p : Progress) → progress h ≡ p → ((d : Desk) → encode_answer h d run.setup false p ≡ runs.nothing) → IsAnswer run h (record { step = encode; answer = runs.nothing })
-  idle-encode p e f = record { given = record { refused = false; outcome = delivered }; is = sym (ap (encode_answer h (desk_after run h) run.setup false) e ∙ f (desk_after run h)) }
+  idle-encode : (p : Progress) → progress h ≡ p → ((d : Desk) → encode_answer run h d false p ≡ runs.nothing) → IsAnswer run h (record { step = encode; answer = runs.nothing })
+  idle-encode p e f = record { given = record { refused = false; outcome = delivered }; is = sym (ap (encode_answer run h (desk_after run h) false) e ∙ f (desk_after run h)) }
 
-  pub encode-on : (answer : CodeAnswer) (out2 : Option Out) → Encodes out answer out2 → Stands meaning stream run (h ++ record { step = encode; answer = answer_view answer } ∷ []) table desk out2
-  encode-on answer out2 t = by out refl t
+  encode-at : (answer : CodeAnswer) (desk2 : Desk) (out2 : Option Out) → Encodes run.max_body out answer desk desk2 out2 → Stands meaning stream run (h ++ record { step = encode; answer = answer_view answer } ∷ []) table desk2 out2
+  encode-at answer desk2 out2 t = by out refl t
     where
-      idle : (o : Option Out) → out ≡ o → (p : Progress) → progress h ≡ p → ((d : Desk) → encode_answer h d run.setup false p ≡ runs.nothing) → IsIdle o answer out2 → Stands meaning stream run (h ++ record { step = encode; answer = answer_view answer } ∷ []) table desk out2
-      idle o e p q f i = nothing-on encode answer desk out2 (subst (λ b. IsIdle b answer out2) (sym e) i) refl refl (λ refused. refl) (idle-encode p q f)
+      idle : (o : Option Out) → out ≡ o → (p : Progress) → progress h ≡ p → ((d : Desk) → encode_answer run h d false p ≡ runs.nothing) → DoesNothing o answer desk desk2 out2 → Stands meaning stream run (h ++ record { step = encode; answer = answer_view answer } ∷ []) table desk2 out2
+      idle o e p q f i = nothing-on encode answer desk2 out2 (subst (λ b. IsIdle b answer out2) (sym e) i.idle) i.desk_same refl (λ refused. refl) (idle-encode p q f)
 
-      staged : (o : Out) → out ≡ Some o → (s : ExportStage) → o.stage ≡ s → EncodesAt s o answer out2 → Stands meaning stream run (h ++ record { step = encode; answer = answer_view answer } ∷ []) table desk out2
-      staged o e to_encode s t = encodes-batch o e s answer out2 t
+      staged : (o : Out) → out ≡ Some o → (s : ExportStage) → o.stage ≡ s → EncodesAt run.max_body s o answer desk desk2 out2 → Stands meaning stream run (h ++ record { step = encode; answer = answer_view answer } ∷ []) table desk2 out2
+      staged o e to_encode s t = encodes-batch o e s answer desk2 out2 t
       staged o e (to_send body) s t = let sh = out-shows o e in idle (Some o) e model.to_send (sym sh.stage ∙ ap progress_of s) (λ d. refl) t
       staged o e (to_judge body k outcome) s t = let sh = out-shows o e in idle (Some o) e (model.to_judge outcome) (sym sh.stage ∙ ap progress_of s) (λ d. refl) t
       staged o e (to_retry body attempts moment) s t = let sh = out-shows o e in idle (Some o) e (model.to_retry moment) (sym sh.stage ∙ ap progress_of s) (λ d. refl) t
 
-      by : (o : Option Out) → out ≡ o → Encodes o answer out2 → Stands meaning stream run (h ++ record { step = encode; answer = answer_view answer } ∷ []) table desk out2
+      by : (o : Option Out) → out ≡ o → Encodes run.max_body o answer desk desk2 out2 → Stands meaning stream run (h ++ record { step = encode; answer = answer_view answer } ∷ []) table desk2 out2
       by None e t = idle None e model.not_out (out-none e) (λ d. refl) t
       by (Some o) e t = staged o e o.stage refl t
 
-  -- ---- attempts
+  pub encode-on : (max_body : ℕ) → run.max_body ≡ max_body → (answer : CodeAnswer) (desk2 : Desk) (out2 : Option Out) → Encodes max_body out answer desk desk2 out2
+      → Stands meaning stream run (h ++ record { step = encode; answer = answer_view answer } ∷ []) table desk2 out2
+  encode-on max_body same answer desk2 out2 t = encode-at answer desk2 out2 (subst (λ m. Encodes m out answer desk desk2 out2) (sym same) t)
 
-  number-of : (o : Out) → out ≡ Some o → o.batch.number ≡ (desk_after run h).batches
-  number-of o e = let sh = out-shows o e in sh.number ∙ sym number-is ∙ ap (λ k. k.batches) (desk-is meaning stream run h table desk out at)
+  -- ---- attempts
 
   first-on : (now : ℕ) (o : Out) → out ≡ Some o → (body : List ℕ) → o.stage ≡ to_send body → (answer : CodeAnswer) (desk2 : Desk) (out2 : Option Out) (before after : Option (List Handed)) → SendsFirst body o.batch answer desk desk2 out2 before after
       → Stands meaning stream run (h ++ record { step = attempt now; answer = answer_view answer } ∷ []) table desk2 out2
@@ -403,7 +437,7 @@ module _ {S R : Type 0} (meaning : S → SamplerMeaning) (stream : R → Stream)
       → Stands meaning stream run (h ++ record { step = reply now word; answer = answer_view answer } ∷ []) table desk2 out2
   reply-at now word answer desk2 out2 t = by out refl t
     where
-      idle : (o : Option Out) → out ≡ o → (p : Progress) → progress h ≡ p → ((d : Desk) → reply_answer run h d now word p ≡ runs.nothing) → SettlesNone o answer desk desk2 out2 → Stands meaning stream run (h ++ record { step = reply now word; answer = answer_view answer } ∷ []) table desk2 out2
+      idle : (o : Option Out) → out ≡ o → (p : Progress) → progress h ≡ p → ((d : Desk) → reply_answer run h d now word p ≡ runs.nothing) → DoesNothing o answer desk desk2 out2 → Stands meaning stream run (h ++ record { step = reply now word; answer = answer_view answer } ∷ []) table desk2 out2
       idle o e p q f i = nothing-on (reply now word) answer desk2 out2 (subst (λ b. IsIdle b answer out2) (sym e) i.idle) i.desk_same refl (λ refused. refl)
           (record { given = record { refused = false; outcome = delivered }; is = sym (ap (reply_answer run h (desk_after run h) now word) q ∙ f (desk_after run h)) })
 

@@ -55,32 +55,33 @@ pub take-tells-at : {S R : Type 0} {meaning : S → SamplerMeaning} {stream : R 
     → (now : ℕ) (answer : CodeAnswer) → answer_view answer ≡ take_answer desk now → attempt_by (answer_view answer) ≡ None
 take-tells-at {desk = desk} at now answer e = take-tells desk now answer e
 
-encode-batch-tells : (batch : BatchView) (answer : CodeAnswer) (later : Option Out) → EncodesBatch batch answer later → attempt_by (answer_view answer) ≡ None
-encode-batch-tells batch (answers.Encoded number size) later t = refl
-encode-batch-tells batch answers.OutOfMemory later t = refl
-encode-batch-tells batch (answers.Taken number count) later t = absurd t
-encode-batch-tells batch answers.NotTaken later t = absurd t
-encode-batch-tells batch (answers.Started trace span) later t = absurd t
-encode-batch-tells batch answers.NoRandomness later t = absurd t
-encode-batch-tells batch answers.NoSpan later t = absurd t
-encode-batch-tells batch answers.Done later t = absurd t
-encode-batch-tells batch (answers.Ended x) later t = absurd t
-encode-batch-tells batch answers.Flush later t = absurd t
-encode-batch-tells batch answers.Shutdown later t = absurd t
-encode-batch-tells batch (answers.Sent number k outcome) later t = absurd t
-encode-batch-tells batch (answers.Replied number next) later t = absurd t
-encode-batch-tells batch answers.Early later t = absurd t
-encode-batch-tells batch answers.Nothing later t = absurd t
+encode-batch-tells : (max_body : ℕ) (batch : BatchView) (answer : CodeAnswer) (old new : Desk) (later : Option Out) → EncodesBatch max_body batch answer old new later → attempt_by (answer_view answer) ≡ None
+encode-batch-tells max_body batch (answers.Encoded number size) old new later t = refl
+encode-batch-tells max_body batch (answers.Dropped number reason) old new later t = refl
+encode-batch-tells max_body batch answers.OutOfMemory old new later t = absurd t
+encode-batch-tells max_body batch (answers.Taken number count) old new later t = absurd t
+encode-batch-tells max_body batch answers.NotTaken old new later t = absurd t
+encode-batch-tells max_body batch (answers.Started trace span) old new later t = absurd t
+encode-batch-tells max_body batch answers.NoRandomness old new later t = absurd t
+encode-batch-tells max_body batch answers.NoSpan old new later t = absurd t
+encode-batch-tells max_body batch answers.Done old new later t = absurd t
+encode-batch-tells max_body batch (answers.Ended x) old new later t = absurd t
+encode-batch-tells max_body batch answers.Flush old new later t = absurd t
+encode-batch-tells max_body batch answers.Shutdown old new later t = absurd t
+encode-batch-tells max_body batch (answers.Sent number k outcome) old new later t = absurd t
+encode-batch-tells max_body batch (answers.Replied number next) old new later t = absurd t
+encode-batch-tells max_body batch answers.Early old new later t = absurd t
+encode-batch-tells max_body batch answers.Nothing old new later t = absurd t
 
-pub encode-tells : (out later : Option Out) (answer : CodeAnswer) → Encodes out answer later → attempt_by (answer_view answer) ≡ None
-encode-tells None later answer t = told-by answers.Nothing answer refl t.answered
-encode-tells (Some o) later answer t = by o.stage t
+pub encode-tells : (max_body : ℕ) (out later : Option Out) (answer : CodeAnswer) (old new : Desk) → Encodes max_body out answer old new later → attempt_by (answer_view answer) ≡ None
+encode-tells max_body None later answer old new t = told-by answers.Nothing answer refl t.idle.answered
+encode-tells max_body (Some o) later answer old new t = by o.stage t
   where
-    by : (s : ExportStage) → EncodesAt s o answer later → attempt_by (answer_view answer) ≡ None
-    by to_encode u = encode-batch-tells o.batch answer later u
-    by (to_send body) u = told-by answers.Nothing answer refl u.answered
-    by (to_judge body attempt outcome) u = told-by answers.Nothing answer refl u.answered
-    by (to_retry body attempts moment) u = told-by answers.Nothing answer refl u.answered
+    by : (s : ExportStage) → EncodesAt max_body s o answer old new later → attempt_by (answer_view answer) ≡ None
+    by to_encode u = encode-batch-tells max_body o.batch answer old new later u
+    by (to_send body) u = told-by answers.Nothing answer refl u.idle.answered
+    by (to_judge body attempt outcome) u = told-by answers.Nothing answer refl u.idle.answered
+    by (to_retry body attempts moment) u = told-by answers.Nothing answer refl u.idle.answered
 
 -- The batch that is out is the last one.
 body-of-last : {S R : Type 0} {meaning : S → SamplerMeaning} {stream : R → Stream} (run : RunConfig) (h : List Answered) {table : TableWith S R} {desk : Desk} (o : Out) → Stands meaning stream run h table desk (Some o)

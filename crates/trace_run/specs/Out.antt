@@ -7,9 +7,14 @@ use Rattle.export_model.specs.Export.{groups, body_length, grouped_triples}
 use Rattle.retry_model.specs.Retries as retries
 use Rattle.retry_model.specs.Retries.{Fate, fate_of}
 use Rattle.desk_model.specs.Queue as desk
-use Rattle.desk_model.specs.Desks.{Desk, Does, TakesSpans}
+use Rattle.desk_model.specs.Desks.{Desk, Does, DropsSpans, TakesSpans}
 use Rattle.retry_model.specs.Waits.{RetryConfig, IsRetryConfig, next_after}
 use Rattle.otlp_proto.specs.Bodies.{body_bytes}
+use Rattle.otlp_proto.specs.declared.encoder.EncodeFault.{EncodeFault}
+use Rattle.otlp_proto.specs.declared.encoder.EncodeFault.TheVariants as faults
+use Rattle.otlp_span.specs.Dropped.{reason_view}
+use Rattle.otlp_span.specs.declared.reason.Reason.{Reason}
+use Rattle.otlp_span.specs.declared.reason.Reason.TheVariants.{EncodeMemory, TooLarge}
 use Rattle.retry_core.specs.Retries.{outcome_view, next_view}
 use Rattle.retry_core.specs.declared.next.Next.{Next}
 use Rattle.retry_core.specs.declared.outcome.Outcome.{Outcome}
@@ -146,29 +151,61 @@ Takes now (answers.Taken number count) old out new later = TakesBatch now number
 Takes now answers.NotTaken old out new later = TakesNone old out new later
 Takes now _ old out new later = ⊥
 
+-- so it is, and nothing is done
+pub record DoesNothing (out : Option Out) (answer : Answer) (old new : Desk) (later : Option Out)
+    : Type 0 where
+  pub idle : IsIdle out answer later
+  pub desk_same : new ≡ old
+
 -- The batch has a body of so many bytes, which is to be sent.
-pub record HasBody (batch : BatchView) (number size : ℕ) (later : Option Out) : Type 0 where
+pub record HasBody (max_body : ℕ) (batch : BatchView) (number size : ℕ) (old new : Desk)
+    (later : Option Out) : Type 0 where
   pub body : List ℕ
   pub out : later ≡ Some (record { batch = batch; stage = to_send body })
   pub numbered : number ≡ batch.number
   pub measured : size ≡ length body
+  pub fits : length body ≤ max_body
   pub length : length body ≡ body_length (groups batch.spans)
+  pub desk_same : new ≡ old
 
--- by the answer, where memory may be refused
-abbrev pub EncodesBatch : BatchView → Answer → Option Out → Type 0
-EncodesBatch batch (answers.Encoded number size) later = HasBody batch number size later
-EncodesBatch batch answers.OutOfMemory later =
-    later ≡ Some (record { batch = batch; stage = to_encode })
-EncodesBatch batch _ later = ⊥
+-- Why these spans have no body: memory was refused, or it would be larger than it may be.
+abbrev pub LacksBody : ℕ → List EndedSpan → Reason → Type 0
+LacksBody max_body spans EncodeMemory = Unit {0}
+LacksBody max_body spans TooLarge = max_body < body_length (groups spans)
+LacksBody max_body spans _ = ⊥
 
-abbrev pub EncodesAt : ExportStage → Out → Answer → Option Out → Type 0
-EncodesAt to_encode o answer later = EncodesBatch o.batch answer later
-EncodesAt _ o answer later = IsIdle (Some o) answer later
+-- the reason that a fault comes to
+abbrev pub reason_of : EncodeFault → Reason
+reason_of faults.OutOfMemory = EncodeMemory
+reason_of faults.TooLarge = TooLarge
+
+-- It has none, and is dropped: the ledger names its spans.
+pub record DropsBatch (max_body : ℕ) (batch : BatchView) (number : ℕ) (reason : Reason)
+    (old new : Desk) (later : Option Out) : Type 0 where
+  pub numbered : number ≡ batch.number
+  pub lacks : LacksBody max_body batch.spans reason
+  pub drops : DropsSpans (reason_view reason) batch.spans old new
+  pub out : later ≡ None
+  pub gone : new.out ≡ None
+  pub keeps : Keeps old new
+
+-- by the answer
+abbrev pub EncodesBatch : ℕ → BatchView → Answer → Desk → Desk → Option Out → Type 0
+EncodesBatch max_body batch (answers.Encoded number size) old new later =
+    HasBody max_body batch number size old new later
+EncodesBatch max_body batch (answers.Dropped number reason) old new later =
+    DropsBatch max_body batch number reason old new later
+EncodesBatch max_body batch _ old new later = ⊥
+
+abbrev pub EncodesAt : ℕ → ExportStage → Out → Answer → Desk → Desk → Option Out → Type 0
+EncodesAt max_body to_encode o answer old new later =
+    EncodesBatch max_body o.batch answer old new later
+EncodesAt max_body _ o answer old new later = DoesNothing (Some o) answer old new later
 
 -- The batch that is out is encoded, if it is to be.
-abbrev pub Encodes : Option Out → Answer → Option Out → Type 0
-Encodes None answer later = IsIdle None answer later
-Encodes (Some o) answer later = EncodesAt o.stage o answer later
+abbrev pub Encodes : ℕ → Option Out → Answer → Desk → Desk → Option Out → Type 0
+Encodes max_body None answer old new later = DoesNothing None answer old new later
+Encodes max_body (Some o) answer old new later = EncodesAt max_body o.stage o answer old new later
 
 -- The body was sent in this attempt.
 pub record SendsBody (body : List ℕ) (attempt : ℕ) (batch : BatchView) (answer : Answer)
@@ -260,12 +297,6 @@ pub record PutsOff (decided : retries.Next) (body : List ℕ) (attempt : ℕ) (b
   pub out : later ≡ Some (record { batch = batch; stage = to_retry body attempt moment })
   pub desk_same : new ≡ old
 
--- nothing is settled
-pub record SettlesNone (out : Option Out) (answer : Answer) (old new : Desk) (later : Option Out)
-    : Type 0 where
-  pub idle : IsIdle out answer later
-  pub desk_same : new ≡ old
-
 abbrev pub Judges : retries.Next → List ℕ → ℕ → BatchView → Answer → Desk → Desk → Option Out
     → Type 0
 Judges decided body attempt batch answer old new later =
@@ -276,10 +307,10 @@ abbrev pub JudgesAt : RetryConfig → ℕ → ℕ → ExportStage → Out → An
     → Type 0
 JudgesAt retry now word (to_judge body attempt outcome) o answer old new later =
     Judges (next_after retry attempt outcome now word) body attempt o.batch answer old new later
-JudgesAt retry now word _ o answer old new later = SettlesNone (Some o) answer old new later
+JudgesAt retry now word _ o answer old new later = DoesNothing (Some o) answer old new later
 
 -- What came of the last attempt is judged, if the batch that is out was sent.
 abbrev pub Replies : RetryConfig → ℕ → ℕ → Option Out → Answer → Desk → Desk → Option Out → Type 0
-Replies retry now word None answer old new later = SettlesNone None answer old new later
+Replies retry now word None answer old new later = DoesNothing None answer old new later
 Replies retry now word (Some o) answer old new later =
     JudgesAt retry now word o.stage o answer old new later

@@ -23,4 +23,5 @@ run_config meaning stream c = record {
   };
   desk = config_view c.desk;
   retry = c.retry;
+  max_body = c.max_body;
 }

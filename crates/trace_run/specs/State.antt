@@ -1,5 +1,5 @@
 -- Where a run stands behind some steps.
-use Rattle.std.specs.Prelude.{◌≡◌, ◌+◌, ◌-◌, ◌^◌, ◌<◌, ◌≤◌, List, [], ◌∷◌, ◌++◌, length, map, Option}
+use Rattle.std.specs.Prelude.{◌≡◌, ℕ, ◌+◌, ◌-◌, ◌^◌, ◌<◌, ◌≤◌, List, [], ◌∷◌, ◌++◌, length, map, Option}
 use Rattle.std.specs.Option.{option_to_list}
 use Rattle.std.specs.List.{list_any, AllByRecursion}
 use Rattle.rand_core.specs.Stream.{Stream}
@@ -31,11 +31,11 @@ pub record Stands {S R : Type 0} (meaning : S → SamplerMeaning) (stream : R �
   pub answers : AreAnswers run h
 
 -- One more step: whatever steps were before, it stands behind these and this one.
-abbrev pub GoesOn : {S R : Type 0} → (S → SamplerMeaning) → (R → Stream) → RetryConfig → Answered
-    → TableWith S R → Desk → Option Out → TableWith S R → Desk → Option Out → Type 0
-GoesOn meaning stream retry x table desk out table2 desk2 out2 =
+abbrev pub GoesOn : {S R : Type 0} → (S → SamplerMeaning) → (R → Stream) → RetryConfig → ℕ
+    → Answered → TableWith S R → Desk → Option Out → TableWith S R → Desk → Option Out → Type 0
+GoesOn meaning stream retry max_body x table desk out table2 desk2 out2 =
     (run : RunConfig) (h : List Answered) → length h < 2 ^ 64 - 1 → run.retry ≡ retry
-    → Stands meaning stream run h table desk out
+    → run.max_body ≡ max_body → Stands meaning stream run h table desk out
     → Stands meaning stream run (h ++ x ∷ []) table2 desk2 out2
 
 -- ---- what the exporter tells of a step

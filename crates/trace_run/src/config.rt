@@ -22,6 +22,8 @@ pub struct RunConfig<S: Sampler, R: Rng, A: Allocator = Global> {
     pub desk: DeskConfig,
     /// How often a batch is sent, and how long the waits between are.
     pub retry: RetryConfig,
+    /// The greatest body that is sent, in bytes: a batch with a longer one is dropped.
+    pub max_body: usize,
     /// Where identifiers are drawn from.
     pub rng: R,
 }

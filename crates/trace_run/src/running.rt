@@ -22,6 +22,7 @@ use trace_history::{Answer, Step};
 pub(crate) struct Running<'a, S: Sampler, R: Rng, A: Allocator + Copy> {
     pub(crate) alloc: A,
     pub(crate) retry: RetryConfig,
+    pub(crate) max_body: usize,
     pub(crate) table: SpanTable<'a, S, R, A>,
     pub(crate) queue: SpanQueue<A>,
 }
@@ -39,8 +40,8 @@ impl<'a, S: Sampler, R: Rng, A: Allocator + Copy> Running<'a, S, R, A> {
         requires ready { IsReady self.old.retry (E.room exporter.old) out }
         ensures goes_on { let x : Answered =
             record { step = step_view step.now; answer = answer_view result.0 } in
-            GoesOn S.meaning R.stream self.old.retry x self.old.table self.old.queue out
-            self.new.table self.new.queue result.1 }
+            GoesOn S.meaning R.stream self.old.retry self.old.max_body x
+            self.old.table self.old.queue out self.new.table self.new.queue result.1 }
         ensures told { (run : model.RunConfig) (h : List Answered) →
             Stands S.meaning R.stream run h self.old.table self.old.queue out
             → Tells (answer_view result.0) (HasItsBody run.setup h)
@@ -48,6 +49,7 @@ impl<'a, S: Sampler, R: Rng, A: Allocator + Copy> Running<'a, S, R, A> {
         ensures ready { IsReady self.old.retry (E.room exporter.new) result.1 }
         ensures room { self.new.table.room ≡ self.old.table.room }
         ensures retry { self.new.retry ≡ self.old.retry }
+        ensures max_body { self.new.max_body ≡ self.old.max_body }
     {
         match step {
             Step::Start {
@@ -70,7 +72,10 @@ impl<'a, S: Sampler, R: Rng, A: Allocator + Copy> Running<'a, S, R, A> {
                 (Answer::Shutdown, out)
             }
             Step::Take { at } => take_batch(&mut self.queue.desk, out, *at),
-            Step::Encode => encode_batch(self.alloc, &self.retry, out, exporter),
+            Step::Encode => {
+                let desk = &mut self.queue.desk;
+                encode_batch(self.alloc, &self.retry, self.max_body, desk, out, exporter)
+            }
             Step::Attempt { at } => {
                 send_batch(&self.retry, &mut self.queue.desk, out, exporter, *at)
             }

@@ -1,14 +1,18 @@
 //! The batch that is out: it is taken, encoded, sent, and judged by what came of that.
-ghost use Rattle.std.specs.Prelude.{◌≡◌, ◌<◌, ◌≤◌, ◌+◌, ℕ, IfOk, length};
+ghost use Rattle.std.specs.Prelude.{◌≡◌, ◌<◌, ◌≤◌, ◌+◌, ℕ, IfOk, IsErrOf, length, false};
 ghost use Rattle.export_model.specs.Export.{groups, body_length};
+ghost use Rattle.desk_model.specs.Desks.{DropsSpans};
 ghost use Rattle.retry_model.specs.Waits.{IsRetryConfig, RetryConfig};
 ghost use Rattle.run_model.specs.Answers.{take_answer};
+ghost use Rattle.otlp_span.specs.Dropped.{reason_view};
+ghost use Rattle.batch_desk.specs.Desk.{IsOut, after_drop};
 ghost use Rattle.trace_history.specs.Answers.{answer_view};
-ghost use Rattle.trace_run.specs.Out.{Encodes, EncodesBatch, IsBodyOf, IsCounted, IsReady, IsTied, Replies, Sends, SendsBody, Takes, is_sent};
+ghost use Rattle.trace_history.specs.declared.answer.Answer.TheVariants.{Dropped};
+ghost use Rattle.trace_run.specs.Out.{Encodes, EncodesBatch, IsBodyOf, IsCounted, IsReady, IsTied, reason_of, Replies, Sends, SendsBody, Takes, is_sent};
 
 use batch_desk::{Batch, Desk};
-use otlp_ids::OutOfMemory;
-use otlp_proto::body_of;
+use otlp_proto::{EncodeFault, body_of};
+use otlp_span::Reason;
 use retry_core::{Next, Outcome, RetryConfig, decide};
 use span_exporter::Exporter;
 use std::alloc::Allocator;
@@ -96,16 +100,19 @@ pub(crate) fn take_batch<A: Allocator>(
     (answer, Some(out))
 }
 
-/// Encodes the batch that is out, if that is to be done, and makes room for its attempts. Where
-/// memory is refused, it can be encoded later.
+/// Encodes the batch that is out, if that is to be done, and makes room for its attempts. Where it
+/// can't be encoded it is dropped.
 pub(crate) fn encode_batch<E: Exporter, A: Allocator + Copy>(
     alloc: A,
     retry: &RetryConfig,
+    max_body: usize,
+    desk: &mut Desk<A>,
     out: Option<BatchExport<A>>,
     exporter: &mut E,
 ) -> (Answer, Option<BatchExport<A>>)
+    requires tied { IsTied desk.old out }
     requires ready { IsReady retry.now (E.room exporter.old) out }
-    ensures encodes { Encodes out result.0 result.1 }
+    ensures encodes { Encodes max_body out result.0 desk.old desk.new result.1 }
     ensures ready { IsReady retry.now (E.room exporter.new) result.1 }
     ensures nothing_is_sent { E.handed exporter.new ≡ E.handed exporter.old }
 {
@@ -114,24 +121,27 @@ pub(crate) fn encode_batch<E: Exporter, A: Allocator + Copy>(
     };
     let BatchExport { batch, stage } = out;
     match stage {
-        ExportStage::ToEncode => encode_spans(alloc, retry, batch, exporter),
+        ExportStage::ToEncode => encode_spans(alloc, retry, max_body, desk, batch, exporter),
         stage => (Answer::Nothing, Some(BatchExport { batch, stage })),
     }
 }
 
-/// Encodes a batch, and makes room for its attempts.
+/// Encodes a batch and makes room for its attempts, or drops it.
 fn encode_spans<E: Exporter, A: Allocator + Copy>(
     alloc: A,
     retry: &RetryConfig,
+    max_body: usize,
+    desk: &mut Desk<A>,
     batch: Batch<A>,
     exporter: &mut E,
 ) -> (Answer, Option<BatchExport<A>>)
-    requires { 0 < batch.number }
-    ensures encodes { EncodesBatch batch result.0 result.1 }
+    requires numbered { 0 < batch.number }
+    requires out { IsOut false desk.old batch }
+    ensures encodes { EncodesBatch max_body batch result.0 desk.old desk.new result.1 }
     ensures ready { IsReady retry.now (E.room exporter.new) result.1 }
     ensures nothing_is_sent { E.handed exporter.new ≡ E.handed exporter.old }
 {
-    match prepare_body(alloc, retry, &batch, exporter) {
+    match prepare_body(alloc, retry, max_body, &batch, exporter) {
         Ok(body) => {
             let answer = Answer::Encoded {
                 batch: batch.number(),
@@ -140,10 +150,29 @@ fn encode_spans<E: Exporter, A: Allocator + Copy>(
             let stage = ExportStage::ToSend { body };
             (answer, Some(BatchExport { batch, stage }))
         }
-        Err(OutOfMemory) => {
-            let stage = ExportStage::ToEncode;
-            (Answer::OutOfMemory, Some(BatchExport { batch, stage }))
-        }
+        Err(fault) => (drop_batch(desk, batch, fault), None),
+    }
+}
+
+/// Drops a batch that can't be encoded: the ledger names its spans, for the reason that the fault
+/// comes to.
+fn drop_batch<A: Allocator>(desk: &mut Desk<A>, batch: Batch<A>, fault: EncodeFault) -> Answer
+    requires { IsOut false desk.old batch }
+    ensures answered { result ≡ Dropped batch.number (reason_of fault) }
+    ensures desk { let reason = reason_view (reason_of fault) in
+        desk.new ≡ after_drop reason batch.spans desk.old }
+    ensures drops { let reason = reason_view (reason_of fault) in
+        DropsSpans reason batch.spans desk.old desk.new }
+{
+    let number = batch.number();
+    let reason = match fault {
+        EncodeFault::OutOfMemory => Reason::EncodeMemory,
+        EncodeFault::TooLarge => Reason::TooLarge,
+    };
+    desk.drop_batch(batch, reason);
+    Answer::Dropped {
+        batch: number,
+        reason,
     }
 }
 
@@ -151,11 +180,15 @@ fn encode_spans<E: Exporter, A: Allocator + Copy>(
 fn prepare_body<E: Exporter, A: Allocator + Copy>(
     alloc: A,
     retry: &RetryConfig,
+    max_body: usize,
     batch: &Batch<A>,
     exporter: &mut E,
-) -> Result<Vec<u8, A>, OutOfMemory>
+) -> Result<Vec<u8, A>, EncodeFault>
     ensures length { IfOk result
         (λ body. length body.items ≡ body_length (groups batch.now.spans)) }
+    ensures fits { IfOk result (λ body. length body.items ≤ max_body) }
+    ensures too_large { IsErrOf result EncodeFault.TooLarge
+        → max_body < body_length (groups batch.now.spans) }
     ensures means { IfOk result (λ body. IsBodyOf batch.now.spans body.items) }
     ensures room { IfOk result
         (λ body. retry.now.attempts ≤ E.room exporter.new (length body.items)) }
@@ -163,10 +196,7 @@ fn prepare_body<E: Exporter, A: Allocator + Copy>(
     ensures nothing_is_sent { E.handed exporter.new ≡ E.handed exporter.old }
 {
     let attempts = retry.attempts();
-    // No body is larger than memory, so want of memory is the one fault.
-    let Ok(body) = body_of(alloc, batch.spans(), usize::MAX) else {
-        return Err(OutOfMemory);
-    };
+    let body = body_of(alloc, batch.spans(), max_body)?;
     exporter.prepare(body.len(), attempts)?;
     Ok(body)
 }

@@ -6,7 +6,7 @@ ghost use Rattle.run_model.specs.Answers.{AreAnswers, desk_after};
 ghost use Rattle.run_model.specs.Headline.{pending_after};
 ghost use Rattle.trace_history.specs.Answers.{history_view};
 ghost use Rattle.trace_run.specs.Out.{shown};
-ghost use Rattle.run_laws.specs.Laws.{LateBehindShutdown, DroppedWhereFull, QueuedWhereRoom, TakenWhereDue, TakesTheFirst, TakenBehindShutdown, OneBatchIsOut, AttemptsAreNumbered, AttemptsAreFew, AttemptsAreFiveAtMost, NoAttemptIsEarly, RepliesAreDecided, HandedAreNotDropped, LedgerNamesTheDropped};
+ghost use Rattle.run_laws.specs.Laws.{LateBehindShutdown, DroppedWhereFull, QueuedWhereRoom, TakenWhereDue, TakesTheFirst, TakenBehindShutdown, OneBatchIsOut, EncodedWhereItFits, DroppedUnencoded, DroppedBatchIsNamed, AttemptsAreNumbered, AttemptsAreFew, AttemptsAreFiveAtMost, NoAttemptIsEarly, RepliesAreDecided, HandedAreNotDropped, LedgerNamesTheDropped};
 ghost use Rattle.trace_run.specs.Report.{OfRun};
 ghost use Rattle.trace_run.specs.Run.{run_config};
 ghost use Rattle.trace_run.specs.Headline.{AreCanonical, Headline};
@@ -22,8 +22,8 @@ use otlp_ids::OutOfMemory;
 use otlp_sampler::Sampler;
 use rand_core::Rng;
 use run_laws::{
-    attempts_are_answered, ends_are_answered, none_is_unaccounted_for, one_batch_is_out,
-    queued_spans_are_ended, takes_are_answered,
+    attempts_are_answered, encodings_are_answered, ends_are_answered, none_is_unaccounted_for,
+    one_batch_is_out, queued_spans_are_ended, takes_are_answered,
 };
 use span_exporter::Exporter;
 use span_table::SpanTable;
@@ -74,6 +74,16 @@ pub fn run<S: Sampler + Drop, R: Rng + Drop, E: Exporter, A: Allocator + Copy>(
     ensures one_out { IfOk result
         (OfRun S.meaning R.stream config steps.now (λ run. OneBatchIsOut)) }
 
+    // A batch has a body only where that isn't larger than it may be. It is dropped only in place of
+    // its encoding, for want of memory or where its body would be larger, and then its spans are
+    // named.
+    ensures fits { IfOk result
+        (OfRun S.meaning R.stream config steps.now EncodedWhereItFits) }
+    ensures dropped { IfOk result
+        (OfRun S.meaning R.stream config steps.now DroppedUnencoded) }
+    ensures names { IfOk result (OfRun S.meaning R.stream config steps.now
+        (λ run. DroppedBatchIsNamed run.setup)) }
+
     // No span is unaccounted for: each that ended before the shutdown was handed, is still queued,
     // or is named, once, as it ended; each body means its batch, and each retry repeats it.
     ensures headline { IfOk result (OfRun S.meaning R.stream config steps.now (λ run history.
@@ -116,6 +126,7 @@ pub fn run<S: Sampler + Drop, R: Rng + Drop, E: Exporter, A: Allocator + Copy>(
         scopes,
         desk,
         retry,
+        max_body,
         rng,
     } = config;
     // It tells that its numbers are those that `RetryConfig::new` takes.
@@ -131,6 +142,7 @@ pub fn run<S: Sampler + Drop, R: Rng + Drop, E: Exporter, A: Allocator + Copy>(
     let mut running = Running {
         alloc,
         retry,
+        max_body,
         table,
         queue,
     };
@@ -143,6 +155,7 @@ pub fn run<S: Sampler + Drop, R: Rng + Drop, E: Exporter, A: Allocator + Copy>(
     }
     ends_are_answered();
     takes_are_answered();
+    encodings_are_answered();
     attempts_are_answered();
     one_batch_is_out();
     none_is_unaccounted_for();

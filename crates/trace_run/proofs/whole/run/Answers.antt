@@ -1,7 +1,7 @@
 use Rattle.std.proofs.Common.{◌<◌, ◌+◌, ◌-◌, ◌^◌, refl, sym, ap, ◌∙◌, arith, length, take, take_all}
 use Rattle.std.proofs.lemmas.List.{length_push}
 use Rattle.run_model.specs.Runs.{Answered}
-use Rattle.run_laws.specs.Laws.{OfSettings, LateBehindShutdown, DroppedWhereFull, QueuedWhereRoom, TakenWhereDue, TakesTheFirst, TakenBehindShutdown, OneBatchIsOut, AttemptsAreNumbered, AttemptsAreFew, AttemptsAreFiveAtMost, NoAttemptIsEarly, RepliesAreDecided}
+use Rattle.run_laws.specs.Laws.{OfSettings, LateBehindShutdown, DroppedWhereFull, QueuedWhereRoom, TakenWhereDue, TakesTheFirst, TakenBehindShutdown, OneBatchIsOut, EncodedWhereItFits, DroppedUnencoded, AttemptsAreNumbered, AttemptsAreFew, AttemptsAreFiveAtMost, NoAttemptIsEarly, RepliesAreDecided}
 use Rattle.trace_history.specs.Answers.{answer_view, history_view}
 use Rattle.trace_history.specs.Steps.{step_view}
 use Rattle.trace_run.specs.Run.{run_config}
@@ -17,6 +17,7 @@ loop-step-init g c = record {
   told = tells-none _ (g.E.Exporter.handed c.args.exporter.now);
   ready = tt;
   retry = refl;
+  max_body = refl;
   count = ap length c.in_ok-answers.ensures.items;
   answers_room = c.in_ok-answers.ensures.exact;
   table_room = c.in_ok-table.ensures.room;
@@ -36,7 +37,7 @@ loop-step-preserved g c =
     let small : length h < 2 ^ 64 - 1 = omega (arith, behind-length c.args.steps.now c.loop-step.answers.items c.loop-step.step-index i.count c.loop-step-test.true, c.loop-step-test.true) in
     let pushed = behind-push c.args.steps.now c.loop-step.answers.items c.loop-step.step-index c.step-item.result c.take_step-answer.result.0 i.count c.loop-step-test.true c.step-item.is in
     let x : Answered = record { step = step_view c.step-item.result; answer = answer_view c.take_step-answer.result.0 } in
-    let stands = c.take_step-answer.ensures.goes_on run h small (sym i.retry) i.stands in
+    let stands = c.take_step-answer.ensures.goes_on run h small (sym i.retry) (sym i.max_body) i.stands in
     let still = body-stays c.batches_are_slices.ensures.stay run.setup h x _ stands.history in
     record {
       stands = rw (c.push_reserved.ensures.items, pushed) stands;
@@ -44,6 +45,7 @@ loop-step-preserved g c =
           (tells-more _ _ _ _ _ _ (tells-still _ _ _ _ _ still i.told) (tells-still _ _ _ _ _ still (c.take_step-answer.ensures.told run h i.stands)));
       ready = rw i.retry at c.take_step-answer.ensures.ready;
       retry = c.take_step-answer.ensures.retry ∙ i.retry;
+      max_body = c.take_step-answer.ensures.max_body ∙ i.max_body;
       count = ap length c.push_reserved.ensures.items ∙ length_push c.loop-step.answers.items c.take_step-answer.result.0 ∙ ap (λ n. n + 1) i.count;
       answers_room = c.push_reserved.ensures.capacity ∙ i.answers_room;
       table_room = c.take_step-answer.ensures.room ∙ i.table_room;
@@ -108,6 +110,15 @@ returns-clause-shutdown g c = of-law TakenBehindShutdown c.takes_are_answered.en
 
 pub returns-clause-one_out : goal.returns-clause-one_out
 returns-clause-one_out g c = of-law (λ run. OneBatchIsOut) c.one_batch_is_out.ensures.one (run_config g.S.Sampler.meaning g.R.Rng.stream c.args.config) _ _ _ (take_all c.loop-step.step-index c.args.steps.now c.loop-step-test.false) c.loop-step.invariant.stands.answers
+
+pub returns-clause-fits : goal.returns-clause-fits
+returns-clause-fits g c = of-law EncodedWhereItFits c.encodings_are_answered.ensures.fits (run_config g.S.Sampler.meaning g.R.Rng.stream c.args.config) _ _ _ (take_all c.loop-step.step-index c.args.steps.now c.loop-step-test.false) c.loop-step.invariant.stands.answers
+
+pub returns-clause-dropped : goal.returns-clause-dropped
+returns-clause-dropped g c = of-law DroppedUnencoded c.encodings_are_answered.ensures.dropped (run_config g.S.Sampler.meaning g.R.Rng.stream c.args.config) _ _ _ (take_all c.loop-step.step-index c.args.steps.now c.loop-step-test.false) c.loop-step.invariant.stands.answers
+
+pub returns-clause-names : goal.returns-clause-names
+returns-clause-names g c = c.encodings_are_answered.ensures.named (run_config g.S.Sampler.meaning g.R.Rng.stream c.args.config).setup (history_view c.args.steps.now c.loop-step.answers.items)
 
 pub returns-clause-numbered : goal.returns-clause-numbered
 returns-clause-numbered g c = of-law (λ run. AttemptsAreNumbered) c.attempts_are_answered.ensures.numbered (run_config g.S.Sampler.meaning g.R.Rng.stream c.args.config) _ _ _ (take_all c.loop-step.step-index c.args.steps.now c.loop-step-test.false) c.loop-step.invariant.stands.answers
