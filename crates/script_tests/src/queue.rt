@@ -61,6 +61,17 @@ fn reads_sizes_and_a_delay(rt: HostRuntime) -> Result<(), Fail> {
 }
 
 #[test]
+fn reads_the_greatest_body(rt: HostRuntime) -> Result<(), Fail> {
+    let script = Script::parse(rt.alloc(), b"max 18446744073709551615\nflush\n")?;
+    assert_equal(&rt, script.max_body, Some(usize::MAX));
+    let script = Script::parse(rt.alloc(), b"max 0")?;
+    assert_equal(&rt, script.max_body, Some(0));
+    let script = Script::parse(rt.alloc(), b"flush")?;
+    assert_equal(&rt, script.max_body, None);
+    Ok(())
+}
+
+#[test]
 fn reads_outcomes_in_order(rt: HostRuntime) -> Result<(), Fail> {
     let text = concat!(
         "answer delivered\n",

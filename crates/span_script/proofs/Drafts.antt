@@ -18,7 +18,7 @@ use Rattle.span_script.specs.declared.sampler.SamplerName.{SamplerName}
 use Rattle.trace_history.specs.declared.step.Step.{Step as CodeStep}
 use Rattle.span_script.specs.declared.draft.Draft.{Draft}
 use Rattle.trace_history.specs.Steps.{step_view}
-use Rattle.span_script.specs.Lines.{words, sampler, limits, desk, resource, scope, scope_attribute, outcome, step}
+use Rattle.span_script.specs.Lines.{words, sampler, limits, desk, max_body, resource, scope, scope_attribute, outcome, step}
 use Rattle.span_script.specs.declared.scope.ScopeDraft.{ScopeDraft}
 use Rattle.span_script.specs.Scripts.{Script, all_kept, with_attributes}
 use Rattle.span_script.specs.Drafts.{Holds, scope_draft_view, scope_draft, no_items, set_on, with_line}
@@ -27,25 +27,31 @@ pub add_words : {A : Type 0} (d : Draft A) (after : Vec ℕ A) (s : Script) (mor
     → (t : Script) × (with_line s (words more) ≡ Some t) × Holds (record d { words = after }) t
 unfolding with_line
 add_words d after s more first e h =
-    (record s { words = s.words ++ more }, rw first refl, record { settings = (e ∙ ap (λ l. l ++ more) h.settings.0, h.settings.1, h.settings.2, h.settings.3); attributes = h.attributes; steps = h.steps })
+    (record s { words = s.words ++ more }, rw first refl, record { settings = (e ∙ ap (λ l. l ++ more) h.settings.0, h.settings.1, h.settings.2, h.settings.3, h.settings.4); attributes = h.attributes; steps = h.steps })
 
 pub set_sampler : {A : Type 0} (d : Draft A) (s : Script) (name : SamplerName) → no_items s.steps ≡ true → is_some s.sampler ≡ false → Holds d s
     → (t : Script) × (with_line s (sampler name) ≡ Some t) × Holds (record d { sampler = Some name }) t
 unfolding with_line
 set_sampler d s name first none h =
-    (record s { sampler = Some name }, rw (first, none) refl, record { settings = (h.settings.0, refl, h.settings.2, h.settings.3); attributes = h.attributes; steps = h.steps })
+    (record s { sampler = Some name }, rw (first, none) refl, record { settings = (h.settings.0, refl, h.settings.2, h.settings.3, h.settings.4); attributes = h.attributes; steps = h.steps })
 
 pub set_limits : {A : Type 0} (d : Draft A) (s : Script) (values : SpanLimits) → no_items s.steps ≡ true → is_some s.limits ≡ false → Holds d s
     → (t : Script) × (with_line s (limits (limits_view values)) ≡ Some t) × Holds (record d { limits = Some values }) t
 unfolding with_line
 set_limits d s values first none h =
-    (record s { limits = Some (limits_view values) }, rw (first, none) refl, record { settings = (h.settings.0, h.settings.1, refl, h.settings.3); attributes = h.attributes; steps = h.steps })
+    (record s { limits = Some (limits_view values) }, rw (first, none) refl, record { settings = (h.settings.0, h.settings.1, refl, h.settings.3, h.settings.4); attributes = h.attributes; steps = h.steps })
 
 pub set_desk : {A : Type 0} (d : Draft A) (s : Script) (config : DeskConfig) → no_items s.steps ≡ true → is_some s.desk ≡ false → Holds d s
     → (t : Script) × (with_line s (desk (config_view config)) ≡ Some t) × Holds (record d { desk = Some config }) t
 unfolding with_line
 set_desk d s config first none h =
-    (record s { desk = Some (config_view config) }, rw (first, none) refl, record { settings = (h.settings.0, h.settings.1, h.settings.2, refl); attributes = h.attributes; steps = h.steps })
+    (record s { desk = Some (config_view config) }, rw (first, none) refl, record { settings = (h.settings.0, h.settings.1, h.settings.2, refl, h.settings.4); attributes = h.attributes; steps = h.steps })
+
+pub set_max_body : {A : Type 0} (d : Draft A) (s : Script) (greatest : ℕ) → no_items s.steps ≡ true → is_some s.max_body ≡ false → Holds d s
+    → (t : Script) × (with_line s (max_body greatest) ≡ Some t) × Holds (record d { max_body = Some greatest }) t
+unfolding with_line
+set_max_body d s greatest first none h =
+    (record s { max_body = Some greatest }, rw (first, none) refl, record { settings = (h.settings.0, h.settings.1, h.settings.2, h.settings.3, refl); attributes = h.attributes; steps = h.steps })
 
 pub add_attribute : {A : Type 0} (d : Draft A) (after : AttributeList) (s : Script) (p : attributes.Attribute) → no_items s.steps ≡ true → SetsPair p d.resource after → Holds d s
     → (t : Script) × (with_line s (resource p) ≡ Some t) × Holds (record d { resource = after }) t

@@ -7,7 +7,7 @@ use Rattle.desk_model.specs.Desks.{DeskConfig}
 use Rattle.span_ring.specs.SpanRing.{IsRingSize}
 use Rattle.batch_desk.specs.Desk.{default_config}
 use Rattle.script_words.specs.Words.{◌>>=◌}
-use Rattle.span_script.specs.Lines.{Line, words, sampler, limits, desk, resource, scope, scope_attribute, outcome, step, line_of}
+use Rattle.span_script.specs.Lines.{Line, words, sampler, limits, desk, max_body, resource, scope, scope_attribute, outcome, step, line_of}
 use Rattle.span_script.specs.Scripts.{Script, lines_of, script_read, IsLine}
 use Rattle.span_script.specs.Drafts.{no_script, fits, extended_script, with_line, line_read}
 use Rattle.span_script.proofs.Sizes.{IsSized, IsSizedLine, sized_line}
@@ -26,6 +26,7 @@ fitting s (words ws) kept sized = kept
 fitting s (sampler name) kept sized = kept
 fitting s (limits l) kept sized = kept
 fitting s (desk c) kept sized = sized
+fitting s (max_body n) kept sized = kept
 fitting s (resource x) kept sized = kept
 fitting s (scope number x) kept sized = kept
 fitting s (scope_attribute number p) kept sized = kept

@@ -24,6 +24,7 @@ no_name name arguments h =
       other_than name (codes "sampler") h refl,
       other_than name (codes "limits") h refl,
       other_than name (codes "desk") h refl,
+      other_than name (codes "max") h refl,
       other_than name (codes "resource") h refl,
       other_than name (codes "scope") h refl,
       other_than name (codes "sattr") h refl,

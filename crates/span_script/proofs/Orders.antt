@@ -8,8 +8,8 @@ use Rattle.std.proofs.lemmas.List.Elements.{filter_map-append}
 use Rattle.std.proofs.lemmas.List.Concat.{flat_map-append}
 use Rattle.span_model.specs.Attributes as attributes
 use Rattle.span_model.specs.Spans as spans
-use Rattle.span_script.specs.Lines.{Line, words, sampler, limits, desk, resource, scope, scope_attribute, outcome, step}
-use Rattle.span_script.specs.Scripts.{with_attributes, is_step, is_setting, words_in, sampler_in, limits_in, desk_in, attribute_in, scope_in, attribute_on, outcome_in, step_in, settings_first, at_most_one, numbered_from, on_scopes_before, is_script, first_of, scopes_of, contents_of}
+use Rattle.span_script.specs.Lines.{Line, words, sampler, limits, desk, max_body, resource, scope, scope_attribute, outcome, step}
+use Rattle.span_script.specs.Scripts.{with_attributes, is_step, is_setting, words_in, sampler_in, limits_in, desk_in, max_body_in, attribute_in, scope_in, attribute_on, outcome_in, step_in, settings_first, at_most_one, numbered_from, on_scopes_before, is_script, first_of, scopes_of, contents_of}
 use Rattle.span_script.specs.Drafts.{no_items, fits, set_on, extended_script}
 
 -- ---- truth values
@@ -83,6 +83,7 @@ others_last (words ws ∷ ls) l e = others_last ls l e
 others_last (sampler name ∷ ls) l e = others_last ls l e
 others_last (limits x ∷ ls) l e = others_last ls l e
 others_last (desk c ∷ ls) l e = others_last ls l e
+others_last (max_body n ∷ ls) l e = others_last ls l e
 others_last (resource p ∷ ls) l e = others_last ls l e
 others_last (scope n x ∷ ls) l e = others_last ls l e
 others_last (scope_attribute n p ∷ ls) l e = others_last ls l e
@@ -95,6 +96,7 @@ setting_last (words ws ∷ ls) l e = setting_last ls l e
 setting_last (sampler name ∷ ls) l e = setting_last ls l e
 setting_last (limits x ∷ ls) l e = setting_last ls l e
 setting_last (desk c ∷ ls) l e = setting_last ls l e
+setting_last (max_body n ∷ ls) l e = setting_last ls l e
 setting_last (resource p ∷ ls) l e = setting_last ls l e
 setting_last (scope n x ∷ ls) l e = setting_last ls l e
 setting_last (scope_attribute n p ∷ ls) l e = setting_last ls l e
@@ -121,6 +123,7 @@ before_last n (words ws ∷ ls) l = before_last n ls l
 before_last n (sampler name ∷ ls) l = before_last n ls l
 before_last n (limits x ∷ ls) l = before_last n ls l
 before_last n (desk c ∷ ls) l = before_last n ls l
+before_last n (max_body m ∷ ls) l = before_last n ls l
 before_last n (resource p ∷ ls) l = before_last n ls l
 before_last n (scope m x ∷ ls) l = before_last (n + 1) ls l ∙ ap (λ k. on_scopes_before (n + 1) ls && on_scopes_before k (l ∷ [])) (omega arith)
 before_last n (scope_attribute m p ∷ ls) l =
@@ -154,39 +157,43 @@ scope_count ls = length-map (filter_map scope_in ls) _ ∙ sym (zero-add (length
 pub is_last : (ls : List Line) (l : Line) → is_script (ls ++ l ∷ []) ≡ (is_script ls && fits (contents_of ls) l)
 is_last ls (words ws) =
     let l = words ws in
-    rw (setting_last ls l refl, none_more sampler_in ls l refl, none_more limits_in ls l refl, none_more desk_in ls l refl, none_more scope_in ls l refl, same_before ls l refl)
+    rw (setting_last ls l refl, none_more sampler_in ls l refl, none_more limits_in ls l refl, none_more desk_in ls l refl, none_more max_body_in ls l refl, none_more scope_in ls l refl, same_before ls l refl)
     (and_swap (settings_first ls) (no_items (filter_map step_in ls)) _)
 is_last ls (sampler name) =
     let l = sampler name in
-    rw (setting_last ls l refl, one_more sampler_in ls l name refl, two_if_some (filter_map sampler_in ls) name, none_more limits_in ls l refl, none_more desk_in ls l refl, none_more scope_in ls l refl, same_before ls l refl)
+    rw (setting_last ls l refl, one_more sampler_in ls l name refl, two_if_some (filter_map sampler_in ls) name, none_more limits_in ls l refl, none_more desk_in ls l refl, none_more max_body_in ls l refl, none_more scope_in ls l refl, same_before ls l refl)
     (once (settings_first ls) (no_items (filter_map step_in ls)) (filter_map sampler_in ls) _)
 is_last ls (limits x) =
     let l = limits x in
-    rw (setting_last ls l refl, none_more sampler_in ls l refl, one_more limits_in ls l x refl, two_if_some (filter_map limits_in ls) x, none_more desk_in ls l refl, none_more scope_in ls l refl, same_before ls l refl)
+    rw (setting_last ls l refl, none_more sampler_in ls l refl, one_more limits_in ls l x refl, two_if_some (filter_map limits_in ls) x, none_more desk_in ls l refl, none_more max_body_in ls l refl, none_more scope_in ls l refl, same_before ls l refl)
     (behind (settings_first ls) (no_items (filter_map step_in ls)) (at_most_one (filter_map sampler_in ls)) _ _ _ (once (settings_first ls) (no_items (filter_map step_in ls)) (filter_map limits_in ls) _))
 is_last ls (desk c) =
     let l = desk c in
-    rw (setting_last ls l refl, none_more sampler_in ls l refl, none_more limits_in ls l refl, one_more desk_in ls l c refl, two_if_some (filter_map desk_in ls) c, none_more scope_in ls l refl, same_before ls l refl)
+    rw (setting_last ls l refl, none_more sampler_in ls l refl, none_more limits_in ls l refl, one_more desk_in ls l c refl, two_if_some (filter_map desk_in ls) c, none_more max_body_in ls l refl, none_more scope_in ls l refl, same_before ls l refl)
     (behind (settings_first ls) (no_items (filter_map step_in ls)) (at_most_one (filter_map sampler_in ls)) _ _ _ (behind (settings_first ls) (no_items (filter_map step_in ls)) (at_most_one (filter_map limits_in ls)) _ _ _ (once (settings_first ls) (no_items (filter_map step_in ls)) (filter_map desk_in ls) _)))
+is_last ls (max_body n) =
+    let l = max_body n in
+    rw (setting_last ls l refl, none_more sampler_in ls l refl, none_more limits_in ls l refl, none_more desk_in ls l refl, one_more max_body_in ls l n refl, two_if_some (filter_map max_body_in ls) n, none_more scope_in ls l refl, same_before ls l refl)
+    (behind (settings_first ls) (no_items (filter_map step_in ls)) (at_most_one (filter_map sampler_in ls)) _ _ _ (behind (settings_first ls) (no_items (filter_map step_in ls)) (at_most_one (filter_map limits_in ls)) _ _ _ (behind (settings_first ls) (no_items (filter_map step_in ls)) (at_most_one (filter_map desk_in ls)) _ _ _ (once (settings_first ls) (no_items (filter_map step_in ls)) (filter_map max_body_in ls) _))))
 is_last ls (resource p) =
     let l = resource p in
-    rw (setting_last ls l refl, none_more sampler_in ls l refl, none_more limits_in ls l refl, none_more desk_in ls l refl, none_more scope_in ls l refl, same_before ls l refl)
+    rw (setting_last ls l refl, none_more sampler_in ls l refl, none_more limits_in ls l refl, none_more desk_in ls l refl, none_more max_body_in ls l refl, none_more scope_in ls l refl, same_before ls l refl)
     (and_swap (settings_first ls) (no_items (filter_map step_in ls)) _)
 is_last ls (scope n x) =
     let l = scope n x in
-    rw (setting_last ls l refl, none_more sampler_in ls l refl, none_more limits_in ls l refl, none_more desk_in ls l refl, one_more scope_in ls l (n, x) refl, number_last 0 (filter_map scope_in ls) n x, same_before ls l refl, scope_count ls)
-    (behind (settings_first ls) (no_items (filter_map step_in ls)) (at_most_one (filter_map sampler_in ls)) _ _ _ (behind (settings_first ls) (no_items (filter_map step_in ls)) (at_most_one (filter_map limits_in ls)) _ _ _ (behind (settings_first ls) (no_items (filter_map step_in ls)) (at_most_one (filter_map desk_in ls)) _ _ _ (placed (settings_first ls) (no_items (filter_map step_in ls)) (numbered_from 0 (filter_map scope_in ls)) (on_scopes_before 0 ls) _))))
+    rw (setting_last ls l refl, none_more sampler_in ls l refl, none_more limits_in ls l refl, none_more desk_in ls l refl, none_more max_body_in ls l refl, one_more scope_in ls l (n, x) refl, number_last 0 (filter_map scope_in ls) n x, same_before ls l refl, scope_count ls)
+    (behind (settings_first ls) (no_items (filter_map step_in ls)) (at_most_one (filter_map sampler_in ls)) _ _ _ (behind (settings_first ls) (no_items (filter_map step_in ls)) (at_most_one (filter_map limits_in ls)) _ _ _ (behind (settings_first ls) (no_items (filter_map step_in ls)) (at_most_one (filter_map desk_in ls)) _ _ _ (behind (settings_first ls) (no_items (filter_map step_in ls)) (at_most_one (filter_map max_body_in ls)) _ _ _ (placed (settings_first ls) (no_items (filter_map step_in ls)) (numbered_from 0 (filter_map scope_in ls)) (on_scopes_before 0 ls) _)))))
 is_last ls (scope_attribute n p) =
     let l = scope_attribute n p in
-    rw (setting_last ls l refl, none_more sampler_in ls l refl, none_more limits_in ls l refl, none_more desk_in ls l refl, none_more scope_in ls l refl, before_last 0 ls l, scope_count ls)
-    (behind (settings_first ls) (no_items (filter_map step_in ls)) (at_most_one (filter_map sampler_in ls)) _ _ _ (behind (settings_first ls) (no_items (filter_map step_in ls)) (at_most_one (filter_map limits_in ls)) _ _ _ (behind (settings_first ls) (no_items (filter_map step_in ls)) (at_most_one (filter_map desk_in ls)) _ _ _ (behind (settings_first ls) (no_items (filter_map step_in ls)) (numbered_from 0 (filter_map scope_in ls)) _ _ _ (behind_others (settings_first ls) (no_items (filter_map step_in ls)) (on_scopes_before 0 ls) _)))))
+    rw (setting_last ls l refl, none_more sampler_in ls l refl, none_more limits_in ls l refl, none_more desk_in ls l refl, none_more max_body_in ls l refl, none_more scope_in ls l refl, before_last 0 ls l, scope_count ls)
+    (behind (settings_first ls) (no_items (filter_map step_in ls)) (at_most_one (filter_map sampler_in ls)) _ _ _ (behind (settings_first ls) (no_items (filter_map step_in ls)) (at_most_one (filter_map limits_in ls)) _ _ _ (behind (settings_first ls) (no_items (filter_map step_in ls)) (at_most_one (filter_map desk_in ls)) _ _ _ (behind (settings_first ls) (no_items (filter_map step_in ls)) (at_most_one (filter_map max_body_in ls)) _ _ _ (behind (settings_first ls) (no_items (filter_map step_in ls)) (numbered_from 0 (filter_map scope_in ls)) _ _ _ (behind_others (settings_first ls) (no_items (filter_map step_in ls)) (on_scopes_before 0 ls) _))))))
 is_last ls (outcome o) =
     let l = outcome o in
-    rw (others_last ls l refl, none_more sampler_in ls l refl, none_more limits_in ls l refl, none_more desk_in ls l refl, none_more scope_in ls l refl, same_before ls l refl)
+    rw (others_last ls l refl, none_more sampler_in ls l refl, none_more limits_in ls l refl, none_more desk_in ls l refl, none_more max_body_in ls l refl, none_more scope_in ls l refl, same_before ls l refl)
     (sym (and_true (is_script ls)))
 is_last ls (step x) =
     let l = step x in
-    rw (others_last ls l refl, none_more sampler_in ls l refl, none_more limits_in ls l refl, none_more desk_in ls l refl, none_more scope_in ls l refl, same_before ls l refl)
+    rw (others_last ls l refl, none_more sampler_in ls l refl, none_more limits_in ls l refl, none_more desk_in ls l refl, none_more max_body_in ls l refl, none_more scope_in ls l refl, same_before ls l refl)
     (sym (and_true (is_script ls)))
 
 first_last : {X : Type 0} (xs : List X) (x : X) → not (is_some (first_of xs)) ≡ true → first_of (xs ++ x ∷ []) ≡ Some x
@@ -213,6 +220,7 @@ nothing_on m n (words ws ∷ ls) e h = nothing_on m n ls e h
 nothing_on m n (sampler name ∷ ls) e h = nothing_on m n ls e h
 nothing_on m n (limits x ∷ ls) e h = nothing_on m n ls e h
 nothing_on m n (desk c ∷ ls) e h = nothing_on m n ls e h
+nothing_on m n (max_body k ∷ ls) e h = nothing_on m n ls e h
 nothing_on m n (resource p ∷ ls) e h = nothing_on m n ls e h
 nothing_on m n (scope k x ∷ ls) e h = nothing_on (m + 1) n ls e (omega (arith, h))
 nothing_on m n (scope_attribute k p ∷ ls) e h =
@@ -232,7 +240,8 @@ scopes_placed ls e =
     let b = and_parts (at_most_one (filter_map sampler_in ls)) _ a.1 in
     let c = and_parts (at_most_one (filter_map limits_in ls)) _ b.1 in
     let d = and_parts (at_most_one (filter_map desk_in ls)) _ c.1 in
-    let f = and_parts (numbered_from 0 (filter_map scope_in ls)) _ d.1 in
+    let m = and_parts (at_most_one (filter_map max_body_in ls)) _ d.1 in
+    let f = and_parts (numbered_from 0 (filter_map scope_in ls)) _ m.1 in
     record { numbers = f.0; before = f.1 }
 
 -- a line of a scope
@@ -296,32 +305,36 @@ next_attribute ls k p numbers =
 pub contents_last : (ls : List Line) (l : Line) → is_script ls ≡ true → fits (contents_of ls) l ≡ true → contents_of (ls ++ l ∷ []) ≡ extended_script (contents_of ls) l
 contents_last ls (words ws) is e =
     let l = words ws in
-    rw (words_more ls l, none_more sampler_in ls l refl, none_more limits_in ls l refl, none_more desk_in ls l refl, none_more attribute_in ls l refl, same_scopes ls l refl (λ n. refl), none_more outcome_in ls l refl, none_more step_in ls l refl) refl
+    rw (words_more ls l, none_more sampler_in ls l refl, none_more limits_in ls l refl, none_more desk_in ls l refl, none_more max_body_in ls l refl, none_more attribute_in ls l refl, same_scopes ls l refl (λ n. refl), none_more outcome_in ls l refl, none_more step_in ls l refl) refl
 contents_last ls (sampler name) is e =
     let l = sampler name in
     let only = first_last (filter_map sampler_in ls) name (and_parts _ _ e).1 in
-    rw (no_words_more ls l refl, one_more sampler_in ls l name refl, only, none_more limits_in ls l refl, none_more desk_in ls l refl, none_more attribute_in ls l refl, same_scopes ls l refl (λ n. refl), none_more outcome_in ls l refl, none_more step_in ls l refl) refl
+    rw (no_words_more ls l refl, one_more sampler_in ls l name refl, only, none_more limits_in ls l refl, none_more desk_in ls l refl, none_more max_body_in ls l refl, none_more attribute_in ls l refl, same_scopes ls l refl (λ n. refl), none_more outcome_in ls l refl, none_more step_in ls l refl) refl
 contents_last ls (limits x) is e =
     let l = limits x in
     let only = first_last (filter_map limits_in ls) x (and_parts _ _ e).1 in
-    rw (no_words_more ls l refl, none_more sampler_in ls l refl, one_more limits_in ls l x refl, only, none_more desk_in ls l refl, none_more attribute_in ls l refl, same_scopes ls l refl (λ n. refl), none_more outcome_in ls l refl, none_more step_in ls l refl) refl
+    rw (no_words_more ls l refl, none_more sampler_in ls l refl, one_more limits_in ls l x refl, only, none_more desk_in ls l refl, none_more max_body_in ls l refl, none_more attribute_in ls l refl, same_scopes ls l refl (λ n. refl), none_more outcome_in ls l refl, none_more step_in ls l refl) refl
 contents_last ls (desk c) is e =
     let l = desk c in
     let only = first_last (filter_map desk_in ls) c (and_parts _ _ e).1 in
-    rw (no_words_more ls l refl, none_more sampler_in ls l refl, none_more limits_in ls l refl, one_more desk_in ls l c refl, only, none_more attribute_in ls l refl, same_scopes ls l refl (λ n. refl), none_more outcome_in ls l refl, none_more step_in ls l refl) refl
+    rw (no_words_more ls l refl, none_more sampler_in ls l refl, none_more limits_in ls l refl, one_more desk_in ls l c refl, only, none_more max_body_in ls l refl, none_more attribute_in ls l refl, same_scopes ls l refl (λ n. refl), none_more outcome_in ls l refl, none_more step_in ls l refl) refl
+contents_last ls (max_body n) is e =
+    let l = max_body n in
+    let only = first_last (filter_map max_body_in ls) n (and_parts _ _ e).1 in
+    rw (no_words_more ls l refl, none_more sampler_in ls l refl, none_more limits_in ls l refl, none_more desk_in ls l refl, one_more max_body_in ls l n refl, only, none_more attribute_in ls l refl, same_scopes ls l refl (λ n. refl), none_more outcome_in ls l refl, none_more step_in ls l refl) refl
 contents_last ls (resource p) is e =
     let l = resource p in
-    rw (no_words_more ls l refl, none_more sampler_in ls l refl, none_more limits_in ls l refl, none_more desk_in ls l refl, one_more attribute_in ls l p refl, same_scopes ls l refl (λ n. refl), none_more outcome_in ls l refl, none_more step_in ls l refl) refl
+    rw (no_words_more ls l refl, none_more sampler_in ls l refl, none_more limits_in ls l refl, none_more desk_in ls l refl, none_more max_body_in ls l refl, one_more attribute_in ls l p refl, same_scopes ls l refl (λ n. refl), none_more outcome_in ls l refl, none_more step_in ls l refl) refl
 contents_last ls (scope n x) is e =
     let l = scope n x in
     let next = (and_parts (no_items (filter_map step_in ls)) (eqb n (length (scopes_of ls))) e).1 in
-    rw (no_words_more ls l refl, none_more sampler_in ls l refl, none_more limits_in ls l refl, none_more desk_in ls l refl, none_more attribute_in ls l refl, next_scope ls n x (scopes_placed ls is).before next, none_more outcome_in ls l refl, none_more step_in ls l refl) refl
+    rw (no_words_more ls l refl, none_more sampler_in ls l refl, none_more limits_in ls l refl, none_more desk_in ls l refl, none_more max_body_in ls l refl, none_more attribute_in ls l refl, next_scope ls n x (scopes_placed ls is).before next, none_more outcome_in ls l refl, none_more step_in ls l refl) refl
 contents_last ls (scope_attribute n p) is e =
     let l = scope_attribute n p in
-    rw (no_words_more ls l refl, none_more sampler_in ls l refl, none_more limits_in ls l refl, none_more desk_in ls l refl, none_more attribute_in ls l refl, next_attribute ls n p (scopes_placed ls is).numbers, none_more outcome_in ls l refl, none_more step_in ls l refl) refl
+    rw (no_words_more ls l refl, none_more sampler_in ls l refl, none_more limits_in ls l refl, none_more desk_in ls l refl, none_more max_body_in ls l refl, none_more attribute_in ls l refl, next_attribute ls n p (scopes_placed ls is).numbers, none_more outcome_in ls l refl, none_more step_in ls l refl) refl
 contents_last ls (outcome o) is e =
     let l = outcome o in
-    rw (no_words_more ls l refl, none_more sampler_in ls l refl, none_more limits_in ls l refl, none_more desk_in ls l refl, none_more attribute_in ls l refl, same_scopes ls l refl (λ n. refl), one_more outcome_in ls l o refl, none_more step_in ls l refl) refl
+    rw (no_words_more ls l refl, none_more sampler_in ls l refl, none_more limits_in ls l refl, none_more desk_in ls l refl, none_more max_body_in ls l refl, none_more attribute_in ls l refl, same_scopes ls l refl (λ n. refl), one_more outcome_in ls l o refl, none_more step_in ls l refl) refl
 contents_last ls (step x) is e =
     let l = step x in
-    rw (no_words_more ls l refl, none_more sampler_in ls l refl, none_more limits_in ls l refl, none_more desk_in ls l refl, none_more attribute_in ls l refl, same_scopes ls l refl (λ n. refl), none_more outcome_in ls l refl, one_more step_in ls l x refl) refl
+    rw (no_words_more ls l refl, none_more sampler_in ls l refl, none_more limits_in ls l refl, none_more desk_in ls l refl, none_more max_body_in ls l refl, none_more attribute_in ls l refl, same_scopes ls l refl (λ n. refl), none_more outcome_in ls l refl, one_more step_in ls l x refl) refl

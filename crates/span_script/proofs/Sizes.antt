@@ -11,7 +11,7 @@ use Rattle.script_words.specs.Words.{◌>>=◌, each_of, number_below, hex_word,
 use Rattle.span_script.specs.Values.{pair_of}
 use Rattle.span_script.specs.Outcomes.{outcome_of_words}
 use Rattle.span_script.specs.Steps.{step_of}
-use Rattle.span_script.specs.Lines.{Line, words, sampler, limits, desk, resource, outcome, step, sampler_of, limits_of, size_to, desk_of, words_line, sampler_line, limits_line, desk_line, resource_line, scope_line, scope_line_of, scope_attribute_line, scope_attribute_line_of, entry, entry_of, line_of}
+use Rattle.span_script.specs.Lines.{Line, words, sampler, limits, desk, max_body, resource, outcome, step, sampler_of, limits_of, size_to, desk_of, words_line, sampler_line, limits_line, desk_line, max_body_line, resource_line, scope_line, scope_line_of, scope_attribute_line, scope_attribute_line_of, entry, entry_of, line_of}
 
 abbrev pub IsSized : DeskConfig → Type 0
 IsSized c = IsRingSize c.queue c.batch
@@ -94,6 +94,12 @@ desk_sized (_ ∷ []) = tt
 desk_sized (_ ∷ _ ∷ []) = tt
 desk_sized (_ ∷ _ ∷ _ ∷ _ ∷ _) = tt
 
+max_body_sized : (arguments : List (List ℕ)) → IfSome (max_body_line arguments) IsSizedLine
+unfolding max_body_line
+max_body_sized (greatest ∷ []) = mapped _ max_body (number_below (2 ^ 64) greatest) (λ _. tt)
+max_body_sized [] = tt
+max_body_sized (_ ∷ _ ∷ _) = tt
+
 resource_sized : (arguments : List (List ℕ)) → IfSome (resource_line arguments) IsSizedLine
 unfolding resource_line
 resource_sized (key ∷ value ∷ []) = mapped _ resource (pair_of key value) (λ _. tt)
@@ -126,11 +132,12 @@ sized_entry name arguments =
     (either _ (bytes_eq name (codes "sampler")) _ _ (sampler_sized arguments)
     (either _ (bytes_eq name (codes "limits")) _ _ (limits_sized arguments)
     (either _ (bytes_eq name (codes "desk")) _ _ (desk_sized arguments)
+    (either _ (bytes_eq name (codes "max")) _ _ (max_body_sized arguments)
     (either _ (bytes_eq name (codes "resource")) _ _ (resource_sized arguments)
     (either _ (bytes_eq name (codes "scope")) _ _ (scope_sized arguments)
     (either _ (bytes_eq name (codes "sattr")) _ _ (scope_attribute_sized arguments)
     (either _ (bytes_eq name (codes "answer")) _ _ (mapped _ outcome (outcome_of_words arguments) (λ _. tt))
-    (mapped _ step (step_of name arguments) (λ _. tt)))))))))
+    (mapped _ step (step_of name arguments) (λ _. tt))))))))))
 
 sized_words : (ws : List (List ℕ)) → IfSome (entry_of ws) IsSizedLine
 sized_words [] = tt

@@ -7,7 +7,7 @@ use Rattle.batch_desk.specs.Views.{config_view}
 use Rattle.retry_core.specs.Retries.{outcome_view}
 use Rattle.trace_history.specs.Steps.{step_view}
 use Rattle.script_words.specs.Words.{◌>>=◌}
-use Rattle.span_script.specs.Lines.{Line, words, sampler, limits, desk, resource, scope, scope_attribute, outcome, step, line_of}
+use Rattle.span_script.specs.Lines.{Line, words, sampler, limits, desk, max_body, resource, scope, scope_attribute, outcome, step, line_of}
 use Rattle.span_script.specs.Scripts.{Script, all_kept, with_attributes}
 use Rattle.span_script.specs.declared.draft.Draft.{Draft}
 use Rattle.span_script.specs.declared.scope.ScopeDraft.{ScopeDraft}
@@ -34,11 +34,12 @@ scope_draft x = (with_attributes [] x, attribute_list all_kept x.attributes)
 abbrev pub finished_scope : spans.Scope × AttributeList → spans.Scope
 finished_scope (x, list) = with_attributes list.kept.items x
 
--- the words, the sampler, the limits and the sizes
+-- the words, the sampler, the limits, the sizes and the greatest body
 abbrev pub HoldsSettings : {A : Type 0} → Draft A → Script → Type 0
 HoldsSettings d s =
     (d.words.items ≡ s.words) × (d.sampler ≡ s.sampler)
     × (option_map limits_view d.limits ≡ s.limits) × (option_map config_view d.desk ≡ s.desk)
+    × (d.max_body ≡ s.max_body)
 
 -- the resource and the scopes
 abbrev pub HoldsAttributes : {A : Type 0} → Draft A → Script → Type 0
@@ -64,6 +65,7 @@ no_script = record {
   sampler = None;
   limits = None;
   desk = None;
+  max_body = None;
   resource = [];
   scopes = [];
   outcomes = [];
@@ -80,6 +82,7 @@ fits s (words ws) = no_items s.steps
 fits s (sampler name) = no_items s.steps && not (is_some s.sampler)
 fits s (limits l) = no_items s.steps && not (is_some s.limits)
 fits s (desk c) = no_items s.steps && not (is_some s.desk)
+fits s (max_body n) = no_items s.steps && not (is_some s.max_body)
 fits s (resource p) = no_items s.steps
 fits s (scope number x) = no_items s.steps && number == length s.scopes
 fits s (scope_attribute number p) = no_items s.steps && nat_lt number (length s.scopes)
@@ -98,6 +101,7 @@ extended_script s (words ws) = record s { words = s.words ++ ws }
 extended_script s (sampler name) = record s { sampler = Some name }
 extended_script s (limits l) = record s { limits = Some l }
 extended_script s (desk c) = record s { desk = Some c }
+extended_script s (max_body n) = record s { max_body = Some n }
 extended_script s (resource p) = record s { resource = s.resource ++ p ∷ [] }
 extended_script s (scope number x) = record s { scopes = s.scopes ++ with_attributes [] x ∷ [] }
 extended_script s (scope_attribute number p) = record s { scopes = set_on number p s.scopes }

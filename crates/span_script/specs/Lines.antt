@@ -27,6 +27,7 @@ pub data Line : Type 0 where
   sampler : SamplerName → Line
   limits : spans.SpanLimits → Line
   desk : DeskConfig → Line
+  max_body : ℕ → Line
   resource : attributes.Attribute → Line
   scope : ℕ → spans.Scope → Line
   scope_attribute : ℕ → attributes.Attribute → Line
@@ -40,6 +41,7 @@ line_view (lines.Words ws) = words ws.items
 line_view (lines.Sampler name) = sampler name
 line_view (lines.Limits l) = limits (limits_view l)
 line_view (lines.Desk c) = desk (config_view c)
+line_view (lines.MaxBody n) = max_body n
 line_view (lines.Resource key value) = resource (attribute_view (key, value))
 line_view (lines.Scope number name version schema) =
     scope number (record {
@@ -154,6 +156,11 @@ unfoldable pub desk_line : List (List ℕ) → Option Line
 desk_line (queue ∷ batch ∷ delay ∷ []) = option_map desk (desk_of queue batch delay)
 desk_line _ = None
 
+-- `max N`: how many bytes a body may have
+unfoldable pub max_body_line : List (List ℕ) → Option Line
+max_body_line (greatest ∷ []) = option_map max_body (number_below (2 ^ 64) greatest)
+max_body_line _ = None
+
 -- a line of this name and these words behind it
 unfoldable pub entry : List ℕ → List (List ℕ) → Option Line
 entry name arguments =
@@ -161,6 +168,7 @@ entry name arguments =
     else if bytes_eq name (codes "sampler") then sampler_line arguments
     else if bytes_eq name (codes "limits") then limits_line arguments
     else if bytes_eq name (codes "desk") then desk_line arguments
+    else if bytes_eq name (codes "max") then max_body_line arguments
     else if bytes_eq name (codes "resource") then resource_line arguments
     else if bytes_eq name (codes "scope") then scope_line arguments
     else if bytes_eq name (codes "sattr") then scope_attribute_line arguments

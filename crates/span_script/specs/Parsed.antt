@@ -22,6 +22,7 @@ pub record Means {A : Type 0} (c : CodeScript A) (s : Script) : Type 0 where
   pub sampler : c.sampler ≡ unwrap_or s.sampler AlwaysOn
   pub limits : limits_view c.limits ≡ unwrap_or s.limits default_limits
   pub desk : config_view c.desk ≡ unwrap_or s.desk default_config
+  pub max_body : c.max_body ≡ s.max_body
   pub resource : attributes_view c.resource.items ≡ (attributes all_kept s.resource).items
   pub scopes : map scope_view c.scopes.items ≡ map kept_scope s.scopes
   pub outcomes : map outcome_view c.outcomes.items ≡ s.outcomes

@@ -7,7 +7,7 @@ use Rattle.desk_model.specs.Desks.{DeskConfig}
 use Rattle.retry_model.specs.Retries.{Outcome}
 use Rattle.history_model.specs.Steps.{Step}
 use Rattle.script_words.specs.Words.{◌>>=◌, each_of}
-use Rattle.span_script.specs.Lines.{Line, words, sampler, limits, desk, resource, scope, scope_attribute, outcome, step, line_of}
+use Rattle.span_script.specs.Lines.{Line, words, sampler, limits, desk, max_body, resource, scope, scope_attribute, outcome, step, line_of}
 use Rattle.span_script.specs.declared.sampler.SamplerName.{SamplerName}
 
 pub record Script : Type 0 where
@@ -19,6 +19,8 @@ pub record Script : Type 0 where
   pub limits : Option spans.SpanLimits
   -- the sizes and the delay of the batch processor, if they are set
   pub desk : Option DeskConfig
+  -- the greatest body in bytes, if it is set
+  pub max_body : Option ℕ
   -- the attributes that are set on the resource, in order
   pub resource : List attributes.Attribute
   -- the scopes, each with the attributes that are set on it, in order
@@ -67,6 +69,10 @@ abbrev pub desk_in : Line → Option DeskConfig
 desk_in (desk c) = Some c
 desk_in _ = None
 
+abbrev pub max_body_in : Line → Option ℕ
+max_body_in (max_body n) = Some n
+max_body_in _ = None
+
 abbrev pub attribute_in : Line → Option attributes.Attribute
 attribute_in (resource p) = Some p
 attribute_in _ = None
@@ -112,16 +118,18 @@ on_scopes_before n (scope_attribute number p ∷ lines) =
     nat_lt number n && on_scopes_before n lines
 on_scopes_before n (_ ∷ lines) = on_scopes_before n lines
 
--- Settings stand before steps, the sampler, the limits and the desk are set once at most, scopes
--- are numbered from 0 in their order, and attributes are set on scopes that stand before them.
+-- Settings stand before steps, the sampler, the limits, the desk and the greatest body are set once
+-- at most, scopes are numbered from 0 in their order, and attributes are set on scopes that stand
+-- before them.
 abbrev pub is_script : List Line → Bool
 is_script lines =
     settings_first lines
     && (at_most_one (filter_map sampler_in lines)
     && (at_most_one (filter_map limits_in lines)
     && (at_most_one (filter_map desk_in lines)
+    && (at_most_one (filter_map max_body_in lines)
     && (numbered_from 0 (filter_map scope_in lines)
-    && on_scopes_before 0 lines))))
+    && on_scopes_before 0 lines)))))
 
 abbrev pub first_of : {A : Type 0} → List A → Option A
 first_of [] = None
@@ -139,6 +147,7 @@ contents_of lines = record {
   sampler = first_of (filter_map sampler_in lines);
   limits = first_of (filter_map limits_in lines);
   desk = first_of (filter_map desk_in lines);
+  max_body = first_of (filter_map max_body_in lines);
   resource = filter_map attribute_in lines;
   scopes = scopes_of lines;
   outcomes = filter_map outcome_in lines;

@@ -6,7 +6,7 @@ ghost use Rattle.otlp_span.specs.Parts.{limits_view};
 ghost use Rattle.batch_desk.specs.Views.{config_view};
 ghost use Rattle.retry_core.specs.Retries.{outcome_view};
 ghost use Rattle.trace_history.specs.Steps.{step_view};
-ghost use Rattle.span_script.specs.Lines.{line_view, words, sampler, limits, desk, resource, scope, scope_attribute, outcome, step};
+ghost use Rattle.span_script.specs.Lines.{line_view, words, sampler, limits, desk, max_body, resource, scope, scope_attribute, outcome, step};
 ghost use Rattle.span_script.specs.Scripts.{Script};
 ghost use Rattle.span_script.specs.Drafts.{Holds, Follows, no_items, no_script, with_line, line_read};
 
@@ -32,6 +32,8 @@ pub(crate) struct Draft<A: Allocator> {
     pub(crate) limits: Option<SpanLimits>,
     /// The sizes and the delay of the batch processor, if they are set.
     pub(crate) desk: Option<DeskConfig>,
+    /// The greatest body in bytes, if it is set.
+    pub(crate) max_body: Option<usize>,
     /// The attributes of the resource.
     pub(crate) resource: AttributeList<A>,
     /// The scopes.
@@ -52,6 +54,7 @@ impl<A: Allocator + Copy> Draft<A> {
             sampler: None,
             limits: None,
             desk: None,
+            max_body: None,
             resource: all_attributes(alloc),
             scopes: Vec::new(alloc),
             outcomes: Vec::new(alloc),
@@ -85,6 +88,7 @@ impl<A: Allocator + Copy> Draft<A> {
             Line::Sampler(name) => self.set_sampler(name),
             Line::Limits(limits) => self.set_limits(limits),
             Line::Desk(config) => self.set_desk(config),
+            Line::MaxBody(greatest) => self.set_max_body(greatest),
             Line::Resource(key, value) => self.add_attribute(key, value),
             Line::Scope {
                 number,
@@ -146,6 +150,18 @@ impl<A: Allocator + Copy> Draft<A> {
             return Err(WordFault::Bad);
         }
         self.desk = Some(config);
+        Ok(())
+    }
+
+    /// Goes on with the greatest body.
+    #[tactic(auto, unfolding(crate::specs::Drafts::with_line))]
+    fn set_max_body(&mut self, greatest: usize) -> Result<(), WordFault>
+        ensures { Follows (λ s. with_line s (max_body greatest)) self.old self.new result }
+    {
+        if self.has_steps() || self.has_max_body() {
+            return Err(WordFault::Bad);
+        }
+        self.max_body = Some(greatest);
         Ok(())
     }
 
@@ -260,5 +276,12 @@ impl<A: Allocator + Copy> Draft<A> {
         ensures { (s : Script) → Holds self.now s → result ≡ is_some s.desk }
     {
         self.desk.is_some()
+    }
+
+    /// Whether the greatest body is set.
+    fn has_max_body(&self) -> bool
+        ensures { (s : Script) → Holds self.now s → result ≡ is_some s.max_body }
+    {
+        self.max_body.is_some()
     }
 }

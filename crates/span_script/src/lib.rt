@@ -9,6 +9,7 @@
 //! | `sampler on`, `off` or `parent` | names the sampler, once at most |
 //! | `limits A E L EA LA V` | sets the limits of spans, once at most |
 //! | `desk Q B D` | sets the sizes and the delay of the batch processor, once at most |
+//! | `max N` | how many bytes a body may have |
 //! | `resource KEY VALUE` | sets an attribute of the resource |
 //! | `scope N NAME VERSION SCHEMA` | the next scope, whose number is N |
 //! | `sattr N KEY VALUE` | sets an attribute of scope N |
@@ -27,7 +28,7 @@
 //! | `attempt AT` | hands it to the exporter |
 //! | `reply AT WORD` | judges what came of that |
 //!
-//! The first seven are settings, which stand before the first step; an `answer` may stand anywhere,
+//! The first eight are settings, which stand before the first step; an `answer` may stand anywhere,
 //! and all others are steps. Limits are numbers of attributes, events and links of a span, of
 //! attributes of an event and of a link, and the length of a text in characters, or `none`. Q is
 //! how many spans may wait, 1 to 65,536, B how many a batch may have, 1 to Q, and D the delay in
@@ -40,8 +41,8 @@
 //! `internal`, `server`, `client`, `producer` or `consumer`. PAIRS is any number of `KEY VALUE`.
 //!
 //! In a text `%` and two hexadecimal digits are that byte, `%` alone is the empty text, other bytes
-//! stand for themselves, and the whole is UTF-8. Numbers are decimal digits; moments and random
-//! numbers have 64 bits, how many were rejected 64 with a sign, limits, the delay and numbers of
+//! stand for themselves, and the whole is UTF-8. Numbers are decimal digits; moments, random numbers and
+//! the greatest body have 64 bits, how many were rejected 64 with a sign, limits, the delay and numbers of
 //! spans and scopes 32, and a status 16. A value is `t:TEXT`, `b:true`, `b:false`, `i:NUMBER`, a
 //! whole number of 64 bits that may begin with `-`, or an array `T:`, `B:` or `I:` of these, with
 //! commas between them; a comma in such a text is `%2c`.

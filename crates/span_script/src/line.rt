@@ -4,7 +4,7 @@ ghost use Rattle.std.specs.Prelude.{◌≡◌, map, ok_or};
 ghost use Rattle.otlp_span.specs.Parts.{limits_view};
 ghost use Rattle.batch_desk.specs.Views.{config_view};
 ghost use Rattle.script_words.specs.Words.{Gives};
-ghost use Rattle.span_script.specs.Lines.{line_view, sampler_of, length_of, limits_of, words_line, sampler_line, limits_line, resource_line, scope_line_of, scope_line, scope_attribute_line_of, scope_attribute_line, size_to, desk_of, desk_line, entry, line_of};
+ghost use Rattle.span_script.specs.Lines.{line_view, sampler_of, length_of, limits_of, words_line, sampler_line, limits_line, resource_line, scope_line_of, scope_line, scope_attribute_line_of, scope_attribute_line, size_to, desk_of, desk_line, max_body_line, entry, line_of};
 ghost use Rattle.script_words.specs.declared.WordFault.TheVariants.{Bad};
 
 use crate::outcome::parse_outcome;
@@ -15,7 +15,7 @@ use batch_desk::DeskConfig;
 use otlp_span::SpanLimits;
 use otlp_value::Value;
 use retry_core::Outcome;
-use script_words::{WordFault, generator_words, parts_of, small_number, text};
+use script_words::{WordFault, generator_words, number, parts_of, small_number, text};
 use span_ring::MAX_QUEUE;
 use std::alloc::Allocator;
 use std::str;
@@ -32,6 +32,8 @@ pub(crate) enum Line<A: Allocator> {
     Limits(SpanLimits),
     /// The sizes and the delay of the batch processor.
     Desk(DeskConfig),
+    /// The greatest body, in bytes.
+    MaxBody(usize),
     /// An attribute of the resource.
     Resource(String<A>, Value<A>),
     /// A scope without attributes.
@@ -89,6 +91,7 @@ fn parse_entry<A: Allocator + Copy>(
         "sampler" => parse_sampler(arguments),
         "limits" => parse_limits(arguments),
         "desk" => parse_desk(arguments),
+        "max" => parse_max_body(arguments),
         "resource" => parse_resource(alloc, arguments),
         "scope" => parse_scope(alloc, arguments),
         "sattr" => parse_scope_attribute(alloc, arguments),
@@ -281,6 +284,17 @@ fn parse_desk_config(queue: &[u8], batch: &[u8], delay: &[u8]) -> Result<DeskCon
         batch,
         delay_ms,
     })
+}
+
+/// `max N`
+#[tactic(auto, unfolding(crate::specs::Lines::max_body_line))]
+fn parse_max_body<A: Allocator>(arguments: &[&[u8]]) -> Result<Line<A>, WordFault>
+    ensures { Gives line_view result (max_body_line (map (λ w. w.now) arguments.now)) }
+{
+    let [greatest] = arguments else {
+        return Err(WordFault::Bad);
+    };
+    Ok(Line::MaxBody(number(greatest)? as usize))
 }
 
 /// A number from 1 to `greatest`.

@@ -31,6 +31,8 @@ pub struct Script<A: Allocator = Global> {
     /// How much waits, and when a batch is taken: the standard's numbers where none are set. The
     /// queue has 1 to 65,536 places, and a batch at most as many (profile).
     pub desk: DeskConfig,
+    /// The greatest body in bytes, where one is set.
+    pub max_body: Option<usize>,
     /// The attributes of the resource, with distinct keys, in the order in which these were first
     /// set.
     pub resource: Vec<(String<A>, Value<A>), A>,
@@ -71,8 +73,8 @@ impl<A: Allocator + Copy> Script<A> {
     /// # Errors
     ///
     /// `BadLine` where a line is bad by itself or may not stand where it does: a setting behind a
-    /// step, a second sampler, second limits, a second desk, a scope with another number than the
-    /// next, an attribute of a scope that doesn't stand before it.
+    /// step, a second sampler, second limits, a second desk, a second greatest body, a scope with
+    /// another number than the next, an attribute of a scope that doesn't stand before it.
     /// `OutOfMemory` where memory was refused.
     pub fn parse(alloc: A, text: &[u8]) -> Result<Script<A>, ScriptError>
         // What the lines say, or the first bad one.
@@ -104,6 +106,7 @@ impl<A: Allocator + Copy> Script<A> {
             sampler,
             limits,
             desk,
+            max_body,
             resource,
             scopes,
             outcomes,
@@ -114,6 +117,7 @@ impl<A: Allocator + Copy> Script<A> {
             sampler: sampler.unwrap_or(SamplerName::AlwaysOn),
             limits: limits.unwrap_or_default(),
             desk: desk.unwrap_or_default(),
+            max_body,
             resource: resource.into_pairs(),
             scopes: finished_scopes(alloc, scopes)?,
             outcomes,

@@ -28,6 +28,7 @@ returns g c = λ s h. record {
   sampler = c.unwrap_or.ensures ∙ ap (λ o. unwrap_or o AlwaysOn) h.settings.1;
   limits = or_standard limits_view default_limits c.args.draft.limits _ _ c.unwrap_or_default.ensures (λ is. is) ∙ ap (λ o. unwrap_or o default_limits) h.settings.2;
   desk = or_standard config_view default_config c.args.draft.desk _ _ c.unwrap_or_default-2.ensures (λ is. is) ∙ ap (λ o. unwrap_or o default_config) h.settings.3;
+  max_body = h.settings.4;
   resource = c.into_pairs.ensures ∙ ap (λ kept. kept.items) h.attributes.1;
   scopes = c.in_ok-finished_scopes.ensures ∙ ap (map finished_scope) h.attributes.2 ∙ kept_each s.scopes;
   outcomes = h.steps.0;
