@@ -1,5 +1,5 @@
 //! Steps with their answers, as a run might give them.
-use crate::fixture::{encoded, sent_again, taken};
+use crate::fixture::{dropped, encoded, sent_again, taken};
 use otlp_ids::{SpanId, TraceId};
 use otlp_span::{Kind, Reason, SpanCall};
 use retry_core::{Cause, Next, Outcome};
@@ -119,10 +119,10 @@ pub(crate) fn ends<A: Allocator + Copy>(rt: &impl Abort, alloc: A) -> Run<A> {
 /// Batches, each with the body that the exporter was handed for it.
 pub(crate) const BATCHES: &str = concat!(
     "flush\n",
-    "encode 0 out-of-memory\n",
+    "encode 18446744073709551615 dropped encode-memory\n",
     "take none\n",
     "take 1 512\n",
-    "encode 1 out-of-memory\n",
+    "encode 1 dropped too-large\n",
     "encode 1 3\n",
     "encode none\n",
     "attempt 1 1 00a1ff\n",
@@ -141,7 +141,7 @@ pub(crate) const BATCHES: &str = concat!(
 pub(crate) fn batches<A: Allocator + Copy>(rt: &impl Abort, alloc: A) -> Run<A> {
     let mut run = Run::new(alloc);
     run.step(rt, Step::Flush, Answer::Flush);
-    run.step(rt, Step::Encode, Answer::OutOfMemory);
+    run.step(rt, Step::Encode, dropped(u64::MAX, Reason::EncodeMemory));
     run.step(rt, Step::Take { at: 1 }, Answer::NotTaken);
     first_batch(rt, &mut run);
     run.step(rt, Step::Shutdown, Answer::Shutdown);
@@ -153,7 +153,7 @@ pub(crate) fn batches<A: Allocator + Copy>(rt: &impl Abort, alloc: A) -> Run<A> 
 
 fn first_batch<A: Allocator + Copy>(rt: &impl Abort, run: &mut Run<A>) {
     run.step(rt, Step::Take { at: 1 }, taken(1, 512));
-    run.step(rt, Step::Encode, Answer::OutOfMemory);
+    run.step(rt, Step::Encode, dropped(1, Reason::TooLarge));
     run.step(rt, Step::Encode, encoded(1, 3));
     run.step(rt, Step::Encode, Answer::Nothing);
     run.step(rt, Step::Attempt { at: 1 }, sent(1, 1));

@@ -207,6 +207,10 @@ pub(crate) fn encoded(batch: u64, length: usize) -> Answer {
     Answer::Encoded { batch, length }
 }
 
+pub(crate) fn dropped(batch: u64, reason: Reason) -> Answer {
+    Answer::Dropped { batch, reason }
+}
+
 pub(crate) fn sent(batch: u64, outcome: Outcome) -> Answer {
     sent_again(batch, 1, outcome)
 }

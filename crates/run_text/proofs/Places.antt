@@ -1,14 +1,13 @@
 -- The place behind one more step.
-use Rattle.std.proofs.Common.{◌≡◌, refl, sym, ap, ◌∙◌, ℕ, ◌+◌, ◌≤◌, arith, List, [], ◌∷◌, ◌++◌, length, length-append, append-nil, Bool, true, false, cond, Option, Some, None, is_some, unwrap_or}
+use Rattle.std.proofs.Common.{◌≡◌, refl, sym, ap, ◌∙◌, ℕ, ◌+◌, ◌≤◌, arith, List, [], ◌∷◌, ◌++◌, length, length-append, append-nil, Bool, true, false, cond, Option, Some, None, is_some}
 use Rattle.std.specs.Prelude.{filter_map}
 use Rattle.std.specs.List.{cons_option}
 use Rattle.std.proofs.lemmas.List.Elements.{filter_map-append}
 use Rattle.std.proofs.lemmas.List.Sums.{count_by-le-length}
-use Rattle.span_model.specs.Attributes.{last_or}
-use Rattle.desk_model.proofs.Lists.{count-more, last-more}
+use Rattle.desk_model.proofs.Lists.{count-more}
 use Rattle.run_model.specs.Runs.{Answered}
 use Rattle.run_model.specs.Headline.{attempts, attempt_by}
-use Rattle.run_text.specs.Lines.{is_start, starts, batch_by, last_taken}
+use Rattle.run_text.specs.Lines.{is_start, starts}
 use Rattle.run_text.specs.Places.{IsBehind}
 use Rattle.run_text.specs.declared.place.Place.{Place}
 use mir.Val.{bool_byte}
@@ -22,29 +21,18 @@ length-some : {A : Type 0} (o : Option A) (xs : List A) → length (xs ++ cons_o
 length-some None xs = omega (arith, ap length (append-nil xs))
 length-some (Some x) xs = length-append xs (x ∷ [])
 
-last-some : (o : Option ℕ) (xs : List ℕ) → last_or 0 (xs ++ cons_option o []) ≡ unwrap_or o (last_or 0 xs)
-last-some None xs = ap (last_or 0) (append-nil xs)
-last-some (Some x) xs = last-more 0 xs x
-
 sent-more : (before : List Answered) (x : Answered) → length (attempts (before ++ x ∷ [])) ≡ length (attempts before) + cond (is_some (attempt_by x.answer)) 1 0
 sent-more before x =
     let attempted : Answered → Option _ = λ (y : Answered). attempt_by y.answer in
     ap length (filter_map-append attempted before (x ∷ [])) ∙ length-some (attempt_by x.answer) (attempts before)
 
-batch-more : (before : List Answered) (x : Answered) → last_taken (before ++ x ∷ []) ≡ unwrap_or (batch_by x.answer) (last_taken before)
-batch-more before x =
-    ap (last_or 0) (filter_map-append (λ (y : Answered). batch_by y.answer) before (x ∷ []))
-    ∙ last-some (batch_by x.answer) (filter_map (λ (y : Answered). batch_by y.answer) before)
-
 pub behind-more : (before : List Answered) (x : Answered) (old new : Place) → IsBehind before old
     → new.starts ≡ old.starts + cond (is_start x.step) 1 0
     → new.sent ≡ old.sent + cond (is_some (attempt_by x.answer)) 1 0
-    → new.batch ≡ unwrap_or (batch_by x.answer) old.batch
     → IsBehind (before ++ x ∷ []) new
-behind-more before x old new is starts-is sent-is batch-is = record {
+behind-more before x old new is starts-is sent-is = record {
   starts = starts-is ∙ ap (λ n. n + cond (is_start x.step) 1 0) is.starts ∙ sym (count-more (λ (y : Answered). is_start y.step) before x);
   sent = sent-is ∙ ap (λ n. n + cond (is_some (attempt_by x.answer)) 1 0) is.sent ∙ sym (sent-more before x);
-  batch = batch-is ∙ ap (unwrap_or (batch_by x.answer)) is.batch ∙ sym (batch-more before x);
 }
 
 -- ---- there are no more starts and attempts than steps

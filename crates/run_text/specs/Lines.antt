@@ -1,9 +1,8 @@
 -- The text that a run prints: a line for each step's answer, and then the report. (profile)
-use Rattle.std.specs.Prelude.{ℕ, Bool, true, false, if◌then◌else◌, List, [], ◌∷◌, ◌++◌, length, filter_map, count_by, Option, Some, None, slice_get, codes, decimal}
+use Rattle.std.specs.Prelude.{ℕ, Bool, true, false, if◌then◌else◌, List, [], ◌∷◌, ◌++◌, length, count_by, Option, Some, None, slice_get, codes, decimal}
 use Rattle.std.specs.Fmt.{signed_decimal}
 use Rattle.std.specs.List.{flat_map}
 use Rattle.hex.specs.Hex.{encode_lower}
-use Rattle.span_model.specs.Attributes.{last_or}
 use Rattle.span_model.specs.Dropped.{Reason, Entry}
 use Rattle.span_model.specs.Spans.{is_end}
 use Rattle.retry_model.specs.Retries.{Next, Cause}
@@ -61,12 +60,12 @@ abbrev pub take_words : Answer → List (List ℕ)
 take_words (taken batch spans) = decimal batch ∷ decimal spans ∷ []
 take_words _ = codes "none" ∷ []
 
--- The number of the batch, and the length of its body in bytes. A refusal of memory doesn't say
--- which batch it was for: the one that was taken last.
-abbrev pub encode_words : ℕ → Answer → List (List ℕ)
-encode_words last (encoded batch size) = decimal batch ∷ decimal size ∷ []
-encode_words last out_of_memory = decimal last ∷ codes "out-of-memory" ∷ []
-encode_words last _ = codes "none" ∷ []
+-- the number of the batch, and the length of its body in bytes, or why it was dropped
+abbrev pub encode_words : Answer → List (List ℕ)
+encode_words (encoded batch size) = decimal batch ∷ decimal size ∷ []
+encode_words (Answer.dropped batch reason) =
+    decimal batch ∷ codes "dropped" ∷ reason_word reason ∷ []
+encode_words _ = codes "none" ∷ []
 
 -- The number of the batch, which attempt of it this was, and the body that was handed over; or the
 -- moment stands before the one from which the batch is to be sent again.
@@ -102,14 +101,6 @@ is_start _ = false
 abbrev pub starts : List Answered → ℕ
 starts history = count_by (λ (x : Answered). is_start x.step) history
 
-abbrev pub batch_by : Answer → Option ℕ
-batch_by (taken batch spans) = Some batch
-batch_by _ = None
-
--- the number of the batch that was taken last, or 0
-abbrev pub last_taken : List Answered → ℕ
-last_taken history = last_or 0 (filter_map (λ (x : Answered). batch_by x.answer) history)
-
 abbrev pub body_of : Option Handed → List ℕ
 body_of None = []
 body_of (Some one) = one.body
@@ -128,8 +119,7 @@ words_of handed before (Step.call n c) answer =
 words_of handed before Step.flush answer = codes "flush" ∷ []
 words_of handed before Step.shutdown answer = codes "shutdown" ∷ []
 words_of handed before (Step.take now) answer = codes "take" ∷ take_words answer
-words_of handed before Step.encode answer =
-    codes "encode" ∷ encode_words (last_taken before) answer
+words_of handed before Step.encode answer = codes "encode" ∷ encode_words answer
 words_of handed before (Step.attempt now) answer =
     codes "attempt" ∷ attempt_words (next_body handed before) answer
 words_of handed before (Step.reply now word) answer = codes "reply" ∷ reply_words answer

@@ -24,14 +24,13 @@ use trace_history::{Answer, Step};
 ///   or `no-span`; REASON is `queue-full`, `encode-memory`, `too-large` or `abandoned`;
 /// - `flush`, and `shutdown`;
 /// - `take BATCH SPANS`, or `take none`;
-/// - `encode BATCH BYTES`, `encode BATCH out-of-memory`, or `encode none`;
+/// - `encode BATCH BYTES`, `encode BATCH dropped REASON`, or `encode none`;
 /// - `attempt BATCH ATTEMPT BODY`, where the attempts of a batch are numbered from 1 on,
 ///   `attempt early` before the moment from which it is to be sent again, or `attempt none`;
 /// - `reply BATCH` and `done`, `partial REJECTED`, `again MOMENT`, `give-up refused STATUS`,
 ///   `give-up bad-reply` or `give-up attempts`, or `reply none`.
 ///
-/// N is the number of the span: starts count from 0 on, those too that gave no span. The BATCH that
-/// memory was refused for is the one that was taken last, or 0 where there is none. The BODY of an
+/// N is the number of the span: starts count from 0 on, those too that gave no span. The BODY of an
 /// attempt is that of the attempt in the same place among those that the exporter was `handed`
 /// during the run, and no bytes where there is none.
 ///
@@ -79,7 +78,7 @@ fn write_answer<A: Allocator + Copy>(
         Step::Flush => Ok(writeln!(out, "flush")?),
         Step::Shutdown => Ok(writeln!(out, "shutdown")?),
         Step::Take { .. } => write_take(out, answer),
-        Step::Encode => write_encode(out, place.batch, answer),
+        Step::Encode => write_encode(out, answer),
         Step::Attempt { .. } => write_attempt(out, body_at(handed, place.sent), answer),
         Step::Reply { .. } => write_reply(out, answer),
     }

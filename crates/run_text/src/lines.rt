@@ -117,18 +117,20 @@ pub(crate) fn write_take<A: Allocator>(
     Ok(())
 }
 
-/// Appends the line of an encoding, where this is the number of the batch that was taken last.
+/// Appends the line of an encoding.
 pub(crate) fn write_encode<A: Allocator>(
     out: &mut String<A>,
-    last: u64,
     answer: &Answer,
 ) -> Result<(), OutOfMemory>
     ensures { OnOk result (string_bytes out.new ≡ string_bytes out.old
-        ++ line (codes "encode" ∷ encode_words last (answer_view answer.now))) }
+        ++ line (codes "encode" ∷ encode_words (answer_view answer.now))) }
 {
     match answer {
         Answer::Encoded { batch, length } => writeln!(out, "encode {batch} {length}")?,
-        Answer::OutOfMemory => writeln!(out, "encode {last} out-of-memory")?,
+        Answer::Dropped { batch, reason } => {
+            let reason = word_of(*reason);
+            writeln!(out, "encode {batch} dropped {reason}")?
+        }
         _ => writeln!(out, "encode none")?,
     }
     Ok(())

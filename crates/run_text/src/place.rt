@@ -4,7 +4,7 @@ ghost use Rattle.run_model.specs.Headline.{attempt_by};
 ghost use Rattle.run_model.specs.Runs.{Answered};
 ghost use Rattle.trace_history.specs.Answers.{answer_view};
 ghost use Rattle.trace_history.specs.Steps.{step_view};
-ghost use Rattle.run_text.specs.Lines.{batch_by, is_start as begins};
+ghost use Rattle.run_text.specs.Lines.{is_start as begins};
 ghost use Rattle.run_text.specs.Places.{IsBehind};
 
 use std::alloc::Allocator;
@@ -17,8 +17,6 @@ pub(crate) struct Place {
     pub(crate) starts: usize,
     /// How many attempts were made.
     pub(crate) sent: usize,
-    /// The number of the batch that was taken last, or 0.
-    pub(crate) batch: u64,
 }
 
 impl Place {
@@ -26,11 +24,7 @@ impl Place {
     pub(crate) fn first() -> Place
         ensures { IsBehind [] result }
     {
-        Place {
-            starts: 0,
-            sent: 0,
-            batch: 0,
-        }
+        Place { starts: 0, sent: 0 }
     }
 
     /// The place behind a step in this one.
@@ -44,7 +38,6 @@ impl Place {
         Place {
             starts: self.starts + usize::from(is_start(step)),
             sent: self.sent + usize::from(is_sent(answer)),
-            batch: batch_taken(answer).unwrap_or(self.batch),
         }
     }
 }
@@ -61,14 +54,4 @@ fn is_sent(answer: &Answer) -> bool
     ensures { result ≡ is_some (attempt_by (answer_view answer.now)) }
 {
     matches!(answer, Answer::Sent { .. })
-}
-
-/// The number of the batch that was taken, if one was.
-fn batch_taken(answer: &Answer) -> Option<u64>
-    ensures { result ≡ batch_by (answer_view answer.now) }
-{
-    match answer {
-        Answer::Taken { batch, .. } => Some(*batch),
-        _ => None,
-    }
 }
