@@ -1,5 +1,6 @@
 -- What a run of a script is, in the model.
 use Rattle.std.proofs.Common.{◌≡◌, refl, sym, ap, subst, ◌∙◌, ℕ, suc, List, [], ◌∷◌, ◌++◌, length, map, Option, Some, None}
+use Rattle.std.specs.Prelude.{unwrap_or}
 use Rattle.run_model.specs.Answers.{RunConfig, AreAnswers, desk_after}
 use Rattle.run_model.specs.Runs.{Answered}
 use Rattle.desk_model.specs.Desks.{Desk}
@@ -20,10 +21,10 @@ use Rattle.script_program.specs.Printed.{IsRunText, run_text}
 
 -- what a script has before its first step
 abbrev pub run_view : {A : Type 0} → CodeScript A → RunConfig
-run_view s = record { setup = setup_view s; desk = config_view s.desk; retry = default_retry }
+run_view s = record { setup = setup_view s; desk = config_view s.desk; retry = default_retry; max_body = unwrap_or s.max_body 4194304 }
 
 pub same-run : {A : Type 0} (c : CodeScript A) (read : Script) → Means c read → run_view c ≡ run_of read
-same-run c read m = rw (m.words, m.sampler, m.limits, m.desk, m.resource, m.scopes) refl
+same-run c read m = rw (m.words, m.sampler, m.limits, m.desk, m.max_body, m.resource, m.scopes) refl
 
 -- each step has its answer
 pub steps-of : {A : Type 0} (steps : List (CodeStep A)) (answers : List Answer) → length answers ≡ length steps → map (λ (x : Answered). x.step) (history_view steps answers) ≡ map step_view steps

@@ -1,5 +1,5 @@
 -- What the program prints.
-use Rattle.std.specs.Prelude.{◌≡◌, ◌⊎◌, ℕ, ◌+◌, List, [], ◌∷◌, ◌++◌, length, map, take, Bool, true, false, Option, Some, Ok, Err, IfSome, unwrap_or}
+use Rattle.std.specs.Prelude.{◌≡◌, ◌≤◌, ◌⊎◌, ℕ, ◌+◌, List, [], ◌∷◌, ◌++◌, length, map, take, Bool, true, false, Option, Some, Ok, Err, IfSome, unwrap_or}
 use Rattle.std.specs.Io.KnownBytes.{Appends, Keeps}
 use Rattle.hex.specs.Hex.{encode_lower}
 use Rattle.message_model.specs.Reading.{Reads}
@@ -13,18 +13,19 @@ use Rattle.trace_run.specs.Headline.{Headline}
 use Rattle.run_text.specs.Lines.{answers_text, report_text}
 use Rattle.span_script.specs.Scripts.{Script, script_read}
 use Rattle.span_script.specs.declared.script.ScriptError.TheVariants as scripts
-use Rattle.script_program.specs.Recorded.{run_of, spans_of}
+use Rattle.script_program.specs.Recorded.{max_body_of, run_of, spans_of}
 use Rattle.script_program.specs.declared.failure.Failure.{Failure}
 use Rattle.script_program.specs.declared.failure.Failure.TheVariants as failures
 
 -- ---- the body
 
 -- The line is the body that exports the spans which the script ends, in hexadecimal digits, and the
--- end of the line (10).
+-- end of the line (10). It is no larger than it may be.
 pub record IsBodyLine (script : Script) (line : List ℕ) : Type 0 where
   pub body : List ℕ
   pub meaning : Reads (body_meaning body) (grouped_triples (spans_of script))
   pub size : length body ≡ body_length (groups (spans_of script))
+  pub fits : length body ≤ max_body_of script
   pub digits : line ≡ encode_lower body ++ 10 ∷ []
 
 -- ---- the run

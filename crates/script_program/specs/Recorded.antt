@@ -41,6 +41,10 @@ setup_of s = record {
   scopes = map kept_scope s.scopes;
 }
 
+-- the greatest body: 4 MiB where none is set (profile)
+abbrev pub max_body_of : Script → ℕ
+max_body_of s = unwrap_or s.max_body 4194304
+
 -- The same, with the batch processor. Where the script sets no sizes they are the standard's. The
 -- settings of retries are the default. (Trace SDK, Batching processor; retries: profile)
 abbrev pub run_of : Script → RunConfig
@@ -48,6 +52,7 @@ run_of s = record {
   setup = setup_of s;
   desk = unwrap_or s.desk default_config;
   retry = default_retry;
+  max_body = max_body_of s;
 }
 
 -- the spans that a script ends before its first shutdown, in the order of their ends

@@ -23,7 +23,7 @@ pub enum Failure {
     /// Memory was refused.
     #[error("out of memory")]
     OutOfMemory,
-    /// The body has more than `usize::MAX` bytes.
+    /// The body would have more bytes than the script's greatest.
     #[error("too large")]
     TooLarge,
 }

@@ -12,7 +12,7 @@ use crate::failure::{Failure, tell};
 use crate::recorder::spans_of_script;
 use crate::text::text_of_script;
 use otlp_ids::OutOfMemory;
-use otlp_proto::body_of;
+use otlp_proto::{DEFAULT_MAX_BODY, body_of};
 use span_script::Script;
 use std::alloc::{Allocator, Global};
 use std::io;
@@ -24,7 +24,7 @@ use std::io::{ErrorKind, Read, Write};
 /// mistake is told on `faults`, with the status 2, and nothing is printed.
 ///
 /// The answer is the program's status: 0, or 1 where a read or a write failed, 2 where the words or
-/// a line of the script are bad, 3 where memory was refused.
+/// a line of the script are bad, 3 where memory was refused or the body would be too large.
 pub fn trace_script<R: Read, W: Write, F: Write>(
     alloc: Global,
     words: &[String],
@@ -68,8 +68,8 @@ pub fn trace_script<R: Read, W: Write, F: Write>(
 ///
 /// The answer is the program's status: 0, or 1 where a read or a write failed, 2 where a line is
 /// bad (told as `line N: bad script` on `faults`; nothing is printed), 3 where memory was refused
-/// (told as `out of memory`; nothing is printed). Nothing is told where it is 0. Where the fault
-/// itself can't be told it is 1.
+/// or the body would be longer than the script's greatest (told as `out of memory` or `too large`;
+/// nothing is printed). Nothing is told where it is 0. Where the fault itself can't be told it is 1.
 pub fn script<A: Allocator + Copy, R: Read, W: Write, F: Write>(
     alloc: A,
     input: &mut R,
@@ -126,8 +126,9 @@ fn body_line<A: Allocator + Copy>(alloc: A, script: Script<A>) -> Result<String<
         → IfOk result (λ line. IsBodyLine read (string_bytes line)) }
     ensures fault { (input : Option (List ℕ)) → IfErr result (Explains input) }
 {
+    let max_body = script.max_body.unwrap_or(DEFAULT_MAX_BODY);
     let pass = spans_of_script(alloc, script)?;
-    let body = body_of(alloc, pass.spans(), usize::MAX)?;
+    let body = body_of(alloc, pass.spans(), max_body)?;
     Ok(hex_line(alloc, body.as_slice())?)
 }
 

@@ -34,6 +34,7 @@ pub fn spans_of_script<A: Allocator + Copy>(
         sampler,
         limits,
         desk: _,
+        max_body: _,
         resource,
         scopes,
         outcomes: _,

@@ -10,6 +10,7 @@ ghost use Rattle.script_program.specs.Printed.{IsRunText, queued_count, run_text
 use crate::sampler::ScriptSampler;
 use batch_desk::Desk;
 use otlp_ids::OutOfMemory;
+use otlp_proto::DEFAULT_MAX_BODY;
 use otlp_span::Resource;
 use retry_core::RetryConfig;
 use run_text::{write_answers, write_report};
@@ -35,6 +36,7 @@ pub fn text_of_script<A: Allocator + Copy>(
         sampler,
         limits,
         desk,
+        max_body,
         resource,
         scopes,
         outcomes,
@@ -47,6 +49,7 @@ pub fn text_of_script<A: Allocator + Copy>(
         scopes,
         desk,
         retry: RetryConfig::default(),
+        max_body: max_body.unwrap_or(DEFAULT_MAX_BODY),
         rng: WordsRng::new(words),
     };
     let mut exporter = MemoryExporter::new(alloc, outcomes);

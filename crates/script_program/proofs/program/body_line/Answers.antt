@@ -1,4 +1,6 @@
-use Rattle.std.proofs.Common.{◌≡◌, ◌∙◌}
+use Rattle.std.proofs.Common.{◌≡◌, ap, ◌∙◌, arith}
+use Rattle.std.specs.Prelude.{unwrap_or}
+use Rattle.script_program.specs.Recorded.{max_body_of}
 use Rattle.script_program.specs.Printed.{Explains}
 use Rattle.script_program.specs.Program.{failure_of}
 use Rattle.script_program.specs.declared.failure.Failure.TheVariants.{OutOfMemory}
@@ -9,10 +11,14 @@ use Rattle.script_program.proofs.program.body_line.Goals as goal
 pub returns-clause-line : goal.returns-clause-line
 returns-clause-line g c = λ read means.
     let spans = c.spans.ensures ∙ c.in_ok-pass.ensures ∙ same-script c.args.script read means in
+    let most : c.unwrap_or-max_body.result ≡ max_body_of read = c.unwrap_or-max_body.ensures ∙ ap (λ o. unwrap_or o 4194304) means.max_body in
+    let within = c.in_ok-body.ensures.within in
+    let size = c.in_ok-body.ensures.length in
     record {
       body = c.in_ok-body.body.items;
       meaning = rw spans at c.in_ok-body.ensures.meaning;
       size = rw spans at c.in_ok-body.ensures.length;
+      fits = omega (arith, size, within, most);
       digits = rw c.as_slice.ensures.value at c.in_ok-hex_line.ensures;
     }
 
