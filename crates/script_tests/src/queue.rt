@@ -149,7 +149,7 @@ fn tells_bad_lines(rt: HostRuntime) {
         "answer later 503 18446744073709551616",
         "answer later 503 None",
         "answer later 503 1 1",
-        "max 1",
+        "max 1 2",
     ] {
         let script = Script::parse(rt.alloc(), line.as_bytes());
         assert_equal_at(&rt, script.err(), Some(ScriptError::BadLine(1)), line);
