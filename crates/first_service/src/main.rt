@@ -1,20 +1,28 @@
-//! Serves requests on four threads, which end their spans on passes of one batch processor; its
-//! worker hands them over in batches, on a thread of its own. Prints what became of the spans, as a
-//! balance.
+//! Serves requests on four threads, which end their spans on passes of one processor, and prints
+//! what became of the spans: first a simple processor, which hands over each span at its end, then a
+//! batch processor, whose worker hands them over in batches on a thread of its own.
 #![tactic(auto)]
 
 mod balance;
+mod requests;
 mod service;
+mod simple;
 
 use anyhow::Result;
+use std::io::Write;
 use std::marker::Brand;
-use trace_kit::processor::BatchBlank;
+use trace_kit::processor::{BatchBlank, SimpleBlank};
 
 fn main(rt: HostRuntime) -> Result<()> {
-    // `Brand` stands for the name of this one processor, which the types of its passes have.
-    let blank = BatchBlank::new();
-    let accounts = service::run::<Brand, HostRuntime>(rt, rt.alloc(), blank)?;
-    let totals = accounts.desk.totals();
-    balance::write_balance(&mut rt.stdout(), service::SPANS, totals)?;
+    let alloc = rt.alloc();
+    let mut output = rt.stdout();
+
+    // `Brand` stands for the name of one processor, which the types of its passes have.
+    writeln!(output, "simple processor")?;
+    simple::write_accounts::<Brand, HostRuntime, _>(rt, alloc, SimpleBlank::new(), &mut output)?;
+
+    writeln!(output, "batch processor")?;
+    let accounts = service::run::<Brand, HostRuntime>(rt, alloc, BatchBlank::new())?;
+    balance::write_balance(&mut output, service::SPANS, accounts.desk.totals())?;
     Ok(())
 }

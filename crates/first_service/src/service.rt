@@ -1,21 +1,19 @@
-//! A service of four threads over a batch processor.
+//! A service of four threads over a batch processor, whose worker has a thread of its own.
 ghost use Rattle.std.specs.Prelude.{◌≡◌, None};
 
+use crate::requests::serve;
 use anyhow::{Context, Result};
+use rand::make_rng;
 use rand::rngs::StdRng;
-use rand::{Rng, make_rng};
 use std::alloc::Global;
 use std::random::RandomSource;
-use std::sync::{Arc, Wait};
+use std::sync::Wait;
 use std::thread::{self, JoinHandle, Threads};
 use std::time;
 use trace_kit::export::MemoryExporter;
 use trace_kit::processor::{
     Accounts, BatchBlank, BatchConfig, BatchProcessor, Clock, Naming, Parts, Pass, SystemClock,
     WorkerPass,
-};
-use trace_kit::trace::{
-    AlwaysOn, EndPass, Kind, Provider, Resource, Scope, SpanData, SpanLimits, Tracer,
 };
 
 const THREADS: usize = 4;
@@ -26,37 +24,6 @@ const REQUESTS: u64 = 250;
 /// How many spans end in all.
 pub const SPANS: u64 = THREADS as u64 * REQUESTS;
 
-/// Serves a request: a span, which goes to the pass when it ends.
-fn serve_request<P: EndPass<SpanData>>(
-    alloc: Global,
-    clock: &impl Clock,
-    rng: &mut impl Rng,
-    tracer: &Tracer<'_, AlwaysOn>,
-    pass: &mut P,
-) -> Result<()> {
-    let (kind, at) = (Kind::Server, clock.now());
-    let mut request = tracer.start_copied(alloc, rng, None, "GET /cart", kind, at)?;
-    request.end(pass, clock.now());
-    Ok(())
-}
-
-/// Serves requests, each of them a span that goes to the pass when it ends. A thread has a provider
-/// and a generator of its own: those that share one wait for each other.
-fn serve<R, P>(rt: R, alloc: Global, pass: &mut P) -> Result<()>
-where
-    R: RandomSource + time::Clock + Copy,
-    P: EndPass<SpanData>,
-{
-    let mut rng: StdRng = make_rng(&rt)?;
-    let resource = Arc::new(alloc, Resource::new(alloc, Vec::new(alloc)))?;
-    let provider = Provider::new(AlwaysOn, resource, SpanLimits::default());
-    let tracer = provider.tracer(Arc::new(alloc, Scope::named(alloc, "checkout")?)?);
-    for _ in 0..REQUESTS {
-        serve_request(alloc, &SystemClock::new(rt), &mut rng, &tracer, pass)?;
-    }
-    Ok(())
-}
-
 /// Starts a thread that serves requests on this pass, and gives it back.
 fn start<J, R>(rt: R, alloc: Global, mut pass: Pass<J, R>) -> Result<JoinHandle<Result<Pass<J, R>>>>
 where
@@ -64,7 +31,7 @@ where
     R: Threads + Wait + RandomSource + time::Clock + Copy + Send + Sync + 'static,
 {
     let started = thread::spawn(&rt, move || -> Result<Pass<J, R>> {
-        serve(rt, alloc, &mut pass)?;
+        serve(&rt, alloc, REQUESTS, &mut pass)?;
         Ok(pass)
     });
     Ok(started?)

@@ -1,9 +1,15 @@
 //! The spans of a request for a cart.
+ghost use Rattle.std.specs.Prelude.{IfOk};
+ghost use Rattle.trace_kit.specs.Export.{grouped_triples};
+ghost use Rattle.trace_kit.specs.Messages.{body_meaning};
+ghost use Rattle.trace_kit.specs.Reading.{Reads};
+
 use anyhow::Result;
 use rand::Rng;
 use std::alloc::Global;
 use std::sync::Arc;
 use std::time::{Clock, SystemTime, UNIX_EPOCH};
+use trace_kit::export::{DEFAULT_MAX_BODY, body_of};
 use trace_kit::trace::{
     AlwaysOn, BodyPass, Kind, ParentBased, Provider, Resource, Sampler, Scope, Span, SpanLimits,
     Status, Tracer, Value,
@@ -75,4 +81,13 @@ pub fn trace_request(alloc: Global, clock: &impl Clock, rng: &mut impl Rng) -> R
     // A tracer starts the spans of one part of the program.
     let scope = Arc::new(alloc, Scope::named(alloc, "checkout")?)?;
     trace_cart(alloc, clock, rng, &provider.tracer(scope))
+}
+
+/// The body of the request that exports these spans: by OTLP's meaning it has each of them, under
+/// its resource and its scope.
+pub fn export(alloc: Global, pass: &BodyPass) -> Result<Vec<u8>>
+    ensures meaning { IfOk result
+        (λ body. Reads (body_meaning body.items) (grouped_triples pass.now.spans)) }
+{
+    Ok(body_of(alloc, pass.spans(), DEFAULT_MAX_BODY)?)
 }

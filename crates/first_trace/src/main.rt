@@ -9,13 +9,12 @@ use anyhow::Result;
 use rand::make_rng;
 use rand::rngs::StdRng;
 use std::io::Write;
-use trace_kit::export::{DEFAULT_MAX_BODY, body_of};
 
 fn main(rt: HostRuntime) -> Result<()> {
     let alloc = rt.alloc();
     let mut rng: StdRng = make_rng(&rt)?;
     let pass = cart::trace_request(alloc, &rt, &mut rng)?;
-    let body = body_of(alloc, pass.spans(), DEFAULT_MAX_BODY)?;
+    let body = cart::export(alloc, &pass)?;
     let mut output = rt.stdout();
     tree::write_tree(&mut output, pass.spans())?;
     writeln!(output, "exported in {} bytes", body.len())?;

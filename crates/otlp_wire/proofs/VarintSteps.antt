@@ -88,3 +88,14 @@ is-number bytes value scale i b group h ten l e g low = sym (
     ∙ ap (λ t. after (septets h.room t) (λ high. give (value + scale * high))) (front bytes i b l e)
     ∙ ap (λ t. after t (λ high. give (value + scale * high))) (last-group h.room b (drop (suc i) bytes) (omega (arith, h.count)) low))
     ∙ rw (take_all (length bytes - (i + 1)) (drop (i + 1) bytes) (simp length-drop (omega arith)), add-one, g, mod-eq_of_lt low) (ap (λ k. Ok (k % 2 ^ 64, drop (suc i) bytes)) (omega arith)))
+
+-- ---- a varint of one byte
+
+first-byte : (b : ℕ) (bs : List ℕ) → b < 128 → Ok (b, bs) ≡ number (b ∷ bs)
+unfolding number
+first-byte b bs low = sym (
+    ap (λ t. after t (λ n. give (n % 2 ^ 64))) (last-group 10 b bs (omega arith) low)
+    ∙ ap (λ k. Ok (k, bs)) (mod-eq_of_lt (omega arith)))
+
+pub one-byte : (bytes rest : List ℕ) (b n : ℕ) → bytes ≡ b ∷ rest → n ≡ b → b < 128 → Ok (n, rest) ≡ number bytes
+one-byte bytes rest b n whole same low = ap (λ k. Ok (k, rest)) same ∙ (first-byte b rest low ∙ ap number (sym whole))

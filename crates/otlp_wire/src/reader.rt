@@ -52,8 +52,20 @@ pub struct Field<'a> {
     pub payload: Payload<'a>,
 }
 
-/// The varint at the front, of ten bytes at most, and the bytes after it.
+/// The varint at the front, of ten bytes at most, and the bytes after it. One of a single byte,
+/// which most are, is read in place.
+#[inline(always)]
 fn read_varint(bytes: &[u8]) -> Result<(u64, &[u8]), WireFault>
+    ensures { front_of (λ n. n) result ≡ Wire.number bytes.now }
+{
+    match bytes.split_first() {
+        Some((byte, rest)) if *byte < 128 => Ok((u64::from(*byte), rest)),
+        _ => read_groups(bytes),
+    }
+}
+
+/// The same, a group of seven bits after the other.
+fn read_groups(bytes: &[u8]) -> Result<(u64, &[u8]), WireFault>
     ensures { front_of (λ n. n) result ≡ Wire.number bytes.now }
 {
     let mut value: u128 = 0;
@@ -109,6 +121,7 @@ fn read_payload(wire_type: u64, bytes: &[u8]) -> Result<(Payload<'_>, &[u8]), Wi
 }
 
 /// The field at the front, and the bytes after it.
+#[inline(always)]
 #[tactic(auto, unfolding(message_model::specs::Wire::field))]
 fn read_field(bytes: &[u8]) -> Result<(Field<'_>, &[u8]), WireFault>
     ensures { front_of field_of result ≡ Wire.field bytes.now }

@@ -4,8 +4,8 @@ use denote.Param.Send.{param_send, arg_send}
 use Rattle.std.proofs.Crossing as heap
 use Rattle.account_book.proofs.Crosses.{result_send, three_send}
 use Rattle.simple_processor.proofs.Crosses.{memory_pass_send}
-use Rattle.first_passes.proofs.Sends.{error_send}
-use Rattle.first_passes.proofs.workers.start.Goals as goal
+use Rattle.first_service.proofs.Sends.{error_send}
+use Rattle.first_service.proofs.simple.start.Goals as goal
 
 -- what the thread's closure captures may cross: the runtime's value, the allocator and the pass
 pub spawn-started-requires-send-F : goal.spawn-started-requires-send-F
