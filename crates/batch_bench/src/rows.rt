@@ -1,6 +1,7 @@
 //! Lines of what was measured.
 use crate::figures::{Row, Spread};
 use crate::load::Load;
+use crate::rings::Took;
 use crate::threads::Counts;
 use std::io::{self, Write};
 
@@ -55,4 +56,36 @@ pub fn write_plain<W: Write>(
 /// Writes how long a lock is held round something.
 pub fn write_hold<W: Write>(output: &mut W, what: &str, held: Spread) -> io::Result<()> {
     write!(output, "{what} {} {} ns", held.p50, held.longest)
+}
+
+/// Writes what spans took that found a queue full.
+pub fn write_full<W: Write>(output: &mut W, attributes: usize, span: u64) -> io::Result<()> {
+    writeln!(
+        output,
+        "a full desk, {attributes} attributes: {span} ns a span"
+    )
+}
+
+/// Writes how long a run of so many items took through something.
+pub fn write_run<W: Write>(output: &mut W, what: &str, items: usize, took: Took) -> io::Result<()> {
+    let (push, take, release) = (took.push, took.take, took.release);
+    write!(output, "{items} items through a {what}: pushed {push} ns, ")?;
+    writeln!(
+        output,
+        "taken {take} ns, let go {release} ns ({})",
+        took.sum
+    )
+}
+
+/// Writes how long so many items took that found a ring full.
+pub fn write_refused<W: Write>(
+    output: &mut W,
+    items: usize,
+    nanos: u64,
+    refused: u64,
+) -> io::Result<()> {
+    writeln!(
+        output,
+        "{items} items find a ring full: {nanos} ns ({refused})"
+    )
 }

@@ -4,10 +4,15 @@ ghost use Rattle.std.specs.Prelude.{◌≡◌};
 use crate::figures::{HoldTimes, Rounds, Spread, median, nanos_since};
 use crate::load::{Load, end_spans};
 use crate::plain::PlainPass;
-use crate::rows::{write_counts, write_hold, write_load, write_plain, write_row};
+use crate::rings::{time_deque, time_full_ring, time_ring};
+use crate::rows::{
+    write_counts, write_full, write_hold, write_load, write_plain, write_refused, write_row,
+    write_run,
+};
 use crate::threads::{Round, idle_share, run_round};
 use anyhow::Result;
 use batch_processor::{BatchBlank, SystemClock};
+use span_ring::MAX_QUEUE;
 use std::alloc::Global;
 use std::io::Write;
 use std::marker::Brand;
@@ -36,6 +41,9 @@ const BATCHES: u64 = SPANS / BATCH;
 
 /// How many times two batches are taken from such a desk to time how long it is held.
 const BURSTS: u32 = 200;
+
+/// How many spans at a time find the queue of a desk full: as many as fill it.
+const FULL: u64 = 2_048;
 
 /// How long an idle worker is watched, in milliseconds.
 const WATCH_MS: u64 = 2000;
@@ -184,6 +192,48 @@ where
     Ok(())
 }
 
+/// Prints what spans took that found the queue of a desk full.
+fn print_full_row<R, W: Write>(
+    rt: R,
+    alloc: Global,
+    output: &mut W,
+    attributes: usize,
+) -> Result<()>
+where
+    R: Wait + RandomSource + Clock + Copy + Drop,
+{
+    let load = Load::at_once(FULL, attributes);
+    let mut pass = PlainPass::new(rt, alloc)?;
+    end_spans(&rt, alloc, load, &mut pass)?;
+    let mut spans = Vec::new(alloc);
+    for _round in 0..ROUNDS {
+        spans.push(end_spans(&rt, alloc, load, &mut pass)?.nanos / FULL)?;
+    }
+    write_full(output, attributes, median(spans)?)?;
+    Ok(())
+}
+
+/// Prints what runs of so many items take through a ring, and through a deque, and what as many
+/// take that find a ring full.
+fn print_ring_rows<W: Write>(
+    clock: &impl Clock,
+    alloc: Global,
+    output: &mut W,
+    items: usize,
+) -> Result<()> {
+    let queue = items.saturating_mul(4).min(MAX_QUEUE);
+    write_run(
+        output,
+        "ring",
+        items,
+        time_ring(clock, alloc, queue, items)?,
+    )?;
+    write_run(output, "deque", items, time_deque(clock, alloc, items)?)?;
+    let (nanos, refused) = time_full_ring(clock, alloc, items)?;
+    write_refused(output, items, nanos, refused)?;
+    Ok(())
+}
+
 /// Measures how long spans with so many attributes take, and prints it.
 fn print_attributes<R, W: Write>(
     rt: R,
@@ -195,6 +245,7 @@ where
     R: Threads + Wait + RandomSource + Clock + Copy + Send + Sync + 'static,
 {
     print_plain_row(rt, alloc, output, attributes)?;
+    print_full_row(rt, alloc, output, attributes)?;
     print_hold_row(rt, alloc, output, attributes)?;
     for threads in [1usize, 2, 4] {
         print_row(rt, alloc, output, threads, Load::at_once(SPANS, attributes))?;
@@ -208,6 +259,9 @@ pub fn print_times<R, W: Write>(rt: R, alloc: Global, output: &mut W) -> Result<
 where
     R: Threads + Wait + RandomSource + CpuClock + Clock + Copy + Send + Sync + 'static,
 {
+    for items in [512usize, 65_536] {
+        print_ring_rows(&rt, alloc, output, items)?;
+    }
     for attributes in [0usize, 5] {
         print_attributes(rt, alloc, output, attributes)?;
     }
