@@ -1,13 +1,13 @@
 -- What a hold of the lock for a pass does to what the lock keeps.
-use Rattle.std.proofs.Common.{◌≡◌, ℕ, suc, ◌+◌, ◌-◌, ◌^◌, ◌<◌, ◌≤◌, Bool, true, false, List, [], ◌∷◌, ◌++◌, length, drop, sym, refl, ap, ◌∙◌, subst, arith}
-use Rattle.std.specs.Prelude.{IsPermutation, map, filter_map, Option, Some, None, ◌==◌, ◌||◌, nat_lt}
+use Rattle.std.proofs.Common.{◌≡◌, ℕ, ◌+◌, ◌-◌, ◌^◌, ◌<◌, ◌≤◌, true, false, List, [], ◌∷◌, ◌++◌, length, sym, refl, ap, ◌∙◌, subst, arith}
+use Rattle.std.specs.Prelude.{IsPermutation, filter_map, ◌==◌}
 use Rattle.std.specs.List.{AllByRecursion, range_with_len}
 use Rattle.std.proofs.lemmas.List.{append-nil, append_assoc, length-append}
 use Rattle.std.proofs.lemmas.List.Elements.{filter_map-append}
 use Rattle.std.proofs.lemmas.List.Sorted.{IsPermutation-refl, IsPermutation-sym, IsPermutation-to_front}
 use Rattle.account_book.specs.Accounts.{Replaces}
 use Rattle.account_book.proofs.Facts.{gathered_replaced, each_at, each_split}
-use Rattle.span_model.specs.Spans.{EndedSpan, with_ticket}
+use Rattle.span_model.specs.Spans.{EndedSpan}
 use Rattle.span_model.specs.Dropped.{Entry, queue_full, entry_of}
 use Rattle.desk_model.specs.Desks.{Desk, accepted_count, capped, drop_counts, is_flushed, with_drops}
 use Rattle.desk_model.proofs.Events.{counts-more}
@@ -17,7 +17,7 @@ use Rattle.pass_model.specs.Clauses.{CountsLate}
 use Rattle.pass_model.proofs.Lists.{counts_same, names_more}
 use Rattle.pass_model.proofs.Steps.{closed_by, closes-last, gives_step, late_step, no_news, none_more, one_news, shut-closes}
 use Rattle.batch_model.specs.Worker.{WorkerAccount, taken_spans, worker_entries}
-use Rattle.batch_model.specs.Clauses.{AreFrom, DropsAreCounted, DropsAreNamed, FoundItFull, count_between}
+use Rattle.batch_model.specs.Clauses.{AreFrom, DropsAreCounted, DropsAreNamed, FoundItFull}
 use Rattle.batch_model.specs.Holders.{after_flush, after_flushed, after_shutdown}
 use Rattle.batch_model.specs.Kept.{Agrees, KeepsFloor, accepted}
 use Rattle.batch_model.proofs.Lists.{between-all, between-append, grown_between}
