@@ -25,7 +25,7 @@ agrees_closed : (desk : Desk) (w : WorkerAccount) (old done : List PassAccount) 
 agrees_closed desk w old done k c =
     let spans = gathered_all accepted_spans old done c in let names = gathered_all dropped_entries old done c in let pops = gathered_all (λ (a : PassAccount). a.popped) old done c in
     let queue = desk.config.queue in
-    let still : (d : Drop) → FoundItFull queue (all_accepted old) d → FoundItFull queue (all_accepted done) d = λ d f. let e = between-same d.floor d.entry.ticket (all_accepted done) (all_accepted old) spans in omega arith in
+    let still : (d : Drop) → FoundItFull queue (all_accepted old) d → FoundItFull queue (all_accepted done) d = λ d f. let e = between-same d.floor d.span.ticket (all_accepted done) (all_accepted old) spans in omega arith in
     record {
       queues = record {
         queued = IsPermutation-trans (all_accepted done) (all_accepted old) (taken_spans w ++ desk.waiting) spans k.queues.queued;

@@ -37,7 +37,7 @@ count_between from upto spans =
 -- Where a span was dropped since the queue was full, at least as many queued spans as the queue
 -- holds have their tickets from the floor kept with it up to its own.
 abbrev pub FoundItFull : ℕ → List EndedSpan → Drop → Type 0
-FoundItFull queue spans d = queue ≤ count_between d.floor d.entry.ticket spans
+FoundItFull queue spans d = queue ≤ count_between d.floor d.span.ticket spans
 
 abbrev pub DropsFoundItFull : ℕ → List PassAccount → Type 0
 DropsFoundItFull queue passes =

@@ -9,7 +9,7 @@ use std::io::Write;
 use std::random::RandomSource;
 use std::sync::{Arc, Wait};
 use std::thread::{self, JoinHandle, Threads};
-use trace_kit::export::MemoryExporter;
+use trace_kit::export::{DEFAULT_MAX_BODY, MemoryExporter};
 use trace_kit::processor::{
     Naming, SimpleAccounts, SimpleBlank, SimpleParts, SimplePass, SimpleProcessor,
 };
@@ -86,7 +86,14 @@ where
     requires { blank ≡ J.name }
 {
     let exporter = MemoryExporter::new(alloc, Vec::new(alloc));
-    let parts = SimpleProcessor::<J, _, R>::new(alloc, rt, blank, exporter, THREADS)?;
+    let parts = SimpleProcessor::<J, _, R>::new(
+        alloc,
+        rt,
+        blank,
+        exporter,
+        THREADS,
+        DEFAULT_MAX_BODY,
+    )?;
     let SimpleParts { processor, passes } = parts;
     let mut passes = serve_all(rt, alloc, passes)?;
     for pass in &mut passes {
