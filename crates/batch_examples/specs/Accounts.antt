@@ -12,7 +12,7 @@ use Rattle.batch_model.specs.Worker.{WorkerAccount, OutBatch, settled}
 
 -- ticket 2 found the queue full, on a pass that had no floor yet
 abbrev pub drop_of_2 : Drop
-drop_of_2 = record { entry = named Reason.queue_full 2; floor = 0 }
+drop_of_2 = record { span = span_at 2; reason = Reason.queue_full; floor = 0 }
 
 abbrev pub first : PassAccount
 first = record {

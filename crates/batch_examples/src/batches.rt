@@ -7,6 +7,7 @@ ghost use Rattle.retry_model.specs.Retries.{Fate, Outcome, given_up, later, no_r
 ghost use Rattle.desk_examples.specs.Histories.{named};
 ghost use Rattle.batch_model.specs.Worker.{dropped_spans, fates, handed_spans, numbers, taken_spans, worker_entries};
 ghost use Rattle.batch_model.specs.Clauses.{EachLeadsOn, LeadsTo, abandon, tickets_of};
+ghost use Rattle.batch_model.specs.Holders.{after_drop};
 ghost use Rattle.batch_examples.specs.Accounts.{out_with, twice, worker_with};
 
 /// Two batches, of which one is out.
@@ -32,6 +33,20 @@ pub fn abandoned()
         (abandon (worker_with (out_with (Some (8 ∷ [])) (no_reply ∷ [])))) ≡
         Fate.delivered ∷ Fate.abandoned ∷ [] }
     ensures still_numbered { numbers (abandon (worker_with (out_with None []))) ≡ 1 ∷ 2 ∷ [] }
+{}
+
+/// The batch that is out is dropped, since its body would be longer than it may be. None is left to
+/// be abandoned.
+pub fn too_large()
+    ensures named { worker_entries (after_drop names.too_large (worker_with (out_with None [])))
+        ≡ named names.too_large 3 ∷ [] }
+    ensures dropped { tickets_of
+        (dropped_spans (after_drop names.too_large (worker_with (out_with None []))))
+        ≡ 3 ∷ [] }
+    ensures none_out { abandon (after_drop names.too_large (worker_with (out_with None [])))
+        ≡ after_drop names.too_large (worker_with (out_with None [])) }
+    ensures still_numbered { numbers
+        (after_drop names.too_large (worker_with (out_with None []))) ≡ 1 ∷ 2 ∷ [] }
 {}
 
 /// What outcomes lead to, where there are two attempts.

@@ -1,6 +1,6 @@
 -- How the accounts of a processor begin, and what they come to.
 use Rattle.std.proofs.Common.{◌≡◌, ℕ, ◌+◌, ◌≤◌, List, [], ◌∷◌, ◌++◌, length, sym, refl, ap, ◌∙◌, subst, arith}
-use Rattle.std.specs.Prelude.{IsPermutation, Option, Some, None}
+use Rattle.std.specs.Prelude.{IsPermutation, Option, None}
 use Rattle.std.specs.List.{AllByRecursion, flat_map, range_with_len}
 use Rattle.std.proofs.lemmas.List.{append-nil, append_assoc, length-append, nil_from_length}
 use Rattle.std.proofs.lemmas.List.Sorted.{IsPermutation-refl, IsPermutation-sym, IsPermutation-trans, IsPermutation-append_left, IsPermutation-append_right, IsPermutation-append_comm}
@@ -25,7 +25,7 @@ agrees_closed : (desk : Desk) (w : WorkerAccount) (old done : List PassAccount) 
 agrees_closed desk w old done k c =
     let spans = gathered_all accepted_spans old done c in let names = gathered_all dropped_entries old done c in let pops = gathered_all (λ (a : PassAccount). a.popped) old done c in
     let queue = desk.config.queue in
-    let still : (d : Drop) → FoundItFull queue (all_accepted old) d → FoundItFull queue (all_accepted done) d = λ d f. let e = between-same d.floor d.entry.ticket (all_accepted done) (all_accepted old) spans in omega arith in
+    let still : (d : Drop) → FoundItFull queue (all_accepted old) d → FoundItFull queue (all_accepted done) d = λ d f. let e = between-same d.floor d.span.ticket (all_accepted done) (all_accepted old) spans in omega arith in
     record {
       queues = record {
         queued = IsPermutation-trans (all_accepted done) (all_accepted old) (taken_spans w ++ desk.waiting) spans k.queues.queued;

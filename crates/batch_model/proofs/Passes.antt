@@ -1,23 +1,23 @@
 -- What a hold of the lock for a pass does to what the lock keeps.
-use Rattle.std.proofs.Common.{◌≡◌, ℕ, suc, ◌+◌, ◌-◌, ◌^◌, ◌<◌, ◌≤◌, Bool, true, false, List, [], ◌∷◌, ◌++◌, length, drop, sym, refl, ap, ◌∙◌, subst, arith}
-use Rattle.std.specs.Prelude.{IsPermutation, map, filter_map, Option, Some, None, ◌==◌, ◌||◌, nat_lt}
+use Rattle.std.proofs.Common.{◌≡◌, ℕ, ◌+◌, ◌-◌, ◌^◌, ◌<◌, ◌≤◌, true, false, List, [], ◌∷◌, ◌++◌, length, sym, refl, ap, ◌∙◌, subst, arith}
+use Rattle.std.specs.Prelude.{IsPermutation, filter_map, ◌==◌}
 use Rattle.std.specs.List.{AllByRecursion, range_with_len}
 use Rattle.std.proofs.lemmas.List.{append-nil, append_assoc, length-append}
 use Rattle.std.proofs.lemmas.List.Elements.{filter_map-append}
 use Rattle.std.proofs.lemmas.List.Sorted.{IsPermutation-refl, IsPermutation-sym, IsPermutation-to_front}
 use Rattle.account_book.specs.Accounts.{Replaces}
 use Rattle.account_book.proofs.Facts.{gathered_replaced, each_at, each_split}
-use Rattle.span_model.specs.Spans.{EndedSpan, with_ticket}
+use Rattle.span_model.specs.Spans.{EndedSpan}
 use Rattle.span_model.specs.Dropped.{Entry, queue_full, entry_of}
 use Rattle.desk_model.specs.Desks.{Desk, accepted_count, capped, drop_counts, is_flushed, with_drops}
 use Rattle.desk_model.proofs.Events.{counts-more}
 use Rattle.pass_model.specs.Passes as ends_of
-use Rattle.pass_model.specs.Passes.{Asked, Drop, PassAccount, SpanEnd, after_late, after_pop, all_dropped, all_popped, drop_in, dropped_entries, dropped_entry, tickets}
+use Rattle.pass_model.specs.Passes.{Asked, Drop, PassAccount, SpanEnd, after_late, after_pop, all_dropped, all_popped, drop_in, dropped_entries, dropped_entry, entry_in, tickets}
 use Rattle.pass_model.specs.Clauses.{CountsLate}
 use Rattle.pass_model.proofs.Lists.{counts_same, names_more}
 use Rattle.pass_model.proofs.Steps.{closed_by, closes-last, gives_step, late_step, no_news, none_more, one_news, shut-closes}
 use Rattle.batch_model.specs.Worker.{WorkerAccount, taken_spans, worker_entries}
-use Rattle.batch_model.specs.Clauses.{AreFrom, DropsAreCounted, DropsAreNamed, FoundItFull, count_between}
+use Rattle.batch_model.specs.Clauses.{AreFrom, DropsAreCounted, DropsAreNamed, FoundItFull}
 use Rattle.batch_model.specs.Holders.{after_flush, after_flushed, after_shutdown}
 use Rattle.batch_model.specs.Kept.{Agrees, KeepsFloor, accepted}
 use Rattle.batch_model.proofs.Lists.{between-all, between-append, grown_between}
@@ -180,21 +180,21 @@ module _ (desk : Desk) (w : WorkerAccount) (old new : List PassAccount) (a b : P
       (ap (λ (x : PassAccount). x.ends) told) (ap (λ (x : PassAccount). x.popped) told ∙ sym (append-nil a.popped)) tt same_ledger same_counts (ticket_late admits (ap (λ (x : PassAccount). x.late) told) (ap (λ (x : PassAccount). x.shutdowns) told)) one)
 
   -- the queue is full: those that wait have their tickets from the pass's floor on
-  pub full_agrees : (desk' : Desk) (d : Drop) (s : EndedSpan) → d.entry ≡ entry_of queue_full s → desk.closed ≡ false → length desk.waiting ≡ desk.config.queue → d.entry.ticket ≡ desk.next_ticket → d.floor ≡ a.floor
-      → desk' ≡ record desk { next_ticket = desk.next_ticket + 1; closed = desk.next_ticket + 1 == 2 ^ 64 - 1; ledger = d.entry ∷ desk.ledger; dropped = with_drops queue_full 1 desk.dropped } → b ≡ record a { ends = a.ends ++ ends_of.dropped d ∷ [] } → Agrees desk' new w
+  pub full_agrees : (desk' : Desk) (d : Drop) (s : EndedSpan) → entry_in d ≡ entry_of queue_full s → desk.closed ≡ false → length desk.waiting ≡ desk.config.queue → d.span.ticket ≡ desk.next_ticket → d.floor ≡ a.floor
+      → desk' ≡ record desk { next_ticket = desk.next_ticket + 1; closed = desk.next_ticket + 1 == 2 ^ 64 - 1; ledger = entry_in d ∷ desk.ledger; dropped = with_drops queue_full 1 desk.dropped } → b ≡ record a { ends = a.ends ++ ends_of.dropped d ∷ [] } → Agrees desk' new w
   full_agrees desk' d s named admits whole ticket floor is told =
       let one : KeepsFloor (desk.next_ticket + 1) (desk.waiting ++ []) (accepted desk w ++ []) b.floor b.asked = rw (ap (λ (x : PassAccount). x.floor) told, ap (λ (x : PassAccount). x.asked) told) (floor_step desk.next_ticket (desk.next_ticket + 1) desk.waiting (accepted desk w) [] a.floor a.asked (omega arith) tt floor_of) in
-      let parts = between-append d.floor d.entry.ticket (taken_spans w) desk.waiting in
+      let parts = between-append d.floor d.span.ticket (taken_spans w) desk.waiting in
       let below = (each_split (λ (s : EndedSpan). s.ticket < desk.next_ticket) (taken_spans w) desk.waiting k.queues.below).1 in
-      let all = between-all d.floor d.entry.ticket desk.waiting (subst (λ (n : ℕ). AreFrom n desk.waiting) (sym floor) floor_of.above) (subst (λ (n : ℕ). AllByRecursion (λ (s : EndedSpan). s.ticket < n) desk.waiting) (sym ticket) below) in
+      let all = between-all d.floor d.span.ticket desk.waiting (subst (λ (n : ℕ). AreFrom n desk.waiting) (sym floor) floor_of.above) (subst (λ (n : ℕ). AllByRecursion (λ (s : EndedSpan). s.ticket < n) desk.waiting) (sym ticket) below) in
       let found : FoundItFull desk.config.queue (accepted desk w) d = omega arith in
       let had = all_dropped old ++ worker_entries w in
-      let one_more : with_drops queue_full 1 desk.dropped ≡ drop_counts (had ++ d.entry ∷ []) =
+      let one_more : with_drops queue_full 1 desk.dropped ≡ drop_counts (had ++ entry_in d ∷ []) =
       ap (with_drops queue_full 1) k.counted ∙ sym (counts-more queue_full had (s ∷ [])) ∙ ap (λ (e : Entry). drop_counts (had ++ e ∷ [])) (sym named) in
       subst (λ (x : Desk). Agrees x new w) (sym is)
-      (agrees_pass desk (record desk { next_ticket = desk.next_ticket + 1; closed = desk.next_ticket + 1 == 2 ^ 64 - 1; ledger = d.entry ∷ desk.ledger; dropped = with_drops queue_full 1 desk.dropped }) w old new a b r k (ends_of.dropped d ∷ []) [] []
+      (agrees_pass desk (record desk { next_ticket = desk.next_ticket + 1; closed = desk.next_ticket + 1 == 2 ^ 64 - 1; ledger = entry_in d ∷ desk.ledger; dropped = with_drops queue_full 1 desk.dropped }) w old new a b r k (ends_of.dropped d ∷ []) [] []
       (record { news = one_news desk.next_ticket (ends_of.dropped d) ticket; spans = refl; spans_rise = tt; spans_from = tt; spans_upto = tt })
       (record { config = refl; waiting = sym (append-nil desk.waiting); out = refl; taken = refl; batches = refl; fates = refl; handed = refl; closed = open_closed admits })
       (ap (λ (x : PassAccount). x.ends) told) (ap (λ (x : PassAccount). x.popped) told ∙ sym (append-nil a.popped)) (found, tt)
-      (subst (λ (es : List Entry). IsPermutation (d.entry ∷ desk.ledger) es) (sym (append-nil (d.entry ∷ desk.ledger))) (IsPermutation-refl (d.entry ∷ desk.ledger)))
+      (subst (λ (es : List Entry). IsPermutation (entry_in d ∷ desk.ledger) es) (sym (append-nil (entry_in d ∷ desk.ledger))) (IsPermutation-refl (entry_in d ∷ desk.ledger)))
       one_more (ticket_late admits (ap (λ (x : PassAccount). x.late) told) (ap (λ (x : PassAccount). x.shutdowns) told)) one)

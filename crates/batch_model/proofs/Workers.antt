@@ -1,16 +1,15 @@
 -- What a hold of the lock for the worker does to what the lock keeps.
-use Rattle.std.proofs.Common.{◌≡◌, ℕ, zero, suc, ◌+◌, ◌<◌, ◌≤◌, Bool, true, false, List, [], ◌∷◌, ◌++◌, length, take, drop, min, sym, refl, ap, ◌∙◌, subst, arith}
-use Rattle.std.specs.Prelude.{IsPermutation, map, reverse, filter_map, Option, Some, None, is_some, option_to_list}
+use Rattle.std.proofs.Common.{◌≡◌, ℕ, suc, ◌+◌, ◌≤◌, true, false, List, [], ◌∷◌, ◌++◌, length, take, drop, sym, refl, ap, ◌∙◌, subst, arith}
+use Rattle.std.specs.Prelude.{IsPermutation, map, reverse, filter_map, Option, Some, None, option_to_list}
 use Rattle.std.specs.List.{AllByRecursion, flat_map, range_with_len}
 use Rattle.std.proofs.lemmas.List.{append-nil, append_assoc, length-append, map-append, take-append-drop, drop_all}
 use Rattle.std.proofs.lemmas.List.Elements.{filter_map-append}
-use Rattle.std.proofs.lemmas.List.Sorted.{IsPermutation-refl, IsPermutation-sym, IsPermutation-trans, IsPermutation-append_left, IsPermutation-append_right, IsPermutation-append_comm, IsPermutation-reverse}
+use Rattle.std.proofs.lemmas.List.Sorted.{IsPermutation-trans, IsPermutation-append_left, IsPermutation-append_comm, IsPermutation-reverse}
 use Rattle.std.proofs.lemmas.Grind.{flat_map-append}
 use Rattle.account_book.proofs.Facts.{each_map}
 use Rattle.span_model.specs.Spans.{EndedSpan}
 use Rattle.span_model.specs.Dropped.{Entry, Reason, entry_of}
 use Rattle.retry_model.specs.Retries.{Outcome, Fate}
-use Rattle.desk_model.specs.Desks as desks
 use Rattle.desk_model.specs.Desks.{Desk, drop_counts, fate_counts, handed_out, out_size, with_drops, with_fate}
 use Rattle.desk_model.proofs.Events.{counts-more, fates-more}
 use Rattle.pass_model.specs.Passes.{PassAccount, all_dropped, all_popped}

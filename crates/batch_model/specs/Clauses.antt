@@ -1,15 +1,15 @@
 -- What the accounts of all passes and of the worker say, once they are given back, beside what the
 -- queue shows then. (Trace SDK, Batching processor, ForceFlush, Shutdown; tickets, floors and the
 -- ledger: profile)
-use Rattle.std.specs.Prelude.{◌≡◌, ℕ, ◌+◌, ◌≤◌, ◌&&◌, nat_le, nat_lt, true, List, [], ◌∷◌, ◌++◌, length, map, count_by, IsPermutation, Option, Some, None}
-use Rattle.std.specs.List.{flat_map, range_with_len, AllByRecursion}
+use Rattle.std.specs.Prelude.{◌≡◌, ◌≢◌, ℕ, ◌+◌, ◌≤◌, ◌&&◌, nat_le, nat_lt, true, List, [], ◌∷◌, ◌++◌, length, map, count_by, IsPermutation, Option, Some, None}
+use Rattle.std.specs.List.{range_with_len, AllByRecursion}
 use Rattle.message_model.specs.Reading.{Reads}
 use Rattle.message_model.specs.Messages.{body_meaning}
 use Rattle.message_model.specs.Tables
 use Rattle.message_model.specs.Canon.{canon}
 use Rattle.span_model.specs.Spans.{EndedSpan}
-use Rattle.span_model.specs.Dropped.{Reason, is_reason, Entry}
-use Rattle.export_model.specs.Export.{groups, grouped_triples, request_message}
+use Rattle.span_model.specs.Dropped.{Reason, Entry}
+use Rattle.export_model.specs.Export.{LacksBody, groups, grouped_triples, request_message}
 use Rattle.retry_model.specs.Retries.{Outcome, Fate, abandoned, fate_of}
 use Rattle.desk_model.specs.Desks.{DeskConfig, DropCounts, FateCounts, drop_counts, fate_counts}
 use Rattle.retry_model.specs.Waits.{RetryConfig, next_after}
@@ -37,7 +37,7 @@ count_between from upto spans =
 -- Where a span was dropped since the queue was full, at least as many queued spans as the queue
 -- holds have their tickets from the floor kept with it up to its own.
 abbrev pub FoundItFull : ℕ → List EndedSpan → Drop → Type 0
-FoundItFull queue spans d = queue ≤ count_between d.floor d.entry.ticket spans
+FoundItFull queue spans d = queue ≤ count_between d.floor d.span.ticket spans
 
 abbrev pub DropsFoundItFull : ℕ → List PassAccount → Type 0
 DropsFoundItFull queue passes =
@@ -51,6 +51,11 @@ DropsFoundItFull queue passes =
 abbrev pub DropsAreNamed : List Entry → List PassAccount → WorkerAccount → Type 0
 DropsAreNamed ledger passes worker =
     IsPermutation (all_dropped passes ++ worker_entries worker) (ledger ++ all_popped passes)
+
+-- The worker drops none as if it had found the queue full.
+abbrev pub NoneFoundItFull : WorkerAccount → Type 0
+NoneFoundItFull worker =
+    AllByRecursion (λ (e : Entry). e.reason ≢ Reason.queue_full) (worker_entries worker)
 
 -- The totals count them, each under its reason.
 abbrev pub DropsAreCounted : DropCounts → List PassAccount → WorkerAccount → Type 0
@@ -70,6 +75,14 @@ pub record IsBodyOf (spans : List EndedSpan) (body : List ℕ) : Type 0 where
   pub means : Reads (body_meaning body) (grouped_triples spans)
   pub canonical : body ≡ canonical_body spans
 
+-- What a processor began with: how many passes it has, its queue's sizes, how batches are sent
+-- again, and how many bytes a body may have.
+pub record Origin : Type 0 where
+  pub passes : ℕ
+  pub desk : DeskConfig
+  pub retry : RetryConfig
+  pub max_body : ℕ
+
 -- The outcome of this attempt leads to another one, or settles the batch so, whatever the moment
 -- and the random word are. (OTLP Specification, OTLP/HTTP Response)
 abbrev pub LeadsTo : RetryConfig → ℕ → Outcome → Option Fate → Type 0
@@ -82,47 +95,42 @@ EachLeadsOn retry attempt [] = Unit {0}
 EachLeadsOn retry attempt (outcome ∷ outcomes) =
     LeadsTo retry attempt outcome None × EachLeadsOn retry (attempt + 1) outcomes
 
--- A batch was handed with a body that means its spans. Each outcome but the last led to another
--- attempt, and there were as many as are configured at most.
-pub record IsSent (retry : RetryConfig) (spans : List EndedSpan) (body : List ℕ)
+-- A batch was handed with a body that means its spans, and is no longer than it may be. Each
+-- outcome but the last led to another attempt, and there were as many as are configured at most.
+pub record IsSent (origin : Origin) (spans : List EndedSpan) (body : List ℕ)
     (outcomes : List Outcome) : Type 0 where
   pub means : IsBodyOf spans body
+  pub fits : length body ≤ origin.max_body
   pub earlier : List Outcome
   pub last : Outcome
   pub are : outcomes ≡ earlier ++ last ∷ []
-  pub few : length outcomes ≤ retry.attempts
-  pub again : EachLeadsOn retry 1 earlier
+  pub few : length outcomes ≤ origin.retry.attempts
+  pub again : EachLeadsOn origin.retry 1 earlier
 
 -- The last outcome settled it so.
-pub record IsSettled (retry : RetryConfig) (spans : List EndedSpan) (body : List ℕ)
+pub record IsSettled (origin : Origin) (spans : List EndedSpan) (body : List ℕ)
     (outcomes : List Outcome) (fate : Fate) : Type 0 where
-  pub sent : IsSent retry spans body outcomes
-  pub by_last : LeadsTo retry (length outcomes) sent.last (Some fate)
+  pub sent : IsSent origin spans body outcomes
+  pub by_last : LeadsTo origin.retry (length outcomes) sent.last (Some fate)
 
--- What a processor began with: how many passes it has, its queue's sizes, and how batches are sent
--- again.
-pub record Origin : Type 0 where
-  pub passes : ℕ
-  pub desk : DeskConfig
-  pub retry : RetryConfig
-
--- How work ends a batch of these spans: as its last outcome says. It drops none.
+-- How work ends a batch of these spans: as its last outcome says. One that has no body is dropped,
+-- since memory was refused or the body would be longer than it may be.
 abbrev pub IsEndByWork : Origin → List EndedSpan → BatchEnd → Type 0
 IsEndByWork origin spans (settled body outcomes fate) =
-    IsSettled origin.retry spans body outcomes fate
-IsEndByWork origin spans (dropped reason) = ⊥
+    IsSettled origin spans body outcomes fate
+IsEndByWork origin spans (dropped reason) = LacksBody origin.max_body spans reason
 
 -- What is so of the attempts that work made of a batch of these spans, which is out: there is none
 -- yet where it was not handed.
-abbrev pub IsSentSoFar : RetryConfig → List EndedSpan → Option (List ℕ) → List Outcome → Type 0
-IsSentSoFar retry spans None outcomes = outcomes ≡ []
-IsSentSoFar retry spans (Some body) outcomes = IsSent retry spans body outcomes
+abbrev pub IsSentSoFar : Origin → List EndedSpan → Option (List ℕ) → List Outcome → Type 0
+IsSentSoFar origin spans None outcomes = outcomes ≡ []
+IsSentSoFar origin spans (Some body) outcomes = IsSent origin spans body outcomes
 
 -- A batch that work left out.
 pub record IsOutByWork (origin : Origin) (batch : OutBatch) : Type 0 where
   pub some : 1 ≤ length batch.spans
   pub few : length batch.spans ≤ origin.desk.batch
-  pub sent : IsSentSoFar origin.retry batch.spans batch.body batch.outcomes
+  pub sent : IsSentSoFar origin batch.spans batch.body batch.outcomes
 
 -- A batch that ended by work has as many spans as a batch may have.
 pub record IsByWork (origin : Origin) (batch : EndedBatch) : Type 0 where

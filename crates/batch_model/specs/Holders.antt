@@ -1,6 +1,5 @@
 -- What the accounts of a batch processor say. (profile)
-use Rattle.std.specs.Prelude.{◌≡◌, ℕ, ◌+◌, List, [], ◌∷◌, ◌++◌, filter_map, Option, Some, None, Bool, true}
-use Rattle.desk_model.specs.Desks.{DeskConfig}
+use Rattle.std.specs.Prelude.{ℕ, ◌+◌, List, [], ◌∷◌, ◌++◌, filter_map, Option, Some, None, true}
 use Rattle.retry_model.specs.Retries.{Outcome, Fate}
 use Rattle.span_model.specs.Spans.{EndedSpan}
 use Rattle.span_model.specs.Dropped.{Reason}
@@ -20,6 +19,7 @@ new_origin = record {
   passes = 0;
   desk = record { queue = 0; batch = 0; delay_ms = 0 };
   retry = record { attempts = 0; initial_ms = 0; max_ms = 0; least_ms = 0 };
+  max_body = 0;
 }
 
 abbrev pub origin_in : Holder → Origin

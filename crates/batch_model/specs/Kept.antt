@@ -1,5 +1,5 @@
 -- How what lies under the lock stands to the accounts. (profile)
-use Rattle.std.specs.Prelude.{◌≡◌, ℕ, ◌+◌, ◌<◌, ◌≤◌, Bool, true, List, [], ◌∷◌, ◌++◌, length, drop, IsPermutation, Option, Some, None, is_some}
+use Rattle.std.specs.Prelude.{◌≡◌, ℕ, ◌+◌, ◌<◌, ◌≤◌, true, List, [], ◌∷◌, ◌++◌, length, drop, IsPermutation, Option, Some, None, is_some}
 use Rattle.std.specs.List.{AllByRecursion, range_with_len}
 use Rattle.span_model.specs.Spans.{EndedSpan}
 use Rattle.desk_model.specs.Desks as desks

@@ -1,6 +1,6 @@
 -- What the worker of a batch processor knows of its batches. (Trace SDK, Batching processor, Span
 -- Exporter; numbers, the ledger and fates: profile)
-use Rattle.std.specs.Prelude.{◌≡◌, ℕ, ◌+◌, List, [], ◌∷◌, ◌++◌, map, filter_map, Option, Some, None, Bool, false}
+use Rattle.std.specs.Prelude.{ℕ, List, [], ◌∷◌, ◌++◌, map, filter_map, Option, Some, None, Bool, false}
 use Rattle.std.specs.List.{flat_map}
 use Rattle.span_model.specs.Spans.{EndedSpan}
 use Rattle.span_model.specs.Dropped.{Reason, Entry, entry_of}

@@ -1,5 +1,5 @@
 -- What the calls of the desk do to what the lock keeps.
-use Rattle.std.proofs.Common.{◌≡◌, ℕ, zero, suc, ◌+◌, ◌-◌, ◌^◌, ◌<◌, ◌≤◌, Bool, true, false, List, [], ◌∷◌, ◌++◌, length, take, drop, min, sym, refl, ap, ◌∙◌, subst, arith}
+use Rattle.std.proofs.Common.{◌≡◌, ℕ, zero, suc, ◌+◌, ◌^◌, ◌<◌, ◌≤◌, Bool, true, false, List, [], ◌∷◌, ◌++◌, length, take, drop, min, sym, refl, ap, ◌∙◌, subst, arith}
 use Rattle.std.specs.Prelude.{Contains, Option, Some, None, ◌==◌, ◌*◌, ◌&&◌, ◌||◌, nat_le, nat_lt, is_some, if◌then◌else◌, map, reverse, slice_get, option_map}
 use Rattle.std.specs.List.{AllByRecursion}
 use Rattle.std.proofs.lemmas.Bool.{eqb-true, ltb-true}
@@ -52,8 +52,7 @@ module _ (desk desk' : Desk) (w : WorkerAccount) (old new : List PassAccount) (a
       queued_agrees desk w old new a (after_end (ended_of (admitted.Queued ticket)) span a) r k desk' (with_ticket ticket span) at.0 at.1 came refl
   admit_agrees (admitted.Full ticket) is came r =
       let at = full_where desk.closed (length desk.waiting == desk.config.queue) desk.next_ticket ticket is in
-      let entry = entry_of queue_full (with_ticket ticket span) in
-      full_agrees desk w old new a (after_end (ended_of (admitted.Full ticket)) span a) r k desk' (record { entry = entry; floor = a.floor }) (with_ticket ticket span) refl at.0 (eqb-true (length desk.waiting) desk.config.queue at.1) at.2 refl came refl
+      full_agrees desk w old new a (after_end (ended_of (admitted.Full ticket)) span a) r k desk' (record { span = with_ticket ticket span; reason = queue_full; floor = a.floor }) (with_ticket ticket span) refl at.0 (eqb-true (length desk.waiting) desk.config.queue at.1) at.2 refl came refl
   admit_agrees admitted.Late is came r =
       let at = late_where desk.closed (length desk.waiting == desk.config.queue) desk.next_ticket is in
       late_agrees desk w old new a (after_end (ended_of admitted.Late) span a) r k desk' at came refl

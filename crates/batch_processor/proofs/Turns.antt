@@ -7,17 +7,19 @@ use Rattle.std.proofs.lemmas.List.{append-nil, append_assoc, length-append}
 use Rattle.std.proofs.lemmas.Grind.{flat_map-append}
 use Rattle.account_book.proofs.Facts.{each_append}
 use Rattle.span_model.specs.Spans.{EndedSpan}
+use Rattle.span_model.specs.Dropped.{Reason}
+use Rattle.export_model.specs.Export.{LacksBody}
 use Rattle.retry_model.specs.Retries.{Outcome, Fate, again, fate_of, next_of}
 use Rattle.retry_model.specs.Retries as retries
 use Rattle.retry_model.specs.Waits.{RetryConfig, next_after, retried, wait_ns, greatest_moment}
 use Rattle.retry_model.proofs.Again.{again-few}
 use Rattle.span_exporter.specs.Handed.{Handed, Gains, handing}
 use Rattle.batch_desk.specs.Batch.{BatchView}
-use Rattle.batch_model.specs.Worker.{EndedBatch, OutBatch, WorkerAccount, settled}
-use Rattle.batch_model.specs.Clauses.{EachLeadsOn, IsBodyOf, IsByWork, IsOutByWork, IsSent, IsSentSoFar, LeadsTo, Origin}
-use Rattle.batch_model.specs.Holders.{Holder, after_drained, after_handed, after_settle, after_take, ended_with, handed_with, on_worker, origin_in, settled_with, worker, worker_in}
+use Rattle.batch_model.specs.Worker.{EndedBatch, OutBatch, WorkerAccount, settled, dropped}
+use Rattle.batch_model.specs.Clauses.{EachLeadsOn, IsByWork, IsOutByWork, IsSent, IsSentSoFar, LeadsTo, Origin}
+use Rattle.batch_model.specs.Holders.{Holder, after_drained, after_drop, after_handed, after_settle, after_take, ended_with, handed_with, on_worker, origin_in, settled_with, worker, worker_in}
 use Rattle.batch_processor.specs.Holds.{IsBatchOf, IsBatchSize, IsHandedBatchOf}
-use Rattle.batch_processor.specs.Working.{GoesOn, Hand, HandStage, HasRoom, IsExported, IsPrepared, IsReady, IsStage, IsWorking, IsWorkingWith, StepsAside, TakesStep, Work, WorkerState, attempts_by, attempts_from, attempts_of, attempts_out, attempts_with, encoded_at, hand_at, handed_at, in_hand, outcomes_out, pending_at, to_encode, to_judge, to_retry, to_send, with_outcomes, work_in, work_of}
+use Rattle.batch_processor.specs.Working.{GoesOn, Hand, HandStage, HasRoom, IsExported, IsPrepared, IsReady, IsStage, IsWorking, MayBeSent, IsWorkingWith, StepsAside, TakesStep, Work, WorkerState, attempts_by, attempts_from, attempts_of, attempts_out, attempts_with, encoded_at, hand_at, handed_at, in_hand, outcomes_out, pending_at, to_encode, to_judge, to_retry, to_send, with_outcomes, work_in, work_of}
 
 -- ---- attempts
 
@@ -111,8 +113,42 @@ module _ (origin : Origin) (w : WorkerAccount) (outcomes : List Outcome) where
 
   -- a batch is encoded
   module _ (batch : BatchView) (k : IsWorking origin w outcomes (hand_at batch to_encode)) where
-    encoded_works : (body : List ℕ) → IsBodyOf batch.spans body → IsWorking origin w outcomes (hand_at batch (to_send body))
+    encoded_works : (body : List ℕ) → MayBeSent origin.max_body batch.spans body → IsWorking origin w outcomes (hand_at batch (to_send body))
     encoded_works body means = record { retry = k.retry; by_work = k.by_work; again = k.again; tied = record { out = k.tied.out; room = k.tied.room; some = k.tied.some; few = k.tied.few; stage = (k.tied.stage, means) } }
+
+    -- or it has no body, and is dropped
+    module _ (reason : Reason) (lacks : LacksBody origin.max_body batch.spans reason) where
+      abbrev lacking_batch : EndedBatch
+      lacking_batch = record { number = batch.number; spans = batch.spans; ending = dropped reason }
+
+      lacking_is : (after_drop reason w).ended ≡ w.ended ++ lacking_batch ∷ []
+      lacking_is = ap (λ (x : Option OutBatch). w.ended ++ ended_with (λ _. dropped reason) x) k.tied.out
+
+      lacking_by_work : IsByWork origin lacking_batch
+      lacking_by_work = record { some = k.tied.some; few = k.tied.few; ending = lacks }
+
+      pub lacking_works : IsWorking origin (after_drop reason w) outcomes None
+      lacking_works = record {
+        retry = k.retry;
+        by_work = subst (AllByRecursion (IsByWork origin)) (sym lacking_is) (each_append (IsByWork origin) w.ended (lacking_batch ∷ []) k.by_work (lacking_by_work, tt));
+        again = k.again;
+        tied = (refl, k.tied.stage);
+      }
+
+      pub lacking_goes : (told told' : Option (List Handed)) → told' ≡ told → GoesOn told told' (work_of origin w outcomes (hand_at batch to_encode)) (work_of origin (after_drop reason w) outcomes None)
+      lacking_goes told told' same = record {
+        origin = refl;
+        more = [];
+        gains = gains_none told told' same;
+        attempts =
+            let b : OutBatch = record { number = batch.number; spans = batch.spans; body = None; outcomes = [] } in
+            append-nil (before (after_drop reason w)) ∙ ap (flat_map (λ (x : EndedBatch). attempts_by x.number x.ending)) lacking_is
+            ∙ flat_map-append (λ (x : EndedBatch). attempts_by x.number x.ending) w.ended (lacking_batch ∷ [])
+            ∙ sym (attempts_at origin w outcomes (hand_at batch to_encode) b k.tied.out) ∙ sym (append-nil (attempts_of (work_of origin w outcomes (hand_at batch to_encode)).account));
+        batches = lacking_batch ∷ [];
+        ended = lacking_is;
+        by_work = (lacking_by_work, tt);
+      }
 
   -- a body is handed to the exporter for the first time
   module _ (batch : BatchView) (body : List ℕ) (o : Outcome) (k : IsWorking origin w outcomes (Some (record { batch = batch; stage = to_send body }))) where
@@ -202,7 +238,8 @@ module _ (origin : Origin) (w : WorkerAccount) (outcomes : List Outcome) where
         few = k.tied.few;
         ending = record {
           sent = record {
-            means = k.tied.stage.1;
+            means = k.tied.stage.1.means;
+            fits = k.tied.stage.1.fits;
             earlier = outcomes;
             last = o;
             are = refl;
@@ -249,33 +286,35 @@ last_of : (o : Outcome) (outcomes : List Outcome) → (earlier : List Outcome) �
 last_of o [] = ([], o, refl)
 last_of o (p ∷ outcomes) = let rest = last_of p outcomes in (o ∷ rest.0, rest.1, ap (λ (l : List Outcome). o ∷ l) rest.2)
 
-sent_all : (retry : RetryConfig) (spans : List EndedSpan) (body : List ℕ) (outcomes : List Outcome) → IsBodyOf spans body → 1 ≤ length outcomes → length outcomes ≤ retry.attempts → EachLeadsOn retry 1 outcomes → IsSent retry spans body outcomes
-sent_all retry spans body [] means some few leads = absurd (omega arith)
-sent_all retry spans body (o ∷ outcomes) means some few leads =
+sent_all : (origin : Origin) (spans : List EndedSpan) (body : List ℕ) (outcomes : List Outcome) → MayBeSent origin.max_body spans body → 1 ≤ length outcomes → length outcomes ≤ origin.retry.attempts → EachLeadsOn origin.retry 1 outcomes → IsSent origin spans body outcomes
+sent_all origin spans body [] sendable some few leads = absurd (omega arith)
+sent_all origin spans body (o ∷ outcomes) sendable some few leads =
     let parts = last_of o outcomes in record {
-      means = means;
+      means = sendable.means;
+      fits = sendable.fits;
       earlier = parts.0;
       last = parts.1;
       are = parts.2;
       few = few;
-      again = leads-first retry 1 parts.0 (parts.1 ∷ []) (subst (EachLeadsOn retry 1) parts.2 leads);
+      again = leads-first origin.retry 1 parts.0 (parts.1 ∷ []) (subst (EachLeadsOn origin.retry 1) parts.2 leads);
     }
 
-out_at : (origin : Origin) (w : WorkerAccount) (outcomes : List Outcome) (hand : Hand) → IsWorking origin w outcomes (Some hand) → IsSentSoFar origin.retry hand.batch.spans (handed_at hand.stage) (outcomes ++ pending_at hand.stage)
+out_at : (origin : Origin) (w : WorkerAccount) (outcomes : List Outcome) (hand : Hand) → IsWorking origin w outcomes (Some hand) → IsSentSoFar origin hand.batch.spans (handed_at hand.stage) (outcomes ++ pending_at hand.stage)
 out_at origin w outcomes hand k = by_stage hand.stage k.tied.stage
   where
-    by_stage : (stage : HandStage) → IsStage origin.retry hand.batch.spans outcomes stage → IsSentSoFar origin.retry hand.batch.spans (handed_at stage) (outcomes ++ pending_at stage)
+    by_stage : (stage : HandStage) → IsStage origin hand.batch.spans outcomes stage → IsSentSoFar origin hand.batch.spans (handed_at stage) (outcomes ++ pending_at stage)
     by_stage to_encode s = append-nil outcomes ∙ s
     by_stage (to_send body) s = append-nil outcomes ∙ s.0
     by_stage (to_judge body o) s = record {
-      means = s.1;
+      means = s.1.means;
+      fits = s.1.fits;
       earlier = outcomes;
       last = o;
       are = refl;
       few = let l = length-append outcomes (o ∷ []) in let b = s.0 in omega arith;
       again = k.again;
     }
-    by_stage (to_retry body) s = subst (IsSent origin.retry hand.batch.spans body) (sym (append-nil outcomes)) (sent_all origin.retry hand.batch.spans body outcomes s.1 s.2 (let b = s.0 in omega arith) k.again)
+    by_stage (to_retry body) s = subst (IsSent origin hand.batch.spans body) (sym (append-nil outcomes)) (sent_all origin hand.batch.spans body outcomes s.1 s.2 (let b = s.0 in omega arith) k.again)
 
 pub out_by_work : (origin : Origin) (w : WorkerAccount) (outcomes : List Outcome) (hand : Option Hand) → IsWorking origin w outcomes hand → IfSome (work_of origin w outcomes hand).account.out (IsOutByWork origin)
 out_by_work origin w outcomes None k = subst (λ (o : Option OutBatch). IfSome (with_outcomes (outcomes ++ []) o) (IsOutByWork origin)) (sym k.tied.0) tt
@@ -350,18 +389,19 @@ take_told origin a a' os old batch k is view told of size =
 
 module _ (told told' : Option (List Handed)) (room room' : ℕ → ℕ) (state : WorkerState) (batch : BatchView) where
   module _ (r : IsReady room state (hand_at batch to_encode)) (same : told' ≡ told) where
-    pub encode_step : (body : List ℕ) → IsBodyOf batch.spans body → state.origin.retry.attempts ≤ room' (length body) → TakesStep told told' room' state (hand_at batch to_encode) state (hand_at batch (to_send body))
+    pub encode_step : (body : List ℕ) → MayBeSent state.origin.max_body batch.spans body → state.origin.retry.attempts ≤ room' (length body) → TakesStep told told' room' state (hand_at batch to_encode) state (hand_at batch (to_send body))
     encode_step body means place =
         let k = encoded_works state.origin state.account state.outcomes batch r.works body means in record {
           ready = record { works = k; prepared = room_by state batch (to_send body) room' k (omega arith) };
           goes_on = goes_quiet told told' (work_in state (hand_at batch to_encode)) (work_in state (hand_at batch (to_send body))) same refl refl refl;
         }
 
-    pub encode_later : TakesStep told told' room' state (hand_at batch to_encode) state (hand_at batch to_encode)
-    encode_later = record {
-      ready = record { works = r.works; prepared = tt };
-      goes_on = goes_quiet told told' (work_in state (hand_at batch to_encode)) (work_in state (hand_at batch to_encode)) same refl refl refl;
-    }
+    pub lack_step : (new : WorkerState) (reason : Reason) → LacksBody state.origin.max_body batch.spans reason → new ≡ record state { account = after_drop reason state.account } → TakesStep told told' room' state (hand_at batch to_encode) new None
+    lack_step new reason lacks is = subst (λ (s : WorkerState). TakesStep told told' room' state (hand_at batch to_encode) s None) (sym is)
+        (record {
+          ready = record { works = lacking_works state.origin state.account state.outcomes batch r.works reason lacks; prepared = tt };
+          goes_on = lacking_goes state.origin state.account state.outcomes batch r.works reason lacks told told' same;
+        })
 
   module _ (body : List ℕ) (hand : Hand) (less : (len : ℕ) → room len ≤ room' len + 1) where
     pub send_step : (new : WorkerState) → IsReady room state (hand_at batch (to_send body)) → IsExported told told' batch body 1 hand → new ≡ record state { account = after_handed body state.account } → TakesStep told told' room' state (hand_at batch (to_send body)) new (Some hand)

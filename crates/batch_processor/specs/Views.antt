@@ -1,5 +1,5 @@
 -- What a processor's settings and answers are in the model.
-use Rattle.std.specs.Prelude.{ℕ, Bool, true, false, List, map}
+use Rattle.std.specs.Prelude.{Bool, true, false, List, map}
 use Rattle.span_model.specs.Spans.{EndedSpan}
 use Rattle.retry_model.specs.Retries as retries
 use Rattle.otlp_span.specs.Dropped.{reason_view}
@@ -11,7 +11,6 @@ use Rattle.retry_core.specs.declared.outcome.Outcome.{Outcome}
 use Rattle.batch_desk.specs.Views.{config_view}
 use Rattle.batch_desk.specs.declared.admitted.Admitted.{Admitted}
 use Rattle.batch_desk.specs.declared.admitted.Admitted.TheVariants as admitted
-use Rattle.batch_processor.specs.declared.config.BatchConfig.{BatchConfig}
 use Rattle.batch_processor.specs.declared.config.Setup.{Setup}
 use Rattle.span_ring.specs.declared.fault.RingFault.{RingFault}
 use Rattle.span_ring.specs.declared.fault.RingFault.TheVariants as rings
@@ -25,6 +24,7 @@ setup_view s = record {
   passes = s.passes;
   desk = config_view s.config.desk;
   retry = s.config.retry;
+  max_body = s.config.max_body;
 }
 
 abbrev pub outcomes_view : List Outcome → List retries.Outcome

@@ -1,6 +1,6 @@
 -- What the worker's pass of a batch processor has between two turns, and what a turn does. (Trace
 -- SDK, Batching processor, Span Exporter; OpenTelemetry Protocol Exporter, Retry)
-use Rattle.std.specs.Prelude.{◌≡◌, ℕ, ◌+◌, ◌<◌, ◌≤◌, Bool, true, List, [], ◌∷◌, ◌++◌, length, map, Option, Some, None, option_map}
+use Rattle.std.specs.Prelude.{◌≡◌, ℕ, ◌+◌, ◌<◌, ◌≤◌, List, [], ◌∷◌, ◌++◌, length, Option, Some, None}
 use Rattle.std.specs.List.{AllByRecursion, flat_map}
 use Rattle.span_model.specs.Spans.{EndedSpan}
 use Rattle.retry_model.specs.Retries.{Outcome}
@@ -103,14 +103,21 @@ work_of origin account outcomes hand = record {
   encoded = in_hand None encoded_at hand;
 }
 
+-- The body of these spans, which is no longer than it may be.
+pub record MayBeSent (max_body : ℕ) (spans : List EndedSpan) (body : List ℕ) : Type 0 where
+  pub means : IsBodyOf spans body
+  pub fits : length body ≤ max_body
+
 -- what is so at each stage
-abbrev pub IsStage : RetryConfig → List EndedSpan → List Outcome → HandStage → Type 0
-IsStage retry spans outcomes to_encode = outcomes ≡ []
-IsStage retry spans outcomes (to_send body) = (outcomes ≡ []) × IsBodyOf spans body
-IsStage retry spans outcomes (to_judge body outcome) =
-    (length outcomes < retry.attempts) × IsBodyOf spans body
-IsStage retry spans outcomes (to_retry body) =
-    (length outcomes < retry.attempts) × IsBodyOf spans body × (1 ≤ length outcomes)
+abbrev pub IsStage : Origin → List EndedSpan → List Outcome → HandStage → Type 0
+IsStage origin spans outcomes to_encode = outcomes ≡ []
+IsStage origin spans outcomes (to_send body) =
+    (outcomes ≡ []) × MayBeSent origin.max_body spans body
+IsStage origin spans outcomes (to_judge body outcome) =
+    (length outcomes < origin.retry.attempts) × MayBeSent origin.max_body spans body
+IsStage origin spans outcomes (to_retry body) =
+    (length outcomes < origin.retry.attempts) × MayBeSent origin.max_body spans body
+    × (1 ≤ length outcomes)
 
 -- The batch in hand is the one that the worker's account has out.
 pub record IsInHand (origin : Origin) (account : WorkerAccount) (outcomes : List Outcome)
@@ -124,7 +131,7 @@ pub record IsInHand (origin : Origin) (account : WorkerAccount) (outcomes : List
   pub room : hand.batch.room ≡ origin.desk.batch
   pub some : 1 ≤ length hand.batch.spans
   pub few : length hand.batch.spans ≤ origin.desk.batch
-  pub stage : IsStage origin.retry hand.batch.spans outcomes hand.stage
+  pub stage : IsStage origin hand.batch.spans outcomes hand.stage
 
 abbrev pub IsTied : Origin → WorkerAccount → List Outcome → Option Hand → Type 0
 IsTied origin account outcomes None = (account.out ≡ None) × (outcomes ≡ [])

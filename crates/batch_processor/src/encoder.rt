@@ -1,26 +1,30 @@
 //! Encodes batches.
-ghost use Rattle.std.specs.Prelude.{IfOk};
+ghost use Rattle.std.specs.Prelude.{◌≤◌, IfErr, IfOk, length};
+ghost use Rattle.export_model.specs.Export.{LacksBody};
+ghost use Rattle.otlp_span.specs.Dropped.{reason_view};
+ghost use Rattle.otlp_proto.specs.Bodies.{reason_of};
 ghost use Rattle.batch_model.specs.Clauses.{IsBodyOf};
 
-use otlp_ids::OutOfMemory;
+use otlp_proto::EncodeFault;
 use otlp_span::SpanData;
 use std::alloc::Allocator;
 use std::marker::Model;
 
-/// The body of the request that exports these spans.
+/// The body of the request that exports these spans. It has at most `max_body` bytes.
 ///
 /// # Errors
 ///
-/// `OutOfMemory` where memory was refused.
+/// `OutOfMemory` where memory was refused. `TooLarge` where the body has more than `max_body`
+/// bytes.
 pub(crate) fn body_of<A: Allocator + Copy>(
     alloc: A,
     spans: &[SpanData<A>],
-) -> Result<Vec<u8, A>, OutOfMemory>
-    ensures { IfOk result (λ body. IsBodyOf spans.now body.items) }
+    max_body: usize,
+) -> Result<Vec<u8, A>, EncodeFault>
+    ensures means { IfOk result (λ body. IsBodyOf spans.now body.items) }
+    ensures fits { IfOk result (λ body. length body.items ≤ max_body) }
+    ensures lacks { IfErr result (λ fault.
+        LacksBody max_body spans.now (reason_view (reason_of fault))) }
 {
-    match otlp_proto::body_of(alloc, spans, usize::MAX) {
-        Ok(body) => Ok(body),
-        // No body is larger than memory, so want of memory is the one fault.
-        Err(_) => Err(OutOfMemory),
-    }
+    otlp_proto::body_of(alloc, spans, max_body)
 }

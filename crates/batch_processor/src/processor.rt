@@ -7,7 +7,7 @@ ghost use Rattle.batch_model.specs.Holders.{pass};
 ghost use Rattle.batch_processor.specs.Views.{setup_view};
 ghost use Rattle.batch_processor.specs.declared.processor.TheConstants.{MAX_PASSES};
 ghost use Rattle.pass_model.specs.Clauses.{LateAfterShutdown, LateAreCounted, TicketsAreGivenOnce, TicketsRise, is_closed};
-ghost use Rattle.batch_model.specs.Clauses.{BatchesAreNumbered, DropsAreCounted, DropsAreNamed, HandedAreCounted, IsByWork, IsOutByWork, DropsFoundItFull, DrainedLeavesNone, FatesAreCounted, NoneIsBelowAFloor, QueuedAreAccounted, TicketsRiseThrough, abandon};
+ghost use Rattle.batch_model.specs.Clauses.{BatchesAreNumbered, DropsAreCounted, DropsAreNamed, HandedAreCounted, IsByWork, IsOutByWork, DropsFoundItFull, DrainedLeavesNone, FatesAreCounted, NoneFoundItFull, NoneIsBelowAFloor, QueuedAreAccounted, TicketsRiseThrough, abandon};
 
 use crate::config::{BatchConfig, Setup};
 use crate::fault::NewFault;
@@ -97,6 +97,7 @@ impl<J: Naming, R: Wait + Drop, A: Allocator + Copy> BatchProcessor<J, R, A> {
         ensures full { IfOk result (λ a. DropsFoundItFull self.desk.queue passes.items) }
         ensures names { IfOk result (λ a.
             DropsAreNamed a.desk.ledger passes.items (abandon worker.account)) }
+        ensures not_full { OnOk result (NoneFoundItFull (abandon worker.account)) }
         ensures dropped { IfOk result (λ a.
             DropsAreCounted a.desk.dropped passes.items (abandon worker.account)) }
         ensures late { IfOk result (λ a. LateAreCounted a.desk.late passes.items) }

@@ -1,6 +1,8 @@
 //! The steps of a worker's work: a batch is taken, encoded once, handed to an exporter, judged by
 //! what came of it, sent again or settled.
-ghost use Rattle.std.specs.Prelude.{◌≡◌, ◌<◌, ◌≤◌, ◌+◌, ℕ, [], IfOk, IsTrue, Some, None, length, false};
+ghost use Rattle.std.specs.Prelude.{◌≡◌, ◌≢◌, ◌<◌, ◌≤◌, ◌+◌, ℕ, [], IfErr, IfOk, IsTrue, Some, None, length, false};
+ghost use Rattle.export_model.specs.Export.{LacksBody};
+ghost use Rattle.otlp_proto.specs.Bodies.{reason_of};
 ghost use Rattle.retry_core.specs.Retries.{fate_view, outcome_view};
 ghost use Rattle.batch_model.specs.Clauses.{IsBodyOf, abandon};
 ghost use Rattle.otlp_span.specs.Dropped.{reason_view};
@@ -15,7 +17,7 @@ use crate::holding::Holding;
 use crate::lock::{Lock, PAUSE_MS};
 use account_book::{Account, Naming};
 use batch_desk::Batch;
-use otlp_ids::OutOfMemory;
+use otlp_proto::EncodeFault;
 use otlp_span::{Reason, SpanData};
 use rand_core::Rng;
 use retry_core::{Fate, Next, Outcome, decide};
@@ -120,7 +122,7 @@ impl<J: Naming, R: Wait + time::Clock + Drop, A: Allocator + Copy> Worker<J, R, 
     {
         let InHand { batch, stage } = hand;
         match stage {
-            Stage::ToEncode => Some(self.encode(batch, exporter)),
+            Stage::ToEncode => self.encode(batch, exporter),
             Stage::ToSend { body } => Some(self.send(batch, body, exporter)),
             Stage::ToJudge { body, outcome } => self.judge(batch, body, outcome, clock, rng),
             Stage::ToRetry { body, from } => {
@@ -129,22 +131,20 @@ impl<J: Naming, R: Wait + time::Clock + Drop, A: Allocator + Copy> Worker<J, R, 
         }
     }
 
-    /// Encodes a batch, and makes room for its attempts. Where memory is refused, it waits a
-    /// little, and the batch is to be encoded later.
-    fn encode<E: Exporter>(&self, batch: Batch<A>, exporter: &mut E) -> InHand<A>
-        requires { IsReady (E.room exporter.old) self.now (hand_at batch to_encode) }
+    /// Encodes a batch, and makes room for its attempts. Where it has no body it is dropped.
+    fn encode<E: Exporter>(&mut self, batch: Batch<A>, exporter: &mut E) -> Option<InHand<A>>
+        requires { IsReady (E.room exporter.old) self.old (hand_at batch to_encode) }
         ensures { TakesStep (E.handed exporter.old) (E.handed exporter.new) (E.room exporter.new)
-            self.now (hand_at batch to_encode) self.now (Some result) }
+            self.old (hand_at batch to_encode) self.new result }
     {
         match prepare_body(self.alloc, &self.setup, &batch, exporter) {
             Ok(body) => {
                 let stage = Stage::ToSend { body };
-                InHand { batch, stage }
+                Some(InHand { batch, stage })
             }
-            Err(OutOfMemory) => {
-                thread::sleep(&self.rt, Duration::from_millis(PAUSE_MS));
-                let stage = Stage::ToEncode;
-                InHand { batch, stage }
+            Err(fault) => {
+                self.drop_batch(batch, fault.reason());
+                None
             }
         }
     }
@@ -237,15 +237,16 @@ impl<J: Naming, R: Wait + Drop, A: Allocator + Copy> Worker<J, R, A> {
         self.outcomes.clear();
     }
 
-    /// Drops a batch that was not handed, as abandoned.
-    fn drop_batch(&mut self, batch: Batch<A>)
-        requires { IsBatchOf (worker self.old.origin self.old.account) batch }
+    /// Drops a batch that was not handed, for this reason.
+    fn drop_batch(&mut self, batch: Batch<A>, reason: Reason)
+        requires batch { IsBatchOf (worker self.old.origin self.old.account) batch }
+        requires reason { reason ≢ Reason.QueueFull }
         ensures { self.new ≡ record self.old {
-          account = after_drop (reason_view Reason.Abandoned) self.old.account;
+          account = after_drop (reason_view reason) self.old.account;
         } }
     {
         self.lock
-            .drop_batch(&self.rt, &mut self.account, batch, Reason::Abandoned);
+            .drop_batch(&self.rt, &mut self.account, batch, reason);
     }
 
     /// Ends the batch in hand: it is dropped where it was not handed, and else settled.
@@ -256,7 +257,7 @@ impl<J: Naming, R: Wait + Drop, A: Allocator + Copy> Worker<J, R, A> {
         let InHand { batch, stage } = hand;
         match stage {
             Stage::ToEncode | Stage::ToSend { .. } => {
-                self.drop_batch(batch);
+                self.drop_batch(batch, Reason::Abandoned);
                 self.into_account()
             }
             Stage::ToJudge { outcome, .. } => {
@@ -296,13 +297,16 @@ fn prepare_body<E: Exporter, A: Allocator + Copy>(
     setup: &Setup,
     batch: &Batch<A>,
     exporter: &mut E,
-) -> Result<Vec<u8, A>, OutOfMemory>
+) -> Result<Vec<u8, A>, EncodeFault>
     ensures means { IfOk result (λ body. IsBodyOf batch.now.spans body.items) }
+    ensures fits { IfOk result (λ body. length body.items ≤ setup.now.config.max_body) }
+    ensures lacks { IfErr result (λ fault.
+        LacksBody setup.now.config.max_body batch.now.spans (reason_view (reason_of fault))) }
     ensures room { IfOk result (λ body.
         setup.now.config.retry.attempts ≤ E.room exporter.new (length body.items)) }
     ensures nothing_is_sent { E.handed exporter.new ≡ E.handed exporter.old }
 {
-    let body = body_of(alloc, batch.spans())?;
+    let body = body_of(alloc, batch.spans(), setup.config.max_body)?;
     exporter.prepare(body.len(), setup.config.retry.attempts())?;
     Ok(body)
 }

@@ -96,8 +96,9 @@ impl<J: Naming, R: Wait + Drop, A: Allocator + Copy> WorkerPass<J, R, A> {
 
 impl<J: Naming, R: Wait + time::Clock + Drop, A: Allocator + Copy> WorkerPass<J, R, A> {
     /// Takes, encodes, sends and judges batches, so many turns at most: each is one of these steps,
-    /// or a wait of some milliseconds. A batch in hand stays in the pass between calls. One word is
-    /// drawn for each reply. (Trace SDK, "Batching processor", "Export(batch)")
+    /// or a wait of some milliseconds. A batch in hand stays in the pass between calls. One that
+    /// memory is refused for, or whose body would be longer than it may be, is dropped. One word is
+    /// drawn for each reply. (Trace SDK, "Batching processor", "Export(batch)"; drops: profile)
     pub fn work<E: Exporter, C: Clock, G: Rng>(
         &mut self,
         exporter: &mut E,

@@ -169,11 +169,16 @@ fn each_fault_tells_itself(rt: HostRuntime) {
 
 #[test]
 fn the_standards_numbers_are_the_defaults(rt: HostRuntime) {
-    let BatchConfig { desk, retry } = BatchConfig::default();
+    let BatchConfig {
+        desk,
+        retry,
+        max_body,
+    } = BatchConfig::default();
     assert_equal(
         &rt,
         (desk.queue, desk.batch, desk.delay_ms),
         (2048, 512, 5000),
     );
     assert_equal(&rt, retry, RetryConfig::default());
+    assert_equal(&rt, max_body, 4_194_304);
 }

@@ -12,7 +12,7 @@ use otlp_ids::{SpanContext, SpanId, TraceId};
 use otlp_sampler::{AlwaysOn, Sampler};
 use otlp_span::{Entry, Kind, Reason, Resource, Scope, SpanLimits};
 use otlp_wire::{Field, Fields, Payload};
-use retry_core::{Outcome, RetryConfig};
+use retry_core::Outcome;
 use span_exporter::{Exporter, Handed, MemoryExporter};
 use std::alloc::{Allocator, Global};
 use std::process::Abort;
@@ -74,6 +74,22 @@ pub(crate) fn entry(ticket: u64, reason: Reason) -> Entry {
     }
 }
 
+/// Asserts that these name so many spans, the last of which has this ticket, the newest first.
+pub(crate) fn assert_named(
+    rt: &impl Abort,
+    names: &[Entry],
+    count: u64,
+    last: u64,
+    reason: Reason,
+) {
+    assert_equal(rt, names.len() as u64, count);
+    let mut ticket = last;
+    for named in names {
+        assert_equal(rt, *named, entry(ticket, reason));
+        ticket = ticket.saturating_sub(1);
+    }
+}
+
 /// So many spans wait at most, and a batch has so many. The delay is as long as it can be.
 pub(crate) fn config(queue: usize, batch: usize) -> BatchConfig {
     BatchConfig {
@@ -82,7 +98,7 @@ pub(crate) fn config(queue: usize, batch: usize) -> BatchConfig {
             batch,
             delay_ms: u32::MAX,
         },
-        retry: RetryConfig::default(),
+        ..BatchConfig::default()
     }
 }
 

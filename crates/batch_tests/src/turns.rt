@@ -4,14 +4,14 @@ ghost use Rattle.batch_processor.specs.Working.{IsPrepared};
 
 use crate::equal::{assert_equal, assert_equal_at};
 use crate::fixture::{
-    END, Left, SECOND, close, config, count_body, count_spans, end, entry, exporter, make, queue,
-    root, work,
+    END, Left, SECOND, assert_named, close, config, count_body, count_spans, end, entry, exporter,
+    make, queue, root, work,
 };
 use batch_processor::{
     BatchBlank, BatchConfig, BatchProcessor, Clock, Naming, Parts, Pass, WorkEnd, WorkerPass,
 };
 use otlp_sampler::AlwaysOn;
-use otlp_span::{Entry, Reason};
+use otlp_span::Reason;
 use retry_core::{Outcome, RetryAfter};
 use span_exporter::{Exporter, Handed, MemoryExporter};
 use std::alloc::Global;
@@ -239,16 +239,6 @@ fn one_turn_at_a_time_sends_the_same(rt: HostRuntime) {
     assert_equal(&rt, count_spans(&rt, rt.alloc(), all.handed()), 747);
 }
 
-/// Asserts that these name so many spans, the first ones that ended, as abandoned.
-fn assert_abandoned(rt: &impl Abort, names: &[Entry], count: u64) {
-    assert_equal(rt, names.len() as u64, count);
-    let mut ticket = count;
-    for named in names {
-        ticket = ticket.saturating_sub(1);
-        assert_equal(rt, *named, entry(ticket, Reason::Abandoned));
-    }
-}
-
 /// How a batch of two spans ends that is in hand behind so many turns.
 #[test]
 fn a_batch_in_hand_is_abandoned(rt: HostRuntime) {
@@ -268,8 +258,61 @@ fn a_batch_in_hand_is_abandoned(rt: HostRuntime) {
         assert_equal_at(&rt, totals.dropped.abandoned, abandoned, turns);
         assert_equal_at(&rt, totals.handed.saturating_add(abandoned), 2, turns);
         assert_equal_at(&rt, totals.fates.abandoned, attempts as u64, turns);
-        assert_abandoned(&rt, left.names.as_slice(), abandoned);
+        assert_named(&rt, left.names.as_slice(), abandoned, 1, Reason::Abandoned);
     }
+}
+
+/// The body of a batch of one span, which has 64 bytes, where they are too many by one, and where
+/// they aren't.
+#[test]
+fn a_body_above_the_greatest_is_not_sent(rt: HostRuntime) {
+    for (max_body, handed) in [(63, 0), (64, 1)] {
+        let job = Job {
+            config: BatchConfig {
+                max_body,
+                ..config(1, 1)
+            },
+            schemas: &[""],
+            spans: 1,
+            calls: 1,
+            turns: 4,
+            outcomes: &[],
+        };
+        let blank = BatchBlank::new();
+        let (left, exporter) = do_job::<Brand, HostRuntime>(rt, rt.alloc(), blank, &job);
+        let dropped = 1u64.saturating_sub(handed);
+        assert_equal_at(&rt, exporter.handed().len() as u64, handed, max_body);
+        assert_equal_at(&rt, left.totals.fates.delivered, handed, max_body);
+        assert_equal_at(&rt, left.totals.dropped.too_large, dropped, max_body);
+        assert_named(&rt, left.names.as_slice(), dropped, 0, Reason::TooLarge);
+    }
+}
+
+/// The first span has a schema, which makes the body of its batch too long. The next one is sent.
+#[test]
+fn the_batch_behind_one_that_is_too_large_is_sent(rt: HostRuntime) {
+    let job = Job {
+        config: BatchConfig {
+            max_body: 64,
+            ..config(2, 1)
+        },
+        schemas: &["schema", ""],
+        spans: 1,
+        calls: 1,
+        turns: 6,
+        outcomes: &[],
+    };
+    let blank = BatchBlank::new();
+    let (left, exporter) = do_job::<Brand, HostRuntime>(rt, rt.alloc(), blank, &job);
+    let totals = left.totals;
+    assert_equal(
+        &rt,
+        (totals.fates.delivered, totals.dropped.too_large),
+        (1, 1),
+    );
+    assert_named(&rt, left.names.as_slice(), 1, 0, Reason::TooLarge);
+    assert_eq!(rt; exporter.handed().len(), 1);
+    assert_equal(&rt, exporter.handed()[0].number, 2);
 }
 
 #[test]

@@ -1,6 +1,6 @@
 -- The OTLP image of a span, and spans grouped under their resources and scopes.
 -- opentelemetry-proto: trace.proto, common.proto, resource.proto, trace_service.proto.
-use Rattle.std.specs.Prelude.{ℕ, ℤ, pos, List, [], length, map, flat_map, filter, Bool, false, ◌&&◌, Option, Some, None, bytes_eq}
+use Rattle.std.specs.Prelude.{ℕ, ◌<◌, ℤ, pos, List, [], length, map, flat_map, filter, Bool, false, ◌&&◌, Option, Some, None, bytes_eq}
 use Rattle.std.specs.Bool.{beq}
 use Rattle.std.specs.Ordering.{int_eq}
 use lib.Pointwise.{pointwise}
@@ -10,6 +10,7 @@ use Rattle.message_model.specs.Tables.{Message, ◌▸◌}
 use Rattle.message_model.specs.Messages.{Triple}
 use Rattle.message_model.specs.Canon.{canon}
 use Rattle.span_model.specs.Attributes.{Value, text, bool, int, texts, bools, ints, Attribute, distinct_of}
+use Rattle.span_model.specs.Dropped.{Reason, encode_memory, too_large}
 use Rattle.span_model.specs.Spans.{Kind, internal, server, client, producer, consumer, Status, unset, ok, error, Event, Link, Span, Resource, Scope, EndedSpan}
 
 -- ---- in the protocol's messages
@@ -168,6 +169,12 @@ request_message gs = map resource_spans_message gs ▸ tt
 unfoldable pub body_length : List ResourceGroup → ℕ
 unfolding request_message
 body_length gs = length (canon Tables.request (request_message gs))
+
+-- Why these spans have no body: memory was refused, or it would be longer than it may be. (profile)
+abbrev pub LacksBody : ℕ → List EndedSpan → Reason → Type 0
+LacksBody max_body spans encode_memory = Unit {0}
+LacksBody max_body spans too_large = max_body < body_length (groups spans)
+LacksBody max_body spans _ = ⊥
 
 -- the OTLP images of the spans of groups, each under the resource and the scope of its group
 unfoldable pub triples_of : List ResourceGroup → List Triple

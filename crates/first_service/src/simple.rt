@@ -13,7 +13,7 @@ use std::random::RandomSource;
 use std::sync::Wait;
 use std::thread::{self, JoinHandle, Threads};
 use std::time;
-use trace_kit::export::MemoryExporter;
+use trace_kit::export::{DEFAULT_MAX_BODY, MemoryExporter};
 use trace_kit::processor::{
     Naming, SimpleAccounts, SimpleBlank, SimpleParts, SimplePass, SimpleProcessor,
 };
@@ -67,7 +67,14 @@ where
     requires { blank ≡ J.name }
 {
     let exporter = MemoryExporter::new(alloc, Vec::new(alloc));
-    let parts = SimpleProcessor::<J, _, R>::new(alloc, rt, blank, exporter, THREADS)?;
+    let parts = SimpleProcessor::<J, _, R>::new(
+        alloc,
+        rt,
+        blank,
+        exporter,
+        THREADS,
+        DEFAULT_MAX_BODY,
+    )?;
     let SimpleParts { processor, passes } = parts;
     let mut passes = serve_all(rt, alloc, passes)?;
     for pass in &mut passes {

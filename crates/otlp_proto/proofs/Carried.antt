@@ -1,11 +1,16 @@
 -- What is written is read: a body means the spans of the groups that it carries. And facts of answers.
 use Rattle.std.proofs.Common.{◌≡◌, ◌≢◌, refl, ap, ◌∙◌, ℕ, ◌<◌, List, [], ◌∷◌, map, length, Result, Ok, Err, IfOk, arith}
+use Rattle.std.specs.Prelude.{IfErr, IsErrOf}
 use Rattle.message_model.specs.Reading.{Reads}
 use Rattle.message_model.specs.Tables
 use Rattle.message_model.specs.Messages.{meaning, body_meaning, triples}
 use Rattle.span_model.specs.Spans.{EndedSpan}
-use Rattle.export_model.specs.Export.{ResourceGroup, groups_by, groups, grouped_triples, request_message}
+use Rattle.export_model.specs.Export.{LacksBody, ResourceGroup, body_length, groups_by, groups, grouped_triples, request_message}
 use Rattle.export_model.proofs.Grouped.{request-triples}
+use Rattle.otlp_span.specs.Dropped.{reason_view}
+use Rattle.otlp_proto.specs.Bodies.{reason_of}
+use Rattle.otlp_proto.specs.declared.encoder.EncodeFault.{EncodeFault}
+use Rattle.otlp_proto.specs.declared.encoder.EncodeFault.TheVariants as faults
 
 -- the body of the groups of some spans means these spans
 pub body-means : (spans : List EndedSpan) (bs : List ℕ) → Reads (meaning Tables.request bs) (request_message (groups spans)) → Reads (body_meaning bs) (grouped_triples spans)
@@ -15,6 +20,12 @@ body-means spans bs h = (rw h.0 refl, ap triples h.1 ∙ request-triples spans)
 pub if-ok : {T E : Type 0} {P Q : T → Type 0} (r : Result T E) → ((x : T) → P x → Q x) → IfOk r P → IfOk r Q
 if-ok (Ok x) f h = f x h
 if-ok (Err e) f h = tt
+
+-- why there is no body
+pub lacks-body : {T : Type 0} (max : ℕ) (spans : List EndedSpan) (r : Result T EncodeFault) → (IsErrOf r faults.TooLarge → max < body_length (groups spans)) → IfErr r (λ fault. LacksBody max spans (reason_view (reason_of fault)))
+lacks-body max spans (Ok x) larger = tt
+lacks-body max spans (Err faults.OutOfMemory) larger = tt
+lacks-body max spans (Err faults.TooLarge) larger = larger refl
 
 -- ---- what takes memory
 

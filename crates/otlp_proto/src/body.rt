@@ -1,9 +1,10 @@
 //! The bodies of OTLP/HTTP trace exports.
-ghost use Rattle.std.specs.Prelude.{◌≡◌, ◌≢◌, ◌≤◌, ◌<◌, [], IfOk, IsErrOf, OnOk, length};
+ghost use Rattle.std.specs.Prelude.{◌≡◌, ◌≢◌, ◌≤◌, ◌<◌, [], IfErr, IfOk, IsErrOf, OnOk, length};
 ghost use Rattle.message_model.specs.Reading.{Reads};
 ghost use Rattle.message_model.specs.Messages.{body_meaning};
 ghost use Rattle.export_model.specs.Export as model;
-ghost use Rattle.otlp_proto.specs.Bodies.{body_bytes};
+ghost use Rattle.otlp_span.specs.Dropped.{reason_view};
+ghost use Rattle.otlp_proto.specs.Bodies.{body_bytes, reason_of};
 
 use crate::encoder::{EncodeFault, encode};
 use otlp_span::SpanData;
@@ -31,6 +32,8 @@ pub fn body_of<A: Allocator + Copy>(
     ensures within { OnOk result (model.body_length (model.groups spans.now) ≤ max) }
     ensures too_large { IsErrOf result EncodeFault.TooLarge
         → max < model.body_length (model.groups spans.now) }
+    ensures lacks { IfErr result (λ fault.
+        model.LacksBody max spans.now (reason_view (reason_of fault))) }
     ensures refused { IsErrOf result EncodeFault.OutOfMemory → spans.now ≢ [] }
 {
     let groups = group(alloc, spans)?;

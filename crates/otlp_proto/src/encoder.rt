@@ -7,7 +7,7 @@ ghost use Rattle.message_model.specs.Tables;
 ghost use Rattle.message_model.specs.Messages.{meaning, body_meaning};
 ghost use Rattle.export_model.specs.Export as model;
 ghost use Rattle.scope_group.specs.Group.{groups_view};
-ghost use Rattle.otlp_proto.specs.Bodies.{body_bytes};
+ghost use Rattle.otlp_proto.specs.Bodies.{body_bytes, reason_of};
 
 mod fields;
 mod groups;
@@ -19,6 +19,7 @@ mod values;
 
 use groups::put_request;
 use otlp_ids::OutOfMemory;
+use otlp_span::Reason;
 use scope_group::ResourceGroup;
 use sink::{Buffer, Length};
 use spans::encoded_lens;
@@ -41,6 +42,19 @@ pub enum EncodeFault {
     /// The body is longer than it may be.
     #[error("too large")]
     TooLarge,
+}
+
+impl EncodeFault {
+    /// Why spans are dropped whose encoding ends so (profile).
+    pub fn reason(&self) -> Reason
+        ensures is { result ≡ reason_of self.now }
+        ensures not_full { result ≢ Reason.QueueFull }
+    {
+        match self {
+            EncodeFault::OutOfMemory => Reason::EncodeMemory,
+            EncodeFault::TooLarge => Reason::TooLarge,
+        }
+    }
 }
 
 impl From<OutOfMemory> for EncodeFault {

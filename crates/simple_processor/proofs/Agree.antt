@@ -1,5 +1,6 @@
 -- One more step of a pass, and what the lock keeps.
 use Rattle.std.proofs.Common.{◌≡◌, ℕ, ◌+◌, ◌<◌, true, List, ◌++◌, length, sym, refl, ap, ◌∙◌, subst, arith}
+use Rattle.std.specs.List.{AllByRecursion}
 use Rattle.std.specs.Prelude.{IsPermutation, Option, Some, None, map, filter_map, option_map}
 use Rattle.std.proofs.lemmas.List.{append_assoc, length-append}
 use Rattle.std.proofs.lemmas.List.Elements.{filter_map-append}
@@ -8,12 +9,12 @@ use Rattle.span_model.specs.Dropped.{Entry}
 use Rattle.desk_model.specs.Desks.{capped, drop_counts, fate_counts}
 use Rattle.span_exporter.specs.Handed.{Handed, Gains}
 use Rattle.account_book.specs.Accounts.{Replaces}
-use Rattle.account_book.proofs.Facts.{length_replaced, gathered_replaced, each_replaced, part_replaced, replaces_told}
-use Rattle.pass_model.specs.Passes.{SpanEnd, PassAccount, accepted_span, accepted_spans, all_accepted, all_dropped, all_popped, dropped_entries, dropped_entry}
+use Rattle.account_book.proofs.Facts.{length_replaced, gathered_replaced, each_append, each_at, each_replaced, part_replaced, replaces_told}
+use Rattle.pass_model.specs.Passes.{SpanEnd, PassAccount, accepted_span, accepted_spans, all_accepted, all_dropped, all_popped, drop_in, dropped_entries, dropped_entry, drops}
 use Rattle.pass_model.proofs.Lists.{counts_same, names_more}
 use Rattle.pass_model.proofs.Steps.{News, closed_by, gives_step, late_step}
-use Rattle.simple_processor.specs.Bodies.{attempt_in, attempt_of_span, fates_of}
-use Rattle.simple_processor.specs.Desk.{State, memory_drops, ticket_count}
+use Rattle.simple_processor.specs.Bodies.{Fits, LacksItsBody, attempt_in, attempt_of_span, fates_of}
+use Rattle.simple_processor.specs.Desk.{State, drops_in, ticket_count}
 use Rattle.simple_processor.specs.Holders.{Origin, Holder, account_in, on_pass, pass, pass_account, pass_accounts}
 use Rattle.simple_processor.specs.Kept.{Agrees, IsOf, IsShared, Kept}
 use Rattle.simple_processor.proofs.Lists.{images_more}
@@ -36,7 +37,10 @@ pub record Step (told told' : Option (List Handed)) (s s' : State) (a b : PassAc
   pub handed : s'.handed ≡ s.handed + length (filter_map accepted_span es)
   pub news : News (ticket_count s) (ticket_count s') es
   pub names : IsPermutation (filter_map dropped_entry es ++ s.ledger) (s'.ledger ++ ps)
-  pub dropped : (had : List Entry) → drop_counts had ≡ memory_drops s.dropped → drop_counts (had ++ filter_map dropped_entry es) ≡ memory_drops s'.dropped
+  pub dropped : (had : List Entry) → drop_counts had ≡ drops_in s → drop_counts (had ++ filter_map dropped_entry es) ≡ drops_in s'
+  pub max_body : s'.max_body ≡ s.max_body
+  pub fits : AllByRecursion (Fits s.max_body) bodies
+  pub lacking : AllByRecursion (LacksItsBody s.max_body) (filter_map drop_in es)
   pub counted : (n : ℕ) → s.late ≡ capped n → s'.late ≡ capped (n + lates)
   pub late_if_closed : (n : ℕ) → (0 < n → s.closed ≡ true) → 0 < n + lates → s'.closed ≡ true
   pub closed : (n : ℕ) → s.closed ≡ closed_by (ticket_count s) n → s'.closed ≡ closed_by (ticket_count s') (n + shuts)
@@ -65,19 +69,33 @@ module _ (had told told' : Option (List Handed)) (s s' : State) (old new : List 
   count_is : length (all_accepted new) ≡ length (all_accepted old) + length (filter_map accepted_span st.es)
   count_is = sym (length_permutation (all_accepted new) (all_accepted old ++ filter_map accepted_span st.es) all_accepted_is) ∙ length-append (all_accepted old) (filter_map accepted_span st.es)
 
-  drops_is : drop_counts (all_dropped new) ≡ memory_drops s'.dropped
+  drops_is : drop_counts (all_dropped new) ≡ drops_in s'
   drops_is = sym (counts_same (all_dropped new) (all_dropped old ++ filter_map dropped_entry st.es) all_dropped_is) ∙ st.dropped (all_dropped old) k.dropped
+
+  abbrev Lack : ℕ → PassAccount → Type 0
+  Lack most x = AllByRecursion (LacksItsBody most) (drops x)
+
+  drops_are : drops b ≡ drops a ++ filter_map drop_in st.es
+  drops_are = ap (filter_map drop_in) st.ends ∙ filter_map-append drop_in a.ends st.es
+
+  lacking_is : AllByRecursion (Lack s.max_body) new
+  lacking_is =
+      each_replaced (Lack s.max_body) old a b new r k.lacking
+      (subst (AllByRecursion (LacksItsBody s.max_body)) (sym drops_are)
+      (each_append (LacksItsBody s.max_body) (drops a) (filter_map drop_in st.es) (each_at (Lack s.max_body) old a b new r k.lacking) st.lacking))
 
   pub agrees_step : Agrees had told' s' new
   agrees_step = record {
     bodies = k.bodies ++ st.bodies;
     gains = gains_more k.bodies st.bodies had told told' k.gains st.gains;
+    fits = subst (λ (most : ℕ). AllByRecursion (Fits most) (k.bodies ++ st.bodies)) (sym st.max_body) (each_append (Fits s.max_body) k.bodies st.bodies k.fits st.fits);
     sent = images_more attempt_of_span attempt_in (all_accepted old) (all_accepted new) (filter_map accepted_span st.es) k.bodies st.bodies all_accepted_is k.sent st.sent;
     fates = st.fates k.bodies k.fates;
     handed = let e = count_is in let f = st.handed in let h = k.handed in omega arith;
     tickets = gives_step (ticket_count s) (ticket_count s') st.es st.news old new a b r st.ends k.tickets;
     names = names_more (all_dropped old) (all_dropped new) (filter_map dropped_entry st.es) s.ledger s'.ledger (all_popped old) (all_popped new) st.ps all_dropped_is all_popped_is k.names st.names;
     dropped = drops_is;
+    lacking = subst (λ (most : ℕ). AllByRecursion (Lack most) new) (sym st.max_body) lacking_is;
     late = late_step (ticket_count s) (ticket_count s') s.late s'.late s.closed s'.closed old new a b r k.late st.lates st.shuts st.late st.shutdowns st.counted st.late_if_closed st.closed;
   }
 
@@ -87,6 +105,7 @@ pub kept_step : (origin : Origin) (told told' : Option (List Handed)) (s s' : St
 kept_step origin told told' s s' holders holders' a b r k st = record {
   few = let e = length_replaced holders (pass a) (pass b) holders' r in let f = k.few in omega arith;
   origins = each_replaced (IsOf origin) holders (pass a) (pass b) holders' r k.origins tt;
+  max_body = st.max_body ∙ k.max_body;
   agrees = agrees_step origin.had told told' s s' (pass_accounts holders) (pass_accounts holders') a b (part_replaced pass_account holders (pass a) (pass b) holders' a b r refl refl) k.agrees st;
 }
 

@@ -10,11 +10,11 @@ use Rattle.batch_desk.specs.Views.{fate_counts_view}
 use Rattle.batch_desk.specs.declared.totals.Totals.{Totals}
 use Rattle.span_exporter.specs.Handed.{Handed, Gains}
 use Rattle.account_book.specs.Accounts.{Replaces, Removes, Closes}
-use Rattle.account_book.proofs.Facts.{each_removed, gathered_all, length_removed, nothing_of, one_replaced, part_kept}
-use Rattle.pass_model.specs.Passes.{PassAccount, accepted_spans, all_accepted, all_dropped, all_popped, dropped_entries, late_count, new_account}
+use Rattle.account_book.proofs.Facts.{each_closed, each_removed, each_same, gathered_all, length_removed, nothing_of, one_replaced, part_kept}
+use Rattle.pass_model.specs.Passes.{PassAccount, accepted_spans, all_accepted, all_dropped, all_popped, dropped_entries, drops, late_count, new_account}
 use Rattle.pass_model.proofs.Lists.{counts_same}
 use Rattle.pass_model.proofs.Steps.{gives_closed, gives_new, late_closed, late_new}
-use Rattle.simple_processor.specs.Bodies.{attempt_in, attempt_of_span, fates_of, told_since}
+use Rattle.simple_processor.specs.Bodies.{Fits, LacksItsBody, attempt_in, attempt_of_span, fates_of, told_since}
 use Rattle.simple_processor.specs.Desk.{State, new_state, ticket_count}
 use Rattle.simple_processor.specs.Holders.{Origin, Holder, new_origin, pass, pass_account, pass_accounts, processor}
 use Rattle.simple_processor.specs.Kept.{Agrees, IsAccountOf, IsOf, Kept, given_tickets}
@@ -22,16 +22,18 @@ use Rattle.simple_processor.proofs.Ends.{gains_nothing}
 
 -- ---- the beginning
 
-agrees_new : (had : Option (List Handed)) (accounts : List PassAccount) → AllByRecursion (λ a. a ≡ new_account) accounts → Agrees had had new_state accounts
-agrees_new had accounts all = record {
+agrees_new : (had : Option (List Handed)) (max_body : ℕ) (accounts : List PassAccount) → AllByRecursion (λ a. a ≡ new_account) accounts → Agrees had had (new_state max_body) accounts
+agrees_new had max_body accounts all = record {
   bodies = [];
   gains = gains_nothing had had refl;
+  fits = tt;
   sent = subst (λ (spans : List _). IsPermutation (map attempt_of_span spans) []) (sym (nothing_of new_account accepted_spans refl accounts all)) (IsPermutation-refl []);
   fates = refl;
   handed = ap length (sym (nothing_of new_account accepted_spans refl accounts all));
   tickets = gives_new accounts all;
   names = subst (λ (es : List Entry). IsPermutation es (all_popped accounts)) (sym (nothing_of new_account dropped_entries refl accounts all)) (subst (λ (es : List Entry). IsPermutation [] es) (sym (nothing_of new_account (λ (a : PassAccount). a.popped) refl accounts all)) (IsPermutation-refl []));
   dropped = ap drop_counts (nothing_of new_account dropped_entries refl accounts all);
+  lacking = each_same new_account _ tt accounts all;
   late = late_new accounts all;
 }
 
@@ -45,17 +47,18 @@ of_passes : (origin : Origin) (holders : List Holder) → AllByRecursion (λ h. 
 of_passes origin [] all = tt
 of_passes origin (h ∷ holders) all = (subst (IsOf origin) (sym all.0) tt, of_passes origin holders all.1)
 
-pub kept_new : (origin : Origin) (holders opened : List Holder) → holders ≡ processor origin ∷ opened → length opened ≤ origin.passes → AllByRecursion (λ h. h ≡ pass new_account) opened → Kept origin origin.had new_state holders
+pub kept_new : (origin : Origin) (holders opened : List Holder) → holders ≡ processor origin ∷ opened → length opened ≤ origin.passes → AllByRecursion (λ h. h ≡ pass new_account) opened → Kept origin origin.had (new_state origin.max_body) holders
 kept_new origin holders opened is few all =
-    subst (λ (hs : List Holder). Kept origin origin.had new_state hs) (sym is) (record {
+    subst (λ (hs : List Holder). Kept origin origin.had (new_state origin.max_body) hs) (sym is) (record {
       few = omega arith;
       origins = (refl, of_passes origin opened all);
-      agrees = agrees_new origin.had (pass_accounts opened) (new_accounts opened all);
+      max_body = refl;
+      agrees = agrees_new origin.had origin.max_body (pass_accounts opened) (new_accounts opened all);
     })
 
 -- the same of a book in which the processor's account was opened and told, and then those of its passes
 pub kept_begins : (origin : Origin) (told : Option (List Handed)) (s : State) (empty one recorded holders opened : List Holder) (u w : Holder)
-    → told ≡ origin.had → s ≡ new_state → empty ≡ [] → one ≡ empty ++ processor new_origin ∷ [] → Replaces one u w recorded → w ≡ processor origin → holders ≡ recorded ++ opened
+    → told ≡ origin.had → s ≡ new_state origin.max_body → empty ≡ [] → one ≡ empty ++ processor new_origin ∷ [] → Replaces one u w recorded → w ≡ processor origin → holders ≡ recorded ++ opened
     → length opened ≤ origin.passes → AllByRecursion (λ h. h ≡ pass new_account) opened → Kept origin told s holders
 kept_begins origin told s empty one recorded holders opened u w told_is s_is none one_is r w_is is few all =
     let single : one ≡ processor new_origin ∷ [] = one_is ∙ ap (λ (hs : List Holder). hs ++ processor new_origin ∷ []) none in
@@ -67,18 +70,20 @@ kept_begins origin told s empty one recorded holders opened u w told_is s_is non
 
 agrees_closed : (had told : Option (List Handed)) (s : State) (old done : List PassAccount) → Agrees had told s old → Closes old done [] → Agrees had told s done
 agrees_closed had told s old done k c =
-    let spans = gathered_all accepted_spans old done c in let drops = gathered_all dropped_entries old done c in
+    let spans = gathered_all accepted_spans old done c in let names = gathered_all dropped_entries old done c in
     record {
       bodies = k.bodies;
       gains = k.gains;
+      fits = k.fits;
       sent = IsPermutation-trans (map attempt_of_span (all_accepted done)) (map attempt_of_span (all_accepted old)) (map attempt_in k.bodies) (IsPermutation-map attempt_of_span (all_accepted done) (all_accepted old) spans) k.sent;
       fates = k.fates;
       handed = k.handed ∙ length_permutation (all_accepted done) (all_accepted old) spans;
       tickets = gives_closed (ticket_count s) old done c k.tickets;
-      names = IsPermutation-trans (all_dropped done) (all_dropped old) (s.ledger ++ all_popped done) drops
+      names = IsPermutation-trans (all_dropped done) (all_dropped old) (s.ledger ++ all_popped done) names
           (IsPermutation-trans (all_dropped old) (s.ledger ++ all_popped old) (s.ledger ++ all_popped done) k.names
           (IsPermutation-append_right s.ledger (all_popped old) (all_popped done) (IsPermutation-sym (all_popped done) (all_popped old) (gathered_all (λ (a : PassAccount). a.popped) old done c))));
-      dropped = sym (counts_same (all_dropped done) (all_dropped old) drops) ∙ k.dropped;
+      dropped = sym (counts_same (all_dropped done) (all_dropped old) names) ∙ k.dropped;
+      lacking = each_closed _ old done [] c k.lacking;
       late = late_closed s.late (ticket_count s) s.closed old done c k.late;
     }
 
@@ -92,6 +97,9 @@ module _ (origin said : Origin) (told : Option (List Handed)) (s : State) (all r
   none_left =
       let few = k.few in let one = length_removed all (processor said) rest r in let e = ap (λ (o : Origin). o.passes) said_is in
       nil_from_length left (omega arith)
+
+  pub max_end : s.max_body ≡ said.max_body
+  max_end = k.max_body ∙ ap (λ (o : Origin). o.max_body) (sym said_is)
 
   pub agrees_end : Agrees said.had told s done
   agrees_end =
@@ -113,15 +121,24 @@ pub on_told : (P : List Handed → Type 0) (had told : Option (List Handed)) (bo
 on_told P None told bodies g p = subst (λ o. OnSome o (P (told_since None o))) (sym g) tt
 on_told P (Some h) told bodies g p = subst (λ o. OnSome o (P (told_since (Some h) o))) (sym g) (subst P (sym (since_is h bodies)) p)
 
-module _ (had told : Option (List Handed)) (t : Totals) (ledger : List Entry) (accounts : List PassAccount) (x : IsAccountOf had told t ledger accounts) where
+module _ (origin : Origin) (told : Option (List Handed)) (t : Totals) (ledger : List Entry) (accounts : List PassAccount) (x : IsAccountOf origin told t ledger accounts) where
+  abbrev had : Option (List Handed)
+  had = origin.had
+
   pub count_is : ticket_count x.state ≡ given_tickets t
-  count_is = let a = x.totals.handed in let b = ap (λ d. d.encode_memory) x.totals.dropped in omega arith
+  count_is = let a = x.totals.handed in let b = ap (λ d. d.encode_memory) x.totals.dropped in let m = ap (λ d. d.too_large) x.totals.dropped in omega arith
 
   pub spans_are : OnSome told (IsPermutation (map attempt_of_span (all_accepted accounts)) (map attempt_in (told_since had told)))
   spans_are = on_told (λ bodies. IsPermutation (map attempt_of_span (all_accepted accounts)) (map attempt_in bodies)) had told x.agrees.bodies x.agrees.gains x.agrees.sent
 
   pub fates_are : OnSome told (fate_counts_view t.fates ≡ fate_counts (fates_of (told_since had told)))
   fates_are = on_told (λ bodies. fate_counts_view t.fates ≡ fate_counts (fates_of bodies)) had told x.agrees.bodies x.agrees.gains (x.totals.fates ∙ x.agrees.fates)
+
+  pub fits_are : OnSome told (AllByRecursion (Fits origin.max_body) (told_since had told))
+  fits_are = on_told (AllByRecursion (Fits origin.max_body)) had told x.agrees.bodies x.agrees.gains (subst (λ (most : ℕ). AllByRecursion (Fits most) x.agrees.bodies) x.max_body x.agrees.fits)
+
+  pub lacking_are : AllByRecursion (λ (a : PassAccount). AllByRecursion (LacksItsBody origin.max_body) (drops a)) accounts
+  lacking_are = subst (λ (most : ℕ). AllByRecursion (λ (a : PassAccount). AllByRecursion (LacksItsBody most) (drops a)) accounts) x.max_body x.agrees.lacking
 
   pub late_is : t.late ≡ capped (late_count accounts)
   late_is = x.totals.late ∙ x.agrees.late.counted

@@ -4,12 +4,15 @@ use Rattle.std.specs.Prelude.{IsPermutation, Option, Some, None}
 use Rattle.std.proofs.lemmas.List.{append-nil}
 use Rattle.std.proofs.lemmas.List.Sorted.{IsPermutation-refl, IsPermutation-sym, IsPermutation-to_front}
 use Rattle.span_model.specs.Spans.{EndedSpan, with_ticket}
-use Rattle.span_model.specs.Dropped.{Entry, encode_memory, entry_of}
+use Rattle.span_model.specs.Dropped.{Reason, queue_full, encode_memory, too_large, abandoned, Entry, entry_of}
+use Rattle.export_model.specs.Export.{LacksBody}
 use Rattle.retry_model.specs.Retries.{fate_of, next_of}
-use Rattle.desk_model.specs.Desks.{capped, drop_counts, fate_counts, with_drops, with_fate}
+use Rattle.desk_model.specs.Desks.{DropCounts, capped, drop_counts, fate_counts, with_drops, with_fate}
 use Rattle.desk_model.proofs.Lists.{some-more}
 use Rattle.desk_model.proofs.Events.{counts-more, fates-more}
-use Rattle.otlp_span.specs.declared.reason.Reason.TheVariants as reasons
+use Rattle.otlp_span.specs.Dropped.{reason_view}
+use Rattle.otlp_span.specs.declared.reason.Reason as reasons
+use Rattle.otlp_span.specs.declared.reason.Reason.TheVariants as codes
 use Rattle.trace_api.specs.declared.pass.Ended.{Ended}
 use Rattle.trace_api.specs.declared.pass.Ended.TheVariants as answers
 use Rattle.span_exporter.specs.Handed.{Handed, Gains}
@@ -17,7 +20,7 @@ use Rattle.pass_model.specs.Passes.{SpanEnd, accepted, dropped, PassAccount, aft
 use Rattle.pass_model.proofs.Steps.{News, closed_by, closes-last, no_news, none_more, one_news, shut-closes}
 use Rattle.simple_processor.specs.Accounts.{after_end, after_shutdown, is_simple_answer}
 use Rattle.simple_processor.specs.Bodies.{fates_of}
-use Rattle.simple_processor.specs.Desk.{State, Answers, IsDropped, IsHanded, IsLate, Pops, is_last_ticket, memory_drops, ticket_count}
+use Rattle.simple_processor.specs.Desk.{State, Answers, IsDropped, IsHanded, IsLate, Pops, drop_count, drops_in, is_last_ticket, ticket_count, with_drop}
 use Rattle.simple_processor.proofs.Agree.{Step}
 
 pub gains_nothing : (told told' : Option (List Handed)) → told' ≡ told → Gains [] told told'
@@ -25,13 +28,13 @@ gains_nothing None told' same = same
 gains_nothing (Some had) told' same = same ∙ ap Some (sym (append-nil had))
 
 -- a step at which no span is answered a ticket
-module _ (told told' : Option (List Handed)) (s s' : State) (a b : PassAccount) (unsent : told' ≡ told) (handed_same : s'.handed ≡ s.handed) (dropped_same : s'.dropped ≡ s.dropped) (fates_same : s'.fates ≡ s.fates) (ends_same : b.ends ≡ a.ends)
+module _ (told told' : Option (List Handed)) (s s' : State) (a b : PassAccount) (unsent : told' ≡ told) (handed_same : s'.handed ≡ s.handed) (drops_same : drops_in s' ≡ drops_in s) (max_same : s'.max_body ≡ s.max_body) (fates_same : s'.fates ≡ s.fates) (ends_same : b.ends ≡ a.ends)
     (ps : List Entry) (lates shuts : ℕ) (popped : b.popped ≡ a.popped ++ ps) (late : b.late ≡ a.late + lates) (shutdowns : b.shutdowns ≡ a.shutdowns + shuts)
     (names : IsPermutation s.ledger (s'.ledger ++ ps)) (counted : (n : ℕ) → s.late ≡ capped n → s'.late ≡ capped (n + lates))
     (late_if_closed : (n : ℕ) → (0 < n → s.closed ≡ true) → 0 < n + lates → s'.closed ≡ true)
     (closed : (n : ℕ) → s.closed ≡ closed_by (ticket_count s) n → s'.closed ≡ closed_by (ticket_count s) (n + shuts)) where
   count_same : ticket_count s' ≡ ticket_count s
-  count_same = let e = handed_same in let f = dropped_same in omega arith
+  count_same = let e = handed_same in let f : drop_count s' ≡ drop_count s = ap (λ (d : DropCounts). d.encode_memory + d.too_large) drops_same in omega arith
 
   pub quiet : Step told told' s s' a b
   quiet = record {
@@ -50,7 +53,10 @@ module _ (told told' : Option (List Handed)) (s s' : State) (a b : PassAccount) 
     handed = let e = handed_same in omega arith;
     news = subst (λ (n : ℕ). News (ticket_count s) n []) (sym count_same) (no_news (ticket_count s));
     names = names;
-    dropped = λ had is. ap drop_counts (append-nil had) ∙ is ∙ ap memory_drops (sym dropped_same);
+    dropped = λ had is. ap drop_counts (append-nil had) ∙ is ∙ sym drops_same;
+    max_body = max_same;
+    fits = tt;
+    lacking = tt;
     counted = counted;
     late_if_closed = late_if_closed;
     closed = λ n is. closed n is ∙ ap (λ (m : ℕ). closed_by m (n + shuts)) (sym count_same);
@@ -65,7 +71,7 @@ closes-now s count n admits is = closes-last count n (sym admits ∙ is) ∙ ap 
 
 late_end : (told told' : Option (List Handed)) (s s' : State) (span : EndedSpan) (a : PassAccount) → IsLate told told' s s' → Step told told' s s' a (after_end answers.Late span a)
 late_end told told' s s' span a l =
-    quiet told told' s s' a (after_end answers.Late span a) l.nothing_is_sent (ap (λ (x : State). x.handed) l.state) (ap (λ (x : State). x.dropped) l.state) (ap (λ (x : State). x.fates) l.state) refl
+    quiet told told' s s' a (after_end answers.Late span a) l.nothing_is_sent (ap (λ (x : State). x.handed) l.state) (ap drops_in l.state) (ap (λ (x : State). x.max_body) l.state) (ap (λ (x : State). x.fates) l.state) refl
     [] 1 0 (sym (append-nil a.popped)) refl (none_more a.shutdowns)
     (subst (λ (es : List Entry). IsPermutation s.ledger es) (sym (append-nil s'.ledger) ∙ refl) (subst (λ (es : List Entry). IsPermutation s.ledger es) (sym (ap (λ (x : State). x.ledger) l.state)) (IsPermutation-refl s.ledger)))
     (λ n is. ap (λ (x : State). x.late) l.state ∙ late-more s.late n is)
@@ -74,7 +80,7 @@ late_end told told' s s' span a l =
 
 pub shutdown_step : (told told' : Option (List Handed)) (s s' : State) (a : PassAccount) → told' ≡ told → s' ≡ record s { closed = true } → Step told told' s s' a (after_shutdown a)
 shutdown_step told told' s s' a unsent is =
-    quiet told told' s s' a (after_shutdown a) unsent (ap (λ (x : State). x.handed) is) (ap (λ (x : State). x.dropped) is) (ap (λ (x : State). x.fates) is) refl
+    quiet told told' s s' a (after_shutdown a) unsent (ap (λ (x : State). x.handed) is) (ap drops_in is) (ap (λ (x : State). x.max_body) is) (ap (λ (x : State). x.fates) is) refl
     [] 0 1 (sym (append-nil a.popped)) (none_more a.late) refl
     (subst (λ (es : List Entry). IsPermutation s.ledger es) (sym (append-nil s'.ledger)) (subst (λ (es : List Entry). IsPermutation s.ledger es) (sym (ap (λ (x : State). x.ledger) is)) (IsPermutation-refl s.ledger)))
     (λ n l. ap (λ (x : State). x.late) is ∙ l ∙ ap capped (none_more n))
@@ -83,7 +89,7 @@ shutdown_step told told' s s' a unsent is =
 
 pub pop_step : (told told' : Option (List Handed)) (s s' : State) (a : PassAccount) (entry : Entry) → told' ≡ told → Pops s (Some entry) s' → Step told told' s s' a (after_pop entry a)
 pop_step told told' s s' a entry unsent p =
-    quiet told told' s s' a (after_pop entry a) unsent (ap (λ (x : State). x.handed) p.1) (ap (λ (x : State). x.dropped) p.1) (ap (λ (x : State). x.fates) p.1) refl
+    quiet told told' s s' a (after_pop entry a) unsent (ap (λ (x : State). x.handed) p.1) (ap drops_in p.1) (ap (λ (x : State). x.max_body) p.1) (ap (λ (x : State). x.fates) p.1) refl
     (entry ∷ []) 0 0 refl (none_more a.late) (none_more a.shutdowns)
     (subst (λ (es : List Entry). IsPermutation es (s'.ledger ++ entry ∷ [])) (sym p.0) (IsPermutation-sym (s'.ledger ++ entry ∷ []) (entry ∷ s'.ledger) (IsPermutation-to_front s'.ledger entry)))
     (λ n l. ap (λ (x : State). x.late) p.1 ∙ l ∙ ap capped (none_more n))
@@ -96,7 +102,7 @@ none-late s n admits was some = let e = was (omega arith) in let f = admits in c
 
 handed_step : (told told' : Option (List Handed)) (s s' : State) (span : EndedSpan) (ticket : ℕ) (a : PassAccount) → IsHanded told told' s span ticket s' → Step told told' s s' a (after_end (answers.Handed ticket) span a)
 handed_step told told' s s' span ticket a h =
-    let count : ticket_count s' ≡ ticket_count s + 1 = let e = ap (λ (x : State). x.handed) h.state in let f = ap (λ (x : State). x.dropped) h.state in omega arith in
+    let count : ticket_count s' ≡ ticket_count s + 1 = let e = ap (λ (x : State). x.handed) h.state in let f : drop_count s' ≡ drop_count s = ap drop_count h.state in omega arith in
     let end : SpanEnd = accepted (with_ticket ticket span) in
     record {
       es = end ∷ [];
@@ -116,16 +122,37 @@ handed_step told told' s s' span ticket a h =
       handed = ap (λ (x : State). x.handed) h.state;
       news = subst (λ (n : ℕ). News (ticket_count s) n (end ∷ [])) (sym count) (one_news (ticket_count s) end h.is_next);
       names = subst (λ (es : List Entry). IsPermutation s.ledger es) (sym (append-nil s'.ledger ∙ ap (λ (x : State). x.ledger) h.state)) (IsPermutation-refl s.ledger);
-      dropped = λ had is. ap drop_counts (append-nil had) ∙ is ∙ ap memory_drops (sym (ap (λ (x : State). x.dropped) h.state));
+      dropped = λ had is. ap drop_counts (append-nil had) ∙ is ∙ sym (ap drops_in h.state);
+      max_body = ap (λ (x : State). x.max_body) h.state;
+      fits = (h.sent.fits, tt);
+      lacking = tt;
       counted = λ n l. ap (λ (x : State). x.late) h.state ∙ l ∙ ap capped (none_more n);
       late_if_closed = λ n was some. absurd (none-late s n h.admits was some);
       closed = λ n is. ap (λ (x : State). x.closed) h.state ∙ ap is_last_ticket h.is_next ∙ closes-now s (ticket_count s) n h.admits is ∙ ap (λ (m : ℕ). closed_by m (n + 0)) (sym count);
     }
 
-dropped_step : (told told' : Option (List Handed)) (s s' : State) (span : EndedSpan) (ticket : ℕ) (a : PassAccount) → IsDropped told told' s span ticket s' → Step told told' s s' a (after_end (answers.Dropped ticket reasons.EncodeMemory) span a)
-dropped_step told told' s s' span ticket a d =
-    let count : ticket_count s' ≡ ticket_count s + 1 = let e = ap (λ (x : State). x.handed) d.state in let f = ap (λ (x : State). x.dropped) d.state in omega arith in
-    let entry : Entry = entry_of encode_memory (with_ticket ticket span) in let end : SpanEnd = dropped (record { entry = entry; floor = a.floor }) in
+-- what one more that is dropped changes
+record Adds (reason : Reason) (s : State) : Type 0 where
+  handed : (with_drop reason s).handed ≡ s.handed
+  late : (with_drop reason s).late ≡ s.late
+  fates : (with_drop reason s).fates ≡ s.fates
+  max_body : (with_drop reason s).max_body ≡ s.max_body
+  count : drop_count (with_drop reason s) ≡ drop_count s + 1
+  counts : drops_in (with_drop reason s) ≡ with_drops reason 1 (drops_in s)
+
+adds : (max_body : ℕ) (spans : List EndedSpan) (reason : Reason) (s : State) → LacksBody max_body spans reason → Adds reason s
+adds max_body spans encode_memory s lacks = record { handed = refl; late = refl; fates = refl; max_body = refl; count = omega arith; counts = refl }
+adds max_body spans too_large s lacks = record { handed = refl; late = refl; fates = refl; max_body = refl; count = omega arith; counts = refl }
+adds max_body spans queue_full s lacks = absurd lacks
+adds max_body spans abandoned s lacks = absurd lacks
+
+dropped_step : (told told' : Option (List Handed)) (s s' : State) (span : EndedSpan) (why : reasons.Reason) (ticket : ℕ) (a : PassAccount) → IsDropped told told' s span (reason_view why) ticket s' → Step told told' s s' a (after_end (answers.Dropped ticket why) span a)
+dropped_step told told' s s' span why ticket a d =
+    let reason : Reason = reason_view why in
+    let more : Adds reason s = adds s.max_body (with_ticket ticket span ∷ []) reason s d.lacks in
+    let handed_same : s'.handed ≡ s.handed = ap (λ (x : State). x.handed) d.state ∙ more.handed in
+    let count : ticket_count s' ≡ ticket_count s + 1 = let f : drop_count s' ≡ drop_count s + 1 = ap drop_count d.state ∙ more.count in omega arith in
+    let entry : Entry = entry_of reason (with_ticket ticket span) in let end : SpanEnd = dropped (record { span = with_ticket ticket span; reason = reason; floor = a.floor }) in
     record {
       es = end ∷ [];
       ps = [];
@@ -138,12 +165,15 @@ dropped_step told told' s s' span ticket a d =
       shutdowns = none_more a.shutdowns;
       gains = gains_nothing told told' d.nothing_is_sent;
       sent = refl;
-      fates = λ had is. ap (λ (x : State). x.fates) d.state ∙ is ∙ ap (λ (hs : List Handed). fate_counts (fates_of hs)) (sym (append-nil had));
-      handed = ap (λ (x : State). x.handed) d.state ∙ none_more s.handed;
+      fates = λ had is. ap (λ (x : State). x.fates) d.state ∙ more.fates ∙ is ∙ ap (λ (hs : List Handed). fate_counts (fates_of hs)) (sym (append-nil had));
+      handed = handed_same ∙ none_more s.handed;
       news = subst (λ (n : ℕ). News (ticket_count s) n (end ∷ [])) (sym count) (one_news (ticket_count s) end d.is_next);
       names = subst (λ (es : List Entry). IsPermutation (entry ∷ s.ledger) es) (sym (append-nil s'.ledger ∙ ap (λ (x : State). x.ledger) d.state)) (IsPermutation-refl (entry ∷ s.ledger));
-      dropped = λ had is. counts-more encode_memory had (with_ticket ticket span ∷ []) ∙ ap (with_drops encode_memory 1) is ∙ ap memory_drops (sym (ap (λ (x : State). x.dropped) d.state));
-      counted = λ n l. ap (λ (x : State). x.late) d.state ∙ l ∙ ap capped (none_more n);
+      dropped = λ had is. counts-more reason had (with_ticket ticket span ∷ []) ∙ ap (with_drops reason 1) is ∙ sym (ap drops_in d.state ∙ more.counts);
+      max_body = ap (λ (x : State). x.max_body) d.state ∙ more.max_body;
+      fits = tt;
+      lacking = (d.lacks, tt);
+      counted = λ n l. ap (λ (x : State). x.late) d.state ∙ more.late ∙ l ∙ ap capped (none_more n);
       late_if_closed = λ n was some. absurd (none-late s n d.admits was some);
       closed = λ n is. ap (λ (x : State). x.closed) d.state ∙ ap is_last_ticket d.is_next ∙ closes-now s (ticket_count s) n d.admits is ∙ ap (λ (m : ℕ). closed_by m (n + 0)) (sym count);
     }
@@ -151,10 +181,7 @@ dropped_step told told' s s' span ticket a d =
 -- the end of a span, by its answer
 pub end_step : (told told' : Option (List Handed)) (s s' : State) (span : EndedSpan) (answer : Ended) (a : PassAccount) → Answers told told' s span answer s' → Step told told' s s' a (after_end answer span a)
 end_step told told' s s' span (answers.Handed ticket) a x = handed_step told told' s s' span ticket a x
-end_step told told' s s' span (answers.Dropped ticket reasons.EncodeMemory) a x = dropped_step told told' s s' span ticket a x
-end_step told told' s s' span (answers.Dropped ticket reasons.QueueFull) a x = absurd x
-end_step told told' s s' span (answers.Dropped ticket reasons.TooLarge) a x = absurd x
-end_step told told' s s' span (answers.Dropped ticket reasons.Abandoned) a x = absurd x
+end_step told told' s s' span (answers.Dropped ticket why) a x = dropped_step told told' s s' span why ticket a x
 end_step told told' s s' span answers.Late a x = late_end told told' s s' span a x
 end_step told told' s s' span (answers.Queued ticket) a x = absurd x
 end_step told told' s s' span answers.NotSampled a x = absurd x
@@ -163,10 +190,10 @@ end_step told told' s s' span answers.AlreadyEnded a x = absurd x
 -- which answers there are
 pub end_answer : (told told' : Option (List Handed)) (s s' : State) (span : EndedSpan) (answer : Ended) → Answers told told' s span answer s' → is_simple_answer answer ≡ true
 end_answer told told' s s' span (answers.Handed ticket) x = refl
-end_answer told told' s s' span (answers.Dropped ticket reasons.EncodeMemory) x = refl
-end_answer told told' s s' span (answers.Dropped ticket reasons.QueueFull) x = absurd x
-end_answer told told' s s' span (answers.Dropped ticket reasons.TooLarge) x = absurd x
-end_answer told told' s s' span (answers.Dropped ticket reasons.Abandoned) x = absurd x
+end_answer told told' s s' span (answers.Dropped ticket codes.EncodeMemory) x = refl
+end_answer told told' s s' span (answers.Dropped ticket codes.TooLarge) x = refl
+end_answer told told' s s' span (answers.Dropped ticket codes.QueueFull) x = absurd x.lacks
+end_answer told told' s s' span (answers.Dropped ticket codes.Abandoned) x = absurd x.lacks
 end_answer told told' s s' span answers.Late x = refl
 end_answer told told' s s' span (answers.Queued ticket) x = absurd x
 end_answer told told' s s' span answers.NotSampled x = absurd x

@@ -1,5 +1,6 @@
 mod Lists
 mod Agree
+mod Counts
 mod Ends
 mod Closing
 pub mod Crosses

@@ -16,11 +16,12 @@ after_end (answers.Dropped ticket reason) span account =
 after_end answers.Late span account = after_late account
 after_end _ span account = account
 
--- What a simple processor answers: the span was handed, or there was no memory to encode it, or it
--- was late. (Trace SDK, OnEnd)
+-- What a simple processor answers: the span was handed, or there was no memory to encode it, or its
+-- body would be longer than it may be, or it was late. (Trace SDK, OnEnd)
 abbrev pub is_simple_answer : Ended → Bool
 is_simple_answer (answers.Handed ticket) = true
 is_simple_answer (answers.Dropped ticket reasons.EncodeMemory) = true
+is_simple_answer (answers.Dropped ticket reasons.TooLarge) = true
 is_simple_answer answers.Late = true
 is_simple_answer _ = false
 

@@ -1,12 +1,13 @@
 -- What a simple processor hands to its exporter: each span alone, once. (Trace SDK, Simple
 -- processor; number and attempt: profile)
-use Rattle.std.specs.Prelude.{ℕ, ◌+◌, List, [], ◌∷◌, drop, length, filter_map, Option, Some}
+use Rattle.std.specs.Prelude.{ℕ, ◌+◌, ◌≤◌, List, [], ◌∷◌, drop, length, filter_map, Option, Some}
 use Rattle.message_model.specs.Reading.{Reading, done}
 use Rattle.message_model.specs.Messages.{Triple, body_meaning}
 use Rattle.span_model.specs.Spans.{EndedSpan}
-use Rattle.export_model.specs.Export.{grouped_triples}
+use Rattle.export_model.specs.Export.{LacksBody, grouped_triples}
 use Rattle.retry_model.specs.Retries.{Fate, fate_of, next_of}
 use Rattle.span_exporter.specs.Handed.{Handed}
+use Rattle.pass_model.specs.Passes.{Drop}
 
 -- An attempt, as OTLP reads it: its number, which attempt it is, and the meaning of its body.
 pub record Attempt : Type 0 where
@@ -25,6 +26,14 @@ attempt_of_span span = record {
 -- what an exporter tells, so read
 abbrev pub attempt_in : Handed → Attempt
 attempt_in h = record { number = h.number; attempt = h.attempt; meaning = body_meaning h.body }
+
+-- its body is no longer than it may be
+abbrev pub Fits : ℕ → Handed → Type 0
+Fits max_body h = length h.body ≤ max_body
+
+-- A span was dropped since it has no body alone, or a longer one than it may have.
+abbrev pub LacksItsBody : ℕ → Drop → Type 0
+LacksItsBody max_body d = LacksBody max_body (d.span ∷ []) d.reason
 
 -- How the attempts ended, each the only one of its body. (OTLP Specification, OTLP/HTTP Response)
 abbrev pub fates_of : List Handed → List Fate

@@ -2,25 +2,30 @@
 -- processor; tickets, the ledger and counts: profile)
 use Rattle.std.specs.Prelude.{◌≡◌, ℕ, ◌+◌, ◌-◌, ◌^◌, ◌<◌, ◌≤◌, ◌==◌, Bool, true, false, List, [], ◌∷◌, length, Option, Some, None}
 use Rattle.span_model.specs.Spans.{EndedSpan, with_ticket}
-use Rattle.span_model.specs.Dropped.{Entry, encode_memory, entry_of}
+use Rattle.span_model.specs.Dropped.{Reason, encode_memory, too_large, Entry, entry_of}
+use Rattle.export_model.specs.Export.{LacksBody}
 use Rattle.retry_model.specs.Retries.{Fate, Outcome, fate_of, next_of}
 use Rattle.desk_model.specs.Desks.{DropCounts, FateCounts, capped, no_drops, no_fates, with_fate}
-use Rattle.otlp_span.specs.declared.reason.Reason.TheVariants as reasons
+use Rattle.otlp_span.specs.Dropped.{reason_view}
 use Rattle.trace_api.specs.declared.pass.Ended.{Ended}
 use Rattle.trace_api.specs.declared.pass.Ended.TheVariants as answers
 use Rattle.batch_desk.specs.Counts.{fate_count}
 use Rattle.drop_ledger.specs.Counts.{drop_counts_view}
+use Rattle.drop_ledger.specs.declared.counts.DropCounts as drops
 use Rattle.batch_desk.specs.Views.{fate_counts_view}
 use Rattle.batch_desk.specs.declared.totals.Totals.{Totals}
 use Rattle.span_exporter.specs.Handed.{Handed, Gains}
-use Rattle.simple_processor.specs.Bodies.{attempt_in, attempt_of_span}
+use Rattle.simple_processor.specs.Bodies.{Fits, attempt_in, attempt_of_span}
 
--- The ledger, the newest entry first; how many spans were handed to the exporter, were dropped, and
--- were late; whether none is admitted any more; and how the attempts ended.
+-- How many bytes a body may have; the ledger, the newest entry first; how many spans were handed to
+-- the exporter, were dropped for want of memory or as too large, and were late; whether none is
+-- admitted any more; and how the attempts ended.
 pub record State : Type 0 where
+  pub max_body : ℕ
   pub ledger : List Entry
   pub handed : ℕ
-  pub dropped : ℕ
+  pub encode_memory : ℕ
+  pub too_large : ℕ
   pub late : ℕ
   pub closed : Bool
   pub fates : FateCounts
@@ -30,23 +35,33 @@ pub record DeskWith (E : Type 0) : Type 0 where
   pub exporter : E
   pub state : State
 
-abbrev pub new_state : State
-new_state = record {
+abbrev pub new_state : ℕ → State
+new_state max_body = record {
+  max_body = max_body;
   ledger = [];
   handed = 0;
-  dropped = 0;
+  encode_memory = 0;
+  too_large = 0;
   late = 0;
   closed = false;
   fates = no_fates;
 }
 
--- so many were dropped, each for want of memory
-abbrev pub memory_drops : ℕ → DropCounts
-memory_drops n = record no_drops { encode_memory = n }
+-- the dropped ones by their reasons, and all of them
+abbrev pub drops_in : State → DropCounts
+drops_in s = record no_drops { encode_memory = s.encode_memory; too_large = s.too_large }
+
+abbrev pub drop_count : State → ℕ
+drop_count s = s.encode_memory + s.too_large
+
+-- None was dropped but those that have no body.
+pub record IsOfEncodings (counts : drops.DropCounts) : Type 0 where
+  pub queue_full : counts.queue_full ≡ 0
+  pub abandoned : counts.abandoned ≡ 0
 
 -- how many tickets were given, which is the next one
 abbrev pub ticket_count : State → ℕ
-ticket_count s = s.handed + s.dropped
+ticket_count s = s.handed + drop_count s
 
 -- Behind this ticket the next would be the greatest number of 64 bits, and none is given.
 abbrev pub is_last_ticket : ℕ → Bool
@@ -56,13 +71,31 @@ is_last_ticket ticket = ticket + 1 == 2 ^ 64 - 1
 pub record AreCounts (s : State) : Type 0 where
   pub tickets : ticket_count s < 2 ^ 64
   pub admits : s.closed ≡ false → ticket_count s < 2 ^ 64 - 1
-  pub ledger : length s.ledger ≤ s.dropped
+  pub ledger : length s.ledger ≤ drop_count s
   pub fates : fate_count s.fates ≡ s.handed
 
+-- with one more that was dropped for this reason
+abbrev pub with_drop : Reason → State → State
+with_drop encode_memory s = record s { encode_memory = s.encode_memory + 1 }
+with_drop too_large s = record s { too_large = s.too_large + 1 }
+with_drop _ s = s
+
+-- with counts of the dropped ones
+abbrev pub with_counts : drops.DropCounts → State → State
+with_counts counts s =
+    record s { encode_memory = counts.encode_memory; too_large = counts.too_large }
+
+-- One more is counted for this reason.
+pub record CountsOne (reason : Reason) (old new : drops.DropCounts) : Type 0 where
+  pub sum : new.encode_memory + new.too_large ≡ old.encode_memory + old.too_large + 1
+  pub others : IsOfEncodings old → IsOfEncodings new
+  pub state : (s : State) → with_counts new s ≡ with_drop reason (with_counts old s)
+
 -- An exporter that tells has one more attempt, the one of this span, and this came of it.
-pub record IsSent (told told' : Option (List Handed)) (span : EndedSpan) (outcome : Outcome)
-    : Type 0 where
+pub record IsSent (max_body : ℕ) (told told' : Option (List Handed)) (span : EndedSpan)
+    (outcome : Outcome) : Type 0 where
   pub body : Handed
+  pub fits : Fits max_body body
   pub gains : Gains (body ∷ []) told told'
   pub means : attempt_in body ≡ attempt_of_span span
   pub answered : body.outcome ≡ outcome
@@ -73,7 +106,7 @@ pub record IsHanded (told told' : Option (List Handed)) (s : State) (span : Ende
   pub admits : s.closed ≡ false
   pub is_next : ticket ≡ ticket_count s
   pub outcome : Outcome
-  pub sent : IsSent told told' (with_ticket ticket span) outcome
+  pub sent : IsSent s.max_body told told' (with_ticket ticket span) outcome
   pub fate : Fate
   pub ended : fate_of (next_of outcome) ≡ Some fate
   pub state : s' ≡ record s {
@@ -82,15 +115,15 @@ pub record IsHanded (told told' : Option (List Handed)) (s : State) (span : Ende
     fates = with_fate fate s.fates;
   }
 
--- The span was dropped under the next ticket, for want of memory.
+-- The span was dropped under the next ticket: it has no body, for this reason.
 pub record IsDropped (told told' : Option (List Handed)) (s : State) (span : EndedSpan)
-    (ticket : ℕ) (s' : State) : Type 0 where
+    (reason : Reason) (ticket : ℕ) (s' : State) : Type 0 where
   pub admits : s.closed ≡ false
   pub is_next : ticket ≡ ticket_count s
+  pub lacks : LacksBody s.max_body (with_ticket ticket span ∷ []) reason
   pub nothing_is_sent : told' ≡ told
-  pub state : s' ≡ record s {
-    ledger = entry_of encode_memory (with_ticket ticket span) ∷ s.ledger;
-    dropped = s.dropped + 1;
+  pub state : s' ≡ record (with_drop reason s) {
+    ledger = entry_of reason (with_ticket ticket span) ∷ s.ledger;
     closed = is_last_ticket ticket;
   }
 
@@ -104,8 +137,8 @@ pub record IsLate (told told' : Option (List Handed)) (s s' : State) : Type 0 wh
 abbrev pub Answers : Option (List Handed) → Option (List Handed) → State → EndedSpan → Ended
     → State → Type 0
 Answers told told' s span (answers.Handed ticket) s' = IsHanded told told' s span ticket s'
-Answers told told' s span (answers.Dropped ticket reasons.EncodeMemory) s' =
-    IsDropped told told' s span ticket s'
+Answers told told' s span (answers.Dropped ticket reason) s' =
+    IsDropped told told' s span (reason_view reason) ticket s'
 Answers told told' s span answers.Late s' = IsLate told told' s s'
 Answers told told' s span _ s' = ⊥
 
@@ -123,6 +156,6 @@ pub record AreTotals (t : Totals) (s : State) : Type 0 where
   pub handed : t.handed ≡ s.handed
   pub left : t.left ≡ 0
   pub late : t.late ≡ s.late
-  pub dropped : drop_counts_view t.dropped ≡ memory_drops s.dropped
+  pub dropped : drop_counts_view t.dropped ≡ drops_in s
   pub fates : fate_counts_view t.fates ≡ s.fates
   pub closed : t.closed ≡ s.closed

@@ -3,11 +3,12 @@ use Rattle.std.specs.Prelude.{ℕ, List, filter_map, Option, Some, None}
 use Rattle.span_exporter.specs.Handed.{Handed}
 use Rattle.pass_model.specs.Passes.{PassAccount, new_account}
 
--- What a processor began with: how many passes it has, and what its exporter told that it had been
--- handed before.
+-- What a processor began with: how many passes it has, what its exporter told that it had been
+-- handed before, and how many bytes a body may have.
 pub record Origin : Type 0 where
   pub passes : ℕ
   pub had : Option (List Handed)
+  pub max_body : ℕ
 
 -- the processor's own account, or that of a pass
 pub data Holder : Type 0 where
@@ -15,7 +16,7 @@ pub data Holder : Type 0 where
   pass : PassAccount → Holder
 
 abbrev pub new_origin : Origin
-new_origin = record { passes = 0; had = None }
+new_origin = record { passes = 0; had = None; max_body = 0 }
 
 abbrev pub origin_in : Holder → Origin
 origin_in (processor origin) = origin

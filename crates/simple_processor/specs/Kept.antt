@@ -4,10 +4,10 @@ use Rattle.std.specs.List.{AllByRecursion}
 use Rattle.span_model.specs.Dropped.{Entry}
 use Rattle.desk_model.specs.Desks.{drop_counts, fate_counts}
 use Rattle.span_exporter.specs.Handed.{Handed, Gains}
-use Rattle.pass_model.specs.Passes.{PassAccount, all_accepted, all_dropped, all_popped}
+use Rattle.pass_model.specs.Passes.{PassAccount, drops, all_accepted, all_dropped, all_popped}
 use Rattle.pass_model.specs.Clauses.{CountsLate, GivesTickets}
-use Rattle.simple_processor.specs.Bodies.{attempt_in, attempt_of_span, fates_of}
-use Rattle.simple_processor.specs.Desk.{State, AreTotals, memory_drops, ticket_count}
+use Rattle.simple_processor.specs.Bodies.{Fits, LacksItsBody, attempt_in, attempt_of_span, fates_of}
+use Rattle.simple_processor.specs.Desk.{State, AreTotals, drops_in, ticket_count}
 use Rattle.batch_desk.specs.declared.totals.Totals.{Totals}
 use Rattle.simple_processor.specs.Holders.{Origin, Holder, processor, pass, pass_accounts}
 
@@ -21,12 +21,15 @@ pub record Agrees (had told : Option (List Handed)) (s : State) (accounts : List
     : Type 0 where
   pub bodies : List Handed
   pub gains : Gains bodies had told
+  pub fits : AllByRecursion (Fits s.max_body) bodies
   pub sent : IsPermutation (map attempt_of_span (all_accepted accounts)) (map attempt_in bodies)
   pub fates : s.fates ≡ fate_counts (fates_of bodies)
   pub handed : s.handed ≡ length (all_accepted accounts)
   pub tickets : GivesTickets (ticket_count s) accounts
   pub names : IsPermutation (all_dropped accounts) (s.ledger ++ all_popped accounts)
-  pub dropped : drop_counts (all_dropped accounts) ≡ memory_drops s.dropped
+  pub dropped : drop_counts (all_dropped accounts) ≡ drops_in s
+  pub lacking : AllByRecursion
+      (λ (a : PassAccount). AllByRecursion (LacksItsBody s.max_body) (drops a)) accounts
   pub late : CountsLate s.late (ticket_count s) s.closed accounts
 
 -- What the lock keeps of the accounts of a processor that began so.
@@ -34,6 +37,7 @@ pub record Kept (origin : Origin) (told : Option (List Handed)) (s : State) (hol
     : Type 0 where
   pub few : length holders ≤ origin.passes + 1
   pub origins : AllByRecursion (IsOf origin) holders
+  pub max_body : s.max_body ≡ origin.max_body
   pub agrees : Agrees origin.had told s (pass_accounts holders)
 
 -- the same, and that no account is left where nothing lies there any more
@@ -46,13 +50,14 @@ IsShared told state origin (Some desk) holders = Kept origin (told desk) (state 
 
 -- What an exporter that tells was handed since the processor began, one attempt for each span that
 -- the passes know as handed.
-pub record IsAccountOf (had told : Option (List Handed)) (t : Totals) (ledger : List Entry)
-    (accounts : List PassAccount) : Type 0 where
+pub record IsAccountOf (origin : Origin) (told : Option (List Handed)) (t : Totals)
+    (ledger : List Entry) (accounts : List PassAccount) : Type 0 where
   pub state : State
   pub totals : AreTotals t state
   pub ledger_is : ledger ≡ state.ledger
-  pub agrees : Agrees had told state accounts
+  pub max_body : state.max_body ≡ origin.max_body
+  pub agrees : Agrees origin.had told state accounts
 
 -- how many tickets were given, by the totals
 abbrev pub given_tickets : Totals → ℕ
-given_tickets t = t.handed + t.dropped.encode_memory
+given_tickets t = t.handed + (t.dropped.encode_memory + t.dropped.too_large)

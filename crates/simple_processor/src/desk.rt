@@ -1,17 +1,19 @@
 //! What lies under the lock: the exporter, the ledger and counts.
-ghost use Rattle.std.specs.Prelude.{◌≡◌, ◌-◌, ◌^◌, ◌<◌, Some, IfOk, OnErr, option_map, true};
+ghost use Rattle.std.specs.Prelude.{◌≡◌, ◌+◌, ◌-◌, ◌^◌, ◌<◌, [], ◌∷◌, Some, IfErr, IfOk, OnErr, option_map, true};
+ghost use Rattle.export_model.specs.Export.{LacksBody};
 ghost use Rattle.retry_model.specs.Retries as retries;
 ghost use Rattle.retry_model.specs.Retries.{next_of};
 ghost use Rattle.retry_core.specs.Retries.{fate_view, outcome_view};
-ghost use Rattle.otlp_span.specs.Dropped.{entry_view};
-ghost use Rattle.simple_processor.specs.Desk.{Answers, AreTotals, IsSent, Pops, new_state};
+ghost use Rattle.otlp_span.specs.Dropped.{entry_view, reason_view};
+ghost use Rattle.otlp_proto.specs.Bodies.{reason_of};
+ghost use Rattle.simple_processor.specs.Desk.{Answers, AreTotals, CountsOne, IsSent, Pops, new_state};
 
 use crate::encoder::Encoder;
 use crate::processor::SimpleAccounts;
 use batch_desk::{FateCounts, Totals};
 use drop_ledger::{DropCounts, Ledger};
-use otlp_ids::OutOfMemory;
-use otlp_span::{Entry, Reason, SpanData};
+use otlp_proto::EncodeFault;
+use otlp_span::{Entry, SpanData};
 use retry_core::{Fate, Outcome, RetryConfig, decide};
 use span_exporter::Exporter;
 use std::alloc::Allocator;
@@ -25,7 +27,7 @@ pub(crate) struct Desk<E, A: Allocator> {
     encoder: Encoder<A>,
     ledger: Ledger<A>,
     handed: u64,
-    dropped: u64,
+    dropped: DropCounts,
     late: u64,
     closed: bool,
     fates: FateCounts,
@@ -33,16 +35,18 @@ pub(crate) struct Desk<E, A: Allocator> {
 
 impl<E, A: Allocator> Model for Desk<E, A> {
     ghost use Rattle.batch_desk.specs.Views.{fate_counts_view};
-    ghost use Rattle.simple_processor.specs.Desk.{AreCounts, DeskWith};
+    ghost use Rattle.simple_processor.specs.Desk.{AreCounts, DeskWith, IsOfEncodings};
 
     ghost Value = { DeskWith E };
 
     ghost view = { λ d. record {
       exporter = d.exporter;
       state = record {
+        max_body = d.encoder;
         ledger = d.ledger;
         handed = d.handed;
-        dropped = d.dropped;
+        encode_memory = d.dropped.encode_memory;
+        too_large = d.dropped.too_large;
         late = d.late;
         closed = d.closed;
         fates = fate_counts_view d.fates;
@@ -50,26 +54,28 @@ impl<E, A: Allocator> Model for Desk<E, A> {
     } };
 
     ghost invariant = { λ d. AreCounts (record {
+      max_body = d.encoder;
       ledger = d.ledger;
       handed = d.handed;
-      dropped = d.dropped;
+      encode_memory = d.dropped.encode_memory;
+      too_large = d.dropped.too_large;
       late = d.late;
       closed = d.closed;
       fates = fate_counts_view d.fates;
-    }) };
+    }) × IsOfEncodings d.dropped };
 }
 
 impl<E: Exporter, A: Allocator + Copy> Desk<E, A> {
     /// A desk of this exporter at which nothing was done.
     pub(crate) fn new(exporter: E, encoder: Encoder<A>) -> Desk<E, A>
-        ensures { result ≡ record { exporter = exporter; state = new_state } }
+        ensures { result ≡ record { exporter = exporter; state = new_state encoder } }
     {
         Desk {
             exporter,
             encoder,
             ledger: Ledger::new(),
             handed: 0,
-            dropped: 0,
+            dropped: DropCounts::new(),
             late: 0,
             closed: false,
             fates: FateCounts::new(),
@@ -77,8 +83,8 @@ impl<E: Exporter, A: Allocator + Copy> Desk<E, A> {
     }
 
     /// Takes a span that has ended, under the next ticket, and hands it to the exporter alone.
-    /// Where memory is refused, the ledger names it. Behind a shutdown it is only counted. Where
-    /// the next ticket would be 2^64 - 1, the desk closes as by a shutdown.
+    /// Where it has no body, the ledger names it. Behind a shutdown it is only counted. Where the
+    /// next ticket would be 2^64 - 1, the desk closes as by a shutdown.
     pub(crate) fn admit(&mut self, mut span: SpanData<A>) -> Ended
         ensures { Answers (E.handed self.old.exporter) (E.handed self.new.exporter)
             self.old.state span result self.new.state }
@@ -87,7 +93,7 @@ impl<E: Exporter, A: Allocator + Copy> Desk<E, A> {
             self.late = self.late.saturating_add(1);
             return Ended::Late;
         }
-        let ticket = self.handed + self.dropped;
+        let ticket = self.handed + (self.dropped.encode_memory + self.dropped.too_large);
         self.closed = ticket + 1 == u64::MAX;
         span.set_ticket(ticket);
         let (span, sent) = send(&mut self.exporter, &mut self.encoder, span);
@@ -97,11 +103,12 @@ impl<E: Exporter, A: Allocator + Copy> Desk<E, A> {
                 self.handed += 1;
                 Ended::Handed(ticket)
             }
-            Err(OutOfMemory) => {
-                let entry = span.entry(Reason::EncodeMemory);
+            Err(fault) => {
+                let reason = fault.reason();
+                let entry = span.entry(reason);
                 self.ledger.push(span.into_slip(), entry);
-                self.dropped += 1;
-                Ended::Dropped(ticket, Reason::EncodeMemory)
+                count_one(&mut self.dropped, &fault);
+                Ended::Dropped(ticket, reason)
             }
         }
     }
@@ -144,10 +151,7 @@ impl<E: Exporter, A: Allocator + Copy> Desk<E, A> {
             handed,
             left: 0,
             late,
-            dropped: DropCounts {
-                encode_memory: dropped,
-                ..DropCounts::new()
-            },
+            dropped,
             fates,
             closed,
         };
@@ -159,25 +163,37 @@ impl<E: Exporter, A: Allocator + Copy> Desk<E, A> {
     }
 }
 
+/// Counts a span more that has no body.
+fn count_one(dropped: &mut DropCounts, fault: &EncodeFault)
+    requires { dropped.old.encode_memory + dropped.old.too_large < 2 ^ 64 - 1 }
+    ensures { CountsOne (reason_view (reason_of fault.now)) dropped.old dropped.new }
+{
+    dropped.add(fault.reason(), 1);
+}
+
 /// Encodes a span alone, and hands its body to the exporter, once. The span comes back.
 fn send<E: Exporter, A: Allocator + Copy>(
     exporter: &mut E,
     encoder: &mut Encoder<A>,
     span: SpanData<A>,
-) -> (SpanData<A>, Result<Outcome, OutOfMemory>)
+) -> (SpanData<A>, Result<Outcome, EncodeFault>)
     requires { span.ticket < 2 ^ 64 - 1 }
+    ensures same { encoder.new ≡ encoder.old }
     ensures span { result.0 ≡ span }
-    ensures sent { IfOk result.1 (λ outcome. IsSent (E.handed exporter.old)
+    ensures sent { IfOk result.1 (λ outcome. IsSent encoder.old (E.handed exporter.old)
         (E.handed exporter.new) span (outcome_view outcome)) }
-    ensures refused { OnErr result.1 (E.handed exporter.new ≡ E.handed exporter.old) }
+    ensures lacks { IfErr result.1 (λ fault.
+        LacksBody encoder.old (span ∷ []) (reason_view (reason_of fault))) }
+    ensures nothing_is_sent { OnErr result.1 (E.handed exporter.new ≡ E.handed exporter.old) }
 {
     let number = span.ticket() + 1;
     let (span, encoded) = encoder.encode(span);
-    let Ok(body) = encoded else {
-        return (span, Err(OutOfMemory));
+    let body = match encoded {
+        Ok(body) => body,
+        Err(fault) => return (span, Err(fault)),
     };
     if exporter.prepare(body.len(), 1).is_err() {
-        return (span, Err(OutOfMemory));
+        return (span, Err(EncodeFault::OutOfMemory));
     }
     let outcome = exporter.export(number, 1, body.as_slice());
     (span, Ok(outcome))

@@ -38,10 +38,11 @@ impl Opening<Holding> for NewProcessor {
     ghost first = { processor new_origin };
 }
 
-/// With what a processor begins: how many passes it has, and its exporter.
+/// With what a processor begins: how many passes it has, the greatest body, and its exporter.
 #[derive(Drop)]
 pub(crate) struct Began<E> {
     pub(crate) passes: usize,
+    pub(crate) max_body: usize,
     pub(crate) exporter: Snapshot<E>,
 }
 
@@ -51,8 +52,11 @@ pub(crate) struct Begins<E>(PhantomData<E>);
 impl<E: Exporter> Change<Holding, Began<E>> for Begins<E> {
     ghost use Rattle.simple_processor.specs.Holders.{processor};
 
-    ghost after = { λ _ began. processor
-        (record { passes = began.passes; had = E.handed began.exporter.value }) };
+    ghost after = { λ _ began. processor (record {
+      passes = began.passes;
+      had = E.handed began.exporter.value;
+      max_body = began.max_body;
+    }) };
 }
 
 /// A span that ended, and what was answered.

@@ -95,10 +95,11 @@ impl<J: Naming, E: Exporter, R: Wait, A: Allocator + Copy> EndPass<SpanData<A>>
     ghost admits = { AdmitsSpan };
 
     /// Encodes the span alone and hands its body to the exporter, in one attempt, numbered with
-    /// its ticket and 1: `Handed`. Where memory is refused, the ledger names the span on its own
-    /// slip: `Dropped`, as `EncodeMemory`. Behind a shutdown the span is only counted: `Late`.
-    /// Tickets are given from 0 on; where the next would be 2^64 - 1, none is given any more, as
-    /// behind a shutdown (profile: tickets, the ledger, late spans).
+    /// its ticket and 1: `Handed`. Where memory is refused, or the body would be longer than it may
+    /// be, the ledger names the span on its own slip: `Dropped`, as `EncodeMemory` or `TooLarge`.
+    /// Behind a shutdown the span is only counted: `Late`. Tickets are given from 0 on; where the
+    /// next would be 2^64 - 1, none is given any more, as behind a shutdown (profile: tickets, the
+    /// ledger, the greatest body, late spans).
     fn admit(&mut self, span: SpanData<A>) -> Ended {
         let SimplePass {
             shared,

@@ -5,9 +5,9 @@ ghost use Rattle.span_exporter.specs.Handed.{Gains};
 ghost use Rattle.desk_model.specs.Desks.{capped, drop_counts, fate_counts};
 ghost use Rattle.drop_ledger.specs.Counts.{drop_counts_view};
 ghost use Rattle.batch_desk.specs.Views.{fate_counts_view};
-ghost use Rattle.pass_model.specs.Passes.{PassAccount, Rises, all_accepted, all_dropped, all_popped, all_tickets, late_count, new_account, shutdown_count, tickets};
+ghost use Rattle.pass_model.specs.Passes.{PassAccount, Rises, drops, all_accepted, all_dropped, all_popped, all_tickets, late_count, new_account, shutdown_count, tickets};
 ghost use Rattle.pass_model.specs.Clauses.{is_closed, numbers_below};
-ghost use Rattle.simple_processor.specs.Bodies.{attempt_in, attempt_of_span, fates_of, told_since};
+ghost use Rattle.simple_processor.specs.Bodies.{Fits, LacksItsBody, attempt_in, attempt_of_span, fates_of, told_since};
 ghost use Rattle.simple_processor.specs.Holders.{pass};
 ghost use Rattle.simple_processor.specs.Kept.{given_tickets};
 ghost use Rattle.simple_processor.specs.declared.processor.TheConstants.{MAX_PASSES};
@@ -35,8 +35,8 @@ pub const MAX_PASSES: usize = 64;
 const _: () = prove!(MAX_PASSES == 64);
 
 /// A simple processor (Trace SDK, "Simple processor"): an exporter that threads share under a lock,
-/// each by a pass of its own. In contracts it is what it began with: how many passes it has, and
-/// what its exporter told before.
+/// each by a pass of its own. In contracts it is what it began with: how many passes it has, what
+/// its exporter told before, and how many bytes a body may have.
 #[derive(Drop)]
 pub struct SimpleProcessor<J: Naming, E: Exporter, R, A: Allocator = Global> {
     shared: Arc<Mutex<Shared<J, E, A>>, A>,
@@ -100,8 +100,9 @@ pub struct SimpleMissing<J: Naming, E: Exporter, R, A: Allocator = Global> {
 }
 
 impl<J: Naming, E: Exporter, R: Wait + Copy, A: Allocator + Copy> SimpleProcessor<J, E, R, A> {
-    /// A processor over this exporter, with so many passes, 1 to [`MAX_PASSES`]. The blank becomes
-    /// its accounts: a type parameter stands for its name, and so for this one processor.
+    /// A processor over this exporter, with so many passes, 1 to [`MAX_PASSES`]. A span whose body
+    /// would have more than `max_body` bytes is dropped (profile). The blank becomes its accounts:
+    /// a type parameter stands for its name, and so for this one processor.
     ///
     /// # Errors
     ///
@@ -113,12 +114,13 @@ impl<J: Naming, E: Exporter, R: Wait + Copy, A: Allocator + Copy> SimpleProcesso
         blank: SimpleBlank,
         exporter: E,
         passes: usize,
+        max_body: usize,
     ) -> Result<SimpleParts<J, E, R, A>, SimpleFault>
     where
         E: Drop,
         requires { blank ≡ J.name }
         ensures processor { IfOk result (λ parts. parts.processor
-            ≡ record { passes = passes; had = E.handed exporter }) }
+            ≡ record { passes = passes; had = E.handed exporter; max_body = max_body }) }
         ensures count { IfOk result (λ parts. vec_len parts.passes ≡ passes) }
         ensures passes { IfOk result
             (λ parts. AllByRecursion (λ a. a ≡ new_account) parts.passes.items) }
@@ -128,11 +130,12 @@ impl<J: Naming, E: Exporter, R: Wait + Copy, A: Allocator + Copy> SimpleProcesso
         if passes == 0 || passes > MAX_PASSES {
             return Err(SimpleFault::BadPasses);
         }
-        let encoder = Encoder::new(alloc)?;
+        let encoder = Encoder::new(alloc, max_body)?;
         let mut book = blank.named::<J>();
         let mut account = book.open::<NewProcessor>();
         let began = Began {
             passes,
+            max_body,
             exporter: Snapshot::of(&exporter),
         };
         book.record::<Began<E>, Begins<E>>(&mut account, &began);
@@ -141,6 +144,7 @@ impl<J: Naming, E: Exporter, R: Wait + Copy, A: Allocator + Copy> SimpleProcesso
             desk: Some(Desk::new(exporter, encoder)),
             book,
             passes,
+            max_body,
             began: began.exporter,
         };
         let shared = Arc::new(alloc, Mutex::new(shared))?;
@@ -182,6 +186,8 @@ impl<J: Naming, E: Exporter, R: Wait + Copy, A: Allocator + Copy> SimpleProcesso
         ensures fates { IfOk result (λ a. OnSome (E.handed a.exporter)
             (fate_counts_view a.totals.fates
             ≡ fate_counts (fates_of (told_since self.had (E.handed a.exporter))))) }
+        ensures fits { IfOk result (λ a. OnSome (E.handed a.exporter) (AllByRecursion
+            (Fits self.max_body) (told_since self.had (E.handed a.exporter)))) }
 
         // Tickets are given once, and rise on each pass.
         ensures tickets { IfOk result (λ a.
@@ -189,13 +195,17 @@ impl<J: Naming, E: Exporter, R: Wait + Copy, A: Allocator + Copy> SimpleProcesso
         ensures rising { OnOk result
             (AllByRecursion (λ (a : PassAccount). Rises (tickets a)) passes.items) }
 
-        // A dropped span is named in the ledger, until its entry is popped.
+        // A dropped span is named in the ledger, until its entry is popped. It has no body alone:
+        // memory was refused, or the body would be longer than it may be.
         ensures entries { IfOk result (λ a.
             IsPermutation (all_dropped passes.items) (a.ledger ++ all_popped passes.items)) }
         ensures dropped { IfOk result (λ a.
             drop_counts_view a.totals.dropped ≡ drop_counts (all_dropped passes.items)) }
-        ensures only_for_memory { IfOk result (λ a. (a.totals.dropped.queue_full ≡ 0)
-            × (a.totals.dropped.too_large ≡ 0) × (a.totals.dropped.abandoned ≡ 0)) }
+        ensures lacking { OnOk result (AllByRecursion
+            (λ (a : PassAccount). AllByRecursion (LacksItsBody self.max_body) (drops a))
+            passes.items) }
+        ensures only_without_body { IfOk result (λ a. (a.totals.dropped.queue_full ≡ 0)
+            × (a.totals.dropped.abandoned ≡ 0)) }
 
         ensures handed { IfOk result
             (λ a. a.totals.handed ≡ length (all_accepted passes.items)) }

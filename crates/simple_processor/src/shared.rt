@@ -24,6 +24,7 @@ pub(crate) struct Shared<J: Naming, E: Exporter, A: Allocator> {
     pub(crate) desk: Option<Desk<E, A>>,
     pub(crate) book: Book<J, Holding>,
     pub(crate) passes: usize,
+    pub(crate) max_body: usize,
     pub(crate) began: Snapshot<E>,
 }
 
@@ -35,7 +36,8 @@ impl<J: Naming, E: Exporter, A: Allocator> Model for Shared<J, E, A> {
     ghost view = { λ s. tt };
 
     ghost invariant = { λ s. IsShared (λ d. E.handed d.exporter) (λ d. d.state)
-        (record { passes = s.passes; had = E.handed s.began.value }) s.desk s.book };
+        (record { passes = s.passes; had = E.handed s.began.value; max_body = s.max_body })
+        s.desk s.book };
 }
 
 impl<J: Naming, E: Exporter, A: Allocator + Copy> Shared<J, E, A> {
@@ -96,7 +98,7 @@ impl<J: Naming, E: Exporter, A: Allocator + Copy> Shared<J, E, A> {
         R: Drop,
         requires processor { account ≡ processor (origin_in account) }
         requires all { (origin_in account).passes ≤ vec_len passes }
-        ensures { IsAccountOf (origin_in account).had (E.handed result.exporter) result.totals
+        ensures { IsAccountOf (origin_in account) (E.handed result.exporter) result.totals
             result.ledger passes.items }
     {
         self.book.recognize(&mut account);

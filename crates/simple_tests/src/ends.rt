@@ -1,10 +1,12 @@
 //! Ends on one thread: how they are answered and counted.
 ghost use Rattle.std.specs.Prelude.{◌≡◌};
 
-use crate::equal::assert_equal;
-use crate::fixture::{END, assert_handed, exporter, root, sampled};
+use crate::equal::{assert_equal, assert_equal_at};
+use crate::fixture::{END, assert_handed, entry, exporter, root, sampled};
 use batch_desk::{FateCounts, Totals};
+use otlp_proto::DEFAULT_MAX_BODY;
 use otlp_sampler::AlwaysOff;
+use otlp_span::{Entry, Reason};
 use retry_core::Outcome;
 use simple_processor::{
     Flushed, MAX_PASSES, Naming, SimpleBlank, SimpleFault, SimpleMissing, SimpleParts,
@@ -43,7 +45,7 @@ fn count_outcomes<J: Naming, R: Wait + Abort + Copy>(rt: R, alloc: Global, blank
     requires { blank ≡ J.name }
 {
     let exporter = exporter(&rt, alloc, &OUTCOMES);
-    let made = SimpleProcessor::<J, _, R>::new(alloc, rt, blank, exporter, 1);
+    let made = SimpleProcessor::<J, _, R>::new(alloc, rt, blank, exporter, 1, DEFAULT_MAX_BODY);
     let SimpleParts {
         processor,
         mut passes,
@@ -92,7 +94,7 @@ fn write_parts<J: Naming, R: Wait + Abort + Copy>(rt: R, alloc: Global, blank: S
 {
     assert_written(&rt, alloc, &blank, "Blank { .. }");
     let exporter = exporter(&rt, alloc, &[]);
-    let made = SimpleProcessor::<J, _, R>::new(alloc, rt, blank, exporter, 1);
+    let made = SimpleProcessor::<J, _, R>::new(alloc, rt, blank, exporter, 1, DEFAULT_MAX_BODY);
     let parts = made.expect(&rt, "a processor");
     assert_written(&rt, alloc, &parts, PARTS);
     let SimpleParts { processor, passes } = parts;
@@ -118,7 +120,7 @@ fn shut_down<J: Naming, R: Wait + Abort + Copy>(rt: R, alloc: Global, blank: Sim
     requires { blank ≡ J.name }
 {
     let exporter = exporter(&rt, alloc, &[]);
-    let made = SimpleProcessor::<J, _, R>::new(alloc, rt, blank, exporter, 2);
+    let made = SimpleProcessor::<J, _, R>::new(alloc, rt, blank, exporter, 2, DEFAULT_MAX_BODY);
     let SimpleParts {
         processor,
         mut passes,
@@ -165,6 +167,46 @@ fn a_shutdown_makes_spans_late(rt: HostRuntime) {
     shut_down::<Brand, HostRuntime>(rt, rt.alloc(), SimpleBlank::new());
 }
 
+/// How a span is answered whose body has 64 bytes, where a body may have so many; the name that is
+/// popped then; and how many were handed, and dropped as too large.
+fn end_within<J: Naming, R: Wait + Abort + Copy>(
+    rt: R,
+    alloc: Global,
+    blank: SimpleBlank,
+    max_body: usize,
+) -> (Ended, Option<Entry>, (u64, u64))
+    requires { blank ≡ J.name }
+{
+    let exporter = exporter(&rt, alloc, &[]);
+    let made = SimpleProcessor::<J, _, R>::new(alloc, rt, blank, exporter, 1, max_body);
+    let SimpleParts {
+        processor,
+        mut passes,
+    } = made.expect(&rt, "a processor");
+    let mut pass = passes.pop().expect(&rt, "a pass");
+    let answer = sampled(&rt, alloc).end(&mut pass, END);
+    let named = pass.pop_entry();
+    passes.push(pass).expect(&rt, "memory");
+    let accounts = processor.close_out(passes).ok();
+    let totals = accounts.expect(&rt, "all passes are there").totals;
+    (answer, named, (totals.handed, totals.dropped.too_large))
+}
+
+#[test]
+fn a_span_whose_body_is_too_large_is_named(rt: HostRuntime) {
+    let too_large = Ended::Dropped(0, Reason::TooLarge);
+    for (max_body, answer, named, counts) in [
+        (63, too_large, Some(entry(0, Reason::TooLarge)), (0, 1)),
+        (64, Ended::Handed(0), None, (1, 0)),
+    ] {
+        let blank = SimpleBlank::new();
+        let came = end_within::<Brand, HostRuntime>(rt, rt.alloc(), blank, max_body);
+        assert_equal_at(&rt, came.0, answer, max_body);
+        assert_equal_at(&rt, came.1, named, max_body);
+        assert_equal_at(&rt, came.2, counts, max_body);
+    }
+}
+
 /// How many passes a processor has that is to have so many.
 fn count_passes<J: Naming, R: Wait + Abort + Copy>(
     rt: R,
@@ -175,7 +217,14 @@ fn count_passes<J: Naming, R: Wait + Abort + Copy>(
     requires { blank ≡ J.name }
 {
     let exporter = exporter(&rt, alloc, &[]);
-    let parts = SimpleProcessor::<J, _, R>::new(alloc, rt, blank, exporter, passes)?;
+    let parts = SimpleProcessor::<J, _, R>::new(
+        alloc,
+        rt,
+        blank,
+        exporter,
+        passes,
+        DEFAULT_MAX_BODY,
+    )?;
     Ok(parts.passes.len())
 }
 

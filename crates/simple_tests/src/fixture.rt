@@ -64,13 +64,13 @@ pub(crate) fn exporter<A: Allocator + Copy>(
     MemoryExporter::new(alloc, Vec::from_slice(alloc, outcomes).expect(rt, "memory"))
 }
 
-/// The name of such a span, dropped for want of memory under this ticket.
-pub(crate) fn entry(ticket: u64) -> Entry {
+/// The name of such a span, dropped under this ticket for this reason.
+pub(crate) fn entry(ticket: u64, reason: Reason) -> Entry {
     Entry {
         trace: TRACE,
         span: SPAN,
         ticket,
-        reason: Reason::EncodeMemory,
+        reason,
     }
 }
 

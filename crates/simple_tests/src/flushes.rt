@@ -4,6 +4,7 @@ ghost use Rattle.std.specs.Prelude.{◌≡◌};
 use crate::equal::assert_equal;
 use crate::fixture::{END, sampled};
 use otlp_ids::OutOfMemory;
+use otlp_proto::DEFAULT_MAX_BODY;
 use retry_core::Outcome;
 use simple_processor::{Flushed, Naming, SimpleBlank, SimpleParts, SimplePass, SimpleProcessor};
 use span_exporter::Exporter;
@@ -99,7 +100,7 @@ where
         prepared: (0, 0),
         flushed: false,
     };
-    let made = SimpleProcessor::<J, _, R>::new(alloc, rt, blank, exporter, 2);
+    let made = SimpleProcessor::<J, _, R>::new(alloc, rt, blank, exporter, 2, DEFAULT_MAX_BODY);
     let SimpleParts {
         processor,
         mut passes,

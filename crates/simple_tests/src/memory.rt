@@ -5,6 +5,7 @@ use crate::equal::{assert_equal, assert_equal_at};
 use crate::fixture::{END, entry, sampled};
 use failing_allocator::FailingAllocator;
 use linked_list_allocator::LocalHeap;
+use otlp_proto::DEFAULT_MAX_BODY;
 use otlp_span::Reason;
 use simple_processor::{
     Naming, SimpleBlank, SimpleFault, SimpleParts, SimplePass, SimpleProcessor,
@@ -61,7 +62,7 @@ fn end_scarce<J: Naming, R: Wait + Abort + Copy, A: Allocator + Copy>(
     let SimpleParts {
         processor,
         mut passes,
-    } = match SimpleProcessor::<J, _, R, A>::new(scarce, rt, blank, exporter, 2) {
+    } = match SimpleProcessor::<J, _, R, A>::new(scarce, rt, blank, exporter, 2, DEFAULT_MAX_BODY) {
         Ok(parts) => parts,
         Err(fault) => {
             assert_equal(&rt, fault, SimpleFault::OutOfMemory);
@@ -71,7 +72,7 @@ fn end_scarce<J: Naming, R: Wait + Abort + Copy, A: Allocator + Copy>(
     let mut pass = passes.pop().expect(&rt, "a pass");
     let refused = end_two(rt, ample, &mut pass);
     let named = match refused {
-        Refused::Span(ticket) => Some(entry(ticket)),
+        Refused::Span(ticket) => Some(entry(ticket, Reason::EncodeMemory)),
         _ => None,
     };
     if pops {

@@ -2,6 +2,7 @@
 //! fits the other.
 ghost use Rattle.std.specs.Prelude.{◌≡◌, IfOk, true};
 
+use otlp_proto::DEFAULT_MAX_BODY;
 use simple_processor::{Naming, SimpleBlank, SimpleFault, SimpleParts, SimpleProcessor};
 use span_exporter::MemoryExporter;
 use std::alloc::Allocator;
@@ -24,10 +25,22 @@ pub fn close_two<J: Naming, K: Naming, R: Wait + Copy, A: Allocator + Copy>(
 {
     let exporter = MemoryExporter::new(alloc, Vec::new(alloc));
     let SimpleParts { processor, passes } = SimpleProcessor::<J, _, R, A>::new(
-        alloc, rt, first, exporter, 1,
+        alloc,
+        rt,
+        first,
+        exporter,
+        1,
+        DEFAULT_MAX_BODY,
     )?;
     let exporter = MemoryExporter::new(alloc, Vec::new(alloc));
-    let neighbor = SimpleProcessor::<K, _, R, A>::new(alloc, rt, second, exporter, 1)?;
+    let neighbor = SimpleProcessor::<K, _, R, A>::new(
+        alloc,
+        rt,
+        second,
+        exporter,
+        1,
+        DEFAULT_MAX_BODY,
+    )?;
     let own = processor.close_out(passes).is_ok();
     let neighbors = neighbor.processor.close_out(neighbor.passes).is_ok();
     Ok(own && neighbors)

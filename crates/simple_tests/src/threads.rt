@@ -3,6 +3,7 @@ ghost use Rattle.std.specs.Prelude.{◌≡◌};
 
 use crate::equal::assert_equal;
 use crate::fixture::{END, exporter, sampled};
+use otlp_proto::DEFAULT_MAX_BODY;
 use simple_processor::{
     Flushed, Naming, SimpleBlank, SimpleMissing, SimpleParts, SimplePass, SimpleProcessor,
 };
@@ -69,7 +70,14 @@ where
     requires { blank ≡ J.name }
 {
     let exporter = exporter(&rt, alloc, &[]);
-    let made = SimpleProcessor::<J, _, R>::new(alloc, rt, blank, exporter, THREADS);
+    let made = SimpleProcessor::<J, _, R>::new(
+        alloc,
+        rt,
+        blank,
+        exporter,
+        THREADS,
+        DEFAULT_MAX_BODY,
+    );
     let SimpleParts { processor, passes } = made.expect(&rt, "a processor");
     let mut passes = run_threads(rt, alloc, passes);
     let mut last = passes.pop().expect(&rt, "a pass");

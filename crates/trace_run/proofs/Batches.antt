@@ -6,7 +6,7 @@ use Rattle.rand_core.specs.Stream.{Stream}
 use Rattle.span_model.specs.Sampling.{SamplerMeaning}
 use Rattle.span_model.specs.Dropped.{Reason as model-Reason, too_large as model-too_large}
 use Rattle.span_model.specs.Spans.{EndedSpan}
-use Rattle.export_model.specs.Export.{groups, body_length}
+use Rattle.export_model.specs.Export.{LacksBody, groups, body_length}
 use Rattle.retry_model.specs.Retries as retries
 use Rattle.retry_model.specs.Retries.{delivered, Next, Fate, fate_of}
 use Rattle.retry_model.specs.Waits.{RetryConfig, next_after}
@@ -34,7 +34,7 @@ use Rattle.trace_history.specs.declared.answer.Answer.{Answer as CodeAnswer}
 use Rattle.trace_history.specs.declared.answer.Answer.TheVariants as answers
 use Rattle.span_exporter.specs.Handed.{Handed}
 use Rattle.span_table.specs.Table.{IsTable, TableWith}
-use Rattle.trace_run.specs.Out.{ExportStage, to_encode, to_send, to_judge, to_retry, Out, progress_of, attempts_at, is_sent, shown_as, shown, IsTied, IsIdle, Takes, TakesBatch, DoesNothing, Encodes, EncodesAt, EncodesBatch, HasBody, LacksBody, DropsBatch, Sends, SendsAt, SendsFirst, SendsAgain, IsEarly, SendsNone, Replies, JudgesAt, Judges, Settles, PutsOff}
+use Rattle.trace_run.specs.Out.{ExportStage, to_encode, to_send, to_judge, to_retry, Out, progress_of, attempts_at, is_sent, shown_as, shown, IsTied, IsIdle, Takes, TakesBatch, DoesNothing, Encodes, EncodesAt, EncodesBatch, HasBody, DropsBatch, Sends, SendsAt, SendsFirst, SendsAgain, IsEarly, SendsNone, Replies, JudgesAt, Judges, Settles, PutsOff}
 use Rattle.trace_run.specs.State.{Stands}
 use Rattle.trace_run.proofs.Standing.{IsQuiet, or-false, tied-kept, desk-is, stands-on, out-stays, quiet-on}
 
@@ -229,7 +229,7 @@ module _ {S R : Type 0} (meaning : S → SamplerMeaning) (stream : R → Stream)
       }))
 
   -- why it is dropped
-  lacks-answer : (o : Out) → out ≡ Some o → o.stage ≡ to_encode → (reason : Reason) → LacksBody run.max_body o.batch.spans reason → IsAnswer run h (record { step = encode; answer = Answer.dropped (desk_after run h).batches (reason_view reason) })
+  lacks-answer : (o : Out) → out ≡ Some o → o.stage ≡ to_encode → (reason : Reason) → LacksBody run.max_body o.batch.spans (reason_view reason) → IsAnswer run h (record { step = encode; answer = Answer.dropped (desk_after run h).batches (reason_view reason) })
   lacks-answer o e s EncodeMemory l =
       let sh = out-shows o e in
       record { given = record { refused = true; outcome = delivered }; is = ap (encode_answer run h (desk_after run h) true) (sym (sym sh.stage ∙ ap progress_of s)) }

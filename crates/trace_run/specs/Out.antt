@@ -3,18 +3,15 @@ use Rattle.std.specs.Prelude.{◌≡◌, ℕ, ◌+◌, ◌<◌, ◌≤◌, ◌�
 use Rattle.message_model.specs.Reading.{Reads}
 use Rattle.message_model.specs.Messages.{body_meaning}
 use Rattle.span_model.specs.Spans.{EndedSpan}
-use Rattle.export_model.specs.Export.{groups, body_length, grouped_triples}
+use Rattle.export_model.specs.Export.{LacksBody, groups, body_length, grouped_triples}
 use Rattle.retry_model.specs.Retries as retries
 use Rattle.retry_model.specs.Retries.{Fate, fate_of}
 use Rattle.desk_model.specs.Queue as desk
 use Rattle.desk_model.specs.Desks.{Desk, Does, DropsSpans, TakesSpans}
 use Rattle.retry_model.specs.Waits.{RetryConfig, IsRetryConfig, next_after}
 use Rattle.otlp_proto.specs.Bodies.{body_bytes}
-use Rattle.otlp_proto.specs.declared.encoder.EncodeFault.{EncodeFault}
-use Rattle.otlp_proto.specs.declared.encoder.EncodeFault.TheVariants as faults
 use Rattle.otlp_span.specs.Dropped.{reason_view}
 use Rattle.otlp_span.specs.declared.reason.Reason.{Reason}
-use Rattle.otlp_span.specs.declared.reason.Reason.TheVariants.{EncodeMemory, TooLarge}
 use Rattle.retry_core.specs.Retries.{outcome_view, next_view}
 use Rattle.retry_core.specs.declared.next.Next.{Next}
 use Rattle.retry_core.specs.declared.outcome.Outcome.{Outcome}
@@ -168,22 +165,11 @@ pub record HasBody (max_body : ℕ) (batch : BatchView) (number size : ℕ) (old
   pub length : length body ≡ body_length (groups batch.spans)
   pub desk_same : new ≡ old
 
--- Why these spans have no body: memory was refused, or it would be larger than it may be.
-abbrev pub LacksBody : ℕ → List EndedSpan → Reason → Type 0
-LacksBody max_body spans EncodeMemory = Unit {0}
-LacksBody max_body spans TooLarge = max_body < body_length (groups spans)
-LacksBody max_body spans _ = ⊥
-
--- the reason that a fault comes to
-abbrev pub reason_of : EncodeFault → Reason
-reason_of faults.OutOfMemory = EncodeMemory
-reason_of faults.TooLarge = TooLarge
-
 -- It has none, and is dropped: the ledger names its spans.
 pub record DropsBatch (max_body : ℕ) (batch : BatchView) (number : ℕ) (reason : Reason)
     (old new : Desk) (later : Option Out) : Type 0 where
   pub numbered : number ≡ batch.number
-  pub lacks : LacksBody max_body batch.spans reason
+  pub lacks : LacksBody max_body batch.spans (reason_view reason)
   pub drops : DropsSpans (reason_view reason) batch.spans old new
   pub out : later ≡ None
   pub gone : new.out ≡ None

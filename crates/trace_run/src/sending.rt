@@ -4,15 +4,15 @@ ghost use Rattle.export_model.specs.Export.{groups, body_length};
 ghost use Rattle.desk_model.specs.Desks.{DropsSpans};
 ghost use Rattle.retry_model.specs.Waits.{IsRetryConfig, RetryConfig};
 ghost use Rattle.run_model.specs.Answers.{take_answer};
+ghost use Rattle.otlp_proto.specs.Bodies.{reason_of};
 ghost use Rattle.otlp_span.specs.Dropped.{reason_view};
 ghost use Rattle.batch_desk.specs.Desk.{IsOut, after_drop};
 ghost use Rattle.trace_history.specs.Answers.{answer_view};
 ghost use Rattle.trace_history.specs.declared.answer.Answer.TheVariants.{Dropped};
-ghost use Rattle.trace_run.specs.Out.{Encodes, EncodesBatch, IsBodyOf, IsCounted, IsReady, IsTied, reason_of, Replies, Sends, SendsBody, Takes, is_sent};
+ghost use Rattle.trace_run.specs.Out.{Encodes, EncodesBatch, IsBodyOf, IsCounted, IsReady, IsTied, Replies, Sends, SendsBody, Takes, is_sent};
 
 use batch_desk::{Batch, Desk};
 use otlp_proto::{EncodeFault, body_of};
-use otlp_span::Reason;
 use retry_core::{Next, Outcome, RetryConfig, decide};
 use span_exporter::Exporter;
 use std::alloc::Allocator;
@@ -165,10 +165,7 @@ fn drop_batch<A: Allocator>(desk: &mut Desk<A>, batch: Batch<A>, fault: EncodeFa
         DropsSpans reason batch.spans desk.old desk.new }
 {
     let number = batch.number();
-    let reason = match fault {
-        EncodeFault::OutOfMemory => Reason::EncodeMemory,
-        EncodeFault::TooLarge => Reason::TooLarge,
-    };
+    let reason = fault.reason();
     desk.drop_batch(batch, reason);
     Answer::Dropped {
         batch: number,

@@ -1,5 +1,5 @@
-use Rattle.batch_processor.proofs.Bodies.{body_is}
+use Rattle.batch_processor.proofs.Bodies.{bodies_are}
 use Rattle.batch_processor.proofs.encoder.body_of.Goals as goal
 
-pub returns-in-Ok : goal.returns-in-Ok
-returns-in-Ok g c = body_is c.args.spans.now c.in-Ok.body.items c.in-Ok.ensures.meaning c.in-Ok.ensures.canonical
+pub returns-clause-means : goal.returns-clause-means
+returns-clause-means g c = bodies_are c.args.spans.now (λ body. body.items) c.body_of.result c.body_of.ensures.meaning c.body_of.ensures.canonical

@@ -1,8 +1,9 @@
-use Rattle.std.proofs.Common.{ap, sym, subst, refl, ◌∙◌}
-use Rattle.batch_model.specs.Holders.{origin_in, worker_in}
-use Rattle.batch_model.specs.Worker.{OutBatch, WorkerAccount}
-use Rattle.batch_model.specs.Clauses.{BatchesAreNumbered, HandedAreCounted, QueuedAreAccounted, TicketsRiseThrough, abandon}
-use Rattle.pass_model.proofs.Steps.{late_after}
+use Rattle.std.proofs.Common.{rules, ap, subst}
+use Rattle.std.specs.List.{AllByRecursion}
+use Rattle.batch_model.specs.Holders.{worker_in}
+use Rattle.batch_model.specs.Worker.{WorkerAccount}
+use Rattle.batch_model.specs.Clauses.{BatchesAreNumbered, HandedAreCounted, IsByWork, QueuedAreAccounted, TicketsRiseThrough}
+use Rattle.batch_model.proofs.Reasons.{none_full}
 use Rattle.batch_model.proofs.Closing.{floors_are, handed_are, numbered_are, queued_are}
 use Rattle.batch_processor.proofs.processor.BatchProcessor.close_out.Goals as goal
 
@@ -11,6 +12,11 @@ returns-clause-spans g c =
     let desk = c.close-desk.result in let is = ap worker_in c.abandon-his.ensures.account in
     subst (λ (w : WorkerAccount). QueuedAreAccounted desk.waiting c.args.passes.items w) is
     (queued_are _ desk c.args.passes.items _ c.close-desk.ensures (ap (λ (w : WorkerAccount). w.out) is))
+
+pub returns-clause-not_full : goal.returns-clause-not_full
+returns-clause-not_full g c =
+    let by_work : AllByRecursion (IsByWork c.args.worker.origin) c.args.worker.account.ended = search rules in
+    none_full c.args.worker.origin c.args.worker.account by_work
 
 pub returns-clause-floors : goal.returns-clause-floors
 returns-clause-floors g c = floors_are _ c.close-desk.result c.args.passes.items _ c.close-desk.ensures

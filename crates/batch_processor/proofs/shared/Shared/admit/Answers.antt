@@ -1,10 +1,9 @@
-use Rattle.std.proofs.Common.{ap, ◌∙◌, sym, refl}
-use Rattle.batch_model.specs.Clauses.{Origin}
+use Rattle.std.proofs.Common.{sym}
 use Rattle.batch_processor.specs.Views.{setup_view}
-use Rattle.batch_model.proofs.Holding.{agrees_there, kept_of, kept_pass, kept_worker, origin_there}
+use Rattle.batch_model.proofs.Holding.{kept_of, kept_pass}
 use Rattle.batch_model.specs.Holders.{account_in}
-use Rattle.batch_processor.specs.Views.{after_end, ended_of}
-use Rattle.batch_processor.proofs.Holds.{admit_agrees, admit_config, is_answer}
+use Rattle.batch_processor.specs.Views.{after_end}
+use Rattle.batch_processor.proofs.Holds.{admit_agrees, admit_config}
 use Rattle.batch_processor.proofs.shared.Shared.admit.Goals as goal
 
 pub invariant_of-self : goal.invariant_of-self

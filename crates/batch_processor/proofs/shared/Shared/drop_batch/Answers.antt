@@ -1,4 +1,4 @@
-use Rattle.std.proofs.Common.{ap, sym, refl}
+use Rattle.std.proofs.Common.{ap, refl}
 use Rattle.desk_model.specs.Desks.{Desk}
 use Rattle.batch_model.proofs.Holding.{kept_of, kept_worker, origin_there}
 use Rattle.batch_model.proofs.Workers.{drop_agrees}

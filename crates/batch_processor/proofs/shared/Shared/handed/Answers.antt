@@ -1,11 +1,11 @@
-use Rattle.std.proofs.Common.{ap, ◌∙◌, sym, refl}
-use Rattle.desk_model.specs.Desks.{accepted_count, Desk}
-use Rattle.batch_model.proofs.Holding.{agrees_there, kept_of, kept_pass, kept_worker, origin_there}
+use Rattle.std.proofs.Common.{ap, refl}
+use Rattle.desk_model.specs.Desks.{Desk}
+use Rattle.batch_model.proofs.Holding.{kept_of, kept_worker, origin_there}
 use Rattle.batch_processor.specs.Views.{setup_view}
 use Rattle.batch_model.specs.Holders.{after_handed, worker_in}
 use Rattle.batch_model.proofs.Workers.{handed_agrees}
 use Rattle.batch_processor.proofs.Holds.{state_of}
-use Rattle.std.specs.Prelude.{None, Some}
+use Rattle.std.specs.Prelude.{None}
 use Rattle.batch_processor.proofs.shared.Shared.handed.Goals as goal
 
 pub invariant_of-self : goal.invariant_of-self

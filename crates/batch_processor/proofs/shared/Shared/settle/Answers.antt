@@ -1,13 +1,12 @@
-use Rattle.std.proofs.Common.{ap, ◌∙◌, sym, refl}
-use Rattle.desk_model.specs.Desks.{accepted_count, Desk}
-use Rattle.batch_model.proofs.Holding.{agrees_there, kept_of, kept_pass, kept_worker, origin_there}
+use Rattle.std.proofs.Common.{ap, refl}
+use Rattle.desk_model.specs.Desks.{Desk}
+use Rattle.batch_model.proofs.Holding.{kept_of, kept_worker, origin_there}
 use Rattle.batch_processor.specs.Views.{setup_view}
 use Rattle.retry_core.specs.Retries.{fate_view}
 use Rattle.batch_processor.specs.Views.{outcomes_view}
 use Rattle.batch_model.specs.Holders.{after_settle, worker_in}
 use Rattle.batch_model.proofs.Workers.{settle_agrees}
 use Rattle.batch_processor.proofs.Holds.{handed_room, handed_state}
-use Rattle.std.specs.Prelude.{None, Some}
 use Rattle.batch_processor.proofs.shared.Shared.settle.Goals as goal
 
 pub invariant_of-self : goal.invariant_of-self

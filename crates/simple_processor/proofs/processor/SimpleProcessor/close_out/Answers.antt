@@ -1,6 +1,6 @@
 use Rattle.std.proofs.Common.{sym}
 use Rattle.simple_processor.specs.Holders.{origin_in}
-use Rattle.simple_processor.proofs.Closing.{keeps, spans_are, fates_are}
+use Rattle.simple_processor.proofs.Closing.{keeps, spans_are, fates_are, fits_are, lacking_are}
 use Rattle.simple_processor.proofs.processor.SimpleProcessor.close_out.Goals as goal
 
 pub returns-clause-keeps : goal.returns-clause-keeps
@@ -11,9 +11,19 @@ returns-clause-keeps g c =
 pub returns-clause-spans : goal.returns-clause-spans
 returns-clause-spans g c =
     let accounts = c.close-accounts.result in
-    rw (sym c.self.view_is) (spans_are (origin_in c.self.inside.account).had (g.E.Exporter.handed accounts.exporter) accounts.totals accounts.ledger c.args.passes.items c.close-accounts.ensures)
+    rw (sym c.self.view_is) (spans_are (origin_in c.self.inside.account) (g.E.Exporter.handed accounts.exporter) accounts.totals accounts.ledger c.args.passes.items c.close-accounts.ensures)
 
 pub returns-clause-fates : goal.returns-clause-fates
 returns-clause-fates g c =
     let accounts = c.close-accounts.result in
-    rw (sym c.self.view_is) (fates_are (origin_in c.self.inside.account).had (g.E.Exporter.handed accounts.exporter) accounts.totals accounts.ledger c.args.passes.items c.close-accounts.ensures)
+    rw (sym c.self.view_is) (fates_are (origin_in c.self.inside.account) (g.E.Exporter.handed accounts.exporter) accounts.totals accounts.ledger c.args.passes.items c.close-accounts.ensures)
+
+pub returns-clause-fits : goal.returns-clause-fits
+returns-clause-fits g c =
+    let accounts = c.close-accounts.result in
+    rw (sym c.self.view_is) (fits_are (origin_in c.self.inside.account) (g.E.Exporter.handed accounts.exporter) accounts.totals accounts.ledger c.args.passes.items c.close-accounts.ensures)
+
+pub returns-clause-lacking : goal.returns-clause-lacking
+returns-clause-lacking g c =
+    let accounts = c.close-accounts.result in
+    rw (sym c.self.view_is) (lacking_are (origin_in c.self.inside.account) (g.E.Exporter.handed accounts.exporter) accounts.totals accounts.ledger c.args.passes.items c.close-accounts.ensures)

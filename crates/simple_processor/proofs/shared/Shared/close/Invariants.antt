@@ -11,3 +11,4 @@ invariant-loop-pass g l =
     × (l.self-inside.desk ≡ l.initial.self-inside.desk)
     × (l.self-inside.passes ≡ l.initial.self-inside.passes)
     × (l.self-inside.began ≡ l.initial.self-inside.began)
+    × (l.self-inside.max_body ≡ l.initial.self-inside.max_body)
