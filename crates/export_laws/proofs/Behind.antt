@@ -5,11 +5,11 @@ use Rattle.message_model.specs.Tables.{Message}
 use Rattle.httparse.specs.Grammar.{print_request}
 use Rattle.httparse.proofs.GrammarLemmas.{request_unique}
 use Rattle.http_wire.specs.declared.limits.HeadLimits.{HeadLimits}
-use Rattle.http_wire.specs.Bodies.{IsBody}
+use Rattle.http_wire.specs.Bodies.{IsBody, request_framing}
 use Rattle.http_wire.specs.Devices.{HasFailed}
 use Rattle.otlp_http.specs.Request.{request_text}
 use Rattle.otlp_serve.specs.declared.reply.PostReply.{PostReply}
-use Rattle.otlp_serve.specs.Posts.{HttpPost, IsPost, post_framing}
+use Rattle.otlp_serve.specs.Posts.{HttpPost, IsPost}
 use Rattle.otlp_serve.specs.RequestHeads.{request_fields}
 use Rattle.otlp_collector.specs.declared.canned.Canned.{Canned}
 use Rattle.otlp_collector.specs.Answering.{Judges, no_post, refused, unread, taken}
@@ -35,8 +35,8 @@ post_leaves limits host port body behind left failed other sent is =
     request_unique (request_text (traces_at host port) body ++ behind) (sent_head host port body) is.head (body ++ behind) (is.taken ++ left)
     (own.valid.valid, own.comes ∙ append_assoc (print_request (sent_head host port body)) body behind)
     (is.comes.valid.valid, is.comes.comes ∙ append_assoc (print_request is.head) is.taken left) in
-    let framing = ap (λ h. post_framing (request_fields h)) (sym one.0) ∙ framed limits host port body sent in
-    let whole = subst (λ f. IsBody f limits.body is.taken (Some left) failed (Ok other.body)) framing is.body in
+    let framing = ap (λ h. request_framing (request_fields h)) (sym one.0) ∙ framed limits host port body sent in
+    let whole = subst (λ f. IsBody f limits is.taken (Some left) failed (Ok other.body)) framing is.body in
     sym (rest_of body behind is.taken left one.1 (sym whole.1))
 
 leaves : (limits : HeadLimits) (host : List ℕ) (port : ℕ) (body behind : List ℕ) (new : Option (List ℕ)) (failed : Type 0) (other : HttpPost)

@@ -13,9 +13,8 @@ use Rattle.http_header.specs.HeaderMap.{Entries, get_all}
 use Rattle.http_header.specs.Token.{lowercase, is_value_byte}
 use Rattle.http_header.proofs.TokenLemmas.{IsFieldName-from_test}
 use Rattle.http_wire.specs.declared.fault.HttpFault.TheVariants as faults
-use Rattle.http_wire.specs.Bodies.{empty, sized, framing_by_length}
+use Rattle.http_wire.specs.Bodies.{empty, sized, framing_by_length, request_framing}
 use Rattle.http_wire.specs.Fields.{NameAndValue, IsTaken, KeepsFields, values_of, is_length}
-use Rattle.otlp_serve.specs.Posts.{post_framing}
 use Rattle.otlp_serve.specs.RequestHeads.{request_fields}
 use Rattle.export_laws.proofs.Bytes.{all_four, AreVisible, value_bytes, trimmed}
 use Rattle.export_laws.proofs.Heads.{field, host_field, media_field, size_field, close_field, head, media, media_is, close_is}
@@ -107,6 +106,6 @@ keeps host size = record { values = agree host size; names = omega arith; count 
 
 -- ---- how far the body goes
 
-pub framing_is : (host size : List ℕ) (count : ℕ) → is_length size ≡ true → digits_value 10 size ≡ count → post_framing (pairs host size) ≡ sized count
+pub framing_is : (host size : List ℕ) (count : ℕ) → is_length size ≡ true → digits_value 10 size ≡ count → request_framing (pairs host size) ≡ sized count
 framing_is host size count is same =
     ap (λ t. framing_by_length empty (if t then Ok (Some (digits_value 10 size)) else Err faults.BadLength)) is ∙ ap sized same

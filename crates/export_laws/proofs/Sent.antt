@@ -4,13 +4,13 @@ use Rattle.std.specs.Prelude.{decimal}
 use Rattle.std.proofs.lemmas.List.Elements.{All-append, All-push}
 use Rattle.httparse.specs.Grammar.{RequestHead}
 use Rattle.http_wire.specs.declared.limits.HeadLimits.{HeadLimits}
-use Rattle.http_wire.specs.Bodies.{IsBody, sized}
+use Rattle.http_wire.specs.Bodies.{IsBody, request_framing, sized}
 use Rattle.http_wire.specs.Fields.{KeepsFields}
 use Rattle.otlp_http.specs.Address.{Address}
 use Rattle.otlp_http.specs.Request.{request_text}
 use Rattle.otlp_serve.specs.Answers.{refusal_of}
 use Rattle.otlp_serve.specs.RequestHeads.{request_fields}
-use Rattle.otlp_serve.specs.Posts.{ComesWith, HttpPost, IsPost, post_framing}
+use Rattle.otlp_serve.specs.Posts.{ComesWith, HttpPost, IsPost}
 use Rattle.export_laws.specs.Delivery.{IsAllowed}
 use Rattle.export_laws.proofs.Bytes.{is_visible, AreVisible, decimal_bytes, length_is}
 use Rattle.export_laws.proofs.Heads.{head, head_is, head_text, host_of, traces}
@@ -62,10 +62,10 @@ same_fields limits host port body sends =
 
 -- the head tells the body's length
 pub framed : (limits : HeadLimits) (host : List ℕ) (port : ℕ) (body : List ℕ) → Sends limits host port body
-    → post_framing (request_fields (sent_head host port body)) ≡ sized (length body)
+    → request_framing (request_fields (sent_head host port body)) ≡ sized (length body)
 framed limits host port body sends =
     let count = length_is (length body) sends.allowed.counted in
-    ap post_framing (same_fields limits host port body sends) ∙ framing_is (host_of host port) (decimal (length body)) (length body) count.0 count.1
+    ap request_framing (same_fields limits host port body sends) ∙ framing_is (host_of host port) (decimal (length body)) (length body) count.0 count.1
 
 pub is_post : (limits : HeadLimits) (host : List ℕ) (port : ℕ) (body behind : List ℕ) (failed : Type 0) → Sends limits host port body
     → IsPost limits (Some (request_text (traces_at host port) body ++ behind)) (Some behind) failed (post host port body)
@@ -79,7 +79,7 @@ is_post limits host port body behind failed sends = record {
       subst (KeepsFields (kept (host_of host port) (decimal (length body)))) (sym (same_fields limits host port body sends))
       (keeps (host_of host port) (decimal (length body)));
   body =
-      subst (λ f. IsBody f limits.body body (Some behind) failed (Ok body)) (sym (framed limits host port body sends))
+      subst (λ f. IsBody f limits body (Some behind) failed (Ok body)) (sym (framed limits host port body sends))
       (refl, refl, sends.allowed.body_bytes);
 }
 

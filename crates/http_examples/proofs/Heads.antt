@@ -95,7 +95,7 @@ pub replied : (interims : List ResponseHead) (head : ResponseHead) (taken : List
     → is_head head ≡ true → nat_le (length (print_response head)) usual.head ≡ true → nat_le (length head.fields) usual.fields ≡ true
     → nat_le 200 (status_code head) ≡ true → list_all is_taken (fields_of head) ≡ true
     → status ≡ status_code head → wait ≡ retry_after (values_of (codes "retry-after") (fields_of head))
-    → IsBody (framing_of (status_code head) (fields_of head)) usual.body taken (Some left) ⊥ body
+    → IsBody (framing_of (status_code head) (fields_of head)) usual taken (Some left) ⊥ body
     → AreReply bytes left status wait body
 replied interims head taken each few comes is bytes fields above kept status wait body = record {
   interims = interims;

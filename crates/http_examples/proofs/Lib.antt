@@ -1,2 +1,3 @@
+pub mod ChunkParts
 pub mod Heads
 pub mod RequestHeads

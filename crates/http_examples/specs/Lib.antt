@@ -1,3 +1,4 @@
+pub mod Chunked
 pub mod Collectors
 pub mod Meanings
 pub mod Posted

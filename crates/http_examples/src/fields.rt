@@ -3,7 +3,7 @@
 ghost use Rattle.std.specs.Prelude.{◌≡◌, ◌∷◌, ◌-◌, ◌^◌, [], codes, Err, None, Ok, Some};
 ghost use Rattle.retry_core.specs.declared.outcome.RetryAfter.TheVariants.{Date, Seconds};
 ghost use Rattle.http_wire.specs.declared.fault.HttpFault.TheVariants.{BadLength};
-ghost use Rattle.http_wire.specs.Bodies.{empty, sized, to_end, unknown};
+ghost use Rattle.http_wire.specs.Bodies.{chunked, empty, sized, to_end, unknown};
 ghost use Rattle.otlp_http.specs.Replies.{framing_of};
 ghost use Rattle.http_wire.specs.Fields.{content_length, retry_after, values_of};
 
@@ -48,8 +48,12 @@ pub fn framings()
     ensures no_content { framing_of 204 ((codes "Content-Length", codes "7") ∷ []) ≡ empty }
     ensures not_modified { framing_of 304 ((codes "Transfer-Encoding", codes "chunked") ∷ [])
         ≡ empty }
-    ensures coded { framing_of 200 ((codes "transfer-encoding", codes "chunked")
-        ∷ (codes "Content-Length", codes "7") ∷ []) ≡ unknown }
+    ensures coded { framing_of 200 ((codes "transfer-encoding", codes "Chunked")
+        ∷ (codes "Content-Length", codes "x") ∷ []) ≡ chunked }
+    ensures gzip { framing_of 200 ((codes "Transfer-Encoding", codes "gzip, chunked") ∷ [])
+        ≡ unknown }
+    ensures twice { framing_of 200 ((codes "Transfer-Encoding", codes "chunked")
+        ∷ (codes "Transfer-Encoding", codes "chunked") ∷ []) ≡ unknown }
     ensures bad { framing_of 503 ((codes "Content-Length", codes "x") ∷ []) ≡ unknown }
     ensures to_end { framing_of 200 ((codes "Retry-After", codes "7") ∷ []) ≡ to_end }
 {}

@@ -6,6 +6,7 @@
 //! is called.
 #![tactic(auto)]
 
+pub mod chunks;
 pub mod devices;
 pub mod fields;
 pub mod outcomes;

@@ -3,12 +3,11 @@
 //! to 6).
 
 ghost use Rattle.std.specs.Prelude.{◌≡◌, ◌∷◌, ◌++◌, ◌-◌, ◌^◌, [], codes, false, true, None, Some};
-ghost use Rattle.http_wire.specs.Bodies.{empty, sized, unknown};
+ghost use Rattle.http_wire.specs.Bodies.{chunked, empty, request_framing, sized, unknown};
 ghost use Rattle.http_wire.specs.declared.fault.HttpFault.TheVariants as faults;
 ghost use Rattle.otlp_serve.specs.declared.fault.PostFault.TheVariants.{Body, Head};
 ghost use Rattle.otlp_serve.specs.declared.status.ReplyStatus.TheVariants as statuses;
 ghost use Rattle.otlp_serve.specs.Answers.{is_plain, is_protobuf, media_type, plain_reply, refusal_of, reply_to_fault};
-ghost use Rattle.otlp_serve.specs.Posts.{post_framing};
 ghost use Rattle.otlp_serve.specs.Replies.{reply_text};
 ghost use Rattle.http_examples.specs.Posted.{post_with, three_bytes, typed, under, AreNoPost, ArePost};
 ghost use Rattle.http_examples.specs.Replied.{usual};
@@ -34,21 +33,22 @@ pub fn none()
     ensures large_body { AreNoPost (record usual { body = 2 }) (three_bytes ++ codes "abc")
         (codes "abc") (Body faults.TooLarge) }
     ensures coded { AreNoPost usual
-        (codes "PUT / HTTP/1.1\r\nTransfer-Encoding: chunked\r\n\r\n0") (codes "0")
+        (codes "PUT / HTTP/1.1\r\nTransfer-Encoding: gzip\r\n\r\n0") (codes "0")
         (Body faults.BadLength) }
 {}
 
 /// How far the bodies go of requests with some fields.
 pub fn framings()
-    ensures none { post_framing [] ≡ empty }
-    ensures sized { post_framing ((codes "Content-Length", codes "53") ∷ []) ≡ sized 53 }
-    ensures equal { post_framing ((codes "Content-Length", codes "53")
+    ensures none { request_framing [] ≡ empty }
+    ensures sized { request_framing ((codes "Content-Length", codes "53") ∷ []) ≡ sized 53 }
+    ensures equal { request_framing ((codes "Content-Length", codes "53")
         ∷ (codes "content-length", codes "53") ∷ []) ≡ sized 53 }
-    ensures over { post_framing ((codes "Content-Length", codes "18446744073709551616") ∷ [])
+    ensures over { request_framing ((codes "Content-Length", codes "18446744073709551616") ∷ [])
         ≡ unknown }
-    ensures coded { post_framing ((codes "Transfer-Encoding", codes "chunked") ∷ []) ≡ unknown }
-    ensures both { post_framing ((codes "Content-Length", codes "53")
-        ∷ (codes "transfer-encoding", codes "identity") ∷ []) ≡ unknown }
+    ensures coded { request_framing ((codes "Transfer-Encoding", codes "CHUNKED") ∷ []) ≡ chunked }
+    ensures gzip { request_framing ((codes "Transfer-Encoding", codes "gzip") ∷ []) ≡ unknown }
+    ensures both { request_framing ((codes "Content-Length", codes "53")
+        ∷ (codes "transfer-encoding", codes "chunked") ∷ []) ≡ unknown }
 {}
 
 /// What faults are answered.

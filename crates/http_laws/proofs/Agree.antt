@@ -98,8 +98,8 @@ reply_and_reply limits bytes left other_left failed other_failed reply other r q
           let one = heads _ r.head q.head _ _ r.valid.valid q.valid.valid own (e ∙ others) in
           let status : other.status ≡ reply.status = q.status ∙ ap status_code (sym one.0) ∙ sym r.status in
           let wait : other.retry_after ≡ reply.retry_after = q.wait ∙ ap (λ h. retry_after (values_of (codes "retry-after") (fields_of h))) (sym one.0) ∙ sym r.wait in
-          let body = subst (λ h. IsBody (framing_of (status_code h) (fields_of h)) limits.body q.taken (Some other_left) other_failed other.body) (sym one.0) q.body in
-          let bodies = body_one _ limits.body r.taken left q.taken other_left failed other_failed reply.body other.body r.body body sound other_sound ample other_ample one.1 in
+          let body = subst (λ h. IsBody (framing_of (status_code h) (fields_of h)) limits q.taken (Some other_left) other_failed other.body) (sym one.0) q.body in
+          let bodies = body_one _ limits r.taken left q.taken other_left failed other_failed reply.body other.body r.body body sound other_sound ample other_ample one.1 in
           λ i. record { status = status i; retry_after = wait i; body = bodies i }
     ]
 

@@ -2,7 +2,9 @@
 use Rattle.std.proofs.Common.{◌≡◌, ◌≢◌, ℕ, ◌+◌, ◌<◌, ◌≤◌, List, [], ◌∷◌, ◌++◌, length, refl, sym, ap, ◌∙◌, arith, length-append, Some, Result, Ok, Err}
 use Rattle.http_wire.specs.declared.fault.HttpFault.{HttpFault}
 use Rattle.http_wire.specs.declared.fault.HttpFault.TheVariants as faults
-use Rattle.http_wire.specs.Bodies.{Framing, empty, sized, to_end, unknown, IsSizedBody, IsBodyToEnd, IsBody}
+use Rattle.http_wire.specs.declared.limits.HeadLimits.{HeadLimits}
+use Rattle.http_laws.proofs.ChunksAgree.{chunks_one}
+use Rattle.http_wire.specs.Bodies.{Framing, empty, sized, chunked, to_end, unknown, IsSizedBody, IsBodyToEnd, IsBody}
 
 abbrev Answer : Type 0
 Answer = Result (List ℕ) HttpFault
@@ -95,15 +97,17 @@ all_one limit taken left other_taken other_left answer other x y e =
       ]
     ]
 
-pub body_one : (framing : Framing) (limit : ℕ) (taken left other_taken other_left : List ℕ) (failed other_failed : Type 0) (answer other : Answer)
-    → IsBody framing limit taken (Some left) failed answer → IsBody framing limit other_taken (Some other_left) other_failed other
+pub body_one : (framing : Framing) (limits : HeadLimits) (taken left other_taken other_left : List ℕ) (failed other_failed : Type 0) (answer other : Answer)
+    → IsBody framing limits taken (Some left) failed answer → IsBody framing limits other_taken (Some other_left) other_failed other
     → ¬ failed → ¬ other_failed → answer ≢ Err faults.OutOfMemory → other ≢ Err faults.OutOfMemory
     → taken ++ left ≡ other_taken ++ other_left → other ≡ answer
-body_one empty limit taken left other_taken other_left failed other_failed answer other x y sound other_sound ample other_ample e = y.0 ∙ sym x.0
-body_one (sized size) limit taken left other_taken other_left failed other_failed answer other x y sound other_sound ample other_ample e =
-    sized_one limit size taken left other_taken other_left answer other (of_size limit size taken left failed answer x sound ample)
-    (of_size limit size other_taken other_left other_failed other y other_sound other_ample) e
-body_one to_end limit taken left other_taken other_left failed other_failed answer other x y sound other_sound ample other_ample e =
-    all_one limit taken left other_taken other_left answer other (of_all limit taken left failed answer x sound ample)
-    (of_all limit other_taken other_left other_failed other y other_sound other_ample) e
-body_one unknown limit taken left other_taken other_left failed other_failed answer other x y sound other_sound ample other_ample e = y.0 ∙ sym x.0
+body_one empty limits taken left other_taken other_left failed other_failed answer other x y sound other_sound ample other_ample e = y.0 ∙ sym x.0
+body_one (sized size) limits taken left other_taken other_left failed other_failed answer other x y sound other_sound ample other_ample e =
+    sized_one limits.body size taken left other_taken other_left answer other (of_size limits.body size taken left failed answer x sound ample)
+    (of_size limits.body size other_taken other_left other_failed other y other_sound other_ample) e
+body_one chunked limits taken left other_taken other_left failed other_failed answer other x y sound other_sound ample other_ample e =
+    chunks_one limits taken left other_taken other_left failed other_failed answer other x y sound other_sound ample other_ample e
+body_one to_end limits taken left other_taken other_left failed other_failed answer other x y sound other_sound ample other_ample e =
+    all_one limits.body taken left other_taken other_left answer other (of_all limits.body taken left failed answer x sound ample)
+    (of_all limits.body other_taken other_left other_failed other y other_sound other_ample) e
+body_one unknown limits taken left other_taken other_left failed other_failed answer other x y sound other_sound ample other_ample e = y.0 ∙ sym x.0

@@ -1,7 +1,9 @@
 pub mod Agree
 pub mod BodiesAgree
+pub mod ChunksAgree
 pub mod Fields
 pub mod Interims
 pub mod Lacks
 pub mod PostFields
 pub mod PostsAgree
+pub mod TrailersAgree

@@ -6,10 +6,10 @@ use Rattle.httparse.proofs.GrammarLemmas.{request_unique}
 use Rattle.http_wire.specs.declared.fault.HttpFault.{HttpFault}
 use Rattle.http_wire.specs.declared.fault.HttpFault.TheVariants as faults
 use Rattle.http_wire.specs.declared.limits.HeadLimits.{HeadLimits}
-use Rattle.http_wire.specs.Bodies.{IsBody}
+use Rattle.http_wire.specs.Bodies.{request_framing, IsBody}
 use Rattle.http_wire.specs.Fields.{values_of, IsTaken, RefusesFields}
 use Rattle.otlp_serve.specs.declared.fault.PostFault.TheVariants.{Head, Body}
-use Rattle.otlp_serve.specs.Posts.{post_framing, HttpPost, IsPost, HasNoPostHead, HasNoPostBody}
+use Rattle.otlp_serve.specs.Posts.{HttpPost, IsPost, HasNoPostHead, HasNoPostBody}
 use Rattle.otlp_serve.specs.RequestHeads.{request_fields, IsRequestText, LacksRequest}
 use Rattle.http_laws.specs.Requests.{BytesMeanOnePost, IsSamePost}
 use Rattle.http_laws.proofs.BodiesAgree.{body_one}
@@ -72,8 +72,8 @@ post_and_body : (limits : HeadLimits) (bytes left other_left : List ℕ) (failed
     → ¬ failed → ¬ other_failed → fault ≢ faults.OutOfMemory → ⊥
 post_and_body limits bytes left other_left failed other_failed post fault r q sound other_sound ample =
     let one = heads bytes r.head q.head r.taken left q.taken other_left r.comes.valid.valid q.comes.valid.valid r.comes.comes q.comes.comes in
-    let body = subst (λ h. IsBody (post_framing (request_fields h)) limits.body q.taken (Some other_left) other_failed (Err fault)) (sym one.0) q.body in
-    let never = body_one _ limits.body r.taken left q.taken other_left failed other_failed (Ok post.body) (Err fault) r.body body sound other_sound (λ e. absurd cc) (λ e. ample cc) one.1 in
+    let body = subst (λ h. IsBody (request_framing (request_fields h)) limits q.taken (Some other_left) other_failed (Err fault)) (sym one.0) q.body in
+    let never = body_one _ limits r.taken left q.taken other_left failed other_failed (Ok post.body) (Err fault) r.body body sound other_sound (λ e. absurd cc) (λ e. ample cc) one.1 in
     absurd cc
 
 post_and_post : (limits : HeadLimits) (bytes left other_left : List ℕ) (failed other_failed : Type 0) (post other : HttpPost)
@@ -81,8 +81,8 @@ post_and_post : (limits : HeadLimits) (bytes left other_left : List ℕ) (failed
     → ¬ failed → ¬ other_failed → IsSamePost post other
 post_and_post limits bytes left other_left failed other_failed post other r q sound other_sound =
     let one = heads bytes r.head q.head r.taken left q.taken other_left r.comes.valid.valid q.comes.valid.valid r.comes.comes q.comes.comes in
-    let body = subst (λ h. IsBody (post_framing (request_fields h)) limits.body q.taken (Some other_left) other_failed (Ok other.body)) (sym one.0) q.body in
-    let bodies = body_one _ limits.body r.taken left q.taken other_left failed other_failed (Ok post.body) (Ok other.body) r.body body sound other_sound (λ e. absurd cc) (λ e. absurd cc) one.1 in
+    let body = subst (λ h. IsBody (request_framing (request_fields h)) limits q.taken (Some other_left) other_failed (Ok other.body)) (sym one.0) q.body in
+    let bodies = body_one _ limits r.taken left q.taken other_left failed other_failed (Ok post.body) (Ok other.body) r.body body sound other_sound (λ e. absurd cc) (λ e. absurd cc) one.1 in
     record {
       method = q.method ∙ ap (λ (h : RequestHead). h.method) (sym one.0) ∙ sym r.method;
       target = q.target ∙ ap (λ (h : RequestHead). h.target) (sym one.0) ∙ sym r.target;

@@ -1,4 +1,7 @@
 pub mod BodyLemmas
+pub mod ChunkLemmas
+pub mod ChunksLemmas
+pub mod DataLemmas
 pub mod DeviceLemmas
 pub mod FieldLemmas
 pub mod HeadLemmas

@@ -1,7 +1,9 @@
 pub mod Bodies
+pub mod Chunks
 pub mod Devices
 pub mod Faults
 pub mod Fields
 pub mod Fronts
 pub mod Lines
+pub mod Parses
 pub mod Wires

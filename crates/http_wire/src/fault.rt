@@ -15,14 +15,16 @@ pub enum HttpFault {
     /// heads came.
     #[error("bad head")]
     BadHead,
-    /// Transfer-Encoding stands (profile), or Content-Length isn't one number of digits that fits
-    /// 64 bits (RFC 9112, section 6.3).
+    /// Transfer-Encoding is not one field that says `chunked`, a request has that field and
+    /// Content-Length too, or Content-Length isn't one number of digits that fits 64 bits (RFC
+    /// 9112, section 6).
     #[error("bad length")]
     BadLength,
-    /// A chunk of the body is bad. It isn't told yet: a body in chunks is `BadLength`.
+    /// Of a body in chunks, a line or the trailers are none or pass the limits of a head, or no CR
+    /// LF stands behind a chunk's data (RFC 9112, section 7.1; the limits: profile).
     #[error("bad chunk")]
     BadChunk,
-    /// The head or the body passes its limit.
+    /// The head or the body passes its limit: of a body in chunks, the sum of the sizes does.
     #[error("too large")]
     TooLarge,
     /// Memory was refused.

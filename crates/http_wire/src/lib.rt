@@ -5,6 +5,7 @@
 #![tactic(auto)]
 
 mod body;
+mod chunk;
 mod device;
 mod fault;
 mod fields;
@@ -13,7 +14,7 @@ mod limits;
 mod transfer;
 mod wire;
 
-pub use body::{Framing, framing_by_fields, read_body};
+pub use body::{Framing, framing_by_fields, read_body, request_framing};
 pub use device::{Counted, DeviceFailed, FaultRead, FaultWrite};
 pub use fault::HttpFault;
 pub use fields::{content_length, keep_fields, retry_after};

@@ -27,12 +27,13 @@ pub struct Answered<A: Allocator = Global> {
 ///
 /// The reply is the first of these that holds (the order: profile): none where the connection ended
 /// or failed before the request was there; 503, and to try again in a second, where memory was
-/// refused; 400 where what came is no request; 431 where its head is above the limits, 413 where
-/// its body is, before a byte of it is read; 404 where its target up to a `?` isn't `/v1/traces`;
-/// 405 where its method isn't POST; 415 where it has no Content-Type, the first one isn't
-/// `application/x-protobuf`, or a Content-Encoding isn't `identity`; 400 where its body can't be
-/// read as a request of traces, or 503 as before where memory was refused; what is canned; 200. The
-/// order of want of memory is that in which it was wanted.
+/// refused; 400 where what came is no request, its body's chunks too; 431 where its head is above
+/// the limits, 413 where its body is, before a byte of it is read, or of one in chunks, before a
+/// byte behind the line by which they pass the limit; 404 where its target up to a `?` isn't
+/// `/v1/traces`; 405 where its method isn't POST; 415 where it has no Content-Type, the first one
+/// isn't `application/x-protobuf`, or a Content-Encoding isn't `identity`; 400 where its body can't
+/// be read as a request of traces, or 503 as before where memory was refused; what is canned; 200.
+/// The order of want of memory is that in which it was wanted.
 ///
 /// The limits allow 64 fields at most. Those of `HeadLimits::default()` are meant for replies: a
 /// collector allows bodies of 16,777,216 bytes. The request is kept by `alloc`, and so are, while

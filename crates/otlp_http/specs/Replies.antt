@@ -34,7 +34,7 @@ pub record IsReply (limits : HeadLimits) (old new : Option (List ℕ)) (failed :
   pub kept : All IsTaken (fields_of head)
   pub status : reply.status ≡ status_code head
   pub wait : reply.retry_after ≡ retry_after (values_of (codes "retry-after") (fields_of head))
-  pub body : IsBody (framing_of (status_code head) (fields_of head)) limits.body taken new failed
+  pub body : IsBody (framing_of (status_code head) (fields_of head)) limits taken new failed
       reply.body
 
 -- a whole head came after the interim ones, and is no reply's for this cause: it is a seventeenth

@@ -81,9 +81,11 @@ fn framing_of(status: u16, kept: &HeaderMap) -> Framing
 
 /// Reads a reply, and no byte behind it (RFC 9112, sections 2.2, 4, 5 and 6.3). Heads are what
 /// `httparse` reads by default. Heads with a status from 100 to 199 are skipped, 16 at most
-/// (profile). A reply with status 204 or 304 has no body. Where Transfer-Encoding stands, the
-/// body's length is taken as not known (profile); else it is what Content-Length says, and where
-/// there is none, the body goes to the end of the bytes. A read that failed is not tried again.
+/// (profile). A reply with status 204 or 304 has no body. Where Transfer-Encoding stands, the body
+/// comes in chunks if that is one field, `chunked` in any case of letters, and else its length isn't
+/// known (profile); where it doesn't stand, the length is what Content-Length says, and where there
+/// is none, the body goes to the end of the bytes. Of chunks, extensions and trailers are let go
+/// (RFC 9112, section 7.1). A read that failed is not tried again.
 ///
 /// The text of the heads, while the call lasts, and the body are kept by `alloc`, and the fields,
 /// while the call lasts, by `global`.
@@ -97,11 +99,13 @@ fn framing_of(status: u16, kept: &HeaderMap) -> Framing
 /// was refused. The reader is left where it was read up to, at most at the end of a head.
 ///
 /// Behind the head, the body's error stands in [`Reply::body`]: `Ended` where the bytes ended
-/// before so many had come as Content-Length says; `Device` where a read failed; `BadLength` where
-/// Transfer-Encoding stands, or where Content-Length isn't one number of digits that fits 64 bits,
-/// in one field or in several of equal text; `TooLarge` where the body has more bytes than the
-/// limit, told by Content-Length before any of them is read; `OutOfMemory` where memory for it was
-/// refused.
+/// before so many had come as Content-Length says, or within chunks; `Device` where a read failed;
+/// `BadLength` where Transfer-Encoding is anything but `chunked`, or where Content-Length isn't one
+/// number of digits that fits 64 bits, in one field or in several of equal text; `BadChunk` where a
+/// chunk's line or the trailers are bad or longer than a head may be, the trailers have more fields
+/// than a head may have, or no CR LF stands behind a chunk's data; `TooLarge` where the body has
+/// more bytes than the limit, told by Content-Length before any of them is read, and by a chunk's
+/// line before any of its data; `OutOfMemory` where memory for it was refused.
 pub fn read_reply<R: FaultRead, A: Allocator + Copy>(
     alloc: A,
     global: Global,
@@ -128,7 +132,7 @@ pub fn read_reply<R: FaultRead, A: Allocator + Copy>(
         Ok(head) => head,
         Err(fault) => return Err(fault),
     };
-    let body = read_body(alloc, reader, framing_of(status, &kept), limits.body);
+    let body = read_body(alloc, reader, framing_of(status, &kept), limits);
     Ok(Reply {
         status,
         retry_after: retry_after(&kept),

@@ -6,18 +6,13 @@ use Rattle.http_header.specs.FieldValue.{FieldValue}
 use Rattle.http_header.specs.HeaderMap.{Entries}
 use Rattle.http_wire.specs.declared.fault.HttpFault.{HttpFault}
 use Rattle.http_wire.specs.declared.limits.HeadLimits.{HeadLimits}
-use Rattle.http_wire.specs.Bodies.{Framing, empty, framing_by_fields, IsBody}
+use Rattle.http_wire.specs.Bodies.{request_framing, IsBody}
 use Rattle.http_wire.specs.Faults.{CountsAtHead, CountsFailedRead}
-use Rattle.http_wire.specs.Fields.{NameAndValue, IsTaken, KeepsFields, RefusesFields}
+use Rattle.http_wire.specs.Fields.{IsTaken, KeepsFields, RefusesFields}
 use Rattle.otlp_serve.specs.declared.fault.PostFault.{PostFault}
 use Rattle.otlp_serve.specs.declared.fault.PostFault.TheVariants.{Head, Body}
 use Rattle.otlp_serve.specs.declared.post.Post.{Post}
 use Rattle.otlp_serve.specs.RequestHeads.{request_fields, IsRequestText, LacksRequest}
-
--- how far a body goes: as the fields say, and there is none where they say nothing (RFC 9112,
--- section 6.3)
-abbrev pub post_framing : List NameAndValue → Framing
-post_framing fields = framing_by_fields empty fields
 
 -- a request as contracts see it
 pub record HttpPost : Type 0 where
@@ -50,7 +45,7 @@ pub record IsPost (limits : HeadLimits) (old new : Option (List ℕ)) (failed : 
   pub method : post.method ≡ head.method
   pub target : post.target ≡ head.target
   pub fields : KeepsFields post.fields (request_fields head)
-  pub body : IsBody (post_framing (request_fields head)) limits.body taken new failed
+  pub body : IsBody (request_framing (request_fields head)) limits taken new failed
       (Ok post.body)
 
 -- a text came, and that is no head of a request for this cause: none is there, or it has a field
@@ -69,7 +64,7 @@ pub record HasNoPostBody (limits : HeadLimits) (old new : Option (List ℕ)) (fa
   pub head : RequestHead
   pub taken : List ℕ
   pub comes : ComesWith limits old new head taken
-  pub body : IsBody (post_framing (request_fields head)) limits.body taken new failed (Err fault)
+  pub body : IsBody (request_framing (request_fields head)) limits taken new failed (Err fault)
 
 -- no request came for this cause
 abbrev pub HasNoPost : HeadLimits → Option (List ℕ) → Option (List ℕ) → Type 0 → PostFault → Type 0

@@ -1,13 +1,13 @@
 //! Requests.
 
 ghost use Rattle.std.specs.Prelude.{◌≡◌, ◌≤◌, string_bytes, IfErr, IfOk, OnOk, IsUtf8, List};
-ghost use Rattle.http_wire.specs.Bodies.{framing_view};
+ghost use Rattle.http_wire.specs.Bodies.{framing_view, request_framing};
 ghost use Rattle.http_wire.specs.Devices.{HasFailed};
 ghost use Rattle.http_wire.specs.Faults.{CountsAtHead};
 ghost use Rattle.http_wire.specs.Fields.{KeepsFields, NameAndValue};
 ghost use Rattle.otlp_serve.specs.Answers.{refusal_of};
 ghost use Rattle.otlp_serve.specs.Parses.{HasKeptRequest};
-ghost use Rattle.otlp_serve.specs.Posts.{post_framing, post_view, CountsAtPost, HasNoPost, HasNoPostHead, IsPost};
+ghost use Rattle.otlp_serve.specs.Posts.{post_view, CountsAtPost, HasNoPost, HasNoPostHead, IsPost};
 
 use crate::answer::{is_for_traces, is_plain, is_protobuf, plain_reply};
 use crate::fault::PostFault;
@@ -16,8 +16,7 @@ use crate::reply::PostReply;
 use crate::status::ReplyStatus;
 use http_header::HeaderMap;
 use http_wire::{
-    FaultRead, Framing, HeadLimits, HttpFault, MOST_FIELDS, framing_by_fields, keep_fields,
-    read_body,
+    FaultRead, HeadLimits, HttpFault, MOST_FIELDS, keep_fields, read_body, request_framing,
 };
 use httparse::spans::HeaderSpan;
 use std::alloc::{Allocator, Global};
@@ -127,9 +126,11 @@ fn read_post_head<R: FaultRead, A: Allocator + Copy>(
     })
 }
 
-/// Reads a request, and no byte behind it (RFC 9112, sections 2.2, 3, 5 and 6.3). A head is what
-/// `httparse` reads by default. Its body has the length that Content-Length says, and none where
-/// there is no such field. A read that failed is not tried again.
+/// Reads a request, and no byte behind it (RFC 9112, sections 2.2, 3, 5, 6.3 and 7.1). A head is
+/// what `httparse` reads by default. Its body comes in chunks where Transfer-Encoding is one field,
+/// `chunked` in any case of letters; else it has the length that Content-Length says, and there is
+/// none where neither field stands. Of chunks, extensions and trailers are let go. A read that
+/// failed is not tried again.
 ///
 /// The text of the head, while the call lasts, the method, the target and the body are kept by
 /// `alloc`, and the fields by `global`.
@@ -143,11 +144,13 @@ fn read_post_head<R: FaultRead, A: Allocator + Copy>(
 /// fields than the limits allow; `OutOfMemory` where memory for it was refused. The reader is left
 /// where it was read up to, at most at the end of the head.
 ///
-/// `Body` behind the head: `BadLength` where Transfer-Encoding stands (profile), or where
-/// Content-Length isn't one number of digits that fits 64 bits, in one field or in several of equal
-/// text; `TooLarge` where it tells of more bytes than the limit, before any of them is read;
-/// `Ended` where the bytes ended before so many had come; `Device` where a read failed;
-/// `OutOfMemory` where memory for it was refused.
+/// `Body` behind the head: `BadLength` where Transfer-Encoding is anything but `chunked` (profile),
+/// or stands beside a Content-Length, or where that isn't one number of digits that fits 64 bits, in
+/// one field or in several of equal text; `BadChunk` where a chunk's line or the trailers are bad or
+/// longer than a head may be, the trailers have more fields than a head may have, or no CR LF stands
+/// behind a chunk's data; `TooLarge` where Content-Length or the sum of the chunks tells of more
+/// bytes than the limit, before any of those that it tells of is read; `Ended` where the bytes ended
+/// before all had come; `Device` where a read failed; `OutOfMemory` where memory for it was refused.
 pub fn read_post<R: FaultRead, A: Allocator + Copy>(
     alloc: A,
     global: Global,
@@ -168,8 +171,8 @@ pub fn read_post<R: FaultRead, A: Allocator + Copy>(
         Ok(head) => head,
         Err(fault) => return Err(PostFault::Head(fault)),
     };
-    let framing = framing_by_fields(&head.fields, Framing::Empty);
-    let body = match read_body(alloc, reader, framing, limits.body) {
+    let framing = request_framing(&head.fields);
+    let body = match read_body(alloc, reader, framing, limits) {
         Ok(body) => body,
         Err(fault) => return Err(PostFault::Body(fault)),
     };

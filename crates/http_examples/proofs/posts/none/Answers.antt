@@ -20,7 +20,7 @@ sized = record {
 }
 
 abbrev coded : RequestHead
-coded = record sized { fields = record { name = codes "Transfer-Encoding"; raw = codes " chunked"; end = crlf } ∷ [] }
+coded = record sized { fields = record { name = codes "Transfer-Encoding"; raw = codes " gzip"; end = crlf } ∷ [] }
 
 pub returns-clause-cut : goal.returns-clause-cut
 unfolding httparse_on_literals

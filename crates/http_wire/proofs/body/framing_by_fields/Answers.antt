@@ -5,7 +5,7 @@ use Rattle.http_wire.proofs.body.framing_by_fields.Goals as goal
 
 pub returns-then-is_coded : goal.returns-then-is_coded
 returns-then-is_coded c fields keeps =
-    sym (framing_kept (framing_view c.args.otherwise) c.args.kept.now fields true keeps (sym c.if-is_coded.true ∙ c.is_coded.ensures))
+    c.framing_by_coding.ensures ∙ sym (framing_kept (framing_view c.args.otherwise) c.args.kept.now fields true keeps (sym c.if-is_coded.true ∙ c.is_coded.ensures))
 
 pub returns-in-Ok-None : goal.returns-in-Ok-None
 returns-in-Ok-None c fields keeps =
