@@ -1,6 +1,7 @@
 //! Comparisons, each a call of a function of its own: `assert_eq!` in its place is proved with the
 //! body that it stands in, which takes ten times as long.
-use std::fmt::Debug;
+use std::alloc::Global;
+use std::fmt::{Debug, Display};
 use std::process::Abort;
 
 /// Asserts that two values are equal.
@@ -15,4 +16,10 @@ where
     P: Debug + Drop,
 {
     assert_eq!(rt; left, right, "at {place:?}");
+}
+
+/// Asserts how a fault is told.
+pub(crate) fn assert_told<T: Display>(rt: &impl Abort, alloc: Global, fault: &T, text: &str) {
+    let told = format!(in alloc; "{fault}").expect(rt, "memory");
+    assert_equal(rt, told.as_str(), text);
 }

@@ -1,6 +1,6 @@
 //! Whole bodies, their greatest length, and refused memory.
 
-use crate::equal::{assert_equal, assert_equal_at};
+use crate::equal::{assert_equal, assert_equal_at, assert_told};
 use crate::samples::{full_span, open, pair, text};
 use failing_allocator::FailingAllocator;
 use linked_list_allocator::LocalHeap;
@@ -259,14 +259,8 @@ fn writes_groups_in_their_order(rt: HostRuntime) {
     assert_body(&rt, alloc, encode(alloc, &groups, 32), digits);
 }
 
-/// Asserts how a fault is told.
-fn assert_told(rt: &impl Abort, alloc: Global, fault: EncodeFault, text: &str) {
-    let told = format!(in alloc; "{fault}").expect(rt, "memory");
-    assert_equal(rt, told.as_str(), text);
-}
-
 #[test]
 fn tells_each_fault(rt: HostRuntime) {
-    assert_told(&rt, rt.alloc(), EncodeFault::OutOfMemory, "out of memory");
-    assert_told(&rt, rt.alloc(), EncodeFault::TooLarge, "too large");
+    assert_told(&rt, rt.alloc(), &EncodeFault::OutOfMemory, "out of memory");
+    assert_told(&rt, rt.alloc(), &EncodeFault::TooLarge, "too large");
 }

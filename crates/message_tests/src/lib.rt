@@ -1,4 +1,5 @@
-//! Tests of `otlp_wire`, `scope_group` and `otlp_proto` over their public calls. The bytes of each
+//! Tests of the crates of messages over their public calls: what `otlp_wire`, `scope_group` and
+//! `otlp_proto` write, and what `otlp_wire`, `otlp_message` and `otlp_read` read. The bytes of each
 //! kind of call are compared by the stored runs of the program, in examples/.
 #![tactic(auto)]
 
@@ -9,6 +10,18 @@ mod exports;
 #[cfg(test)]
 mod groups;
 #[cfg(test)]
+mod messages;
+#[cfg(test)]
+mod requests;
+#[cfg(test)]
+mod responses;
+#[cfg(test)]
+mod responses_written;
+#[cfg(test)]
+mod rows;
+#[cfg(test)]
 mod samples;
+#[cfg(test)]
+mod triples;
 #[cfg(test)]
 mod wire;

@@ -1,7 +1,7 @@
 //! Responses that are read, with bytes that were written out by hand (opentelemetry-proto,
 //! trace_service.proto; Protocol Buffers, "Encoding").
 
-use crate::equal::{assert_equal, assert_equal_at};
+use crate::equal::{assert_equal, assert_equal_at, assert_told};
 use failing_allocator::FailingAllocator;
 use linked_list_allocator::LocalHeap;
 use otlp_message::{ReadFault, read_rejected_spans, read_response};
@@ -136,12 +136,6 @@ fn memory_that_is_refused(rt: HostRuntime) {
     assert_equal(&rt, scarce.calls(), 0);
 }
 
-/// Asserts how a fault is told.
-fn assert_told(rt: &impl Abort, alloc: Global, fault: ReadFault, text: &str) {
-    let told = format!(in alloc; "{fault}").expect(rt, "memory");
-    assert_equal(rt, told.as_str(), text);
-}
-
 #[test]
 fn faults_are_told(rt: HostRuntime) {
     let alloc = rt.alloc();
@@ -152,9 +146,9 @@ fn faults_are_told(rt: HostRuntime) {
         (WireFault::Group, "a group begins or ends"),
         (WireFault::BadWireType, "a wire type is unknown"),
     ] {
-        assert_told(&rt, alloc, ReadFault::Wire(fault), text);
+        assert_told(&rt, alloc, &ReadFault::Wire(fault), text);
     }
-    assert_told(&rt, alloc, ReadFault::BadUtf8, "a text is not UTF-8");
-    assert_told(&rt, alloc, ReadFault::TooDeep, "a value nests too deep");
-    assert_told(&rt, alloc, ReadFault::OutOfMemory, "out of memory");
+    assert_told(&rt, alloc, &ReadFault::BadUtf8, "a text is not UTF-8");
+    assert_told(&rt, alloc, &ReadFault::TooDeep, "a value nests too deep");
+    assert_told(&rt, alloc, &ReadFault::OutOfMemory, "out of memory");
 }
