@@ -63,10 +63,10 @@ fn a_bad_request_is_answered_before_all_else(rt: HostRuntime) {
             "Content-Length: 1\r\nContent-Length: 2\r\n",
             400,
         ),
-        ("GET /x HTTP/1.1", "Transfer-Encoding: chunked\r\n", 400),
+        ("GET /x HTTP/1.1", "Transfer-Encoding: gzip\r\n", 400),
         (
             POST,
-            "Content-Length: 3\r\nTransfer-Encoding: identity\r\n",
+            "Content-Length: 3\r\nTransfer-Encoding: chunked\r\n",
             400,
         ),
         ("GET /x HTTP/1.1", "Content-Length: 65537\r\n", 413),

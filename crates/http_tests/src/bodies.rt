@@ -70,10 +70,20 @@ fn a_length_is_one_number(rt: HostRuntime) {
             HttpFault::BadLength,
         ),
         (
-            "Transfer-Encoding: chunked\r\nContent-Length: 3\r\n",
+            "Transfer-Encoding: identity\r\nContent-Length: 3\r\n",
             HttpFault::BadLength,
         ),
         ("Transfer-Encoding: gzip\r\n", HttpFault::BadLength),
+        ("Transfer-Encoding: gzip, chunked\r\n", HttpFault::BadLength),
+        ("Transfer-Encoding: \r\n", HttpFault::BadLength),
+        (
+            "Transfer-Encoding: chunked\r\nTransfer-Encoding: chunked\r\n",
+            HttpFault::BadLength,
+        ),
+        (
+            "Transfer-Encoding: chunked\r\nContent-Length: x\r\n",
+            HttpFault::Ended,
+        ),
         (
             "Content-Length: 18446744073709551615\r\n",
             HttpFault::TooLarge,

@@ -14,11 +14,23 @@ const HEADS: &str = concat!(
     "HTTP/1.1 503 Busy\r\nRetry-After: 7\r\nContent-Length: 7\r\n\r\n",
 );
 
-/// A text in which one to four bytes may be others.
-fn changed(rt: &impl Abort, alloc: Global, rng: &mut Pcg32, text: &[u8]) -> Vec<u8> {
+/// A reply with a body in chunks: 99 bytes, 47 of them its head.
+const CHUNKS: &[u8] = b"HTTP/1.1 200 OK\r\nTransfer-Encoding: chunked\r\n\r\n\
+    3;a=\"b\"\r\n\x0a\x05\x08\r\n0004 \t\r\n\x02\x12\x01\x78\r\n0;cccc\r\nA: b\nC:\r\nD:e\r\n\r\n";
+
+/// A text in which one to four bytes may be others, of so many from a place on.
+fn changed(
+    rt: &impl Abort,
+    alloc: Global,
+    rng: &mut Pcg32,
+    text: &[u8],
+    places: (u32, u32),
+) -> Vec<u8> {
     let mut text = Vec::from_slice(alloc, text).expect(rt, "memory");
+    let (from, count) = places;
+    assert!(rt; count >= 1 && from <= 1_000 && count <= 1_000);
     for _change in 0..=rng.next_u32() % 4 {
-        let at = rng.next_u32() % 88;
+        let at = from + rng.next_u32() % count;
         let byte = (rng.next_u32() % 256) as u8;
         if let Some(place) = text.get_mut(at as usize) {
             *place = byte;
@@ -32,6 +44,7 @@ fn is_named(answer: Told<'_>) -> bool {
     match answer {
         Ok((_, _, Ok(_))) => true,
         Ok((_, _, Err(HttpFault::Ended | HttpFault::BadLength | HttpFault::TooLarge))) => true,
+        Ok((_, _, Err(HttpFault::BadChunk))) => true,
         Err(HttpFault::Ended | HttpFault::BadHead | HttpFault::TooLarge) => true,
         _ => false,
     }
@@ -54,7 +67,17 @@ fn a_changed_reply_is_read_the_same_in_parts(rt: HostRuntime) {
     let mut rng = Pcg32::new(1, 1);
     let text = joined(&rt, alloc, HEADS.as_bytes(), BODY);
     for _reply in 0..20_000u32 {
-        let changed = changed(&rt, alloc, &mut rng, &text);
+        let changed = changed(&rt, alloc, &mut rng, &text, (0, 88));
+        assert_same_in_parts(&rt, alloc, &changed);
+    }
+}
+
+#[test]
+fn a_reply_with_changed_chunks_is_read_the_same_in_parts(rt: HostRuntime) {
+    let alloc = rt.alloc();
+    let mut rng = Pcg32::new(2, 1);
+    for _reply in 0..20_000u32 {
+        let changed = changed(&rt, alloc, &mut rng, CHUNKS, (47, 52));
         assert_same_in_parts(&rt, alloc, &changed);
     }
 }

@@ -1,7 +1,7 @@
 //! What a collector answers, connection by connection.
 
 use crate::equal::{assert_equal, assert_equal_at};
-use crate::fixture::{joined, wire};
+use crate::fixture::{joined, repeated, wire};
 use failing_allocator::FailingAllocator;
 use linked_list_allocator::LocalHeap;
 use otlp_collector::{Answered, Canned, CannedStatus, answer};
@@ -259,8 +259,10 @@ fn what_is_no_request_is_refused(rt: HostRuntime) {
     let alloc = rt.alloc();
     let most = (16_384, 65_536);
     assert_refused_early(&rt, alloc, b"\x01", most, (400, 0));
-    let chunked = b"POST /v1/traces HTTP/1.1\r\nTransfer-Encoding: chunked\r\n\r\n0\r\n\r\n";
-    assert_refused_early(&rt, alloc, chunked, most, (400, 5));
+    let coded = b"POST /v1/traces HTTP/1.1\r\nTransfer-Encoding: gzip\r\n\r\n0\r\n\r\n";
+    assert_refused_early(&rt, alloc, coded, most, (400, 5));
+    let chunk = b"POST /v1/traces HTTP/1.1\r\nTransfer-Encoding: chunked\r\n\r\nx\r\n\r\n";
+    assert_refused_early(&rt, alloc, chunk, most, (400, 2));
     let signed = b"POST /v1/traces HTTP/1.1\r\nContent-Length: +1\r\n\r\nx";
     assert_refused_early(&rt, alloc, signed, most, (400, 1));
 }
@@ -354,4 +356,82 @@ fn each_refusal_of_memory_is_answered(rt: HostRuntime) {
     }
     assert_equal(&rt, refused >= 8, true);
     assert_equal(&rt, is_refused(&rt, rt.alloc(), 128), false);
+}
+
+/// A request with the span in chunks of 16 and 37 bytes, and these bytes behind the first.
+fn in_chunks(rt: &impl Abort, alloc: Global, behind: &[u8]) -> Vec<u8> {
+    let head = format!(in alloc;
+        "POST /v1/traces HTTP/1.1\r\n{TYPE}Transfer-Encoding: chunked\r\n\r\n"
+    );
+    let first = SPAN.get(..16).expect(rt, "sixteen bytes");
+    let second = SPAN.get(16..).expect(rt, "the others");
+    let pieces = [
+        b"10\r\n",
+        first,
+        behind,
+        b"25\r\n",
+        second,
+        b"\r\n0\r\n\r\n",
+    ];
+    let mut text = Vec::from_slice(alloc, head.expect(rt, "memory").as_bytes()).expect(
+        rt, "memory",
+    );
+    for piece in pieces {
+        text.extend_from_slice(piece).expect(rt, "memory");
+    }
+    text
+}
+
+#[test]
+fn a_request_in_chunks_is_taken(rt: HostRuntime) {
+    let alloc = rt.alloc();
+    let whole = in_chunks(&rt, alloc, b"\r\n");
+    let (told, _, left) = answered(&rt, alloc, &whole, AMPLE, None);
+    assert_equal(&rt, (told, left), ((Some(200), Some(1)), 0));
+    let (told, _, left) = answered(&rt, alloc, &whole, (16_384, 53), None);
+    assert_equal(&rt, (told, left), ((Some(200), Some(1)), 0));
+    for size in 0..whole.len() {
+        let front = whole.get(..size).expect(&rt, "a front");
+        assert_unanswered(&rt, alloc, front);
+    }
+}
+
+#[test]
+fn chunks_are_refused(rt: HostRuntime) {
+    let alloc = rt.alloc();
+    // Behind the first chunk stands no CR LF.
+    let bad = in_chunks(&rt, alloc, b"");
+    assert_refused_early(&rt, alloc, &bad, (16_384, 65_536), (400, 47));
+    // The second chunk's line passes the limit of a body by one.
+    let whole = in_chunks(&rt, alloc, b"\r\n");
+    assert_refused_early(&rt, alloc, &whole, (16_384, 52), (413, 44));
+}
+
+/// Checks the status that a request with the span is answered, behind these fields.
+fn assert_framed(rt: &impl Abort, alloc: Global, fields: &str, status: u16) {
+    let head = format!(in alloc; "POST /v1/traces HTTP/1.1\r\n{TYPE}{fields}\r\n");
+    let text = joined(rt, alloc, head.expect(rt, "memory").as_bytes(), SPAN);
+    let (told, _, _) = answered(rt, alloc, &text, AMPLE, None);
+    let (told, _) = told;
+    assert_equal_at(rt, told, Some(status), fields);
+}
+
+#[test]
+fn a_request_has_one_framing(rt: HostRuntime) {
+    let alloc = rt.alloc();
+    let rows = [
+        ("Content-Length: 53\r\n", 200),
+        ("Content-Length: 53\r\nContent-Length: 53\r\n", 200),
+        ("Content-Length: 18446744073709551616\r\n", 400),
+        ("Transfer-Encoding: gzip\r\n", 400),
+        ("Transfer-Encoding: chunked\r\nContent-Length: 53\r\n", 400),
+        ("Content-Length: 53\r\nTransfer-Encoding: chunked\r\n", 400),
+    ];
+    for (fields, status) in rows {
+        assert_framed(&rt, alloc, fields, status);
+    }
+    let many = repeated(&rt, alloc, "", "A: b\r\n", 64, "");
+    assert_framed(&rt, alloc, many.as_str(), 431);
+    let long = repeated(&rt, alloc, "A: ", "b", 16_384, "\r\n");
+    assert_framed(&rt, alloc, long.as_str(), 431);
 }

@@ -9,6 +9,8 @@ mod bodies;
 #[cfg(test)]
 mod changes;
 #[cfg(test)]
+mod chunks;
+#[cfg(test)]
 mod collector;
 #[cfg(test)]
 mod devices;

@@ -1,7 +1,7 @@
 //! What comes of attempts, by replies that are read.
 
 use crate::equal::assert_equal;
-use crate::fixture::{HEAD, REPLY, read_text, repeated};
+use crate::fixture::{HEAD, REPLY, joined, read_text, repeated};
 use otlp_http::outcome_of;
 use retry_core::{Outcome, RetryAfter};
 use std::alloc::Global;
@@ -83,4 +83,32 @@ fn a_busy_collector_is_tried_later(rt: HostRuntime) {
 fn sixteen_interim_heads_are_skipped(rt: HostRuntime) {
     assert_after_interims(&rt, rt.alloc(), 16, Outcome::Delivered);
     assert_after_interims(&rt, rt.alloc(), 17, Outcome::Bad);
+}
+
+/// Checks what a reply with this first line and these chunks means.
+fn assert_chunks(rt: &impl Abort, alloc: Global, start: &str, chunks: &[u8], outcome: Outcome) {
+    let head = format!(in alloc; "HTTP/1.1 {start}\r\nTransfer-Encoding: chunked\r\n\r\n");
+    let text = joined(rt, alloc, head.expect(rt, "memory").as_bytes(), chunks);
+    assert_means(rt, alloc, &text, outcome);
+}
+
+#[test]
+fn a_reply_in_chunks_tells_rejected_spans(rt: HostRuntime) {
+    let later = Outcome::Later {
+        status: 503,
+        after: None,
+    };
+    let rejected = b"4;a\r\n\x0a\x05\x08\x02\r\n3\r\n\x12\x01\x78\r\n0\r\n\r\n".as_slice();
+    let bad = b"4\r\n\x0a\x05\x08\x02\x12\x01\x78\r\n0\r\n\r\n".as_slice();
+    let rows = [
+        ("200 OK", rejected, Outcome::Partial(2)),
+        ("200 OK", bad, Outcome::Delivered),
+        ("200 OK", b"x\r\n".as_slice(), Outcome::Delivered),
+        ("503 Busy", rejected, later),
+        ("503 Busy", bad, later),
+        ("400 Bad", bad, Outcome::Refused(400)),
+    ];
+    for (start, chunks, outcome) in rows {
+        assert_chunks(&rt, rt.alloc(), start, chunks, outcome);
+    }
 }

@@ -140,8 +140,10 @@ fn a_length_that_is_none_is_bad(rt: HostRuntime) {
         "Content-Length:\r\n",
         "Content-Length: 1\r\nContent-Length: 2\r\n",
         "Content-Length: 18446744073709551616\r\n",
-        "Transfer-Encoding: chunked\r\n",
+        "Transfer-Encoding: chunked, chunked\r\n",
+        "Transfer-Encoding: chunked\r\nTransfer-Encoding: chunked\r\n",
         "Transfer-Encoding: gzip\r\n",
+        "Transfer-Encoding:\r\n",
         "Content-Length: 1\r\ntransfer-encoding: chunked\r\n",
     ];
     let fault = PostFault::Body(HttpFault::BadLength);
