@@ -53,8 +53,8 @@ has_both_framings fields =
     nat_lt 0 (length (values_of (codes "transfer-encoding") fields))
     && nat_lt 0 (length (values_of (codes "content-length") fields))
 
--- how far a request's body goes: it isn't known where both fields stand (RFC 9112, section 6.1), and
--- there is none where neither does
+-- how far a request's body goes: it isn't known where both fields stand (RFC 9112, section 6.1),
+-- and there is none where neither does
 abbrev pub request_framing : List NameAndValue → Framing
 request_framing fields =
     if has_both_framings fields then unknown else framing_by_fields empty fields

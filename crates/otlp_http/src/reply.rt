@@ -82,10 +82,10 @@ fn framing_of(status: u16, kept: &HeaderMap) -> Framing
 /// Reads a reply, and no byte behind it (RFC 9112, sections 2.2, 4, 5 and 6.3). Heads are what
 /// `httparse` reads by default. Heads with a status from 100 to 199 are skipped, 16 at most
 /// (profile). A reply with status 204 or 304 has no body. Where Transfer-Encoding stands, the body
-/// comes in chunks if that is one field, `chunked` in any case of letters, and else its length isn't
-/// known (profile); where it doesn't stand, the length is what Content-Length says, and where there
-/// is none, the body goes to the end of the bytes. Of chunks, extensions and trailers are let go
-/// (RFC 9112, section 7.1). A read that failed is not tried again.
+/// comes in chunks if that is one field, `chunked` in any case of letters, and else its length
+/// isn't known (profile); where it doesn't stand, the length is what Content-Length says, and where
+/// there is none, the body goes to the end of the bytes. Of chunks, extensions and trailers are let
+/// go (RFC 9112, section 7.1). A read that failed is not tried again.
 ///
 /// The text of the heads, while the call lasts, and the body are kept by `alloc`, and the fields,
 /// while the call lasts, by `global`.

@@ -145,12 +145,13 @@ fn read_post_head<R: FaultRead, A: Allocator + Copy>(
 /// where it was read up to, at most at the end of the head.
 ///
 /// `Body` behind the head: `BadLength` where Transfer-Encoding is anything but `chunked` (profile),
-/// or stands beside a Content-Length, or where that isn't one number of digits that fits 64 bits, in
-/// one field or in several of equal text; `BadChunk` where a chunk's line or the trailers are bad or
-/// longer than a head may be, the trailers have more fields than a head may have, or no CR LF stands
-/// behind a chunk's data; `TooLarge` where Content-Length or the sum of the chunks tells of more
-/// bytes than the limit, before any of those that it tells of is read; `Ended` where the bytes ended
-/// before all had come; `Device` where a read failed; `OutOfMemory` where memory for it was refused.
+/// or stands beside a Content-Length, or where that isn't one number of digits that fits 64 bits,
+/// in one field or in several of equal text; `BadChunk` where a chunk's line or the trailers are
+/// bad or longer than a head may be, the trailers have more fields than a head may have, or no CR
+/// LF stands behind a chunk's data; `TooLarge` where Content-Length or the sum of the chunks tells
+/// of more bytes than the limit, before any of those that it tells of is read; `Ended` where the
+/// bytes ended before all had come; `Device` where a read failed; `OutOfMemory` where memory for it
+/// was refused.
 pub fn read_post<R: FaultRead, A: Allocator + Copy>(
     alloc: A,
     global: Global,
