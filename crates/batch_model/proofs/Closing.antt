@@ -1,5 +1,5 @@
 -- How the accounts of a processor begin, and what they come to.
-use Rattle.std.proofs.Common.{◌≡◌, ℕ, ◌+◌, ◌≤◌, List, [], ◌∷◌, ◌++◌, length, sym, refl, ap, ◌∙◌, subst, arith}
+use Rattle.std.proofs.Common.{◌≡◌, ℕ, ◌+◌, ◌≤◌, Bool, true, false, List, [], ◌∷◌, ◌++◌, length, sym, refl, ap, ◌∙◌, subst, arith}
 use Rattle.std.specs.Prelude.{IsPermutation, Option, None}
 use Rattle.std.specs.List.{AllByRecursion, flat_map, range_with_len}
 use Rattle.std.proofs.lemmas.List.{append-nil, append_assoc, length-append, nil_from_length}
@@ -44,10 +44,11 @@ agrees_closed desk w old done k c =
       late = late_closed desk.late desk.next_ticket desk.closed old done c k.late;
       floors = each_closed _ old done [] c k.floors;
       batches = k.batches;
+      told = each_closed _ old done [] c k.told;
     }
 
 -- the processor's own account is closed, then the worker's, and then those of all passes
-module _ (origin said his : Origin) (desk : Desk) (all rest passes left : List Holder) (w : WorkerAccount) (done : List PassAccount) (k : Kept origin desk all) (r : Removes all (processor said) rest) (q : Removes rest (worker his w) passes)
+module _ (origin said his : Origin) (marked : Bool) (desk : Desk) (all rest passes left : List Holder) (w : WorkerAccount) (done : List PassAccount) (k : Kept origin marked desk all) (r : Removes all (processor said) rest) (q : Removes rest (worker his w) passes)
     (c : Closes (pass_accounts passes) done (pass_accounts left)) (counted : length passes ≡ length left + length done) (enough : said.passes ≤ length done) where
   said_is : said ≡ origin
   said_is = (each_removed (IsOf origin) all (processor said) rest r k.origins).0
@@ -134,6 +135,7 @@ agrees_new config made accounts all = record {
   late = late_new accounts all;
   floors = each_same new_account _ (record { above = tt; floor_given = omega arith; asked_given = omega arith; mark_given = omega arith; behind = tt }) accounts all;
   batches = record { out = refl; taken = refl; numbered = refl; handed = refl; fates_are = refl; drained = λ h. cc };
+  told = each_same new_account _ (λ is. cc) accounts all;
 }
 
 -- a book of two accounts, of which the second is told something
@@ -156,22 +158,23 @@ of_passes : (origin : Origin) (holders : List Holder) → AllByRecursion (λ h. 
 of_passes origin [] all = tt
 of_passes origin (h ∷ holders) all = (subst (IsOf origin) (sym all.0) tt, of_passes origin holders all.1)
 
-kept_new : (origin : Origin) (made : ℕ) (holders opened : List Holder) → holders ≡ processor origin ∷ worker origin new_worker ∷ opened → length opened ≤ origin.passes → 1 ≤ origin.desk.batch → AllByRecursion (λ h. h ≡ pass new_account) opened → Kept origin (new_desk origin.desk made) holders
+kept_new : (origin : Origin) (made : ℕ) (holders opened : List Holder) → holders ≡ processor origin ∷ worker origin new_worker ∷ opened → length opened ≤ origin.passes → 1 ≤ origin.desk.batch → AllByRecursion (λ h. h ≡ pass new_account) opened → Kept origin false (new_desk origin.desk made) holders
 kept_new origin made holders opened is few sizes all =
-    subst (λ (hs : List Holder). Kept origin (new_desk origin.desk made) hs) (sym is) (record {
+    subst (λ (hs : List Holder). Kept origin false (new_desk origin.desk made) hs) (sym is) (record {
       few = omega arith;
       origins = (refl, (refl, of_passes origin opened all));
       config = refl;
       sizes = sizes;
       account = new_worker;
       one_worker = ap (λ (l : List WorkerAccount). new_worker ∷ l) (new_accounts opened all).1;
+      left_is = refl;
       agrees = agrees_new origin.desk made (pass_accounts opened) (new_accounts opened all).0;
     })
 
 -- the same of a book in which the processor's account was opened and told, then the worker's, and then those of the passes
 pub kept_begins : (origin : Origin) (made : ℕ) (desk : Desk) (empty one first two second holders opened : List Holder) (p p' u u' : Holder) → desk ≡ new_desk origin.desk made → empty ≡ [] → one ≡ empty ++ processor new_origin ∷ [] → Replaces one p p' first → p' ≡ processor origin
     → two ≡ first ++ worker new_origin new_worker ∷ [] → u ≡ worker new_origin new_worker → Replaces two u u' second → u' ≡ worker origin new_worker → holders ≡ second ++ opened
-    → length opened ≤ origin.passes → 1 ≤ origin.desk.batch → AllByRecursion (λ h. h ≡ pass new_account) opened → Kept origin desk holders
+    → length opened ≤ origin.passes → 1 ≤ origin.desk.batch → AllByRecursion (λ h. h ≡ pass new_account) opened → Kept origin false desk holders
 kept_begins origin made desk empty one first two second holders opened p p' u u' desk_is none one_is r p_is two_is u_is q v_is is few sizes all =
     let w0 = worker new_origin new_worker in
     let single : one ≡ processor new_origin ∷ [] = one_is ∙ ap (λ (hs : List Holder). hs ++ processor new_origin ∷ []) none in
@@ -179,4 +182,4 @@ kept_begins origin made desk empty one first two second holders opened p p' u u'
     let both : two ≡ processor origin ∷ w0 ∷ [] = two_is ∙ ap (λ (hs : List Holder). hs ++ w0 ∷ []) begun in
     let told : second ≡ processor origin ∷ u' ∷ [] = two_replaced (processor origin) w0 u u' second (λ e. let f : processor origin ≡ w0 = e ∙ u_is in cc) (subst (λ (hs : List Holder). Replaces hs u u' second) both q) in
     let whole : holders ≡ processor origin ∷ worker origin new_worker ∷ opened = is ∙ ap (λ (hs : List Holder). hs ++ opened) (told ∙ ap (λ (h : Holder). processor origin ∷ h ∷ []) v_is) in
-    subst (λ (d : Desk). Kept origin d holders) (sym desk_is) (kept_new origin made holders opened whole few sizes all)
+    subst (λ (d : Desk). Kept origin false d holders) (sym desk_is) (kept_new origin made holders opened whole few sizes all)

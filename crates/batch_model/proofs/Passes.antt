@@ -6,7 +6,7 @@ use Rattle.std.proofs.lemmas.List.{append-nil, append_assoc, length-append}
 use Rattle.std.proofs.lemmas.List.Elements.{filter_map-append}
 use Rattle.std.proofs.lemmas.List.Sorted.{IsPermutation-refl, IsPermutation-sym, IsPermutation-to_front}
 use Rattle.account_book.specs.Accounts.{Replaces}
-use Rattle.account_book.proofs.Facts.{gathered_replaced, each_at, each_split}
+use Rattle.account_book.proofs.Facts.{gathered_replaced, each_at, each_replaced, each_split}
 use Rattle.span_model.specs.Spans.{EndedSpan}
 use Rattle.span_model.specs.Dropped.{Entry, queue_full, entry_of}
 use Rattle.desk_model.specs.Desks.{Desk, accepted_count, capped, drop_counts, is_flushed, with_drops}
@@ -18,7 +18,7 @@ use Rattle.pass_model.proofs.Lists.{counts_same, names_more}
 use Rattle.pass_model.proofs.Steps.{closed_by, closes-last, gives_step, late_step, no_news, none_more, one_news, shut-closes}
 use Rattle.batch_model.specs.Worker.{WorkerAccount, taken_spans, worker_entries}
 use Rattle.batch_model.specs.Clauses.{AreFrom, DropsAreCounted, DropsAreNamed, FoundItFull}
-use Rattle.batch_model.specs.Holders.{after_flush, after_flushed, after_shutdown}
+use Rattle.batch_model.specs.Holders.{after_flush, after_flushed, after_shutdown, after_told_left}
 use Rattle.batch_model.specs.Kept.{Agrees, KeepsFloor, accepted}
 use Rattle.batch_model.proofs.Lists.{between-all, between-append, grown_between}
 use Rattle.batch_model.proofs.Parts.{QueueNews, floor_asked, floor_flushed, floor_step, floors_step, queues_step}
@@ -37,7 +37,7 @@ pub record Keeps (desk desk' : Desk) (ss : List EndedSpan) : Type 0 where
 module _ (desk desk' : Desk) (w : WorkerAccount) (old new : List PassAccount) (a b : PassAccount) (r : Replaces old a b new) (k : Agrees desk old w)
     (es : List SpanEnd) (ss : List EndedSpan) (ps : List Entry) (n : QueueNews desk.next_ticket desk'.next_ticket es ss) (same : Keeps desk desk' ss) (ends : b.ends ≡ a.ends ++ es) (popped : b.popped ≡ a.popped ++ ps)
     (found : AllByRecursion (FoundItFull desk.config.queue (accepted desk w)) (filter_map drop_in es)) (names : IsPermutation (filter_map dropped_entry es ++ desk.ledger) (desk'.ledger ++ ps)) (counts : desk'.dropped ≡ drop_counts ((all_dropped old ++ worker_entries w) ++ filter_map dropped_entry es))
-    (late : CountsLate desk'.late desk'.next_ticket desk'.closed new) (one : KeepsFloor desk'.next_ticket (desk.waiting ++ ss) (accepted desk w ++ ss) b.floor b.asked) where
+    (late : CountsLate desk'.late desk'.next_ticket desk'.closed new) (tells : b.told_left ≡ true → w.left ≡ true) (one : KeepsFloor desk'.next_ticket (desk.waiting ++ ss) (accepted desk w ++ ss) b.floor b.asked) where
   dropped_is : dropped_entries b ≡ dropped_entries a ++ filter_map dropped_entry es
   dropped_is = ap (filter_map dropped_entry) ends ∙ filter_map-append dropped_entry a.ends es
 
@@ -74,6 +74,7 @@ module _ (desk desk' : Desk) (w : WorkerAccount) (old new : List PassAccount) (a
           let was = k.batches.drained h in let still = same.closed was.0 in
           (still.0, same.waiting ∙ ap (λ (xs : List EndedSpan). xs ++ ss) was.1 ∙ still.1);
     };
+    told = each_replaced (λ (x : PassAccount). x.told_left ≡ true → w.left ≡ true) old a b new r k.told tells;
   }
 
 -- ---- no span ends
@@ -107,24 +108,36 @@ module _ (desk : Desk) (w : WorkerAccount) (old new : List PassAccount) (a b : P
       late_step desk.next_ticket desk.next_ticket desk.late desk.late desk.closed desk.closed old new a b r k.late 0 0 (l ∙ none_more a.late) (d ∙ none_more a.shutdowns)
       (λ n is. is ∙ ap capped (none_more n)) (λ n was some. was (omega arith)) (λ n is. is ∙ ap (closed_by desk.next_ticket) (none_more n))
 
+  -- where a pass is told nothing of the worker
+  still_told : b.told_left ≡ a.told_left → b.told_left ≡ true → w.left ≡ true
+  still_told same is = each_at (λ (x : PassAccount). x.told_left ≡ true → w.left ≡ true) old a b new r k.told (sym same ∙ is)
+
   -- nothing is done at the desk
-  quiet : (ask : ℕ) → b.ends ≡ a.ends → b.popped ≡ a.popped → b.late ≡ a.late → b.shutdowns ≡ a.shutdowns → KeepsFloor desk.next_ticket desk.waiting (accepted desk w) b.floor b.asked
+  quiet : (ask : ℕ) → b.ends ≡ a.ends → b.popped ≡ a.popped → b.late ≡ a.late → b.shutdowns ≡ a.shutdowns → (b.told_left ≡ true → w.left ≡ true) → KeepsFloor desk.next_ticket desk.waiting (accepted desk w) b.floor b.asked
       → Agrees (record desk { asked = ask }) new w
-  quiet ask ends popped late shuts one =
+  quiet ask ends popped late shuts tells one =
       agrees_pass desk (record desk { asked = ask }) w old new a b r k [] [] [] (nothing_queued desk.next_ticket)
       (record { config = refl; waiting = sym (append-nil desk.waiting); out = refl; taken = refl; batches = refl; fates = refl; handed = refl; closed = λ c. (c, refl) })
-      (ends ∙ sym (append-nil a.ends)) (popped ∙ sym (append-nil a.popped)) tt same_ledger same_counts (same_late late shuts) (still_above desk.next_ticket desk.waiting (accepted desk w) b.floor b.asked one)
+      (ends ∙ sym (append-nil a.ends)) (popped ∙ sym (append-nil a.popped)) tt same_ledger same_counts (same_late late shuts) tells (still_above desk.next_ticket desk.waiting (accepted desk w) b.floor b.asked one)
 
   pub flush_agrees : (desk' : Desk) → desk' ≡ record desk { asked = accepted_count desk } → b ≡ after_flush desk.next_ticket (accepted_count desk) a → Agrees desk' new w
   flush_agrees desk' is told =
       subst (λ (d : Desk). Agrees d new w) (sym is) (quiet (accepted_count desk) (ap (λ (x : PassAccount). x.ends) told) (ap (λ (x : PassAccount). x.popped) told) (ap (λ (x : PassAccount). x.late) told) (ap (λ (x : PassAccount). x.shutdowns) told)
+      (still_told (ap (λ (x : PassAccount). x.told_left) told)) 
       (rw (ap (λ (x : PassAccount). x.floor) told, ap (λ (x : PassAccount). x.asked) told) (floor_asked desk.next_ticket desk.waiting (accepted desk w) a.floor (accepted_count desk) a.asked count_is floor_of)))
 
   pub flushed_agrees : is_flushed desk a.asked.mark ≡ true → b ≡ after_flushed a → Agrees desk new w
   flushed_agrees flushed told =
       let le : a.asked.mark ≤ length (taken_spans w) = let t = k.batches.taken in grind (arith) in
       quiet desk.asked (ap (λ (x : PassAccount). x.ends) told) (ap (λ (x : PassAccount). x.popped) told) (ap (λ (x : PassAccount). x.late) told) (ap (λ (x : PassAccount). x.shutdowns) told)
+      (still_told (ap (λ (x : PassAccount). x.told_left) told)) 
       (rw (ap (λ (x : PassAccount). x.floor) told, ap (λ (x : PassAccount). x.asked) told) (floor_flushed desk.next_ticket (taken_spans w) desk.waiting a.floor a.asked le floor_of))
+
+  pub told_left_agrees : w.left ≡ true → b ≡ after_told_left a → Agrees desk new w
+  told_left_agrees left told =
+      quiet desk.asked (ap (λ (x : PassAccount). x.ends) told) (ap (λ (x : PassAccount). x.popped) told) (ap (λ (x : PassAccount). x.late) told) (ap (λ (x : PassAccount). x.shutdowns) told)
+      (λ _. left)
+      (rw (ap (λ (x : PassAccount). x.floor) told, ap (λ (x : PassAccount). x.asked) told) floor_of)
 
   pub shutdown_agrees : (desk' : Desk) → desk' ≡ record desk { asked = accepted_count desk; closed = true } → b ≡ after_shutdown desk.next_ticket (accepted_count desk) a → Agrees desk' new w
   shutdown_agrees desk' is told =
@@ -135,7 +148,7 @@ module _ (desk : Desk) (w : WorkerAccount) (old new : List PassAccount) (a b : P
       subst (λ (d : Desk). Agrees d new w) (sym is)
       (agrees_pass desk (record desk { asked = accepted_count desk; closed = true }) w old new a b r k [] [] [] (nothing_queued desk.next_ticket)
       (record { config = refl; waiting = sym (append-nil desk.waiting); out = refl; taken = refl; batches = refl; fates = refl; handed = refl; closed = λ c. (refl, refl) })
-      (ap (λ (x : PassAccount). x.ends) told ∙ sym (append-nil a.ends)) (ap (λ (x : PassAccount). x.popped) told ∙ sym (append-nil a.popped)) tt same_ledger same_counts late (still_above desk.next_ticket desk.waiting (accepted desk w) b.floor b.asked one))
+      (ap (λ (x : PassAccount). x.ends) told ∙ sym (append-nil a.ends)) (ap (λ (x : PassAccount). x.popped) told ∙ sym (append-nil a.popped)) tt same_ledger same_counts late (still_told (ap (λ (x : PassAccount). x.told_left) told)) (still_above desk.next_ticket desk.waiting (accepted desk w) b.floor b.asked one))
 
   pub pop_agrees : (desk' : Desk) (entry : Entry) → desk.ledger ≡ entry ∷ desk'.ledger → desk' ≡ record desk { ledger = desk'.ledger } → b ≡ after_pop entry a → Agrees desk' new w
   pop_agrees desk' entry first is told =
@@ -145,7 +158,7 @@ module _ (desk : Desk) (w : WorkerAccount) (old new : List PassAccount) (a b : P
       (record { config = refl; waiting = sym (append-nil desk.waiting); out = refl; taken = refl; batches = refl; fates = refl; handed = refl; closed = λ c. (c, refl) })
       (ap (λ (x : PassAccount). x.ends) told ∙ sym (append-nil a.ends)) (ap (λ (x : PassAccount). x.popped) told) tt
       (subst (λ (es : List Entry). IsPermutation es (desk'.ledger ++ entry ∷ [])) (sym first) (IsPermutation-sym (desk'.ledger ++ entry ∷ []) (entry ∷ desk'.ledger) (IsPermutation-to_front desk'.ledger entry)))
-      same_counts (same_late (ap (λ (x : PassAccount). x.late) told) (ap (λ (x : PassAccount). x.shutdowns) told)) (still_above desk.next_ticket desk.waiting (accepted desk w) b.floor b.asked one))
+      same_counts (same_late (ap (λ (x : PassAccount). x.late) told) (ap (λ (x : PassAccount). x.shutdowns) told)) (still_told (ap (λ (x : PassAccount). x.told_left) told)) (still_above desk.next_ticket desk.waiting (accepted desk w) b.floor b.asked one))
 
   pub late_agrees : (desk' : Desk) → desk.closed ≡ true → desk' ≡ record desk { late = capped (desk.late + 1) } → b ≡ after_late a → Agrees desk' new w
   late_agrees desk' closed is told =
@@ -155,7 +168,7 @@ module _ (desk : Desk) (w : WorkerAccount) (old new : List PassAccount) (a b : P
       subst (λ (d : Desk). Agrees d new w) (sym is)
       (agrees_pass desk (record desk { late = capped (desk.late + 1) }) w old new a b r k [] [] [] (nothing_queued desk.next_ticket)
       (record { config = refl; waiting = sym (append-nil desk.waiting); out = refl; taken = refl; batches = refl; fates = refl; handed = refl; closed = λ c. (c, refl) })
-      (ap (λ (x : PassAccount). x.ends) told ∙ sym (append-nil a.ends)) (ap (λ (x : PassAccount). x.popped) told ∙ sym (append-nil a.popped)) tt same_ledger same_counts late (still_above desk.next_ticket desk.waiting (accepted desk w) b.floor b.asked one))
+      (ap (λ (x : PassAccount). x.ends) told ∙ sym (append-nil a.ends)) (ap (λ (x : PassAccount). x.popped) told ∙ sym (append-nil a.popped)) tt same_ledger same_counts late (still_told (ap (λ (x : PassAccount). x.told_left) told)) (still_above desk.next_ticket desk.waiting (accepted desk w) b.floor b.asked one))
 
   -- ---- a span ends, and is given a ticket
 
@@ -177,7 +190,7 @@ module _ (desk : Desk) (w : WorkerAccount) (old new : List PassAccount) (a b : P
       (agrees_pass desk (record desk { next_ticket = desk.next_ticket + 1; closed = desk.next_ticket + 1 == 2 ^ 64 - 1; waiting = desk.waiting ++ ss }) w old new a b r k (ends_of.accepted s ∷ []) ss []
       (record { news = one_news desk.next_ticket (ends_of.accepted s) ticket; spans = refl; spans_rise = (tt, tt); spans_from = (omega arith, tt); spans_upto = (omega arith, tt) })
       (record { config = refl; waiting = refl; out = refl; taken = refl; batches = refl; fates = refl; handed = refl; closed = open_closed admits })
-      (ap (λ (x : PassAccount). x.ends) told) (ap (λ (x : PassAccount). x.popped) told ∙ sym (append-nil a.popped)) tt same_ledger same_counts (ticket_late admits (ap (λ (x : PassAccount). x.late) told) (ap (λ (x : PassAccount). x.shutdowns) told)) one)
+      (ap (λ (x : PassAccount). x.ends) told) (ap (λ (x : PassAccount). x.popped) told ∙ sym (append-nil a.popped)) tt same_ledger same_counts (ticket_late admits (ap (λ (x : PassAccount). x.late) told) (ap (λ (x : PassAccount). x.shutdowns) told)) (still_told (ap (λ (x : PassAccount). x.told_left) told)) one)
 
   -- the queue is full: those that wait have their tickets from the pass's floor on
   pub full_agrees : (desk' : Desk) (d : Drop) (s : EndedSpan) → entry_in d ≡ entry_of queue_full s → desk.closed ≡ false → length desk.waiting ≡ desk.config.queue → d.span.ticket ≡ desk.next_ticket → d.floor ≡ a.floor
@@ -197,4 +210,4 @@ module _ (desk : Desk) (w : WorkerAccount) (old new : List PassAccount) (a b : P
       (record { config = refl; waiting = sym (append-nil desk.waiting); out = refl; taken = refl; batches = refl; fates = refl; handed = refl; closed = open_closed admits })
       (ap (λ (x : PassAccount). x.ends) told) (ap (λ (x : PassAccount). x.popped) told ∙ sym (append-nil a.popped)) (found, tt)
       (subst (λ (es : List Entry). IsPermutation (entry_in d ∷ desk.ledger) es) (sym (append-nil (entry_in d ∷ desk.ledger))) (IsPermutation-refl (entry_in d ∷ desk.ledger)))
-      one_more (ticket_late admits (ap (λ (x : PassAccount). x.late) told) (ap (λ (x : PassAccount). x.shutdowns) told)) one)
+      one_more (ticket_late admits (ap (λ (x : PassAccount). x.late) told) (ap (λ (x : PassAccount). x.shutdowns) told)) (still_told (ap (λ (x : PassAccount). x.told_left) told)) one)

@@ -17,7 +17,7 @@ use Rattle.pass_model.proofs.Lists.{range-more}
 use Rattle.batch_model.specs.Worker.{BatchEnd, EndedBatch, OutBatch, WorkerAccount, entries_by, fate_in, fates, handed_out_spans, handed_spans, numbers, out_number, out_spans, spans_if_settled, spans_with, taken_spans, worker_entries}
 use Rattle.batch_model.specs.Worker as batches
 use Rattle.batch_model.specs.Clauses.{AreFrom, DropsAreCounted, DropsAreNamed}
-use Rattle.batch_model.specs.Holders.{after_drained, after_drop, after_handed, after_settle, after_take, ended_with, handed_with, settled_with}
+use Rattle.batch_model.specs.Holders.{after_drained, after_drop, after_handed, after_left, after_settle, after_take, ended_with, handed_with, settled_with}
 use Rattle.batch_model.specs.Kept.{Agrees, Batches, KeepsFloor, accepted, shown_out}
 use Rattle.batch_model.proofs.Lists.{each_drop}
 
@@ -30,7 +30,7 @@ pub record Stays (desk desk' : Desk) : Type 0 where
   pub left : ℕ
   pub waiting : desk'.waiting ≡ drop left desk.waiting
 
-module _ (desk desk' : Desk) (u v : WorkerAccount) (passes : List PassAccount) (k : Agrees desk passes u) (same : Stays desk desk') (kept : accepted desk' v ≡ accepted desk u) (named : DropsAreNamed desk'.ledger passes v) (counted : DropsAreCounted desk'.dropped passes v) (batches : Batches desk' v) where
+module _ (desk desk' : Desk) (u v : WorkerAccount) (passes : List PassAccount) (k : Agrees desk passes u) (same : Stays desk desk') (kept : accepted desk' v ≡ accepted desk u) (named : DropsAreNamed desk'.ledger passes v) (counted : DropsAreCounted desk'.dropped passes v) (batches : Batches desk' v) (leaves : u.left ≡ true → v.left ≡ true) where
   floor_stays : (a : PassAccount) → KeepsFloor desk.next_ticket desk.waiting (accepted desk u) a.floor a.asked → KeepsFloor desk'.next_ticket desk'.waiting (accepted desk u) a.floor a.asked
   floor_stays a f = record {
     above = subst (AreFrom a.floor) (sym same.waiting) (each_drop (λ (s : EndedSpan). a.floor ≤ s.ticket) same.left desk.waiting f.above);
@@ -50,6 +50,7 @@ module _ (desk desk' : Desk) (u v : WorkerAccount) (passes : List PassAccount) (
     floors = subst (λ (ss : List EndedSpan). AllByRecursion (λ (a : PassAccount). KeepsFloor desk'.next_ticket desk'.waiting ss a.floor a.asked) passes) (sym kept)
         (each_map (λ (a : PassAccount). KeepsFloor desk.next_ticket desk.waiting (accepted desk u) a.floor a.asked) (λ (a : PassAccount). KeepsFloor desk'.next_ticket desk'.waiting (accepted desk u) a.floor a.asked) passes floor_stays k.floors);
     batches = batches;
+    told = each_map (λ (a : PassAccount). a.told_left ≡ true → u.left ≡ true) (λ (a : PassAccount). a.told_left ≡ true → v.left ≡ true) passes (λ a was is. leaves (was is)) k.told;
   }
 
 one-mapped : {X Y : Type 0} (f : X → Option Y) (x : X) (o : Option Y) → f x ≡ o → filter_map f (x ∷ []) ≡ option_to_list o
@@ -100,6 +101,7 @@ module _ (desk : Desk) (u : WorkerAccount) (passes : List PassAccount) (k : Agre
             let was = k.batches.drained h in
             (ap (λ (d : Desk). d.closed) is ∙ was.0, rest ∙ ap (drop n) was.1 ∙ drop_all n [] (omega arith));
       })
+      (λ is. is)
 
   -- ---- the batch that is out
 
@@ -125,7 +127,8 @@ module _ (desk : Desk) (u : WorkerAccount) (passes : List PassAccount) (k : Agre
               let was = k.batches.handed in omega arith;
           fates_are = k.batches.fates_are;
           drained = k.batches.drained;
-        }))
+        })
+        (λ is. is))
 
     -- it ends
     module _ (v : WorkerAccount) (e : EndedBatch) (ended : v.ended ≡ u.ended ++ e ∷ []) (none : v.out ≡ None) (spans : e.spans ≡ b.spans) (drained : v.drained ≡ u.drained) where
@@ -173,7 +176,8 @@ module _ (desk : Desk) (u : WorkerAccount) (passes : List PassAccount) (k : Agre
               let same = ap length (handed_more v e ended refl refl refl ∙ append-nil (handed_spans u)) in let was = k.batches.handed in omega arith;
           fates_are = k.batches.fates_are ∙ ap fate_counts (sym (fates_more v e ended refl refl refl ∙ append-nil (fates u)));
           drained = k.batches.drained;
-        }))
+        })
+        (λ is. is))
 
     pub settle_agrees : (desk' : Desk) (body : List ℕ) (outcomes : List Outcome) (fate : Fate) → b.body ≡ Some body → desk' ≡ record desk { out = None; fates = with_fate fate desk.fates } → Agrees desk' passes (after_settle outcomes fate u)
     settle_agrees desk' body outcomes fate sent is =
@@ -195,11 +199,19 @@ module _ (desk : Desk) (u : WorkerAccount) (passes : List PassAccount) (k : Agre
               let more = ap length (handed_more v e ended refl refl refl) ∙ length-append (handed_spans u) b.spans in let was = k.batches.handed in omega arith;
           fates_are = ap (with_fate fate) k.batches.fates_are ∙ sym (fates-more (fates u) fate) ∙ ap fate_counts (sym (fates_more v e ended refl refl refl));
           drained = k.batches.drained;
-        }))
+        })
+        (λ is. is))
 
   -- ---- all is drained
 
   pub drained_agrees : desk.closed ≡ true → desk.waiting ≡ [] → Agrees desk passes (after_drained u)
   drained_agrees closed none =
       agrees_worker desk desk u (after_drained u) passes k (record { config = refl; next = refl; closed = refl; late = refl; left = 0; waiting = refl }) refl k.named k.counted
-      (record { out = k.batches.out; taken = k.batches.taken; numbered = k.batches.numbered; handed = k.batches.handed; fates_are = k.batches.fates_are; drained = λ _. (closed, none) })
+      (record { out = k.batches.out; taken = k.batches.taken; numbered = k.batches.numbered; handed = k.batches.handed; fates_are = k.batches.fates_are; drained = λ _. (closed, none) }) (λ is. is)
+
+  -- ---- the worker leaves
+
+  pub left_agrees : Agrees desk passes (after_left u)
+  left_agrees =
+      agrees_worker desk desk u (after_left u) passes k (record { config = refl; next = refl; closed = refl; late = refl; left = 0; waiting = refl }) refl k.named k.counted
+      (record { out = k.batches.out; taken = k.batches.taken; numbered = k.batches.numbered; handed = k.batches.handed; fates_are = k.batches.fates_are; drained = k.batches.drained }) (λ is. refl)

@@ -1,7 +1,7 @@
 -- What the accounts of all passes and of the worker say, once they are given back, beside what the
 -- queue shows then. (Trace SDK, Batching processor, ForceFlush, Shutdown; tickets, floors and the
 -- ledger: profile)
-use Rattle.std.specs.Prelude.{◌≡◌, ◌≢◌, ℕ, ◌+◌, ◌≤◌, ◌&&◌, nat_le, nat_lt, true, List, [], ◌∷◌, ◌++◌, length, map, count_by, IsPermutation, Option, Some, None}
+use Rattle.std.specs.Prelude.{◌≡◌, ◌≢◌, ℕ, ◌+◌, ◌≤◌, ◌&&◌, nat_le, nat_lt, true, false, List, [], ◌∷◌, ◌++◌, length, map, count_by, IsPermutation, Option, Some, None, IfSome}
 use Rattle.std.specs.List.{range_with_len, AllByRecursion}
 use Rattle.message_model.specs.Reading.{Reads}
 use Rattle.message_model.specs.Messages.{body_meaning}
@@ -151,6 +151,17 @@ abandon_out None = []
 abandon_out (Some batch) =
     record { number = batch.number; spans = batch.spans; ending = abandoned_end batch } ∷ []
 
+-- How a worker's batches ended: by work, but for one that was out when the worker left, which was
+-- the last one, and was abandoned then. A worker that has left has none out.
+pub record EndByWork (origin : Origin) (worker : WorkerAccount) : Type 0 where
+  pub earlier : List EndedBatch
+  pub last : Option OutBatch
+  pub ended : worker.ended ≡ earlier ++ abandon_out last
+  pub by_work : AllByRecursion (IsByWork origin) earlier
+  pub out : IfSome last (IsOutByWork origin)
+  pub here : worker.left ≡ false → last ≡ None
+  pub gone : worker.left ≡ true → worker.out ≡ None
+
 -- what a worker knows once the batch that is out is abandoned
 abbrev pub abandon : WorkerAccount → WorkerAccount
 abandon worker = record worker { ended = worker.ended ++ abandon_out worker.out; out = None }
@@ -183,3 +194,8 @@ NoneIsBelowAFloor left passes = AllByRecursion (λ (a : PassAccount). AreFrom a.
 -- Where it was answered that all is drained, none is left.
 abbrev pub DrainedLeavesNone : List EndedSpan → WorkerAccount → Type 0
 DrainedLeavesNone left worker = worker.drained ≡ true → left ≡ []
+
+-- A pass was answered that the worker has left only where it has.
+abbrev pub ToldOnlyWhereLeft : List PassAccount → WorkerAccount → Type 0
+ToldOnlyWhereLeft passes worker =
+    AllByRecursion (λ (a : PassAccount). a.told_left ≡ true → worker.left ≡ true) passes

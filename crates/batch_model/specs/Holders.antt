@@ -1,5 +1,5 @@
 -- What the accounts of a batch processor say. (profile)
-use Rattle.std.specs.Prelude.{ℕ, ◌+◌, List, [], ◌∷◌, ◌++◌, filter_map, Option, Some, None, true}
+use Rattle.std.specs.Prelude.{ℕ, ◌+◌, Bool, true, false, List, [], ◌∷◌, ◌++◌, filter_map, Option, Some, None}
 use Rattle.retry_model.specs.Retries.{Outcome, Fate}
 use Rattle.span_model.specs.Spans.{EndedSpan}
 use Rattle.span_model.specs.Dropped.{Reason}
@@ -77,6 +77,10 @@ after_shutdown ticket mark account = record account {
 abbrev pub after_flushed : PassAccount → PassAccount
 after_flushed account = record account { floor = account.asked.ticket }
 
+-- it is not, and the worker has left
+abbrev pub after_told_left : PassAccount → PassAccount
+after_told_left account = record account { told_left = true }
+
 -- ---- what a hold of the lock tells the worker
 
 -- a batch was taken
@@ -119,3 +123,12 @@ after_settle outcomes fate account = record account {
 -- all is drained
 abbrev pub after_drained : WorkerAccount → WorkerAccount
 after_drained account = record account { drained = true }
+
+-- it has left
+abbrev pub after_left : WorkerAccount → WorkerAccount
+after_left account = record account { left = true }
+
+-- it leaves by this hold, or it doesn't
+abbrev pub left_if : Bool → WorkerAccount → WorkerAccount
+left_if false account = account
+left_if true account = after_left account

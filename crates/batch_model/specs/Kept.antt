@@ -1,5 +1,5 @@
 -- How what lies under the lock stands to the accounts. (profile)
-use Rattle.std.specs.Prelude.{◌≡◌, ℕ, ◌+◌, ◌<◌, ◌≤◌, true, List, [], ◌∷◌, ◌++◌, length, drop, IsPermutation, Option, Some, None, is_some}
+use Rattle.std.specs.Prelude.{◌≡◌, ℕ, ◌+◌, ◌<◌, ◌≤◌, Bool, true, List, [], ◌∷◌, ◌++◌, length, drop, IsPermutation, Option, Some, None, is_some}
 use Rattle.std.specs.List.{AllByRecursion, range_with_len}
 use Rattle.span_model.specs.Spans.{EndedSpan}
 use Rattle.desk_model.specs.Desks as desks
@@ -7,7 +7,7 @@ use Rattle.desk_model.specs.Desks.{Desk}
 use Rattle.pass_model.specs.Passes.{Asked, PassAccount, Rises, all_accepted}
 use Rattle.pass_model.specs.Clauses.{CountsLate, GivesTickets}
 use Rattle.batch_model.specs.Worker.{WorkerAccount, OutBatch, taken_spans, handed_spans, handed_out_spans, numbers}
-use Rattle.batch_model.specs.Clauses.{Origin, AreFrom, DropsAreCounted, DropsAreNamed, DropsFoundItFull, FatesAreCounted, tickets_of}
+use Rattle.batch_model.specs.Clauses.{Origin, AreFrom, DropsAreCounted, DropsAreNamed, DropsFoundItFull, FatesAreCounted, ToldOnlyWhereLeft, tickets_of}
 use Rattle.batch_model.specs.Holders.{Holder, processor, pass, worker, pass_accounts, worker_accounts}
 
 -- what a desk shows of the batch that is out
@@ -65,6 +65,7 @@ pub record Agrees (desk : Desk) (passes : List PassAccount) (account : WorkerAcc
   pub late : CountsLate desk.late desk.next_ticket desk.closed passes
   pub floors : KeepsFloors desk.next_ticket desk.waiting (accepted desk account) passes
   pub batches : Batches desk account
+  pub told : ToldOnlyWhereLeft passes account
 
 -- the account says what the processor began with
 abbrev pub IsOf : Origin → Holder → Type 0
@@ -72,20 +73,23 @@ IsOf origin (processor said) = said ≡ origin
 IsOf origin (pass account) = Unit {0}
 IsOf origin (worker said account) = said ≡ origin
 
--- What the lock keeps of the accounts of a processor that began so.
-pub record Kept (origin : Origin) (desk : Desk) (holders : List Holder) : Type 0 where
+-- What the lock keeps of the accounts of a processor that began so, with the mark beside the desk
+-- of whether the worker has left.
+pub record Kept (origin : Origin) (left : Bool) (desk : Desk) (holders : List Holder)
+    : Type 0 where
   pub few : length holders ≤ origin.passes + 2
   pub origins : AllByRecursion (IsOf origin) holders
   pub config : desk.config ≡ origin.desk
   pub sizes : 1 ≤ origin.desk.batch
   pub account : WorkerAccount
   pub one_worker : worker_accounts holders ≡ account ∷ []
+  pub left_is : account.left ≡ left
   pub agrees : Agrees desk (pass_accounts holders) account
 
 -- the same, and that no account is left where nothing lies there any more
-abbrev pub IsShared : Origin → Option Desk → List Holder → Type 0
-IsShared origin None holders = holders ≡ []
-IsShared origin (Some desk) holders = Kept origin desk holders
+abbrev pub IsShared : Origin → Bool → Option Desk → List Holder → Type 0
+IsShared origin left None holders = holders ≡ []
+IsShared origin left (Some desk) holders = Kept origin left desk holders
 
 -- ---- what is told in the end
 

@@ -26,16 +26,17 @@ pub record OutBatch : Type 0 where
   pub body : Option (List ℕ)
   pub outcomes : List Outcome
 
--- What the worker knows: the batches that have ended, in order, the one that is out, and whether it
--- was answered that all is drained.
+-- What the worker knows: the batches that have ended, in order, the one that is out, whether it was
+-- answered that all is drained, and whether it has left.
 pub record WorkerAccount : Type 0 where
   pub ended : List EndedBatch
   pub out : Option OutBatch
   pub drained : Bool
+  pub left : Bool
 
 -- a worker that has done nothing
 abbrev pub new_worker : WorkerAccount
-new_worker = record { ended = []; out = None; drained = false }
+new_worker = record { ended = []; out = None; drained = false; left = false }
 
 -- ---- what it did with the spans
 
