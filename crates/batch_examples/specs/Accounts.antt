@@ -22,6 +22,7 @@ first = record {
   shutdowns = 0;
   asked = record { ticket = 3; mark = 2 };
   floor = 3;
+  told_left = false;
 }
 
 abbrev pub second : PassAccount
@@ -32,6 +33,7 @@ second = record {
   shutdowns = 1;
   asked = record { ticket = 4; mark = 3 };
   floor = 0;
+  told_left = false;
 }
 
 abbrev pub both : List PassAccount
@@ -56,4 +58,5 @@ worker_with out = record {
   } ∷ [];
   out = Some out;
   drained = false;
+  left = false;
 }

@@ -73,5 +73,5 @@ module _ (J : RattleType) (g : naming.Ghosts J.Denot) where
   pub worker_send : (R : RattleType) → IsSend R → IsSend (WorkerPass.the_row J R Heap.the_row g ghosts)
   worker_send R r = view_send _ _ _ _ _ (
       declared_send (worker_pass.the_type J R Heap.the_row g ghosts)
-      (worker_part_send R r, (search (sendable, as_row_send, variants_send, in_hand_send) depth 60 fits 20000, tt))
+      (worker_part_send R r, (search (sendable, as_row_send, variants_send, in_hand_send) depth 60 fits 20000, (search (sendable, as_row_send) depth 60 fits 20000, tt)))
       )

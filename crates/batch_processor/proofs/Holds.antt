@@ -120,7 +120,7 @@ each_part P (pass b ∷ holders) all = ((λ a is. subst P (ap account_in is) all
 each_part P (processor o ∷ holders) all = ((λ a is. cc), each_part P holders all)
 each_part P (worker o w ∷ holders) all = ((λ a is. cc), each_part P holders all)
 
-module _ (origin : Origin) (desk seen : Desk) (holders : List Holder) (h known h' : Holder) (mark : ℕ) (k : Kept origin desk holders) (there : Contains holders h) (is : h ≡ pass (account_in h)) (same : known ≡ h) (desk_is : seen ≡ desk) (mark_is : mark ≡ accepted_count desk) where
+module _ (origin : Origin) (left : Bool) (desk seen : Desk) (holders : List Holder) (h known h' : Holder) (mark : ℕ) (k : Kept origin left desk holders) (there : Contains holders h) (is : h ≡ pass (account_in h)) (same : known ≡ h) (desk_is : seen ≡ desk) (mark_is : mark ≡ accepted_count desk) where
   above : AllByRecursion (λ t. t < seen.next_ticket) (tickets (account_in h))
   above =
       let P : PassAccount → Type 0 = λ a. AllByRecursion (λ t. t < desk.next_ticket) (tickets a) in let Q : Holder → Type 0 = λ x. (a : PassAccount) → x ≡ pass a → P a in
@@ -135,19 +135,19 @@ module _ (origin : Origin) (desk seen : Desk) (holders : List Holder) (h known h
 
 -- ---- the batch that is out
 
-module _ (origin : Origin) (desk : Desk) (holders : List Holder) (h : Holder) (batch : BatchView) (body : Option (List ℕ)) (k : Kept origin desk holders) (there : Contains holders h) (is : h ≡ worker (origin_in h) (worker_in h))
+module _ (origin : Origin) (left : Bool) (desk : Desk) (holders : List Holder) (h : Holder) (batch : BatchView) (body : Option (List ℕ)) (k : Kept origin left desk holders) (there : Contains holders h) (is : h ≡ worker (origin_in h) (worker_in h))
     (out : (worker_in h).out ≡ Some (record { number = batch.number; spans = batch.spans; body = body; outcomes = [] })) (room : batch.room ≡ (origin_in h).desk.batch) where
   pub out_of : IsOut (is_some body) desk batch
   out_of =
-      let r : desk.config.batch ≡ batch.room = ap (λ (x : DeskConfig). x.batch) (k.config ∙ sym (ap (λ (o : Origin). o.desk) (origin_there origin desk holders h k there is))) ∙ sym room in
-      is_out_handed desk (pass_accounts holders) (worker_in h) batch body (agrees_there origin desk holders h k there is) out r
+      let r : desk.config.batch ≡ batch.room = ap (λ (x : DeskConfig). x.batch) (k.config ∙ sym (ap (λ (o : Origin). o.desk) (origin_there origin left desk holders h k there is))) ∙ sym room in
+      is_out_handed desk (pass_accounts holders) (worker_in h) batch body (agrees_there origin left desk holders h k there is) out r
 
   pub state_of : out_state desk ≡ Some (batch.number, is_some body)
   state_of = ap (option_map {U = ℕ × Bool} (λ b. (b.number, b.is_handed))) out_of.out
 
-module _ (origin : Origin) (desk : Desk) (holders : List Holder) (h : Holder) (batch : NamedView) (k : Kept origin desk holders) (there : Contains holders h) (is : h ≡ worker (origin_in h) (worker_in h)) (x : IsNamedBatchOf h batch) where
+module _ (origin : Origin) (left : Bool) (desk : Desk) (holders : List Holder) (h : Holder) (batch : NamedView) (k : Kept origin left desk holders) (there : Contains holders h) (is : h ≡ worker (origin_in h) (worker_in h)) (x : IsNamedBatchOf h batch) where
   named_out : IsOut false desk (record { number = batch.number; spans = x.spans; room = batch.room })
-  named_out = out_of origin desk holders h (record { number = batch.number; spans = x.spans; room = batch.room }) None k there is x.out x.room
+  named_out = out_of origin left desk holders h (record { number = batch.number; spans = x.spans; room = batch.room }) None k there is x.out x.room
 
   long : length x.spans ≡ length batch.entries
   long = sym (ap length x.entries ∙ length-map x.spans (entry_of batch.reason))
@@ -162,12 +162,12 @@ module _ (origin : Origin) (desk : Desk) (holders : List Holder) (h : Holder) (b
   pub named_drop : (desk' : Desk) → desk' ≡ after_names batch.reason batch.entries desk → desk' ≡ after_drop batch.reason x.spans desk
   named_drop desk' came = came ∙ ap (λ (es : List Entry). after_names batch.reason es desk) x.entries ∙ ap (λ (n : ℕ). record desk { out = None; ledger = reverse (map (entry_of batch.reason) x.spans) ++ desk.ledger; dropped = with_drops batch.reason n desk.dropped }) (length-map x.spans (entry_of batch.reason))
 
-module _ (origin : Origin) (desk : Desk) (holders : List Holder) (h : Holder) (batch : BatchView) (k : Kept origin desk holders) (there : Contains holders h) (is : h ≡ worker (origin_in h) (worker_in h)) (x : IsHandedBatchOf h batch) where
+module _ (origin : Origin) (left : Bool) (desk : Desk) (holders : List Holder) (h : Holder) (batch : BatchView) (k : Kept origin left desk holders) (there : Contains holders h) (is : h ≡ worker (origin_in h) (worker_in h)) (x : IsHandedBatchOf h batch) where
   pub handed_state : out_state desk ≡ Some (batch.number, true)
-  handed_state = state_of origin desk holders h (record batch { spans = x.spans }) (Some x.body) k there is x.out x.room
+  handed_state = state_of origin left desk holders h (record batch { spans = x.spans }) (Some x.body) k there is x.out x.room
 
   pub handed_room : batch.room ≡ desk.config.batch
-  handed_room = (out_of origin desk holders h (record batch { spans = x.spans }) (Some x.body) k there is x.out x.room).room
+  handed_room = (out_of origin left desk holders h (record batch { spans = x.spans }) (Some x.body) k there is x.out x.room).room
 
 pub some_of : (n : ℕ) → (n ≡ 0 → ⊥) → 1 ≤ n
 some_of zero never = absurd (never refl)

@@ -16,10 +16,10 @@ use Rattle.retry_model.proofs.Again.{again-few}
 use Rattle.span_exporter.specs.Handed.{Handed, Gains, handing}
 use Rattle.batch_desk.specs.Batch.{BatchView}
 use Rattle.batch_model.specs.Worker.{EndedBatch, OutBatch, WorkerAccount, settled, dropped}
-use Rattle.batch_model.specs.Clauses.{EachLeadsOn, IsByWork, IsOutByWork, IsSent, IsSentSoFar, LeadsTo, Origin}
-use Rattle.batch_model.specs.Holders.{Holder, after_drained, after_drop, after_handed, after_settle, after_take, ended_with, handed_with, on_worker, origin_in, settled_with, worker, worker_in}
+use Rattle.batch_model.specs.Clauses.{EachLeadsOn, EndByWork, IsByWork, IsOutByWork, IsSent, IsSentSoFar, LeadsTo, Origin, abandon}
+use Rattle.batch_model.specs.Holders.{Holder, after_drained, after_drop, after_handed, after_left, after_settle, after_take, ended_with, handed_with, on_worker, origin_in, settled_with, worker, worker_in}
 use Rattle.batch_processor.specs.Holds.{IsBatchOf, IsBatchSize, IsHandedBatchOf}
-use Rattle.batch_processor.specs.Working.{GoesOn, Hand, HandStage, HasRoom, IsExported, IsPrepared, IsReady, IsStage, IsWorking, MayBeSent, IsWorkingWith, StepsAside, TakesStep, Work, WorkerState, attempts_by, attempts_from, attempts_of, attempts_out, attempts_with, encoded_at, hand_at, handed_at, in_hand, outcomes_out, pending_at, to_encode, to_judge, to_retry, to_send, with_outcomes, work_in, work_of}
+use Rattle.batch_processor.specs.Working.{GoesOn, Hand, HandStage, HasLeft, HasRoom, IsExported, IsPassWith, IsPrepared, IsReady, IsStage, IsWorking, MayBeSent, IsWorkingWith, StepsAside, TakesStep, Work, WorkerState, attempts_by, attempts_from, attempts_of, attempts_out, attempts_with, encoded_at, hand_at, handed_at, in_hand, outcomes_out, pending_at, to_encode, to_judge, to_retry, to_send, with_outcomes, work_in, work_of}
 
 -- ---- attempts
 
@@ -56,8 +56,8 @@ gains_more : (xs ys : List Handed) (a b d : Option (List Handed)) → Gains xs a
 gains_more xs ys None b d first second = second ∙ ap (option_map (λ (had : List Handed). had ++ ys)) first
 gains_more xs ys (Some had) b d first second = second ∙ ap (option_map (λ (all : List Handed). all ++ ys)) first ∙ ap Some (append_assoc had xs ys)
 
-pub goes_quiet : (told told' : Option (List Handed)) (old new : Work) → told' ≡ told → new.origin ≡ old.origin → attempts_of new.account ≡ attempts_of old.account → new.account.ended ≡ old.account.ended → GoesOn told told' old new
-goes_quiet told told' old new same origin attempts ended = record {
+pub goes_quiet : (told told' : Option (List Handed)) (old new : Work) → told' ≡ told → new.origin ≡ old.origin → attempts_of new.account ≡ attempts_of old.account → new.account.ended ≡ old.account.ended → new.account.left ≡ old.account.left → (old.account.left ≡ true → new ≡ old) → GoesOn told told' old new
+goes_quiet told told' old new same origin attempts ended left stays = record {
   origin = origin;
   more = [];
   gains = gains_none told told' same;
@@ -65,7 +65,13 @@ goes_quiet told told' old new same origin attempts ended = record {
   batches = [];
   ended = ended ∙ sym (append-nil old.account.ended);
   by_work = tt;
+  left = left;
+  stays = stays;
 }
+
+-- it hasn't left
+stays_here : (w : WorkerAccount) {X : Type 0} → w.left ≡ false → w.left ≡ true → X
+stays_here w here is = absurd (let e : true ≡ false = sym is ∙ here in cc)
 
 pub goes_on : (told told' told'' : Option (List Handed)) (old mid new : Work) → GoesOn told told' old mid → GoesOn told' told'' mid new → GoesOn told told'' old new
 goes_on told told' told'' old mid new a b = record {
@@ -76,6 +82,8 @@ goes_on told told' told'' old mid new a b = record {
   batches = a.batches ++ b.batches;
   ended = b.ended ∙ ap (λ (l : List EndedBatch). l ++ b.batches) a.ended ∙ append_assoc old.account.ended a.batches b.batches;
   by_work = each_append (IsByWork old.origin) a.batches b.batches a.by_work (subst (λ (o : Origin). AllByRecursion (IsByWork o) b.batches) a.origin b.by_work);
+  left = b.left ∙ a.left;
+  stays = λ is. b.stays (a.left ∙ is) ∙ a.stays is;
 }
 
 -- the attempts of the batches that have ended
@@ -93,6 +101,7 @@ module _ (origin : Origin) (w : WorkerAccount) (outcomes : List Outcome) where
   module _ (k : IsWorking origin w outcomes None) (batch : BatchView) (room : batch.room ≡ origin.desk.batch) (size : IsBatchSize origin batch.spans) where
     pub taken_works : IsWorking origin (after_take batch.number batch.spans w) outcomes (Some (record { batch = batch; stage = to_encode }))
     taken_works = record {
+      here = k.here;
       retry = k.retry;
       by_work = k.by_work;
       again = k.again;
@@ -101,20 +110,20 @@ module _ (origin : Origin) (w : WorkerAccount) (outcomes : List Outcome) where
 
     pub taken_goes : (told : Option (List Handed)) → GoesOn told told (work_of origin w outcomes None) (work_of origin (after_take batch.number batch.spans w) outcomes (Some (record { batch = batch; stage = to_encode })))
     taken_goes told = goes_quiet told told (work_of origin w outcomes None) (work_of origin (after_take batch.number batch.spans w) outcomes (Some (record { batch = batch; stage = to_encode }))) refl refl
-        (append-nil (before w) ∙ sym (attempts_none origin w outcomes None k.tied.0)) refl
+        (append-nil (before w) ∙ sym (attempts_none origin w outcomes None k.tied.0)) refl refl (stays_here w k.here)
 
   -- all is drained
   module _ (k : IsWorking origin w outcomes None) where
     pub drained_works : IsWorking origin (after_drained w) outcomes None
-    drained_works = record { retry = k.retry; by_work = k.by_work; again = k.again; tied = k.tied }
+    drained_works = record { here = k.here; retry = k.retry; by_work = k.by_work; again = k.again; tied = k.tied }
 
     pub drained_goes : (told : Option (List Handed)) → GoesOn told told (work_of origin w outcomes None) (work_of origin (after_drained w) outcomes None)
-    drained_goes told = goes_quiet told told (work_of origin w outcomes None) (work_of origin (after_drained w) outcomes None) refl refl refl refl
+    drained_goes told = goes_quiet told told (work_of origin w outcomes None) (work_of origin (after_drained w) outcomes None) refl refl refl refl refl (stays_here w k.here)
 
   -- a batch is encoded
   module _ (batch : BatchView) (k : IsWorking origin w outcomes (hand_at batch to_encode)) where
     encoded_works : (body : List ℕ) → MayBeSent origin.max_body batch.spans body → IsWorking origin w outcomes (hand_at batch (to_send body))
-    encoded_works body means = record { retry = k.retry; by_work = k.by_work; again = k.again; tied = record { out = k.tied.out; room = k.tied.room; some = k.tied.some; few = k.tied.few; stage = (k.tied.stage, means) } }
+    encoded_works body means = record { here = k.here; retry = k.retry; by_work = k.by_work; again = k.again; tied = record { out = k.tied.out; room = k.tied.room; some = k.tied.some; few = k.tied.few; stage = (k.tied.stage, means) } }
 
     -- or it has no body, and is dropped
     module _ (reason : Reason) (lacks : LacksBody origin.max_body batch.spans reason) where
@@ -129,6 +138,7 @@ module _ (origin : Origin) (w : WorkerAccount) (outcomes : List Outcome) where
 
       pub lacking_works : IsWorking origin (after_drop reason w) outcomes None
       lacking_works = record {
+        here = k.here;
         retry = k.retry;
         by_work = subst (AllByRecursion (IsByWork origin)) (sym lacking_is) (each_append (IsByWork origin) w.ended (lacking_batch ∷ []) k.by_work (lacking_by_work, tt));
         again = k.again;
@@ -148,6 +158,8 @@ module _ (origin : Origin) (w : WorkerAccount) (outcomes : List Outcome) where
         batches = lacking_batch ∷ [];
         ended = lacking_is;
         by_work = (lacking_by_work, tt);
+        left = refl;
+        stays = stays_here w k.here;
       }
 
   -- a body is handed to the exporter for the first time
@@ -163,6 +175,7 @@ module _ (origin : Origin) (w : WorkerAccount) (outcomes : List Outcome) where
 
     pub sent_works : IsWorking origin (after_handed body w) outcomes (Some sent_hand)
     sent_works = record {
+      here = k.here;
       retry = k.retry;
       by_work = k.by_work;
       again = k.again;
@@ -181,12 +194,14 @@ module _ (origin : Origin) (w : WorkerAccount) (outcomes : List Outcome) where
       batches = [];
       ended = sym (append-nil w.ended);
       by_work = tt;
+      left = refl;
+      stays = stays_here w k.here;
     }
 
   -- and again
   module _ (batch : BatchView) (body : List ℕ) (o : Outcome) (k : IsWorking origin w outcomes (Some (record { batch = batch; stage = to_retry body }))) where
     pub resent_works : IsWorking origin w outcomes (Some (record { batch = batch; stage = to_judge body o }))
-    resent_works = record { retry = k.retry; by_work = k.by_work; again = k.again; tied = record { out = k.tied.out; room = k.tied.room; some = k.tied.some; few = k.tied.few; stage = (k.tied.stage.0, k.tied.stage.1) } }
+    resent_works = record { here = k.here; retry = k.retry; by_work = k.by_work; again = k.again; tied = record { out = k.tied.out; room = k.tied.room; some = k.tied.some; few = k.tied.few; stage = (k.tied.stage.0, k.tied.stage.1) } }
 
     pub resent_goes : (told told' : Option (List Handed)) → Gains (handing batch.number (1 + length outcomes) body o) told told' → GoesOn told told' (work_of origin w outcomes (Some (record { batch = batch; stage = to_retry body }))) (work_of origin w outcomes (Some (record { batch = batch; stage = to_judge body o })))
     resent_goes told told' gains = record {
@@ -203,12 +218,15 @@ module _ (origin : Origin) (w : WorkerAccount) (outcomes : List Outcome) where
       batches = [];
       ended = sym (append-nil w.ended);
       by_work = tt;
+      left = refl;
+      stays = stays_here w k.here;
     }
 
   -- an outcome leads to another attempt
   module _ (batch : BatchView) (body : List ℕ) (o : Outcome) (k : IsWorking origin w outcomes (Some (record { batch = batch; stage = to_judge body o }))) (now word : ℕ) where
     pub again_works : (moment : ℕ) → next_after origin.retry (1 + length outcomes) o now word ≡ again moment → IsWorking origin w (outcomes ++ o ∷ []) (Some (record { batch = batch; stage = to_retry body }))
     again_works moment is = record {
+      here = k.here;
       retry = k.retry;
       by_work = k.by_work;
       again = leads-more origin.retry 1 outcomes o k.again (λ now' word'. same_lead origin.retry (1 + length outcomes) o now' word' now word ∙ ap fate_of is);
@@ -222,7 +240,7 @@ module _ (origin : Origin) (w : WorkerAccount) (outcomes : List Outcome) where
     }
 
     pub again_goes : (told : Option (List Handed)) → GoesOn told told (work_of origin w outcomes (Some (record { batch = batch; stage = to_judge body o }))) (work_of origin w (outcomes ++ o ∷ []) (Some (record { batch = batch; stage = to_retry body })))
-    again_goes told = goes_quiet told told _ _ refl refl (ap (λ (os : List Outcome). attempts_of (record w { out = with_outcomes os w.out })) (append-nil (outcomes ++ o ∷ []))) refl
+    again_goes told = goes_quiet told told _ _ refl refl (ap (λ (os : List Outcome). attempts_of (record w { out = with_outcomes os w.out })) (append-nil (outcomes ++ o ∷ []))) refl refl (stays_here w k.here)
 
     -- or settles the batch
     module _ (fate : Fate) (ends : fate_of (next_after origin.retry (1 + length outcomes) o now word) ≡ Some fate) where
@@ -254,6 +272,7 @@ module _ (origin : Origin) (w : WorkerAccount) (outcomes : List Outcome) where
 
       pub settled_works : IsWorking origin (after_settle (outcomes ++ o ∷ []) fate w) [] None
       settled_works = record {
+        here = k.here;
         retry = k.retry;
         by_work = subst (AllByRecursion (IsByWork origin)) (sym ended_is) (each_append (IsByWork origin) w.ended (ended_batch ∷ []) k.by_work (batch_by_work, tt));
         again = tt;
@@ -273,6 +292,8 @@ module _ (origin : Origin) (w : WorkerAccount) (outcomes : List Outcome) where
         batches = ended_batch ∷ [];
         ended = ended_is;
         by_work = (batch_by_work, tt);
+        left = refl;
+        stays = stays_here w k.here;
       }
 
 -- ---- what work leaves out
@@ -322,6 +343,100 @@ out_by_work origin w outcomes (Some hand) k =
     subst (λ (o : Option OutBatch). IfSome (with_outcomes (outcomes ++ pending_at hand.stage) o) (IsOutByWork origin)) (sym k.tied.out)
     (record { some = k.tied.some; few = k.tied.few; sent = out_at origin w outcomes hand k })
 
+-- ---- whether it has left
+
+pub pass_works : (left : Bool) (state : WorkerState) (hand : Option Hand) → left ≡ false → IsWorkingWith state hand → IsPassWith left state hand
+pass_works left state hand here k = record { left_is = k.here ∙ sym here; works = λ _. k; has_left = λ is. absurd (let e : true ≡ false = sym is ∙ here in cc) }
+
+pub pass_left : (state : WorkerState) (hand : Option Hand) → state.account.left ≡ true → HasLeft state hand → IsPassWith true state hand
+pass_left state hand is h = record { left_is = is; works = λ e. cc; has_left = λ _. h }
+
+-- how the batches of a worker ended that hasn't left
+works_end : (origin : Origin) (w : WorkerAccount) → w.left ≡ false → AllByRecursion (IsByWork origin) w.ended → EndByWork origin w
+works_end origin w here by_work = record {
+  earlier = w.ended;
+  last = None;
+  ended = sym (append-nil w.ended);
+  by_work = by_work;
+  out = tt;
+  here = λ _. refl;
+  gone = λ is. stays_here w here is;
+}
+
+-- the attempts of the batch that is out are no matter
+same_end : (origin : Origin) (w : WorkerAccount) (outcomes : List Outcome) → EndByWork origin w → EndByWork origin (record w { out = with_outcomes outcomes w.out })
+same_end origin w outcomes k = record {
+  earlier = k.earlier;
+  last = k.last;
+  ended = k.ended;
+  by_work = k.by_work;
+  out = k.out;
+  here = k.here;
+  gone = λ is. ap (with_outcomes outcomes) (k.gone is);
+}
+
+pub pass_end : (left : Bool) (state : WorkerState) (hand : Option Hand) → IsPassWith left state hand → EndByWork state.origin (work_in state hand).account
+pass_end true state hand k = same_end state.origin state.account (state.outcomes ++ in_hand [] pending_at hand) (k.has_left refl).batches
+pass_end false state hand k = same_end state.origin state.account (state.outcomes ++ in_hand [] pending_at hand) (let w = k.works refl in works_end state.origin state.account w.here w.by_work)
+
+pub pass_out : (left : Bool) (state : WorkerState) (hand : Option Hand) → IsPassWith left state hand → IfSome (work_in state hand).account.out (IsOutByWork state.origin)
+pass_out true state hand k = subst (λ (o : Option OutBatch). IfSome (with_outcomes (state.outcomes ++ in_hand [] pending_at hand) o) (IsOutByWork state.origin)) (sym ((k.has_left refl).batches.gone k.left_is)) tt
+pass_out false state hand k = out_by_work state.origin state.account state.outcomes hand (k.works refl)
+
+-- it leaves, with a batch in hand and without one
+pub leaves_with : (state : WorkerState) (hand : Hand) → IsWorkingWith state (Some hand)
+    → IsPassWith true (record state { account = after_left (abandon (work_in state (Some hand)).account); outcomes = [] }) None
+leaves_with state hand k = pass_left (record state { account = after_left (abandon (work_in state (Some hand)).account); outcomes = [] }) None refl (record {
+  none = refl;
+  judged = refl;
+  batches = record {
+    earlier = state.account.ended;
+    last = (work_in state (Some hand)).account.out;
+    ended = refl;
+    by_work = k.by_work;
+    out = out_by_work state.origin state.account state.outcomes (Some hand) k;
+    here = λ is. cc;
+    gone = λ is. refl;
+  };
+})
+
+pub leaves_alone : (state : WorkerState) → IsWorkingWith state None → IsPassWith true (record state { account = after_left state.account }) None
+leaves_alone state k = pass_left (record state { account = after_left state.account }) None refl (record {
+  none = refl;
+  judged = k.tied.1;
+  batches = record {
+    earlier = state.account.ended;
+    last = None;
+    ended = sym (append-nil state.account.ended);
+    by_work = k.by_work;
+    out = tt;
+    here = λ is. cc;
+    gone = λ is. k.tied.0;
+  };
+})
+
+abbrev LeftAs : Work → Work
+LeftAs work = record work { account = after_left (abandon work.account); encoded = None }
+
+-- where none is out, nothing is abandoned
+alone_is : (origin : Origin) (w : WorkerAccount) (os : List Outcome) → w.out ≡ None
+    → record (abandon (record w { out = with_outcomes os w.out })) { left = true } ≡ record w { out = with_outcomes os w.out; left = true }
+alone_is origin w os none =
+    ap (λ (o : Option OutBatch). record (abandon (record w { out = with_outcomes os o })) { left = true }) none
+    ∙ ap (λ (l : List EndedBatch). record w { ended = l; out = None; left = true }) (append-nil w.ended)
+    ∙ sym (ap (λ (o : Option OutBatch). record w { out = with_outcomes os o; left = true }) none)
+
+pub alone_view : (state : WorkerState) → IsWorkingWith state None → work_in (record state { account = after_left state.account }) None ≡ LeftAs (work_in state None)
+alone_view state k = ap (λ (w : WorkerAccount). record (work_in state None) { account = w }) (sym (alone_is state.origin state.account (state.outcomes ++ []) k.tied.0))
+
+-- a second time, nothing changes
+pub left_view : (state : WorkerState) (hand : Option Hand) → HasLeft state hand → state.account.left ≡ true → work_in state hand ≡ LeftAs (work_in state hand)
+left_view state hand h is =
+    let same : work_in state None ≡ LeftAs (work_in state None) =
+    ap (λ (b : Bool). record (work_in state None) { account = record (work_in state None).account { left = b } }) is
+    ∙ ap (λ (w : WorkerAccount). record (work_in state None) { account = w }) (sym (alone_is state.origin state.account (state.outcomes ++ []) (h.batches.gone is))) in
+    subst (λ (x : Option Hand). work_in state x ≡ LeftAs (work_in state x)) (sym h.none) same
+
 -- ---- what is told to the worker's account
 
 pub told_worker : (f : WorkerAccount → WorkerAccount) (origin : Origin) (a a' : Holder) → a' ≡ on_worker f a → a ≡ worker origin (worker_in a) → worker_in a' ≡ f (worker_in a)
@@ -356,7 +471,7 @@ module _ (state : WorkerState) (batch : BatchView) (stage : HandStage) (room : �
 -- ---- steps
 
 pub no_turn : (told : Option (List Handed)) (work : Work) → GoesOn told told work work
-no_turn told work = goes_quiet told told work work refl refl refl refl
+no_turn told work = goes_quiet told told work work refl refl refl refl refl (λ _. refl)
 
 pub no_step : (old new : WorkerState) (hand : Option Hand) → IsWorkingWith old hand → new ≡ old → StepsAside old hand new hand
 no_step old new hand k is = subst (λ (s : WorkerState). StepsAside old hand s hand) (sym is)
@@ -393,7 +508,7 @@ module _ (told told' : Option (List Handed)) (room room' : ℕ → ℕ) (state :
     encode_step body means place =
         let k = encoded_works state.origin state.account state.outcomes batch r.works body means in record {
           ready = record { works = k; prepared = room_by state batch (to_send body) room' k (omega arith) };
-          goes_on = goes_quiet told told' (work_in state (hand_at batch to_encode)) (work_in state (hand_at batch (to_send body))) same refl refl refl;
+          goes_on = goes_quiet told told' (work_in state (hand_at batch to_encode)) (work_in state (hand_at batch (to_send body))) same refl refl refl refl (stays_here state.account k.here);
         }
 
     pub lack_step : (new : WorkerState) (reason : Reason) → LacksBody state.origin.max_body batch.spans reason → new ≡ record state { account = after_drop reason state.account } → TakesStep told told' room' state (hand_at batch to_encode) new None

@@ -1,5 +1,5 @@
 -- What a processor's settings and answers are in the model.
-use Rattle.std.specs.Prelude.{Bool, true, false, List, map}
+use Rattle.std.specs.Prelude.{Bool, true, false, List, map, Result, Ok, Err}
 use Rattle.span_model.specs.Spans.{EndedSpan}
 use Rattle.retry_model.specs.Retries as retries
 use Rattle.otlp_span.specs.Dropped.{reason_view}
@@ -14,10 +14,13 @@ use Rattle.batch_desk.specs.declared.admitted.Admitted.TheVariants as admitted
 use Rattle.batch_processor.specs.declared.config.Setup.{Setup}
 use Rattle.span_ring.specs.declared.fault.RingFault.{RingFault}
 use Rattle.span_ring.specs.declared.fault.RingFault.TheVariants as rings
+use Rattle.batch_processor.specs.declared.fault.WorkerLeft.{WorkerLeft}
+use Rattle.batch_processor.specs.declared.pass.Flushed.{Flushed}
 use Rattle.batch_processor.specs.declared.fault.NewFault.{NewFault}
 use Rattle.batch_processor.specs.declared.fault.NewFault.TheVariants as faults
 use Rattle.pass_model.specs.Passes.{PassAccount, after_accepted, after_dropped, after_late}
 use Rattle.batch_model.specs.Clauses.{Origin}
+use Rattle.batch_model.specs.Holders.{after_flushed, after_told_left}
 
 abbrev pub setup_view : Setup → Origin
 setup_view s = record {
@@ -51,6 +54,11 @@ after_end (answers.Dropped ticket reason) span account =
     after_dropped (reason_view reason) ticket span account
 after_end answers.Late span account = after_late account
 after_end _ span account = account
+
+-- what was asked for is flushed, or the worker has left
+abbrev pub after_answer : Result Flushed WorkerLeft → PassAccount → PassAccount
+after_answer (Ok flushed) account = after_flushed account
+after_answer (Err left) account = after_told_left account
 
 -- why a processor is not made, where its queue isn't
 abbrev pub new_fault : RingFault → NewFault

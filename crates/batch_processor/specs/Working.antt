@@ -1,6 +1,6 @@
 -- What the worker's pass of a batch processor has between two turns, and what a turn does. (Trace
 -- SDK, Batching processor, Span Exporter; OpenTelemetry Protocol Exporter, Retry)
-use Rattle.std.specs.Prelude.{◌≡◌, ℕ, ◌+◌, ◌<◌, ◌≤◌, List, [], ◌∷◌, ◌++◌, length, Option, Some, None}
+use Rattle.std.specs.Prelude.{◌≡◌, ℕ, ◌+◌, ◌<◌, ◌≤◌, Bool, true, false, List, [], ◌∷◌, ◌++◌, length, Option, Some, None}
 use Rattle.std.specs.List.{AllByRecursion, flat_map}
 use Rattle.span_model.specs.Spans.{EndedSpan}
 use Rattle.retry_model.specs.Retries.{Outcome}
@@ -9,7 +9,7 @@ use Rattle.retry_core.specs.Retries.{outcome_view}
 use Rattle.span_exporter.specs.Handed.{Handed, Gains, handing}
 use Rattle.batch_desk.specs.Batch.{BatchView}
 use Rattle.batch_model.specs.Worker.{BatchEnd, settled, dropped, EndedBatch, OutBatch, WorkerAccount}
-use Rattle.batch_model.specs.Clauses.{EachLeadsOn, IsBodyOf, IsByWork, Origin}
+use Rattle.batch_model.specs.Clauses.{EachLeadsOn, EndByWork, IsBodyOf, IsByWork, Origin}
 use Rattle.batch_processor.specs.declared.steps.Stage.{Stage}
 use Rattle.batch_processor.specs.declared.steps.Stage.TheVariants as stages
 
@@ -137,10 +137,11 @@ abbrev pub IsTied : Origin → WorkerAccount → List Outcome → Option Hand �
 IsTied origin account outcomes None = (account.out ≡ None) × (outcomes ≡ [])
 IsTied origin account outcomes (Some hand) = IsInHand origin account outcomes hand
 
--- What is so between two turns: each batch that ended did so by work, and each outcome that was
--- judged led to another attempt.
+-- What is so between two turns, of a worker that hasn't left: each batch that ended did so by work,
+-- and each outcome that was judged led to another attempt.
 pub record IsWorking (origin : Origin) (account : WorkerAccount) (outcomes : List Outcome)
     (hand : Option Hand) : Type 0 where
+  pub here : account.left ≡ false
   pub retry : IsRetryConfig origin.retry
   pub by_work : AllByRecursion (IsByWork origin) account.ended
   pub again : EachLeadsOn origin.retry 1 outcomes
@@ -162,7 +163,8 @@ IsPrepared room work =
     HasRoom work.origin.retry room work.encoded (outcomes_out work.account.out)
 
 -- An exporter that tells has gained just the attempts that the worker's account gained. Batches
--- ended by work alone, and none that had ended is changed.
+-- ended by work alone, and none that had ended is changed. The worker hasn't left meanwhile, and
+-- where it had before, nothing is done.
 pub record GoesOn (told told' : Option (List Handed)) (old new : Work) : Type 0 where
   pub origin : new.origin ≡ old.origin
   pub more : List Handed
@@ -171,6 +173,8 @@ pub record GoesOn (told told' : Option (List Handed)) (old new : Work) : Type 0 
   pub batches : List EndedBatch
   pub ended : new.account.ended ≡ old.account.ended ++ batches
   pub by_work : AllByRecursion (IsByWork old.origin) batches
+  pub left : new.account.left ≡ old.account.left
+  pub stays : old.account.left ≡ true → new ≡ old
 
 -- ---- what a step does
 
@@ -186,6 +190,18 @@ work_in state hand = work_of state.origin state.account state.outcomes hand
 
 abbrev pub IsWorkingWith : WorkerState → Option Hand → Type 0
 IsWorkingWith state hand = IsWorking state.origin state.account state.outcomes hand
+
+-- A worker that has left has no batch in hand.
+pub record HasLeft (state : WorkerState) (hand : Option Hand) : Type 0 where
+  pub none : hand ≡ None
+  pub judged : state.outcomes ≡ []
+  pub batches : EndByWork state.origin state.account
+
+-- What is so of a worker's pass, which keeps whether the worker has left.
+pub record IsPassWith (left : Bool) (state : WorkerState) (hand : Option Hand) : Type 0 where
+  pub left_is : state.account.left ≡ left
+  pub works : left ≡ false → IsWorkingWith state hand
+  pub has_left : left ≡ true → HasLeft state hand
 
 abbrev pub hand_at : BatchView → HandStage → Option Hand
 hand_at batch stage = Some (record { batch = batch; stage = stage })

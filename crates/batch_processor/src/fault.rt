@@ -22,6 +22,11 @@ pub enum NewFault {
     OutOfMemory,
 }
 
+/// The worker has left, and what was asked for is not flushed: nobody goes on with it.
+#[derive(Debug, Clone, Copy, PartialEq, Eq, Error)]
+#[error("the worker has left")]
+pub struct WorkerLeft;
+
 impl From<AllocError> for NewFault {
     ghost use Rattle.std.specs.Prelude.{◌≡◌};
     ghost use Rattle.batch_processor.specs.declared.fault.NewFault.TheVariants as faults;

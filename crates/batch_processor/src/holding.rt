@@ -111,12 +111,21 @@ impl<A: Allocator> Change<Holding, Snapshot<Desk<A>>> for ShutsDown {
 }
 
 /// What a pass asked for is flushed.
-pub(crate) struct Flushed;
+pub(crate) struct ToldFlushed;
 
-impl Change<Holding, ()> for Flushed {
+impl Change<Holding, ()> for ToldFlushed {
     ghost use Rattle.batch_model.specs.Holders.{after_flushed, on_pass};
 
     ghost after = { λ holder _. on_pass after_flushed holder };
+}
+
+/// It is not, and the worker has left.
+pub(crate) struct ToldLeft;
+
+impl Change<Holding, ()> for ToldLeft {
+    ghost use Rattle.batch_model.specs.Holders.{after_told_left, on_pass};
+
+    ghost after = { λ holder _. on_pass after_told_left holder };
 }
 
 /// A pass pops an entry of the ledger.
@@ -184,6 +193,15 @@ impl Change<Holding, ()> for Drains {
     ghost use Rattle.batch_model.specs.Holders.{after_drained, on_worker};
 
     ghost after = { λ holder _. on_worker after_drained holder };
+}
+
+/// The worker leaves.
+pub(crate) struct Leaves;
+
+impl Change<Holding, ()> for Leaves {
+    ghost use Rattle.batch_model.specs.Holders.{after_left, on_worker};
+
+    ghost after = { λ holder _. on_worker after_left holder };
 }
 
 /// The accounts of one processor, before it is made: `BatchProcessor::new` opens them. In contracts

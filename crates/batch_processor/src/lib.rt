@@ -18,7 +18,7 @@ mod worker;
 pub use account_book::Naming;
 pub use clock::{Clock, ManualClock, SystemClock};
 pub use config::BatchConfig;
-pub use fault::NewFault;
+pub use fault::{NewFault, WorkerLeft};
 pub use holding::BatchBlank;
 pub use pass::{Flushed, Pass};
 pub use processor::{Accounts, BatchProcessor, MAX_PASSES, Missing, Parts};

@@ -3,11 +3,13 @@ ghost use Rattle.std.specs.Prelude.{◌≡◌, ◌≢◌, ℕ, List, true, false
 ghost use Rattle.retry_core.specs.Retries.{fate_view};
 ghost use Rattle.otlp_span.specs.Dropped.{reason_view};
 ghost use Rattle.batch_processor.specs.Holds.{IsBatchOf, IsBatchSize, IsHandedBatchOf};
-ghost use Rattle.batch_model.specs.Holders.{account_in, after_drained, after_drop, after_flushed, after_settle, after_take, on_pass, on_worker, origin_in, pass, worker, worker_in};
-ghost use Rattle.batch_processor.specs.Views.{after_end, is_batch_answer, outcomes_view};
+ghost use Rattle.batch_model.specs.Holders.{account_in, after_drained, after_drop, after_left, after_settle, after_take, left_if, on_pass, on_worker, origin_in, pass, worker, worker_in};
+ghost use Rattle.batch_processor.specs.Views.{after_answer, after_end, is_batch_answer, outcomes_view};
 ghost use Rattle.batch_processor.specs.Answers.{IsFlushed, IsShutDown};
 
+use crate::fault::WorkerLeft;
 use crate::holding::Holding;
+use crate::pass::Flushed;
 use crate::shared::Shared;
 use account_book::{Account, Naming};
 use batch_desk::{Batch, Mark};
@@ -19,7 +21,7 @@ use std::time::{Clock, Duration};
 use trace_api::Ended;
 
 /// What lies under the lock. The worker waits for a batch to fill, or for somebody to ask; a flush
-/// waits for a batch to end.
+/// waits for a batch to end, or for the worker to leave.
 #[derive(Drop)]
 pub(crate) struct Lock<J: Naming, A: Allocator> {
     pub(crate) shared: Mutex<Shared<J, A>>,
@@ -66,38 +68,51 @@ impl<J: Naming, A: Allocator + Copy> Lock<J, A> {
         answer
     }
 
-    /// A pass asks for all that was accepted, and waits until it is flushed.
-    pub(crate) fn flush<R: Wait>(&self, rt: &R, account: &mut Account<J, Holding>)
+    /// A pass asks for all that was accepted, and waits until it is flushed, or the worker has left.
+    pub(crate) fn flush<R: Wait>(
+        &self,
+        rt: &R,
+        account: &mut Account<J, Holding>,
+    ) -> Result<Flushed, WorkerLeft>
         requires { account.old ≡ pass (account_in account.old) }
         ensures pass { account.new ≡ pass (account_in account.new) }
-        ensures flushed { IsFlushed (account_in account.old) (account_in account.new) }
+        ensures answer { IsFlushed result (account_in account.old) (account_in account.new) }
     {
         let mark = self.shared.lock(rt).flush(account);
         self.to_do.notify_one();
-        self.wait(rt, account, mark);
+        self.wait(rt, account, mark)
     }
 
     /// The same with a shutdown.
-    pub(crate) fn shutdown<R: Wait>(&self, rt: &R, account: &mut Account<J, Holding>)
+    pub(crate) fn shutdown<R: Wait>(
+        &self,
+        rt: &R,
+        account: &mut Account<J, Holding>,
+    ) -> Result<Flushed, WorkerLeft>
         requires { account.old ≡ pass (account_in account.old) }
         ensures pass { account.new ≡ pass (account_in account.new) }
-        ensures flushed { IsShutDown (account_in account.old) (account_in account.new) }
+        ensures answer { IsShutDown result (account_in account.old) (account_in account.new) }
     {
         let mark = self.shared.lock(rt).shutdown(account);
         self.to_do.notify_one();
-        self.wait(rt, account, mark);
+        self.wait(rt, account, mark)
     }
 
-    /// Waits until what a pass asked for is flushed.
-    fn wait<R: Wait>(&self, rt: &R, account: &mut Account<J, Holding>, mark: Mark)
+    /// Waits until what a pass asked for is flushed, or the worker has left.
+    fn wait<R: Wait>(
+        &self,
+        rt: &R,
+        account: &mut Account<J, Holding>,
+        mark: Mark,
+    ) -> Result<Flushed, WorkerLeft>
         requires pass { account.old ≡ pass (account_in account.old) }
         requires mark { (account_in account.old).asked.mark ≡ mark }
-        ensures { account.new ≡ on_pass after_flushed account.old }
+        ensures { account.new ≡ on_pass (after_answer result) account.old }
     {
         let mut shared = self.shared.lock(rt);
         for _ in rt.forever() {
-            if shared.flushed(account, mark) {
-                return;
+            if let Some(answer) = shared.flushed(account, mark) {
+                return answer;
             }
             shared = self.done.wait(rt, shared);
         }
@@ -146,28 +161,33 @@ impl<J: Naming, A: Allocator + Copy> Lock<J, A> {
         false
     }
 
-    /// The worker drops its batch, and those who wait for it are called. Its spans are freed before
-    /// the hold.
+    /// The worker drops its batch, and leaves by the same hold or doesn't; those who wait are called.
+    /// Its spans are freed before the hold.
     pub(crate) fn drop_batch<R: Wait>(
         &self,
         rt: &R,
         account: &mut Account<J, Holding>,
         batch: Batch<A>,
         reason: Reason,
+        leaves: bool,
     )
         requires worker { account.old ≡ worker (origin_in account.old) (worker_in account.old) }
         requires out { IsBatchOf account.old batch }
         requires reason { reason ≢ Reason.QueueFull }
-        ensures { account.new ≡ on_worker (after_drop (reason_view reason)) account.old }
+        ensures { account.new ≡ on_worker (left_if leaves)
+            (on_worker (after_drop (reason_view reason)) account.old) }
     {
         let batch = batch.into_named(reason);
-        self.shared.lock(rt).drop_batch(account, batch);
+        let mut shared = self.shared.lock(rt);
+        shared.drop_batch(account, batch);
+        shared.leave_if(account, leaves);
+        drop(shared);
         self.done.notify_all();
     }
 
-    /// The worker settles its batch, and those who wait for it are called. None of its spans is
-    /// freed in the hold: they are left to those who end others, or freed behind it. `spent` is
-    /// left without one.
+    /// The worker settles its batch, and leaves by the same hold or doesn't; those who wait are
+    /// called. None of its spans is freed in the hold: they are left to those who end others, or
+    /// freed behind it. `spent` is left without one.
     pub(crate) fn settle<R: Wait>(
         &self,
         rt: &R,
@@ -175,20 +195,31 @@ impl<J: Naming, A: Allocator + Copy> Lock<J, A> {
         mut batch: Batch<A>,
         outcomes: &Vec<Outcome, A>,
         fate: Fate,
+        leaves: bool,
         spent: &mut Vec<SpanData<A>, A>,
     )
         requires worker { account.old ≡ worker (origin_in account.old) (worker_in account.old) }
         requires out { IsHandedBatchOf account.old batch }
-        ensures { account.new ≡ on_worker
-            (after_settle (outcomes_view outcomes.now.items) (fate_view fate)) account.old }
+        ensures { account.new ≡ on_worker (left_if leaves) (on_worker
+            (after_settle (outcomes_view outcomes.now.items) (fate_view fate)) account.old) }
     {
         batch.clear_into(spent);
         let mut shared = self.shared.lock(rt);
         shared.settle(account, batch, outcomes, fate);
+        shared.leave_if(account, leaves);
         shared.leave_spent(spent);
         drop(shared);
         self.done.notify_all();
         spent.clear();
+    }
+
+    /// The worker, which has none out, leaves, and those who wait are called.
+    pub(crate) fn leave<R: Wait>(&self, rt: &R, account: &mut Account<J, Holding>)
+        requires { account.old ≡ worker (origin_in account.old) (worker_in account.old) }
+        ensures { account.new ≡ on_worker after_left account.old }
+    {
+        self.shared.lock(rt).leave_if(account, true);
+        self.done.notify_all();
     }
 }
 

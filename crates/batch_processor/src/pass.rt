@@ -4,6 +4,7 @@ ghost use Rattle.otlp_span.specs.Dropped.{entry_view};
 ghost use Rattle.pass_model.specs.Passes.{after_pop};
 ghost use Rattle.batch_processor.specs.Answers.{IsFlushed, IsShutDown};
 
+use crate::fault::WorkerLeft;
 use crate::holding::Holding;
 use crate::lock::Lock;
 use account_book::{Account, Naming};
@@ -53,21 +54,28 @@ impl<J: Naming, R, A: Allocator> fmt::Debug for Pass<J, R, A> {
 impl<J: Naming, R: Wait, A: Allocator + Copy> Pass<J, R, A> {
     /// Waits until all spans that were accepted before are handed to the exporter and settled, or
     /// dropped (Trace SDK, "ForceFlush").
-    pub fn force_flush(&mut self) -> Flushed
-        ensures { IsFlushed self.old self.new }
+    ///
+    /// # Errors
+    ///
+    /// `WorkerLeft` where they are not, and the worker has left, be it before the call or while it
+    /// waits. (profile)
+    pub fn force_flush(&mut self) -> Result<Flushed, WorkerLeft>
+        ensures { IsFlushed result self.old self.new }
     {
         let Pass { lock, account, rt } = self;
-        lock.flush(rt, account);
-        Flushed
+        lock.flush(rt, account)
     }
 
     /// Admits no span any more, on any pass, and waits as `force_flush` (Trace SDK, "Shutdown").
-    pub fn shutdown(&mut self) -> Flushed
-        ensures { IsShutDown self.old self.new }
+    ///
+    /// # Errors
+    ///
+    /// `WorkerLeft` as `force_flush`; no span is admitted any more then either.
+    pub fn shutdown(&mut self) -> Result<Flushed, WorkerLeft>
+        ensures { IsShutDown result self.old self.new }
     {
         let Pass { lock, account, rt } = self;
-        lock.shutdown(rt, account);
-        Flushed
+        lock.shutdown(rt, account)
     }
 
     /// Takes the newest entry out of the ledger, if there is one.

@@ -7,7 +7,7 @@ ghost use Rattle.batch_model.specs.Holders.{pass};
 ghost use Rattle.batch_processor.specs.Views.{setup_view};
 ghost use Rattle.batch_processor.specs.declared.processor.TheConstants.{MAX_PASSES};
 ghost use Rattle.pass_model.specs.Clauses.{LateAfterShutdown, LateAreCounted, TicketsAreGivenOnce, TicketsRise, is_closed};
-ghost use Rattle.batch_model.specs.Clauses.{BatchesAreNumbered, DropsAreCounted, DropsAreNamed, HandedAreCounted, IsByWork, IsOutByWork, DropsFoundItFull, DrainedLeavesNone, FatesAreCounted, NoneFoundItFull, NoneIsBelowAFloor, QueuedAreAccounted, TicketsRiseThrough, abandon};
+ghost use Rattle.batch_model.specs.Clauses.{BatchesAreNumbered, DropsAreCounted, DropsAreNamed, EndByWork, HandedAreCounted, IsOutByWork, DropsFoundItFull, DrainedLeavesNone, FatesAreCounted, NoneFoundItFull, NoneIsBelowAFloor, QueuedAreAccounted, TicketsRiseThrough, ToldOnlyWhereLeft, abandon};
 
 use crate::config::{BatchConfig, Setup};
 use crate::fault::NewFault;
@@ -112,12 +112,12 @@ impl<J: Naming, R: Wait + Drop, A: Allocator + Copy> BatchProcessor<J, R, A> {
             HandedAreCounted a.desk.handed (abandon worker.account)) }
         ensures fates { IfOk result (λ a.
             FatesAreCounted a.desk.fates (abandon worker.account)) }
-        ensures by_work { OnOk result
-            (AllByRecursion (IsByWork worker.origin) worker.account.ended) }
+        ensures by_work { OnOk result (EndByWork worker.origin worker.account) }
         ensures out { OnOk result (IfSome worker.account.out (IsOutByWork worker.origin)) }
         ensures floors { IfOk result (λ a. NoneIsBelowAFloor a.desk.waiting passes.items) }
         ensures drained { IfOk result (λ a.
             DrainedLeavesNone a.desk.waiting (abandon worker.account)) }
+        ensures told { OnOk result (ToldOnlyWhereLeft passes.items worker.account) }
     {
         if passes.len() < self.setup.passes {
             return Err(Missing {
@@ -208,6 +208,7 @@ impl<J: Naming, R: Wait + Copy, A: Allocator + Copy> BatchProcessor<J, R, A> {
         let accounts = book.open_all::<Holding, A>(alloc, passes)?;
         let shared = Shared {
             desk: Some(desk),
+            left: false,
             spent,
             book,
             setup,

@@ -4,17 +4,18 @@ ghost use Rattle.desk_model.specs.Desks.{accepted_count, is_due};
 ghost use Rattle.otlp_span.specs.Dropped.{entry_view};
 ghost use Rattle.retry_core.specs.Retries.{fate_view};
 ghost use Rattle.pass_model.specs.Passes.{after_pop};
-ghost use Rattle.batch_model.specs.Holders.{account_in, after_drained, after_drop, after_flushed, after_handed, after_settle, after_take, on_pass, on_worker, origin_in, pass, processor, worker, worker_in};
-ghost use Rattle.batch_processor.specs.Views.{after_end, ended_of, is_batch_answer, outcomes_view};
+ghost use Rattle.batch_model.specs.Holders.{account_in, after_drained, after_drop, after_handed, after_settle, after_take, left_if, on_pass, on_worker, origin_in, pass, processor, worker, worker_in};
+ghost use Rattle.batch_processor.specs.Views.{after_answer, after_end, ended_of, is_batch_answer, outcomes_view};
 ghost use Rattle.batch_processor.specs.Holds.{Asks, IsBatchOf, IsBatchSize, IsHandedBatchOf, IsNamedBatchOf, Shuts};
 ghost use Rattle.batch_model.specs.Kept.{IsAccountOf};
 
 use crate::config::Setup;
+use crate::fault::WorkerLeft;
 use crate::holding::{
-    Drains, Drops, Ends, Flushed, Flushes, Hands, Holding, Pops, Settled, Settles, ShutsDown,
-    SpanEnded, Takes,
+    Drains, Drops, Ends, Flushes, Hands, Holding, Leaves, Pops, Settled, Settles, ShutsDown,
+    SpanEnded, Takes, ToldFlushed, ToldLeft,
 };
-use crate::pass::Pass;
+use crate::pass::{Flushed, Pass};
 use account_book::{Account, Book, Naming};
 use batch_desk::{Admitted, Batch, Desk, Mark, NamedBatch};
 use otlp_span::{Entry, Reason, SpanData, SpanRemains};
@@ -29,6 +30,8 @@ use trace_api::Ended;
 #[derive(Drop)]
 pub(crate) struct Shared<J: Naming, A: Allocator> {
     pub(crate) desk: Option<Desk<A>>,
+    // Whether the worker has left.
+    pub(crate) left: bool,
     // Spans that were sent, which the threads free that end others.
     pub(crate) spent: Vec<SpanData<A>, A>,
     pub(crate) book: Book<J, Holding>,
@@ -43,7 +46,7 @@ impl<J: Naming, A: Allocator> Model for Shared<J, A> {
 
     ghost view = { λ s. tt };
 
-    ghost invariant = { λ s. IsShared (setup_view s.setup) s.desk s.book };
+    ghost invariant = { λ s. IsShared (setup_view s.setup) s.left s.desk s.book };
 }
 
 impl<J: Naming, A: Allocator + Copy> Shared<J, A> {
@@ -128,22 +131,32 @@ impl<J: Naming, A: Allocator + Copy> Shared<J, A> {
         mark
     }
 
-    /// Whether what a pass asked for last is flushed.
-    pub(crate) fn flushed(&mut self, account: &mut Account<J, Holding>, mark: Mark) -> bool
+    /// What a pass is answered that asked last for what this mark says: that it is flushed, or else
+    /// that the worker has left. None where neither is so yet.
+    pub(crate) fn flushed(
+        &mut self,
+        account: &mut Account<J, Holding>,
+        mark: Mark,
+    ) -> Option<Result<Flushed, WorkerLeft>>
         requires pass { account.old ≡ pass (account_in account.old) }
         requires mark { (account_in account.old).asked.mark ≡ mark }
-        ensures yes { IsTrue result → account.new ≡ on_pass after_flushed account.old }
-        ensures no { result ≡ false → account.new ≡ account.old }
+        ensures some { IfSome result
+            (λ answer. account.new ≡ on_pass (after_answer answer) account.old) }
+        ensures none { IfNone result (account.new ≡ account.old) }
     {
         self.book.recognize(account);
         let Some(desk) = &self.desk else {
             unreachable!()
         };
-        if !desk.flushed(mark) {
-            return false;
+        if desk.flushed(mark) {
+            self.book.record::<(), ToldFlushed>(account, &());
+            return Some(Ok(Flushed));
         }
-        self.book.record::<(), Flushed>(account, &());
-        true
+        if self.left {
+            self.book.record::<(), ToldLeft>(account, &());
+            return Some(Err(WorkerLeft));
+        }
+        None
     }
 
     /// A pass pops an entry of the ledger.
@@ -263,6 +276,22 @@ impl<J: Naming, A: Allocator + Copy> Shared<J, A> {
         }
         self.book.record::<(), Drains>(account, &());
         true
+    }
+
+    /// The worker leaves by this hold, or it doesn't.
+    pub(crate) fn leave_if(&mut self, account: &mut Account<J, Holding>, leaves: bool)
+        requires { account.old ≡ worker (origin_in account.old) (worker_in account.old) }
+        ensures { account.new ≡ on_worker (left_if leaves) account.old }
+    {
+        if !leaves {
+            return;
+        }
+        self.book.recognize(account);
+        let Some(_desk) = &self.desk else {
+            unreachable!()
+        };
+        self.book.record::<(), Leaves>(account, &());
+        self.left = true;
     }
 
     /// Takes the desk out, once the processor, the worker and all passes are back.

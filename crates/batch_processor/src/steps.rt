@@ -6,7 +6,7 @@ ghost use Rattle.otlp_proto.specs.Bodies.{reason_of};
 ghost use Rattle.retry_core.specs.Retries.{fate_view, outcome_view};
 ghost use Rattle.batch_model.specs.Clauses.{IsBodyOf, abandon};
 ghost use Rattle.otlp_span.specs.Dropped.{reason_view};
-ghost use Rattle.batch_model.specs.Holders.{after_drained, after_drop, after_settle, worker};
+ghost use Rattle.batch_model.specs.Holders.{after_drained, after_drop, after_left, after_settle, left_if, worker};
 ghost use Rattle.batch_processor.specs.Holds.{IsBatchOf, IsHandedBatchOf};
 ghost use Rattle.batch_processor.specs.Working.{IsExported, IsReady, IsWorkingWith, StepsAside, TakesStep, hand_at, to_encode, to_judge, to_retry, to_send, work_in};
 
@@ -143,7 +143,7 @@ impl<J: Naming, R: Wait + time::Clock + Drop, A: Allocator + Copy> Worker<J, R, 
                 Some(InHand { batch, stage })
             }
             Err(fault) => {
-                self.drop_batch(batch, fault.reason());
+                self.drop_batch(batch, fault.reason(), false);
                 None
             }
         }
@@ -212,17 +212,19 @@ impl<J: Naming, R: Wait + time::Clock + Drop, A: Allocator + Copy> Worker<J, R, 
             return Some(InHand { batch, stage });
         }
         let fate = next.fate().unwrap();
-        self.settle(batch, fate);
+        self.settle(batch, fate, false);
         None
     }
 }
 
 impl<J: Naming, R: Wait + Drop, A: Allocator + Copy> Worker<J, R, A> {
-    /// Settles a batch that was handed, behind the outcomes that were judged.
-    fn settle(&mut self, batch: Batch<A>, fate: Fate)
+    /// Settles a batch that was handed, behind the outcomes that were judged. The worker leaves by
+    /// the same hold, or it doesn't.
+    fn settle(&mut self, batch: Batch<A>, fate: Fate, leaves: bool)
         requires { IsHandedBatchOf (worker self.old.origin self.old.account) batch }
         ensures { self.new ≡ record self.old {
-          account = after_settle self.old.outcomes (fate_view fate) self.old.account;
+          account = left_if leaves
+              (after_settle self.old.outcomes (fate_view fate) self.old.account);
           outcomes = [];
         } }
     {
@@ -232,44 +234,54 @@ impl<J: Naming, R: Wait + Drop, A: Allocator + Copy> Worker<J, R, A> {
             batch,
             &self.outcomes,
             fate,
+            leaves,
             &mut self.spent,
         );
         self.outcomes.clear();
     }
 
-    /// Drops a batch that was not handed, for this reason.
-    fn drop_batch(&mut self, batch: Batch<A>, reason: Reason)
+    /// Drops a batch that was not handed, for this reason. The worker leaves by the same hold, or it
+    /// doesn't.
+    fn drop_batch(&mut self, batch: Batch<A>, reason: Reason, leaves: bool)
         requires batch { IsBatchOf (worker self.old.origin self.old.account) batch }
         requires reason { reason ≢ Reason.QueueFull }
         ensures { self.new ≡ record self.old {
-          account = after_drop (reason_view reason) self.old.account;
+          account = left_if leaves (after_drop (reason_view reason) self.old.account);
         } }
     {
         self.lock
-            .drop_batch(&self.rt, &mut self.account, batch, reason);
+            .drop_batch(&self.rt, &mut self.account, batch, reason, leaves);
     }
 
-    /// Ends the batch in hand: it is dropped where it was not handed, and else settled.
-    pub(crate) fn abandon(mut self, hand: InHand<A>) -> Account<J, Holding>
-        requires { IsWorkingWith self (Some hand) }
-        ensures { result ≡ worker self.origin (abandon (work_in self (Some hand)).account) }
+    /// Abandons the batch in hand: it is dropped where it was not handed, and else settled. The
+    /// worker leaves by the same hold, or it doesn't.
+    pub(crate) fn abandon(&mut self, hand: InHand<A>, leaves: bool)
+        requires { IsWorkingWith self.old (Some hand) }
+        ensures { self.new ≡ record self.old {
+          account = left_if leaves (abandon (work_in self.old (Some hand)).account);
+          outcomes = [];
+        } }
     {
         let InHand { batch, stage } = hand;
         match stage {
             Stage::ToEncode | Stage::ToSend { .. } => {
-                self.drop_batch(batch, Reason::Abandoned);
-                self.into_account()
+                self.drop_batch(batch, Reason::Abandoned, leaves);
             }
             Stage::ToJudge { outcome, .. } => {
                 self.outcomes.push_reserved(outcome);
-                self.settle(batch, Fate::Abandoned);
-                self.into_account()
+                self.settle(batch, Fate::Abandoned, leaves);
             }
             Stage::ToRetry { .. } => {
-                self.settle(batch, Fate::Abandoned);
-                self.into_account()
+                self.settle(batch, Fate::Abandoned, leaves);
             }
         }
+    }
+
+    /// Leaves, where no batch is in hand.
+    pub(crate) fn leave(&mut self)
+        ensures { self.new ≡ record self.old { account = after_left self.old.account } }
+    {
+        self.lock.leave(&self.rt, &mut self.account);
     }
 }
 

@@ -1,9 +1,9 @@
 //! The worker's pass: turns of work, and what becomes of a batch in hand where it is let go.
-ghost use Rattle.std.specs.Prelude.{◌≡◌, IfOk, IfSome, IsTrue, None, true};
+ghost use Rattle.std.specs.Prelude.{◌≡◌, IfOk, IfSome, IsTrue, None, true, false};
 ghost use Rattle.retry_model.specs.Waits.{IsRetryConfig};
 ghost use Rattle.batch_model.specs.Worker.{new_worker};
-ghost use Rattle.batch_model.specs.Clauses.{IsOutByWork, abandon};
-ghost use Rattle.batch_model.specs.Holders.{worker};
+ghost use Rattle.batch_model.specs.Clauses.{EndByWork, IsOutByWork, abandon};
+ghost use Rattle.batch_model.specs.Holders.{after_left, worker};
 ghost use Rattle.batch_processor.specs.Views.{setup_view};
 ghost use Rattle.batch_processor.specs.Working.{GoesOn, IsPrepared};
 
@@ -25,28 +25,29 @@ use std::{fmt, mem, time};
 pub enum WorkEnd {
     /// The processor is shut down, no span waits, and no batch is out.
     Drained,
-    /// The turns are spent.
+    /// The turns are spent, or the worker has left.
     TurnsSpent,
 }
 
 /// The way of one thread, which sends the batches, to a batch processor. In contracts it is what
 /// the worker knows: the batches that ended, each with its spans, its body, what its attempts came
-/// to and its fate; and the one that is out. On the heap it may go to another thread where the
-/// runtime's value may: what `thread::spawn` asks its caller to show is the lemma `worker_send` of
-/// `proofs/Crosses.antt`. Where it is let go, a batch in hand is abandoned.
+/// to and its fate; the one that is out; and whether it has left. On the heap it may go to another
+/// thread where the runtime's value may: what `thread::spawn` asks its caller to show is the lemma `worker_send` of
+/// `proofs/Crosses.antt`. Where it is let go, it leaves.
 pub struct WorkerPass<J: Naming, R: Wait + Drop, A: Allocator + Copy = Global> {
     pub(crate) worker: Worker<J, R, A>,
     pub(crate) in_hand: Option<InHand<A>>,
+    pub(crate) left: bool,
 }
 
 impl<J: Naming, R: Wait + Drop, A: Allocator + Copy> Model for WorkerPass<J, R, A> {
-    ghost use Rattle.batch_processor.specs.Working.{IsWorkingWith, Work, work_in};
+    ghost use Rattle.batch_processor.specs.Working.{IsPassWith, Work, work_in};
 
     ghost Value = { Work };
 
     ghost view = { λ p. work_in p.worker p.in_hand };
 
-    ghost invariant = { λ p. IsWorkingWith p.worker p.in_hand };
+    ghost invariant = { λ p. IsPassWith p.left p.worker p.in_hand };
 }
 
 /// Writes the name of the type alone, as a pass does.
@@ -90,6 +91,7 @@ impl<J: Naming, R: Wait + Drop, A: Allocator + Copy> WorkerPass<J, R, A> {
         Ok(WorkerPass {
             worker,
             in_hand: None,
+            left: false,
         })
     }
 }
@@ -98,7 +100,8 @@ impl<J: Naming, R: Wait + time::Clock + Drop, A: Allocator + Copy> WorkerPass<J,
     /// Takes, encodes, sends and judges batches, so many turns at most: each is one of these steps,
     /// or a wait of some milliseconds. A batch in hand stays in the pass between calls. One that
     /// memory is refused for, or whose body would be longer than it may be, is dropped. One word is
-    /// drawn for each reply. (Trace SDK, "Batching processor", "Export(batch)"; drops: profile)
+    /// drawn for each reply. A worker that has left takes no step. (Trace SDK, "Batching processor",
+    /// "Export(batch)"; drops: profile)
     pub fn work<E: Exporter, C: Clock, G: Rng>(
         &mut self,
         exporter: &mut E,
@@ -111,7 +114,11 @@ impl<J: Naming, R: Wait + time::Clock + Drop, A: Allocator + Copy> WorkerPass<J,
         ensures goes_on { GoesOn (E.handed exporter.old) (E.handed exporter.new)
             self.old self.new }
         ensures drained { result ≡ WorkEnd.Drained → self.new.account.drained ≡ true }
+        ensures left { self.old.account.left ≡ true → result ≡ WorkEnd.TurnsSpent }
     {
+        if self.left {
+            return WorkEnd::TurnsSpent;
+        }
         for _turn in 0..turns {
             if self.turn(exporter, clock, rng) {
                 return WorkEnd::Drained;
@@ -127,13 +134,18 @@ impl<J: Naming, R: Wait + time::Clock + Drop, A: Allocator + Copy> WorkerPass<J,
         clock: &C,
         rng: &mut G,
     ) -> bool
+        requires here { self.old.account.left ≡ false }
         requires prepared { IsPrepared (E.room exporter.old) self.old }
         ensures prepared { IsPrepared (E.room exporter.new) self.new }
         ensures goes_on { GoesOn (E.handed exporter.old) (E.handed exporter.new)
             self.old self.new }
         ensures drained { IsTrue result → self.new.account.drained ≡ true }
     {
-        let WorkerPass { worker, in_hand } = self;
+        let WorkerPass {
+            worker,
+            in_hand,
+            left: _,
+        } = self;
         let Some(hand) = in_hand.take() else {
             let now = clock.now();
             let Some(hand) = worker.take(now) else {
@@ -159,23 +171,57 @@ fn keep<A: Allocator>(in_hand: &mut Option<InHand<A>>, left: Option<InHand<A>>)
 }
 
 impl<J: Naming, R: Wait + Drop, A: Allocator + Copy> WorkerPass<J, R, A> {
-    /// Ends the batch in hand, if there is one: it is dropped where it was not handed, and else
-    /// settled.
+    /// Leaves: the batch in hand, if there is one, is dropped as `Abandoned` where it was not handed
+    /// to an exporter, and else settled as `Abandoned`. Flushes that wait for what is not flushed
+    /// then are answered `WorkerLeft`, and so are later ones. A second call changes nothing.
+    /// (profile)
+    pub fn leave(&mut self)
+        ensures { self.new ≡ record self.old {
+          account = after_left (abandon self.old.account);
+          encoded = None;
+        } }
+    {
+        let WorkerPass {
+            worker,
+            in_hand,
+            left,
+        } = self;
+        if *left {
+            return;
+        }
+        *left = true;
+        let Some(hand) = in_hand.take() else {
+            worker.leave();
+            return;
+        };
+        worker.abandon(hand, true);
+    }
+
+    /// Abandons the batch in hand, if there is one, as `leave` does.
     pub(crate) fn abandon(self) -> Account<J, Holding>
         ensures account { result ≡ worker self.origin (abandon self.account) }
+        ensures by_work { EndByWork self.origin self.account }
         ensures out { IfSome self.account.out (IsOutByWork self.origin) }
     {
-        let WorkerPass { worker, in_hand } = self;
+        let WorkerPass {
+            mut worker,
+            in_hand,
+            left: _,
+        } = self;
         match in_hand {
-            Some(hand) => worker.abandon(hand),
+            Some(hand) => {
+                worker.abandon(hand, false);
+                worker.into_account()
+            }
             None => worker.into_account(),
         }
     }
 }
 
 impl<J: Naming, R: Wait + Drop, A: Allocator + Copy> Drop for WorkerPass<J, R, A> {
-    /// A batch in hand is abandoned.
-    fn drop(self) {
+    /// The worker leaves.
+    fn drop(mut self) {
+        self.leave();
         drop(self.abandon());
     }
 }

@@ -1,8 +1,7 @@
-use Rattle.std.proofs.Common.{rules, ap, subst}
-use Rattle.std.specs.List.{AllByRecursion}
+use Rattle.std.proofs.Common.{ap, subst}
 use Rattle.batch_model.specs.Holders.{worker_in}
 use Rattle.batch_model.specs.Worker.{WorkerAccount}
-use Rattle.batch_model.specs.Clauses.{BatchesAreNumbered, HandedAreCounted, IsByWork, QueuedAreAccounted, TicketsRiseThrough}
+use Rattle.batch_model.specs.Clauses.{BatchesAreNumbered, HandedAreCounted, QueuedAreAccounted, TicketsRiseThrough}
 use Rattle.batch_model.proofs.Reasons.{none_full}
 use Rattle.batch_model.proofs.Closing.{floors_are, handed_are, numbered_are, queued_are}
 use Rattle.batch_processor.proofs.processor.BatchProcessor.close_out.Goals as goal
@@ -15,8 +14,7 @@ returns-clause-spans g c =
 
 pub returns-clause-not_full : goal.returns-clause-not_full
 returns-clause-not_full g c =
-    let by_work : AllByRecursion (IsByWork c.args.worker.origin) c.args.worker.account.ended = search rules in
-    none_full c.args.worker.origin c.args.worker.account by_work
+    none_full c.args.worker.origin c.args.worker.account c.abandon-his.ensures.by_work
 
 pub returns-clause-floors : goal.returns-clause-floors
 returns-clause-floors g c = floors_are _ c.close-desk.result c.args.passes.items _ c.close-desk.ensures

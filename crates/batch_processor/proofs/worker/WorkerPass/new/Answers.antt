@@ -1,16 +1,17 @@
-use Rattle.std.proofs.Common.{◌≡◌, [], List, ap, sym, subst, refl}
+use Rattle.std.proofs.Common.{◌≡◌, false, [], List, ap, sym, subst, refl}
 use Rattle.std.specs.Prelude.{None}
 use Rattle.retry_model.specs.Retries.{Outcome}
 use Rattle.batch_model.specs.Worker.{WorkerAccount, new_worker}
 use Rattle.batch_model.specs.Holders.{worker_in}
 use Rattle.batch_processor.specs.Views.{outcomes_view, setup_view}
-use Rattle.batch_processor.specs.Working.{IsWorking}
+use Rattle.batch_processor.specs.Working.{IsPassWith}
+use Rattle.batch_processor.proofs.Turns.{pass_works, state_of}
 use Rattle.batch_processor.proofs.worker.WorkerPass.new.Goals as goal
 
 pub invariant_of-result : goal.invariant_of-result
 invariant_of-result g c =
     let origin = setup_view c.args.setup.now in let os = outcomes_view c.in_ok-outcomes.outcomes.items in
     let none : os ≡ [] = ap outcomes_view c.in_ok-outcomes.ensures.items in
-    subst (λ (w : WorkerAccount). IsWorking origin w os None) (sym (ap worker_in c.requires.account))
-    (subst (λ (xs : List Outcome). IsWorking origin new_worker xs None) (sym none)
-    (record { retry = c.requires.retry; by_work = tt; again = tt; tied = (refl, refl) }))
+    subst (λ (w : WorkerAccount). IsPassWith false (state_of origin w os) None) (sym (ap worker_in c.requires.account))
+    (subst (λ (xs : List Outcome). IsPassWith false (state_of origin new_worker xs) None) (sym none)
+    (pass_works false (state_of origin new_worker []) None refl (record { here = refl; retry = c.requires.retry; by_work = tt; again = tt; tied = (refl, refl) })))
