@@ -7,7 +7,7 @@ ghost use Rattle.retry_model.specs.Retries.{Fate, Outcome, given_up, later, no_r
 ghost use Rattle.desk_examples.specs.Histories.{named};
 ghost use Rattle.batch_model.specs.Worker.{dropped_spans, fates, handed_spans, numbers, taken_spans, worker_entries};
 ghost use Rattle.batch_model.specs.Clauses.{EachLeadsOn, LeadsTo, abandon, tickets_of};
-ghost use Rattle.batch_model.specs.Holders.{after_drop};
+ghost use Rattle.batch_model.specs.Holders.{after_drop, after_left};
 ghost use Rattle.batch_examples.specs.Accounts.{out_with, twice, worker_with};
 
 /// Two batches, of which one is out.
@@ -47,6 +47,15 @@ pub fn too_large()
         ≡ after_drop names.too_large (worker_with (out_with None [])) }
     ensures still_numbered { numbers
         (after_drop names.too_large (worker_with (out_with None []))) ≡ 1 ∷ 2 ∷ [] }
+{}
+
+/// The worker leaves, and leaves again.
+pub fn left()
+    ensures named { worker_entries (after_left (abandon (worker_with (out_with None []))))
+        ≡ named names.abandoned 3 ∷ [] }
+    ensures none_out { (after_left (abandon (worker_with (out_with None [])))).out ≡ None }
+    ensures again { after_left (abandon (after_left (abandon (worker_with (out_with None [])))))
+        ≡ after_left (abandon (worker_with (out_with None []))) }
 {}
 
 /// What outcomes lead to, where there are two attempts.

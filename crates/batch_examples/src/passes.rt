@@ -5,7 +5,9 @@ ghost use Rattle.span_model.specs.Dropped.{queue_full};
 ghost use Rattle.desk_examples.specs.Histories.{named, span_at};
 ghost use Rattle.pass_model.specs.Passes.{all_dropped, all_popped, all_accepted, all_tickets, drops, late_count, shutdown_count, tickets};
 ghost use Rattle.pass_model.specs.Clauses.{is_closed, numbers_below};
-ghost use Rattle.batch_model.specs.Clauses.{count_between, tickets_of};
+ghost use Rattle.batch_model.specs.Clauses.{ToldOnlyWhereLeft, count_between, tickets_of};
+ghost use Rattle.batch_model.specs.Holders.{after_flush, after_flushed, after_left, after_told_left};
+ghost use Rattle.batch_model.specs.Worker.{new_worker};
 ghost use Rattle.batch_examples.specs.Accounts.{both, drop_of_2, first, second};
 
 /// What two passes know together.
@@ -29,6 +31,14 @@ pub fn tickets()
     ensures room { count_between 1 2 (all_accepted both) ≡ 1 }
     ensures not_itself { count_between 3 3 (all_accepted both) ≡ 0 }
     ensures of_spans { tickets_of (all_accepted both) ≡ 0 ∷ 1 ∷ 3 ∷ [] }
+{}
+
+/// A flush that asked when ticket 5 was the next one, and what it was answered.
+pub fn answers()
+    ensures flushed { (after_flushed (after_flush 5 4 first)).floor ≡ 5 }
+    ensures left { (after_told_left (after_flush 5 4 first)).floor ≡ 3 }
+    ensures told { ToldOnlyWhereLeft (after_told_left first ∷ second ∷ []) (after_left new_worker) }
+    ensures not_told { ToldOnlyWhereLeft both new_worker }
 {}
 
 /// Whether spans are admitted.

@@ -400,43 +400,6 @@ leaves_with state hand k = pass_left (record state { account = after_left (aband
   };
 })
 
-pub leaves_alone : (state : WorkerState) → IsWorkingWith state None → IsPassWith true (record state { account = after_left state.account }) None
-leaves_alone state k = pass_left (record state { account = after_left state.account }) None refl (record {
-  none = refl;
-  judged = k.tied.1;
-  batches = record {
-    earlier = state.account.ended;
-    last = None;
-    ended = sym (append-nil state.account.ended);
-    by_work = k.by_work;
-    out = tt;
-    here = λ is. cc;
-    gone = λ is. k.tied.0;
-  };
-})
-
-abbrev LeftAs : Work → Work
-LeftAs work = record work { account = after_left (abandon work.account); encoded = None }
-
--- where none is out, nothing is abandoned
-alone_is : (origin : Origin) (w : WorkerAccount) (os : List Outcome) → w.out ≡ None
-    → record (abandon (record w { out = with_outcomes os w.out })) { left = true } ≡ record w { out = with_outcomes os w.out; left = true }
-alone_is origin w os none =
-    ap (λ (o : Option OutBatch). record (abandon (record w { out = with_outcomes os o })) { left = true }) none
-    ∙ ap (λ (l : List EndedBatch). record w { ended = l; out = None; left = true }) (append-nil w.ended)
-    ∙ sym (ap (λ (o : Option OutBatch). record w { out = with_outcomes os o; left = true }) none)
-
-pub alone_view : (state : WorkerState) → IsWorkingWith state None → work_in (record state { account = after_left state.account }) None ≡ LeftAs (work_in state None)
-alone_view state k = ap (λ (w : WorkerAccount). record (work_in state None) { account = w }) (sym (alone_is state.origin state.account (state.outcomes ++ []) k.tied.0))
-
--- a second time, nothing changes
-pub left_view : (state : WorkerState) (hand : Option Hand) → HasLeft state hand → state.account.left ≡ true → work_in state hand ≡ LeftAs (work_in state hand)
-left_view state hand h is =
-    let same : work_in state None ≡ LeftAs (work_in state None) =
-    ap (λ (b : Bool). record (work_in state None) { account = record (work_in state None).account { left = b } }) is
-    ∙ ap (λ (w : WorkerAccount). record (work_in state None) { account = w }) (sym (alone_is state.origin state.account (state.outcomes ++ []) (h.batches.gone is))) in
-    subst (λ (x : Option Hand). work_in state x ≡ LeftAs (work_in state x)) (sym h.none) same
-
 -- ---- what is told to the worker's account
 
 pub told_worker : (f : WorkerAccount → WorkerAccount) (origin : Origin) (a a' : Holder) → a' ≡ on_worker f a → a ≡ worker origin (worker_in a) → worker_in a' ≡ f (worker_in a)

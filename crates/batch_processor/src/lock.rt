@@ -68,7 +68,8 @@ impl<J: Naming, A: Allocator + Copy> Lock<J, A> {
         answer
     }
 
-    /// A pass asks for all that was accepted, and waits until it is flushed, or the worker has left.
+    /// A pass asks for all that was accepted, and waits until it is flushed, or the worker has
+    /// left.
     pub(crate) fn flush<R: Wait>(
         &self,
         rt: &R,
@@ -161,8 +162,8 @@ impl<J: Naming, A: Allocator + Copy> Lock<J, A> {
         false
     }
 
-    /// The worker drops its batch, and leaves by the same hold or doesn't; those who wait are called.
-    /// Its spans are freed before the hold.
+    /// The worker drops its batch, and leaves by the same hold or doesn't; those who wait are
+    /// called. Its spans are freed before the hold.
     pub(crate) fn drop_batch<R: Wait>(
         &self,
         rt: &R,

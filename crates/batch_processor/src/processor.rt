@@ -62,8 +62,7 @@ pub struct Accounts<A: Allocator = Global> {
     pub desk: Desk<A>,
 }
 
-/// A pass is missing: all that was to be closed out. Where it is let go, a batch in hand is
-/// abandoned.
+/// A pass is missing: all that was to be closed out. Where it is let go, the worker leaves.
 #[derive(Drop)]
 #[derive_where(Debug)]
 pub struct Missing<J: Naming, R: Wait + Drop, A: Allocator + Copy = Global> {
@@ -139,8 +138,8 @@ impl<J: Naming, R: Wait + Drop, A: Allocator + Copy> BatchProcessor<J, R, A> {
 }
 
 impl<J: Naming, R: Wait + Drop, A: Allocator + Copy> Missing<J, R, A> {
-    /// Lets all go. A batch in hand is abandoned first: it is dropped where it was not handed to an
-    /// exporter, and else settled.
+    /// Lets all go. The worker leaves first: a batch in hand is dropped where it was not handed to
+    /// an exporter, and else settled, and a flush on a pass that is missing is told.
     pub fn discard(self) {
         drop(self);
     }

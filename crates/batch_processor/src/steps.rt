@@ -240,8 +240,8 @@ impl<J: Naming, R: Wait + Drop, A: Allocator + Copy> Worker<J, R, A> {
         self.outcomes.clear();
     }
 
-    /// Drops a batch that was not handed, for this reason. The worker leaves by the same hold, or it
-    /// doesn't.
+    /// Drops a batch that was not handed, for this reason. The worker leaves by the same hold, or
+    /// it doesn't.
     fn drop_batch(&mut self, batch: Batch<A>, reason: Reason, leaves: bool)
         requires batch { IsBatchOf (worker self.old.origin self.old.account) batch }
         requires reason { reason ≢ Reason.QueueFull }

@@ -32,8 +32,8 @@ pub enum WorkEnd {
 /// The way of one thread, which sends the batches, to a batch processor. In contracts it is what
 /// the worker knows: the batches that ended, each with its spans, its body, what its attempts came
 /// to and its fate; the one that is out; and whether it has left. On the heap it may go to another
-/// thread where the runtime's value may: what `thread::spawn` asks its caller to show is the lemma `worker_send` of
-/// `proofs/Crosses.antt`. Where it is let go, it leaves.
+/// thread where the runtime's value may: what `thread::spawn` asks its caller to show is the lemma
+/// `worker_send` of `proofs/Crosses.antt`. Where it is let go, it leaves.
 pub struct WorkerPass<J: Naming, R: Wait + Drop, A: Allocator + Copy = Global> {
     pub(crate) worker: Worker<J, R, A>,
     pub(crate) in_hand: Option<InHand<A>>,
@@ -100,8 +100,8 @@ impl<J: Naming, R: Wait + time::Clock + Drop, A: Allocator + Copy> WorkerPass<J,
     /// Takes, encodes, sends and judges batches, so many turns at most: each is one of these steps,
     /// or a wait of some milliseconds. A batch in hand stays in the pass between calls. One that
     /// memory is refused for, or whose body would be longer than it may be, is dropped. One word is
-    /// drawn for each reply. A worker that has left takes no step. (Trace SDK, "Batching processor",
-    /// "Export(batch)"; drops: profile)
+    /// drawn for each reply. A worker that has left takes no step. (Trace SDK, "Batching
+    /// processor", "Export(batch)"; drops: profile)
     pub fn work<E: Exporter, C: Clock, G: Rng>(
         &mut self,
         exporter: &mut E,
@@ -115,6 +115,8 @@ impl<J: Naming, R: Wait + time::Clock + Drop, A: Allocator + Copy> WorkerPass<J,
             self.old self.new }
         ensures drained { result ≡ WorkEnd.Drained → self.new.account.drained ≡ true }
         ensures left { self.old.account.left ≡ true → result ≡ WorkEnd.TurnsSpent }
+        ensures untouched { self.old.account.left ≡ true
+            → (exporter.new ≡ exporter.old) × (rng.new ≡ rng.old) }
     {
         if self.left {
             return WorkEnd::TurnsSpent;
@@ -171,10 +173,10 @@ fn keep<A: Allocator>(in_hand: &mut Option<InHand<A>>, left: Option<InHand<A>>)
 }
 
 impl<J: Naming, R: Wait + Drop, A: Allocator + Copy> WorkerPass<J, R, A> {
-    /// Leaves: the batch in hand, if there is one, is dropped as `Abandoned` where it was not handed
-    /// to an exporter, and else settled as `Abandoned`. Flushes that wait for what is not flushed
-    /// then are answered `WorkerLeft`, and so are later ones. A second call changes nothing.
-    /// (profile)
+    /// Leaves: the batch in hand, if there is one, is dropped as `Abandoned` where it was not
+    /// handed to an exporter, and else settled as `Abandoned`. Flushes that wait for what is not
+    /// flushed then are answered `WorkerLeft`, and so are later ones. A second call changes
+    /// nothing. (profile)
     pub fn leave(&mut self)
         ensures { self.new ≡ record self.old {
           account = after_left (abandon self.old.account);
