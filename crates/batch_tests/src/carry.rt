@@ -4,7 +4,9 @@ ghost use Rattle.batch_processor.specs.Working.{IsPrepared};
 
 use crate::equal::assert_equal;
 use crate::fixture::{Left, close, config, end, make};
-use batch_processor::{BatchBlank, Flushed, ManualClock, Naming, Parts, Pass, WorkEnd, WorkerPass};
+use batch_processor::{
+    BatchBlank, Flushed, ManualClock, Naming, Parts, Pass, WorkEnd, WorkerLeft, WorkerPass,
+};
 use otlp_span::Reason;
 use span_exporter::Exporter;
 use std::alloc::Global;
@@ -18,6 +20,9 @@ use words_rng::WordsRng;
 
 /// A batch is being sent.
 pub(crate) const SENDING: u64 = 1;
+
+/// The other thread asks for a flush.
+pub(crate) const ASKING: u64 = 1;
 
 /// The other thread was answered.
 pub(crate) const ANSWERED: u64 = 2;
@@ -60,6 +65,8 @@ pub(crate) enum Task {
     EndWhileSending,
     /// A flush asks for a span, whose batch isn't full.
     Flush,
+    /// A flush asks for a span, which nobody sends until the worker leaves.
+    FlushUntilItLeaves,
     /// A thread ends three spans on the first pass. Behind it the last pass shuts the processor
     /// down, and then a span is late.
     EndThree,
@@ -94,7 +101,7 @@ where
         64,
         &|index, pass: &mut Pass<J, R>| {
             if shuts_down && index == 0 {
-                pass.shutdown();
+                assert_equal(&rt, pass.shutdown(), Ok(Flushed));
             } else {
                 end_spans(rt, alloc, pass, spans, shuts_down);
             }
@@ -103,7 +110,7 @@ where
 }
 
 /// Does a task with the first pass.
-fn do_first<J: Naming, R: Wait + Abort + Clock + Copy>(
+pub(crate) fn do_first<J: Naming, R: Wait + Abort + Clock + Copy>(
     rt: R,
     alloc: Global,
     pass: &mut Pass<J, R>,
@@ -119,7 +126,11 @@ fn do_first<J: Naming, R: Wait + Abort + Clock + Copy>(
         assert_equal(&rt, end(&rt, alloc, pass), Ended::Queued(1));
     }
     if matches!(task, Task::Flush) {
-        assert_equal(&rt, pass.force_flush(), Flushed);
+        assert_equal(&rt, pass.force_flush(), Ok(Flushed));
+    }
+    if matches!(task, Task::FlushUntilItLeaves) {
+        stage.store(ASKING, Ordering::SeqCst);
+        assert_equal(&rt, pass.force_flush(), Err(WorkerLeft));
     }
     stage.store(ANSWERED, Ordering::SeqCst);
 }
@@ -149,7 +160,7 @@ where
         }
     }
     let last = passes.last_mut().expect(&rt, "a pass");
-    assert_equal(&rt, last.shutdown(), Flushed);
+    assert_equal(&rt, last.shutdown(), Ok(Flushed));
     let first = passes.first_mut().expect(&rt, "a pass");
     assert_equal(&rt, end(&rt, alloc, first), Ended::Late);
     passes

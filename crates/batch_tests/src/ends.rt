@@ -6,7 +6,7 @@ use crate::fixture::{END, close, config, end, entry, make, queue, root, sampled}
 use batch_desk::Totals;
 use batch_processor::{
     BatchBlank, BatchConfig, BatchProcessor, Flushed, MAX_PASSES, Missing, Naming, NewFault, Parts,
-    Pass,
+    Pass, WorkerLeft,
 };
 use drop_ledger::DropCounts;
 use otlp_sampler::AlwaysOff;
@@ -58,8 +58,8 @@ fn pops(rt: HostRuntime) {
 fn end_late<J: Naming, R: Wait + Abort>(rt: &R, alloc: Global, pass: &mut Pass<J, R>) {
     let mut dropped = root(rt, alloc, AlwaysOff, "");
     assert_equal(rt, dropped.end(pass, END), Ended::NotSampled);
-    assert_equal(rt, pass.force_flush(), Flushed);
-    assert_equal(rt, pass.shutdown(), Flushed);
+    assert_equal(rt, pass.force_flush(), Ok(Flushed));
+    assert_equal(rt, pass.shutdown(), Ok(Flushed));
     let mut span = sampled(rt, alloc);
     assert_equal(rt, span.end(pass, END), Ended::Late);
     assert_equal(rt, span.end(pass, END), Ended::AlreadyEnded);
@@ -165,6 +165,8 @@ fn each_fault_tells_itself(rt: HostRuntime) {
         let told = format!(in rt.alloc(); "{fault}").expect(&rt, "memory");
         assert_equal(&rt, told.as_str(), want);
     }
+    let told = format!(in rt.alloc(); "{WorkerLeft}").expect(&rt, "memory");
+    assert_equal(&rt, told.as_str(), "the worker has left");
 }
 
 #[test]

@@ -14,6 +14,8 @@ mod equal;
 #[cfg(test)]
 mod fixture;
 #[cfg(test)]
+mod leaves;
+#[cfg(test)]
 mod memory;
 mod neighbors;
 #[cfg(test)]
