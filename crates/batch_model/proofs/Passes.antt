@@ -123,14 +123,14 @@ module _ (desk : Desk) (w : WorkerAccount) (old new : List PassAccount) (a b : P
   pub flush_agrees : (desk' : Desk) → desk' ≡ record desk { asked = accepted_count desk } → b ≡ after_flush desk.next_ticket (accepted_count desk) a → Agrees desk' new w
   flush_agrees desk' is told =
       subst (λ (d : Desk). Agrees d new w) (sym is) (quiet (accepted_count desk) (ap (λ (x : PassAccount). x.ends) told) (ap (λ (x : PassAccount). x.popped) told) (ap (λ (x : PassAccount). x.late) told) (ap (λ (x : PassAccount). x.shutdowns) told)
-      (still_told (ap (λ (x : PassAccount). x.told_left) told)) 
+      (still_told (ap (λ (x : PassAccount). x.told_left) told))
       (rw (ap (λ (x : PassAccount). x.floor) told, ap (λ (x : PassAccount). x.asked) told) (floor_asked desk.next_ticket desk.waiting (accepted desk w) a.floor (accepted_count desk) a.asked count_is floor_of)))
 
   pub flushed_agrees : is_flushed desk a.asked.mark ≡ true → b ≡ after_flushed a → Agrees desk new w
   flushed_agrees flushed told =
       let le : a.asked.mark ≤ length (taken_spans w) = let t = k.batches.taken in grind (arith) in
       quiet desk.asked (ap (λ (x : PassAccount). x.ends) told) (ap (λ (x : PassAccount). x.popped) told) (ap (λ (x : PassAccount). x.late) told) (ap (λ (x : PassAccount). x.shutdowns) told)
-      (still_told (ap (λ (x : PassAccount). x.told_left) told)) 
+      (still_told (ap (λ (x : PassAccount). x.told_left) told))
       (rw (ap (λ (x : PassAccount). x.floor) told, ap (λ (x : PassAccount). x.asked) told) (floor_flushed desk.next_ticket (taken_spans w) desk.waiting a.floor a.asked le floor_of))
 
   pub told_left_agrees : w.left ≡ true → b ≡ after_told_left a → Agrees desk new w
