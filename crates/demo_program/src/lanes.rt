@@ -59,7 +59,8 @@ where
 /// queued or dropped on all lanes, or `None` where memory was refused to one of them.
 pub(crate) fn shut_down<J: Naming, R: Wait>(lanes: &mut [Lane<J, R>]) -> Option<u64> {
     if let Some(lane) = lanes.first_mut() {
-        lane.pass.shutdown();
+        // Where the worker has left, the spans that wait are counted as left.
+        let _ = lane.pass.shutdown();
     }
     let mut all = 0u64;
     for lane in lanes.iter() {

@@ -6,7 +6,7 @@
 //! [`MAX_PASSES`] passes.
 pub use batch_processor::{
     Accounts, BatchBlank, BatchConfig, BatchProcessor, Clock, Flushed, MAX_PASSES, ManualClock,
-    Missing, Naming, NewFault, Parts, Pass, SystemClock, WorkEnd, WorkerPass,
+    Missing, Naming, NewFault, Parts, Pass, SystemClock, WorkEnd, WorkerLeft, WorkerPass,
 };
 pub use simple_processor::{
     Flushed as SimpleFlushed, SimpleAccounts, SimpleBlank, SimpleFault, SimpleMissing, SimpleParts,
