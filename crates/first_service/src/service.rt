@@ -97,7 +97,7 @@ where
     let worker = start_worker(rt, alloc, worker)?;
     let mut passes = serve_all(rt, alloc, passes)?;
     if let Some(pass) = passes.first_mut() {
-        pass.shutdown();
+        pass.shutdown()?;
     }
     let worker = worker.join(&rt)?;
     processor
