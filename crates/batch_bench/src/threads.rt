@@ -145,7 +145,7 @@ where
     R: Threads + Wait + RandomSource + time::Clock + Copy + Send + Sync + 'static,
 {
     if let Some(pass) = passes.first_mut() {
-        pass.shutdown();
+        pass.shutdown()?;
     }
     let worker = worker.join(&rt)?;
     let closed = processor.close_out(passes, worker).ok();

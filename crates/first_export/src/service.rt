@@ -115,7 +115,7 @@ where
     let worker = start_worker(rt, exporter, worker)?;
     if let Some(pass) = passes.first_mut() {
         trace(rt, alloc, pass)?;
-        pass.shutdown();
+        pass.shutdown()?;
     }
     let worker = worker.join(&rt)?;
     processor
