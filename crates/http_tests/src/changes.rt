@@ -1,8 +1,10 @@
-//! Replies in which a seeded generator has changed bytes.
+//! Replies and requests in which a seeded generator has changed bytes.
 
 use crate::equal::assert_equal;
 use crate::fixture::{BODY, Told, joined, read, told, wire};
+use crate::posts;
 use otlp_http::{FailingCalls, HttpFault};
+use otlp_serve::PostFault;
 use rand_core::Rng;
 use rand_pcg::Pcg32;
 use std::alloc::Global;
@@ -79,5 +81,57 @@ fn a_reply_with_changed_chunks_is_read_the_same_in_parts(rt: HostRuntime) {
     for _reply in 0..20_000u32 {
         let changed = changed(&rt, alloc, &mut rng, CHUNKS, (47, 52));
         assert_same_in_parts(&rt, alloc, &changed);
+    }
+}
+
+/// A request with a body in chunks: 117 bytes.
+const CHUNKED_POST: &[u8] =
+    b"POST /v1/traces HTTP/1.1\r\nHost: a\r\nTransfer-Encoding: chunked\r\n\r\n\
+    3;a=\"b\"\r\n\x0a\x05\x08\r\n0004 \t\r\n\x02\x12\x01\x78\r\n0;cccc\r\nA: b\nC:\r\nD:e\r\n\r\n";
+
+/// Whether an answer is one that can come of a request whose bytes end, with memory for all of
+/// them, and if it has a body that came by its length, whether that is the last that was taken.
+fn is_named_post(answer: posts::Told<'_>, taken: &[u8], is_sized: bool) -> bool {
+    match answer {
+        Ok((_, _, body)) => !is_sized || taken.ends_with(body),
+        Err(PostFault::Head(HttpFault::Ended | HttpFault::BadHead | HttpFault::TooLarge)) => true,
+        Err(PostFault::Body(HttpFault::Ended | HttpFault::BadLength)) => true,
+        Err(PostFault::Body(HttpFault::BadChunk | HttpFault::TooLarge)) => true,
+        _ => false,
+    }
+}
+
+/// Checks that a request is read the same by a wire that gives three bytes a call.
+fn assert_post_same_in_parts(rt: &impl Abort, alloc: Global, text: &[u8], is_sized: bool) {
+    let mut whole = wire(rt, alloc, text, 65_536, FailingCalls::Never);
+    let mut parts = wire(rt, alloc, text, 3, FailingCalls::Never);
+    let answer = posts::read(alloc, &mut whole);
+    let other = posts::read(alloc, &mut parts);
+    let taken = text.len().saturating_sub(whole.left().len());
+    let taken = text.get(..taken).unwrap_or(&[]);
+    let is_named = is_named_post(posts::told(&answer), taken, is_sized);
+    assert_equal(rt, is_named, true);
+    assert_equal(rt, posts::told(&answer), posts::told(&other));
+    assert_equal(rt, whole.left().len(), parts.left().len());
+}
+
+#[test]
+fn a_changed_request_is_read_the_same_in_parts(rt: HostRuntime) {
+    let alloc = rt.alloc();
+    let mut rng = Pcg32::new(5, 1);
+    let text = joined(&rt, alloc, posts::HEAD.as_bytes(), BODY);
+    for _post in 0..25_000u32 {
+        let changed = changed(&rt, alloc, &mut rng, &text, (0, 133));
+        assert_post_same_in_parts(&rt, alloc, &changed, true);
+    }
+}
+
+#[test]
+fn a_request_with_changed_chunks_is_read_the_same_in_parts(rt: HostRuntime) {
+    let alloc = rt.alloc();
+    let mut rng = Pcg32::new(6, 1);
+    for _post in 0..25_000u32 {
+        let changed = changed(&rt, alloc, &mut rng, CHUNKED_POST, (26, 91));
+        assert_post_same_in_parts(&rt, alloc, &changed, false);
     }
 }

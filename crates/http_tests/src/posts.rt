@@ -10,7 +10,7 @@ use std::alloc::{Allocator, Global};
 use std::process::Abort;
 
 /// The head of the request that carries the body: 126 bytes.
-const HEAD: &str = concat!(
+pub(crate) const HEAD: &str = concat!(
     "POST /v1/traces HTTP/1.1\r\n",
     "Host: 127.0.0.1:4318\r\n",
     "Content-Type: application/x-protobuf\r\n",
@@ -23,10 +23,10 @@ const HEAD: &str = concat!(
 const SHORT_HEAD: &[u8] = b"\r\nPUT /x?y=\xc3\xa9 HTTP/1.0\nContent-Length:7\n\n";
 
 /// What was read: a request's method, target and body, or why there is none.
-type Told<'a> = Result<(&'a str, &'a str, &'a [u8]), PostFault>;
+pub(crate) type Told<'a> = Result<(&'a str, &'a str, &'a [u8]), PostFault>;
 
 /// What was read, in plain values.
-fn told<A: Allocator>(answer: &Result<Post<A>, PostFault>) -> Told<'_> {
+pub(crate) fn told<A: Allocator>(answer: &Result<Post<A>, PostFault>) -> Told<'_> {
     match answer {
         Ok(post) => Ok((
             post.method.as_str(),
@@ -41,7 +41,7 @@ fn told<A: Allocator>(answer: &Result<Post<A>, PostFault>) -> Told<'_> {
 const WHOLE: Told<'static> = Ok(("POST", "/v1/traces", BODY));
 
 /// What a wire's bytes are read as, within the usual limits.
-fn read(alloc: Global, wire: &mut FailingWire) -> Result<Post, PostFault> {
+pub(crate) fn read(alloc: Global, wire: &mut FailingWire) -> Result<Post, PostFault> {
     read_post(alloc, alloc, wire, &HeadLimits::default())
 }
 

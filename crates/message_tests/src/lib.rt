@@ -10,6 +10,8 @@ mod exports;
 #[cfg(test)]
 mod groups;
 #[cfg(test)]
+mod hostile;
+#[cfg(test)]
 mod messages;
 #[cfg(test)]
 mod requests;

@@ -33,8 +33,13 @@ pub(crate) fn with_span(rt: &impl Abort, alloc: Global, span: &[u8]) -> Vec<u8> 
     part(rt, alloc, 0x0a, &scope)
 }
 
+/// A request of a span of all fields.
+pub(crate) fn full_request(rt: &impl Abort, alloc: Global) -> Vec<u8> {
+    with_span(rt, alloc, FULL)
+}
+
 /// A request of a resource with one attribute, whose value is of these bytes.
-fn with_value(rt: &impl Abort, alloc: Global, value: &[u8]) -> Vec<u8> {
+pub(crate) fn with_value(rt: &impl Abort, alloc: Global, value: &[u8]) -> Vec<u8> {
     let mut pair = Vec::from_slice(alloc, b"\x0a\x01k").expect(rt, "memory");
     let value = part(rt, alloc, 0x12, value);
     pair.extend_from_slice(&value).expect(rt, "memory");
