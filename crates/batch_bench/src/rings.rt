@@ -78,12 +78,12 @@ fn nanos_between(from: Instant, to: Instant) -> u64 {
 
 /// A round of so many items through a ring that has none out.
 fn time_run(clock: &impl Clock, ring: &mut SpanRing<u64>, count: u64) -> Result<Took> {
-    if ring.run_out() {
-        return Err(anyhow::anyhow!("a run is out"));
-    }
     let start = Instant::now(clock)?;
     let refused = push_items(ring, count);
     let push = nanos_since(clock, start)?;
+    if ring.run_out() {
+        return Err(anyhow::anyhow!("a run is out"));
+    }
     let start = Instant::now(clock)?;
     let mut run = ring.take_run().context("no items")?;
     let taken = Instant::now(clock);
