@@ -88,15 +88,15 @@ fn read_count<A: Allocator + Copy>(alloc: A, body: &[u8]) -> Result<usize, ReadF
     Ok(count)
 }
 
-/// Checks that a body is read as a plain walk finds it, with so many bytes of memory.
+/// Checks that as many spans are read as a plain walk finds, or that a fault is told, with so many
+/// bytes of memory.
 fn assert_agrees(rt: &impl Abort, alloc: Global, body: &[u8], memory: usize) {
     let heap = LocalHeap::new(alloc, memory).expect(rt, "memory");
     let agrees = match (read_count(&heap, body), span_count(rt, alloc, body)) {
-        (Ok(read), Some(walked)) => read == walked,
-        (Ok(_), None) => false,
-        (Err(ReadFault::Wire(_)), _) => true,
-        (Err(ReadFault::BadUtf8 | ReadFault::TooDeep), Some(_)) => true,
-        _ => false,
+        (Ok(read), walked) => walked == Some(read),
+        (Err(ReadFault::OutOfMemory), _) => false,
+        // Of several faults any may be told.
+        (Err(_), _) => true,
     };
     assert_equal_at(rt, agrees, true, body);
 }
