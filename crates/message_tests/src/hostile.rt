@@ -223,3 +223,30 @@ fn lengths_near_the_greatest_are_told(rt: HostRuntime) {
         assert_equal_at(&rt, fault_of(alloc, body), cut, body);
     }
 }
+
+/// Puts a tag and a length of four bytes in front of what stands here from its end on.
+fn wrap(rt: &impl Abort, reversed: &mut Vec<u8>, tag: u8) {
+    let size = reversed.len();
+    let last = (size / 2_097_152 % 128) as u8;
+    let third = (size / 16_384 % 128) as u8 | 0x80;
+    let second = (size / 128 % 128) as u8 | 0x80;
+    let first = (size % 128) as u8 | 0x80;
+    let front = [last, third, second, first, tag];
+    reversed.extend_from_slice(&front).expect(rt, "memory");
+}
+
+#[test]
+fn values_that_nest_half_a_million_deep_are_told(rt: HostRuntime) {
+    let alloc = rt.alloc();
+    let mut body = Vec::new(alloc);
+    for _array in 0..500_000u32 {
+        wrap(&rt, &mut body, 0x0a);
+        wrap(&rt, &mut body, 0x2a);
+    }
+    for tag in [0x12, 0x0a, 0x0a, 0x0a] {
+        wrap(&rt, &mut body, tag);
+    }
+    body.reverse();
+    let heap = LocalHeap::new(alloc, 65_536).expect(&rt, "memory");
+    assert_equal(&rt, read_count(&heap, &body), Err(ReadFault::TooDeep));
+}
