@@ -16,9 +16,15 @@ mod equal;
 #[cfg(test)]
 mod exporters;
 #[cfg(test)]
+mod far_side;
+#[cfg(test)]
 mod fixture;
 #[cfg(test)]
 mod memory;
+#[cfg(test)]
+mod random_programs;
+#[cfg(test)]
+mod random_runs;
 #[cfg(test)]
 mod report;
 #[cfg(test)]
