@@ -9,7 +9,7 @@ use otlp_sampler::Sampler;
 use otlp_span::{Entry, Kind, Reason, Resource, Scope, SpanCall, SpanLimits};
 use otlp_value::Value;
 use retry_core::{Next, Outcome, RetryConfig};
-use span_exporter::MemoryExporter;
+use span_exporter::{Exporter, MemoryExporter};
 use span_ring::MAX_QUEUE;
 use std::alloc::Allocator;
 use std::process::Abort;
@@ -252,11 +252,11 @@ pub(crate) fn assert_runs<S: Sampler, A: Allocator>(
 }
 
 /// Runs a program, whose steps stand with the answers that are compared.
-pub(crate) fn run_program<S: Sampler + Drop, A: Allocator + Copy>(
+pub(crate) fn run_program<S: Sampler + Drop, E: Exporter, A: Allocator + Copy>(
     rt: &impl Abort,
     alloc: A,
     config: RunConfig<S, WordsRng<A>, A>,
-    exporter: &mut MemoryExporter<A>,
+    exporter: &mut E,
     program: &[(Do, Answer)],
 ) -> RunReport<A> {
     let steps = steps(rt, alloc, program);
@@ -276,7 +276,7 @@ pub(crate) fn assert_answers(rt: &impl Abort, answers: &[Answer], program: &[(Do
 
 /// Asserts what a report leaves: how many wait, whom the ledger names, the newest first, and how
 /// many were late. No batch is out, so the desk is this one when the report is closed.
-fn assert_left<A: Allocator>(
+pub(crate) fn assert_left<A: Allocator>(
     rt: &impl Abort,
     report: RunReport<A>,
     left: u64,

@@ -20,6 +20,8 @@ mod far_side;
 #[cfg(test)]
 mod fixture;
 #[cfg(test)]
+mod links;
+#[cfg(test)]
 mod memory;
 #[cfg(test)]
 mod random_programs;
