@@ -76,7 +76,7 @@ fn assert_links<A: Allocator>(rt: &impl Abort, links: &[Link<A>]) {
 }
 
 /// Asserts that the pass has one span, which these calls made.
-fn assert_kept<A: Allocator>(rt: &impl Abort, pass: &BodyPass<A>) {
+pub(crate) fn assert_kept<A: Allocator>(rt: &impl Abort, pass: &BodyPass<A>) {
     let spans = pass.spans();
     assert_eq!(rt; spans.len(), 1);
     let span = &spans[0];

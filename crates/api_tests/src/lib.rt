@@ -18,6 +18,8 @@ mod memory;
 #[cfg(test)]
 mod parts;
 #[cfg(test)]
+mod refusals;
+#[cfg(test)]
 mod replays;
 #[cfg(test)]
 mod samplers;
