@@ -1,4 +1,0 @@
-use Rattle.batch_tests.proofs.turns.large_batches_are_sent_whole.Given as goal
-
-abbrev pub ghosts-do_job : goal.ghosts-do_job
-ghosts-do_job g a = record { name = a.blank }

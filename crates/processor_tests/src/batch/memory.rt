@@ -1,0 +1,128 @@
+//! Processors to which memory is refused once, at each place in turn.
+ghost use Rattle.std.specs.Prelude.{◌≡◌};
+
+use crate::batch::fixture::{Left, assert_named, close, config, count_spans, queue, work};
+use crate::equal::{assert_equal, assert_equal_at};
+use batch_desk::FateCounts;
+use batch_processor::{BatchBlank, BatchProcessor, Naming, NewFault, Parts};
+use failing_allocator::FailingAllocator;
+use linked_list_allocator::LocalHeap;
+use otlp_span::Reason;
+use span_exporter::MemoryExporter;
+use std::alloc::Allocator;
+use std::marker::Brand;
+use std::process::Abort;
+use std::sync::Wait;
+use std::time::Clock;
+
+/// Turns in which a batch is taken, encoded, sent and settled.
+const TURNS: u64 = 4;
+
+/// What was refused memory.
+#[derive(Debug, Clone, Copy, PartialEq, Eq)]
+enum Refused {
+    /// The processor.
+    New,
+    /// The batch whose last span has this ticket: it couldn't be encoded, or no room was made for it.
+    Batch(u64),
+    /// Nothing that tells.
+    Nothing,
+}
+
+/// Asserts that three batches of two spans were delivered, but for one that memory was refused to:
+/// its spans are named, and counted.
+fn assert_settled<A: Allocator>(rt: &impl Abort, left: &Left<A>, refused: Refused) {
+    let totals = left.totals;
+    let (dropped, last) = match refused {
+        Refused::Batch(last) => (2, last),
+        _ => (0, 0),
+    };
+    assert_named(
+        rt,
+        left.names.as_slice(),
+        dropped,
+        last,
+        Reason::EncodeMemory,
+    );
+    assert_equal(rt, totals.dropped.encode_memory, dropped);
+    assert_equal(rt, totals.handed.saturating_add(dropped), 6);
+    assert_equal(rt, (totals.accepted, totals.left), (6, 0));
+    let fates = FateCounts {
+        delivered: totals.handed / 2,
+        ..FateCounts::default()
+    };
+    assert_equal(rt, totals.fates, fates);
+}
+
+/// Six spans end, and their batches are sent on scarce memory. Where a batch is refused memory, it is
+/// dropped, and the others are sent. The first batch is settled while a whole one waits, so that the
+/// last two spans, at their ends, have those of the first batch freed in their place: as much memory
+/// is used as before.
+fn send_scarce<J, R, A>(rt: R, heap: &LocalHeap, ample: A, scarce: A, blank: BatchBlank) -> Refused
+where
+    J: Naming,
+    R: Wait + Abort + Clock + Copy,
+    A: Allocator + Copy,
+    requires { blank ≡ J.name }
+{
+    let made = BatchProcessor::<J, R, A>::new(scarce, rt, blank, config(4, 2), 2, 0);
+    let Parts {
+        processor,
+        mut passes,
+        mut worker,
+    } = match made {
+        Ok(parts) => parts,
+        Err(fault) => {
+            assert_equal(&rt, fault, NewFault::OutOfMemory);
+            return Refused::New;
+        }
+    };
+    let mut exporter = MemoryExporter::new(scarce, Vec::new(scarce));
+    queue(&rt, ample, passes.as_mut_slice(), 0, 4);
+    work(rt, ample, &mut worker, &mut exporter, 0, TURNS);
+    let used = heap.used();
+    let sent = exporter.handed().len();
+    queue(&rt, ample, passes.as_mut_slice(), 4, 2);
+    if sent > 0 {
+        assert_equal(&rt, heap.used(), used);
+    }
+    work(rt, ample, &mut worker, &mut exporter, 0, 2 * TURNS);
+    let left = close(rt, ample, processor, passes, worker);
+    let refused = match left.names.first() {
+        Some(newest) => Refused::Batch(newest.ticket),
+        None => Refused::Nothing,
+    };
+    assert_settled(&rt, &left, refused);
+    let spans = count_spans(&rt, ample, exporter.handed());
+    assert_equal(&rt, spans as u64, left.totals.handed);
+    refused
+}
+
+/// More calls for memory than there are.
+const MOST: u64 = 150;
+
+#[test]
+fn a_batch_that_memory_is_refused_to_is_named(rt: HostRuntime) {
+    let heap = LocalHeap::new(rt.alloc(), 65_536).expect(&rt, "memory");
+    let ample = FailingAllocator::new(&heap, u64::MAX);
+    let (mut new, mut first, mut later, mut nothing) = (0u32, 0u32, 0u32, 0u32);
+    let mut has_failed = true;
+    for fail_index in 0..MOST {
+        let scarce = FailingAllocator::new(&heap, fail_index);
+        let blank = BatchBlank::new();
+        match send_scarce::<Brand, HostRuntime, _>(rt, &heap, &ample, &scarce, blank) {
+            Refused::New => new = new.saturating_add(1),
+            Refused::Batch(1) => first = first.saturating_add(1),
+            Refused::Batch(_) => later = later.saturating_add(1),
+            Refused::Nothing => nothing = nothing.saturating_add(1),
+        }
+        assert_equal_at(&rt, heap.used(), 0, fail_index);
+        has_failed = scarce.has_failed();
+    }
+    // Each call for memory was refused once.
+    assert_equal(&rt, has_failed, false);
+    assert!(rt;
+        new > 4 && first > 4 && later > 8 && nothing > 4,
+        "{new} processors, {first} and {later} batches, {nothing} times nothing"
+    );
+}

@@ -1,0 +1,356 @@
+//! Turns of work on one thread: what is sent, and when again.
+ghost use Rattle.std.specs.Prelude.{◌≡◌};
+ghost use Rattle.batch_processor.specs.Working.{IsPrepared};
+
+use crate::batch::fixture::{
+    Left, SECOND, assert_named, close, config, count_body, count_spans, end, make, queue, work,
+};
+use crate::equal::{assert_equal, assert_equal_at};
+use crate::fixture::{END, entry, exporter, root};
+use batch_processor::{
+    BatchBlank, BatchConfig, BatchProcessor, Clock, Naming, Parts, Pass, WorkEnd, WorkerPass,
+};
+use otlp_sampler::AlwaysOn;
+use otlp_span::Reason;
+use retry_core::{Outcome, RetryAfter};
+use span_exporter::{Exporter, Handed, MemoryExporter};
+use std::alloc::Global;
+use std::cell::Cell;
+use std::marker::Brand;
+use std::process::Abort;
+use std::sync::Wait;
+use std::time;
+use trace_api::Ended;
+use words_rng::WordsRng;
+
+/// A collector that asks to be tried again in two seconds.
+const LATER: Outcome = Outcome::Later {
+    status: 503,
+    after: Some(RetryAfter::Seconds(2)),
+};
+
+/// Asserts that a batch of one span was sent twice.
+fn assert_sent_twice(rt: &impl Abort, alloc: Global, handed: &[Handed]) {
+    let wanted = [(1, LATER), (2, Outcome::Delivered)];
+    assert_equal(rt, handed.len(), wanted.len());
+    for (attempt, (number, outcome)) in handed.iter().zip(wanted) {
+        assert_equal(rt, (attempt.number, attempt.attempt), (1, number));
+        assert_equal(rt, attempt.outcome, outcome);
+        assert_equal(rt, count_body(rt, alloc, attempt.body.as_slice()), (1, 1));
+    }
+}
+
+/// A second after the processor was made, the delay has passed, so a batch that isn't full is sent.
+/// Two seconds behind the reply it is sent again.
+fn send_again<J, R>(rt: R, alloc: Global, blank: BatchBlank)
+where
+    J: Naming,
+    R: Wait + Abort + time::Clock + Copy,
+    requires { blank ≡ J.name }
+{
+    let mut settings = config(2, 2);
+    settings.desk.delay_ms = 1000;
+    let Parts {
+        processor,
+        mut passes,
+        mut worker,
+    } = make::<J, R, Global>(rt, alloc, blank, settings, 1, SECOND);
+    let mut exporter = exporter(&rt, alloc, &[LATER]);
+    queue(&rt, alloc, passes.as_mut_slice(), 0, 1);
+    work(rt, alloc, &mut worker, &mut exporter, 2 * SECOND - 1, 10);
+    assert_equal(&rt, exporter.handed().len(), 0);
+    work(rt, alloc, &mut worker, &mut exporter, 2 * SECOND, 4);
+    assert_equal(&rt, exporter.handed().len(), 1);
+    work(rt, alloc, &mut worker, &mut exporter, 4 * SECOND - 1, 100);
+    assert_equal(&rt, exporter.handed().len(), 1);
+    work(rt, alloc, &mut worker, &mut exporter, 4 * SECOND, 10);
+    let totals = close(rt, alloc, processor, passes, worker).totals;
+    assert_equal(&rt, (totals.handed, totals.fates.delivered), (1, 1));
+    assert_sent_twice(&rt, alloc, exporter.handed());
+}
+
+#[test]
+fn waits_again(rt: HostRuntime) {
+    send_again::<Brand, HostRuntime>(rt, rt.alloc(), BatchBlank::new());
+}
+
+/// Asserts how the parts of a processor of two passes are shown.
+fn assert_shown<J: Naming, R: Wait + Abort + Copy>(
+    rt: R,
+    alloc: Global,
+    processor: &BatchProcessor<J, R>,
+    pass: &Pass<J, R>,
+    worker: &WorkerPass<J, R>,
+) {
+    let told = format!(in alloc; "{processor:?} {pass:?} {worker:?}").expect(&rt, "memory");
+    let want = "BatchProcessor { passes: 2, .. } Pass { .. } WorkerPass { .. }";
+    assert_equal(&rt, told.as_str(), want);
+}
+
+/// A batch is in hand while a pass is missing. What was to be closed out is let go, and the missing
+/// pass finds the span's name in the ledger.
+fn let_go<J, R>(rt: R, alloc: Global, blank: BatchBlank)
+where
+    J: Naming,
+    R: Wait + Abort + time::Clock + Copy,
+    requires { blank ≡ J.name }
+{
+    let Parts {
+        processor,
+        mut passes,
+        mut worker,
+    } = make::<J, R, Global>(rt, alloc, blank, config(1, 1), 2, 0);
+    let mut exporter = exporter(&rt, alloc, &[]);
+    let mut last = passes.pop().expect(&rt, "a pass");
+    assert_equal(&rt, end(&rt, alloc, &mut last), Ended::Queued(0));
+    work(rt, alloc, &mut worker, &mut exporter, 0, 1);
+    assert_shown(rt, alloc, &processor, &last, &worker);
+    let missing = processor.close_out(passes, worker).err();
+    missing.expect(&rt, "a pass is missing").discard();
+    assert_equal(&rt, last.pop_entry(), Some(entry(0, Reason::Abandoned)));
+    assert_equal(&rt, last.pop_entry(), None);
+}
+
+#[test]
+fn what_is_discarded_is_named(rt: HostRuntime) {
+    let_go::<Brand, HostRuntime>(rt, rt.alloc(), BatchBlank::new());
+}
+
+/// What is done: so many spans end in each of these schemas, and then the worker is called so
+/// often, for so many turns each time, while the collector answers so.
+#[derive(Drop)]
+struct Job<'a> {
+    config: BatchConfig,
+    schemas: &'a [&'a str],
+    spans: u64,
+    calls: u32,
+    turns: u64,
+    outcomes: &'a [Outcome],
+}
+
+/// Goes on by a minute at each look.
+#[derive(Drop)]
+struct Minutes(Cell<u64>);
+
+impl Clock for Minutes {
+    fn now(&self) -> u64 {
+        let moment = self.0.get().saturating_add(60 * SECOND);
+        self.0.set(moment);
+        moment
+    }
+}
+
+/// How a span is answered that ends on a pass, in this schema.
+fn end_in<J: Naming, R: Wait + Abort>(
+    rt: &R,
+    alloc: Global,
+    schema: &str,
+    pass: &mut Pass<J, R>,
+) -> Ended {
+    root(rt, alloc, AlwaysOn, schema).end(pass, END)
+}
+
+/// Ends the spans of a job on the first pass. Each is queued.
+fn end_spans<J: Naming, R: Wait + Abort>(
+    rt: &R,
+    alloc: Global,
+    job: &Job<'_>,
+    passes: &mut [Pass<J, R>],
+) {
+    let pass = passes.first_mut().expect(rt, "a pass");
+    let mut ticket = 0u64;
+    for _ in 0..job.spans {
+        for schema in job.schemas {
+            assert_equal(rt, end_in(rt, alloc, schema, pass), Ended::Queued(ticket));
+            ticket = ticket.saturating_add(1);
+        }
+    }
+}
+
+/// Calls the worker as the job says.
+fn call_worker<J, R, E>(
+    rt: R,
+    alloc: Global,
+    job: &Job<'_>,
+    worker: &mut WorkerPass<J, R>,
+    exporter: &mut E,
+)
+where
+    J: Naming,
+    R: Wait + Abort + time::Clock + Copy,
+    E: Exporter,
+    requires { IsPrepared (E.room exporter.old) worker.old }
+{
+    let clock = Minutes(Cell::new(0));
+    let mut rng = WordsRng::new(Vec::new(alloc));
+    for _ in 0..job.calls {
+        let end = worker.work(exporter, &clock, &mut rng, job.turns);
+        assert_equal(&rt, end, WorkEnd::TurnsSpent);
+    }
+}
+
+/// Does a job with a processor of one pass, and closes it out.
+fn do_job<J, R>(rt: R, alloc: Global, blank: BatchBlank, job: &Job<'_>) -> (Left, MemoryExporter)
+where
+    J: Naming,
+    R: Wait + Abort + time::Clock + Copy,
+    requires { blank ≡ J.name }
+{
+    let Parts {
+        processor,
+        mut passes,
+        mut worker,
+    } = make::<J, R, Global>(rt, alloc, blank, job.config, 1, 0);
+    let mut exporter = exporter(&rt, alloc, job.outcomes);
+    end_spans(&rt, alloc, job, passes.as_mut_slice());
+    call_worker(rt, alloc, job, &mut worker, &mut exporter);
+    (close(rt, alloc, processor, passes, worker), exporter)
+}
+
+#[test]
+fn one_turn_at_a_time_sends_the_same(rt: HostRuntime) {
+    let outcomes = [
+        LATER,
+        Outcome::NoReply,
+        Outcome::Partial(1),
+        Outcome::Refused(400),
+        Outcome::Bad,
+    ];
+    let mut done = Vec::new(rt.alloc());
+    for (calls, turns) in [(1, 1000), (1000, 1)] {
+        let job = Job {
+            config: config(800, 3),
+            schemas: &[""],
+            spans: 800,
+            calls,
+            turns,
+            outcomes: &outcomes,
+        };
+        let blank = BatchBlank::new();
+        let sent = do_job::<Brand, HostRuntime>(rt, rt.alloc(), blank, &job);
+        done.push(sent).expect(&rt, "memory");
+    }
+    let (singly, one_by_one) = done.pop().expect(&rt, "the second job");
+    let (at_once, all) = done.pop().expect(&rt, "the first job");
+    assert_equal(&rt, singly.totals, at_once.totals);
+    assert!(rt; one_by_one.handed() == all.handed(), "other batches");
+    // The first batch takes 8 turns, for three attempts, and each other one 4.
+    assert_equal(&rt, all.handed().len(), 251);
+    assert_equal(&rt, count_spans(&rt, rt.alloc(), all.handed()), 747);
+}
+
+/// How a batch of two spans ends that is in hand behind so many turns.
+#[test]
+fn a_batch_in_hand_is_abandoned(rt: HostRuntime) {
+    for (turns, attempts, abandoned) in [(1, 0, 2), (2, 0, 2), (3, 1, 0), (4, 1, 0)] {
+        let job = Job {
+            config: config(2, 2),
+            schemas: &[""],
+            spans: 2,
+            calls: 1,
+            turns,
+            outcomes: &[LATER],
+        };
+        let blank = BatchBlank::new();
+        let (left, exporter) = do_job::<Brand, HostRuntime>(rt, rt.alloc(), blank, &job);
+        let totals = left.totals;
+        assert_equal_at(&rt, exporter.handed().len(), attempts, turns);
+        assert_equal_at(&rt, totals.dropped.abandoned, abandoned, turns);
+        assert_equal_at(&rt, totals.handed.saturating_add(abandoned), 2, turns);
+        assert_equal_at(&rt, totals.fates.abandoned, attempts as u64, turns);
+        assert_named(&rt, left.names.as_slice(), abandoned, 1, Reason::Abandoned);
+    }
+}
+
+/// The body of a batch of one span, which has 64 bytes, where they are too many by one, and where
+/// they aren't.
+#[test]
+fn a_body_above_the_greatest_is_not_sent(rt: HostRuntime) {
+    for (max_body, handed) in [(63, 0), (64, 1)] {
+        let job = Job {
+            config: BatchConfig {
+                max_body,
+                ..config(1, 1)
+            },
+            schemas: &[""],
+            spans: 1,
+            calls: 1,
+            turns: 4,
+            outcomes: &[],
+        };
+        let blank = BatchBlank::new();
+        let (left, exporter) = do_job::<Brand, HostRuntime>(rt, rt.alloc(), blank, &job);
+        let dropped = 1u64.saturating_sub(handed);
+        assert_equal_at(&rt, exporter.handed().len() as u64, handed, max_body);
+        assert_equal_at(&rt, left.totals.fates.delivered, handed, max_body);
+        assert_equal_at(&rt, left.totals.dropped.too_large, dropped, max_body);
+        assert_named(&rt, left.names.as_slice(), dropped, 0, Reason::TooLarge);
+    }
+}
+
+/// The first span has a schema, which makes the body of its batch too long. The next one is sent.
+#[test]
+fn the_batch_behind_one_that_is_too_large_is_sent(rt: HostRuntime) {
+    let job = Job {
+        config: BatchConfig {
+            max_body: 64,
+            ..config(2, 1)
+        },
+        schemas: &["schema", ""],
+        spans: 1,
+        calls: 1,
+        turns: 6,
+        outcomes: &[],
+    };
+    let blank = BatchBlank::new();
+    let (left, exporter) = do_job::<Brand, HostRuntime>(rt, rt.alloc(), blank, &job);
+    let totals = left.totals;
+    assert_equal(
+        &rt,
+        (totals.fates.delivered, totals.dropped.too_large),
+        (1, 1),
+    );
+    assert_named(&rt, left.names.as_slice(), 1, 0, Reason::TooLarge);
+    assert_eq!(rt; exporter.handed().len(), 1);
+    assert_equal(&rt, exporter.handed()[0].number, 2);
+}
+
+#[test]
+fn two_providers_feed_one_processor(rt: HostRuntime) {
+    let job = Job {
+        config: config(8, 6),
+        schemas: &["first", "second"],
+        spans: 3,
+        calls: 1,
+        turns: 4,
+        outcomes: &[],
+    };
+    let blank = BatchBlank::new();
+    let (left, exporter) = do_job::<Brand, HostRuntime>(rt, rt.alloc(), blank, &job);
+    assert_equal(&rt, left.totals.fates.delivered, 1);
+    assert_eq!(rt; exporter.handed().len(), 1);
+    let body = exporter.handed()[0].body.as_slice();
+    assert_equal(&rt, count_body(&rt, rt.alloc(), body), (2, 6));
+}
+
+#[test]
+fn large_batches_are_sent_whole(rt: HostRuntime) {
+    let job = Job {
+        config: config(4096, 2048),
+        schemas: &[""],
+        spans: 4096,
+        calls: 1,
+        turns: 8,
+        outcomes: &[],
+    };
+    let blank = BatchBlank::new();
+    let (left, exporter) = do_job::<Brand, HostRuntime>(rt, rt.alloc(), blank, &job);
+    let totals = left.totals;
+    assert_equal(&rt, (totals.handed, totals.fates.delivered), (4096, 2));
+    assert_equal(&rt, exporter.handed().len(), 2);
+    for attempt in exporter.handed() {
+        let body = attempt.body.as_slice();
+        assert_equal(&rt, body.len() > 65_536, true);
+        assert_equal(&rt, count_body(&rt, rt.alloc(), body), (1, 2048));
+    }
+}
