@@ -8,6 +8,9 @@ use std::alloc::Global;
 use std::sync::{Mutex, Wait};
 use trace_api::{EndPass, Ended};
 
+/// How many batches a full queue has, by the standard's numbers.
+const MAX_BATCHES: u32 = 4;
+
 /// How long a lock is held round what is done with whole batches, in nanoseconds.
 #[derive(Clone, Copy)]
 pub struct Holds {
@@ -61,13 +64,15 @@ impl<R: Wait> PlainPass<R> {
         })
     }
 
-    /// Takes a batch of the spans that wait, and settles it.
+    /// Takes the spans that wait, in as many batches as a full queue has, and settles each.
     pub fn drain(&mut self) {
         let mut desk = self.desk.lock(&self.rt);
         desk.flush();
-        if let Some(batch) = desk.take(0) {
-            desk.handed(batch.number());
-            desk.settle(batch, Fate::Delivered);
+        for _batch in 0..MAX_BATCHES {
+            if let Some(batch) = desk.take(0) {
+                desk.handed(batch.number());
+                desk.settle(batch, Fate::Delivered);
+            }
         }
     }
 

@@ -17,9 +17,14 @@ pub fn write_counts<W: Write>(
     writeln!(output, "{handed} handed, {dropped} dropped, {left} left")
 }
 
+/// Whether a thread pauses, in words.
+fn how_of(load: Load) -> &'static str {
+    if load.pauses { "pausing" } else { "at once" }
+}
+
 /// Writes what threads do.
 pub fn write_load<W: Write>(output: &mut W, threads: usize, load: Load) -> io::Result<()> {
-    let how = if load.pauses { "pausing" } else { "at once" };
+    let how = how_of(load);
     let attributes = load.attributes;
     write!(
         output,
@@ -39,18 +44,18 @@ pub fn write_row<W: Write>(output: &mut W, row: Row) -> io::Result<()> {
     writeln!(output, "{} handed, {} dropped", row.handed, row.dropped)
 }
 
-/// Writes what spans took into a desk behind a plain mutex.
-pub fn write_plain<W: Write>(
-    output: &mut W,
-    attributes: usize,
-    span: u64,
-    whole: u64,
-) -> io::Result<()> {
+/// Writes what spans took into a desk behind a plain mutex, and with its batches taken and settled.
+pub fn write_plain<W: Write>(output: &mut W, load: Load, span: u64, whole: u64) -> io::Result<()> {
+    let how = how_of(load);
+    let (spans, attributes) = (load.spans, load.attributes);
     write!(
         output,
-        "a plain desk, {attributes} attributes: {span} ns a span, "
+        "a plain desk, {spans} {how}, {attributes} attributes: "
     )?;
-    writeln!(output, "{whole} ns with its batch taken and settled")
+    writeln!(
+        output,
+        "{span} ns a span, {whole} ns with its batches taken and settled"
+    )
 }
 
 /// Writes how long a lock is held round something.

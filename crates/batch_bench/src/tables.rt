@@ -33,11 +33,8 @@ const PAUSED_SPANS: u64 = 4_096;
 /// How many spans each thread ends where nothing is timed: all of them fit into the queue.
 const FEW: u64 = 100;
 
-/// How many spans are taken from a desk without a worker at a time.
+/// How many spans a batch has.
 const BATCH: u64 = 512;
-
-/// How many times such batches are taken in a round.
-const BATCHES: u64 = SPANS / BATCH;
 
 /// How many times two batches are taken from such a desk to time how long it is held.
 const BURSTS: u32 = 200;
@@ -117,24 +114,51 @@ where
     Ok((took.nanos, nanos_since(rt, before)?))
 }
 
-/// The same of all batches of a round: each span's part.
-fn time_batches<R>(rt: R, alloc: Global, load: Load) -> Result<(u64, u64)>
+/// The same, so many times: each span's part.
+fn time_batches<R>(rt: R, alloc: Global, load: Load, times: u64) -> Result<(u64, u64)>
 where
     R: Wait + RandomSource + Clock + Copy + Drop,
 {
     let mut pass = PlainPass::new(rt, alloc)?;
     let (mut ends, mut whole) = (0u64, 0u64);
-    for _batch in 0..BATCHES {
+    for _time in 0..times {
         let (ended, drained) = time_batch(&rt, alloc, load, &mut pass)?;
         ends = ends.saturating_add(ended);
         whole = whole.saturating_add(ended).saturating_add(drained);
     }
-    Ok((ends / (BATCHES * BATCH), whole / (BATCHES * BATCH)))
+    let spans = load.spans.saturating_mul(times);
+    Ok((
+        ends.checked_div(spans).unwrap_or(0),
+        whole.checked_div(spans).unwrap_or(0),
+    ))
 }
 
 /// Prints what spans took into a desk behind a plain mutex, with and without the time in which they
-/// are taken from it again, in the middle one of some rounds.
+/// are taken from it again, in the middle one of some rounds of so many spans.
 fn print_plain_row<R, W: Write>(
+    rt: R,
+    alloc: Global,
+    output: &mut W,
+    load: Load,
+    spans: u64,
+) -> Result<()>
+where
+    R: Wait + RandomSource + Clock + Copy + Drop,
+{
+    let times = spans.checked_div(load.spans).unwrap_or(0);
+    let (mut ends, mut wholes) = (Vec::new(alloc), Vec::new(alloc));
+    for _round in 0..ROUNDS {
+        let (span, whole) = time_batches(rt, alloc, load, times)?;
+        ends.push(span)?;
+        wholes.push(whole)?;
+    }
+    write_plain(output, load, median(ends)?, median(wholes)?)?;
+    Ok(())
+}
+
+/// Prints such rows: of a batch at a time, of as many spans as fill the queue, and of a batch whose
+/// thread pauses after each burst.
+fn print_plain_rows<R, W: Write>(
     rt: R,
     alloc: Global,
     output: &mut W,
@@ -143,14 +167,12 @@ fn print_plain_row<R, W: Write>(
 where
     R: Wait + RandomSource + Clock + Copy + Drop,
 {
-    let (mut spans, mut wholes) = (Vec::new(alloc), Vec::new(alloc));
-    for _round in 0..ROUNDS {
-        let (span, whole) = time_batches(rt, alloc, Load::at_once(BATCH, attributes))?;
-        spans.push(span)?;
-        wholes.push(whole)?;
+    for at_a_time in [BATCH, FULL] {
+        let load = Load::at_once(at_a_time, attributes);
+        print_plain_row(rt, alloc, output, load, SPANS)?;
     }
-    write_plain(output, attributes, median(spans)?, median(wholes)?)?;
-    Ok(())
+    let load = Load::at_once(BATCH, attributes).pausing();
+    print_plain_row(rt, alloc, output, load, PAUSED_SPANS)
 }
 
 /// How long the lock of a desk is held round what a worker does with a batch, many times.
@@ -244,14 +266,17 @@ fn print_attributes<R, W: Write>(
 where
     R: Threads + Wait + RandomSource + Clock + Copy + Send + Sync + 'static,
 {
-    print_plain_row(rt, alloc, output, attributes)?;
+    print_plain_rows(rt, alloc, output, attributes)?;
     print_full_row(rt, alloc, output, attributes)?;
     print_hold_row(rt, alloc, output, attributes)?;
     for threads in [1usize, 2, 4] {
         print_row(rt, alloc, output, threads, Load::at_once(SPANS, attributes))?;
     }
     let load = Load::at_once(PAUSED_SPANS, attributes).pausing();
-    print_row(rt, alloc, output, 4, load)
+    for threads in [1usize, 4] {
+        print_row(rt, alloc, output, threads, load)?;
+    }
+    Ok(())
 }
 
 /// Measures how long spans take, and prints it.
