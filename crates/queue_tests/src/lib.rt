@@ -9,6 +9,8 @@ mod equal;
 #[cfg(test)]
 mod freed;
 #[cfg(test)]
+mod growths;
+#[cfg(test)]
 mod ledger;
 #[cfg(test)]
 mod plain;
