@@ -176,6 +176,72 @@ fn takes_memory_twice(rt: HostRuntime) {
     }
 }
 
+/// What of a full span is made while one call for memory is refused.
+#[derive(Debug, Clone, Copy, PartialEq, Eq)]
+enum Making {
+    /// The groups and the body.
+    Body,
+    /// The body of groups that stand.
+    Encoding,
+}
+
+/// Makes the full span's body on scarce memory. Answers whether it was made: where it wasn't, nothing
+/// is kept.
+fn is_body_made<A: Allocator + Copy>(
+    rt: &impl Abort,
+    heap: &LocalHeap,
+    ample: A,
+    scarce: A,
+    making: Making,
+) -> bool {
+    let mut spans = Vec::new(ample);
+    let span = full_span(ample).expect(rt, "memory");
+    spans.push(span).expect(rt, "memory");
+    let groups = group(ample, spans.as_slice()).expect(rt, "memory");
+    let used = heap.used();
+    let body = match making {
+        Making::Body => body_of(scarce, spans.as_slice(), 219),
+        Making::Encoding => encode(scarce, groups.as_slice(), 219),
+    };
+    let is_made = body.is_ok();
+    if is_made {
+        assert_body(rt, ample, body, FULL_BODY);
+    } else {
+        assert_equal(rt, body.err(), Some(EncodeFault::OutOfMemory));
+    }
+    assert_equal(rt, heap.used(), used);
+    is_made
+}
+
+/// Refuses each call for memory in turn, and answers how often a body wasn't made, and how often it
+/// was.
+fn refuse_in_turn(rt: &impl Abort, alloc: Global, making: Making) -> (u64, u64) {
+    let heap = LocalHeap::new(alloc, 65_536).expect(rt, "memory");
+    let ample = FailingAllocator::new(&heap, u64::MAX);
+    let (mut refused, mut made) = (0u64, 0u64);
+    for fail_index in 0..20u64 {
+        let scarce = FailingAllocator::new(&heap, fail_index);
+        let is_made = is_body_made(rt, &heap, &ample, &scarce, making);
+        assert_equal_at(rt, is_made, !scarce.has_failed(), fail_index);
+        assert_equal_at(rt, heap.used(), 0, fail_index);
+        if is_made {
+            made = made.saturating_add(1);
+        } else {
+            refused = refused.saturating_add(1);
+        }
+    }
+    (refused, made)
+}
+
+#[test]
+fn each_growth_of_a_body_is_refused_in_turn(rt: HostRuntime) {
+    // The table of lengths and the buffer, and no third.
+    let counts = refuse_in_turn(&rt, rt.alloc(), Making::Encoding);
+    assert_equal(&rt, counts, (2, 18));
+    let (refused, made) = refuse_in_turn(&rt, rt.alloc(), Making::Body);
+    assert_equal_at(&rt, refused > 10 && made > 0, true, (refused, made));
+}
+
 /// A text of 70,000 bytes.
 fn long_text(rt: &impl Abort, alloc: Global) -> String {
     let mut long = String::new(alloc);
