@@ -3,6 +3,7 @@
 
 use crate::equal::{assert_equal, assert_equal_at};
 use crate::requests::{fault_of, first_value, full_request, sized, with_value};
+use crate::walk::{read, rich_request, walked};
 use linked_list_allocator::LocalHeap;
 use otlp_read::{ReadFault, read_request};
 use otlp_wire::WireFault;
@@ -10,71 +11,6 @@ use rand_core::Rng;
 use rand_pcg::Pcg32;
 use std::alloc::{Allocator, Global};
 use std::process::Abort;
-
-/// A number, and the bytes behind it: ten bytes of it at most, of which 64 bits count.
-fn varint(bytes: &[u8]) -> Option<(u64, &[u8])> {
-    let (mut value, mut scale) = (0u64, 1u64);
-    for index in 0..10usize {
-        let byte = *bytes.get(index)?;
-        value = value.wrapping_add(((byte % 128) as u64).wrapping_mul(scale));
-        scale = scale.wrapping_mul(128);
-        if byte < 128 {
-            return Some((value, bytes.get(index + 1..)?));
-        }
-    }
-    None
-}
-
-/// The payload of a field of this wire type, and the bytes behind it.
-fn payload(wire_type: u64, bytes: &[u8]) -> Option<(&[u8], &[u8])> {
-    let (size, rest) = match wire_type {
-        0 => (0, varint(bytes)?.1),
-        1 => (8, bytes),
-        2 => varint(bytes)?,
-        5 => (4, bytes),
-        _ => return None,
-    };
-    let size = usize::try_from(size).ok()?;
-    Some((rest.get(..size)?, rest.get(size..)?))
-}
-
-/// The payloads of this number's fields that have a length; nothing where the bytes aren't fields.
-fn payloads<'a>(
-    rt: &impl Abort,
-    alloc: Global,
-    bytes: &'a [u8],
-    number: u64,
-) -> Option<Vec<&'a [u8]>> {
-    let mut found = Vec::new(alloc);
-    let mut rest = bytes;
-    for _field in 0..bytes.len() {
-        if rest.is_empty() {
-            break;
-        }
-        let (tag, behind) = varint(rest)?;
-        if tag / 8 == 0 || tag / 8 > 536_870_911 {
-            return None;
-        }
-        let (payload, behind) = payload(tag % 8, behind)?;
-        if tag % 8 == 2 && tag / 8 == number {
-            found.push(payload).expect(rt, "memory");
-        }
-        rest = behind;
-    }
-    Some(found)
-}
-
-/// How many spans a request has, where it and what holds spans in it are fields.
-fn span_count(rt: &impl Abort, alloc: Global, body: &[u8]) -> Option<usize> {
-    let mut count = 0usize;
-    for resource_spans in payloads(rt, alloc, body, 1)? {
-        for scope_spans in payloads(rt, alloc, resource_spans, 2)? {
-            let spans = payloads(rt, alloc, scope_spans, 2)?;
-            count = count.saturating_add(spans.len());
-        }
-    }
-    Some(count)
-}
 
 /// How many spans are read of a body, with this memory; or why none are.
 fn read_count<A: Allocator + Copy>(alloc: A, body: &[u8]) -> Result<usize, ReadFault> {
@@ -88,24 +24,26 @@ fn read_count<A: Allocator + Copy>(alloc: A, body: &[u8]) -> Result<usize, ReadF
     Ok(count)
 }
 
-/// Checks that as many spans are read as a plain walk finds, or that a fault is told, with so many
-/// bytes of memory.
-fn assert_agrees(rt: &impl Abort, alloc: Global, body: &[u8], memory: usize) {
+/// Checks that all values are read which a plain walk finds, or that a fault is told just where it
+/// finds one, with so many bytes of memory. Answers whether there was none.
+fn assert_agrees(rt: &impl Abort, alloc: Global, body: &[u8], memory: usize) -> bool {
     let heap = LocalHeap::new(alloc, memory).expect(rt, "memory");
-    let agrees = match (read_count(&heap, body), span_count(rt, alloc, body)) {
-        (Ok(read), walked) => walked == Some(read),
-        (Err(ReadFault::OutOfMemory), _) => false,
-        // Of several faults any may be told.
-        (Err(_), _) => true,
-    };
-    assert_equal_at(rt, agrees, true, body);
+    let read = read(rt, alloc, &heap, body);
+    let walked = walked(rt, alloc, body);
+    assert_equal_at(rt, read.as_deref(), walked.as_deref(), body);
+    read.is_some()
 }
 
-/// The body with one to four bytes that may be others.
-fn changed(rt: &impl Abort, alloc: Global, rng: &mut Pcg32, body: &[u8]) -> Vec<u8> {
+/// One of the first so many places.
+fn place_in(rng: &mut Pcg32, places: u32) -> usize {
+    (rng.next_u32() % places.max(1)) as usize
+}
+
+/// The body with one to four bytes that may be others, among the first so many.
+fn changed(rt: &impl Abort, alloc: Global, rng: &mut Pcg32, places: u32, body: &[u8]) -> Vec<u8> {
     let mut body = Vec::from_slice(alloc, body).expect(rt, "memory");
     for _change in 0..=rng.next_u32() % 4 {
-        let at = (rng.next_u32() % 128) as usize;
+        let at = place_in(rng, places);
         let byte = (rng.next_u32() % 256) as u8;
         if let Some(place) = body.get_mut(at) {
             *place = byte;
@@ -115,9 +53,9 @@ fn changed(rt: &impl Abort, alloc: Global, rng: &mut Pcg32, body: &[u8]) -> Vec<
 }
 
 /// The body with a piece of it that stands in front, or that stands there twice.
-fn moved(rt: &impl Abort, alloc: Global, rng: &mut Pcg32, body: &[u8]) -> Vec<u8> {
-    let from = (rng.next_u32() % 128) as usize;
-    let to = from + (rng.next_u32() % 64) as usize;
+fn moved(rt: &impl Abort, alloc: Global, rng: &mut Pcg32, places: u32, body: &[u8]) -> Vec<u8> {
+    let from = place_in(rng, places);
+    let to = from.saturating_add(place_in(rng, 64));
     let piece = body.get(from..to).unwrap_or(&[]);
     let mut moved = Vec::from_slice(alloc, piece).expect(rt, "memory");
     let end = if rng.next_u32() % 2 == 0 { from } else { to };
@@ -128,28 +66,60 @@ fn moved(rt: &impl Abort, alloc: Global, rng: &mut Pcg32, body: &[u8]) -> Vec<u8
     moved
 }
 
+/// How many of these bodies with changed bytes were read, in each of which all values are as a plain
+/// walk finds them.
+fn count_changed(rt: &impl Abort, alloc: Global, body: &[u8], bodies: u32, places: u32) -> u32 {
+    let mut rng = Pcg32::new(3, 1);
+    let mut read = 0u32;
+    for _body in 0..bodies {
+        let changed = changed(rt, alloc, &mut rng, places, body);
+        if assert_agrees(rt, alloc, &changed, 65_536) {
+            read = read.saturating_add(1);
+        }
+    }
+    read
+}
+
+/// How many of these bodies with a piece elsewhere were read, and how many of those with changed
+/// bytes too.
+fn count_moved(
+    rt: &impl Abort,
+    alloc: Global,
+    body: &[u8],
+    bodies: u32,
+    places: u32,
+) -> (u32, u32) {
+    let mut rng = Pcg32::new(4, 1);
+    let (mut read, mut read_changed) = (0u32, 0u32);
+    for _body in 0..bodies {
+        let moved = moved(rt, alloc, &mut rng, places, body);
+        let changed = changed(rt, alloc, &mut rng, places, &moved);
+        if assert_agrees(rt, alloc, &moved, 65_536) {
+            read = read.saturating_add(1);
+        }
+        if assert_agrees(rt, alloc, &changed, 65_536) {
+            read_changed = read_changed.saturating_add(1);
+        }
+    }
+    (read, read_changed)
+}
+
 #[test]
 fn a_changed_body_is_read_as_a_plain_walk_finds_it(rt: HostRuntime) {
     let alloc = rt.alloc();
-    let mut rng = Pcg32::new(3, 1);
-    let body = full_request(&rt, alloc);
-    for _body in 0..30_000u32 {
-        let changed = changed(&rt, alloc, &mut rng, &body);
-        assert_agrees(&rt, alloc, &changed, 65_536);
-    }
+    let read = count_changed(&rt, alloc, &full_request(&rt, alloc), 30_000, 128);
+    assert_equal_at(&rt, read > 7_000 && read < 13_000, true, read);
+    let read = count_changed(&rt, alloc, &rich_request(&rt, alloc), 10_000, 384);
+    assert_equal_at(&rt, read > 1_000 && read < 4_000, true, read);
 }
 
 #[test]
 fn a_body_with_a_piece_elsewhere_is_read_as_a_plain_walk_finds_it(rt: HostRuntime) {
     let alloc = rt.alloc();
-    let mut rng = Pcg32::new(4, 1);
-    let body = full_request(&rt, alloc);
-    for _body in 0..30_000u32 {
-        let moved = moved(&rt, alloc, &mut rng, &body);
-        let changed = changed(&rt, alloc, &mut rng, &moved);
-        assert_agrees(&rt, alloc, &moved, 65_536);
-        assert_agrees(&rt, alloc, &changed, 65_536);
-    }
+    let (read, changed) = count_moved(&rt, alloc, &full_request(&rt, alloc), 30_000, 128);
+    assert_equal_at(&rt, read > 9_000 && changed > 3_000, true, (read, changed));
+    let (read, changed) = count_moved(&rt, alloc, &rich_request(&rt, alloc), 10_000, 384);
+    assert_equal_at(&rt, read > 1_000 && changed > 300, true, (read, changed));
 }
 
 #[test]
@@ -168,6 +138,7 @@ fn messages_that_stand_twice_are_joined(rt: HostRuntime) {
     let alloc = rt.alloc();
     let body = b"\x0a\x12\x0a\x05\x0a\x03\x0a\x01a\x12\x02\x12\x00\x0a\x05\x0a\x03\x0a\x01b";
     assert_equal(&rt, read_count(alloc, body), Ok(1));
+    assert_equal(&rt, assert_agrees(&rt, alloc, body, 65_536), true);
     let request = read_request(alloc, body).expect(&rt, "a request");
     let attributes = match request.resource_spans.first() {
         Some(group) => group.resource.attributes.len(),

@@ -26,4 +26,6 @@ mod samples;
 #[cfg(test)]
 mod triples;
 #[cfg(test)]
+mod walk;
+#[cfg(test)]
 mod wire;

@@ -291,7 +291,7 @@ fn a_span_that_is_cut(rt: HostRuntime) {
 
 /// A span with a text, an array of five numbers, a list of five pairs and bytes, with two events
 /// and two links.
-fn rich_span(rt: &impl Abort, alloc: Global) -> Vec<u8> {
+pub(crate) fn rich_span(rt: &impl Abort, alloc: Global) -> Vec<u8> {
     let mut span = Vec::from_slice(
         alloc,
         b"\x4a\x05\x12\x03\x0a\x01x\x4a\x18\x12\x16\x2a\x14\

@@ -12,7 +12,7 @@ use std::process::Abort;
 /// A span of all fields, one behind the other: its ids, its state, its parent, its name, its kind,
 /// when it began and ended, one attribute, event and link each with how many more there were, and
 /// its status. Then a field that nobody knows.
-const FULL: &[u8] = b"\x0a\x02ab\x12\x01c\x1a\x01s\x22\x01p\x2a\x01n\x30\x02\
+pub(crate) const FULL: &[u8] = b"\x0a\x02ab\x12\x01c\x1a\x01s\x22\x01p\x2a\x01n\x30\x02\
     \x39\x01\x00\x00\x00\x00\x00\x00\x00\x41\x02\x00\x00\x00\x00\x00\x00\x00\
     \x4a\x07\x0a\x01k\x12\x02\x18\x05\x50\x03\
     \x5a\x0e\x09\x03\x00\x00\x00\x00\x00\x00\x00\x12\x01e\x20\x04\x60\x05\
@@ -69,33 +69,35 @@ fn shown(rt: &impl Abort, alloc: Global, value: &[u8]) -> String {
     format!(in alloc; "{value:?}").expect(rt, "memory")
 }
 
+/// Values, and how each is shown.
+pub(crate) const VALUES: [(&[u8], &str); 15] = [
+    (b"", "Empty"),
+    (b"\x0a\x00", "Text(\"\")"),
+    (b"\x0a\x01x", "Text(\"x\")"),
+    (b"\x10\x00", "Bool(false)"),
+    (b"\x10\x02", "Bool(true)"),
+    (b"\x18\x05", "Int(5)"),
+    (b"\x18\xff\xff\xff\xff\xff\xff\xff\xff\xff\x01", "Int(-1)"),
+    (b"\x21\x01\x00\x00\x00\x00\x00\x00\x00", "Double(1)"),
+    (b"\x2a\x00", "Array([])"),
+    (b"\x2a\x04\x0a\x02\x18\x01", "Array([Int(1)])"),
+    (
+        b"\x32\x07\x0a\x05\x0a\x01a\x12\x00",
+        "Pairs([(\"a\", Empty)])",
+    ),
+    (b"\x3a\x02\x01\xff", "Bytes([1, 255])"),
+    // The last member counts, of an array the parts of its last unbroken run.
+    (b"\x18\x05\x0a\x01x", "Text(\"x\")"),
+    (
+        b"\x2a\x04\x0a\x02\x18\x01\x2a\x04\x0a\x02\x18\x02",
+        "Array([Int(1), Int(2)])",
+    ),
+    (b"\x2a\x04\x0a\x02\x18\x01\x10\x01\x2a\x00", "Array([])"),
+];
+
 #[test]
 fn each_kind_of_value_is_read(rt: HostRuntime) {
-    let rows: [(&[u8], &str); 15] = [
-        (b"", "Empty"),
-        (b"\x0a\x00", "Text(\"\")"),
-        (b"\x0a\x01x", "Text(\"x\")"),
-        (b"\x10\x00", "Bool(false)"),
-        (b"\x10\x02", "Bool(true)"),
-        (b"\x18\x05", "Int(5)"),
-        (b"\x18\xff\xff\xff\xff\xff\xff\xff\xff\xff\x01", "Int(-1)"),
-        (b"\x21\x01\x00\x00\x00\x00\x00\x00\x00", "Double(1)"),
-        (b"\x2a\x00", "Array([])"),
-        (b"\x2a\x04\x0a\x02\x18\x01", "Array([Int(1)])"),
-        (
-            b"\x32\x07\x0a\x05\x0a\x01a\x12\x00",
-            "Pairs([(\"a\", Empty)])",
-        ),
-        (b"\x3a\x02\x01\xff", "Bytes([1, 255])"),
-        // The last member counts, of an array the parts of its last unbroken run.
-        (b"\x18\x05\x0a\x01x", "Text(\"x\")"),
-        (
-            b"\x2a\x04\x0a\x02\x18\x01\x2a\x04\x0a\x02\x18\x02",
-            "Array([Int(1), Int(2)])",
-        ),
-        (b"\x2a\x04\x0a\x02\x18\x01\x10\x01\x2a\x00", "Array([])"),
-    ];
-    for (value, want) in rows {
+    for (value, want) in VALUES {
         assert_equal_at(&rt, shown(&rt, rt.alloc(), value).as_str(), want, value);
     }
 }
@@ -208,7 +210,7 @@ pub(crate) fn sized(rt: &impl Abort, alloc: Global, tag: u8, content: &[u8]) -> 
 }
 
 /// A request of a resource with an attribute whose value nests so many arrays.
-fn with_nested(rt: &impl Abort, alloc: Global, arrays: usize) -> Vec<u8> {
+pub(crate) fn with_nested(rt: &impl Abort, alloc: Global, arrays: usize) -> Vec<u8> {
     let value = sized(rt, alloc, 0x12, &nested(rt, alloc, arrays));
     let attribute = sized(rt, alloc, 0x0a, &value);
     let resource = sized(rt, alloc, 0x0a, &attribute);
