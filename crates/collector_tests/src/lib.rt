@@ -17,4 +17,6 @@ mod network;
 #[cfg(test)]
 mod sockets;
 #[cfg(test)]
+mod turns;
+#[cfg(test)]
 mod words;
