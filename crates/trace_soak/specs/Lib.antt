@@ -1,0 +1,4 @@
+pub mod Args
+pub mod Balance
+pub mod Memory
+pub mod Verdicts

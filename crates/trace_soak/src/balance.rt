@@ -1,0 +1,57 @@
+//! The balance of a round.
+ghost use Rattle.std.specs.Prelude.{◌≡◌, ◌++◌, IfOk, IsTrue};
+ghost use Rattle.std.specs.List.Sorted.{IsStrictlyIncreasing};
+ghost use Rattle.trace_soak.specs.Balance.{IsBalanced};
+
+use std::alloc::{AllocError, Global};
+
+/// Where the spans of a round were found, by their numbers.
+#[derive(Drop)]
+pub(crate) struct Found {
+    /// In the bodies that the collector kept.
+    pub(crate) kept: Vec<u64>,
+    /// In the ledger.
+    pub(crate) dropped: Vec<u64>,
+    /// In the batches whose body the collector kept at no attempt.
+    pub(crate) unkept: Vec<u64>,
+}
+
+impl Found {
+    /// All of them, one behind the other.
+    fn all(&self, alloc: Global) -> Result<Vec<u64>, AllocError>
+        ensures { IfOk result (λ all. all.items
+            ≡ self.now.kept.items ++ self.now.dropped.items ++ self.now.unkept.items) }
+    {
+        let mut all = Vec::from_slice(alloc, self.kept.as_slice())?;
+        all.extend_from_slice(self.dropped.as_slice())?;
+        all.extend_from_slice(self.unkept.as_slice())?;
+        Ok(all)
+    }
+
+    /// Whether each span that ended was found in exactly one of the three, and no other was. A
+    /// `true` is promised to be right. (profile)
+    pub(crate) fn balances(&self, alloc: Global, ended: &[u64]) -> Result<bool, AllocError>
+        ensures { IfOk result (λ yes. IsTrue yes → IsBalanced ended.now
+            self.now.kept.items self.now.dropped.items self.now.unkept.items) }
+    {
+        let mut ended = Vec::from_slice(alloc, ended)?;
+        let mut found = self.all(alloc)?;
+        ended.sort_unstable();
+        found.sort_unstable();
+        Ok(ended.as_slice() == found.as_slice() && rise(ended.as_slice()))
+    }
+}
+
+/// Whether each of these numbers is below the next one.
+fn rise(numbers: &[u64]) -> bool
+    ensures { IsTrue result → IsStrictlyIncreasing numbers.now }
+{
+    let mut at = 1;
+    while at < numbers.len() {
+        if numbers[at - 1] >= numbers[at] {
+            return false;
+        }
+        at += 1;
+    }
+    true
+}
