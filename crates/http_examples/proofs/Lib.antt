@@ -1,3 +1,4 @@
 pub mod ChunkParts
 pub mod Heads
+pub mod PlaceParts
 pub mod RequestHeads

@@ -10,6 +10,7 @@ pub mod chunks;
 pub mod devices;
 pub mod fields;
 pub mod outcomes;
+pub mod places;
 pub mod posts;
 pub mod replies;
 pub mod requests;

@@ -11,8 +11,9 @@ use std::marker::Model;
 use std::net::{Net, OpenStream, TcpStream, ToSocketAddrs};
 use std::time::Duration;
 
-/// Dials over TCP: a connection of its own for each request, without Nagle's delay. What a system's
-/// sockets give and take no contract says. In contracts it is a `TcpDialing`.
+/// Dials over TCP: a connection of its own for each request, without Nagle's delay, and without a
+/// buffer: each byte of a reply's head costs a call of the system. What a system's sockets give and
+/// take no contract says. In contracts it is a `TcpDialing`.
 #[derive(Drop)]
 pub struct TcpDial<R> {
     rt: R,

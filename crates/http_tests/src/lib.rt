@@ -23,6 +23,8 @@ mod heads;
 #[cfg(test)]
 mod outcomes;
 #[cfg(test)]
+mod places;
+#[cfg(test)]
 mod posts;
 #[cfg(test)]
 mod requests;

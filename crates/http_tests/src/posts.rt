@@ -66,12 +66,24 @@ fn assert_read_within(
 }
 
 /// Checks the same of a wire that gives all that is asked for, within the usual limits.
-fn assert_read(rt: &impl Abort, alloc: Global, text: &[u8], wanted: Told<'_>, left: usize) {
+pub(crate) fn assert_read(
+    rt: &impl Abort,
+    alloc: Global,
+    text: &[u8],
+    wanted: Told<'_>,
+    left: usize,
+) {
     assert_read_within(rt, alloc, text, (65_536, 65_536), (wanted, left));
 }
 
 /// Checks why a text is no request, and how many of its bytes are left.
-fn assert_fault(rt: &impl Abort, alloc: Global, text: &[u8], fault: PostFault, left: usize) {
+pub(crate) fn assert_fault(
+    rt: &impl Abort,
+    alloc: Global,
+    text: &[u8],
+    fault: PostFault,
+    left: usize,
+) {
     assert_read(rt, alloc, text, Err(fault), left);
 }
 
@@ -196,7 +208,7 @@ fn a_request_that_is_cut_has_ended(rt: HostRuntime) {
 }
 
 /// What a request with no body is read as.
-const EMPTY: Told<'static> = Ok(("GET", "/", b""));
+pub(crate) const EMPTY: Told<'static> = Ok(("GET", "/", b""));
 
 /// Checks what a request is read as that has so many bytes, 23 at least, in its head.
 fn assert_long(rt: &impl Abort, alloc: Global, size: usize, wanted: Told<'_>, left: usize) {
@@ -213,9 +225,9 @@ fn a_head_has_limits(rt: HostRuntime) {
     let too_large = PostFault::Head(HttpFault::TooLarge);
     let most = repeated(&rt, alloc, start, "A: b\r\n", 64, "\r\n");
     assert_read(&rt, alloc, most.as_bytes(), EMPTY, 0);
-    // A field too many is told at the end of its line.
-    let over = repeated(&rt, alloc, start, "A: b\r\n", 65, "\r\n");
-    assert_fault(&rt, alloc, over.as_bytes(), too_large, 2);
+    // A field too many is told at the end of the head.
+    let over = repeated(&rt, alloc, start, "A: b\r\n", 65, "\r\nc");
+    assert_fault(&rt, alloc, over.as_bytes(), too_large, 1);
     assert_long(&rt, alloc, 16_384, EMPTY, 0);
     assert_long(&rt, alloc, 16_385, Err(too_large), 1);
 }

@@ -7,7 +7,7 @@ use Rattle.httparse.specs.Spans.{AreFieldsAt, header_bytes, name_and_value}
 use Rattle.httparse.specs.declared.spans.HeaderSpan.{HeaderSpan}
 
 -- a front of a list and one more is all of it, or a front of the list
-push_split : (xs : List ℕ) (x : ℕ) (front rest : List ℕ) → xs ++ x ∷ [] ≡ front ++ rest
+pub push_split : (xs : List ℕ) (x : ℕ) (front rest : List ℕ) → xs ++ x ∷ [] ≡ front ++ rest
     → ((rest ≡ []) × (front ≡ xs ++ x ∷ [])) ⊎ ((more : List ℕ) × (xs ≡ front ++ more))
 push_split xs x [] rest e = inr (xs, refl)
 push_split [] x (y ∷ []) rest e = inl (cc, cc)
@@ -21,7 +21,7 @@ push_split (w ∷ xs) x (y ∷ front) rest e =
     ]
 
 -- the last of two equal lists
-push_last : (xs ys : List ℕ) (x y : ℕ) → xs ++ x ∷ [] ≡ ys ++ y ∷ [] → x ≡ y
+pub push_last : (xs ys : List ℕ) (x y : ℕ) → xs ++ x ∷ [] ≡ ys ++ y ∷ [] → x ≡ y
 push_last [] [] x y e = cc
 push_last [] (b ∷ ys) x y e = let lengths = ap length e ∙ length-append (b ∷ ys) (y ∷ []) in absurd (omega (arith, lengths))
 push_last (a ∷ xs) [] x y e = let lengths = sym (ap length e) ∙ length-append (a ∷ xs) (x ∷ []) in absurd (omega (arith, lengths))

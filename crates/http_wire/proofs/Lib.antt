@@ -6,3 +6,4 @@ pub mod DeviceLemmas
 pub mod FieldLemmas
 pub mod HeadLemmas
 pub mod LengthLemmas
+pub mod PlaceLemmas

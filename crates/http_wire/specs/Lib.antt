@@ -6,4 +6,5 @@ pub mod Fields
 pub mod Fronts
 pub mod Lines
 pub mod Parses
+pub mod Places
 pub mod Wires

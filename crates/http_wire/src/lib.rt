@@ -11,6 +11,7 @@ mod fault;
 mod fields;
 mod front;
 mod limits;
+mod place;
 mod transfer;
 mod wire;
 
@@ -20,5 +21,6 @@ pub use fault::HttpFault;
 pub use fields::{content_length, keep_fields, retry_after};
 pub use front::{FRONT_ROOM, Front};
 pub use limits::{HeadLimits, MOST_FIELDS};
+pub use place::HeadPlace;
 pub use transfer::{Stopped, read_byte, write_pieces};
 pub use wire::{FailingCalls, FailingWire};

@@ -8,7 +8,7 @@ ghost use Rattle.http_wire.specs.Devices.{CountsFailure};
 use crate::device::{DeviceFailed, FaultRead, FaultWrite};
 use thiserror::Error;
 
-/// Reads a byte, or none at the end.
+/// Reads a byte, or none at the end, by one call of the reader.
 ///
 /// # Errors
 ///

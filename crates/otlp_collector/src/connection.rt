@@ -35,6 +35,9 @@ pub struct Answered<A: Allocator = Global> {
 /// be read as a request of traces, or 503 as before where memory was refused; what is canned; 200.
 /// The order of want of memory is that in which it was wanted.
 ///
+/// The head, lines of chunks and trailers are read byte by byte: from a socket without a buffer
+/// below, each of their bytes costs a call of the system.
+///
 /// The limits allow 64 fields at most. Those of `HeadLimits::default()` are meant for replies: a
 /// collector allows bodies of 16,777,216 bytes. The request is kept by `alloc`, and so are, while
 /// the call lasts, the text of the head, the method, the target and the body; the fields of the

@@ -9,7 +9,7 @@ ghost use Rattle.otlp_http.specs.Heads.{IsInterimStatus, LacksHead};
 ghost use Rattle.otlp_http.specs.Parses.{FindsHead, HasFinalHead, IsStopped, ParsesHead};
 ghost use Rattle.otlp_http.specs.Replies.{HasNoReply};
 
-use http_wire::{FaultRead, HeadLimits, HttpFault, read_byte};
+use http_wire::{FaultRead, HeadLimits, HeadPlace, HttpFault, read_byte};
 use httparse::spans::{HeaderSpan, ResponseSpans, parse_response};
 use httparse::{Error, Status};
 use std::alloc::Allocator;
@@ -39,8 +39,8 @@ fn stopped(text: &[u8], spans: &mut [HeaderSpan], fault: HttpFault) -> HttpFault
     }
 }
 
-/// Reads one head, byte by byte so that none behind it is taken, and keeps it in `text`. A head
-/// ends by a line feed, so only there it is parsed.
+/// Reads one head, byte by byte so that none behind it is taken, and keeps it in `text`. It is
+/// parsed where its place says so, and where the reading stops.
 fn read_head<R: FaultRead, A: Allocator>(
     reader: &mut R,
     limits: &HeadLimits,
@@ -57,10 +57,11 @@ fn read_head<R: FaultRead, A: Allocator>(
         CountsAtHead fault (R.failures reader.old) (R.failures reader.new)) }
     ensures room { length spans.new ≡ length spans.old }
 {
+    let mut place = HeadPlace::new();
     text.clear();
     while text.len() < limits.head {
         if text.reserve(1).is_err() {
-            return Err(HttpFault::OutOfMemory);
+            return Err(stopped(text, spans, HttpFault::OutOfMemory));
         }
         let byte = match read_byte(reader) {
             Ok(Some(byte)) => byte,
@@ -68,7 +69,7 @@ fn read_head<R: FaultRead, A: Allocator>(
             Err(_) => return Err(stopped(text, spans, HttpFault::Device)),
         };
         text.push_reserved(byte);
-        if byte == b'\n' {
+        if place.pass(byte) {
             if let Some(head) = parse_head(text, spans)? {
                 return Ok(head);
             }

@@ -87,16 +87,21 @@ fn framing_of(status: u16, kept: &HeaderMap) -> Framing
 /// there is none, the body goes to the end of the bytes. Of chunks, extensions and trailers are let
 /// go (RFC 9112, section 7.1). A read that failed is not tried again.
 ///
+/// Heads, lines of chunks and trailers are read byte by byte: from a socket without a buffer below,
+/// each of their bytes costs a call of the system. A head is parsed behind its first line, at its
+/// end and where the reading stops, so its time goes by its length. (profile)
+///
 /// The text of the heads, while the call lasts, and the body are kept by `alloc`, and the fields,
 /// while the call lasts, by `global`.
 ///
 /// # Errors
 ///
 /// Where there is no whole head that can be used: `Ended` where the bytes ended before; `Device`
-/// where a read failed; `BadHead` where what came can't begin a head, also where it then ended,
-/// where a field is one that `http_header` refuses, or at a seventeenth interim head; `TooLarge`
-/// where a head has more bytes or fields than the limits allow; `OutOfMemory` where memory for it
-/// was refused. The reader is left where it was read up to, at most at the end of a head.
+/// where a read failed; `BadHead` where what came can't begin a head, also where it then ended, a
+/// read then failed or memory was then refused, where a field is one that `http_header` refuses, or
+/// at a seventeenth interim head; `TooLarge` where a head has more bytes or fields than the limits
+/// allow; `OutOfMemory` where memory for it was refused. The reader is left where it was read up
+/// to, at most at the end of a head: of one whose first line is bad, at the end of that.
 ///
 /// Behind the head, the body's error stands in [`Reply::body`]: `Ended` where the bytes ended
 /// before so many had come as Content-Length says, or within chunks; `Device` where a read failed;

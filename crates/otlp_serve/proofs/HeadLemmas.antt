@@ -1,12 +1,19 @@
 -- Heads of requests that grow by a byte.
-use Rattle.std.proofs.Common.{◌≡◌, ℕ, ◌<◌, List, [], ◌∷◌, ◌++◌, length, ap, subst, ◌∙◌, append_assoc, arith, length-append, drop, Ok, Some}
+use Rattle.std.proofs.Common.{◌≡◌, ◌≢◌, ℕ, ◌<◌, ◌≤◌, true, List, [], ◌∷◌, ◌++◌, length, ap, refl, sym, subst, ◌∙◌, append_assoc, arith, length-append, drop, inr, Option, Ok, Some}
+use Rattle.std.proofs.lemmas.Bool.{true≢false}
+use Rattle.std.proofs.lemmas.List.Elements.{All-head}
 use Rattle.httparse.specs.Ascii.{line_feed, space}
-use Rattle.httparse.specs.Grammar.{RequestHead, IsRequestHead, print_request, ReadsRequest, HasNoRequest, print_blank, print_version, print_field, print_end}
+use Rattle.httparse.specs.Grammar.{RequestHead, IsRequestHead, print_request, ReadsRequest, HasNoRequest, print_blank, print_version, print_field, print_section, print_end, LineEnd, Field, IsToken, is_token_byte}
 use Rattle.httparse.specs.declared.spans.RequestSpans.{RequestSpans}
 use Rattle.httparse.specs.declared.spans.HeaderSpan.{HeaderSpan}
+use Rattle.httparse.specs.Spans.{RequestExceeds}
+use Rattle.http_wire.specs.declared.fault.HttpFault.{HttpFault}
 use Rattle.http_wire.specs.declared.limits.HeadLimits.{HeadLimits}
+use Rattle.http_wire.specs.Places.{IsDue}
 use Rattle.http_wire.proofs.HeadLemmas as grown
-use Rattle.otlp_serve.specs.Parses.{ParsesRequest, CoversRequest}
+use Rattle.http_wire.proofs.PlaceLemmas.{section_due, none_before_due}
+use Rattle.otlp_serve.specs.RequestHeads.{IsUnfinishedRequest, LacksRequest}
+use Rattle.otlp_serve.specs.Parses.{ParsesRequest, CoversRequest, IsStopped, unfinished, bad, over}
 use Rattle.std.specs.List.{flat_map}
 use Rattle.httparse.proofs.GrammarLemmas.{cons-append}
 
@@ -28,9 +35,34 @@ head_ends head =
 pub none_of_nothing : HasNoRequest []
 none_of_nothing = grown.none_of_nothing IsRequestHead print_request head_ends
 
--- a byte that ends no line makes no head
-pub none_yet : (text : List ℕ) (b : ℕ) → HasNoRequest text → (b ≡ 10 → ⊥) → HasNoRequest (text ++ b ∷ [])
-none_yet = grown.none_yet IsRequestHead print_request head_ends
+-- a byte of a method ends no line
+token_byte : (byte : ℕ) → is_token_byte byte ≡ true → (byte ≢ 10) × (byte ≢ 13)
+unfolding is_token_byte
+token_byte byte token = (
+  λ e. true≢false (sym (subst (λ b. is_token_byte b ≡ true) e token) ∙ refl),
+  λ e. true≢false (sym (subst (λ b. is_token_byte b ≡ true) e token) ∙ refl),
+)
+
+-- a parse is due behind a head
+head_due : (head : RequestHead) → IsRequestHead head → IsDue (print_request head)
+unfolding print_request
+head_due head valid =
+    due head.method valid.method (print_blank head.blank) head.target (print_version head.minor) head.line_end head.fields head.last
+  where
+    regroup : (a b c d e f : List ℕ) (x : ℕ) → a ++ (x ∷ b) ++ 32 ∷ c ++ 32 ∷ d ++ e ++ f ≡ (a ++ x ∷ (b ++ 32 ∷ c ++ 32 ∷ d) ++ e) ++ f
+    regroup a b c d e f x = simp (append_assoc, cons-append)
+
+    due : (method : List ℕ) → IsToken method → (blank target version : List ℕ) (line_end : LineEnd) (fields : List Field) (last : LineEnd)
+        → IsDue (blank ++ method ++ space ∷ target ++ space ∷ version ++ print_end line_end ++ print_section fields last)
+    due [] token blank target version line_end fields last = absurd (let some = token.0 in omega (arith, some))
+    due (x ∷ method) token blank target version line_end fields last =
+        let other = token_byte x (All-head (λ b. is_token_byte b ≡ true) x method token.1) in
+        subst IsDue (sym (regroup blank method target version (print_end line_end) (print_section fields last) x))
+        (section_due blank (method ++ space ∷ target ++ space ∷ version) x line_end fields last other.0 other.1)
+
+-- a byte behind which none is due makes no head
+pub none_yet : (text : List ℕ) (b : ℕ) → HasNoRequest text → ¬ (IsDue (text ++ b ∷ [])) → HasNoRequest (text ++ b ∷ [])
+none_yet = none_before_due IsRequestHead print_request head_due
 
 -- what a parse finds at the byte that makes a head whole
 pub head_read : (limits : HeadLimits) (old text : List ℕ) (b : ℕ) (spans : List HeaderSpan) (room : ℕ) (r : RequestSpans)
@@ -53,3 +85,14 @@ head_read limits old text b spans room r none is below fields found =
         found.2,
       ),
     )
+
+-- why there is no head, where the reading stopped
+pub stopped_lacks : (limits : HeadLimits) (text : List ℕ) (left : Option (List ℕ)) (failed : Type 0) (room : ℕ) (fault answer : HttpFault)
+    → (IsUnfinishedRequest text → LacksRequest limits text left failed fault) → length text ≤ limits.head → room ≡ limits.fields
+    → IsStopped text room fault answer → LacksRequest limits text left failed answer
+stopped_lacks limits text left failed room fault answer cause short same (unfinished is e) =
+    subst (LacksRequest limits text left failed) (sym e) (cause is)
+stopped_lacks limits text left failed room fault answer cause short same (bad never e) =
+    subst (LacksRequest limits text left failed) (sym e) (never, short)
+stopped_lacks limits text left failed room fault answer cause short same (over many e) =
+    subst (LacksRequest limits text left failed) (sym e) (short, inr (subst (λ n. RequestExceeds n text) same many))

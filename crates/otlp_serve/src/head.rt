@@ -8,7 +8,7 @@ ghost use Rattle.http_wire.specs.Faults.{CountsAtHead};
 ghost use Rattle.otlp_serve.specs.RequestHeads.{LacksRequest};
 ghost use Rattle.otlp_serve.specs.Parses.{FindsRequest, IsStopped, ParsesRequest};
 
-use http_wire::{FaultRead, HeadLimits, HttpFault, read_byte};
+use http_wire::{FaultRead, HeadLimits, HeadPlace, HttpFault, read_byte};
 use httparse::spans::{HeaderSpan, RequestSpans, parse_request};
 use httparse::{Error, Status};
 use std::alloc::Allocator;
@@ -38,8 +38,8 @@ fn stopped(text: &[u8], spans: &mut [HeaderSpan], fault: HttpFault) -> HttpFault
     }
 }
 
-/// Reads a head, byte by byte so that none behind it is taken, and keeps it in `text`. A head ends
-/// by a line feed, so only there it is parsed.
+/// Reads a head, byte by byte so that none behind it is taken, and keeps it in `text`. It is parsed
+/// where its place says so, and where the reading stops.
 pub(crate) fn read_head<R: FaultRead, A: Allocator>(
     reader: &mut R,
     limits: &HeadLimits,
@@ -56,10 +56,11 @@ pub(crate) fn read_head<R: FaultRead, A: Allocator>(
         CountsAtHead fault (R.failures reader.old) (R.failures reader.new)) }
     ensures room { length spans.new ≡ length spans.old }
 {
+    let mut place = HeadPlace::new();
     text.clear();
     while text.len() < limits.head {
         if text.reserve(1).is_err() {
-            return Err(HttpFault::OutOfMemory);
+            return Err(stopped(text, spans, HttpFault::OutOfMemory));
         }
         let byte = match read_byte(reader) {
             Ok(Some(byte)) => byte,
@@ -67,7 +68,7 @@ pub(crate) fn read_head<R: FaultRead, A: Allocator>(
             Err(_) => return Err(stopped(text, spans, HttpFault::Device)),
         };
         text.push_reserved(byte);
-        if byte == b'\n' {
+        if place.pass(byte) {
             if let Some(head) = parse_head(text, spans)? {
                 return Ok(head);
             }

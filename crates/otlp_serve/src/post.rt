@@ -132,6 +132,10 @@ fn read_post_head<R: FaultRead, A: Allocator + Copy>(
 /// none where neither field stands. Of chunks, extensions and trailers are let go. A read that
 /// failed is not tried again.
 ///
+/// The head, lines of chunks and trailers are read byte by byte: from a socket without a buffer
+/// below, each of their bytes costs a call of the system. The head is parsed behind its first line,
+/// at its end and where the reading stops, so its time goes by its length. (profile)
+///
 /// The text of the head, while the call lasts, the method, the target and the body are kept by
 /// `alloc`, and the fields by `global`.
 ///
@@ -139,10 +143,11 @@ fn read_post_head<R: FaultRead, A: Allocator + Copy>(
 ///
 /// `Head` where there is no whole head that can be used: `Ended` where the bytes ended before;
 /// `Device` where a read failed; `BadHead` where what came can't begin a head, also where it then
-/// ended (but a target that isn't UTF-8 is told only behind its end), or where a field is one that
-/// `http_header` refuses; `TooLarge` where it has more bytes or
-/// fields than the limits allow; `OutOfMemory` where memory for it was refused. The reader is left
-/// where it was read up to, at most at the end of the head.
+/// ended, a read then failed or memory was then refused (but a target that isn't UTF-8 is told only
+/// behind its end), or where a field is one that `http_header` refuses; `TooLarge` where it has more
+/// bytes or fields than the limits allow; `OutOfMemory` where memory for it was refused. The reader
+/// is left where it was read up to, at most at the end of the head: of one whose first line is bad,
+/// at the end of that.
 ///
 /// `Body` behind the head: `BadLength` where Transfer-Encoding is anything but `chunked` (profile),
 /// or stands beside a Content-Length, or where that isn't one number of digits that fits 64 bits,

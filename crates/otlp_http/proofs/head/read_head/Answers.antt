@@ -1,14 +1,19 @@
-use Rattle.std.proofs.Common.{rules, ap, ◌++◌, ◌∷◌, [], ◌≡◌, ◌<◌, ◌≤◌, ◌∙◌, length, sym, subst, refl, arith, Ok}
-use Rattle.std.specs.Prelude.{Some, option_to_list}
-use Rattle.std.proofs.KnownBytes.{Consumes-nil, Consumes-trans}
-use Rattle.std.specs.Io.KnownBytes.{Consumes}
+use Rattle.std.proofs.Common.{rules, ◌≡◌, ◌<◌, ◌≤◌, ◌∙◌, length, sym, subst, refl, arith, inl, Ok, IfNone}
+use Rattle.std.specs.Prelude.{Some, None}
+use Rattle.std.proofs.lemmas.Bool.{false≢true}
+use Rattle.std.proofs.KnownBytes.{Consumes-nil}
+use Rattle.std.specs.Io.KnownBytes.{Consumes, IsAtEnd}
 use Rattle.httparse.specs.Grammar.{HasNoResponse}
-use Rattle.otlp_http.specs.Parses.{ParsesHead}
-use Rattle.otlp_http.proofs.HeadLemmas.{none_of_nothing, none_yet, head_read}
+use Rattle.otlp_http.specs.Parses.{ParsesHead, IsStopped}
+use Rattle.http_wire.specs.declared.fault.HttpFault.TheVariants as faults
+use Rattle.http_wire.specs.Devices.{HasFailed}
+use Rattle.http_wire.specs.Places.{IsPlace}
+use Rattle.http_wire.proofs.ChunkLemmas.{grows}
+use Rattle.otlp_http.proofs.HeadLemmas.{none_of_nothing, none_yet, head_read, stopped_lacks}
 use Rattle.otlp_http.proofs.head.read_head.Goals as goal
 
-pub loop-text-init : goal.loop-text-init
-loop-text-init g c =
+pub loop-place-init : goal.loop-place-init
+loop-place-init g c =
     let empty = c.clear.ensures.items in
     let left = g.R.FaultRead.remaining c.args.reader.now in (
       subst (Consumes left left) (sym empty) (Consumes-nil left),
@@ -16,32 +21,68 @@ loop-text-init g c =
       subst (λ text. length text ≤ c.args.limits.now.head) (sym empty) (omega arith),
       c.requires,
       refl,
+      subst (λ text. IsPlace text c.new-place.result) (sym empty) c.new-place.ensures,
     )
 
 pub returns-in-Some-clause-head : goal.returns-in-Some-clause-head
 returns-in-Some-clause-head g c =
-    let found : ParsesHead c.push_reserved.new.self.items (length c.loop-text.spans) c.parse_head.new.spans (Ok (Some c.in-Some.head)) = search rules in
-    let none = subst HasNoResponse (sym c.reserve.ensures.items) c.loop-text.invariant.1 in
+    let found : ParsesHead c.push_reserved.new.self.items (length c.loop-place.spans) c.parse_head.new.spans (Ok (Some c.in-Some.head)) = search rules in
+    let none = subst HasNoResponse (sym c.reserve.ensures.items) c.loop-place.invariant.1 in
     let below : length c.reserve.new.self.items < c.args.limits.now.head = subst (λ t. length t < c.args.limits.now.head) (sym c.reserve.ensures.items) (search rules) in
-    head_read c.args.limits.now c.reserve.new.self.items c.push_reserved.new.self.items _ c.parse_head.new.spans _ c.in-Some.head none c.push_reserved.ensures.items below c.loop-text.invariant.3 found
+    head_read c.args.limits.now c.reserve.new.self.items c.push_reserved.new.self.items _ c.parse_head.new.spans _ c.in-Some.head none c.push_reserved.ensures.items below c.loop-place.invariant.3 found
 
-pub loop-text-preserved : goal.loop-text-preserved
-loop-text-preserved g c =
-    let items = c.push_reserved.ensures.items in
-    let before = c.reserve.ensures.items in
-    let len = c.push_reserved.ensures.len in
-    let kept = c.reserve.ensures.len in
-    let test = c.loop-text-test.true in
-    let read = c.read_byte.ensures in
-    let reader = c.loop-text.invariant.4 in
-    let remaining = g.R.FaultRead.remaining in
-    let byte = c.in-Ok-Some.byte in
-    let step : Consumes (remaining c.loop-text.reader) (remaining c.read_byte.new.reader) (byte ∷ []) =
-    subst (λ o. Consumes (remaining c.loop-text.reader) (remaining c.read_byte.new.reader) (option_to_list o)) c.in-Ok-Some.field-0-is c.in-Ok-Some.ensures.some in
-    let text : c.push_reserved.new.self.items ≡ c.loop-text.text.items ++ byte ∷ [] = items ∙ ap (λ t. t ++ byte ∷ []) before in (
-      subst (Consumes (remaining c.args.reader.now) (remaining c.read_byte.new.reader)) (sym text) (Consumes-trans _ _ _ _ _ c.loop-text.invariant.0 step),
-      subst HasNoResponse (sym text) (none_yet _ _ c.loop-text.invariant.1 c.if-byte-eq10.false),
-      omega (arith, len, kept, test),
-      c.loop-text.invariant.3,
-      c.in-Ok-Some.ensures.counted ∙ c.loop-text.invariant.4,
+pub returns-in-Some-clause-taken : goal.returns-in-Some-clause-taken
+returns-in-Some-clause-taken g c =
+    let grown = grows c.args.limits.now.head _ _ _ c.loop-place.text.items c.reserve.new.self.items c.push_reserved.new.self.items c.in-Ok-Some.byte _ c.loop-place.invariant.0 (search rules) c.reserve.ensures.items c.push_reserved.ensures.items c.in-Ok-Some.field-0-is c.in-Ok-Some.ensures.some in
+    grown.taken
+
+pub loop-place-preserved : goal.loop-place-preserved
+loop-place-preserved g c =
+    let grown = grows c.args.limits.now.head _ _ _ c.loop-place.text.items c.reserve.new.self.items c.push_reserved.new.self.items c.in-Ok-Some.byte _ c.loop-place.invariant.0 (search rules) c.reserve.ensures.items c.push_reserved.ensures.items c.in-Ok-Some.field-0-is c.in-Ok-Some.ensures.some in
+    let at = c.loop-place.invariant.5 in
+    let due = c.pass.ensures.due c.loop-place.text.items at in
+    let none = none_yet c.loop-place.text.items c.in-Ok-Some.byte c.loop-place.invariant.1 (λ is. false≢true (sym c.if-pass.false ∙ due.1 is)) in (
+      grown.taken,
+      subst HasNoResponse (sym grown.is) none,
+      grown.bytes,
+      c.loop-place.invariant.3,
+      c.in-Ok-Some.ensures.counted ∙ c.loop-place.invariant.4,
+      subst (λ t. IsPlace t c.pass.new.self) (sym grown.is) (c.pass.ensures.place c.loop-place.text.items at),
     )
+
+pub loop-place-preserved-in_default : goal.loop-place-preserved-in_default
+loop-place-preserved-in_default g c =
+    let grown = grows c.args.limits.now.head _ _ _ c.loop-place.text.items c.reserve.new.self.items c.push_reserved.new.self.items c.in-Ok-Some.byte _ c.loop-place.invariant.0 (search rules) c.reserve.ensures.items c.push_reserved.ensures.items c.in-Ok-Some.field-0-is c.in-Ok-Some.ensures.some in
+    let parsed : ParsesHead c.push_reserved.new.self.items (length c.loop-place.spans) c.parse_head.new.spans (Ok None) = search rules in (
+      grown.taken,
+      parsed.0,
+      grown.bytes,
+      c.parse_head.ensures.room ∙ c.loop-place.invariant.3,
+      c.in-Ok-Some.ensures.counted ∙ c.loop-place.invariant.4,
+      subst (λ t. IsPlace t c.pass.new.self) (sym grown.is) (c.pass.ensures.place c.loop-place.text.items c.loop-place.invariant.5),
+    )
+
+pub returns-in-Ok-None-clause-none : goal.returns-in-Ok-None-clause-none
+returns-in-Ok-None-clause-none g c =
+    let kept = c.reserve.new.self.items in
+    let below : length kept < c.args.limits.now.head = subst (λ t. length t < c.args.limits.now.head) (sym c.reserve.ensures.items) (search rules) in
+    let end = subst (λ o. IfNone o (IsAtEnd (g.R.FaultRead.remaining c.read_byte.new.reader))) c.in-Ok-None.field-0-is c.in-Ok-None.ensures.end in
+    stopped_lacks c.args.limits.now kept _ _ _ faults.Ended c.stopped-in-Ok-None.result (λ is. (end, is, below)) (omega (arith, below)) c.loop-place.invariant.3
+    (subst (λ t. IsStopped t (length c.loop-place.spans) faults.Ended c.stopped-in-Ok-None.result) c.deref-in-Ok-None.ensures.value c.stopped-in-Ok-None.ensures)
+
+pub returns-in-Err-clause-none : goal.returns-in-Err-clause-none
+returns-in-Err-clause-none g c =
+    let kept = c.reserve.new.self.items in
+    let below : length kept < c.args.limits.now.head = subst (λ t. length t < c.args.limits.now.head) (sym c.reserve.ensures.items) (search rules) in
+    let failed : HasFailed (g.R.FaultRead.failures c.args.reader.now) (g.R.FaultRead.failures c.read_byte.new.reader) = search rules in
+    stopped_lacks c.args.limits.now kept _ _ _ faults.Device c.stopped-in-Err.result (λ is. (failed, is, below)) (omega (arith, below)) c.loop-place.invariant.3
+    (subst (λ t. IsStopped t (length c.loop-place.spans) faults.Device c.stopped-in-Err.result) c.deref-in-Err.ensures.value c.stopped-in-Err.ensures)
+
+pub returns-clause-none : goal.returns-clause-none
+returns-clause-none g c =
+    let text = c.loop-place.text.items in
+    let short = c.loop-place.invariant.2 in
+    let test = c.loop-place-test.false in
+    let full : length text ≡ c.args.limits.now.head = omega (arith, short, test) in
+    stopped_lacks c.args.limits.now text _ _ _ faults.TooLarge c.stopped-2.result (λ is. (short, inl (is, full))) short c.loop-place.invariant.3
+    (subst (λ t. IsStopped t (length c.loop-place.spans) faults.TooLarge c.stopped-2.result) c.deref-2.ensures.value c.stopped-2.ensures)

@@ -1,17 +1,18 @@
 use Rattle.std.proofs.Common.{◌≡◌, ◌≤◌, ◌-◌, length}
 use Rattle.std.specs.Io.KnownBytes.{Consumes}
 use Rattle.httparse.specs.Grammar.{HasNoRequest}
+use Rattle.http_wire.specs.Places.{IsPlace}
 use Rattle.otlp_serve.proofs.head.read_head.Given as goal
 
--- the text is what was read, no front of it is a head, and nothing failed
-abbrev pub invariant-loop-text : goal.invariant-loop-text
-invariant-loop-text g l =
+-- the text is what was read, no front of it is a head, nothing failed, and the place is that behind it
+abbrev pub invariant-loop-place : goal.invariant-loop-place
+invariant-loop-place g l =
     let remaining = g.R.FaultRead.remaining in
     let failures = g.R.FaultRead.failures in
     Consumes (remaining l.initial.reader) (remaining l.reader) l.text.items
     × HasNoRequest l.text.items × (length l.text.items ≤ l.limits.head)
     × (length l.spans ≡ l.limits.fields)
-    × (failures l.reader ≡ failures l.initial.reader)
+    × (failures l.reader ≡ failures l.initial.reader) × IsPlace l.text.items l.place
 
-abbrev pub decreases-loop-text : goal.decreases-loop-text
-decreases-loop-text g l = l.limits.head - length l.text.items
+abbrev pub decreases-loop-place : goal.decreases-loop-place
+decreases-loop-place g l = l.limits.head - length l.text.items
