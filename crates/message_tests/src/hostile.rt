@@ -175,9 +175,9 @@ fn a_million_fields_are_read(rt: HostRuntime) {
         read_count(alloc, &sized(&rt, alloc, 0x0a, &schemas)),
         Ok(0),
     );
-    let resources = many(&rt, alloc, 0x0a, 100_000);
+    let resources = many(&rt, alloc, 0x0a, 1_000_000);
     let request = read_request(alloc, &resources).expect(&rt, "a request");
-    assert_equal(&rt, request.resource_spans.len(), 100_000);
+    assert_equal(&rt, request.resource_spans.len(), 1_000_000);
 }
 
 #[test]
