@@ -123,22 +123,26 @@ enum Job<'a> {
 /// More jobs than a value has.
 const MOST_JOBS: u32 = 1_000_000;
 
-/// What was written so far of a request.
+/// What was written so far of a request, and whether its bytes are none. A walk goes on behind a
+/// fault, since what it has written counts no more.
 #[derive(Drop)]
 struct Walk<'r, R> {
     rt: &'r R,
     alloc: Global,
     text: String,
+    is_bad: bool,
 }
 
 impl<R: Abort> Walk<'_, R> {
     /// The fields of a message that comes in these parts.
-    fn fields<'a>(&self, parts: &[&'a [u8]]) -> Option<Vec<Found<'a>>> {
+    fn fields<'a>(&mut self, parts: &[&'a [u8]]) -> Vec<Found<'a>> {
         let mut fields = Vec::new(self.alloc);
         for part in parts {
-            self.push_fields(&mut fields, part)?;
+            if self.push_fields(&mut fields, part).is_none() {
+                self.is_bad = true;
+            }
         }
-        Some(fields)
+        fields
     }
 
     /// Appends the fields of these bytes.
@@ -195,10 +199,11 @@ impl<R: Abort> Walk<'_, R> {
     }
 
     /// Writes the text with this tag behind its name.
-    fn show_text(&mut self, name: &str, fields: &[Found<'_>], tag: u64) -> Option<()> {
-        let text = str::from_utf8(last_bytes(fields, tag)).ok()?;
-        self.show(name, text);
-        Some(())
+    fn show_text(&mut self, name: &str, fields: &[Found<'_>], tag: u64) {
+        match str::from_utf8(last_bytes(fields, tag)) {
+            Ok(text) => self.show(name, text),
+            Err(_) => self.is_bad = true,
+        }
     }
 
     /// Writes how many were dropped, by the field with this tag.
@@ -214,58 +219,50 @@ impl<R: Abort> Walk<'_, R> {
     }
 
     /// Does what is to be written behind each other, the last of it first.
-    fn do_all<'a>(&mut self, jobs: Vec<Job<'a>>) -> Option<()> {
+    fn do_all<'a>(&mut self, jobs: Vec<Job<'a>>) {
         let mut jobs = jobs;
         for _job in 0..MOST_JOBS {
             let Some(job) = jobs.pop() else {
-                return Some(());
+                return;
             };
-            self.do_next(&mut jobs, job)?;
+            self.do_next(&mut jobs, job);
         }
-        None
+        self.is_bad = true;
     }
 
     /// Does one job, and adds those that come of it.
-    fn do_next<'a>(&mut self, jobs: &mut Vec<Job<'a>>, job: Job<'a>) -> Option<()> {
+    fn do_next<'a>(&mut self, jobs: &mut Vec<Job<'a>>, job: Job<'a>) {
         match job {
-            Job::Piece(piece) => {
-                self.put(piece);
-                Some(())
-            }
+            Job::Piece(piece) => self.put(piece),
             Job::Pair(pair, depth) => self.do_pair(jobs, pair, depth),
             Job::Value(parts, depth) => self.do_value(jobs, &parts, depth),
         }
     }
 
     /// Writes the key of a pair, whose value may nest so many levels deep.
-    fn do_pair<'a>(&mut self, jobs: &mut Vec<Job<'a>>, pair: &'a [u8], depth: u32) -> Option<()> {
-        let fields = self.fields(&[pair])?;
-        self.show_text("(", &fields, 0x0a)?;
+    fn do_pair<'a>(&mut self, jobs: &mut Vec<Job<'a>>, pair: &'a [u8], depth: u32) {
+        let fields = self.fields(&[pair]);
+        self.show_text("(", &fields, 0x0a);
         self.put(", ");
         self.add(jobs, Job::Piece(")"));
         let value = Job::Value(self.all(&fields, 0x12), depth);
         self.add(jobs, value);
-        Some(())
     }
 
     /// Writes the value that comes in these parts, and that may nest so many levels deep. Where there
     /// is no part there is no value.
-    fn do_value<'a>(
-        &mut self,
-        jobs: &mut Vec<Job<'a>>,
-        parts: &[&'a [u8]],
-        depth: u32,
-    ) -> Option<()> {
+    fn do_value<'a>(&mut self, jobs: &mut Vec<Job<'a>>, parts: &[&'a [u8]], depth: u32) {
         if depth == 0 && !parts.is_empty() {
-            return None;
+            self.is_bad = true;
+            return;
         }
-        let fields = self.fields(parts)?;
+        let fields = self.fields(parts);
         let Some(member) = last_member(&fields) else {
             self.put("Empty");
-            return Some(());
+            return;
         };
         match member.tag {
-            0x0a => self.show("Text(", str::from_utf8(member.bytes).ok()?),
+            0x0a => self.show_text("Text(", &fields, 0x0a),
             0x10 => self.show("Bool(", member.value != 0),
             0x18 => self.show("Int(", member.value.cast_signed()),
             0x21 => self.show("Double(", member.value),
@@ -273,7 +270,6 @@ impl<R: Abort> Walk<'_, R> {
             tag => return self.do_members(jobs, &fields, tag, depth.saturating_sub(1)),
         }
         self.put(")");
-        Some(())
     }
 
     /// Writes the array or the list of pairs that counts, whose values may nest so many levels deep.
@@ -283,23 +279,25 @@ impl<R: Abort> Walk<'_, R> {
         fields: &[Found<'a>],
         tag: u64,
         depth: u32,
-    ) -> Option<()> {
-        let members = self.fields(&self.last_run(fields, tag))?;
-        let members = self.all(&members, 0x0a);
+    ) {
+        let run = self.last_run(fields, tag);
+        let members = self.fields(&run);
         self.put(if tag == 0x2a { "Array([" } else { "Pairs([" });
         self.add(jobs, Job::Piece("])"));
-        for (index, member) in members.iter().enumerate().rev() {
-            let job = if tag == 0x2a {
-                Job::Value(self.one(member), depth)
-            } else {
-                Job::Pair(member, depth)
-            };
-            self.add(jobs, job);
+        for (index, member) in self.all(&members, 0x0a).iter().enumerate().rev() {
+            self.add(jobs, self.member(tag, member, depth));
             if index > 0 {
                 self.add(jobs, Job::Piece(", "));
             }
         }
-        Some(())
+    }
+
+    /// A value of the array, or a pair of the list, with this tag.
+    fn member<'a>(&self, tag: u64, member: &'a [u8], depth: u32) -> Job<'a> {
+        if tag == 0x2a {
+            return Job::Value(self.one(member), depth);
+        }
+        Job::Pair(member, depth)
     }
 
     /// Adds a job.
@@ -313,165 +311,156 @@ impl<R: Abort> Walk<'_, R> {
     }
 
     /// Writes pairs, in their order.
-    fn show_pairs(&mut self, pairs: &[&[u8]]) -> Option<()> {
+    fn show_pairs(&mut self, pairs: &[&[u8]]) {
         for (index, pair) in pairs.iter().enumerate() {
             self.comma(index);
-            let mut jobs = Vec::new(self.alloc);
-            self.add(&mut jobs, Job::Pair(pair, DEEPEST));
-            self.do_all(jobs)?;
+            self.do_all(self.pair(pair));
         }
-        Some(())
+    }
+
+    /// A pair, as all that is to be written.
+    fn pair<'a>(&self, pair: &'a [u8]) -> Vec<Job<'a>> {
+        let mut jobs = Vec::new(self.alloc);
+        self.add(&mut jobs, Job::Pair(pair, DEEPEST));
+        jobs
     }
 
     /// Writes the attributes with this tag, and how many were dropped by the field with that.
-    fn show_attributes(&mut self, fields: &[Found<'_>], tag: u64, dropped: u64) -> Option<()> {
+    fn show_attributes(&mut self, fields: &[Found<'_>], tag: u64, dropped: u64) {
         self.put("attributes: [");
-        self.show_pairs(&self.all(fields, tag))?;
+        self.show_pairs(&self.all(fields, tag));
         self.show_count("], dropped_attributes_count: ", fields, dropped);
-        Some(())
     }
 
     /// Writes an event.
-    fn show_event(&mut self, event: &[u8]) -> Option<()> {
-        let fields = self.fields(&[event])?;
+    fn show_event(&mut self, event: &[u8]) {
+        let fields = self.fields(&[event]);
         self.show("Event { time_unix_nano: ", last_number(&fields, 0x09));
-        self.show_text(", name: ", &fields, 0x12)?;
+        self.show_text(", name: ", &fields, 0x12);
         self.put(", ");
-        self.show_attributes(&fields, 0x1a, 0x20)?;
+        self.show_attributes(&fields, 0x1a, 0x20);
         self.put(" }");
-        Some(())
     }
 
     /// Writes a link.
-    fn show_link(&mut self, link: &[u8]) -> Option<()> {
-        let fields = self.fields(&[link])?;
+    fn show_link(&mut self, link: &[u8]) {
+        let fields = self.fields(&[link]);
         self.show("Link { trace_id: ", last_bytes(&fields, 0x0a));
         self.show(", span_id: ", last_bytes(&fields, 0x12));
-        self.show_text(", trace_state: ", &fields, 0x1a)?;
+        self.show_text(", trace_state: ", &fields, 0x1a);
         self.put(", ");
-        self.show_attributes(&fields, 0x22, 0x28)?;
+        self.show_attributes(&fields, 0x22, 0x28);
         self.put(" }");
-        Some(())
     }
 
     /// Writes a status, which comes in these parts.
-    fn show_status(&mut self, parts: &[&[u8]]) -> Option<()> {
-        let fields = self.fields(parts)?;
-        self.show_text("Status { message: ", &fields, 0x12)?;
+    fn show_status(&mut self, parts: &[&[u8]]) {
+        let fields = self.fields(parts);
+        self.show_text("Status { message: ", &fields, 0x12);
         self.show(", code: ", low_half(&fields, 0x18).cast_signed());
         self.put(" }");
-        Some(())
     }
 
     /// Writes whose a span is, its name, its kind and its moments.
-    fn show_names(&mut self, fields: &[Found<'_>]) -> Option<()> {
+    fn show_names(&mut self, fields: &[Found<'_>]) {
         self.show("Span { trace_id: ", last_bytes(fields, 0x0a));
         self.show(", span_id: ", last_bytes(fields, 0x12));
-        self.show_text(", trace_state: ", fields, 0x1a)?;
+        self.show_text(", trace_state: ", fields, 0x1a);
         self.show(", parent_span_id: ", last_bytes(fields, 0x22));
-        self.show_text(", name: ", fields, 0x2a)?;
+        self.show_text(", name: ", fields, 0x2a);
         self.show(", kind: ", low_half(fields, 0x30).cast_signed());
         self.show(", start_time_unix_nano: ", last_number(fields, 0x39));
         self.show(", end_time_unix_nano: ", last_number(fields, 0x41));
-        Some(())
     }
 
     /// Writes the events of a span, and how many were dropped.
-    fn show_events(&mut self, fields: &[Found<'_>]) -> Option<()> {
+    fn show_events(&mut self, fields: &[Found<'_>]) {
         self.put(", events: [");
         for (index, event) in self.all(fields, 0x5a).iter().enumerate() {
             self.comma(index);
-            self.show_event(event)?;
+            self.show_event(event);
         }
         self.show_count("], dropped_events_count: ", fields, 0x60);
-        Some(())
     }
 
     /// Writes the links of a span, and how many were dropped.
-    fn show_links(&mut self, fields: &[Found<'_>]) -> Option<()> {
+    fn show_links(&mut self, fields: &[Found<'_>]) {
         self.put(", links: [");
         for (index, link) in self.all(fields, 0x6a).iter().enumerate() {
             self.comma(index);
-            self.show_link(link)?;
+            self.show_link(link);
         }
         self.show_count("], dropped_links_count: ", fields, 0x70);
-        Some(())
     }
 
     /// Writes a span.
-    fn show_span(&mut self, span: &[u8]) -> Option<()> {
-        let fields = self.fields(&[span])?;
-        self.show_names(&fields)?;
+    fn show_span(&mut self, span: &[u8]) {
+        let fields = self.fields(&[span]);
+        self.show_names(&fields);
         self.put(", ");
-        self.show_attributes(&fields, 0x4a, 0x50)?;
-        self.show_events(&fields)?;
-        self.show_links(&fields)?;
+        self.show_attributes(&fields, 0x4a, 0x50);
+        self.show_events(&fields);
+        self.show_links(&fields);
         self.put(", status: ");
-        self.show_status(&self.all(&fields, 0x7a))?;
+        self.show_status(&self.all(&fields, 0x7a));
         self.put(" }");
-        Some(())
     }
 
     /// Writes a scope, which comes in these parts.
-    fn show_scope(&mut self, parts: &[&[u8]]) -> Option<()> {
-        let fields = self.fields(parts)?;
-        self.show_text("InstrumentationScope { name: ", &fields, 0x0a)?;
-        self.show_text(", version: ", &fields, 0x12)?;
+    fn show_scope(&mut self, parts: &[&[u8]]) {
+        let fields = self.fields(parts);
+        self.show_text("InstrumentationScope { name: ", &fields, 0x0a);
+        self.show_text(", version: ", &fields, 0x12);
         self.put(", ");
-        self.show_attributes(&fields, 0x1a, 0x20)?;
+        self.show_attributes(&fields, 0x1a, 0x20);
         self.put(" }");
-        Some(())
     }
 
     /// Writes the spans of a scope.
-    fn show_scope_spans(&mut self, group: &[u8]) -> Option<()> {
-        let fields = self.fields(&[group])?;
+    fn show_scope_spans(&mut self, group: &[u8]) {
+        let fields = self.fields(&[group]);
         self.put("ScopeSpans { scope: ");
-        self.show_scope(&self.all(&fields, 0x0a))?;
+        self.show_scope(&self.all(&fields, 0x0a));
         self.put(", spans: [");
         for (index, span) in self.all(&fields, 0x12).iter().enumerate() {
             self.comma(index);
-            self.show_span(span)?;
+            self.show_span(span);
         }
-        self.show_text("], schema_url: ", &fields, 0x1a)?;
+        self.show_text("], schema_url: ", &fields, 0x1a);
         self.put(" }");
-        Some(())
     }
 
     /// Writes a resource, which comes in these parts.
-    fn show_resource(&mut self, parts: &[&[u8]]) -> Option<()> {
-        let fields = self.fields(parts)?;
+    fn show_resource(&mut self, parts: &[&[u8]]) {
+        let fields = self.fields(parts);
         self.put("Resource { ");
-        self.show_attributes(&fields, 0x0a, 0x10)?;
+        self.show_attributes(&fields, 0x0a, 0x10);
         self.put(" }");
-        Some(())
     }
 
     /// Writes the spans of a resource.
-    fn show_resource_spans(&mut self, group: &[u8]) -> Option<()> {
-        let fields = self.fields(&[group])?;
+    fn show_resource_spans(&mut self, group: &[u8]) {
+        let fields = self.fields(&[group]);
         self.put("ResourceSpans { resource: ");
-        self.show_resource(&self.all(&fields, 0x0a))?;
+        self.show_resource(&self.all(&fields, 0x0a));
         self.put(", scope_spans: [");
         for (index, scope) in self.all(&fields, 0x12).iter().enumerate() {
             self.comma(index);
-            self.show_scope_spans(scope)?;
+            self.show_scope_spans(scope);
         }
-        self.show_text("], schema_url: ", &fields, 0x1a)?;
+        self.show_text("], schema_url: ", &fields, 0x1a);
         self.put(" }");
-        Some(())
     }
 
     /// Writes a request.
-    fn show_request(&mut self, body: &[u8]) -> Option<()> {
-        let fields = self.fields(&[body])?;
+    fn show_request(&mut self, body: &[u8]) {
+        let fields = self.fields(&[body]);
         self.put("Request { resource_spans: [");
         for (index, group) in self.all(&fields, 0x0a).iter().enumerate() {
             self.comma(index);
-            self.show_resource_spans(group)?;
+            self.show_resource_spans(group);
         }
         self.put("] }");
-        Some(())
     }
 }
 
@@ -481,8 +470,12 @@ pub(crate) fn walked(rt: &impl Abort, alloc: Global, body: &[u8]) -> Option<Stri
         rt,
         alloc,
         text: String::new(alloc),
+        is_bad: false,
     };
-    walk.show_request(body)?;
+    walk.show_request(body);
+    if walk.is_bad {
+        return None;
+    }
     Some(walk.text)
 }
 
