@@ -86,10 +86,17 @@ impl<J: Naming, A: Allocator + Copy> Shared<J, A> {
         self.spent.pop()
     }
 
-    /// Leaves the spans of a batch that was sent to those who end others. What they haven't freed of
-    /// the batch before is handed back.
+    /// Leaves the spans of a batch that was sent to those who end others, where half a batch waits
+    /// already: they end spans about as fast as these are sent. What they haven't freed of the batch
+    /// before is handed back.
     pub(crate) fn leave_spent(&mut self, spent: &mut Vec<SpanData<A>, A>) {
-        mem::swap(&mut self.spent, spent);
+        let waiting = match &self.desk {
+            Some(desk) => desk.waiting(),
+            None => 0,
+        };
+        if waiting >= self.setup.config.desk.batch / 2 {
+            mem::swap(&mut self.spent, spent);
+        }
     }
 
     /// A pass asks for all that was accepted so far.

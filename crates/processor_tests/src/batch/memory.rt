@@ -55,8 +55,9 @@ fn assert_settled<A: Allocator>(rt: &impl Abort, left: &Left<A>, refused: Refuse
 }
 
 /// Six spans end, and their batches are sent on scarce memory. Where a batch is refused memory, it is
-/// dropped, and the others are sent. Once the first batch is sent, the next two spans, at their
-/// ends, have its spans freed in their place: as much memory is used as before.
+/// dropped, and the others are sent. The first batch is settled while half a one waits, so that the
+/// next two spans, at their ends, have those of the first batch freed in their place: as much memory
+/// is used as before.
 fn send_scarce<J, R, A>(rt: R, heap: &LocalHeap, ample: A, scarce: A, blank: BatchBlank) -> Refused
 where
     J: Naming,
@@ -77,15 +78,15 @@ where
         }
     };
     let mut exporter = MemoryExporter::new(scarce, Vec::new(scarce));
-    queue(&rt, ample, passes.as_mut_slice(), 0, 2);
+    queue(&rt, ample, passes.as_mut_slice(), 0, 3);
     work(rt, ample, &mut worker, &mut exporter, 0, TURNS);
     let used = heap.used();
     let sent = exporter.handed().len();
-    queue(&rt, ample, passes.as_mut_slice(), 2, 2);
+    queue(&rt, ample, passes.as_mut_slice(), 3, 2);
     if sent > 0 {
         assert_equal(&rt, heap.used(), used);
     }
-    queue(&rt, ample, passes.as_mut_slice(), 4, 2);
+    queue(&rt, ample, passes.as_mut_slice(), 5, 1);
     work(rt, ample, &mut worker, &mut exporter, 0, 2 * TURNS);
     let left = close(rt, ample, processor, passes, worker);
     let refused = match left.names.first() {
