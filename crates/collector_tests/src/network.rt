@@ -83,22 +83,22 @@ fn shorter(wait: Option<Duration>) -> Option<Duration> {
 }
 
 impl<'a, S: OpenStream> OpenStream for QuickStream<'a, S> {
-    fn shutdown(&self, how: Shutdown) -> io::Result<()> {
-        self.inner.shutdown(how)
+    fn shutdown(&self, side: Shutdown) -> io::Result<()> {
+        self.inner.shutdown(side)
     }
 
-    fn set_nodelay(&self, nodelay: bool) -> io::Result<()> {
-        self.inner.set_nodelay(nodelay)
+    fn set_nodelay(&self, at_once: bool) -> io::Result<()> {
+        self.inner.set_nodelay(at_once)
     }
 
-    fn set_read_timeout(&self, dur: Option<Duration>) -> io::Result<()> {
-        let wait = dur.unwrap_or(Duration::MAX);
-        self.longest.set(self.longest.get().max(wait));
-        self.inner.set_read_timeout(shorter(dur))
+    fn set_read_timeout(&self, wait: Option<Duration>) -> io::Result<()> {
+        let told = wait.unwrap_or(Duration::MAX);
+        self.longest.set(self.longest.get().max(told));
+        self.inner.set_read_timeout(shorter(wait))
     }
 
-    fn set_write_timeout(&self, dur: Option<Duration>) -> io::Result<()> {
-        self.inner.set_write_timeout(shorter(dur))
+    fn set_write_timeout(&self, wait: Option<Duration>) -> io::Result<()> {
+        self.inner.set_write_timeout(shorter(wait))
     }
 
     fn try_clone(&self) -> io::Result<QuickStream<'a, S>> {
@@ -110,14 +110,14 @@ impl<'a, S: OpenStream> OpenStream for QuickStream<'a, S> {
 }
 
 impl<S: Read> Read for QuickStream<'_, S> {
-    fn read(&mut self, buf: &mut [u8]) -> io::Result<usize> {
-        self.inner.read(buf)
+    fn read(&mut self, room: &mut [u8]) -> io::Result<usize> {
+        self.inner.read(room)
     }
 }
 
 impl<S: Write> Write for QuickStream<'_, S> {
-    fn write(&mut self, buf: &[u8]) -> io::Result<usize> {
-        self.inner.write(buf)
+    fn write(&mut self, bytes: &[u8]) -> io::Result<usize> {
+        self.inner.write(bytes)
     }
 
     fn flush(&mut self) -> io::Result<()> {
