@@ -1,9 +1,11 @@
 //! Serves requests on four threads, which end their spans on passes of one processor, and prints
 //! what became of the spans: first a simple processor, which hands over each span at its end, then a
-//! batch processor, whose worker hands them over in batches on a thread of its own.
+//! batch processor, whose worker hands them over in batches on a thread of its own. Last, spans
+//! through the queue of such a processor, driven by hand.
 #![tactic(auto)]
 
 mod balance;
+mod by_hand;
 mod requests;
 mod service;
 mod simple;
@@ -24,5 +26,7 @@ fn main(rt: HostRuntime) -> Result<()> {
     writeln!(output, "batch processor")?;
     let accounts = service::run::<Brand, HostRuntime>(rt, alloc, BatchBlank::new())?;
     balance::write_balance(&mut output, service::SPANS, accounts.desk.totals())?;
-    Ok(())
+
+    writeln!(output, "queue by hand")?;
+    by_hand::write_batches(alloc, &mut output)
 }

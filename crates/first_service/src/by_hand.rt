@@ -1,4 +1,4 @@
-//! The spans of a checkout, through a queue that is too short for them.
+//! The spans of a checkout, through a queue that is driven by hand and too short for them.
 use anyhow::{Context, Result};
 use std::alloc::Global;
 use std::io::{self, Write};
@@ -56,7 +56,7 @@ fn ended_spans(alloc: Global, count: u8) -> Result<Vec<SpanData>, OutOfMemory> {
     Ok(spans)
 }
 
-/// Queues the spans, takes all batches and hands them on, and prints what came of each span.
+/// Queues the spans, takes all batches and hands them on, and writes what came of each span.
 fn drive<W: Write>(mut desk: Desk, spans: Vec<SpanData>, output: &mut W) -> io::Result<()> {
     for span in spans {
         writeln!(output, "{:?}", desk.admit(span))?;
@@ -77,8 +77,8 @@ fn drive<W: Write>(mut desk: Desk, spans: Vec<SpanData>, output: &mut W) -> io::
     Ok(())
 }
 
-/// Prints what becomes of three spans in a queue for two, with one to a batch.
-pub fn print_batches<W: Write>(alloc: Global, output: &mut W) -> Result<()> {
+/// Writes what becomes of three spans in a queue for two, with one to a batch.
+pub fn write_batches<W: Write>(alloc: Global, output: &mut W) -> Result<()> {
     let config = DeskConfig {
         queue: 2,
         batch: 1,
