@@ -1,11 +1,11 @@
 //! What requests are answered, line by line of the collector's table, and replies that are written.
 
 use crate::equal::{assert_equal, assert_equal_at};
-use crate::fixture::{repeated, wire};
+use crate::fixture::{TYPE, in_parts, repeated, reply_text, wire};
+use crate::posts::read_way;
 use otlp_http::FailingCalls;
 use otlp_serve::{
-    Counted, FaultWrite, HeadLimits, HttpFault, PostFault, PostReply, ReplyStatus, Stopped,
-    read_post, write_reply,
+    Counted, FaultWrite, HttpFault, PostFault, PostReply, ReplyStatus, Stopped, write_reply,
 };
 use std::alloc::Global;
 use std::process::Abort;
@@ -13,8 +13,8 @@ use std::process::Abort;
 /// What a text is answered, so long as the body isn't looked into: nothing, why it is refused, or
 /// that it is taken.
 fn answer_to(rt: &impl Abort, alloc: Global, text: &[u8]) -> Option<PostReply> {
-    let mut wire = wire(rt, alloc, text, 65_536, FailingCalls::Never);
-    match read_post(alloc, alloc, &mut wire, &HeadLimits::default()) {
+    let (answer, _) = read_way(rt, alloc, alloc, text, in_parts(65_536));
+    match answer {
         Ok(post) => Some(
             post.refusal().unwrap_or(PostReply {
                 status: ReplyStatus::Ok,
@@ -38,9 +38,6 @@ fn assert_answer(rt: &impl Abort, alloc: Global, start: &str, fields: &str, stat
 
 /// The first line of a request that is taken.
 const POST: &str = "POST /v1/traces HTTP/1.1";
-
-/// The type of a body that is taken.
-const TYPE: &str = "Content-Type: application/x-protobuf\r\n";
 
 #[test]
 fn a_request_that_has_not_come_is_not_answered(rt: HostRuntime) {
@@ -206,80 +203,80 @@ fn assert_writes(
     assert_equal_at(rt, found, wanted, (reply, failing));
 }
 
-/// Checks that a reply is written as this first line and these last fields.
-fn assert_written(rt: &impl Abort, alloc: Global, reply: PostReply, start: &str, fields: &str) {
-    let common = "Content-Type: application/x-protobuf\r\nContent-Length: 0\r\n";
-    let text = format!(in alloc; "HTTP/1.1 {start}\r\n{common}Connection: close\r\n{fields}\r\n");
-    let text = text.expect(rt, "memory");
+/// Checks what a status is told by, and what is written of a reply that has it, asks for this wait
+/// in seconds and ends in these fields.
+fn assert_written(
+    rt: &impl Abort,
+    alloc: Global,
+    status: (ReplyStatus, u16, &str),
+    retry_after: Option<u64>,
+    fields: &str,
+) {
+    let (status, code, reason) = status;
+    assert_equal_at(rt, (status.code(), status.reason()), (code, reason), code);
+    let text = reply_text(rt, alloc, code, reason, fields);
+    let reply = PostReply {
+        status,
+        retry_after,
+    };
+    let whole = (Ok(()), 0, text.as_bytes());
+    assert_writes(rt, alloc, reply, (1, FailingCalls::Never), whole);
+    assert_writes(rt, alloc, reply, (7, FailingCalls::Never), whole);
     // The last wire would fail a second write.
-    let wires = [
-        (1, FailingCalls::Never),
-        (7, FailingCalls::Never),
-        (65_536, FailingCalls::From(1)),
-    ];
-    for wire_of in wires {
-        let wanted = (Ok(()), 0, text.as_bytes());
-        assert_writes(rt, alloc, reply, wire_of, wanted);
-    }
+    assert_writes(rt, alloc, reply, (65_536, FailingCalls::From(1)), whole);
 }
 
 #[test]
-fn a_reply_has_its_status(rt: HostRuntime) {
-    let rows = [
-        (ReplyStatus::Ok, "200 OK", ""),
-        (ReplyStatus::BadRequest, "400 Bad Request", ""),
-        (ReplyStatus::NotFound, "404 Not Found", ""),
-        (
-            ReplyStatus::MethodNotAllowed,
-            "405 Method Not Allowed",
-            "Allow: POST\r\n",
-        ),
-        (ReplyStatus::ContentTooLarge, "413 Content Too Large", ""),
-        (
-            ReplyStatus::UnsupportedMediaType,
-            "415 Unsupported Media Type",
-            "",
-        ),
-        (ReplyStatus::TooManyRequests, "429 Too Many Requests", ""),
-        (
-            ReplyStatus::RequestHeaderFieldsTooLarge,
-            "431 Request Header Fields Too Large",
-            "",
-        ),
-        (ReplyStatus::BadGateway, "502 Bad Gateway", ""),
-        (
-            ReplyStatus::ServiceUnavailable,
-            "503 Service Unavailable",
-            "",
-        ),
-        (ReplyStatus::GatewayTimeout, "504 Gateway Timeout", ""),
-    ];
-    for (status, start, fields) in rows {
-        let reply = PostReply {
-            status,
-            retry_after: None,
-        };
-        assert_written(&rt, rt.alloc(), reply, start, fields);
-    }
-}
-
-#[test]
-fn a_reply_may_ask_for_a_wait(rt: HostRuntime) {
-    let busy = (ReplyStatus::ServiceUnavailable, "503 Service Unavailable");
-    let other = (ReplyStatus::MethodNotAllowed, "405 Method Not Allowed");
+fn a_reply_has_its_status_and_its_wait(rt: HostRuntime) {
+    let fields = (
+        ReplyStatus::RequestHeaderFieldsTooLarge,
+        431,
+        "Request Header Fields Too Large",
+    );
+    let busy = (ReplyStatus::ServiceUnavailable, 503, "Service Unavailable");
+    let other = (ReplyStatus::MethodNotAllowed, 405, "Method Not Allowed");
     let most = "Retry-After: 18446744073709551615\r\n";
     let both = "Allow: POST\r\nRetry-After: 18446744073709551615\r\n";
-    for ((status, start), seconds, fields) in [
-        (busy, 1, "Retry-After: 1\r\n"),
-        (busy, 0, "Retry-After: 0\r\n"),
-        (busy, u64::MAX, most),
-        (other, u64::MAX, both),
-    ] {
-        let reply = PostReply {
-            status,
-            retry_after: Some(seconds),
-        };
-        assert_written(&rt, rt.alloc(), reply, start, fields);
+    let rows = [
+        ((ReplyStatus::Ok, 200, "OK"), None, ""),
+        ((ReplyStatus::BadRequest, 400, "Bad Request"), None, ""),
+        ((ReplyStatus::NotFound, 404, "Not Found"), None, ""),
+        (other, None, "Allow: POST\r\n"),
+        (
+            (ReplyStatus::ContentTooLarge, 413, "Content Too Large"),
+            None,
+            "",
+        ),
+        (
+            (
+                ReplyStatus::UnsupportedMediaType,
+                415,
+                "Unsupported Media Type",
+            ),
+            None,
+            "",
+        ),
+        (
+            (ReplyStatus::TooManyRequests, 429, "Too Many Requests"),
+            None,
+            "",
+        ),
+        (fields, None, ""),
+        ((ReplyStatus::BadGateway, 502, "Bad Gateway"), None, ""),
+        (busy, None, ""),
+        (
+            (ReplyStatus::GatewayTimeout, 504, "Gateway Timeout"),
+            None,
+            "",
+        ),
+        // Waits.
+        (busy, Some(1), "Retry-After: 1\r\n"),
+        (busy, Some(0), "Retry-After: 0\r\n"),
+        (busy, Some(u64::MAX), most),
+        (other, Some(u64::MAX), both),
+    ];
+    for (status, wait, fields) in rows {
+        assert_written(&rt, rt.alloc(), status, wait, fields);
     }
 }
 
@@ -324,16 +321,4 @@ fn a_reply_goes_to_a_writer_of_std(rt: HostRuntime) {
     };
     assert_equal(&rt, write_reply(&mut output, reply), Ok(()));
     assert_equal(&rt, output.into_inner().as_slice(), TAKEN.as_bytes());
-}
-
-#[test]
-fn a_status_has_its_reason(rt: HostRuntime) {
-    let statuses = [
-        (ReplyStatus::Ok, 200, "OK"),
-        (ReplyStatus::ContentTooLarge, 413, "Content Too Large"),
-        (ReplyStatus::TooManyRequests, 429, "Too Many Requests"),
-    ];
-    for (status, code, reason) in statuses {
-        assert_equal_at(&rt, (status.code(), status.reason()), (code, reason), code);
-    }
 }

@@ -1,13 +1,12 @@
-//! Bodies of replies, and replies that are cut, fail or find no memory.
+//! Bodies of replies, and replies that are cut or fail.
 
-use crate::equal::{assert_equal, assert_equal_at};
+use crate::chunks;
+use crate::equal::assert_equal;
 use crate::fixture::{
-    BODY, HEAD, REPLY, Told, assert_read, assert_read_within, body_of, read, repeated, told, wire,
+    BODY, HEAD, REPLY, assert_read, assert_reply, failing, in_parts, joined, read, repeated, told,
 };
-use failing_allocator::FailingAllocator;
-use linked_list_allocator::LocalHeap;
-use otlp_http::{Counted, FailingCalls, FaultRead, HeadLimits, HttpFault, read_reply};
-use std::alloc::{Allocator, Global};
+use otlp_http::{Counted, HeadLimits, HttpFault};
+use std::alloc::Global;
 use std::process::Abort;
 
 /// Checks why a reply with these fields has no body.
@@ -95,21 +94,15 @@ fn a_length_is_one_number(rt: HostRuntime) {
     }
 }
 
-/// Checks that a reply with these fields and so many bytes has them as its body, or none for this
-/// cause.
-fn assert_sized(
-    rt: &impl Abort,
-    alloc: Global,
-    fields: &str,
-    size: usize,
-    cause: Option<HttpFault>,
-) {
-    let front = format!(in alloc; "HTTP/1.1 200 OK\r\n{fields}\r\n").expect(rt, "memory");
-    let text = repeated(rt, alloc, front.as_str(), "b", size, "");
-    let body = repeated(rt, alloc, "", "b", size, "");
-    let wanted = match cause {
-        None => Ok(body.as_bytes()),
-        Some(cause) => Err(cause),
+/// Checks that a reply with this head and so many bytes has them as its body, or none for there
+/// being more than 65,536.
+fn assert_sized(rt: &impl Abort, alloc: Global, head: &str, size: usize) {
+    let text = repeated(rt, alloc, head, "b", size, "");
+    let body = text.as_bytes().get(head.len()..).unwrap_or(&[]);
+    let wanted = if size <= 65_536 {
+        Ok(body)
+    } else {
+        Err(HttpFault::TooLarge)
     };
     assert_read(rt, alloc, text.as_bytes(), Ok((200, None, wanted)));
 }
@@ -117,123 +110,78 @@ fn assert_sized(
 #[test]
 fn a_body_has_a_limit(rt: HostRuntime) {
     let alloc = rt.alloc();
-    let rows = [
-        ("", 65_536, None),
-        ("", 65_537, Some(HttpFault::TooLarge)),
-        ("Content-Length: 65536\r\n", 65_536, None),
-    ];
-    for (fields, size, cause) in rows {
-        assert_sized(&rt, alloc, fields, size, cause);
-    }
+    let sized = "HTTP/1.1 200 OK\r\nContent-Length: 65536\r\n\r\n";
+    assert_sized(&rt, alloc, sized, 65_536);
+    assert_sized(&rt, alloc, "HTTP/1.1 200 OK\r\n\r\n", 65_536);
+    assert_sized(&rt, alloc, "HTTP/1.1 200 OK\r\n\r\n", 65_537);
     let over = b"HTTP/1.1 200 OK\r\nContent-Length: 65537\r\n\r\nbbbbbbbbb";
-    let wanted = (
-        Ok((200, None, Err(HttpFault::TooLarge))),
-        b"bbbbbbbbb".as_slice(),
-    );
-    assert_read_within(&rt, alloc, over, (65_536, 16_384, 64, 65_536), wanted);
+    let too_large = Ok((200, None, Err(HttpFault::TooLarge)));
+    assert_reply(&rt, alloc, over, in_parts(65_536), (too_large, (9, 0)));
+}
+
+/// Checks that each front of a reply with this head has ended, and that the whole is read.
+fn assert_cut(rt: &impl Abort, alloc: Global, head: &[u8]) {
+    let text = joined(rt, alloc, head, BODY);
+    for size in 0..text.len() {
+        let front = text.get(..size).expect(rt, "a front");
+        let wanted = if size < head.len() {
+            Err(HttpFault::Ended)
+        } else {
+            Ok((200, None, Err(HttpFault::Ended)))
+        };
+        assert_read(rt, alloc, front, wanted);
+    }
+    assert_read(rt, alloc, &text, Ok((200, None, Ok(BODY))));
 }
 
 #[test]
-fn a_body_that_is_cut_has_ended(rt: HostRuntime) {
-    for size in HEAD.len()..REPLY.len() {
-        let front = REPLY.get(..size).expect(&rt, "a front");
-        assert_read(
-            &rt,
-            rt.alloc(),
-            front,
-            Ok((200, None, Err(HttpFault::Ended))),
-        );
-    }
+fn a_reply_that_is_cut_has_ended(rt: HostRuntime) {
+    assert_cut(&rt, rt.alloc(), HEAD);
+    // Behind empty lines, and with lines that end by a line feed alone.
+    assert_cut(&rt, rt.alloc(), b"\r\n\nHTTP/1.0 200\nContent-Length:7\n\n");
 }
 
-/// What a reply is read as whose bytes take so many reads, where the one with this number fails:
-/// the head takes a read a byte.
-fn wanted_at(at: u64, reads: u64) -> (Told<'static>, u64) {
-    if at < 38 {
-        return (Err(HttpFault::Device), 1);
+/// Checks what a reply is read as whose bytes take so many reads, where each of these fails in turn:
+/// its head takes a read a byte.
+fn assert_stops(
+    rt: &impl Abort,
+    alloc: Global,
+    head: &[u8],
+    body: &[u8],
+    most: usize,
+    reads: usize,
+) {
+    let text = joined(rt, alloc, head, body);
+    for at in 0..reads {
+        let wanted = if at < head.len() {
+            Err(HttpFault::Device)
+        } else {
+            Ok((200, None, Err(HttpFault::Device)))
+        };
+        let rest = (text.len().saturating_sub(at), 1);
+        assert_reply(rt, alloc, &text, failing(most, at as u64), (wanted, rest));
     }
-    if at < reads {
-        return (Ok((200, None, Err(HttpFault::Device))), 1);
-    }
-    (Ok((200, None, Ok(BODY))), 0)
-}
-
-/// Reads a reply by a wire that fails one call, and checks what comes of it.
-fn assert_fails(rt: &impl Abort, alloc: Global, most: usize, at: u64, wanted: (Told<'_>, u64)) {
-    let mut wire = wire(rt, alloc, REPLY, most, FailingCalls::Once(at));
-    let answer = read(alloc, &mut wire);
-    assert_equal_at(rt, (told(&answer), FaultRead::failures(&wire)), wanted, at);
+    let whole = (Ok((200, None, Ok(BODY))), (0, 0));
+    assert_reply(rt, alloc, &text, failing(most, reads as u64), whole);
 }
 
 #[test]
 fn a_reply_stops_at_each_read_that_fails(rt: HostRuntime) {
-    for (most, reads) in [(1, 45), (65_536, 39)] {
-        for at in 0..=reads {
-            assert_fails(&rt, rt.alloc(), most, at, wanted_at(at, reads));
-        }
-    }
+    let alloc = rt.alloc();
+    assert_stops(&rt, alloc, HEAD, BODY, 1, 45);
+    assert_stops(&rt, alloc, HEAD, BODY, 65_536, 39);
+    assert_stops(&rt, alloc, chunks::REPLY, chunks::CHUNKS, 1, 93);
 }
 
 #[test]
 fn a_reader_of_std_is_read(rt: HostRuntime) {
-    let alloc = rt.alloc();
     let mut reader = Counted::new(REPLY);
-    let reply = read_reply(alloc, alloc, &mut reader, &HeadLimits::default());
+    let reply = read(
+        &rt,
+        rt.alloc(),
+        rt.alloc(),
+        &mut reader,
+        &HeadLimits::default(),
+    );
     assert_equal(&rt, told(&reply), Ok((200, None, Ok(BODY))));
-}
-
-/// The body of a reply that is read with this memory, or why there is none.
-fn read_with<A: Allocator + Copy>(
-    rt: &impl Abort,
-    alloc: A,
-    global: Global,
-) -> Result<Vec<u8, A>, HttpFault> {
-    let mut wire = wire(rt, global, REPLY, 64, FailingCalls::Never);
-    match read_reply(alloc, global, &mut wire, &HeadLimits::default()) {
-        Ok(reply) => reply.body,
-        Err(fault) => Err(fault),
-    }
-}
-
-/// Reads a reply while one call for memory is refused. Answers whether it was.
-fn is_refused(rt: &impl Abort, alloc: Global, fail_index: u64) -> bool {
-    let heap = LocalHeap::new(alloc, 65_536).expect(rt, "memory");
-    let scarce = FailingAllocator::new(&heap, fail_index);
-    let read = read_with(rt, &scarce, alloc);
-    let wanted = if scarce.has_failed() {
-        Err(HttpFault::OutOfMemory)
-    } else {
-        Ok(BODY)
-    };
-    assert_equal_at(rt, body_of(&read), wanted, fail_index);
-    wanted.is_err()
-}
-
-#[test]
-fn each_refusal_of_memory_is_told(rt: HostRuntime) {
-    let mut refused = 0u64;
-    for fail_index in 0..64u64 {
-        if is_refused(&rt, rt.alloc(), fail_index) {
-            refused = refused.saturating_add(1);
-        }
-    }
-    assert_equal(&rt, refused >= 2, true);
-    assert_equal(&rt, is_refused(&rt, rt.alloc(), 64), false);
-}
-
-#[test]
-fn a_fault_is_told(rt: HostRuntime) {
-    let faults = [
-        (HttpFault::Ended, "the message ended early"),
-        (HttpFault::Device, "the device failed"),
-        (HttpFault::BadHead, "bad head"),
-        (HttpFault::BadLength, "bad length"),
-        (HttpFault::BadChunk, "bad chunk"),
-        (HttpFault::TooLarge, "too large"),
-        (HttpFault::OutOfMemory, "out of memory"),
-    ];
-    for (fault, text) in faults {
-        let told = format!(in rt.alloc(); "{fault}").expect(&rt, "memory");
-        assert_equal(&rt, told.as_str(), text);
-    }
 }

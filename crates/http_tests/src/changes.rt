@@ -1,9 +1,9 @@
 //! Replies and requests in which a seeded generator has changed bytes.
 
 use crate::equal::assert_equal;
-use crate::fixture::{BODY, Told, joined, read, told, wire};
+use crate::fixture::{BODY, Told, in_parts, joined, read_text, told};
 use crate::posts;
-use otlp_http::{FailingCalls, HttpFault};
+use otlp_http::HttpFault;
 use otlp_serve::PostFault;
 use rand_core::Rng;
 use rand_pcg::Pcg32;
@@ -54,13 +54,8 @@ fn is_named(answer: Told<'_>) -> bool {
 
 /// Checks that a text is read the same by a wire that gives three bytes a call.
 fn assert_same_in_parts(rt: &impl Abort, alloc: Global, text: &[u8]) {
-    let mut whole = wire(rt, alloc, text, 65_536, FailingCalls::Never);
-    let mut parts = wire(rt, alloc, text, 3, FailingCalls::Never);
-    let answer = read(alloc, &mut whole);
-    let other = read(alloc, &mut parts);
+    let answer = read_text(rt, alloc, text, 3);
     assert_equal(rt, is_named(told(&answer)), true);
-    assert_equal(rt, told(&answer), told(&other));
-    assert_equal(rt, whole.left().len(), parts.left().len());
 }
 
 #[test]
@@ -103,16 +98,12 @@ fn is_named_post(answer: posts::Told<'_>, taken: &[u8], is_sized: bool) -> bool 
 
 /// Checks that a request is read the same by a wire that gives three bytes a call.
 fn assert_post_same_in_parts(rt: &impl Abort, alloc: Global, text: &[u8], is_sized: bool) {
-    let mut whole = wire(rt, alloc, text, 65_536, FailingCalls::Never);
-    let mut parts = wire(rt, alloc, text, 3, FailingCalls::Never);
-    let answer = posts::read(alloc, &mut whole);
-    let other = posts::read(alloc, &mut parts);
-    let taken = text.len().saturating_sub(whole.left().len());
-    let taken = text.get(..taken).unwrap_or(&[]);
-    let is_named = is_named_post(posts::told(&answer), taken, is_sized);
-    assert_equal(rt, is_named, true);
-    assert_equal(rt, posts::told(&answer), posts::told(&other));
-    assert_equal(rt, whole.left().len(), parts.left().len());
+    let (answer, rest) = posts::read_way(rt, alloc, alloc, text, in_parts(65_536));
+    let (left, _) = rest;
+    let taken = text.get(..text.len().saturating_sub(left)).unwrap_or(&[]);
+    let told = posts::told(&answer);
+    assert_equal(rt, is_named_post(told, taken, is_sized), true);
+    posts::assert_post(rt, alloc, text, in_parts(3), (told, rest));
 }
 
 #[test]

@@ -1,87 +1,44 @@
 //! Bodies in chunks, of replies and of requests.
 
-use crate::equal::{assert_equal, assert_equal_at};
-use crate::fixture::{BODY, Told, body_of, joined, repeated, told, wire};
-use failing_allocator::FailingAllocator;
-use linked_list_allocator::LocalHeap;
-use otlp_http::{FailingCalls, FaultRead, HeadLimits, HttpFault, read_reply};
-use otlp_serve::{PostFault, read_post};
-use std::alloc::{Allocator, Global};
+use crate::fixture::{BODY, Way, assert_reply, in_parts, joined, repeated, within};
+use crate::posts::assert_post;
+use otlp_http::{HeadLimits, HttpFault};
+use otlp_serve::PostFault;
+use std::alloc::Global;
 use std::process::Abort;
 
 /// The head of a reply with a body in chunks: 47 bytes.
-const REPLY: &[u8] = b"HTTP/1.1 200 OK\r\nTransfer-Encoding: chunked\r\n\r\n";
+pub(crate) const REPLY: &[u8] = b"HTTP/1.1 200 OK\r\nTransfer-Encoding: chunked\r\n\r\n";
 
 /// The head of a request with one.
-const POST: &[u8] = b"POST / HTTP/1.1\r\nTransfer-Encoding: Chunked\r\n\r\n";
+pub(crate) const POST: &[u8] = b"POST / HTTP/1.1\r\nTransfer-Encoding: Chunked\r\n\r\n";
 
 /// A body of two chunks, with an extension, blanks, leading zeros and trailers: 46 bytes.
-const CHUNKS: &[u8] =
+pub(crate) const CHUNKS: &[u8] =
     b"3;a=\"b\"\r\n\x0a\x05\x08\r\n0004 \t\r\n\x02\x12\x01\x78\r\n000;z\r\nA: b\nC:\r\n\r\n";
 
 /// What was read of a body, and how many bytes were left.
 type Found<'a> = (Result<&'a [u8], HttpFault>, usize);
 
-/// Checks what these chunks are as the body of a reply, by a wire that gives at most so many bytes a
-/// call, within these limits of a head's bytes, of its fields and of a body's bytes.
-fn assert_reply(
-    rt: &impl Abort,
-    alloc: Global,
-    chunks: &[u8],
-    most: (usize, usize, usize, usize),
-    wanted: Found<'_>,
-) {
-    let (most, head, fields, body) = most;
-    assert!(rt; fields <= 64);
-    let text = joined(rt, alloc, REPLY, chunks);
-    let mut wire = wire(rt, alloc, &text, most, FailingCalls::Never);
-    let limits = HeadLimits { head, fields, body };
-    let answer = read_reply(alloc, alloc, &mut wire, &limits);
-    let (wanted, left) = wanted;
-    let found = (told(&answer), wire.left().len());
-    assert_equal_at(rt, found, (Ok((200, None, wanted)), left), (most, chunks));
-}
-
-/// Checks the same of a request.
-fn assert_post(
-    rt: &impl Abort,
-    alloc: Global,
-    chunks: &[u8],
-    most: (usize, usize, usize, usize),
-    wanted: Found<'_>,
-) {
-    let (most, head, fields, body) = most;
-    assert!(rt; fields <= 64);
-    let text = joined(rt, alloc, POST, chunks);
-    let mut wire = wire(rt, alloc, &text, most, FailingCalls::Never);
-    let limits = HeadLimits { head, fields, body };
-    let answer = read_post(alloc, alloc, &mut wire, &limits);
-    let found = match &answer {
-        Ok(post) => Ok(post.body.as_slice()),
-        Err(PostFault::Body(fault)) => Err(*fault),
-        Err(PostFault::Head(_)) => Err(HttpFault::BadHead),
+/// Checks what chunks that come this way are, as the body of a reply and as that of a request.
+fn assert_both(rt: &impl Abort, alloc: Global, chunks: &[u8], way: Way, wanted: Found<'_>) {
+    let (body, left) = wanted;
+    let reply = joined(rt, alloc, REPLY, chunks);
+    assert_reply(rt, alloc, &reply, way, (Ok((200, None, body)), (left, 0)));
+    let post = joined(rt, alloc, POST, chunks);
+    let wanted = match body {
+        Ok(body) => Ok(("POST", "/", body)),
+        Err(fault) => Err(PostFault::Body(fault)),
     };
-    assert_equal_at(rt, (found, wire.left().len()), wanted, (most, chunks));
+    assert_post(rt, alloc, &post, way, (wanted, (left, 0)));
 }
 
-/// Checks what these chunks are within these limits, in parts of several sizes, as the body of a
-/// reply and as that of a request.
-fn assert_within(
-    rt: &impl Abort,
-    alloc: Global,
-    chunks: &[u8],
-    limits: (usize, usize, usize),
-    wanted: Found<'_>,
-) {
-    let (head, fields, body) = limits;
+/// Checks what these chunks are, in parts of several sizes.
+fn assert_chunks(rt: &impl Abort, alloc: Global, chunks: &[u8], wanted: Found<'_>) {
     for most in [1usize, 2, 3, 4_096] {
-        assert_reply(rt, alloc, chunks, (most, head, fields, body), wanted);
-        assert_post(rt, alloc, chunks, (most, head, fields, body), wanted);
+        assert_both(rt, alloc, chunks, in_parts(most), wanted);
     }
 }
-
-/// Limits of a head's bytes, of its fields and of a body's bytes, as they are by default.
-const USUAL: (usize, usize, usize) = (16_384, 64, 65_536);
 
 #[test]
 fn the_data_of_chunks_is_the_body(rt: HostRuntime) {
@@ -105,7 +62,7 @@ fn the_data_of_chunks_is_the_body(rt: HostRuntime) {
         ),
     ];
     for (chunks, body, left) in rows {
-        assert_within(&rt, rt.alloc(), chunks, USUAL, (Ok(body), left));
+        assert_chunks(&rt, rt.alloc(), chunks, (Ok(body), left));
     }
 }
 
@@ -113,7 +70,7 @@ fn the_data_of_chunks_is_the_body(rt: HostRuntime) {
 fn chunks_that_are_cut_have_ended(rt: HostRuntime) {
     for size in 0..CHUNKS.len() {
         let front = CHUNKS.get(..size).expect(&rt, "a front");
-        assert_within(&rt, rt.alloc(), front, USUAL, (Err(HttpFault::Ended), 0));
+        assert_chunks(&rt, rt.alloc(), front, (Err(HttpFault::Ended), 0));
     }
 }
 
@@ -141,13 +98,7 @@ fn a_line_that_is_none_is_bad(rt: HostRuntime) {
         (b"3\r\nabc\r\n00000000000000000", 0),
     ];
     for (chunks, left) in rows {
-        assert_within(
-            &rt,
-            rt.alloc(),
-            chunks,
-            USUAL,
-            (Err(HttpFault::BadChunk), left),
-        );
+        assert_chunks(&rt, rt.alloc(), chunks, (Err(HttpFault::BadChunk), left));
     }
 }
 
@@ -162,13 +113,7 @@ fn data_ends_by_cr_lf(rt: HostRuntime) {
         (b"3\r\nabc0", 0),
     ];
     for (chunks, left) in rows {
-        assert_within(
-            &rt,
-            rt.alloc(),
-            chunks,
-            USUAL,
-            (Err(HttpFault::BadChunk), left),
-        );
+        assert_chunks(&rt, rt.alloc(), chunks, (Err(HttpFault::BadChunk), left));
     }
 }
 
@@ -182,17 +127,12 @@ fn trailers_are_fields(rt: HostRuntime) {
         (b"0\r\nA b", 0),
     ];
     for (chunks, left) in rows {
-        assert_within(
-            &rt,
-            rt.alloc(),
-            chunks,
-            USUAL,
-            (Err(HttpFault::BadChunk), left),
-        );
+        assert_chunks(&rt, rt.alloc(), chunks, (Err(HttpFault::BadChunk), left));
     }
 }
 
-/// Checks what a text is, that is a piece so many times between two others, within these limits.
+/// Checks what a text is, that is a piece so many times between two others, within these limits of
+/// a head's bytes, of its fields and of a body's bytes.
 fn assert_repeated(
     rt: &impl Abort,
     alloc: Global,
@@ -203,23 +143,14 @@ fn assert_repeated(
     let (front, piece, count, end) = text;
     let text = repeated(rt, alloc, front, piece, count, end);
     let (head, fields, body) = limits;
+    let limits = HeadLimits { head, fields, body };
     for most in [1usize, 4_096] {
-        assert_reply(
-            rt,
-            alloc,
-            text.as_bytes(),
-            (most, head, fields, body),
-            wanted,
-        );
-        assert_post(
-            rt,
-            alloc,
-            text.as_bytes(),
-            (most, head, fields, body),
-            wanted,
-        );
+        assert_both(rt, alloc, text.as_bytes(), within(most, limits), wanted);
     }
 }
+
+/// Limits of a head's bytes, of its fields and of a body's bytes, as they are by default.
+const USUAL: (usize, usize, usize) = (16_384, 64, 65_536);
 
 #[test]
 fn lines_and_trailers_have_the_limits_of_heads(rt: HostRuntime) {
@@ -274,92 +205,4 @@ fn many_chunks_have_a_limit_together(rt: HostRuntime) {
     for (text, limits, wanted) in rows {
         assert_repeated(&rt, alloc, text, limits, wanted);
     }
-}
-
-/// What a reply is read as whose bytes come one a read, where the read with this number fails.
-fn wanted_at(at: u64) -> (Told<'static>, u64) {
-    if at < 47 {
-        return (Err(HttpFault::Device), 1);
-    }
-    if at < 93 {
-        return (Ok((200, None, Err(HttpFault::Device))), 1);
-    }
-    (Ok((200, None, Ok(BODY))), 0)
-}
-
-/// Reads a reply by a wire that fails one call, and checks what comes of it.
-fn assert_fails(rt: &impl Abort, alloc: Global, at: u64) {
-    let text = joined(rt, alloc, REPLY, CHUNKS);
-    let mut wire = wire(rt, alloc, &text, 1, FailingCalls::Once(at));
-    let answer = read_reply(alloc, alloc, &mut wire, &HeadLimits::default());
-    let found = (told(&answer), FaultRead::failures(&wire));
-    assert_equal_at(rt, found, wanted_at(at), at);
-}
-
-#[test]
-fn chunks_stop_at_each_read_that_fails(rt: HostRuntime) {
-    assert_equal(&rt, (REPLY.len(), CHUNKS.len()), (47, 46));
-    for at in 0..=93u64 {
-        assert_fails(&rt, rt.alloc(), at);
-    }
-}
-
-/// The body in chunks of a reply that is read with this memory, or why there is none.
-fn reply_with<A: Allocator + Copy>(
-    rt: &impl Abort,
-    alloc: A,
-    global: Global,
-) -> Result<Vec<u8, A>, HttpFault> {
-    let text = joined(rt, global, REPLY, CHUNKS);
-    let mut wire = wire(rt, global, &text, 64, FailingCalls::Never);
-    match read_reply(alloc, global, &mut wire, &HeadLimits::default()) {
-        Ok(reply) => reply.body,
-        Err(fault) => Err(fault),
-    }
-}
-
-/// The same of a request.
-fn post_with<A: Allocator + Copy>(
-    rt: &impl Abort,
-    alloc: A,
-    global: Global,
-) -> Result<Vec<u8, A>, HttpFault> {
-    let text = joined(rt, global, POST, CHUNKS);
-    let mut wire = wire(rt, global, &text, 64, FailingCalls::Never);
-    match read_post(alloc, global, &mut wire, &HeadLimits::default()) {
-        Ok(post) => Ok(post.body),
-        Err(PostFault::Head(fault) | PostFault::Body(fault)) => Err(fault),
-    }
-}
-
-/// Reads a reply, or a request, while one call for memory is refused. Answers whether it was.
-fn is_refused(rt: &impl Abort, alloc: Global, is_post: bool, fail_index: u64) -> bool {
-    let heap = LocalHeap::new(alloc, 65_536).expect(rt, "memory");
-    let scarce = FailingAllocator::new(&heap, fail_index);
-    let read = if is_post {
-        post_with(rt, &scarce, alloc)
-    } else {
-        reply_with(rt, &scarce, alloc)
-    };
-    let wanted = if scarce.has_failed() {
-        Err(HttpFault::OutOfMemory)
-    } else {
-        Ok(BODY)
-    };
-    assert_equal_at(rt, body_of(&read), wanted, fail_index);
-    wanted.is_err()
-}
-
-#[test]
-fn each_refusal_of_memory_for_chunks_is_told(rt: HostRuntime) {
-    let mut refused = 0u64;
-    for fail_index in 0..64u64 {
-        for is_post in [false, true] {
-            if is_refused(&rt, rt.alloc(), is_post, fail_index) {
-                refused = refused.saturating_add(1);
-            }
-        }
-    }
-    assert_equal(&rt, refused >= 10, true);
-    assert_equal(&rt, is_refused(&rt, rt.alloc(), true, 64), false);
 }

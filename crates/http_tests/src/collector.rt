@@ -1,11 +1,10 @@
 //! What a collector answers, connection by connection.
 
 use crate::equal::{assert_equal, assert_equal_at};
-use crate::fixture::{joined, repeated, wire};
+use crate::fixture::{Rest, TYPE, joined, repeated, reply_text, rest_of, wire};
 use failing_allocator::FailingAllocator;
-use linked_list_allocator::LocalHeap;
 use otlp_collector::{Answered, Canned, CannedStatus, answer};
-use otlp_http::{FailingCalls, FaultRead};
+use otlp_http::FailingCalls;
 use otlp_serve::{HeadLimits, Stopped};
 use std::alloc::{Allocator, Global};
 use std::process::Abort;
@@ -19,21 +18,11 @@ const SPAN: &[u8] = &[
     0x0c, 0x0d, 0x0e, 0x0f, 0x10,
 ];
 
-/// The type of a body that is taken.
-const TYPE: &str = "Content-Type: application/x-protobuf\r\n";
-
 /// A request with this first line, these fields and this body.
 fn request(rt: &impl Abort, alloc: Global, start: &str, fields: &str, body: &[u8]) -> Vec<u8> {
     let size = body.len();
     let head = format!(in alloc; "{start} HTTP/1.1\r\n{fields}Content-Length: {size}\r\n\r\n");
     joined(rt, alloc, head.expect(rt, "memory").as_bytes(), body)
-}
-
-/// The whole reply that has this first line and these last fields.
-fn reply_text(rt: &impl Abort, alloc: Global, start: &str, fields: &str) -> String {
-    let common = "Content-Type: application/x-protobuf\r\nContent-Length: 0\r\n";
-    let text = format!(in alloc; "HTTP/1.1 {start}\r\n{common}Connection: close\r\n{fields}\r\n");
-    text.expect(rt, "memory")
 }
 
 /// The status that was answered, and how many groups of spans were taken, if any were.
@@ -48,165 +37,198 @@ fn told<A: Allocator>(answered: Answered<A>) -> Told {
     }
 }
 
-/// What a connection over which this text comes is answered within limits of so many bytes of a
-/// head and of a body, what was written, and how many bytes are left to read.
-fn answered(
+/// How a connection goes: limits of so many bytes of a head and of a body, the most bytes that its
+/// reader gives a call, which calls of its reader and of its writer fail, and a canned reply.
+#[derive(Clone, Copy)]
+struct Course {
+    head: usize,
+    body: usize,
+    most: usize,
+    reads: FailingCalls,
+    writes: FailingCalls,
+    canned: Option<Canned>,
+}
+
+/// Limits that are seldom reached, and calls that don't fail.
+const AMPLE: Course = Course {
+    head: 16_384,
+    body: 1_000_000,
+    most: 100,
+    reads: FailingCalls::Never,
+    writes: FailingCalls::Never,
+    canned: None,
+};
+
+/// What a connection over which this text comes is answered with this memory, or how many bytes of
+/// its reply were written before the writer failed; what was written; and what is left to read.
+fn answered<A: Allocator + Copy>(
+    rt: &impl Abort,
+    alloc: A,
+    global: Global,
+    text: &[u8],
+    course: Course,
+) -> (Result<Told, u64>, Vec<u8>, Rest) {
+    let limits = HeadLimits {
+        head: course.head,
+        body: course.body,
+        ..HeadLimits::default()
+    };
+    let mut reader = wire(rt, global, text, course.most, course.reads);
+    let mut writer = wire(rt, global, b"", 7, course.writes);
+    let canned = course.canned;
+    let told = match answer(alloc, global, &mut reader, &mut writer, &limits, canned) {
+        Ok(answered) => Ok(told(answered)),
+        Err(Stopped { sent }) => Err(sent),
+    };
+    let taken = Vec::from_slice(global, writer.taken()).expect(rt, "memory");
+    (told, taken, rest_of(rt, text, &reader))
+}
+
+/// Checks what a connection is answered over which this text comes, that nothing is written where
+/// it isn't, and what is left of the text.
+fn assert_served(
     rt: &impl Abort,
     alloc: Global,
     text: &[u8],
-    most: (usize, usize),
-    canned: Option<Canned>,
-) -> (Told, Vec<u8>, usize) {
-    let (head, body) = most;
-    let limits = HeadLimits {
-        head,
-        body,
-        ..HeadLimits::default()
-    };
-    let mut reader = wire(rt, alloc, text, 100, FailingCalls::Never);
-    let mut writer = wire(rt, alloc, b"", 7, FailingCalls::Never);
-    let served = answer(alloc, alloc, &mut reader, &mut writer, &limits, canned);
-    let told = told(served.expect(rt, "a whole reply"));
-    let taken = Vec::from_slice(alloc, writer.taken()).expect(rt, "memory");
-    (told, taken, reader.left().len())
+    course: Course,
+    wanted: (Told, Rest),
+) {
+    let (told, taken, rest) = answered(rt, alloc, alloc, text, course);
+    let (wanted, wanted_rest) = wanted;
+    let (status, _) = wanted;
+    assert_equal_at(rt, (told, rest), (Ok(wanted), wanted_rest), text);
+    assert_equal_at(rt, taken.is_empty(), status.is_none(), text);
 }
 
-/// Limits that are seldom reached.
-const AMPLE: (usize, usize) = (16_384, 1_000_000);
-
-/// Checks the status that a request is answered, and how many groups of spans were taken, if any
-/// were.
+/// Checks the status that a request is answered which carries so many bytes of the span, and how
+/// many groups of spans were taken, if any were.
 fn assert_answer(
     rt: &impl Abort,
     alloc: Global,
     start: &str,
     fields: &str,
-    body: &[u8],
+    size: usize,
     wanted: Told,
 ) {
+    let body = SPAN.get(..size).expect(rt, "a front");
     let text = request(rt, alloc, start, fields, body);
-    let (told, _, _) = answered(rt, alloc, &text, AMPLE, None);
-    assert_equal_at(rt, told, wanted, (start, fields));
+    assert_served(rt, alloc, &text, AMPLE, (wanted, (0, 0)));
 }
 
 #[test]
 fn a_request_is_answered_by_the_first_line_that_holds(rt: HostRuntime) {
-    let alloc = rt.alloc();
-    let cut = SPAN.get(..52).expect(&rt, "a front");
     let json = "Content-Type: application/json\r\n";
     let encoded = "Content-Type: application/x-protobuf\r\nContent-Encoding: gzip\r\n";
     let rows = [
-        ("POST /v1/traces", TYPE, SPAN, 200, Some(1)),
-        ("POST /v1/traces?a=b", TYPE, SPAN, 200, Some(1)),
-        ("POST /v1/traces", TYPE, b"".as_slice(), 200, Some(0)),
-        ("POST /v1/traces", TYPE, cut, 400, None),
-        ("GET /v1/traces", TYPE, SPAN, 405, None),
-        ("POST /v1/traces", json, SPAN, 415, None),
-        ("POST /v1/traces", encoded, SPAN, 415, None),
-        ("POST /v1/traces", "", SPAN, 415, None),
-        ("POST /x", TYPE, SPAN, 404, None),
-        ("GET /x", json, cut, 404, None),
+        ("POST /v1/traces", TYPE, 53, 200, Some(1)),
+        ("POST /v1/traces?a=b", TYPE, 53, 200, Some(1)),
+        ("POST /v1/traces", TYPE, 0, 200, Some(0)),
+        ("POST /v1/traces", TYPE, 52, 400, None),
+        ("GET /v1/traces", TYPE, 53, 405, None),
+        ("POST /v1/traces", json, 53, 415, None),
+        ("POST /v1/traces", encoded, 53, 415, None),
+        ("POST /v1/traces", "", 53, 415, None),
+        ("POST /x", TYPE, 53, 404, None),
+        ("GET /x", json, 52, 404, None),
     ];
-    for (start, fields, body, status, groups) in rows {
-        assert_answer(&rt, alloc, start, fields, body, (Some(status), groups));
+    for (start, fields, size, status, groups) in rows {
+        assert_answer(&rt, rt.alloc(), start, fields, size, (Some(status), groups));
     }
-}
-
-/// Checks that a connection over which this text comes is not answered.
-fn assert_unanswered(rt: &impl Abort, alloc: Global, text: &[u8]) {
-    let (told, taken, _) = answered(rt, alloc, text, AMPLE, None);
-    assert_equal_at(rt, (told, taken.len()), ((None, None), 0), text);
 }
 
 #[test]
-fn a_connection_that_ends_is_not_answered(rt: HostRuntime) {
-    let text = request(&rt, rt.alloc(), "POST /v1/traces", TYPE, SPAN);
+fn a_connection_that_ends_or_fails_is_not_answered(rt: HostRuntime) {
+    let alloc = rt.alloc();
+    let text = request(&rt, alloc, "POST /v1/traces", TYPE, SPAN);
     for size in [0, 20, text.len().saturating_sub(1)] {
         let front = text.get(..size).expect(&rt, "a front");
-        assert_unanswered(&rt, rt.alloc(), front);
+        assert_served(&rt, alloc, front, AMPLE, ((None, None), (0, 0)));
+    }
+    for call in [0usize, 1, 40, 130] {
+        let course = Course {
+            most: 1,
+            reads: FailingCalls::From(call as u64),
+            ..AMPLE
+        };
+        let left = text.len().saturating_sub(call);
+        assert_served(&rt, alloc, &text, course, ((None, None), (left, 1)));
     }
 }
 
-/// Checks that a request is answered with this status and this whole text where a reply is canned.
+/// Checks that a connection was answered with this status, this reason and these last fields, and
+/// how many groups of spans were taken.
+fn assert_answered(
+    rt: &impl Abort,
+    alloc: Global,
+    found: (Result<Told, u64>, Vec<u8>, Rest),
+    reply: (u16, &str, &str),
+    groups: Option<usize>,
+) {
+    let (told, taken, _) = found;
+    let (code, reason, fields) = reply;
+    assert_equal_at(rt, told, Ok((Some(code), groups)), code);
+    let text = reply_text(rt, alloc, code, reason, fields);
+    assert_equal_at(rt, taken.as_slice(), text.as_bytes(), code);
+}
+
+/// Checks what a request is answered, and how many groups of spans were taken, where a reply is
+/// canned.
 fn assert_canned(
     rt: &impl Abort,
     alloc: Global,
     text: &[u8],
     canned: (CannedStatus, Option<u64>),
-    wanted: (Told, &str, &str),
+    reply: (u16, &str, &str),
+    groups: Option<usize>,
 ) {
     let (status, retry_after) = canned;
-    let canned = Some(Canned {
-        status,
-        retry_after,
-    });
-    let (wanted, start, fields) = wanted;
-    let (told, taken, _) = answered(rt, alloc, text, AMPLE, canned);
-    assert_equal_at(rt, told, wanted, (start, status));
-    let text = reply_text(rt, alloc, start, fields);
-    assert_equal_at(rt, taken.as_slice(), text.as_bytes(), (start, status));
+    let course = Course {
+        canned: Some(Canned {
+            status,
+            retry_after,
+        }),
+        ..AMPLE
+    };
+    let found = answered(rt, alloc, alloc, text, course);
+    assert_answered(rt, alloc, found, reply, groups);
 }
 
 #[test]
 fn a_canned_reply_stands_in_place_of_a_200(rt: HostRuntime) {
     let text = request(&rt, rt.alloc(), "POST /v1/traces", TYPE, SPAN);
-    let many = (CannedStatus::TooManyRequests, Some(0));
-    let busy = (CannedStatus::ServiceUnavailable, Some(7));
-    let (many_line, busy_line) = ("429 Too Many Requests", "503 Service Unavailable");
+    let (many, busy) = ("Too Many Requests", "Service Unavailable");
+    let (none, some) = ("Retry-After: 0\r\n", "Retry-After: 7\r\n");
     let rows = [
-        ((CannedStatus::Ok, None), 200, "200 OK", ""),
-        (many, 429, many_line, "Retry-After: 0\r\n"),
-        ((CannedStatus::BadGateway, None), 502, "502 Bad Gateway", ""),
-        (busy, 503, busy_line, "Retry-After: 7\r\n"),
-        ((CannedStatus::ServiceUnavailable, None), 503, busy_line, ""),
+        (CannedStatus::Ok, None, (200, "OK", "")),
+        (CannedStatus::TooManyRequests, Some(0), (429, many, none)),
+        (CannedStatus::BadGateway, None, (502, "Bad Gateway", "")),
+        (CannedStatus::ServiceUnavailable, Some(7), (503, busy, some)),
+        (CannedStatus::ServiceUnavailable, None, (503, busy, "")),
         (
-            (CannedStatus::GatewayTimeout, None),
-            504,
-            "504 Gateway Timeout",
-            "",
+            CannedStatus::GatewayTimeout,
+            None,
+            (504, "Gateway Timeout", ""),
         ),
     ];
-    for (canned, status, start, fields) in rows {
-        let wanted = ((Some(status), Some(1)), start, fields);
-        assert_canned(&rt, rt.alloc(), &text, canned, wanted);
+    for (status, wait, reply) in rows {
+        assert_canned(&rt, rt.alloc(), &text, (status, wait), reply, Some(1));
     }
-}
-
-/// Checks what a request is answered, with this status, before a reply that is canned.
-fn assert_before_canned(
-    rt: &impl Abort,
-    alloc: Global,
-    start: &str,
-    body: &[u8],
-    wanted: (u16, &str, &str),
-) {
-    let text = request(rt, alloc, start, TYPE, body);
-    let (status, line, fields) = wanted;
-    let canned = (CannedStatus::ServiceUnavailable, Some(7));
-    assert_canned(
-        rt,
-        alloc,
-        &text,
-        canned,
-        ((Some(status), None), line, fields),
-    );
 }
 
 #[test]
 fn what_is_refused_goes_before_a_canned_reply(rt: HostRuntime) {
     let alloc = rt.alloc();
     let cut = SPAN.get(..52).expect(&rt, "a front");
+    let not_allowed = (405, "Method Not Allowed", "Allow: POST\r\n");
     let rows = [
-        ("POST /x", SPAN, (404, "404 Not Found", "")),
-        (
-            "GET /v1/traces",
-            SPAN,
-            (405, "405 Method Not Allowed", "Allow: POST\r\n"),
-        ),
-        ("POST /v1/traces", cut, (400, "400 Bad Request", "")),
+        ("POST /x", SPAN, (404, "Not Found", "")),
+        ("GET /v1/traces", SPAN, not_allowed),
+        ("POST /v1/traces", cut, (400, "Bad Request", "")),
     ];
-    for (start, body, wanted) in rows {
-        assert_before_canned(&rt, alloc, start, body, wanted);
+    for (start, body, reply) in rows {
+        let text = request(&rt, alloc, start, TYPE, body);
+        let busy = (CannedStatus::ServiceUnavailable, Some(7));
+        assert_canned(&rt, alloc, &text, busy, reply, None);
     }
 }
 
@@ -214,18 +236,13 @@ fn what_is_refused_goes_before_a_canned_reply(rt: HostRuntime) {
 fn a_reply_that_breaks_off_is_told(rt: HostRuntime) {
     let alloc = rt.alloc();
     let text = request(&rt, alloc, "POST /v1/traces", TYPE, SPAN);
-    let mut reader = wire(&rt, alloc, &text, 100, FailingCalls::Never);
-    let mut writer = wire(&rt, alloc, b"", 7, FailingCalls::From(2));
-    let limits = HeadLimits::default();
-    let told = match answer(alloc, alloc, &mut reader, &mut writer, &limits, None) {
-        Ok(_) => None,
-        Err(Stopped { sent }) => Some(sent),
+    let course = Course {
+        writes: FailingCalls::From(2),
+        ..AMPLE
     };
-    assert_equal(
-        &rt,
-        (told, writer.taken()),
-        (Some(14), b"HTTP/1.1 200 O".as_slice()),
-    );
+    let (told, taken, _) = answered(&rt, alloc, alloc, &text, course);
+    assert_equal(&rt, told, Err(14));
+    assert_equal(&rt, taken.as_slice(), b"HTTP/1.1 200 O".as_slice());
 }
 
 /// Checks that what is no request within these limits of bytes, of a head and of a body, is
@@ -234,12 +251,17 @@ fn assert_refused_early(
     rt: &impl Abort,
     alloc: Global,
     text: &[u8],
-    most: (usize, usize),
+    limits: (usize, usize),
     refusal: (u16, usize),
 ) {
-    let (status, wanted_left) = refusal;
-    let (told, _, left) = answered(rt, alloc, text, most, None);
-    assert_equal_at(rt, (told, left), ((Some(status), None), wanted_left), text);
+    let (head, body) = limits;
+    let course = Course {
+        head,
+        body,
+        ..AMPLE
+    };
+    let (status, left) = refusal;
+    assert_served(rt, alloc, text, course, ((Some(status), None), (left, 0)));
 }
 
 #[test]
@@ -267,116 +289,70 @@ fn what_is_no_request_is_refused(rt: HostRuntime) {
     assert_refused_early(&rt, alloc, signed, most, (400, 1));
 }
 
-/// Checks that a connection whose reader fails from this call on is not answered.
-fn assert_fails(rt: &impl Abort, alloc: Global, text: &[u8], call: u64) {
-    let mut reader = wire(rt, alloc, text, 1, FailingCalls::From(call));
-    let mut writer = wire(rt, alloc, b"", 7, FailingCalls::Never);
-    let limits = HeadLimits::default();
-    let served = answer(alloc, alloc, &mut reader, &mut writer, &limits, None);
-    let told = told(served.expect(rt, "nothing to write"));
-    let found = (told, writer.taken().len(), reader.failures());
-    assert_equal_at(rt, found, ((None, None), 0, 1), call);
-}
-
-#[test]
-fn a_reader_that_fails_is_not_answered(rt: HostRuntime) {
-    let text = request(&rt, rt.alloc(), "POST /v1/traces", TYPE, SPAN);
-    for call in [0, 1, 40, 130] {
-        assert_fails(&rt, rt.alloc(), &text, call);
-    }
-}
-
 #[test]
 fn bytes_behind_a_request_are_left(rt: HostRuntime) {
     let alloc = rt.alloc();
     let first = request(&rt, alloc, "POST /v1/traces", TYPE, SPAN);
     let both = joined(&rt, alloc, &first, b"GET / HTTP/1.1\r\n\r\n");
-    let mut reader = wire(&rt, alloc, &both, 1_000, FailingCalls::Never);
-    let mut writer = wire(&rt, alloc, b"", 7, FailingCalls::Never);
-    let limits = HeadLimits::default();
-    let served = answer(alloc, alloc, &mut reader, &mut writer, &limits, None);
-    let told = told(served.expect(&rt, "a whole reply"));
-    let found = (told, reader.left());
-    let left = b"GET / HTTP/1.1\r\n\r\n".as_slice();
-    assert_equal(&rt, found, ((Some(200), Some(1)), left));
-}
-
-/// So many of the span one behind the other.
-fn spans(rt: &impl Abort, alloc: Global, count: usize) -> Vec<u8> {
-    let mut body = Vec::new(alloc);
-    for _span in 0..count {
-        body.extend_from_slice(SPAN).expect(rt, "memory");
-    }
-    body
+    let course = Course {
+        most: 1_000,
+        ..AMPLE
+    };
+    assert_served(&rt, alloc, &both, course, ((Some(200), Some(1)), (18, 0)));
 }
 
 #[test]
 fn thousands_of_spans_are_taken(rt: HostRuntime) {
-    let body = spans(&rt, rt.alloc(), 2000);
-    let wanted = (Some(200), Some(2000));
-    assert_answer(&rt, rt.alloc(), "POST /v1/traces", TYPE, &body, wanted);
-}
-
-/// What is answered with this memory, and what is written.
-fn served<A: Allocator + Copy>(rt: &impl Abort, alloc: A, global: Global) -> (Told, Vec<u8>) {
-    let text = request(rt, global, "POST /v1/traces", TYPE, SPAN);
-    let mut reader = wire(rt, global, &text, 64, FailingCalls::Never);
-    let mut writer = wire(rt, global, b"", 64, FailingCalls::Never);
-    let limits = HeadLimits::default();
-    let served = answer(alloc, global, &mut reader, &mut writer, &limits, None);
-    let told = told(served.expect(rt, "a whole reply"));
-    let taken = Vec::from_slice(global, writer.taken()).expect(rt, "memory");
-    (told, taken)
+    let alloc = rt.alloc();
+    let mut body = Vec::new(alloc);
+    for _span in 0..2000u32 {
+        body.extend_from_slice(SPAN).expect(&rt, "memory");
+    }
+    let text = request(&rt, alloc, "POST /v1/traces", TYPE, &body);
+    let wanted = ((Some(200), Some(2000)), (0, 0));
+    assert_served(&rt, alloc, &text, AMPLE, wanted);
 }
 
 /// Serves a connection while one call for memory is refused. Answers whether it was.
-fn is_refused(rt: &impl Abort, alloc: Global, fail_index: u64) -> bool {
-    let heap = LocalHeap::new(alloc, 65_536).expect(rt, "memory");
-    let scarce = FailingAllocator::new(&heap, fail_index);
-    let (told, taken) = served(rt, &scarce, alloc);
-    let (wanted, start, fields) = if scarce.has_failed() {
-        let busy = "503 Service Unavailable";
-        ((Some(503), None), busy, "Retry-After: 1\r\n")
+fn is_refused(rt: &impl Abort, alloc: Global, text: &[u8], fail_index: u64) -> bool {
+    let scarce = FailingAllocator::new(alloc, fail_index);
+    let found = answered(rt, &scarce, alloc, text, AMPLE);
+    let busy = (503, "Service Unavailable", "Retry-After: 1\r\n");
+    let (reply, groups) = if scarce.has_failed() {
+        (busy, None)
     } else {
-        ((Some(200), Some(1)), "200 OK", "")
+        ((200, "OK", ""), Some(1))
     };
-    assert_equal_at(rt, told, wanted, fail_index);
-    let text = reply_text(rt, alloc, start, fields);
-    assert_equal_at(rt, taken.as_slice(), text.as_bytes(), fail_index);
+    assert_answered(rt, alloc, found, reply, groups);
     scarce.has_failed()
 }
 
 #[test]
 fn each_refusal_of_memory_is_answered(rt: HostRuntime) {
+    let alloc = rt.alloc();
+    let text = request(&rt, alloc, "POST /v1/traces", TYPE, SPAN);
     let mut refused = 0u64;
     for fail_index in 0..128u64 {
-        if is_refused(&rt, rt.alloc(), fail_index) {
+        if is_refused(&rt, alloc, &text, fail_index) {
             refused = refused.saturating_add(1);
         }
     }
     assert_equal(&rt, refused >= 8, true);
-    assert_equal(&rt, is_refused(&rt, rt.alloc(), 128), false);
+    assert_equal(&rt, is_refused(&rt, alloc, &text, 128), false);
 }
 
 /// A request with the span in chunks of 16 and 37 bytes, and these bytes behind the first.
 fn in_chunks(rt: &impl Abort, alloc: Global, behind: &[u8]) -> Vec<u8> {
-    let head = format!(in alloc;
-        "POST /v1/traces HTTP/1.1\r\n{TYPE}Transfer-Encoding: chunked\r\n\r\n"
+    let start = concat!(
+        "POST /v1/traces HTTP/1.1\r\n",
+        "Content-Type: application/x-protobuf\r\n",
+        "Transfer-Encoding: chunked\r\n\r\n",
+        "10\r\n",
     );
     let first = SPAN.get(..16).expect(rt, "sixteen bytes");
     let second = SPAN.get(16..).expect(rt, "the others");
-    let pieces = [
-        b"10\r\n",
-        first,
-        behind,
-        b"25\r\n",
-        second,
-        b"\r\n0\r\n\r\n",
-    ];
-    let mut text = Vec::from_slice(alloc, head.expect(rt, "memory").as_bytes()).expect(
-        rt, "memory",
-    );
-    for piece in pieces {
+    let mut text = joined(rt, alloc, start.as_bytes(), first);
+    for piece in [behind, b"25\r\n", second, b"\r\n0\r\n\r\n"] {
         text.extend_from_slice(piece).expect(rt, "memory");
     }
     text
@@ -386,13 +362,12 @@ fn in_chunks(rt: &impl Abort, alloc: Global, behind: &[u8]) -> Vec<u8> {
 fn a_request_in_chunks_is_taken(rt: HostRuntime) {
     let alloc = rt.alloc();
     let whole = in_chunks(&rt, alloc, b"\r\n");
-    let (told, _, left) = answered(&rt, alloc, &whole, AMPLE, None);
-    assert_equal(&rt, (told, left), ((Some(200), Some(1)), 0));
-    let (told, _, left) = answered(&rt, alloc, &whole, (16_384, 53), None);
-    assert_equal(&rt, (told, left), ((Some(200), Some(1)), 0));
+    let taken = ((Some(200), Some(1)), (0, 0));
+    assert_served(&rt, alloc, &whole, AMPLE, taken);
+    assert_served(&rt, alloc, &whole, Course { body: 53, ..AMPLE }, taken);
     for size in 0..whole.len() {
         let front = whole.get(..size).expect(&rt, "a front");
-        assert_unanswered(&rt, alloc, front);
+        assert_served(&rt, alloc, front, AMPLE, ((None, None), (0, 0)));
     }
 }
 
@@ -411,9 +386,9 @@ fn chunks_are_refused(rt: HostRuntime) {
 fn assert_framed(rt: &impl Abort, alloc: Global, fields: &str, status: u16) {
     let head = format!(in alloc; "POST /v1/traces HTTP/1.1\r\n{TYPE}{fields}\r\n");
     let text = joined(rt, alloc, head.expect(rt, "memory").as_bytes(), SPAN);
-    let (told, _, _) = answered(rt, alloc, &text, AMPLE, None);
-    let (told, _) = told;
-    assert_equal_at(rt, told, Some(status), fields);
+    let (told, _, _) = answered(rt, alloc, alloc, &text, AMPLE);
+    let groups = (status == 200).then_some(1);
+    assert_equal_at(rt, told, Ok((Some(status), groups)), fields);
 }
 
 #[test]

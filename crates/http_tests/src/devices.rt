@@ -141,10 +141,3 @@ fn a_write_without_memory_is_a_failure(rt: HostRuntime) {
     assert_equal(&rt, wire.taken(), b"ab".as_slice());
     assert_equal(&rt, FaultWrite::failures(&wire), 1);
 }
-
-#[test]
-fn a_failure_is_told(rt: HostRuntime) {
-    let failed = DeviceFailed;
-    let told = format!(in rt.alloc(); "{failed}").expect(&rt, "memory");
-    assert_equal(&rt, told.as_str(), "the device failed");
-}

@@ -1,4 +1,4 @@
-//! Replies that tests read, and what is told of them in plain values.
+//! Texts that tests read as replies, how they come, and what is told of a reply in plain values.
 
 use crate::equal::{assert_equal, assert_equal_at};
 use otlp_http::{FailingCalls, FailingWire, FaultRead, HeadLimits, HttpFault, Reply, read_reply};
@@ -15,6 +15,9 @@ pub const HEAD: &[u8] = b"HTTP/1.1 200 OK\r\nContent-Length: 7\r\n\r\n";
 /// That reply: 45 bytes.
 pub const REPLY: &[u8] =
     b"HTTP/1.1 200 OK\r\nContent-Length: 7\r\n\r\n\x0a\x05\x08\x02\x12\x01\x78";
+
+/// The type of a body that a collector takes.
+pub const TYPE: &str = "Content-Type: application/x-protobuf\r\n";
 
 /// What was read: a reply's status, the wait that it asks for, and its body or why that can't be
 /// had; or why there is no reply.
@@ -36,19 +39,6 @@ pub(crate) fn body_of<A: Allocator>(
         Ok(body) => Ok(body.as_slice()),
         Err(fault) => Err(*fault),
     }
-}
-
-/// A wire that gives these bytes, at most so many a call.
-pub(crate) fn wire(
-    rt: &impl Abort,
-    alloc: Global,
-    text: &[u8],
-    most: usize,
-    failing: FailingCalls,
-) -> FailingWire {
-    assert!(rt; most >= 1);
-    let input = Vec::from_slice(alloc, text).expect(rt, "memory");
-    FailingWire::new(input, Vec::new(alloc), most, failing)
 }
 
 /// What two pieces of text are, one behind the other.
@@ -76,43 +66,130 @@ pub(crate) fn repeated(
     text
 }
 
-/// What a wire's bytes are read as, within the usual limits.
-pub(crate) fn read(alloc: Global, wire: &mut FailingWire) -> Result<Reply, HttpFault> {
-    read_reply(alloc, alloc, wire, &HeadLimits::default())
+/// The whole reply of a collector that has this status, this reason and these last fields.
+pub(crate) fn reply_text(
+    rt: &impl Abort,
+    alloc: Global,
+    code: u16,
+    reason: &str,
+    fields: &str,
+) -> String {
+    let rest = "Content-Length: 0\r\nConnection: close\r\n";
+    let text = format!(in alloc; "HTTP/1.1 {code} {reason}\r\n{TYPE}{rest}{fields}\r\n");
+    text.expect(rt, "memory")
 }
 
-/// What a text is read as: by a wire that gives all that is asked for, and the same by one that
-/// gives a byte a call.
-pub(crate) fn read_text(rt: &impl Abort, alloc: Global, text: &[u8]) -> Result<Reply, HttpFault> {
-    let mut whole = wire(rt, alloc, text, 65_536, FailingCalls::Never);
-    let mut bytes = wire(rt, alloc, text, 1, FailingCalls::Never);
-    let answer = read(alloc, &mut whole);
-    let other = read(alloc, &mut bytes);
-    assert_equal_at(rt, told(&answer), told(&other), text);
-    assert_equal_at(rt, whole.left().len(), bytes.left().len(), text);
-    answer
-}
-
-/// Checks what a text is read as.
-pub(crate) fn assert_read(rt: &impl Abort, alloc: Global, text: &[u8], wanted: Told<'_>) {
-    let answer = read_text(rt, alloc, text);
-    assert_equal_at(rt, told(&answer), wanted, text);
-}
-
-/// Checks what a text is read as by a wire that gives at most so many bytes a call, within these
-/// limits of a head's bytes, of its fields and of a body's bytes, and which bytes are left.
-pub(crate) fn assert_read_within(
+/// A wire that gives these bytes, at most so many a call.
+pub(crate) fn wire(
     rt: &impl Abort,
     alloc: Global,
     text: &[u8],
-    most: (usize, usize, usize, usize),
-    wanted: (Told<'_>, &[u8]),
+    most: usize,
+    failing: FailingCalls,
+) -> FailingWire {
+    assert!(rt; most >= 1);
+    let input = Vec::from_slice(alloc, text).expect(rt, "memory");
+    FailingWire::new(input, Vec::new(alloc), most, failing)
+}
+
+/// How a text comes, and how much of it is read.
+#[derive(Clone, Copy)]
+pub(crate) struct Way {
+    /// The most bytes that a call gives.
+    pub(crate) most: usize,
+    /// Which calls fail.
+    pub(crate) failing: FailingCalls,
+    /// The limits of a head and of a body.
+    pub(crate) limits: HeadLimits,
+}
+
+/// At most so many bytes a call, within these limits.
+pub(crate) fn within(most: usize, limits: HeadLimits) -> Way {
+    Way {
+        most,
+        failing: FailingCalls::Never,
+        limits,
+    }
+}
+
+/// The same within the usual limits.
+pub(crate) fn in_parts(most: usize) -> Way {
+    within(most, HeadLimits::default())
+}
+
+/// The same of a wire that fails the call with this number.
+pub(crate) fn failing(most: usize, call: u64) -> Way {
+    Way {
+        most,
+        failing: FailingCalls::Once(call),
+        limits: HeadLimits::default(),
+    }
+}
+
+/// How many bytes of a text a wire has yet to give, and how often it failed.
+pub(crate) type Rest = (usize, u64);
+
+/// What is left of a text on a wire: its last bytes.
+pub(crate) fn rest_of(rt: &impl Abort, text: &[u8], wire: &FailingWire) -> Rest {
+    let left = wire.left();
+    assert_equal(rt, text.ends_with(left), true);
+    (left.len(), FaultRead::failures(wire))
+}
+
+/// The reply that a reader gives, within these limits.
+pub(crate) fn read<R: FaultRead, A: Allocator + Copy>(
+    rt: &impl Abort,
+    alloc: A,
+    global: Global,
+    reader: &mut R,
+    limits: &HeadLimits,
+) -> Result<Reply<A>, HttpFault> {
+    assert!(rt; limits.fields <= 64);
+    read_reply(alloc, global, reader, limits)
+}
+
+/// What a text that comes this way is read as, in this memory, and what is left of it.
+pub(crate) fn read_way<A: Allocator + Copy>(
+    rt: &impl Abort,
+    alloc: A,
+    global: Global,
+    text: &[u8],
+    way: Way,
+) -> (Result<Reply<A>, HttpFault>, Rest) {
+    let mut wire = wire(rt, global, text, way.most, way.failing);
+    let answer = read(rt, alloc, global, &mut wire, &way.limits);
+    let rest = rest_of(rt, text, &wire);
+    (answer, rest)
+}
+
+/// What a text is read as: by a wire that gives all that is asked for, and the same by one that
+/// gives at most so many bytes a call.
+pub(crate) fn read_text(
+    rt: &impl Abort,
+    alloc: Global,
+    text: &[u8],
+    most: usize,
+) -> Result<Reply, HttpFault> {
+    let (answer, rest) = read_way(rt, alloc, alloc, text, in_parts(65_536));
+    let (other, other_rest) = read_way(rt, alloc, alloc, text, in_parts(most));
+    assert_equal_at(rt, (told(&other), other_rest), (told(&answer), rest), text);
+    answer
+}
+
+/// Checks what a text is read as, at once and a byte a call.
+pub(crate) fn assert_read(rt: &impl Abort, alloc: Global, text: &[u8], wanted: Told<'_>) {
+    let answer = read_text(rt, alloc, text, 1);
+    assert_equal_at(rt, told(&answer), wanted, text);
+}
+
+/// Checks what a text that comes this way is read as, and what is left of it.
+pub(crate) fn assert_reply(
+    rt: &impl Abort,
+    alloc: Global,
+    text: &[u8],
+    way: Way,
+    wanted: (Told<'_>, Rest),
 ) {
-    let (most, head, fields, body) = most;
-    assert!(rt; fields <= 64);
-    let limits = HeadLimits { head, fields, body };
-    let mut wire = wire(rt, alloc, text, most, FailingCalls::Never);
-    let answer = read_reply(alloc, alloc, &mut wire, &limits);
-    assert_equal(rt, (told(&answer), wire.left()), wanted);
-    assert_equal(rt, FaultRead::failures(&wire), 0);
+    let (answer, rest) = read_way(rt, alloc, alloc, text, way);
+    assert_equal_at(rt, (told(&answer), rest), wanted, text);
 }

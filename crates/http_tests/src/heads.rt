@@ -1,8 +1,10 @@
 //! Heads of replies, whole and broken.
 
 use crate::equal::assert_equal;
-use crate::fixture::{BODY, HEAD, REPLY, Told, assert_read, assert_read_within, joined, repeated};
-use otlp_http::HttpFault;
+use crate::fixture::{
+    BODY, REPLY, Told, assert_read, assert_reply, in_parts, joined, repeated, within,
+};
+use otlp_http::{HeadLimits, HttpFault};
 use retry_core::RetryAfter;
 use std::alloc::Global;
 use std::process::Abort;
@@ -43,6 +45,20 @@ fn assert_long(rt: &impl Abort, alloc: Global, size: usize, wanted: Told<'_>) {
     assert_read(rt, alloc, text.as_bytes(), wanted);
 }
 
+/// Checks what the reply is read as within these limits of a head's bytes, of its fields and of a
+/// body's bytes, and how many of its bytes are left.
+fn assert_within(
+    rt: &impl Abort,
+    alloc: Global,
+    limits: (usize, usize, usize),
+    wanted: (Told<'_>, usize),
+) {
+    let (head, fields, body) = limits;
+    let way = within(64, HeadLimits { head, fields, body });
+    let (told, left) = wanted;
+    assert_reply(rt, alloc, REPLY, way, (told, (left, 0)));
+}
+
 /// Checks that a head has this status.
 fn assert_status(rt: &impl Abort, alloc: Global, status: u16) {
     let text = format!(in alloc; "HTTP/1.1 {status:03} Any\r\n\r\n").expect(rt, "memory");
@@ -59,58 +75,47 @@ fn a_head_has_a_status(rt: HostRuntime) {
 }
 
 #[test]
-fn the_first_wait_counts(rt: HostRuntime) {
+fn the_first_wait_counts_if_it_is_one(rt: HostRuntime) {
+    let seven = Some(RetryAfter::Seconds(7));
+    let date = Some(RetryAfter::Date(784_111_777));
     let rows = [
-        ("Retry-After: 7\r\nRetry-After: 9\r\n", 7),
-        ("retry-AFTER:\t 007 \t\r\n", 7),
-        ("Retry-After: 18446744073709551614\r\n", u64::MAX - 1),
-        ("Retry-After: 18446744073709551616\r\n", u64::MAX),
+        ("Retry-After: 7\r\nRetry-After: 9\r\n", seven),
+        ("retry-AFTER:\t 007 \t\r\n", seven),
         (
             "Retry-After: 7\r\nRetry-After: Sun, 06 Nov 1994 08:49:37 GMT\r\n",
-            7,
-        ),
-    ];
-    for (fields, seconds) in rows {
-        assert_asks(&rt, rt.alloc(), fields, Some(RetryAfter::Seconds(seconds)));
-    }
-}
-
-#[test]
-fn a_wait_may_be_told_by_a_date(rt: HostRuntime) {
-    let rows = [
-        (
-            "Retry-After: Sun, 06 Nov 1994 08:49:37 GMT\r\n",
-            784_111_777,
+            seven,
         ),
         (
-            "Retry-After: Sunday, 06-Nov-94 08:49:37 GMT\r\n",
-            784_111_777,
+            "Retry-After: 18446744073709551614\r\n",
+            Some(RetryAfter::Seconds(u64::MAX - 1)),
         ),
-        ("Retry-After: Sun Nov  6 08:49:37 1994\r\n", 784_111_777),
-        ("Retry-After: Thu, 01 Jan 1970 00:00:01 GMT\r\n", 1),
+        (
+            "Retry-After: 18446744073709551616\r\n",
+            Some(RetryAfter::Seconds(u64::MAX)),
+        ),
+        // Dates.
+        ("Retry-After: Sun, 06 Nov 1994 08:49:37 GMT\r\n", date),
+        ("Retry-After: Sunday, 06-Nov-94 08:49:37 GMT\r\n", date),
+        ("Retry-After: Sun Nov  6 08:49:37 1994\r\n", date),
+        (
+            "Retry-After: Thu, 01 Jan 1970 00:00:01 GMT\r\n",
+            Some(RetryAfter::Date(1)),
+        ),
         (
             "Retry-After: Sun, 06 Nov 1994 08:49:37 GMT\r\nRetry-After: 0\r\n",
-            784_111_777,
+            date,
         ),
+        // Neither.
+        ("Retry-After: soon\r\nRetry-After: 9\r\n", None),
+        ("Retry-After: \r\nRetry-After: 9\r\n", None),
+        ("Retry-After: -1\r\nRetry-After: 9\r\n", None),
+        ("Retry-After: +1\r\nRetry-After: 9\r\n", None),
+        ("Retry-After: 1.5\r\nRetry-After: 9\r\n", None),
+        ("Retry-After: 1, 2\r\nRetry-After: 9\r\n", None),
+        ("Retry-After: Sun, 06 Nov 1994\r\nRetry-After: 9\r\n", None),
     ];
-    for (fields, date) in rows {
-        assert_asks(&rt, rt.alloc(), fields, Some(RetryAfter::Date(date)));
-    }
-}
-
-#[test]
-fn a_wait_that_is_none_is_not_told(rt: HostRuntime) {
-    let rows = [
-        "Retry-After: soon\r\nRetry-After: 9\r\n",
-        "Retry-After: \r\nRetry-After: 9\r\n",
-        "Retry-After: -1\r\nRetry-After: 9\r\n",
-        "Retry-After: +1\r\nRetry-After: 9\r\n",
-        "Retry-After: 1.5\r\nRetry-After: 9\r\n",
-        "Retry-After: 1, 2\r\nRetry-After: 9\r\n",
-        "Retry-After: Sun, 06 Nov 1994\r\nRetry-After: 9\r\n",
-    ];
-    for fields in rows {
-        assert_asks(&rt, rt.alloc(), fields, None);
+    for (fields, wait) in rows {
+        assert_asks(&rt, rt.alloc(), fields, wait);
     }
 }
 
@@ -120,29 +125,6 @@ fn sixteen_interim_heads_are_skipped(rt: HostRuntime) {
         assert_after_interims(&rt, rt.alloc(), count, Ok((200, None, Ok(BODY))));
     }
     assert_after_interims(&rt, rt.alloc(), 17, Err(HttpFault::BadHead));
-}
-
-#[test]
-fn what_begins_no_head_is_bad(rt: HostRuntime) {
-    let texts: [&[u8]; 6] = [
-        b"HTTP/x",
-        b"HTTP/2.0 200 OK\r\n\r\n",
-        b"hello\r\n",
-        b"HTTP/1.1 20 OK\r\n\r\n",
-        b"HTTP/1.1 200 OK\r\nA b: c\r\n\r\n",
-        b"HTTP/1.1 200 OK\r\n folded\r\n\r\n",
-    ];
-    for text in texts {
-        assert_read(&rt, rt.alloc(), text, Err(HttpFault::BadHead));
-    }
-}
-
-#[test]
-fn a_head_that_is_cut_has_ended(rt: HostRuntime) {
-    for size in 0..HEAD.len() {
-        let front = HEAD.get(..size).expect(&rt, "a front");
-        assert_read(&rt, rt.alloc(), front, Err(HttpFault::Ended));
-    }
 }
 
 #[test]
@@ -159,19 +141,18 @@ fn limits_may_be_lower(rt: HostRuntime) {
     let alloc = rt.alloc();
     let no_head = Err(HttpFault::TooLarge);
     // A field too many is told at the end of the head.
-    assert_read_within(&rt, alloc, REPLY, (64, 38, 0, 7), (no_head, BODY));
-    let left = b"\n\x0a\x05\x08\x02\x12\x01\x78".as_slice();
-    assert_read_within(&rt, alloc, REPLY, (64, 37, 1, 7), (no_head, left));
+    assert_within(&rt, alloc, (38, 0, 7), (no_head, 7));
+    assert_within(&rt, alloc, (37, 1, 7), (no_head, 8));
     let no_body = Ok((200, None, Err(HttpFault::TooLarge)));
-    assert_read_within(&rt, alloc, REPLY, (64, 38, 1, 6), (no_body, BODY));
+    assert_within(&rt, alloc, (38, 1, 6), (no_body, 7));
 }
 
 #[test]
 fn nothing_behind_a_reply_is_read(rt: HostRuntime) {
     let alloc = rt.alloc();
     let text = joined(&rt, alloc, REPLY, b"HTTP");
-    let wanted = (Ok((200, None, Ok(BODY))), b"HTTP".as_slice());
+    let wanted = (Ok((200, None, Ok(BODY))), (4, 0));
     for most in [1usize, 2, 3, 5, 65_536] {
-        assert_read_within(&rt, alloc, &text, (most, 16_384, 64, 65_536), wanted);
+        assert_reply(&rt, alloc, &text, in_parts(most), wanted);
     }
 }

@@ -17,6 +17,8 @@ mod devices;
 #[cfg(test)]
 mod equal;
 #[cfg(test)]
+mod faults;
+#[cfg(test)]
 mod fixture;
 #[cfg(test)]
 mod heads;
@@ -28,5 +30,7 @@ mod places;
 mod posts;
 #[cfg(test)]
 mod requests;
+#[cfg(test)]
+mod scarce;
 #[cfg(test)]
 mod targets;

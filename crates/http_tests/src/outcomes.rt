@@ -1,6 +1,6 @@
 //! What comes of attempts, by replies that are read.
 
-use crate::equal::assert_equal;
+use crate::equal::assert_equal_at;
 use crate::fixture::{HEAD, REPLY, joined, read_text, repeated};
 use otlp_http::outcome_of;
 use retry_core::{Outcome, RetryAfter};
@@ -9,7 +9,8 @@ use std::process::Abort;
 
 /// Checks what a text that is read as a reply means.
 fn assert_means(rt: &impl Abort, alloc: Global, text: &[u8], outcome: Outcome) {
-    assert_equal(rt, outcome_of(&read_text(rt, alloc, text)), outcome);
+    let answer = read_text(rt, alloc, text, 1);
+    assert_equal_at(rt, outcome_of(&answer), outcome, text);
 }
 
 /// Checks what a reply with status 503 and these fields asks for.

@@ -1,14 +1,12 @@
 //! Where heads are parsed: heads of many lines, and how much of a bad one is read.
 
-use crate::equal::{assert_equal, assert_equal_at};
+use crate::equal::assert_equal_at;
 use crate::fixture::{
-    BODY, REPLY, Told, assert_read, assert_read_within, joined, read, repeated, told, wire,
+    BODY, REPLY, Told, assert_read, assert_reply, failing, in_parts, joined, repeated,
 };
 use crate::posts;
-use failing_allocator::FailingAllocator;
 use http_wire::HeadPlace;
-use linked_list_allocator::LocalHeap;
-use otlp_http::{FailingCalls, FaultRead, HeadLimits, HttpFault, read_reply};
+use otlp_http::HttpFault;
 use otlp_serve::PostFault;
 use std::alloc::Global;
 use std::process::Abort;
@@ -86,7 +84,7 @@ fn a_request_may_stand_behind_many_empty_lines(rt: HostRuntime) {
     posts::assert_read(&rt, alloc, text.as_bytes(), posts::EMPTY, 0);
     let feeds = repeated(&rt, alloc, "", "\n", 16_384, "GET");
     let too_large = PostFault::Head(HttpFault::TooLarge);
-    posts::assert_fault(&rt, alloc, feeds.as_bytes(), too_large, 3);
+    posts::assert_read(&rt, alloc, feeds.as_bytes(), Err(too_large), 3);
 }
 
 #[test]
@@ -99,84 +97,63 @@ fn a_head_may_have_many_long_fields(rt: HostRuntime) {
     posts::assert_read(&rt, alloc, post.as_bytes(), posts::EMPTY, 0);
 }
 
-/// A reply behind empty lines, with lines that end by a line feed alone.
-const SHORT: &[u8] = b"\r\n\nHTTP/1.0 200\nContent-Length:7\n\n";
-
-#[test]
-fn a_head_behind_empty_lines_is_cut(rt: HostRuntime) {
-    let alloc = rt.alloc();
-    for size in 0..SHORT.len() {
-        let front = SHORT.get(..size).expect(&rt, "a front");
-        assert_read(&rt, alloc, front, Err(HttpFault::Ended));
+/// Checks that a text is no reply, and how many of its bytes are left: a bad first line is told
+/// behind it, what is bad further on at the end of the head, or where the bytes end.
+fn assert_bad(rt: &impl Abort, alloc: Global, text: &[u8], left: usize) {
+    for most in [1usize, 2, 3, 65_536] {
+        let wanted = (Err(HttpFault::BadHead), (left, 0));
+        assert_reply(rt, alloc, text, in_parts(most), wanted);
     }
-    let text = joined(&rt, alloc, SHORT, BODY);
-    assert_read(&rt, alloc, &text, Ok((200, None, Ok(BODY))));
 }
-
-/// Bad replies, and what of each is left: a bad first line is told behind it, what is bad further
-/// on at the end of the head, or where the bytes end.
-const BAD: [(&[u8], &[u8]); 5] = [
-    (b"hello\r\nA: b\r\n\r\nc", b"A: b\r\n\r\nc"),
-    (b"\n\r\nHTTP/2.0 200 OK\n\nc", b"\nc"),
-    (b"HTTP/1.1 200 OK\r\nA b: c\r\nD: e\r\n\r\nc", b"c"),
-    (b"HTTP/1.1 200 OK\nA b: c\nD: e\n\nc", b"c"),
-    (b"HTTP/1.1 200 OK\r\nA b: c\r\nD: e", b""),
-];
 
 #[test]
 fn of_a_bad_reply_its_head_is_read_at_most(rt: HostRuntime) {
-    for (text, left) in BAD {
-        for most in [1usize, 2, 3, 65_536] {
-            let wanted = (Err(HttpFault::BadHead), left);
-            assert_read_within(&rt, rt.alloc(), text, (most, 16_384, 64, 65_536), wanted);
-        }
+    let rows: [(&[u8], usize); 11] = [
+        (b"HTTP/x", 0),
+        (b"hello\r\n", 0),
+        (b"hello\r\nA: b\r\n\r\nc", 9),
+        (b"HTTP/2.0 200 OK\r\n\r\n", 2),
+        (b"\n\r\nHTTP/2.0 200 OK\n\nc", 2),
+        (b"HTTP/1.1 20 OK\r\n\r\n", 2),
+        (b"HTTP/1.1 200 OK\r\n folded\r\n\r\n", 0),
+        (b"HTTP/1.1 200 OK\r\nA b: c\r\n\r\n", 0),
+        (b"HTTP/1.1 200 OK\r\nA b: c\r\nD: e\r\n\r\nc", 1),
+        (b"HTTP/1.1 200 OK\nA b: c\nD: e\n\nc", 1),
+        (b"HTTP/1.1 200 OK\r\nA b: c\r\nD: e", 0),
+    ];
+    for (text, left) in rows {
+        assert_bad(&rt, rt.alloc(), text, left);
     }
 }
 
 #[test]
 fn of_a_bad_request_its_head_is_read_at_most(rt: HostRuntime) {
     let bad = PostFault::Head(HttpFault::BadHead);
-    let rows: [(&[u8], usize); 4] = [
+    let rows: [(&[u8], usize); 10] = [
+        (b"POST\r\n", 0),
         (b"hello\r\nA: b\r\n\r\nc", 9),
+        (b"HTTP/1.1 200 OK\r\n\r\n", 2),
         (b"\n\r\nGET / HTTP/2.0\n\nc", 2),
+        (b"POST /v1/traces HTTP/2.0\r\n\r\n", 2),
+        (b"POST /\xff HTTP/1.1\r\n\r\n", 2),
+        (b"POST /v1/traces HTTP/1.1\r\n folded\r\n\r\n", 0),
+        (b"POST /v1/traces HTTP/1.1\r\nA b: c\r\n\r\n", 0),
         (b"GET / HTTP/1.1\r\nA b: c\r\nD: e\r\n\r\nc", 1),
         (b"GET / HTTP/1.1\nA b: c\nD: e", 0),
     ];
     for (text, left) in rows {
-        posts::assert_fault(&rt, rt.alloc(), text, bad, left);
+        posts::assert_read(&rt, rt.alloc(), text, Err(bad), left);
     }
 }
 
 /// A head with a bad second line: 33 bytes.
-const BAD_FIELD: &[u8] = b"HTTP/1.1 200 OK\r\nA b: c\r\nD: e\r\n\r\n";
+pub(crate) const BAD_FIELD: &[u8] = b"HTTP/1.1 200 OK\r\nA b: c\r\nD: e\r\n\r\n";
 
 #[test]
 fn a_bad_head_is_told_where_a_read_fails(rt: HostRuntime) {
-    let alloc = rt.alloc();
-    for at in 25..33u64 {
-        let mut wire = wire(&rt, alloc, BAD_FIELD, 1, FailingCalls::Once(at));
-        let answer = read(alloc, &mut wire);
-        assert_equal_at(&rt, told(&answer), Err(HttpFault::BadHead), at);
-        assert_equal(&rt, FaultRead::failures(&wire), 1);
+    for at in 25..33usize {
+        let left = 33usize.saturating_sub(at);
+        let wanted = (Err(HttpFault::BadHead), (left, 1));
+        assert_reply(&rt, rt.alloc(), BAD_FIELD, failing(1, at as u64), wanted);
     }
-}
-
-/// Reads a bad head while one call for memory is refused. Answers whether it was, and why there is
-/// no reply.
-fn bad_with(rt: &impl Abort, alloc: Global, fail_index: u64) -> (bool, HttpFault) {
-    let heap = LocalHeap::new(alloc, 65_536).expect(rt, "memory");
-    let scarce = FailingAllocator::new(&heap, fail_index);
-    let mut wire = wire(rt, alloc, BAD_FIELD, 64, FailingCalls::Never);
-    match read_reply(&scarce, alloc, &mut wire, &HeadLimits::default()) {
-        Ok(_) => (false, HttpFault::Ended),
-        Err(fault) => (scarce.has_failed(), fault),
-    }
-}
-
-#[test]
-fn a_bad_head_is_told_where_memory_is_refused(rt: HostRuntime) {
-    let alloc = rt.alloc();
-    assert_equal(&rt, bad_with(&rt, alloc, 0), (true, HttpFault::OutOfMemory));
-    assert_equal(&rt, bad_with(&rt, alloc, 3), (true, HttpFault::BadHead));
-    assert_equal(&rt, bad_with(&rt, alloc, 64), (false, HttpFault::BadHead));
 }

@@ -1,10 +1,7 @@
-//! Requests that a collector reads whole, and requests that are cut, fail or find no memory.
+//! Requests that a collector reads whole, and requests that are cut or fail.
 
 use crate::equal::{assert_equal, assert_equal_at};
-use crate::fixture::{BODY, body_of, joined, repeated, wire};
-use failing_allocator::FailingAllocator;
-use linked_list_allocator::LocalHeap;
-use otlp_http::{FailingCalls, FailingWire};
+use crate::fixture::{BODY, Rest, Way, failing, in_parts, joined, repeated, rest_of, wire, within};
 use otlp_serve::{Counted, FaultRead, HeadLimits, HttpFault, Post, PostFault, read_post};
 use std::alloc::{Allocator, Global};
 use std::process::Abort;
@@ -40,32 +37,45 @@ pub(crate) fn told<A: Allocator>(answer: &Result<Post<A>, PostFault>) -> Told<'_
 /// The whole request.
 const WHOLE: Told<'static> = Ok(("POST", "/v1/traces", BODY));
 
-/// What a wire's bytes are read as, within the usual limits.
-pub(crate) fn read(alloc: Global, wire: &mut FailingWire) -> Result<Post, PostFault> {
-    read_post(alloc, alloc, wire, &HeadLimits::default())
+/// The request that a reader gives, within these limits.
+pub(crate) fn read<R: FaultRead, A: Allocator + Copy>(
+    rt: &impl Abort,
+    alloc: A,
+    global: Global,
+    reader: &mut R,
+    limits: &HeadLimits,
+) -> Result<Post<A>, PostFault> {
+    assert!(rt; limits.fields <= 64);
+    read_post(alloc, global, reader, limits)
 }
 
-/// Checks what a text is read as by a wire that gives at most so many bytes a call, and how many of
-/// its bytes are left. The body may have so many bytes.
-fn assert_read_within(
+/// What a text that comes this way is read as, in this memory, and what is left of it.
+pub(crate) fn read_way<A: Allocator + Copy>(
+    rt: &impl Abort,
+    alloc: A,
+    global: Global,
+    text: &[u8],
+    way: Way,
+) -> (Result<Post<A>, PostFault>, Rest) {
+    let mut wire = wire(rt, global, text, way.most, way.failing);
+    let answer = read(rt, alloc, global, &mut wire, &way.limits);
+    let rest = rest_of(rt, text, &wire);
+    (answer, rest)
+}
+
+/// Checks what a text that comes this way is read as, and what is left of it.
+pub(crate) fn assert_post(
     rt: &impl Abort,
     alloc: Global,
     text: &[u8],
-    most: (usize, usize),
-    wanted: (Told<'_>, usize),
+    way: Way,
+    wanted: (Told<'_>, Rest),
 ) {
-    let (most, body) = most;
-    let limits = HeadLimits {
-        body,
-        ..HeadLimits::default()
-    };
-    let mut wire = wire(rt, alloc, text, most, FailingCalls::Never);
-    let answer = read_post(alloc, alloc, &mut wire, &limits);
-    assert_equal_at(rt, (told(&answer), wire.left().len()), wanted, text);
-    assert_equal_at(rt, FaultRead::failures(&wire), 0, text);
+    let (answer, rest) = read_way(rt, alloc, alloc, text, way);
+    assert_equal_at(rt, (told(&answer), rest), wanted, text);
 }
 
-/// Checks the same of a wire that gives all that is asked for, within the usual limits.
+/// Checks what a text is read as that comes at once, and how many of its bytes are left.
 pub(crate) fn assert_read(
     rt: &impl Abort,
     alloc: Global,
@@ -73,45 +83,41 @@ pub(crate) fn assert_read(
     wanted: Told<'_>,
     left: usize,
 ) {
-    assert_read_within(rt, alloc, text, (65_536, 65_536), (wanted, left));
-}
-
-/// Checks why a text is no request, and how many of its bytes are left.
-pub(crate) fn assert_fault(
-    rt: &impl Abort,
-    alloc: Global,
-    text: &[u8],
-    fault: PostFault,
-    left: usize,
-) {
-    assert_read(rt, alloc, text, Err(fault), left);
+    assert_post(rt, alloc, text, in_parts(65_536), (wanted, (left, 0)));
 }
 
 #[test]
 fn a_request_has_its_parts(rt: HostRuntime) {
     let alloc = rt.alloc();
-    let text = joined(&rt, alloc, HEAD.as_bytes(), BODY);
-    assert_read(&rt, alloc, &text, WHOLE, 0);
     let text = joined(&rt, alloc, SHORT_HEAD, BODY);
     assert_read(&rt, alloc, &text, Ok(("PUT", "/x?y=é", BODY)), 0);
+    // What stands behind a request is left.
+    let request = joined(&rt, alloc, HEAD.as_bytes(), BODY);
+    for behind in [b"".as_slice(), b"POST", BODY] {
+        let text = joined(&rt, alloc, &request, behind);
+        for most in [1usize, 5, 65_536] {
+            let wanted = (WHOLE, (behind.len(), 0));
+            assert_post(&rt, alloc, &text, in_parts(most), wanted);
+        }
+    }
 }
 
-/// The value of a field of the request, if it has that field.
-fn field(rt: &impl Abort, alloc: Global, name: &str) -> Option<Vec<u8>> {
+/// Checks the value of a field of the request, if it has that field.
+fn assert_field(rt: &impl Abort, alloc: Global, name: &str, wanted: Option<&[u8]>) {
     let text = joined(rt, alloc, HEAD.as_bytes(), BODY);
-    let mut wire = wire(rt, alloc, &text, 65_536, FailingCalls::Never);
-    let post = read(alloc, &mut wire).expect(rt, "a request");
-    match post.fields.get(name) {
-        Some(value) => Some(Vec::from_slice(alloc, value.as_bytes()).expect(rt, "memory")),
+    let (answer, _) = read_way(rt, alloc, alloc, &text, in_parts(65_536));
+    let post = answer.expect(rt, "a request");
+    let value = match post.fields.get(name) {
+        Some(value) => Some(value.as_bytes()),
         None => None,
-    }
+    };
+    assert_equal_at(rt, value, wanted, name);
 }
 
 #[test]
 fn a_request_has_its_fields(rt: HostRuntime) {
-    let host = field(&rt, rt.alloc(), "host").expect(&rt, "a host");
-    assert_equal(&rt, host.as_slice(), b"127.0.0.1:4318".as_slice());
-    assert_equal(&rt, field(&rt, rt.alloc(), "accept").is_none(), true);
+    assert_field(&rt, rt.alloc(), "host", Some(b"127.0.0.1:4318"));
+    assert_field(&rt, rt.alloc(), "accept", None);
 }
 
 /// Checks what a request with these fields and three bytes behind them is read as.
@@ -127,7 +133,9 @@ fn assert_fields(
         Ok(body) => (Ok(("POST", "/", body)), 3usize.saturating_sub(body.len())),
         Err(fault) => (Err(fault), 3),
     };
-    assert_read_within(rt, alloc, text.as_bytes(), (most, 65_536), wanted);
+    let (told, left) = wanted;
+    let wanted = (told, (left, 0));
+    assert_post(rt, alloc, text.as_bytes(), in_parts(most), wanted);
 }
 
 #[test]
@@ -164,29 +172,6 @@ fn a_length_that_is_none_is_bad(rt: HostRuntime) {
     }
 }
 
-/// Checks that a text is no request, however many of its bytes are left.
-fn assert_bad(rt: &impl Abort, alloc: Global, text: &[u8]) {
-    let mut wire = wire(rt, alloc, text, 65_536, FailingCalls::Never);
-    let answer = read(alloc, &mut wire);
-    let bad = PostFault::Head(HttpFault::BadHead);
-    assert_equal_at(rt, told(&answer), Err(bad), text);
-}
-
-#[test]
-fn what_begins_no_request_is_bad(rt: HostRuntime) {
-    let texts: [&[u8]; 6] = [
-        b"HTTP/1.1 200 OK\r\n\r\n",
-        b"POST /v1/traces HTTP/2.0\r\n\r\n",
-        b"POST\r\n",
-        b"POST /v1/traces HTTP/1.1\r\nA b: c\r\n\r\n",
-        b"POST /v1/traces HTTP/1.1\r\n folded\r\n\r\n",
-        b"POST /\xff HTTP/1.1\r\n\r\n",
-    ];
-    for text in texts {
-        assert_bad(&rt, rt.alloc(), text);
-    }
-}
-
 /// Checks that each front of a request with this head has ended.
 fn assert_cut(rt: &impl Abort, alloc: Global, head: &[u8]) {
     let text = joined(rt, alloc, head, BODY);
@@ -197,7 +182,7 @@ fn assert_cut(rt: &impl Abort, alloc: Global, head: &[u8]) {
         } else {
             PostFault::Body(HttpFault::Ended)
         };
-        assert_fault(rt, alloc, front, ended, 0);
+        assert_read(rt, alloc, front, Err(ended), 0);
     }
 }
 
@@ -227,81 +212,53 @@ fn a_head_has_limits(rt: HostRuntime) {
     assert_read(&rt, alloc, most.as_bytes(), EMPTY, 0);
     // A field too many is told at the end of the head.
     let over = repeated(&rt, alloc, start, "A: b\r\n", 65, "\r\nc");
-    assert_fault(&rt, alloc, over.as_bytes(), too_large, 1);
+    assert_read(&rt, alloc, over.as_bytes(), Err(too_large), 1);
     assert_long(&rt, alloc, 16_384, EMPTY, 0);
     assert_long(&rt, alloc, 16_385, Err(too_large), 1);
 }
 
-/// Checks that a request with so many bytes behind its head, of which that tells, has them as its
-/// body, or none of them where they are more than the body may have.
-fn assert_sized(rt: &impl Abort, alloc: Global, size: usize, most: usize) {
-    let head = format!(in alloc; "POST / HTTP/1.1\r\nContent-Length: {size}\r\n\r\n");
-    let head = head.expect(rt, "memory");
-    let text = repeated(rt, alloc, head.as_str(), "b", size, "");
-    let body = repeated(rt, alloc, "", "b", size, "");
-    let wanted = if size <= most {
-        (Ok(("POST", "/", body.as_bytes())), 0)
-    } else {
-        (Err(PostFault::Body(HttpFault::TooLarge)), size)
+/// Checks that a request with this head and so many bytes behind it, of which that tells, has them
+/// as its body, or none of them where they are more than the body may have.
+fn assert_sized(rt: &impl Abort, alloc: Global, head: &str, size: usize, most: usize) {
+    let text = repeated(rt, alloc, head, "b", size, "");
+    let body = text.as_bytes().get(head.len()..).unwrap_or(&[]);
+    let limits = HeadLimits {
+        body: most,
+        ..HeadLimits::default()
     };
-    assert_read_within(rt, alloc, text.as_bytes(), (65_536, most), wanted);
+    let wanted = if size <= most {
+        (Ok(("POST", "/", body)), (0, 0))
+    } else {
+        (Err(PostFault::Body(HttpFault::TooLarge)), (size, 0))
+    };
+    assert_post(rt, alloc, text.as_bytes(), within(65_536, limits), wanted);
 }
 
 #[test]
 fn a_body_has_a_limit(rt: HostRuntime) {
-    for (size, most) in [(65_536, 65_536), (65_537, 65_536), (200_000, 16_777_216)] {
-        assert_sized(&rt, rt.alloc(), size, most);
-    }
-}
-
-/// Checks that what stands behind a request is left, and the request is read as if alone.
-fn assert_left(rt: &impl Abort, alloc: Global, most: usize, behind: &[u8]) {
-    let request = joined(rt, alloc, HEAD.as_bytes(), BODY);
-    let text = joined(rt, alloc, &request, behind);
-    let mut wire = wire(rt, alloc, &text, most, FailingCalls::Never);
-    let answer = read(alloc, &mut wire);
-    assert_equal_at(rt, (told(&answer), wire.left()), (WHOLE, behind), most);
-    assert_equal_at(rt, FaultRead::failures(&wire), 0, most);
-}
-
-#[test]
-fn nothing_behind_a_request_is_read(rt: HostRuntime) {
-    for most in [1usize, 5, 65_536] {
-        assert_left(&rt, rt.alloc(), most, b"POST");
-        assert_left(&rt, rt.alloc(), most, BODY);
-    }
-}
-
-/// What a request is read as whose bytes come one a read, where the read with this number fails.
-fn wanted_at(at: u64) -> (Told<'static>, u64) {
-    if at < 126 {
-        return (Err(PostFault::Head(HttpFault::Device)), 1);
-    }
-    if at < 133 {
-        return (Err(PostFault::Body(HttpFault::Device)), 1);
-    }
-    (WHOLE, 0)
-}
-
-/// Reads a request by a wire that fails one call, and checks what comes of it.
-fn assert_fails(rt: &impl Abort, alloc: Global, at: u64) {
-    let text = joined(rt, alloc, HEAD.as_bytes(), BODY);
-    let mut wire = wire(rt, alloc, &text, 1, FailingCalls::Once(at));
-    let answer = read(alloc, &mut wire);
-    assert_equal_at(
-        rt,
-        (told(&answer), FaultRead::failures(&wire)),
-        wanted_at(at),
-        at,
-    );
+    let alloc = rt.alloc();
+    let head = "POST / HTTP/1.1\r\nContent-Length: 65536\r\n\r\n";
+    assert_sized(&rt, alloc, head, 65_536, 65_536);
+    let head = "POST / HTTP/1.1\r\nContent-Length: 65537\r\n\r\n";
+    assert_sized(&rt, alloc, head, 65_537, 65_536);
+    let head = "POST / HTTP/1.1\r\nContent-Length: 200000\r\n\r\n";
+    assert_sized(&rt, alloc, head, 200_000, 16_777_216);
 }
 
 #[test]
 fn a_request_stops_at_each_read_that_fails(rt: HostRuntime) {
-    assert_equal(&rt, (HEAD.len(), BODY.len()), (126, 7));
-    for at in 0..=133u64 {
-        assert_fails(&rt, rt.alloc(), at);
+    let alloc = rt.alloc();
+    let text = joined(&rt, alloc, HEAD.as_bytes(), BODY);
+    for at in 0..133usize {
+        let fault = if at < 126 {
+            PostFault::Head(HttpFault::Device)
+        } else {
+            PostFault::Body(HttpFault::Device)
+        };
+        let wanted = (Err(fault), (133usize.saturating_sub(at), 1));
+        assert_post(&rt, alloc, &text, failing(1, at as u64), wanted);
     }
+    assert_post(&rt, alloc, &text, failing(1, 133), (WHOLE, (0, 0)));
 }
 
 #[test]
@@ -309,64 +266,6 @@ fn a_request_comes_from_a_reader_of_std(rt: HostRuntime) {
     let alloc = rt.alloc();
     let text = joined(&rt, alloc, HEAD.as_bytes(), BODY);
     let mut reader = Counted::new(text.as_slice());
-    let post = read_post(alloc, alloc, &mut reader, &HeadLimits::default());
+    let post = read(&rt, alloc, alloc, &mut reader, &HeadLimits::default());
     assert_equal(&rt, told(&post), WHOLE);
-}
-
-/// The body of a request that is read with this memory, or why there is none.
-fn read_with<A: Allocator + Copy>(
-    rt: &impl Abort,
-    alloc: A,
-    global: Global,
-) -> Result<Vec<u8, A>, HttpFault> {
-    let text = joined(rt, global, HEAD.as_bytes(), BODY);
-    let mut wire = wire(rt, global, &text, 64, FailingCalls::Never);
-    match read_post(alloc, global, &mut wire, &HeadLimits::default()) {
-        Ok(post) => Ok(post.body),
-        Err(PostFault::Head(fault) | PostFault::Body(fault)) => Err(fault),
-    }
-}
-
-/// Reads a request while one call for memory is refused. Answers whether it was.
-fn is_refused(rt: &impl Abort, alloc: Global, fail_index: u64) -> bool {
-    let heap = LocalHeap::new(alloc, 65_536).expect(rt, "memory");
-    let scarce = FailingAllocator::new(&heap, fail_index);
-    let read = read_with(rt, &scarce, alloc);
-    let wanted = if scarce.has_failed() {
-        Err(HttpFault::OutOfMemory)
-    } else {
-        Ok(BODY)
-    };
-    assert_equal_at(rt, body_of(&read), wanted, fail_index);
-    wanted.is_err()
-}
-
-#[test]
-fn each_refusal_of_memory_for_a_request_is_told(rt: HostRuntime) {
-    let mut refused = 0u64;
-    for fail_index in 0..64u64 {
-        if is_refused(&rt, rt.alloc(), fail_index) {
-            refused = refused.saturating_add(1);
-        }
-    }
-    assert_equal(&rt, refused >= 4, true);
-    assert_equal(&rt, is_refused(&rt, rt.alloc(), 64), false);
-}
-
-#[test]
-fn a_fault_of_a_request_is_told(rt: HostRuntime) {
-    let rows = [
-        (
-            PostFault::Head(HttpFault::BadHead),
-            "request head: bad head",
-        ),
-        (
-            PostFault::Body(HttpFault::TooLarge),
-            "request body: too large",
-        ),
-    ];
-    for (fault, text) in rows {
-        let told = format!(in rt.alloc(); "{fault}").expect(&rt, "memory");
-        assert_equal(&rt, told.as_str(), text);
-    }
 }

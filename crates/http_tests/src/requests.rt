@@ -123,10 +123,3 @@ fn a_request_stops_where_more_bytes_go_at_once(rt: HostRuntime) {
         assert_equal_at(&rt, stops(&rt, rt.alloc(), most, 191), false, most);
     }
 }
-
-#[test]
-fn a_stop_is_told(rt: HostRuntime) {
-    let stopped = Stopped { sent: 2 };
-    let told = format!(in rt.alloc(); "{stopped}").expect(&rt, "memory");
-    assert_equal(&rt, told.as_str(), "the device failed after 2 bytes");
-}

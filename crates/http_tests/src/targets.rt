@@ -4,8 +4,6 @@ use crate::equal::{assert_equal, assert_equal_at};
 use failing_allocator::FailingAllocator;
 use linked_list_allocator::LocalHeap;
 use otlp_http::{Target, TargetFault};
-use std::alloc::Global;
-use std::process::Abort;
 
 #[test]
 fn a_target_tells_its_parts(rt: HostRuntime) {
@@ -70,20 +68,4 @@ fn each_copy_may_be_refused_memory(rt: HostRuntime) {
         );
         assert_equal_at(&rt, heap.used(), 0, fail_index);
     }
-}
-
-/// Asserts how a fault is told.
-fn assert_told(rt: &impl Abort, alloc: Global, fault: TargetFault, text: &str) {
-    let told = format!(in alloc; "{fault}").expect(rt, "memory");
-    assert_equal(rt, told.as_str(), text);
-}
-
-#[test]
-fn faults_are_told(rt: HostRuntime) {
-    let alloc = rt.alloc();
-    let text = "bad host: a host is letters, digits, dots and dashes";
-    assert_told(&rt, alloc, TargetFault::BadHost, text);
-    let text = "bad path: a path is a slash and visible characters";
-    assert_told(&rt, alloc, TargetFault::BadPath, text);
-    assert_told(&rt, alloc, TargetFault::OutOfMemory, "out of memory");
 }
