@@ -141,8 +141,8 @@ fn a_reply_that_is_cut_has_ended(rt: HostRuntime) {
     assert_cut(&rt, rt.alloc(), b"\r\n\nHTTP/1.0 200\nContent-Length:7\n\n");
 }
 
-/// Checks what a reply is read as whose bytes take so many reads, where each of these fails in turn:
-/// its head takes a read a byte.
+/// Checks what a reply is read as whose bytes take so many reads, where each of these fails in
+/// turn: its head takes a read a byte.
 fn assert_stops(
     rt: &impl Abort,
     alloc: Global,

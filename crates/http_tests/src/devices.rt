@@ -4,8 +4,8 @@ use crate::equal::assert_equal;
 use crate::fixture::wire;
 use failing_allocator::FailingAllocator;
 use http_wire::{FRONT_ROOM, Front};
-use linked_list_allocator::LocalHeap;
 use otlp_http::{Counted, DeviceFailed, FailingCalls, FailingWire, FaultRead, FaultWrite};
+use std::alloc::Allocator;
 use std::io::{self, ErrorKind, Read, Write};
 use std::process::Abort;
 
@@ -129,15 +129,23 @@ fn a_wire_gives_its_bytes_and_fails_as_told(rt: HostRuntime) {
     assert_equal(&rt, failures, (1, 1));
 }
 
+/// Checks what a write of two bytes to a wire answers, and what the wire has taken then.
+fn assert_writes<A: Allocator>(
+    rt: &impl Abort,
+    wire: &mut FailingWire<A>,
+    answer: Result<usize, DeviceFailed>,
+    taken: &[u8],
+) {
+    assert_equal(rt, wire.write(b"ab"), answer);
+    assert_equal(rt, wire.taken(), taken);
+}
+
 #[test]
 fn a_write_without_memory_is_a_failure(rt: HostRuntime) {
-    let heap = LocalHeap::new(rt.alloc(), 4096).expect(&rt, "memory");
-    let scarce = FailingAllocator::new(&heap, 0);
+    let scarce = FailingAllocator::new(rt.alloc(), 0);
     let output = Vec::new(&scarce);
     let mut wire = FailingWire::new(Vec::new(&scarce), output, 4, FailingCalls::Never);
-    assert_equal(&rt, wire.write(b"ab"), Err(DeviceFailed));
-    assert_equal(&rt, wire.taken(), b"".as_slice());
-    assert_equal(&rt, wire.write(b"ab"), Ok(2));
-    assert_equal(&rt, wire.taken(), b"ab".as_slice());
+    assert_writes(&rt, &mut wire, Err(DeviceFailed), b"");
+    assert_writes(&rt, &mut wire, Ok(2), b"ab");
     assert_equal(&rt, FaultWrite::failures(&wire), 1);
 }

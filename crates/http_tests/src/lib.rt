@@ -1,5 +1,5 @@
-//! Tests of `http_wire`, `otlp_http`, `otlp_serve` and `otlp_collector` over public calls alone.
-//! The crate has no items of its own.
+//! Tests of `http_wire`, `otlp_http`, `http_exporter`, `otlp_serve` and `otlp_collector` over
+//! public calls alone. The crate has no items of its own.
 #![tactic(auto)]
 
 #[cfg(test)]
@@ -16,6 +16,8 @@ mod collector;
 mod devices;
 #[cfg(test)]
 mod equal;
+#[cfg(test)]
+mod exporter;
 #[cfg(test)]
 mod faults;
 #[cfg(test)]

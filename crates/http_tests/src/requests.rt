@@ -39,31 +39,32 @@ fn request(rt: &impl Abort, alloc: Global) -> Vec<u8> {
     text
 }
 
-/// Writes the request to a wire that takes at most so many bytes a call and fails some: what is
-/// answered, how often the wire failed, and what it took.
+/// Writes the request to a wire that takes at most so many bytes a call and fails some, and checks
+/// that what it took is a front of the text. Answers what the call does, and how often the wire
+/// failed.
 fn written(
     rt: &impl Abort,
     alloc: Global,
+    text: &[u8],
     most: usize,
     failing: FailingCalls,
-) -> (Result<(), Stopped>, u64, Vec<u8>) {
+) -> (Result<(), Stopped>, u64) {
     let mut wire = wire(rt, alloc, b"", most, failing);
     let answer = write_request(&mut wire, &local(rt, alloc), BODY);
-    let taken = Vec::from_slice(alloc, wire.taken()).expect(rt, "memory");
-    (answer, FaultWrite::failures(&wire), taken)
-}
-
-/// Checks that the whole request is written to such a wire.
-fn assert_whole(rt: &impl Abort, alloc: Global, most: usize, failing: FailingCalls) {
-    let (answer, failures, taken) = written(rt, alloc, most, failing);
-    assert_equal_at(rt, (answer, failures), (Ok(()), 0), most);
-    assert_equal_at(rt, taken.as_slice(), request(rt, alloc).as_slice(), most);
+    let sent = match answer {
+        Ok(()) => 191,
+        Err(stopped) => stopped.sent,
+    };
+    assert_equal_at(rt, Some(wire.taken()), text.get(..sent as usize), most);
+    (answer, FaultWrite::failures(&wire))
 }
 
 #[test]
 fn a_request_is_its_head_and_the_body(rt: HostRuntime) {
+    let text = request(&rt, rt.alloc());
     for most in [1usize, 2, 64, 65_536] {
-        assert_whole(&rt, rt.alloc(), most, FailingCalls::Never);
+        let answer = written(&rt, rt.alloc(), &text, most, FailingCalls::Never);
+        assert_equal_at(&rt, answer, (Ok(()), 0), most);
     }
 }
 
@@ -82,44 +83,39 @@ fn an_empty_body_has_length_0(rt: HostRuntime) {
 }
 
 /// Checks that the request stops by this call of a wire that takes a byte a call.
-fn assert_stops_at(rt: &impl Abort, alloc: Global, at: u64, failing: FailingCalls) {
-    let (answer, failures, taken) = written(rt, alloc, 1, failing);
-    assert_equal_at(rt, (answer, failures), (Err(Stopped { sent: at }), 1), at);
-    let text = request(rt, alloc);
-    assert_equal_at(rt, text.get(..at as usize), Some(taken.as_slice()), at);
+fn assert_stops_at(rt: &impl Abort, alloc: Global, text: &[u8], at: u64, failing: FailingCalls) {
+    let answer = written(rt, alloc, text, 1, failing);
+    assert_equal_at(rt, answer, (Err(Stopped { sent: at }), 1), at as usize);
 }
 
 #[test]
 fn a_request_stops_at_each_write_that_fails(rt: HostRuntime) {
+    let alloc = rt.alloc();
+    let text = request(&rt, alloc);
     for at in 0..191u64 {
-        assert_stops_at(&rt, rt.alloc(), at, FailingCalls::Once(at));
-        assert_stops_at(&rt, rt.alloc(), at, FailingCalls::From(at));
+        assert_stops_at(&rt, alloc, &text, at, FailingCalls::Once(at));
+        assert_stops_at(&rt, alloc, &text, at, FailingCalls::From(at));
     }
-    assert_whole(&rt, rt.alloc(), 1, FailingCalls::Once(191));
+    let answer = written(&rt, alloc, &text, 1, FailingCalls::Once(191));
+    assert_equal(&rt, answer, (Ok(()), 0));
 }
 
-/// Writes the request to a wire that takes at most so many bytes a call and fails one call.
-/// What went out is a front of the text. Answers whether it isn't the whole.
-fn stops(rt: &impl Abort, alloc: Global, most: usize, at: u64) -> bool {
-    let (answer, _, taken) = written(rt, alloc, most, FailingCalls::Once(at));
-    let text = request(rt, alloc);
-    let sent = match answer {
-        Ok(()) => 191,
-        Err(stopped) => stopped.sent,
-    };
-    let place = (most, at);
-    assert_equal_at(rt, text.get(..sent as usize), Some(taken.as_slice()), place);
+/// Whether the request stops at this call of a wire that takes at most so many bytes a call.
+fn stops(rt: &impl Abort, alloc: Global, text: &[u8], most: usize, at: u64) -> bool {
+    let (answer, _) = written(rt, alloc, text, most, FailingCalls::Once(at));
     answer.is_err()
 }
 
 #[test]
 fn a_request_stops_where_more_bytes_go_at_once(rt: HostRuntime) {
+    let alloc = rt.alloc();
+    let text = request(&rt, alloc);
     // The request takes this many writes of so many bytes at least, and 191 at most.
     for (most, least) in [(7usize, 28u64), (64, 3), (65_536, 1)] {
         for at in 0..191 {
-            let stopped = stops(&rt, rt.alloc(), most, at);
+            let stopped = stops(&rt, alloc, &text, most, at);
             assert_equal_at(&rt, stopped || least <= at, true, (most, at));
         }
-        assert_equal_at(&rt, stops(&rt, rt.alloc(), most, 191), false, most);
+        assert_equal_at(&rt, stops(&rt, alloc, &text, most, 191), false, most);
     }
 }
