@@ -23,3 +23,9 @@ pub(crate) fn assert_told<T: Display>(rt: &impl Abort, alloc: Global, fault: &T,
     let told = format!(in alloc; "{fault}").expect(rt, "memory");
     assert_equal(rt, told.as_str(), text);
 }
+
+/// Asserts how a value is shown to a programmer.
+pub(crate) fn assert_shown<T: Debug>(rt: &impl Abort, alloc: Global, value: &T, text: &str) {
+    let shown = format!(in alloc; "{value:?}").expect(rt, "memory");
+    assert_equal(rt, shown.as_str(), text);
+}

@@ -1,38 +1,84 @@
-//! Whole bodies, their greatest length, and refused memory.
+//! Groups of spans by resource and scope, whole bodies, their greatest length, and refused memory.
 
 use crate::equal::{assert_equal, assert_equal_at, assert_told};
-use crate::samples::{full_span, open, pair, text};
+use crate::samples::{Given, Sample, pairs, spans_of};
 use failing_allocator::FailingAllocator;
 use linked_list_allocator::LocalHeap;
-use otlp_ids::OutOfMemory;
 use otlp_proto::{EncodeFault, body_of, encode};
-use otlp_span::{Resource, Scope, SpanData, SpanLimits};
-use otlp_value::Value;
+use otlp_span::{Resource, Scope};
 use scope_group::{ResourceGroup, ScopeGroup, group};
 use std::alloc::{Allocator, Global};
 use std::process::Abort;
 
-/// A span named `a` in the scope `s`, from the moment 1 to the moment 2.
-fn plain_span<A: Allocator + Copy>(rt: &impl Abort, alloc: A) -> SpanData<A> {
-    open(rt, alloc, &SpanLimits::default()).close(2)
+/// What is made of spans.
+#[derive(Debug, Clone, Copy, PartialEq, Eq)]
+enum Making {
+    /// The groups, as `Debug` shows them, and how many spans each scope has.
+    Groups,
+    /// The groups and the body, in hexadecimal digits.
+    Body,
+    /// The body of groups that stand.
+    Encoding,
 }
 
-/// Asserts that a body is this one, in hexadecimal digits.
-pub(crate) fn assert_body<A: Allocator + Copy>(
+/// Groups, and how many spans each of their scopes has.
+fn shown<A: Allocator>(rt: &impl Abort, alloc: Global, groups: &[ResourceGroup<'_, A>]) -> String {
+    let mut counts = Vec::new(alloc);
+    for group in groups {
+        for scope in &group.scopes {
+            counts.push(scope.spans.len()).expect(rt, "memory");
+        }
+    }
+    format!(in alloc; "{groups:?} {counts:?}").expect(rt, "memory")
+}
+
+/// The body of these groups.
+fn encoded<A: Allocator + Copy>(
     rt: &impl Abort,
-    alloc: A,
-    body: Result<Vec<u8, A>, EncodeFault>,
-    digits: &str,
-) {
-    let body = body.expect(rt, "a body");
-    let written = hex::encode(alloc, body.as_slice()).expect(rt, "memory");
-    assert_equal(rt, written.as_str(), digits);
+    alloc: Global,
+    scarce: A,
+    groups: &[ResourceGroup<'_, A>],
+    max: usize,
+) -> Result<String, EncodeFault> {
+    let body = encode(scarce, groups, max)?;
+    Ok(hex::encode(alloc, body.as_slice()).expect(rt, "memory"))
 }
 
-/// Asserts that a body is refused, since it is too large.
-fn assert_too_large<A: Allocator>(rt: &impl Abort, body: Result<Vec<u8, A>, EncodeFault>) {
-    assert_equal(rt, body.err(), Some(EncodeFault::TooLarge));
+/// What is made on scarce memory of the spans of these samples, that were made on ample memory.
+fn made<A: Allocator + Copy>(
+    rt: &impl Abort,
+    alloc: Global,
+    (ample, scarce): (A, A),
+    (samples, making, max): (&[Sample<'_>], Making, usize),
+) -> Result<String, EncodeFault> {
+    let spans = spans_of(ample, samples)?;
+    if making == Making::Body {
+        let body = body_of(scarce, &spans, max)?;
+        return Ok(hex::encode(alloc, body.as_slice()).expect(rt, "memory"));
+    }
+    let groups_memory = if making == Making::Groups {
+        scarce
+    } else {
+        ample
+    };
+    let groups = group(groups_memory, &spans)?;
+    if making == Making::Groups {
+        return Ok(shown(rt, alloc, &groups));
+    }
+    encoded(rt, alloc, scarce, &groups, max)
 }
+
+/// What was made, to be compared.
+fn told(made: &Result<String, EncodeFault>) -> Result<&str, EncodeFault> {
+    match made {
+        Ok(text) => Ok(text),
+        Err(fault) => Err(*fault),
+    }
+}
+
+const FIRST: Sample<'_> = Sample::Plain("", "s", "", "");
+
+const SECOND: Sample<'_> = Sample::Plain("", "t", "1", "u");
 
 const TWO_SPANS: &str = concat!(
     "0a730a00126f0a030a0173",
@@ -44,35 +90,21 @@ const TWO_SPANS: &str = concat!(
     "2a01613001390100000000000000410200000000000000",
 );
 
-#[test]
-fn exports_two_spans_of_one_scope(rt: HostRuntime) {
-    let alloc = rt.alloc();
-    let spans = [plain_span(&rt, alloc), plain_span(&rt, alloc)];
-    assert_body(&rt, alloc, body_of(alloc, &spans, 117), TWO_SPANS);
-    assert_too_large(&rt, body_of(alloc, &spans, 116));
-}
-
-/// Asserts how a group with one scope is written for a programmer.
-fn assert_debug(rt: &impl Abort, alloc: Global, group: &ResourceGroup<'_>) {
-    let written = format!(in alloc; "{group:?}").expect(rt, "memory");
-    assert!(rt;
-        written.starts_with("ResourceGroup { resource: Resource {"),
-        "{written}"
-    );
-    assert!(rt; written.ends_with(" }, scopes: 1 }"), "{written}");
-}
-
-#[test]
-fn groups_two_spans_of_one_scope(rt: HostRuntime) {
-    let alloc = rt.alloc();
-    let spans = [plain_span(&rt, alloc), plain_span(&rt, alloc)];
-    let groups = group(alloc, &spans).expect(&rt, "memory");
-    assert_equal(&rt, groups.len(), 1);
-    assert_body(&rt, alloc, encode(alloc, groups.as_slice(), 117), TWO_SPANS);
-    for group in &groups {
-        assert_debug(&rt, alloc, group);
-    }
-}
+const TWO_SCOPES: &str = concat!(
+    "0a80010a00",
+    "123a",
+    "0a030a0173",
+    "1233",
+    "0a100102030405060708090a0b0c0d0e0f1012081112131415161718",
+    "2a01613001390100000000000000410200000000000000",
+    "1240",
+    "0a060a017412",
+    "0131",
+    "1233",
+    "0a100102030405060708090a0b0c0d0e0f1012081112131415161718",
+    "2a01613001390100000000000000410200000000000000",
+    "1a0175",
+);
 
 const FULL_BODY: &str = concat!(
     "0ad801",                   // resource spans
@@ -109,220 +141,231 @@ const FULL_BODY: &str = concat!(
     "1a0172",             // schema URL of the resource
 );
 
-/// The body of a request that exports the full span.
-fn full_body<A: Allocator + Copy>(alloc: A, max: usize) -> Result<Vec<u8, A>, EncodeFault> {
-    let mut spans = Vec::new(alloc);
-    spans.push(full_span(alloc)?).map_err(OutOfMemory::from)?;
-    body_of(alloc, spans.as_slice(), max)
+/// What both ways to make a body of these samples come to.
+fn assert_exported(
+    rt: &impl Abort,
+    alloc: Global,
+    (samples, max): (&[Sample<'_>], usize),
+    want: Result<&str, EncodeFault>,
+) {
+    for making in [Making::Body, Making::Encoding] {
+        let made = made(rt, alloc, (alloc, alloc), (samples, making, max));
+        assert_equal_at(rt, told(&made), want, max);
+    }
 }
 
 #[test]
-fn exports_every_field(rt: HostRuntime) {
-    assert_body(&rt, rt.alloc(), full_body(rt.alloc(), 219), FULL_BODY);
-    assert_too_large(&rt, full_body(rt.alloc(), 218));
+fn exports_spans_within_the_greatest_length(rt: HostRuntime) {
+    let rows: [(&[Sample<'_>], usize, Result<&str, EncodeFault>); 7] = [
+        (&[], 0, Ok("")),
+        (&[FIRST, FIRST], 117, Ok(TWO_SPANS)),
+        (&[FIRST, FIRST], 116, Err(EncodeFault::TooLarge)),
+        (&[FIRST, SECOND], 131, Ok(TWO_SCOPES)),
+        (&[FIRST, SECOND], 130, Err(EncodeFault::TooLarge)),
+        (&[Sample::Full], 219, Ok(FULL_BODY)),
+        (&[Sample::Full], 218, Err(EncodeFault::TooLarge)),
+    ];
+    for (samples, max, want) in rows {
+        assert_exported(&rt, rt.alloc(), (samples, max), want);
+    }
+}
+
+/// The body of a span with a text of 70,000 bytes, up to the text.
+const LARGE_FRONT: &str = concat!(
+    "0ac1a3040a00",
+    "12bba3040a030a0173",
+    "12b2a304",
+    "0a100102030405060708090a0b0c0d0e0f1012081112131415161718",
+    "2a01613001390100000000000000410200000000000000",
+    "4afba2040a0161",
+    "12f4a2040af0a204",
+);
+
+/// That body, in hexadecimal digits.
+fn large_body(rt: &impl Abort, alloc: Global) -> String {
+    let text = "30313233343536373839"
+        .repeat(alloc, 7_000)
+        .expect(rt, "memory");
+    [LARGE_FRONT, &text].concat(alloc).expect(rt, "memory")
+}
+
+#[test]
+fn exports_a_large_body_within_the_greatest_length(rt: HostRuntime) {
+    let alloc = rt.alloc();
+    let text = large_body(&rt, alloc);
+    assert_equal(&rt, text.len(), 140_170);
+    let large: &[Sample<'_>] = &[Sample::Large];
+    assert_exported(&rt, alloc, (large, 70_085), Ok(&text));
+    for max in [70_084, 65_536, 0] {
+        assert_exported(&rt, alloc, (large, max), Err(EncodeFault::TooLarge));
+    }
+}
+
+const R: Sample<'_> = Sample::Plain("r", "s", "", "");
+
+const R_SECOND: Sample<'_> = Sample::Plain("r", "t", "1", "u");
+
+const Q: Sample<'_> = Sample::Plain("q", "s", "", "");
+
+/// Twelve spans under two resources, in two scopes of the one and one of the other.
+const MIXED: &[Sample<'_>] = &[
+    R, R_SECOND, Q, R, R_SECOND, Q, R, R_SECOND, Q, R, R_SECOND, Q,
+];
+
+/// Their groups.
+const MIXED_GROUPS: &str = "[ResourceGroup { resource: Resource { attributes: [], \
+    schema_url: \"r\" }, scopes: 2 }, ResourceGroup { resource: Resource { attributes: [], \
+    schema_url: \"q\" }, scopes: 1 }] [4, 4, 4]";
+
+#[test]
+fn groups_spans_by_resource_and_scope(rt: HostRuntime) {
+    let alloc = rt.alloc();
+    let rows: [(&[Sample<'_>], &str); 5] = [
+        (&[], "[] []"),
+        (
+            &[FIRST, FIRST],
+            "[ResourceGroup { resource: Resource { attributes: [], schema_url: \"\" }, \
+            scopes: 1 }] [2]",
+        ),
+        // A span of a scope that came before.
+        (
+            &[FIRST, SECOND, FIRST],
+            "[ResourceGroup { resource: Resource { attributes: [], schema_url: \"\" }, \
+            scopes: 2 }] [2, 1]",
+        ),
+        // Resources with other schemas.
+        (
+            &[R, Q, R],
+            "[ResourceGroup { resource: Resource { attributes: [], schema_url: \"r\" }, \
+            scopes: 1 }, ResourceGroup { resource: Resource { attributes: [], \
+            schema_url: \"q\" }, scopes: 1 }] [2, 1]",
+        ),
+        (MIXED, MIXED_GROUPS),
+    ];
+    for (samples, want) in rows {
+        let made = made(&rt, alloc, (alloc, alloc), (samples, Making::Groups, 0));
+        assert_equal(&rt, told(&made), Ok(want));
+    }
 }
 
 /// Whether the full span's body was made, on a heap of so many bytes.
 fn is_made(rt: &impl Abort, alloc: Global, size: usize) -> bool {
     let heap = LocalHeap::new(alloc, size).expect(rt, "memory");
-    match full_body(&heap, 219) {
-        Ok(body) => {
-            let written = hex::encode(alloc, body.as_slice()).expect(rt, "memory");
-            assert_equal_at(rt, written.as_str(), FULL_BODY, size);
-            true
-        }
-        Err(fault) => {
-            assert_equal_at(rt, fault, EncodeFault::OutOfMemory, size);
-            false
-        }
-    }
+    let full: &[Sample<'_>] = &[Sample::Full];
+    let made = made(rt, alloc, (&heap, &heap), (full, Making::Body, 219));
+    let is_made = made.is_ok();
+    let want = if is_made {
+        Ok(FULL_BODY)
+    } else {
+        Err(EncodeFault::OutOfMemory)
+    };
+    assert_equal_at(rt, told(&made), want, size);
+    is_made
 }
 
 #[test]
 fn tells_refused_memory(rt: HostRuntime) {
-    let mut refused = 0u64;
     let mut made = 0u64;
     for size in (0..8000usize).step_by(8) {
         if is_made(&rt, rt.alloc(), size) {
             made = made.saturating_add(1);
-        } else {
-            refused = refused.saturating_add(1);
         }
     }
-    assert!(rt; refused > 50, "{refused} refused");
-    assert!(rt; made > 50, "{made} made");
+    assert_equal_at(&rt, made > 50 && made < 950, true, made);
 }
 
-/// How many calls for memory there were before a body of the full span's group was made, how many
-/// its making took, and whether it was made, where the call of this index is refused.
-fn memory_calls(rt: &impl Abort, alloc: Global, fail_index: u64) -> (u64, u64, bool) {
-    let heap = LocalHeap::new(alloc, 100_000).expect(rt, "memory");
-    let scarce = FailingAllocator::new(&heap, fail_index);
-    let spans = [full_span(&scarce).expect(rt, "memory")];
-    let groups = group(&scarce, &spans).expect(rt, "memory");
-    let before = scarce.calls();
-    let is_made = encode(&scarce, groups.as_slice(), 219).is_ok();
-    (before, scarce.calls().saturating_sub(before), is_made)
-}
-
-#[test]
-fn takes_memory_twice(rt: HostRuntime) {
-    let (before, taken, is_made) = memory_calls(&rt, rt.alloc(), u64::MAX);
-    assert_equal(&rt, (taken, is_made), (2, true));
-    for (growth, calls) in [(0u64, 1u64), (1, 2), (2, 2)] {
-        let fail_index = before.saturating_add(growth);
-        let (_, taken, is_made) = memory_calls(&rt, rt.alloc(), fail_index);
-        assert_equal_at(&rt, (taken, is_made), (calls, growth == 2), growth);
-    }
-}
-
-/// What of a full span is made while one call for memory is refused.
-#[derive(Debug, Clone, Copy, PartialEq, Eq)]
-enum Making {
-    /// The groups and the body.
-    Body,
-    /// The body of groups that stand.
-    Encoding,
-}
-
-/// Makes the full span's body on scarce memory. Answers whether it was made: where it wasn't, nothing
-/// is kept.
-fn is_body_made<A: Allocator + Copy>(
+/// Makes this of samples while one call for memory is refused. Answers how many calls there were.
+fn count_calls(
     rt: &impl Abort,
-    heap: &LocalHeap,
-    ample: A,
-    scarce: A,
-    making: Making,
-) -> bool {
-    let mut spans = Vec::new(ample);
-    let span = full_span(ample).expect(rt, "memory");
-    spans.push(span).expect(rt, "memory");
-    let groups = group(ample, spans.as_slice()).expect(rt, "memory");
-    let used = heap.used();
-    let body = match making {
-        Making::Body => body_of(scarce, spans.as_slice(), 219),
-        Making::Encoding => encode(scarce, groups.as_slice(), 219),
-    };
-    let is_made = body.is_ok();
-    if is_made {
-        assert_body(rt, ample, body, FULL_BODY);
-    } else {
-        assert_equal(rt, body.err(), Some(EncodeFault::OutOfMemory));
-    }
-    assert_equal(rt, heap.used(), used);
-    is_made
-}
-
-/// Refuses each call for memory in turn, and answers how often a body wasn't made, and how often it
-/// was.
-fn refuse_in_turn(rt: &impl Abort, alloc: Global, making: Making) -> (u64, u64) {
+    alloc: Global,
+    (samples, making, text): (&[Sample<'_>], Making, &str),
+    fail_index: u64,
+) -> u64 {
     let heap = LocalHeap::new(alloc, 65_536).expect(rt, "memory");
     let ample = FailingAllocator::new(&heap, u64::MAX);
-    let (mut refused, mut made) = (0u64, 0u64);
-    for fail_index in 0..20u64 {
-        let scarce = FailingAllocator::new(&heap, fail_index);
-        let is_made = is_body_made(rt, &heap, &ample, &scarce, making);
-        assert_equal_at(rt, is_made, !scarce.has_failed(), fail_index);
-        assert_equal_at(rt, heap.used(), 0, fail_index);
-        if is_made {
-            made = made.saturating_add(1);
-        } else {
-            refused = refused.saturating_add(1);
-        }
+    let scarce = FailingAllocator::new(&heap, fail_index);
+    let made = made(rt, alloc, (&ample, &scarce), (samples, making, 219));
+    let want = if scarce.has_failed() {
+        Err(EncodeFault::OutOfMemory)
+    } else {
+        Ok(text)
+    };
+    assert_equal_at(rt, told(&made), want, fail_index);
+    assert_equal_at(rt, heap.used(), 0, fail_index);
+    scarce.calls()
+}
+
+/// Refuses each call for memory in turn, of which there are at most 60. Answers how many there are.
+fn refuse_in_turn(rt: &impl Abort, alloc: Global, row: (&[Sample<'_>], Making, &str)) -> u64 {
+    let calls = count_calls(rt, alloc, row, u64::MAX);
+    for fail_index in 0..60u64 {
+        // The first that is refused is the last.
+        let want = calls.min(fail_index.saturating_add(1));
+        let calls = count_calls(rt, alloc, row, fail_index);
+        assert_equal_at(rt, calls, want, fail_index);
     }
-    (refused, made)
+    calls
 }
 
 #[test]
-fn each_growth_of_a_body_is_refused_in_turn(rt: HostRuntime) {
+fn each_call_for_memory_is_refused_in_turn(rt: HostRuntime) {
+    let alloc = rt.alloc();
     // The table of lengths and the buffer, and no third.
-    let counts = refuse_in_turn(&rt, rt.alloc(), Making::Encoding);
-    assert_equal(&rt, counts, (2, 18));
-    let (refused, made) = refuse_in_turn(&rt, rt.alloc(), Making::Body);
-    assert_equal_at(&rt, refused > 10 && made > 0, true, (refused, made));
+    let full: &[Sample<'_>] = &[Sample::Full];
+    let calls = refuse_in_turn(&rt, alloc, (full, Making::Encoding, FULL_BODY));
+    assert_equal(&rt, calls, 2);
+    let calls = refuse_in_turn(&rt, alloc, (full, Making::Body, FULL_BODY));
+    assert_equal_at(&rt, calls > 10 && calls < 20, true, calls);
+    let calls = refuse_in_turn(&rt, alloc, (MIXED, Making::Groups, MIXED_GROUPS));
+    assert_equal_at(&rt, calls > 15 && calls < 60, true, calls);
 }
 
-/// A text of 70,000 bytes.
-fn long_text(rt: &impl Abort, alloc: Global) -> String {
-    let mut long = String::new(alloc);
-    for _ in 0..7_000u16 {
-        long.push_str("0123456789").expect(rt, "memory");
+/// Adds a group of a resource with these scopes, and without spans.
+fn add_group<'a>(
+    rt: &impl Abort,
+    alloc: Global,
+    groups: &mut Vec<ResourceGroup<'a>>,
+    (resource, scopes): (&'a Resource, &'a [Scope]),
+) {
+    let mut empty = Vec::new(alloc);
+    for scope in scopes {
+        let spans = Vec::new(alloc);
+        empty.push(ScopeGroup { scope, spans }).expect(rt, "memory");
     }
-    long
+    let group = ResourceGroup {
+        resource,
+        scopes: empty,
+    };
+    groups.push(group).expect(rt, "memory");
 }
 
-/// A span with a text of 70,000 bytes, whose body has 70,085.
-fn large_span(rt: &impl Abort, alloc: Global) -> SpanData {
-    let key = text(alloc, "a").expect(rt, "memory");
-    let mut record = open(rt, alloc, &SpanLimits::default());
-    let set = record.set_attribute(key, Value::Text(long_text(rt, alloc)));
-    set.expect(rt, "memory");
-    record.close(2)
+/// A resource with these attributes.
+fn resource(rt: &impl Abort, alloc: Global, attributes: &[(&str, Given)]) -> Resource {
+    Resource::new(alloc, pairs(alloc, attributes).expect(rt, "memory"))
 }
 
-/// Asserts that a body has 70,085 bytes.
-fn assert_large(rt: &impl Abort, body: Result<Vec<u8>, EncodeFault>) {
-    assert_equal(rt, body.expect(rt, "a body").len(), 70_085);
-}
-
-#[test]
-fn exports_a_large_body(rt: HostRuntime) {
-    let spans = [large_span(&rt, rt.alloc())];
-    assert_large(&rt, body_of(rt.alloc(), &spans, 70_085));
-    let groups = group(rt.alloc(), &spans).expect(&rt, "memory");
-    assert_large(&rt, encode(rt.alloc(), groups.as_slice(), 70_085));
-}
-
-#[test]
-fn tells_a_large_body_above_the_greatest(rt: HostRuntime) {
-    let spans = [large_span(&rt, rt.alloc())];
-    let groups = group(rt.alloc(), &spans).expect(&rt, "memory");
-    for max in [70_084usize, 65_536, 0] {
-        assert_too_large(&rt, body_of(rt.alloc(), &spans, max));
-        assert_too_large(&rt, encode(rt.alloc(), groups.as_slice(), max));
+/// Scopes of these names.
+fn scopes(rt: &impl Abort, alloc: Global, names: &[&str]) -> Vec<Scope> {
+    let mut scopes = Vec::new(alloc);
+    for name in names {
+        let scope = Scope::named(alloc, name).expect(rt, "memory");
+        scopes.push(scope).expect(rt, "memory");
     }
-}
-
-#[test]
-fn writes_no_group_as_no_byte(rt: HostRuntime) {
-    let groups: Vec<ResourceGroup> = Vec::new(rt.alloc());
-    assert_body(
-        &rt,
-        rt.alloc(),
-        encode(rt.alloc(), groups.as_slice(), 0),
-        "",
-    );
-}
-
-/// A scope with a name alone.
-fn named_scope(rt: &impl Abort, alloc: Global, name: &str) -> Scope {
-    Scope::named(alloc, name).expect(rt, "memory")
+    scopes
 }
 
 #[test]
 fn writes_groups_in_their_order(rt: HostRuntime) {
     let alloc = rt.alloc();
-    let scopes = [named_scope(&rt, alloc, "s"), named_scope(&rt, alloc, "t")];
-    let mut without_spans = Vec::new(alloc);
-    for scope in &scopes {
-        let spans = Vec::new(alloc);
-        let group = ScopeGroup { scope, spans };
-        without_spans.push(group).expect(&rt, "memory");
-    }
-    let value = Value::text(alloc, "v").expect(&rt, "memory");
-    let attributes = pair(alloc, "k", value).expect(&rt, "memory");
-    let groups = [
-        ResourceGroup {
-            resource: &Resource::new(alloc, Vec::new(alloc)),
-            scopes: without_spans,
-        },
-        ResourceGroup {
-            resource: &Resource::new(alloc, attributes),
-            scopes: Vec::new(alloc),
-        },
-    ];
+    let plain = resource(&rt, alloc, &[]);
+    let filled = resource(&rt, alloc, &[("k", Given::Text("v"))]);
+    let scopes = scopes(&rt, alloc, &["s", "t"]);
+    let mut groups = Vec::new(alloc);
+    add_group(&rt, alloc, &mut groups, (&plain, &scopes));
+    add_group(&rt, alloc, &mut groups, (&filled, &[]));
+    let body = encoded(&rt, alloc, alloc, &groups, 32);
     let digits = "0a100a0012050a030a017312050a030a01740a0c0a0a0a080a016b12030a0176";
-    assert_body(&rt, alloc, encode(alloc, &groups, 32), digits);
+    assert_equal(&rt, told(&body), Ok(digits));
 }
 
 #[test]

@@ -4,27 +4,27 @@
 #![tactic(auto)]
 
 #[cfg(test)]
+mod bodies;
+#[cfg(test)]
 mod equal;
 #[cfg(test)]
 mod exports;
 #[cfg(test)]
-mod groups;
+mod frames;
 #[cfg(test)]
 mod hostile;
 #[cfg(test)]
-mod messages;
+mod reading;
 #[cfg(test)]
 mod requests;
 #[cfg(test)]
 mod responses;
 #[cfg(test)]
-mod responses_written;
-#[cfg(test)]
 mod rows;
 #[cfg(test)]
 mod samples;
 #[cfg(test)]
-mod triples;
+mod spans;
 #[cfg(test)]
 mod walk;
 #[cfg(test)]

@@ -1,269 +1,400 @@
-//! Requests that are read, with bytes that were written out by hand (opentelemetry-proto,
-//! trace_service.proto and common.proto; Protocol Buffers, "Encoding").
+//! Requests that are read, by `read_request` and by a plain walk, with bytes that were written out
+//! by hand (opentelemetry-proto, trace_service.proto, trace.proto, resource.proto and common.proto;
+//! Protocol Buffers, "Encoding").
 
-use crate::equal::{assert_equal, assert_equal_at};
+use crate::bodies::{EVENTS, FULL, LINKS, SMALL, nested, rich_span, within};
+use crate::equal::assert_equal_at;
+use crate::frames::{Frame, RESOURCE_SPANS, SCOPE_SPANS, SPAN, VALUE, body_in, text_in};
+use crate::reading::{fault_of, read, told};
+use crate::walk::walked;
 use failing_allocator::FailingAllocator;
 use linked_list_allocator::LocalHeap;
-use otlp_read::{AnyValue, ReadFault, Request, Span, read_request};
+use otlp_read::ReadFault;
 use otlp_wire::WireFault;
-use std::alloc::{Allocator, Global};
+use std::alloc::Global;
 use std::process::Abort;
 
-/// A span of all fields, one behind the other: its ids, its state, its parent, its name, its kind,
-/// when it began and ended, one attribute, event and link each with how many more there were, and
-/// its status. Then a field that nobody knows.
-pub(crate) const FULL: &[u8] = b"\x0a\x02ab\x12\x01c\x1a\x01s\x22\x01p\x2a\x01n\x30\x02\
-    \x39\x01\x00\x00\x00\x00\x00\x00\x00\x41\x02\x00\x00\x00\x00\x00\x00\x00\
-    \x4a\x07\x0a\x01k\x12\x02\x18\x05\x50\x03\
-    \x5a\x0e\x09\x03\x00\x00\x00\x00\x00\x00\x00\x12\x01e\x20\x04\x60\x05\
-    \x6a\x07\x0a\x01t\x12\x00\x28\x06\x70\x07\x7a\x05\x12\x01m\x18\x02\x98\x06\x01";
+/// Messages, what stands around them, and how they are shown.
+type Shown = (&'static [Frame], &'static [u8], &'static str);
 
-/// A field of bytes: its tag, how many bytes there are, fewer than 128, and the bytes.
-pub(crate) fn part(rt: &impl Abort, alloc: Global, tag: u8, content: &[u8]) -> Vec<u8> {
-    let size = u8::try_from(content.len()).unwrap_or(127);
-    let mut bytes = Vec::from_slice(alloc, &[tag, size]).expect(rt, "memory");
-    bytes.extend_from_slice(content).expect(rt, "memory");
-    bytes
+/// Checks that `read_request` and the walk find these values.
+fn assert_read(rt: &impl Abort, alloc: Global, body: &[u8], text: &str) {
+    let read = read(rt, alloc, alloc, body);
+    assert_equal_at(rt, told(&read), Ok(text), body);
+    assert_equal_at(rt, walked(rt, alloc, body).as_deref(), Some(text), body);
 }
 
-/// A request of one span.
-pub(crate) fn with_span(rt: &impl Abort, alloc: Global, span: &[u8]) -> Vec<u8> {
-    let spans = part(rt, alloc, 0x12, span);
-    let scope = part(rt, alloc, 0x12, &spans);
-    part(rt, alloc, 0x0a, &scope)
+/// The same of these messages.
+fn assert_all_read(rt: &impl Abort, alloc: Global, rows: &[Shown]) {
+    for (frames, message, text) in rows {
+        let body = body_in(rt, alloc, frames, message);
+        assert_read(rt, alloc, &body, &text_in(rt, alloc, frames, text));
+    }
 }
 
-/// A request of a span of all fields.
-pub(crate) fn full_request(rt: &impl Abort, alloc: Global) -> Vec<u8> {
-    with_span(rt, alloc, FULL)
-}
-
-/// A request of a resource with one attribute, whose value is of these bytes.
-pub(crate) fn with_value(rt: &impl Abort, alloc: Global, value: &[u8]) -> Vec<u8> {
-    let mut pair = Vec::from_slice(alloc, b"\x0a\x01k").expect(rt, "memory");
-    let value = part(rt, alloc, 0x12, value);
-    pair.extend_from_slice(&value).expect(rt, "memory");
-    let attribute = part(rt, alloc, 0x0a, &pair);
-    let resource = part(rt, alloc, 0x0a, &attribute);
-    part(rt, alloc, 0x0a, &resource)
-}
-
-/// The first value of the first resource.
-pub(crate) fn first_value<A: Allocator>(request: &Request<A>) -> Option<&AnyValue<A>> {
-    let group = request.resource_spans.first()?;
-    let pair = group.resource.attributes.first()?;
-    Some(&pair.1)
-}
-
-/// The first span.
-pub(crate) fn first_span<A: Allocator>(request: &Request<A>) -> Option<&Span<A>> {
-    let group = request.resource_spans.first()?;
-    group.scope_spans.first()?.spans.first()
-}
-
-/// How the value of these bytes is shown.
-fn shown(rt: &impl Abort, alloc: Global, value: &[u8]) -> String {
-    let body = with_value(rt, alloc, value);
-    let request = read_request(alloc, &body).expect(rt, "a request");
-    let value = first_value(&request).expect(rt, "a value");
-    format!(in alloc; "{value:?}").expect(rt, "memory")
-}
-
-/// Values, and how each is shown.
-pub(crate) const VALUES: [(&[u8], &str); 15] = [
-    (b"", "Empty"),
-    (b"\x0a\x00", "Text(\"\")"),
-    (b"\x0a\x01x", "Text(\"x\")"),
-    (b"\x10\x00", "Bool(false)"),
-    (b"\x10\x02", "Bool(true)"),
-    (b"\x18\x05", "Int(5)"),
-    (b"\x18\xff\xff\xff\xff\xff\xff\xff\xff\xff\x01", "Int(-1)"),
-    (b"\x21\x01\x00\x00\x00\x00\x00\x00\x00", "Double(1)"),
-    (b"\x2a\x00", "Array([])"),
-    (b"\x2a\x04\x0a\x02\x18\x01", "Array([Int(1)])"),
+const VALUES: &[Shown] = &[
+    (VALUE, b"", "Empty"),
+    (VALUE, b"\x0a\x00", "Text(\"\")"),
+    (VALUE, b"\x0a\x01x", "Text(\"x\")"),
+    (VALUE, b"\x10\x00", "Bool(false)"),
+    (VALUE, b"\x10\x02", "Bool(true)"),
+    (VALUE, b"\x18\x05", "Int(5)"),
     (
+        VALUE,
+        b"\x18\xff\xff\xff\xff\xff\xff\xff\xff\xff\x01",
+        "Int(-1)",
+    ),
+    (VALUE, b"\x21\x01\x00\x00\x00\x00\x00\x00\x00", "Double(1)"),
+    (VALUE, b"\x2a\x00", "Array([])"),
+    (VALUE, b"\x2a\x04\x0a\x02\x18\x01", "Array([Int(1)])"),
+    (
+        VALUE,
         b"\x32\x07\x0a\x05\x0a\x01a\x12\x00",
         "Pairs([(\"a\", Empty)])",
     ),
-    (b"\x3a\x02\x01\xff", "Bytes([1, 255])"),
+    (VALUE, b"\x3a\x02\x01\xff", "Bytes([1, 255])"),
     // The last member counts, of an array the parts of its last unbroken run.
-    (b"\x18\x05\x0a\x01x", "Text(\"x\")"),
+    (VALUE, b"\x18\x05\x0a\x01x", "Text(\"x\")"),
     (
+        VALUE,
         b"\x2a\x04\x0a\x02\x18\x01\x2a\x04\x0a\x02\x18\x02",
         "Array([Int(1), Int(2)])",
     ),
-    (b"\x2a\x04\x0a\x02\x18\x01\x10\x01\x2a\x00", "Array([])"),
+    (
+        VALUE,
+        b"\x2a\x04\x0a\x02\x18\x01\x10\x01\x2a\x00",
+        "Array([])",
+    ),
+    (
+        VALUE,
+        b"\x2a\x02\x0a\x00\x18\x01\x2a\x02\x0a\x00\x2a\x02\x0a\x00",
+        "Array([Empty, Empty])",
+    ),
 ];
 
 #[test]
 fn each_kind_of_value_is_read(rt: HostRuntime) {
-    for (value, want) in VALUES {
-        assert_equal_at(&rt, shown(&rt, rt.alloc(), value).as_str(), want, value);
-    }
+    assert_all_read(&rt, rt.alloc(), VALUES);
 }
 
-/// What tells of a span.
-fn parts_of(span: &Span) -> (&[u8], &[u8], &[u8], &str, &str, i32, u64, u64) {
+const NO_RESOURCE: &str = "resource: Resource { attributes: [], dropped_attributes_count: 0 }, \
+    scope_spans: [], schema_url: \"\"";
+
+const A_RESOURCE: &str = "resource: Resource { attributes: [(\"k\", Int(5)), (\"l\", Bool(true))], \
+    dropped_attributes_count: 3 }, scope_spans: [], schema_url: \"u\"";
+
+const NO_SCOPE: &str = "scope: InstrumentationScope { name: \"\", version: \"\", attributes: [], \
+    dropped_attributes_count: 0 }, spans: [], schema_url: \"\"";
+
+const A_SCOPE: &str = "scope: InstrumentationScope { name: \"s\", version: \"v\", \
+    attributes: [(\"k\", Int(6)), (\"k\", Int(7))], dropped_attributes_count: 4 }, spans: [], \
+    schema_url: \"u\"";
+
+const GROUPS: &[Shown] = &[
+    (&[], b"", "Request { resource_spans: [] }"),
+    (RESOURCE_SPANS, b"", NO_RESOURCE),
     (
-        &span.trace_id,
-        &span.span_id,
-        &span.parent_span_id,
-        &span.trace_state,
-        &span.name,
-        span.kind,
-        span.start_time_unix_nano,
-        span.end_time_unix_nano,
-    )
+        RESOURCE_SPANS,
+        b"\x0a\x14\x0a\x07\x0a\x01k\x12\x02\x18\x05\x0a\x07\x0a\x01l\x12\x02\x10\x01\x10\x03\
+        \x1a\x01u",
+        A_RESOURCE,
+    ),
+    // Its parts are joined, and of two counts and two URLs the last counts.
+    (
+        RESOURCE_SPANS,
+        b"\x0a\x09\x0a\x07\x0a\x01k\x12\x02\x18\x05\x1a\x01t\
+        \x0a\x0b\x10\x03\x0a\x07\x0a\x01l\x12\x02\x10\x01\x1a\x01u",
+        A_RESOURCE,
+    ),
+    (
+        RESOURCE_SPANS,
+        b"\x0a\x02\x10\x03\x0a\x02\x10\x00",
+        NO_RESOURCE,
+    ),
+    (SCOPE_SPANS, b"", NO_SCOPE),
+    (
+        SCOPE_SPANS,
+        b"\x0a\x1a\x0a\x01s\x12\x01v\x1a\x07\x0a\x01k\x12\x02\x18\x06\
+        \x1a\x07\x0a\x01k\x12\x02\x18\x07\x20\x04\x1a\x01u",
+        A_SCOPE,
+    ),
+    // Its parts are joined, and of two names the last counts.
+    (
+        SCOPE_SPANS,
+        b"\x0a\x0f\x0a\x01r\x12\x01v\x1a\x07\x0a\x01k\x12\x02\x18\x06\x1a\x01u\
+        \x0a\x0e\x0a\x01s\x1a\x07\x0a\x01k\x12\x02\x18\x07\x20\x04",
+        A_SCOPE,
+    ),
+    (SCOPE_SPANS, b"\x0a\x03\x0a\x01s\x0a\x02\x0a\x00", NO_SCOPE),
+    // The parts of a resource, with a scope between them.
+    (
+        &[],
+        b"\x0a\x12\x0a\x05\x0a\x03\x0a\x01a\x12\x02\x12\x00\x0a\x05\x0a\x03\x0a\x01b",
+        "Request { resource_spans: [ResourceSpans { resource: Resource { \
+        attributes: [(\"a\", Empty), (\"b\", Empty)], dropped_attributes_count: 0 }, \
+        scope_spans: [ScopeSpans { scope: InstrumentationScope { name: \"\", version: \"\", \
+        attributes: [], dropped_attributes_count: 0 }, spans: [Span { trace_id: [], span_id: [], \
+        trace_state: \"\", parent_span_id: [], name: \"\", kind: 0, start_time_unix_nano: 0, \
+        end_time_unix_nano: 0, attributes: [], dropped_attributes_count: 0, events: [], \
+        dropped_events_count: 0, links: [], dropped_links_count: 0, \
+        status: Status { message: \"\", code: 0 } }], schema_url: \"\" }], schema_url: \"\" }] }",
+    ),
+];
+
+#[test]
+fn each_field_of_a_resource_and_of_a_scope_is_read(rt: HostRuntime) {
+    assert_all_read(&rt, rt.alloc(), GROUPS);
 }
+
+const JOINED_STATUS: &str = "events: [], dropped_events_count: 0, links: [], \
+    dropped_links_count: 0, status: Status { message: \"m\", code: 2 }";
+
+const PARTS: &[Shown] = &[
+    (
+        SPAN,
+        b"",
+        "events: [], dropped_events_count: 0, links: [], dropped_links_count: 0, \
+        status: Status { message: \"\", code: 0 }",
+    ),
+    (SPAN, b"\x7a\x03\x12\x01m\x7a\x02\x18\x02", JOINED_STATUS),
+    (
+        SPAN,
+        b"\x7a\x05\x12\x01m\x18\x01\x7a\x02\x18\x02\x7a\x00",
+        JOINED_STATUS,
+    ),
+    (
+        SPAN,
+        b"\x7a\x0d\x18\xff\xff\xff\xff\xff\xff\xff\xff\xff\x01\x12\x00",
+        "events: [], dropped_events_count: 0, links: [], dropped_links_count: 0, \
+        status: Status { message: \"\", code: -1 }",
+    ),
+    (
+        SPAN,
+        EVENTS,
+        "events: [Event { time_unix_nano: 3, name: \"e\", attributes: [(\"k\", Int(5))], \
+        dropped_attributes_count: 1 }, Event { time_unix_nano: 0, name: \"f\", attributes: [], \
+        dropped_attributes_count: 0 }], dropped_events_count: 0, links: [], \
+        dropped_links_count: 0, status: Status { message: \"\", code: 0 }",
+    ),
+    (
+        SPAN,
+        LINKS,
+        "events: [], dropped_events_count: 0, links: [Link { trace_id: [97, 98], span_id: [99], \
+        trace_state: \"s\", attributes: [(\"k\", Int(5))], dropped_attributes_count: 6 }, \
+        Link { trace_id: [], span_id: [100], trace_state: \"\", attributes: [], \
+        dropped_attributes_count: 0 }], dropped_links_count: 0, \
+        status: Status { message: \"\", code: 0 }",
+    ),
+];
+
+/// The request of the full span.
+const FULL_TEXT: &str = "Request { resource_spans: [ResourceSpans { resource: Resource { \
+    attributes: [], dropped_attributes_count: 0 }, scope_spans: [ScopeSpans { \
+    scope: InstrumentationScope { name: \"\", version: \"\", attributes: [], \
+    dropped_attributes_count: 0 }, spans: [Span { trace_id: [97, 98], span_id: [99], \
+    trace_state: \"s\", parent_span_id: [112], name: \"n\", kind: 2, start_time_unix_nano: 1, \
+    end_time_unix_nano: 2, attributes: [(\"k\", Int(5))], dropped_attributes_count: 3, \
+    events: [Event { time_unix_nano: 3, name: \"e\", attributes: [], \
+    dropped_attributes_count: 4 }], dropped_events_count: 5, links: [Link { trace_id: [116], \
+    span_id: [], trace_state: \"\", attributes: [], dropped_attributes_count: 6 }], \
+    dropped_links_count: 7, status: Status { message: \"m\", code: 2 } }], schema_url: \"\" }], \
+    schema_url: \"\" }] }";
+
+/// The request of the rich span.
+const RICH_TEXT: &str = "Request { resource_spans: [ResourceSpans { resource: Resource { \
+    attributes: [], dropped_attributes_count: 0 }, scope_spans: [ScopeSpans { \
+    scope: InstrumentationScope { name: \"\", version: \"\", attributes: [], \
+    dropped_attributes_count: 0 }, spans: [Span { trace_id: [], span_id: [], \
+    trace_state: \"\", parent_span_id: [], name: \"\", kind: 0, start_time_unix_nano: 0, \
+    end_time_unix_nano: 0, attributes: [(\"\", Text(\"x\")), \
+    (\"\", Array([Int(1), Int(2), Int(3), Int(4), Int(5)])), \
+    (\"\", Pairs([(\"a\", Empty), (\"b\", Empty), (\"c\", Empty), (\"d\", Empty), \
+    (\"e\", Empty)])), (\"\", Bytes([121]))], dropped_attributes_count: 0, \
+    events: [Event { time_unix_nano: 3, name: \"e\", attributes: [(\"k\", Int(5))], \
+    dropped_attributes_count: 1 }, Event { time_unix_nano: 0, name: \"f\", attributes: [], \
+    dropped_attributes_count: 0 }], dropped_events_count: 0, links: [Link { \
+    trace_id: [97, 98], span_id: [99], trace_state: \"s\", attributes: [(\"k\", Int(5))], \
+    dropped_attributes_count: 6 }, Link { trace_id: [], span_id: [100], trace_state: \"\", \
+    attributes: [], dropped_attributes_count: 0 }], dropped_links_count: 0, \
+    status: Status { message: \"\", code: 0 } }], schema_url: \"\" }], schema_url: \"\" }] }";
 
 #[test]
 fn each_field_of_a_span_is_read(rt: HostRuntime) {
-    let body = with_span(&rt, rt.alloc(), FULL);
-    let request = read_request(rt.alloc(), &body).expect(&rt, "a request");
-    let span = first_span(&request).expect(&rt, "a span");
-    let (trace, id, parent, state, name, kind, start, end) = parts_of(span);
-    assert_equal(
-        &rt,
-        (trace, id, parent),
-        (b"ab".as_slice(), b"c".as_slice(), b"p".as_slice()),
-    );
-    assert_equal(&rt, (state, name, kind), ("s", "n", 2));
-    assert_equal(&rt, (start, end), (1, 2));
-    let dropped = (
-        span.dropped_attributes_count,
-        span.dropped_events_count,
-        span.dropped_links_count,
-    );
-    assert_equal(&rt, dropped, (3, 5, 7));
-    let status = (span.status.code, span.status.message.as_str());
-    assert_equal(&rt, status, (2, "m"));
-    let event = span.events.first().expect(&rt, "an event");
-    let seen = (
-        event.time_unix_nano,
-        event.name.as_str(),
-        event.dropped_attributes_count,
-    );
-    assert_equal(&rt, seen, (3, "e", 4));
-    let link = span.links.first().expect(&rt, "a link");
-    assert_equal(
-        &rt,
-        (link.trace_id.as_slice(), link.dropped_attributes_count),
-        (b"t".as_slice(), 6),
-    );
-    assert_equal(&rt, (span.attributes.len(), link.span_id.len()), (1, 0));
+    let alloc = rt.alloc();
+    assert_read(&rt, alloc, &body_in(&rt, alloc, SPAN, FULL), FULL_TEXT);
+    assert_all_read(&rt, alloc, PARTS);
 }
 
-/// Why a body is no request.
-pub(crate) fn fault_of(alloc: Global, body: &[u8]) -> Option<ReadFault> {
-    read_request(alloc, body).err()
+/// Messages, what stands around them, and why the request is none.
+type Faulty = (&'static [Frame], &'static [u8], Option<ReadFault>);
+
+const TRUNCATED: Option<ReadFault> = Some(ReadFault::Wire(WireFault::Truncated));
+
+const GROUP: Option<ReadFault> = Some(ReadFault::Wire(WireFault::Group));
+
+const BAD_UTF8: Option<ReadFault> = Some(ReadFault::BadUtf8);
+
+const FAULTS: &[Faulty] = &[
+    (&[], b"\x0a", TRUNCATED),
+    (&[], b"\x0a\x05", TRUNCATED),
+    // Lengths near the greatest.
+    (&[], b"\x0a\xff\xff\xff\xff\xff\xff\xff\xff\x7f", TRUNCATED),
+    (
+        &[],
+        b"\x0a\x80\x80\x80\x80\x80\x80\x80\x80\x80\x01",
+        TRUNCATED,
+    ),
+    (
+        &[],
+        b"\x0a\xff\xff\xff\xff\xff\xff\xff\xff\xff\x01",
+        TRUNCATED,
+    ),
+    (
+        &[],
+        b"\x12\xfe\xff\xff\xff\xff\xff\xff\xff\xff\x01a",
+        TRUNCATED,
+    ),
+    (
+        &[],
+        b"\x80\x80\x80\x80\x80\x80\x80\x80\x80\x80\x01",
+        Some(ReadFault::Wire(WireFault::LongVarint)),
+    ),
+    (&[], b"\x00", Some(ReadFault::Wire(WireFault::BadNumber))),
+    (&[], b"\x0b", GROUP),
+    (&[], b"\x0a\x01\x0b", GROUP),
+    (&[], b"\x0e", Some(ReadFault::Wire(WireFault::BadWireType))),
+    // The schema URL of a resource, and a key of it.
+    (&[], b"\x0a\x03\x1a\x01\xff", BAD_UTF8),
+    (&[], b"\x0a\x07\x0a\x05\x0a\x03\x0a\x01\xff", BAD_UTF8),
+    // Of a scope the name, the version, a key, a text in an attribute, the schema URL.
+    (SCOPE_SPANS, b"\x0a\x03\x0a\x01\xff", BAD_UTF8),
+    (SCOPE_SPANS, b"\x0a\x03\x12\x01\xff", BAD_UTF8),
+    (SCOPE_SPANS, b"\x0a\x05\x1a\x03\x0a\x01\xff", BAD_UTF8),
+    (
+        SCOPE_SPANS,
+        b"\x0a\x07\x1a\x05\x12\x03\x0a\x01\xff",
+        BAD_UTF8,
+    ),
+    (SCOPE_SPANS, b"\x1a\x01\xff", BAD_UTF8),
+    // Of a span the state, the name, a key, a text by itself, in an array and as a key in a list of
+    // pairs; of an event and of a link the name or the state, and a key; the message of the status.
+    (SPAN, b"\x1a\x01\xff", BAD_UTF8),
+    (SPAN, b"\x2a\x01\xff", BAD_UTF8),
+    (SPAN, b"\x4a\x03\x0a\x01\xff", BAD_UTF8),
+    (SPAN, b"\x4a\x05\x12\x03\x0a\x01\xff", BAD_UTF8),
+    (
+        SPAN,
+        b"\x4a\x09\x12\x07\x2a\x05\x0a\x03\x0a\x01\xff",
+        BAD_UTF8,
+    ),
+    (
+        SPAN,
+        b"\x4a\x09\x12\x07\x32\x05\x0a\x03\x0a\x01\xff",
+        BAD_UTF8,
+    ),
+    (SPAN, b"\x5a\x03\x12\x01\xff", BAD_UTF8),
+    (SPAN, b"\x5a\x05\x1a\x03\x0a\x01\xff", BAD_UTF8),
+    (SPAN, b"\x6a\x03\x1a\x01\xff", BAD_UTF8),
+    (SPAN, b"\x6a\x05\x22\x03\x0a\x01\xff", BAD_UTF8),
+    (SPAN, b"\x7a\x03\x12\x01\xff", BAD_UTF8),
+    // Identifiers and bytes are no texts.
+    (
+        SPAN,
+        b"\x0a\x01\xff\x12\x01\xff\x22\x01\xff\x4a\x05\x12\x03\x3a\x01\xff",
+        None,
+    ),
+    // A text that a later one replaces isn't looked into, nor is an unknown field.
+    (SPAN, b"\x2a\x01\xff\x2a\x01n\x9a\x06\x01\xff", None),
+];
+
+/// Checks why these bytes are no request, of which a plain walk finds the same values.
+fn assert_fault(rt: &impl Abort, alloc: Global, body: &[u8], fault: Option<ReadFault>) {
+    assert_equal_at(rt, fault_of(rt, alloc, alloc, body), fault, body);
 }
 
 #[test]
 fn each_fault_is_told(rt: HostRuntime) {
     let alloc = rt.alloc();
-    let rows: [(&[u8], ReadFault); 8] = [
-        (b"\x0a", ReadFault::Wire(WireFault::Truncated)),
-        (b"\x0a\x05", ReadFault::Wire(WireFault::Truncated)),
-        (
-            b"\x80\x80\x80\x80\x80\x80\x80\x80\x80\x80\x01",
-            ReadFault::Wire(WireFault::LongVarint),
-        ),
-        (b"\x00", ReadFault::Wire(WireFault::BadNumber)),
-        (b"\x0b", ReadFault::Wire(WireFault::Group)),
-        (b"\x0e", ReadFault::Wire(WireFault::BadWireType)),
-        (b"\x0a\x03\x1a\x01\xff", ReadFault::BadUtf8),
-        (b"\x0a\x01\x0b", ReadFault::Wire(WireFault::Group)),
-    ];
-    for (body, want) in rows {
-        assert_equal_at(&rt, fault_of(alloc, body), Some(want), body);
+    for (frames, message, fault) in FAULTS {
+        let body = body_in(&rt, alloc, frames, message);
+        assert_fault(&rt, alloc, &body, *fault);
     }
-    let name = with_span(&rt, alloc, b"\x2a\x01\xff");
-    assert_equal(&rt, fault_of(alloc, &name), Some(ReadFault::BadUtf8));
-    // A text that a later one replaces isn't looked into, nor is an unknown field.
-    let replaced = with_span(&rt, alloc, b"\x2a\x01\xff\x2a\x01n\x9a\x06\x01\xff");
-    assert_equal(&rt, fault_of(alloc, &replaced), None);
 }
 
-/// A number within so many arrays: two bytes, and each array four more.
-pub(crate) fn nested(rt: &impl Abort, alloc: Global, arrays: usize) -> Vec<u8> {
-    let mut bytes = Vec::from_slice(alloc, b"\x18\x01").expect(rt, "memory");
-    for _array in 0..arrays {
-        bytes = around(rt, alloc, &bytes);
+/// Checks what a request is with each count of its first bytes.
+fn assert_cut(rt: &impl Abort, alloc: Global, body: &[u8]) {
+    assert_fault(rt, alloc, b"", None);
+    for size in 1..body.len() {
+        assert_fault(rt, alloc, &body[..size], TRUNCATED);
     }
-    bytes
+    assert_fault(rt, alloc, body, None);
 }
 
-/// An array of one value.
-pub(crate) fn around(rt: &impl Abort, alloc: Global, value: &[u8]) -> Vec<u8> {
-    let member = sized(rt, alloc, 0x0a, value);
-    sized(rt, alloc, 0x2a, &member)
+#[test]
+fn a_request_that_is_cut(rt: HostRuntime) {
+    let alloc = rt.alloc();
+    assert_cut(&rt, alloc, &body_in(&rt, alloc, SPAN, SMALL));
+    assert_cut(&rt, alloc, &body_in(&rt, alloc, SPAN, FULL));
 }
 
-/// A field of bytes, of which there are fewer than 16,384: the length takes two bytes.
-pub(crate) fn sized(rt: &impl Abort, alloc: Global, tag: u8, content: &[u8]) -> Vec<u8> {
-    let size = content.len();
-    let low = (size % 128) as u8 | 0x80;
-    let high = (size / 128 % 128) as u8;
-    let mut bytes = Vec::from_slice(alloc, &[tag, low, high]).expect(rt, "memory");
-    bytes.extend_from_slice(content).expect(rt, "memory");
-    bytes
-}
-
-/// A request of a resource with an attribute whose value nests so many arrays.
-pub(crate) fn with_nested(rt: &impl Abort, alloc: Global, arrays: usize) -> Vec<u8> {
-    let value = sized(rt, alloc, 0x12, &nested(rt, alloc, arrays));
-    let attribute = sized(rt, alloc, 0x0a, &value);
-    let resource = sized(rt, alloc, 0x0a, &attribute);
-    sized(rt, alloc, 0x0a, &resource)
+#[test]
+fn a_span_that_is_cut(rt: HostRuntime) {
+    let alloc = rt.alloc();
+    for size in 0..=SMALL.len() {
+        // Between two fields it is a span.
+        let fault = match size {
+            0 | 4 | 7 | 16 => None,
+            _ => TRUNCATED,
+        };
+        let body = body_in(&rt, alloc, SPAN, &SMALL[..size]);
+        assert_fault(&rt, alloc, &body, fault);
+    }
 }
 
 #[test]
 fn values_nest_64_deep(rt: HostRuntime) {
     let alloc = rt.alloc();
-    assert_equal(&rt, fault_of(alloc, &with_nested(&rt, alloc, 63)), None);
-    let deep = with_nested(&rt, alloc, 64);
-    assert_equal(&rt, fault_of(alloc, &deep), Some(ReadFault::TooDeep));
+    let (array, pairs): (&[u8], &[u8]) = (&[0x0a, 0x2a], &[0x12, 0x0a, 0x32]);
+    for tags in [array, pairs] {
+        assert_fault(&rt, alloc, &nested(&rt, alloc, tags, 63), None);
+        let deep = nested(&rt, alloc, tags, 64);
+        assert_fault(&rt, alloc, &deep, Some(ReadFault::TooDeep));
+    }
 }
 
-/// Reads a request while one call for memory is refused. Answers whether it was.
-fn is_refused(rt: &impl Abort, alloc: Global, body: &[u8], fail_index: u64) -> bool {
+/// Reads a request of these values while one call for memory is refused. Answers whether it was.
+fn is_refused(rt: &impl Abort, alloc: Global, body: &[u8], text: &str, fail_index: u64) -> bool {
     let heap = LocalHeap::new(alloc, 65_536).expect(rt, "memory");
     let scarce = FailingAllocator::new(&heap, fail_index);
-    let answer = read_request(&scarce, body);
-    let is_refused = match &answer {
-        Ok(request) => {
-            assert!(rt; first_span(request).is_some());
-            false
-        }
-        Err(fault) => *fault == ReadFault::OutOfMemory,
+    let read = read(rt, alloc, &scarce, body);
+    let is_refused = scarce.has_failed();
+    let want = if is_refused {
+        Err(ReadFault::OutOfMemory)
+    } else {
+        Ok(text)
     };
-    drop(answer);
-    assert_equal(rt, is_refused, scarce.has_failed());
+    assert_equal_at(rt, told(&read), want, fail_index);
     is_refused
+}
+
+/// How many calls for memory are refused, each in its turn, before these values are read.
+fn count_refused(rt: &impl Abort, alloc: Global, body: &[u8], text: &str) -> u64 {
+    let mut refused = 0u64;
+    for fail_index in 0..=96u64 {
+        if is_refused(rt, alloc, body, text, fail_index) {
+            refused = refused.saturating_add(1);
+        }
+    }
+    refused
 }
 
 #[test]
 fn each_refusal_of_memory_is_told(rt: HostRuntime) {
-    let body = with_span(&rt, rt.alloc(), FULL);
-    let mut refused = 0u64;
-    for fail_index in 0..64u64 {
-        if is_refused(&rt, rt.alloc(), &body, fail_index) {
-            refused = refused.saturating_add(1);
-        }
-    }
-    assert!(rt; refused >= 8);
-    assert!(rt; !is_refused(&rt, rt.alloc(), &body, 64));
-}
-
-#[test]
-fn thousands_of_spans_are_read(rt: HostRuntime) {
     let alloc = rt.alloc();
-    let one = with_span(&rt, alloc, FULL);
-    let mut body = Vec::new(alloc);
-    for _span in 0..2000 {
-        body.extend_from_slice(&one).expect(&rt, "memory");
-    }
-    assert!(rt; body.len() > 65_536);
-    let request = read_request(alloc, &body).expect(&rt, "a request");
-    assert_equal(&rt, request.resource_spans.len(), 2000);
+    let full = body_in(&rt, alloc, SPAN, FULL);
+    let refused = count_refused(&rt, alloc, &full, FULL_TEXT);
+    assert_equal_at(&rt, refused >= 8 && refused <= 64, true, refused);
+    let rich = within(&rt, alloc, &[0x12, 0x12, 0x0a], &rich_span(&rt, alloc));
+    let refused = count_refused(&rt, alloc, &rich, RICH_TEXT);
+    assert_equal_at(&rt, refused >= 24 && refused <= 96, true, refused);
 }

@@ -1,154 +1,208 @@
-//! Responses that are read, with bytes that were written out by hand (opentelemetry-proto,
-//! trace_service.proto; Protocol Buffers, "Encoding").
+//! Responses that are read and written, with bytes that were written out by hand
+//! (opentelemetry-proto, trace_service.proto; Protocol Buffers, "Encoding").
 
-use crate::equal::{assert_equal, assert_equal_at, assert_told};
+use crate::equal::{assert_equal_at, assert_told};
 use failing_allocator::FailingAllocator;
 use linked_list_allocator::LocalHeap;
-use otlp_message::{ReadFault, read_rejected_spans, read_response};
+use otlp_message::{
+    PartialSuccess, ReadFault, Response, read_rejected_spans, read_response, write_response,
+};
 use otlp_wire::WireFault;
-use std::alloc::Global;
+use std::alloc::{Allocator, Global};
 use std::process::Abort;
 
-/// Asserts what the partial success of a response tells.
-fn tells(rt: &impl Abort, alloc: Global, body: &[u8], rejected: i64, message: &str) {
-    let response = read_response(alloc, body).expect(rt, "a response");
-    let partial = response.partial_success();
-    assert_equal_at(rt, partial.rejected_spans(), rejected, body);
-    assert_equal_at(rt, partial.error_message(), message, body);
-    assert_equal_at(rt, read_rejected_spans(body).ok(), Some(rejected), body);
+/// How many spans a response says were rejected, and for which cause; or why it is none.
+type Told<'a> = Result<(i64, &'a str), ReadFault>;
+
+/// What a response tells.
+fn told<A: Allocator>(response: &Result<Response<A>, ReadFault>) -> Told<'_> {
+    match response {
+        Ok(response) => {
+            let partial = response.partial_success();
+            Ok((partial.rejected_spans(), partial.error_message()))
+        }
+        Err(fault) => Err(*fault),
+    }
 }
 
-/// Asserts why a body is no response.
-fn fails(rt: &impl Abort, alloc: Global, body: &[u8], fault: ReadFault) {
-    let told = read_response(alloc, body).err();
-    assert_equal_at(rt, told, Some(fault), body);
+/// Checks what a response is read as, with this memory.
+fn assert_read<A: Allocator>(rt: &impl Abort, memory: A, body: &[u8], want: Told<'_>) {
+    let response = read_response(memory, body);
+    assert_equal_at(rt, told(&response), want, body);
 }
 
-#[test]
-fn reads_a_partial_success(rt: HostRuntime) {
-    let alloc = rt.alloc();
-    let minus_one = b"\x0a\x0b\x08\xff\xff\xff\xff\xff\xff\xff\xff\xff\x01";
-    tells(&rt, alloc, b"", 0, "");
-    tells(&rt, alloc, b"\x0a\x00", 0, "");
-    tells(&rt, alloc, b"\x0a\x05\x08\x02\x12\x01x", 2, "x");
-    tells(&rt, alloc, b"\x0a\x05\x12\x01x\x08\x02", 2, "x");
-    tells(&rt, alloc, minus_one, -1, "");
+/// Checks how many spans are read to be rejected, without memory.
+fn assert_rejected(rt: &impl Abort, body: &[u8], want: Told<'_>) {
+    let want = match want {
+        Ok((rejected, _)) => Ok(rejected),
+        Err(fault) => Err(fault),
+    };
+    assert_equal_at(rt, read_rejected_spans(body), want, body);
 }
 
-#[test]
-fn reads_a_long_message(rt: HostRuntime) {
-    let alloc = rt.alloc();
-    let message = "x".repeat(alloc, 70_000).expect(&rt, "memory");
-    let mut body = Vec::from_slice(alloc, b"\x0a\xf4\xa2\x04\x12\xf0\xa2\x04").expect(
-        &rt, "memory",
-    );
-    body.extend_from_slice(message.as_bytes())
-        .expect(&rt, "memory");
-    tells(&rt, alloc, body.as_slice(), 0, message.as_str());
-}
+const TRUNCATED: Told<'_> = Err(ReadFault::Wire(WireFault::Truncated));
 
-#[test]
-fn the_last_payload_counts(rt: HostRuntime) {
-    let alloc = rt.alloc();
-    tells(&rt, alloc, b"\x0a\x04\x08\x02\x08\x03", 3, "");
-    tells(&rt, alloc, b"\x0a\x04\x08\x02\x08\x00", 0, "");
-    tells(&rt, alloc, b"\x0a\x06\x12\x01x\x12\x01y", 0, "y");
-    tells(&rt, alloc, b"\x0a\x06\x12\x01\xff\x12\x01y", 0, "y");
-    tells(&rt, alloc, b"\x0a\x05\x12\x01\xff\x12\x00", 0, "");
-}
+const BAD_NUMBER: Told<'_> = Err(ReadFault::Wire(WireFault::BadNumber));
 
-#[test]
-fn partial_successes_are_joined(rt: HostRuntime) {
-    let alloc = rt.alloc();
-    let two_parts = b"\x0a\x02\x08\x02\x0a\x03\x12\x01x";
-    let again = b"\x0a\x05\x08\x02\x12\x01x\x0a\x02\x08\x03";
-    tells(&rt, alloc, two_parts, 2, "x");
-    tells(&rt, alloc, again, 3, "x");
-}
-
-#[test]
-fn unknown_fields_are_skipped(rt: HostRuntime) {
-    let alloc = rt.alloc();
-    let among_others = b"\x10\x07\x0a\x0b\x18\x01\x08\x02\x1d\0\0\0\0\x08\x01\x12\x01\xff";
-    let other_types = b"\x08\x05\x0a\x06\x0a\x01\x0b\x10\x07\x08";
-    tells(&rt, alloc, among_others, 1, "");
-    fails(
-        &rt,
-        alloc,
-        other_types,
-        ReadFault::Wire(WireFault::Truncated),
-    );
-    tells(&rt, alloc, b"\x08\x05\x0a\x05\x0a\x01\x0b\x10\x07", 0, "");
-}
-
-#[test]
-fn tells_faults(rt: HostRuntime) {
-    let alloc = rt.alloc();
-    fails(&rt, alloc, b"\x0a\x03\x12\x01\xff", ReadFault::BadUtf8);
-    fails(&rt, alloc, b"\x00", ReadFault::Wire(WireFault::BadNumber));
-    fails(
-        &rt,
-        alloc,
-        b"\x0a\x01\x00",
-        ReadFault::Wire(WireFault::BadNumber),
-    );
-    fails(
-        &rt,
-        alloc,
-        b"\x0a\x01\x0b",
-        ReadFault::Wire(WireFault::Group),
-    );
-    fails(
-        &rt,
-        alloc,
+/// Bodies, and what they tell.
+const BODIES: &[(&[u8], Told<'_>)] = &[
+    (b"", Ok((0, ""))),
+    (b"\x0a\x00", Ok((0, ""))),
+    (b"\x0a\x05\x08\x02\x12\x01x", Ok((2, "x"))),
+    (b"\x0a\x05\x12\x01x\x08\x02", Ok((2, "x"))),
+    (
+        b"\x0a\x0b\x08\xff\xff\xff\xff\xff\xff\xff\xff\xff\x01",
+        Ok((-1, "")),
+    ),
+    // Of several payloads the last counts.
+    (b"\x0a\x04\x08\x02\x08\x03", Ok((3, ""))),
+    (b"\x0a\x04\x08\x02\x08\x00", Ok((0, ""))),
+    (b"\x0a\x06\x12\x01x\x12\x01y", Ok((0, "y"))),
+    (b"\x0a\x06\x12\x01\xff\x12\x01y", Ok((0, "y"))),
+    (b"\x0a\x05\x12\x01\xff\x12\x00", Ok((0, ""))),
+    // Several partial successes are joined.
+    (b"\x0a\x02\x08\x02\x0a\x03\x12\x01x", Ok((2, "x"))),
+    (b"\x0a\x05\x08\x02\x12\x01x\x0a\x02\x08\x03", Ok((3, "x"))),
+    // Unknown fields and those of another wire type are skipped.
+    (
+        b"\x10\x07\x0a\x0b\x18\x01\x08\x02\x1d\0\0\0\0\x08\x01\x12\x01\xff",
+        Ok((1, "")),
+    ),
+    (b"\x08\x05\x0a\x06\x0a\x01\x0b\x10\x07\x08", TRUNCATED),
+    (b"\x08\x05\x0a\x05\x0a\x01\x0b\x10\x07", Ok((0, ""))),
+    // Faults.
+    (b"\x0a\x03\x12\x01\xff", Err(ReadFault::BadUtf8)),
+    (b"\x00", BAD_NUMBER),
+    (b"\x0a\x01\x00", BAD_NUMBER),
+    (b"\x0a\x01\x0b", Err(ReadFault::Wire(WireFault::Group))),
+    (
         b"\x0a\x01\x0e",
-        ReadFault::Wire(WireFault::BadWireType),
-    );
-    fails(
-        &rt,
-        alloc,
-        b"\x0a\x02\x12\x01",
-        ReadFault::Wire(WireFault::Truncated),
-    );
-}
+        Err(ReadFault::Wire(WireFault::BadWireType)),
+    ),
+    (b"\x0a\x02\x12\x01", TRUNCATED),
+    // The third of these bodies, cut.
+    (b"\x0a", TRUNCATED),
+    (b"\x0a\x05", TRUNCATED),
+    (b"\x0a\x05\x08", TRUNCATED),
+    (b"\x0a\x05\x08\x02", TRUNCATED),
+    (b"\x0a\x05\x08\x02\x12", TRUNCATED),
+    (b"\x0a\x05\x08\x02\x12\x01", TRUNCATED),
+];
 
 #[test]
-fn a_response_that_is_cut(rt: HostRuntime) {
-    let body = b"\x0a\x05\x08\x02\x12\x01x";
-    for size in 1..body.len() {
-        let fault = ReadFault::Wire(WireFault::Truncated);
-        fails(&rt, rt.alloc(), &body[..size], fault);
+fn a_response_is_read(rt: HostRuntime) {
+    for (body, want) in BODIES {
+        assert_read(&rt, rt.alloc(), body, *want);
+        assert_rejected(&rt, body, *want);
     }
 }
 
 #[test]
-fn memory_that_is_refused(rt: HostRuntime) {
+fn a_refusal_of_memory_for_a_message_is_told(rt: HostRuntime) {
     let heap = LocalHeap::new(rt.alloc(), 4096).expect(&rt, "memory");
-    for (fail_index, fault) in [(0, Some(ReadFault::OutOfMemory)), (1, None)] {
+    let message = b"\x0a\x05\x08\x02\x12\x01x".as_slice();
+    for (body, fail_index, want, calls) in [
+        (message, 0, Err(ReadFault::OutOfMemory), 1),
+        (message, 1, Ok((2, "x")), 1),
+        (b"\x0a\x02\x08\x02".as_slice(), 0, Ok((2, "")), 0),
+    ] {
         let scarce = FailingAllocator::new(&heap, fail_index);
-        let told = read_response(&scarce, b"\x0a\x05\x08\x02\x12\x01x").err();
-        assert_equal_at(&rt, told, fault, fail_index);
-        assert_equal_at(&rt, scarce.calls(), 1, fail_index);
+        assert_read(&rt, &scarce, body, want);
+        assert_equal_at(&rt, scarce.calls(), calls, fail_index);
         assert_equal_at(&rt, heap.used(), 0, fail_index);
     }
-    let scarce = FailingAllocator::new(&heap, 0);
-    assert!(rt; read_response(&scarce, b"\x0a\x02\x08\x02").is_ok());
-    assert_equal(&rt, scarce.calls(), 0);
+}
+
+/// Checks what a response of so many rejected spans, for this cause, is written as while one call
+/// for memory is refused. Answers whether it was.
+fn is_refused(rt: &impl Abort, alloc: Global, row: (i64, &str, &[u8]), fail_index: u64) -> bool {
+    let (rejected, message, bytes) = row;
+    let message = String::from_str(alloc, message).expect(rt, "memory");
+    let response = Response::new(PartialSuccess::new(rejected, message));
+    let scarce = FailingAllocator::new(alloc, fail_index);
+    let written = write_response(&scarce, &response).ok();
+    let is_refused = scarce.has_failed();
+    let want = if is_refused { None } else { Some(bytes) };
+    assert_equal_at(rt, written.as_deref(), want, rejected);
+    is_refused
+}
+
+#[test]
+fn a_response_is_written_as_its_fields(rt: HostRuntime) {
+    let alloc = rt.alloc();
+    let rows: [(i64, &str, &[u8]); 5] = [
+        (0, "", b""),
+        (2, "x", b"\x0a\x05\x08\x02\x12\x01x"),
+        (300, "", b"\x0a\x03\x08\xac\x02"),
+        (0, "x", b"\x0a\x03\x12\x01x"),
+        (
+            -1,
+            "",
+            b"\x0a\x0b\x08\xff\xff\xff\xff\xff\xff\xff\xff\xff\x01",
+        ),
+    ];
+    for (rejected, message, bytes) in rows {
+        let is_refused = is_refused(&rt, alloc, (rejected, message, bytes), u64::MAX);
+        assert_equal_at(&rt, is_refused, false, rejected);
+        assert_read(&rt, alloc, bytes, Ok((rejected, message)));
+    }
+}
+
+#[test]
+fn a_long_message_is_read_and_written(rt: HostRuntime) {
+    let alloc = rt.alloc();
+    let message = "x".repeat(alloc, 70_000).expect(&rt, "memory");
+    let front = b"\x0a\xf4\xa2\x04\x12\xf0\xa2\x04".as_slice();
+    let body = [front, message.as_bytes()]
+        .concat(alloc)
+        .expect(&rt, "memory");
+    assert_read(&rt, alloc, &body, Ok((0, &message)));
+    assert_rejected(&rt, &body, Ok((0, &message)));
+    let is_refused = is_refused(&rt, alloc, (0, &message, &body), u64::MAX);
+    assert_equal_at(&rt, is_refused, false, body.len());
+}
+
+#[test]
+fn each_refusal_of_memory_for_a_body_is_told(rt: HostRuntime) {
+    let alloc = rt.alloc();
+    let mut refused = 0u64;
+    for fail_index in 0..=16u64 {
+        let row = (2, "x", b"\x0a\x05\x08\x02\x12\x01x".as_slice());
+        if is_refused(&rt, alloc, row, fail_index) {
+            refused = refused.saturating_add(1);
+        }
+    }
+    assert_equal_at(&rt, refused >= 2 && refused <= 16, true, refused);
+    // The defaults take no memory.
+    let is_refused = is_refused(&rt, alloc, (0, "", b""), 0);
+    assert_equal_at(&rt, is_refused, false, 0);
 }
 
 #[test]
 fn faults_are_told(rt: HostRuntime) {
     let alloc = rt.alloc();
     for (fault, text) in [
-        (WireFault::Truncated, "a field runs past the end"),
-        (WireFault::LongVarint, "a varint has more than ten bytes"),
-        (WireFault::BadNumber, "a field number is out of range"),
-        (WireFault::Group, "a group begins or ends"),
-        (WireFault::BadWireType, "a wire type is unknown"),
+        (
+            ReadFault::Wire(WireFault::Truncated),
+            "a field runs past the end",
+        ),
+        (
+            ReadFault::Wire(WireFault::LongVarint),
+            "a varint has more than ten bytes",
+        ),
+        (
+            ReadFault::Wire(WireFault::BadNumber),
+            "a field number is out of range",
+        ),
+        (ReadFault::Wire(WireFault::Group), "a group begins or ends"),
+        (
+            ReadFault::Wire(WireFault::BadWireType),
+            "a wire type is unknown",
+        ),
+        (ReadFault::BadUtf8, "a text is not UTF-8"),
+        (ReadFault::TooDeep, "a value nests too deep"),
+        (ReadFault::OutOfMemory, "out of memory"),
     ] {
-        assert_told(&rt, alloc, &ReadFault::Wire(fault), text);
+        assert_told(&rt, alloc, &fault, text);
     }
-    assert_told(&rt, alloc, &ReadFault::BadUtf8, "a text is not UTF-8");
-    assert_told(&rt, alloc, &ReadFault::TooDeep, "a value nests too deep");
-    assert_told(&rt, alloc, &ReadFault::OutOfMemory, "out of memory");
 }

@@ -4,34 +4,19 @@ use otlp_ids::{OutOfMemory, SpanContext, SpanId, TraceFlags, TraceId};
 use otlp_span::{Kind, Open, Resource, Scope, SpanData, SpanLimits, SpanRecord, Status};
 use otlp_value::Value;
 use std::alloc::Allocator;
-use std::process::Abort;
 use std::sync::Arc;
 
-pub(crate) fn text<A: Allocator>(alloc: A, text: &str) -> Result<String<A>, OutOfMemory> {
+/// The value of an attribute.
+#[derive(Clone, Copy)]
+pub(crate) enum Given {
+    Bool(bool),
+    Int(i64),
+    Text(&'static str),
+    Texts(&'static [&'static str]),
+}
+
+fn text<A: Allocator>(alloc: A, text: &str) -> Result<String<A>, OutOfMemory> {
     Ok(String::from_str(alloc, text)?)
-}
-
-/// One pair of a key and a value.
-pub(crate) fn pair<A: Allocator + Copy>(
-    alloc: A,
-    key: &str,
-    value: Value<A>,
-) -> Result<Vec<(String<A>, Value<A>), A>, OutOfMemory> {
-    let mut pairs = Vec::new(alloc);
-    pairs.push((text(alloc, key)?, value))?;
-    Ok(pairs)
-}
-
-/// Pairs of these keys, each with the number 1.
-fn pairs<A: Allocator + Copy>(
-    alloc: A,
-    keys: &[&str],
-) -> Result<Vec<(String<A>, Value<A>), A>, OutOfMemory> {
-    let mut all = Vec::new(alloc);
-    for key in keys {
-        all.push((text(alloc, key)?, Value::Int(1)))?;
-    }
-    Ok(all)
 }
 
 fn texts<A: Allocator + Copy>(alloc: A, all: &[&str]) -> Result<Value<A>, OutOfMemory> {
@@ -41,6 +26,31 @@ fn texts<A: Allocator + Copy>(alloc: A, all: &[&str]) -> Result<Value<A>, OutOfM
     }
     Ok(Value::Texts(texts))
 }
+
+fn value<A: Allocator + Copy>(alloc: A, given: Given) -> Result<Value<A>, OutOfMemory> {
+    match given {
+        Given::Bool(value) => Ok(Value::Bool(value)),
+        Given::Int(value) => Ok(Value::Int(value)),
+        Given::Text(value) => Value::text(alloc, value),
+        Given::Texts(values) => texts(alloc, values),
+    }
+}
+
+/// Attributes: keys with their values.
+pub(crate) fn pairs<A: Allocator + Copy>(
+    alloc: A,
+    all: &[(&str, Given)],
+) -> Result<Vec<(String<A>, Value<A>), A>, OutOfMemory> {
+    let mut pairs = Vec::new(alloc);
+    for (key, given) in all {
+        pairs.push((text(alloc, key)?, value(alloc, *given)?))?;
+    }
+    Ok(pairs)
+}
+
+const TRACE: [u8; 16] = [1, 2, 3, 4, 5, 6, 7, 8, 9, 10, 11, 12, 13, 14, 15, 16];
+
+const SPAN: [u8; 8] = [17, 18, 19, 20, 21, 22, 23, 24];
 
 fn context<A: Allocator>(
     alloc: A,
@@ -57,104 +67,86 @@ fn context<A: Allocator>(
     })
 }
 
-const TRACE: [u8; 16] = [1, 2, 3, 4, 5, 6, 7, 8, 9, 10, 11, 12, 13, 14, 15, 16];
+/// Attributes of a sample.
+type Pairs = &'static [(&'static str, Given)];
 
-const SPAN: [u8; 8] = [17, 18, 19, 20, 21, 22, 23, 24];
-
-/// A resource with this schema alone.
-pub(crate) fn resource<A: Allocator + Copy>(
-    rt: &impl Abort,
-    alloc: A,
-    schema_url: &str,
-) -> Resource<A> {
-    Resource {
-        attributes: Vec::new(alloc),
-        schema_url: text(alloc, schema_url).expect(rt, "memory"),
-    }
+/// What a span starts with, that is named `a` and starts at the moment 1.
+#[derive(Clone, Copy)]
+struct Start<'a> {
+    state: &'a str,
+    parent: Option<SpanId>,
+    kind: Kind,
+    /// The resource's attributes and its schema.
+    resource: (Pairs, &'a str),
+    /// The scope's attributes, and its name, version and schema.
+    scope: (Pairs, [&'a str; 3]),
 }
 
-/// A scope without attributes.
-pub(crate) fn scope<A: Allocator + Copy>(
-    rt: &impl Abort,
-    alloc: A,
-    [name, version, schema_url]: [&str; 3],
-) -> Scope<A> {
-    Scope {
-        name: text(alloc, name).expect(rt, "memory"),
-        version: text(alloc, version).expect(rt, "memory"),
-        attributes: Vec::new(alloc),
-        schema_url: text(alloc, schema_url).expect(rt, "memory"),
-    }
-}
+/// What the full span starts with.
+const FULL: Start<'_> = Start {
+    state: "k=v",
+    parent: Some(SpanId([33, 34, 35, 36, 37, 38, 39, 40])),
+    kind: Kind::Server,
+    resource: (&[("k", Given::Text("v"))], "r"),
+    scope: (&[("n", Given::Int(5))], ["s", "1", "u"]),
+};
 
-/// The start of a span named `a`, at the moment 1.
-pub(crate) fn opening<A: Allocator + Copy>(
-    rt: &impl Abort,
+fn resource<A: Allocator + Copy>(
     alloc: A,
-    resource: Resource<A>,
-    scope: Scope<A>,
-) -> Open<A> {
-    Open {
-        context: context(alloc, TRACE, SPAN, "").expect(rt, "memory"),
-        parent: None,
-        resource: Arc::new(alloc, resource).expect(rt, "memory"),
-        scope: Arc::new(alloc, scope).expect(rt, "memory"),
-        name: text(alloc, "a").expect(rt, "memory"),
-        kind: Kind::Internal,
-        start: 1,
-    }
-}
-
-/// A span named `a` in the scope `s`, from the moment 1 on.
-pub(crate) fn open<A: Allocator + Copy>(
-    rt: &impl Abort,
-    alloc: A,
-    limits: &SpanLimits,
-) -> SpanRecord<A> {
-    let scope = scope(rt, alloc, ["s", "", ""]);
-    let opening = opening(rt, alloc, resource(rt, alloc, ""), scope);
-    SpanRecord::open(alloc, opening, limits).expect(rt, "memory")
-}
-
-fn full_resource<A: Allocator + Copy>(alloc: A) -> Result<Arc<Resource<A>, A>, OutOfMemory> {
+    (attributes, schema_url): (Pairs, &str),
+) -> Result<Arc<Resource<A>, A>, OutOfMemory> {
     let resource = Resource {
-        attributes: pair(alloc, "k", Value::text(alloc, "v")?)?,
-        schema_url: text(alloc, "r")?,
+        attributes: pairs(alloc, attributes)?,
+        schema_url: text(alloc, schema_url)?,
     };
     Ok(Arc::new(alloc, resource)?)
 }
 
-fn full_scope<A: Allocator + Copy>(alloc: A) -> Result<Arc<Scope<A>, A>, OutOfMemory> {
+fn scope<A: Allocator + Copy>(
+    alloc: A,
+    (attributes, [name, version, schema_url]): (Pairs, [&str; 3]),
+) -> Result<Arc<Scope<A>, A>, OutOfMemory> {
     let scope = Scope {
-        name: text(alloc, "s")?,
-        version: text(alloc, "1")?,
-        attributes: pair(alloc, "n", Value::Int(5))?,
-        schema_url: text(alloc, "u")?,
+        name: text(alloc, name)?,
+        version: text(alloc, version)?,
+        attributes: pairs(alloc, attributes)?,
+        schema_url: text(alloc, schema_url)?,
     };
     Ok(Arc::new(alloc, scope)?)
 }
 
-/// The start of a span whose resource, scope and context have everything.
-fn full_opening<A: Allocator + Copy>(alloc: A) -> Result<Open<A>, OutOfMemory> {
-    Ok(Open {
-        context: context(alloc, TRACE, SPAN, "k=v")?,
-        parent: Some(SpanId([33, 34, 35, 36, 37, 38, 39, 40])),
-        resource: full_resource(alloc)?,
-        scope: full_scope(alloc)?,
+fn open<A: Allocator + Copy>(
+    alloc: A,
+    start: Start<'_>,
+    limits: &SpanLimits,
+) -> Result<SpanRecord<A>, OutOfMemory> {
+    let opening = Open {
+        context: context(alloc, TRACE, SPAN, start.state)?,
+        parent: start.parent,
+        resource: resource(alloc, start.resource)?,
+        scope: scope(alloc, start.scope)?,
         name: text(alloc, "a")?,
-        kind: Kind::Server,
+        kind: start.kind,
         start: 1,
-    })
+    };
+    SpanRecord::open(alloc, opening, limits)
 }
 
-/// Sets three attributes, of which the span keeps two.
+/// Three attributes, of which the full span keeps two.
+const ATTRIBUTES: Pairs = &[
+    ("a", Given::Texts(&["x", ""])),
+    ("f", Given::Bool(false)),
+    ("b", Given::Int(2)),
+];
+
 fn set_attributes<A: Allocator + Copy>(
     record: &mut SpanRecord<A>,
     alloc: A,
 ) -> Result<(), OutOfMemory> {
-    record.set_attribute(text(alloc, "a")?, texts(alloc, &["x", ""])?)?;
-    record.set_attribute(text(alloc, "f")?, Value::Bool(false))?;
-    record.set_attribute(text(alloc, "b")?, Value::Int(2))
+    for (key, given) in ATTRIBUTES {
+        record.set_attribute(text(alloc, key)?, value(alloc, *given)?)?;
+    }
+    Ok(())
 }
 
 /// Adds four events, of which the span keeps one, with one of its three attributes.
@@ -162,25 +154,29 @@ fn add_events<A: Allocator + Copy>(
     record: &mut SpanRecord<A>,
     alloc: A,
 ) -> Result<(), OutOfMemory> {
-    record.add_event(text(alloc, "e")?, 3, pairs(alloc, &["x", "y", "z"])?)?;
-    for _ in 0..3u8 {
-        record.add_event(text(alloc, "f")?, 4, Vec::new(alloc))?;
+    let one = Given::Int(1);
+    let three: &[(&str, Given)] = &[("x", one), ("y", one), ("z", one)];
+    for (name, time, all) in [("e", 3, three), ("f", 4, &[]), ("f", 4, &[]), ("f", 4, &[])] {
+        record.add_event(text(alloc, name)?, time, pairs(alloc, all)?)?;
     }
     Ok(())
 }
 
 /// Adds six links, of which the span keeps one, with one of its five attributes.
 fn add_links<A: Allocator + Copy>(record: &mut SpanRecord<A>, alloc: A) -> Result<(), OutOfMemory> {
-    let linked = context(alloc, [9; 16], [8; 8], "l")?;
-    record.add_link(linked, pairs(alloc, &["y", "z", "w", "v", "u"])?)?;
-    for _ in 0..5u8 {
-        record.add_link(context(alloc, TRACE, SPAN, "")?, Vec::new(alloc))?;
+    let one = Given::Int(1);
+    let mut linked = context(alloc, [9; 16], [8; 8], "l")?;
+    let mut all: &[(&str, Given)] = &[("y", one), ("z", one), ("w", one), ("v", one), ("u", one)];
+    for _ in 0..6u8 {
+        record.add_link(linked, pairs(alloc, all)?)?;
+        linked = context(alloc, TRACE, SPAN, "")?;
+        all = &[];
     }
     Ok(())
 }
 
 /// A span in which every field is filled.
-pub(crate) fn full_span<A: Allocator + Copy>(alloc: A) -> Result<SpanData<A>, OutOfMemory> {
+fn full_span<A: Allocator + Copy>(alloc: A) -> Result<SpanData<A>, OutOfMemory> {
     let limits = SpanLimits {
         max_attributes_per_span: 2,
         max_events_per_span: 1,
@@ -189,10 +185,63 @@ pub(crate) fn full_span<A: Allocator + Copy>(alloc: A) -> Result<SpanData<A>, Ou
         max_attributes_per_link: 1,
         max_attribute_value_length: None,
     };
-    let mut record = SpanRecord::open(alloc, full_opening(alloc)?, &limits)?;
+    let mut record = open(alloc, FULL, &limits)?;
     set_attributes(&mut record, alloc)?;
     add_events(&mut record, alloc)?;
     add_links(&mut record, alloc)?;
     record.set_status(Status::Error(text(alloc, "x")?));
     Ok(record.close(2))
+}
+
+/// A span that is made.
+#[derive(Clone, Copy)]
+pub(crate) enum Sample<'a> {
+    /// One in which every field is filled.
+    Full,
+    /// One under a resource with this schema, in a scope of this name, this version and this
+    /// schema.
+    Plain(&'a str, &'a str, &'a str, &'a str),
+    /// One with a text of 70,000 bytes, whose body has 70,085.
+    Large,
+}
+
+/// A span of this resource and scope, with so many times ten bytes in an attribute's text if any.
+fn plain_span<A: Allocator + Copy>(
+    alloc: A,
+    schema_url: &str,
+    parts: [&str; 3],
+    tens: Option<usize>,
+) -> Result<SpanData<A>, OutOfMemory> {
+    let start = Start {
+        state: "",
+        parent: None,
+        kind: Kind::Internal,
+        resource: (&[], schema_url),
+        scope: (&[], parts),
+    };
+    let mut record = open(alloc, start, &SpanLimits::default())?;
+    if let Some(tens) = tens {
+        let long = "0123456789".repeat(alloc, tens)?;
+        record.set_attribute(text(alloc, "a")?, Value::Text(long))?;
+    }
+    Ok(record.close(2))
+}
+
+/// The spans of these samples.
+pub(crate) fn spans_of<A: Allocator + Copy>(
+    alloc: A,
+    samples: &[Sample<'_>],
+) -> Result<Vec<SpanData<A>, A>, OutOfMemory> {
+    let mut spans = Vec::new(alloc);
+    for sample in samples {
+        let span = match sample {
+            Sample::Full => full_span(alloc),
+            Sample::Plain(resource_url, name, version, scope_url) => {
+                plain_span(alloc, resource_url, [name, version, scope_url], None)
+            }
+            Sample::Large => plain_span(alloc, "", ["s", "", ""], Some(7_000)),
+        };
+        spans.push(span?)?;
+    }
+    Ok(spans)
 }
