@@ -1,8 +1,10 @@
 //! The lines of answers, in the text of a run.
 use crate::answered::{
-    BATCHES, CALLS, ENDS, OTHERS, REPLIES, Run, batches, calls, ends, handed, others, replies,
+    BATCHES, BATCHES_TEXT, CALLS, CALLS_TEXT, ENDS, ENDS_TEXT, OTHERS, OTHERS_TEXT, REPLIES,
+    REPLIES_TEXT, handed,
 };
-use crate::equal::{assert_equal, assert_equal_at};
+use crate::equal::assert_equal;
+use crate::fixture::{Refusals, Row, answers, steps, text};
 use linked_list_allocator::LocalHeap;
 use otlp_ids::OutOfMemory;
 use run_text::write_answers;
@@ -10,67 +12,74 @@ use span_exporter::Handed;
 use std::alloc::{Allocator, Global};
 use std::process::Abort;
 
-/// The lines of a run, behind a text that stands.
-fn is_told(rt: &impl Abort, alloc: Global, run: &Run<Global>, bodies: &[Handed], wanted: &str) {
-    let mut out = String::from_str(alloc, "so far\n").expect(rt, "memory");
-    let written = write_answers(
-        &mut out,
-        run.steps.as_slice(),
-        run.answers.as_slice(),
-        bodies,
-    );
+/// Writes the lines of the first answers of a program, so many, behind a text that stands.
+fn write<A: Allocator + Copy>(
+    rt: &impl Abort,
+    ample: A,
+    out: &mut String<A>,
+    program: &[Row],
+    count: usize,
+    bodies: &[Handed<A>],
+) -> Result<(), OutOfMemory> {
+    let steps = steps(rt, ample, program);
+    let mut answers = answers(rt, ample, program);
+    answers.truncate(count);
+    write_answers(out, steps.as_slice(), answers.as_slice(), bodies)
+}
+
+/// A program, how many of its steps are answered, and the lines of these.
+type Lines = (&'static [Row], usize, &'static str);
+
+/// Programs for which no body was handed.
+const TEXTS: &[Lines] = &[
+    (CALLS, 8, CALLS_TEXT),
+    (ENDS, 7, ENDS_TEXT),
+    (REPLIES, 5, REPLIES_TEXT),
+    (OTHERS, 10, OTHERS_TEXT),
+    // A step without an answer has no line.
+    (ENDS, 1, "end 0 queued 0\n"),
+];
+
+/// Asserts the lines of a program, behind a text that stands.
+fn assert_lines(rt: &impl Abort, alloc: Global, lines: Lines, bodies: &[Handed]) {
+    let (program, count, wanted) = lines;
+    let mut out = text(rt, alloc, "so far\n");
+    let written = write(rt, alloc, &mut out, program, count, bodies);
     let told = (written, out.as_str().strip_prefix("so far\n"));
     assert_equal(rt, told, (Ok(()), Some(wanted)));
 }
 
 #[test]
 fn each_answer_has_its_line(rt: HostRuntime) {
-    let alloc = rt.alloc();
-    is_told(&rt, alloc, &calls(&rt, alloc), &[], CALLS);
-    is_told(&rt, alloc, &ends(&rt, alloc), &[], ENDS);
-    is_told(&rt, alloc, &replies(&rt, alloc), &[], REPLIES);
-    is_told(&rt, alloc, &others(&rt, alloc), &[], OTHERS);
+    for lines in TEXTS {
+        assert_lines(&rt, rt.alloc(), *lines, &[]);
+    }
 }
 
 #[test]
 fn an_attempt_has_its_own_body(rt: HostRuntime) {
-    let alloc = rt.alloc();
-    let bodies = handed(&rt, alloc);
-    is_told(&rt, alloc, &batches(&rt, alloc), bodies.as_slice(), BATCHES);
+    let bodies = handed(&rt, rt.alloc());
+    let lines = (BATCHES, 18, BATCHES_TEXT);
+    assert_lines(&rt, rt.alloc(), lines, bodies.as_slice());
 }
 
-#[test]
-fn a_step_without_an_answer_has_no_line(rt: HostRuntime) {
-    let mut run = ends(&rt, rt.alloc());
-    run.answers.truncate(1);
-    let mut out = String::new(rt.alloc());
-    let written = write_answers(&mut out, run.steps.as_slice(), run.answers.as_slice(), &[]);
-    assert_equal(&rt, (written, out.as_str()), (Ok(()), "end 0 queued 0\n"));
-}
-
-/// Writes the lines on memory of their own.
-fn write_on<A: Allocator + Copy>(rt: &impl Abort, ample: A, scarce: A) -> Result<(), OutOfMemory> {
-    let run = batches(rt, ample);
+/// How many refusals are told where the lines of `BATCHES` are written on scarce memory.
+fn count_refused<A: Allocator + Copy>(rt: &impl Abort, ample: A, scarce: A) -> usize {
     let bodies = handed(rt, ample);
     let mut out = String::new(scarce);
-    write_answers(
-        &mut out,
-        run.steps.as_slice(),
-        run.answers.as_slice(),
-        bodies.as_slice(),
-    )
+    match write(rt, ample, &mut out, BATCHES, 18, bodies.as_slice()) {
+        Ok(()) => 0,
+        Err(OutOfMemory) => 1,
+    }
 }
 
 #[test]
 fn a_text_is_refused_memory(rt: HostRuntime) {
-    let (mut refused, mut written) = (0u64, 0u64);
+    let mut refusals = Refusals::new();
     for place in 0..40usize {
         let ample = LocalHeap::new(rt.alloc(), 16_384).expect(&rt, "memory");
         let scarce = LocalHeap::new(rt.alloc(), place * 40).expect(&rt, "memory");
-        match write_on(&rt, &ample, &scarce) {
-            Ok(()) => written = written.saturating_add(1),
-            Err(OutOfMemory) => refused = refused.saturating_add(1),
-        }
+        refusals.count(&rt, count_refused(&rt, &ample, &scarce), place as u64);
     }
-    assert_equal_at(&rt, refused > 2 && written > 2, true, (refused, written));
+    refusals.assert_least(&rt, 3, 3);
 }

@@ -1,69 +1,37 @@
-//! Steps with their answers, as a run might give them.
-use crate::fixture::{dropped, encoded, sent_again, taken};
+//! Programs with answers that a run might give, and the lines of these.
+use crate::fixture::{Do, Gives, Row};
 use otlp_ids::{SpanId, TraceId};
-use otlp_span::{Kind, Reason, SpanCall};
+use otlp_span::Reason;
 use retry_core::{Cause, Next, Outcome};
 use span_exporter::Handed;
 use std::alloc::Allocator;
 use std::process::Abort;
 use trace_api::Ended;
-use trace_history::{Answer, Parent, Step};
+use trace_history::Answer;
 
 pub(crate) const TRACE: TraceId = TraceId([0xab; 16]);
 
 pub(crate) const SPAN: SpanId = SpanId([0, 1, 2, 3, 4, 5, 6, 0x7f]);
 
-/// Steps, with the answer to each.
-#[derive(Drop)]
-pub(crate) struct Run<A: Allocator + Copy> {
-    alloc: A,
-    pub(crate) steps: Vec<Step<A>, A>,
-    pub(crate) answers: Vec<Answer, A>,
-}
-
-impl<A: Allocator + Copy> Run<A> {
-    pub(crate) fn new(alloc: A) -> Run<A> {
-        Run {
-            alloc,
-            steps: Vec::new(alloc),
-            answers: Vec::new(alloc),
-        }
-    }
-
-    pub(crate) fn step(&mut self, rt: &impl Abort, step: Step<A>, answer: Answer) {
-        self.steps.push(step).expect(rt, "memory");
-        self.answers.push(answer).expect(rt, "memory");
-    }
-
-    pub(crate) fn start(&mut self, rt: &impl Abort, answer: Answer) {
-        let step = Step::Start {
-            scope: 0,
-            parent: Parent::Root,
-            kind: Kind::Internal,
-            at: 1,
-            name: String::new(self.alloc),
-        };
-        self.step(rt, step, answer);
-    }
-
-    pub(crate) fn rename(&mut self, rt: &impl Abort, span: u32, answer: Answer) {
-        let call = SpanCall::UpdateName(String::new(self.alloc));
-        self.step(rt, Step::Call { span, call }, answer);
-    }
-
-    pub(crate) fn end(&mut self, rt: &impl Abort, span: u32, answer: Answer) {
-        let call = SpanCall::End(2);
-        self.step(rt, Step::Call { span, call }, answer);
-    }
-
-    pub(crate) fn reply(&mut self, rt: &impl Abort, batch: u64, next: Next) {
-        let step = Step::Reply { at: 3, word: 4 };
-        self.step(rt, step, Answer::Replied { batch, next });
-    }
-}
+/// The answer to the start of this span.
+const STARTED: Gives = Gives::Just(Answer::Started {
+    trace: TRACE,
+    span: SPAN,
+});
 
 /// Each answer to a start, and to a call that is no end.
-pub(crate) const CALLS: &str = concat!(
+pub(crate) const CALLS: &[Row] = &[
+    (Do::Root, STARTED),
+    (Do::Root, Gives::Just(Answer::NoRandomness)),
+    (Do::Root, Gives::Just(Answer::OutOfMemory)),
+    (Do::Root, Gives::Just(Answer::NoSpan)),
+    (Do::Rename(0), Gives::Just(Answer::Done)),
+    (Do::Rename(u32::MAX), Gives::Just(Answer::NoSpan)),
+    (Do::Rename(0), Gives::Just(Answer::OutOfMemory)),
+    (Do::Root, STARTED),
+];
+
+pub(crate) const CALLS_TEXT: &str = concat!(
     "start 0 abababababababababababababababab 000102030405067f\n",
     "start 1 no-randomness\n",
     "start 2 out-of-memory\n",
@@ -74,25 +42,24 @@ pub(crate) const CALLS: &str = concat!(
     "start 4 abababababababababababababababab 000102030405067f\n",
 );
 
-pub(crate) fn calls<A: Allocator + Copy>(rt: &impl Abort, alloc: A) -> Run<A> {
-    let started = Answer::Started {
-        trace: TRACE,
-        span: SPAN,
-    };
-    let mut run = Run::new(alloc);
-    run.start(rt, started);
-    run.start(rt, Answer::NoRandomness);
-    run.start(rt, Answer::OutOfMemory);
-    run.start(rt, Answer::NoSpan);
-    run.rename(rt, 0, Answer::Done);
-    run.rename(rt, u32::MAX, Answer::NoSpan);
-    run.rename(rt, 0, Answer::OutOfMemory);
-    run.start(rt, started);
-    run
-}
-
 /// Each answer to an end.
-pub(crate) const ENDS: &str = concat!(
+pub(crate) const ENDS: &[Row] = &[
+    (Do::End(0, 2), Gives::Queued(0)),
+    (Do::End(1, 2), Gives::Full(u64::MAX)),
+    (Do::End(2, 2), Gives::Just(Answer::Ended(Ended::Late))),
+    (Do::End(3, 2), Gives::Just(Answer::Ended(Ended::NotSampled))),
+    (
+        Do::End(4, 2),
+        Gives::Just(Answer::Ended(Ended::AlreadyEnded)),
+    ),
+    (Do::End(5, 2), Gives::Just(Answer::NoSpan)),
+    (
+        Do::End(6, 2),
+        Gives::Just(Answer::Ended(Ended::Dropped(10, Reason::TooLarge))),
+    ),
+];
+
+pub(crate) const ENDS_TEXT: &str = concat!(
     "end 0 queued 0\n",
     "end 1 dropped 18446744073709551615 queue-full\n",
     "end 2 late\n",
@@ -102,22 +69,46 @@ pub(crate) const ENDS: &str = concat!(
     "end 6 dropped 10 too-large\n",
 );
 
-pub(crate) fn ends<A: Allocator + Copy>(rt: &impl Abort, alloc: A) -> Run<A> {
-    let mut run = Run::new(alloc);
-    run.end(rt, 0, Answer::Ended(Ended::Queued(0)));
-    let full = Ended::Dropped(u64::MAX, Reason::QueueFull);
-    run.end(rt, 1, Answer::Ended(full));
-    run.end(rt, 2, Answer::Ended(Ended::Late));
-    run.end(rt, 3, Answer::Ended(Ended::NotSampled));
-    run.end(rt, 4, Answer::Ended(Ended::AlreadyEnded));
-    run.end(rt, 5, Answer::NoSpan);
-    let large = Ended::Dropped(10, Reason::TooLarge);
-    run.end(rt, 6, Answer::Ended(large));
-    run
-}
+const DELIVERED: Outcome = Outcome::Delivered;
 
 /// Batches, each with the body that the exporter was handed for it.
-pub(crate) const BATCHES: &str = concat!(
+pub(crate) const BATCHES: &[Row] = &[
+    (Do::Flush, Gives::Just(Answer::Flush)),
+    (
+        Do::Encode,
+        Gives::Just(Answer::Dropped {
+            batch: u64::MAX,
+            reason: Reason::EncodeMemory,
+        }),
+    ),
+    (Do::Take(1), Gives::Just(Answer::NotTaken)),
+    (Do::Take(1), Gives::Taken(1, 512)),
+    (
+        Do::Encode,
+        Gives::Just(Answer::Dropped {
+            batch: 1,
+            reason: Reason::TooLarge,
+        }),
+    ),
+    (Do::Encode, Gives::Encoded(1, 3)),
+    (Do::Encode, Gives::Just(Answer::Nothing)),
+    (Do::Attempt(1), Gives::Sent(1, 1, DELIVERED)),
+    (Do::Attempt(1), Gives::Just(Answer::Nothing)),
+    (
+        Do::Reply(3, 4),
+        Gives::Replied(1, Next::Again(3_000_000_004)),
+    ),
+    (Do::Attempt(4), Gives::Just(Answer::Early)),
+    (Do::Attempt(3_000_000_004), Gives::Sent(1, 2, DELIVERED)),
+    (Do::Reply(3, 4), Gives::Replied(1, Next::Done)),
+    (Do::Reply(1, 0), Gives::Just(Answer::Nothing)),
+    (Do::Shutdown, Gives::Just(Answer::Shutdown)),
+    (Do::Take(2), Gives::Taken(2, 1)),
+    (Do::Encode, Gives::Encoded(2, 1)),
+    (Do::Attempt(2), Gives::Sent(2, 1, DELIVERED)),
+];
+
+pub(crate) const BATCHES_TEXT: &str = concat!(
     "flush\n",
     "encode 18446744073709551615 dropped encode-memory\n",
     "take none\n",
@@ -138,66 +129,48 @@ pub(crate) const BATCHES: &str = concat!(
     "attempt 2 1 7e\n",
 );
 
-pub(crate) fn batches<A: Allocator + Copy>(rt: &impl Abort, alloc: A) -> Run<A> {
-    let mut run = Run::new(alloc);
-    run.step(rt, Step::Flush, Answer::Flush);
-    run.step(rt, Step::Encode, dropped(u64::MAX, Reason::EncodeMemory));
-    run.step(rt, Step::Take { at: 1 }, Answer::NotTaken);
-    first_batch(rt, &mut run);
-    run.step(rt, Step::Shutdown, Answer::Shutdown);
-    run.step(rt, Step::Take { at: 2 }, taken(2, 1));
-    run.step(rt, Step::Encode, encoded(2, 1));
-    run.step(rt, Step::Attempt { at: 2 }, sent(2, 1));
-    run
-}
-
-fn first_batch<A: Allocator + Copy>(rt: &impl Abort, run: &mut Run<A>) {
-    run.step(rt, Step::Take { at: 1 }, taken(1, 512));
-    run.step(rt, Step::Encode, dropped(1, Reason::TooLarge));
-    run.step(rt, Step::Encode, encoded(1, 3));
-    run.step(rt, Step::Encode, Answer::Nothing);
-    run.step(rt, Step::Attempt { at: 1 }, sent(1, 1));
-    run.step(rt, Step::Attempt { at: 1 }, Answer::Nothing);
-    run.reply(rt, 1, Next::Again(3_000_000_004));
-    run.step(rt, Step::Attempt { at: 4 }, Answer::Early);
-    let at = 3_000_000_004;
-    run.step(rt, Step::Attempt { at }, sent(1, 2));
-    run.reply(rt, 1, Next::Done);
-    run.step(rt, Step::Reply { at: 1, word: 0 }, Answer::Nothing);
-}
-
-fn sent(batch: u64, attempt: u32) -> Answer {
-    sent_again(batch, attempt, Outcome::Delivered)
-}
-
-/// What the exporter was handed by these steps.
+/// What the exporter was handed by the steps of `BATCHES`.
 pub(crate) fn handed<A: Allocator + Copy>(rt: &impl Abort, alloc: A) -> Vec<Handed<A>, A> {
+    let bodies: [(u64, u32, &[u8]); 3] = [
+        (1, 1, &[0, 0xa1, 0xff]),
+        (1, 2, &[0, 0xa1, 0xff]),
+        (2, 1, &[0x7e]),
+    ];
     let mut handed = Vec::new(alloc);
-    hand(rt, alloc, &mut handed, 1, 1, &[0, 0xa1, 0xff]);
-    hand(rt, alloc, &mut handed, 1, 2, &[0, 0xa1, 0xff]);
-    hand(rt, alloc, &mut handed, 2, 1, &[0x7e]);
+    for (number, attempt, bytes) in bodies {
+        let one = Handed {
+            number,
+            attempt,
+            body: Vec::from_slice(alloc, bytes).expect(rt, "memory"),
+            outcome: Outcome::Delivered,
+        };
+        handed.push(one).expect(rt, "memory");
+    }
     handed
 }
 
-fn hand<A: Allocator + Copy>(
-    rt: &impl Abort,
-    alloc: A,
-    handed: &mut Vec<Handed<A>, A>,
-    number: u64,
-    attempt: u32,
-    bytes: &[u8],
-) {
-    let one = Handed {
-        number,
-        attempt,
-        body: Vec::from_slice(alloc, bytes).expect(rt, "memory"),
-        outcome: Outcome::Delivered,
-    };
-    handed.push(one).expect(rt, "memory");
-}
-
 /// What may follow for a batch.
-pub(crate) const REPLIES: &str = concat!(
+pub(crate) const REPLIES: &[Row] = &[
+    (Do::Reply(3, 4), Gives::Replied(1, Next::Partial(-3))),
+    (
+        Do::Reply(3, 4),
+        Gives::Replied(2, Next::Again(1_000_000_000)),
+    ),
+    (
+        Do::Reply(3, 4),
+        Gives::Replied(3, Next::GiveUp(Cause::Refused(404))),
+    ),
+    (
+        Do::Reply(3, 4),
+        Gives::Replied(4, Next::GiveUp(Cause::BadReply)),
+    ),
+    (
+        Do::Reply(3, 4),
+        Gives::Replied(5, Next::GiveUp(Cause::Attempts)),
+    ),
+];
+
+pub(crate) const REPLIES_TEXT: &str = concat!(
     "reply 1 partial -3\n",
     "reply 2 again 1000000000\n",
     "reply 3 give-up refused 404\n",
@@ -205,18 +178,21 @@ pub(crate) const REPLIES: &str = concat!(
     "reply 5 give-up attempts\n",
 );
 
-pub(crate) fn replies<A: Allocator + Copy>(rt: &impl Abort, alloc: A) -> Run<A> {
-    let mut run = Run::new(alloc);
-    run.reply(rt, 1, Next::Partial(-3));
-    run.reply(rt, 2, Next::Again(1_000_000_000));
-    run.reply(rt, 3, Next::GiveUp(Cause::Refused(404)));
-    run.reply(rt, 4, Next::GiveUp(Cause::BadReply));
-    run.reply(rt, 5, Next::GiveUp(Cause::Attempts));
-    run
-}
-
 /// Answers that are none to their steps, and an attempt that no body is there for.
-pub(crate) const OTHERS: &str = concat!(
+pub(crate) const OTHERS: &[Row] = &[
+    (Do::Root, Gives::Just(Answer::Done)),
+    (Do::Rename(1), Gives::Taken(1, 1)),
+    (Do::End(2, 2), Gives::Just(Answer::Flush)),
+    (Do::End(3, 2), Gives::Just(Answer::Ended(Ended::Handed(4)))),
+    (Do::Flush, Gives::Just(Answer::Nothing)),
+    (Do::Take(1), Gives::Just(Answer::OutOfMemory)),
+    (Do::Attempt(1), Gives::Sent(9, 1, DELIVERED)),
+    (Do::Encode, Gives::Just(Answer::Early)),
+    (Do::Reply(1, 0), Gives::Just(Answer::Early)),
+    (Do::Reply(1, 0), Gives::Sent(9, 1, DELIVERED)),
+];
+
+pub(crate) const OTHERS_TEXT: &str = concat!(
     "start 0 none\n",
     "call 1 none\n",
     "end 2 none\n",
@@ -228,18 +204,3 @@ pub(crate) const OTHERS: &str = concat!(
     "reply none\n",
     "reply none\n",
 );
-
-pub(crate) fn others<A: Allocator + Copy>(rt: &impl Abort, alloc: A) -> Run<A> {
-    let mut run = Run::new(alloc);
-    run.start(rt, Answer::Done);
-    run.rename(rt, 1, taken(1, 1));
-    run.end(rt, 2, Answer::Flush);
-    run.end(rt, 3, Answer::Ended(Ended::Handed(4)));
-    run.step(rt, Step::Flush, Answer::Nothing);
-    run.step(rt, Step::Take { at: 1 }, Answer::OutOfMemory);
-    run.step(rt, Step::Attempt { at: 1 }, sent(9, 1));
-    run.step(rt, Step::Encode, Answer::Early);
-    run.step(rt, Step::Reply { at: 1, word: 0 }, Answer::Early);
-    run.step(rt, Step::Reply { at: 1, word: 0 }, sent(9, 1));
-    run
-}

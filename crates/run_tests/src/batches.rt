@@ -1,23 +1,21 @@
 //! Batches, from the queue to what came of them.
-use crate::equal::assert_equal;
-use crate::fixture::{
-    Do, assert_handed, assert_program, config, desk, encoded, exporter, full, name, queued,
-    replied, roots, run_program, sent, started, taken, words,
+use crate::cases::{
+    Case, Drawn, NOTHING_LEFT, ONE_HANDED, ONE_IN_HAND, ONE_WAITS, assert_case, assert_done,
 };
-use batch_desk::DeskConfig;
+use crate::fixture::{Do, Gives, assert_handed, config, desk, exporter, words};
 use otlp_ids::{SpanId, TraceId};
 use otlp_sampler::AlwaysOn;
-use otlp_span::{Entry, Reason};
+use otlp_span::Reason;
 use retry_core::{Cause, Next, Outcome, RetryConfig};
-use std::alloc::Allocator;
+use std::alloc::Global;
 use std::process::Abort;
 use trace_history::Answer;
-use trace_run::RunReport;
 
 /// Moments of desks whose delay is 5000 ms, in nanoseconds.
 const DELAY: u64 = 5_000_000_000;
 
-const WORDS: [u64; 6] = [
+/// The words of two roots.
+const WORDS: &[u64] = &[
     0x0102030405060708,
     0x090a0b0c0d0e0f10,
     0x1112131415161718,
@@ -27,263 +25,302 @@ const WORDS: [u64; 6] = [
 ];
 
 /// The answer to a root that draws three of these words.
-const ROOT: Answer = Answer::Started {
+const ROOT: Gives = Gives::Just(Answer::Started {
     trace: TraceId([1, 2, 3, 4, 5, 6, 7, 8, 9, 10, 11, 12, 13, 14, 15, 16]),
     span: SpanId([17, 18, 19, 20, 21, 22, 23, 24]),
-};
+});
 
-const ONE_SPAN: &str = concat!(
-    "0a3e0a00123a0a030a0173",
-    "1233",
-    "0a100102030405060708090a0b0c0d0e0f1012081112131415161718",
-    "2a01613001390100000000000000410200000000000000",
-);
+/// The body of a span with the identifiers of `ROOT`.
+const ONE_SPAN: &[u8] = &[
+    0x0a, 0x3e, 0x0a, 0x00, 0x12, 0x3a, 0x0a, 0x03, 0x0a, 0x01, 0x73, 0x12, 0x33, 0x0a, 0x10, 0x01,
+    0x02, 0x03, 0x04, 0x05, 0x06, 0x07, 0x08, 0x09, 0x0a, 0x0b, 0x0c, 0x0d, 0x0e, 0x0f, 0x10, 0x12,
+    0x08, 0x11, 0x12, 0x13, 0x14, 0x15, 0x16, 0x17, 0x18, 0x2a, 0x01, 0x61, 0x30, 0x01, 0x39, 0x01,
+    0x00, 0x00, 0x00, 0x00, 0x00, 0x00, 0x00, 0x41, 0x02, 0x00, 0x00, 0x00, 0x00, 0x00, 0x00, 0x00,
+];
 
-const TWO_SPANS: &str = concat!(
-    "0a730a00126f0a030a0173",
-    "1233",
-    "0a100102030405060708090a0b0c0d0e0f1012081112131415161718",
-    "2a01613001390100000000000000410200000000000000",
-    "1233",
-    "0a100102030405060708090a0b0c0d0e0f1012081112131415161718",
-    "2a01613001390100000000000000410200000000000000",
-);
+/// The body of two such spans.
+const TWO_SPANS: &[u8] = &[
+    0x0a, 0x73, 0x0a, 0x00, 0x12, 0x6f, 0x0a, 0x03, 0x0a, 0x01, 0x73, 0x12, 0x33, 0x0a, 0x10, 0x01,
+    0x02, 0x03, 0x04, 0x05, 0x06, 0x07, 0x08, 0x09, 0x0a, 0x0b, 0x0c, 0x0d, 0x0e, 0x0f, 0x10, 0x12,
+    0x08, 0x11, 0x12, 0x13, 0x14, 0x15, 0x16, 0x17, 0x18, 0x2a, 0x01, 0x61, 0x30, 0x01, 0x39, 0x01,
+    0x00, 0x00, 0x00, 0x00, 0x00, 0x00, 0x00, 0x41, 0x02, 0x00, 0x00, 0x00, 0x00, 0x00, 0x00, 0x00,
+    0x12, 0x33, 0x0a, 0x10, 0x01, 0x02, 0x03, 0x04, 0x05, 0x06, 0x07, 0x08, 0x09, 0x0a, 0x0b, 0x0c,
+    0x0d, 0x0e, 0x0f, 0x10, 0x12, 0x08, 0x11, 0x12, 0x13, 0x14, 0x15, 0x16, 0x17, 0x18, 0x2a, 0x01,
+    0x61, 0x30, 0x01, 0x39, 0x01, 0x00, 0x00, 0x00, 0x00, 0x00, 0x00, 0x00, 0x41, 0x02, 0x00, 0x00,
+    0x00, 0x00, 0x00, 0x00, 0x00,
+];
+
+const CASES: &[Case] = &[
+    Case {
+        name: "a span is handed to the exporter",
+        desk: None,
+        drawn: Drawn::Words(WORDS),
+        outcomes: &[],
+        program: &[
+            (Do::Root, ROOT),
+            (Do::End(0, 2), Gives::Queued(0)),
+            (Do::Shutdown, Gives::Just(Answer::Shutdown)),
+            (Do::Take(10), Gives::Taken(1, 1)),
+            (Do::Encode, Gives::Encoded(1, 64)),
+            (Do::Attempt(10), Gives::Sent(1, 1, Outcome::Delivered)),
+            (Do::Reply(10, 0), Gives::Replied(1, Next::Done)),
+        ],
+        left: NOTHING_LEFT,
+        names: &[],
+        handed: Some(&[(1, 1, Outcome::Delivered, ONE_SPAN)]),
+    },
+    Case {
+        name: "two spans are handed in one body",
+        desk: Some((4, 2)),
+        drawn: Drawn::Words(WORDS),
+        outcomes: &[],
+        program: &[
+            (Do::Root, ROOT),
+            (Do::Root, ROOT),
+            (Do::End(1, 2), Gives::Queued(0)),
+            (Do::End(0, 2), Gives::Queued(1)),
+            (Do::Take(0), Gives::Taken(1, 2)),
+            (Do::Encode, Gives::Encoded(1, 117)),
+            (Do::Attempt(10), Gives::Sent(1, 1, Outcome::Delivered)),
+            (Do::Reply(10, 0), Gives::Replied(1, Next::Done)),
+        ],
+        left: NOTHING_LEFT,
+        names: &[],
+        handed: Some(&[(1, 1, Outcome::Delivered, TWO_SPANS)]),
+    },
+    Case {
+        name: "batches leave in order",
+        desk: Some((4, 2)),
+        drawn: Drawn::Roots(5),
+        outcomes: &[],
+        program: &[
+            (Do::Root, Gives::Started(0)),
+            (Do::Root, Gives::Started(1)),
+            (Do::Root, Gives::Started(2)),
+            (Do::Root, Gives::Started(3)),
+            (Do::Root, Gives::Started(4)),
+            (Do::End(0, 2), Gives::Queued(0)),
+            (Do::End(1, 2), Gives::Queued(1)),
+            (Do::End(2, 2), Gives::Queued(2)),
+            (Do::End(3, 2), Gives::Queued(3)),
+            (Do::End(4, 2), Gives::Full(4)),
+            (Do::Take(0), Gives::Taken(1, 2)),
+            (Do::Encode, Gives::Encoded(1, 117)),
+            (Do::Attempt(10), Gives::Sent(1, 1, Outcome::Delivered)),
+            (Do::Take(0), Gives::Just(Answer::NotTaken)),
+            (Do::Reply(10, 0), Gives::Replied(1, Next::Done)),
+            (Do::Take(0), Gives::Taken(2, 2)),
+            (Do::Encode, Gives::Encoded(2, 117)),
+            (Do::Attempt(10), Gives::Sent(2, 1, Outcome::Delivered)),
+            (Do::Reply(10, 0), Gives::Replied(2, Next::Done)),
+            (Do::Take(DELAY), Gives::Just(Answer::NotTaken)),
+        ],
+        left: NOTHING_LEFT,
+        names: &[(4, 4, Reason::QueueFull)],
+        handed: None,
+    },
+    Case {
+        name: "a flush asks for those that wait",
+        desk: Some((5, 2)),
+        drawn: Drawn::Roots(9),
+        outcomes: &[],
+        program: &[
+            (Do::Root, Gives::Started(0)),
+            (Do::Root, Gives::Started(1)),
+            (Do::Root, Gives::Started(2)),
+            (Do::Root, Gives::Started(3)),
+            (Do::Root, Gives::Started(4)),
+            (Do::Root, Gives::Started(5)),
+            (Do::Root, Gives::Started(6)),
+            (Do::Root, Gives::Started(7)),
+            (Do::Root, Gives::Started(8)),
+            (Do::End(0, 2), Gives::Queued(0)),
+            (Do::End(1, 2), Gives::Queued(1)),
+            (Do::End(2, 2), Gives::Queued(2)),
+            (Do::Flush, Gives::Just(Answer::Flush)),
+            (Do::Take(0), Gives::Taken(1, 2)),
+            (Do::Encode, Gives::Encoded(1, 117)),
+            (Do::Attempt(10), Gives::Sent(1, 1, Outcome::Delivered)),
+            (Do::Reply(10, 0), Gives::Replied(1, Next::Done)),
+            (Do::Take(0), Gives::Taken(2, 1)),
+            (Do::End(3, 2), Gives::Queued(3)),
+            (Do::End(4, 2), Gives::Queued(4)),
+            (Do::End(5, 2), Gives::Queued(5)),
+            (Do::End(6, 2), Gives::Queued(6)),
+            (Do::End(7, 2), Gives::Queued(7)),
+            (Do::End(8, 2), Gives::Full(8)),
+            (Do::Encode, Gives::Encoded(2, 64)),
+            (Do::Attempt(10), Gives::Sent(2, 1, Outcome::Delivered)),
+            (Do::Reply(10, 0), Gives::Replied(2, Next::Done)),
+            (Do::Take(0), Gives::Taken(3, 2)),
+            (Do::Encode, Gives::Encoded(3, 117)),
+            (Do::Attempt(10), Gives::Sent(3, 1, Outcome::Delivered)),
+            (Do::Reply(10, 0), Gives::Replied(3, Next::Done)),
+            (Do::Take(0), Gives::Taken(4, 2)),
+            (Do::Encode, Gives::Encoded(4, 117)),
+            (Do::Attempt(10), Gives::Sent(4, 1, Outcome::Delivered)),
+            (Do::Reply(10, 0), Gives::Replied(4, Next::Done)),
+            (Do::Take(0), Gives::Just(Answer::NotTaken)),
+        ],
+        left: ONE_WAITS,
+        names: &[(8, 8, Reason::QueueFull)],
+        handed: None,
+    },
+    Case {
+        name: "a batch is due after the delay",
+        desk: None,
+        drawn: Drawn::Roots(2),
+        outcomes: &[],
+        program: &[
+            (Do::Take(DELAY), Gives::Just(Answer::NotTaken)),
+            (Do::Root, Gives::Started(0)),
+            (Do::Root, Gives::Started(1)),
+            (Do::End(0, 2), Gives::Queued(0)),
+            (Do::Take(DELAY - 1), Gives::Just(Answer::NotTaken)),
+            (Do::Take(DELAY), Gives::Taken(1, 1)),
+            (Do::End(1, 2), Gives::Queued(1)),
+            (Do::Encode, Gives::Encoded(1, 64)),
+            (Do::Attempt(10), Gives::Sent(1, 1, Outcome::Delivered)),
+            (Do::Reply(10, 0), Gives::Replied(1, Next::Done)),
+            (Do::Take(2 * DELAY - 1), Gives::Just(Answer::NotTaken)),
+            (Do::Take(2 * DELAY), Gives::Taken(2, 1)),
+            (Do::Encode, Gives::Encoded(2, 64)),
+            (Do::Attempt(10), Gives::Sent(2, 1, Outcome::Delivered)),
+            (Do::Reply(10, 0), Gives::Replied(2, Next::Done)),
+        ],
+        left: NOTHING_LEFT,
+        names: &[],
+        handed: None,
+    },
+    Case {
+        name: "steps for no batch do nothing",
+        desk: Some((1, 1)),
+        drawn: Drawn::Roots(1),
+        outcomes: &[],
+        program: &[
+            (Do::Encode, Gives::Just(Answer::Nothing)),
+            (Do::Attempt(10), Gives::Just(Answer::Nothing)),
+            (Do::Reply(10, 0), Gives::Just(Answer::Nothing)),
+            (Do::Root, Gives::Started(0)),
+            (Do::End(0, 2), Gives::Queued(0)),
+            (Do::Encode, Gives::Just(Answer::Nothing)),
+            (Do::Take(0), Gives::Taken(1, 1)),
+            (Do::Attempt(10), Gives::Just(Answer::Nothing)),
+            (Do::Reply(10, 0), Gives::Just(Answer::Nothing)),
+            (Do::Encode, Gives::Encoded(1, 64)),
+            (Do::Encode, Gives::Just(Answer::Nothing)),
+            (Do::Reply(10, 0), Gives::Just(Answer::Nothing)),
+            (Do::Attempt(10), Gives::Sent(1, 1, Outcome::Delivered)),
+            (Do::Encode, Gives::Just(Answer::Nothing)),
+            (Do::Attempt(10), Gives::Just(Answer::Nothing)),
+            (Do::Reply(10, 0), Gives::Replied(1, Next::Done)),
+            (Do::Encode, Gives::Just(Answer::Nothing)),
+            (Do::Attempt(10), Gives::Just(Answer::Nothing)),
+            (Do::Reply(10, 0), Gives::Just(Answer::Nothing)),
+        ],
+        left: NOTHING_LEFT,
+        names: &[],
+        handed: None,
+    },
+    Case {
+        name: "a batch that was taken ends with the report",
+        desk: Some((1, 1)),
+        drawn: Drawn::Roots(1),
+        outcomes: &[],
+        program: &[
+            (Do::Root, Gives::Started(0)),
+            (Do::End(0, 2), Gives::Queued(0)),
+            (Do::Take(0), Gives::Taken(1, 1)),
+        ],
+        left: ONE_IN_HAND,
+        names: &[(0, 0, Reason::Abandoned)],
+        handed: None,
+    },
+    Case {
+        name: "a batch that is encoded ends with the report",
+        desk: Some((1, 1)),
+        drawn: Drawn::Roots(1),
+        outcomes: &[],
+        program: &[
+            (Do::Root, Gives::Started(0)),
+            (Do::End(0, 2), Gives::Queued(0)),
+            (Do::Take(0), Gives::Taken(1, 1)),
+            (Do::Encode, Gives::Encoded(1, 64)),
+        ],
+        left: ONE_IN_HAND,
+        names: &[(0, 0, Reason::Abandoned)],
+        handed: None,
+    },
+    Case {
+        name: "a batch that was handed ends with the report",
+        desk: Some((1, 1)),
+        drawn: Drawn::Roots(1),
+        outcomes: &[],
+        program: &[
+            (Do::Root, Gives::Started(0)),
+            (Do::End(0, 2), Gives::Queued(0)),
+            (Do::Take(0), Gives::Taken(1, 1)),
+            (Do::Encode, Gives::Encoded(1, 64)),
+            (Do::Attempt(10), Gives::Sent(1, 1, Outcome::Delivered)),
+        ],
+        left: ONE_HANDED,
+        names: &[],
+        handed: None,
+    },
+];
 
 #[test]
-fn a_span_is_handed_to_the_exporter(rt: HostRuntime) {
-    let alloc = rt.alloc();
-    let drawn = words(&rt, alloc, &WORDS);
-    let config = config(&rt, alloc, AlwaysOn, DeskConfig::default(), drawn);
+fn batches_take_their_way(rt: HostRuntime) {
+    for case in CASES {
+        assert_case(&rt, rt.alloc(), AlwaysOn, case);
+    }
+}
+
+/// Outcomes of a batch that may be sent once, with what follows.
+const LAST_OUTCOMES: &[(Outcome, Next)] = &[
+    (Outcome::Delivered, Next::Done),
+    (Outcome::Partial(-1), Next::Partial(-1)),
+    (
+        Outcome::Later {
+            status: 503,
+            after: None,
+        },
+        Next::GiveUp(Cause::Attempts),
+    ),
+    (Outcome::Refused(400), Next::GiveUp(Cause::Refused(400))),
+    (Outcome::NoReply, Next::GiveUp(Cause::Attempts)),
+    (Outcome::Bad, Next::GiveUp(Cause::BadReply)),
+];
+
+/// Asserts what follows where the only attempt of a batch has this outcome.
+fn assert_last(rt: &impl Abort, alloc: Global, outcome: Outcome, next: Next) {
+    let drawn = words(rt, alloc, WORDS);
+    let mut config = config(rt, alloc, AlwaysOn, desk(1, 1), drawn);
+    config.retry = RetryConfig::single_attempt();
+    let mut exporter = exporter(rt, alloc, alloc, &[outcome]);
     let program = [
         (Do::Root, ROOT),
-        (Do::End(0, 2), queued(0)),
-        (Do::Shutdown, Answer::Shutdown),
-        (Do::Take(10), taken(1, 1)),
-        (Do::Encode, encoded(1, 64)),
-        (Do::Attempt, sent(1, Outcome::Delivered)),
-        (Do::Reply, replied(1, Next::Done)),
+        (Do::End(0, 2), Gives::Queued(0)),
+        (Do::Take(0), Gives::Taken(1, 1)),
+        (Do::Encode, Gives::Encoded(1, 64)),
+        (Do::Attempt(10), Gives::Sent(1, 1, outcome)),
+        (Do::Reply(10, 0), Gives::Replied(1, next)),
+        (Do::Take(DELAY), Gives::Just(Answer::NotTaken)),
     ];
-    let exporter = assert_program(&rt, alloc, config, &[], &program, (0, &[], 0));
-    assert_handed(&rt, alloc, &exporter, &[(1, Outcome::Delivered, ONE_SPAN)]);
-}
-
-#[test]
-fn two_spans_are_handed_in_one_body(rt: HostRuntime) {
-    let alloc = rt.alloc();
-    let drawn = words(&rt, alloc, &WORDS);
-    let config = config(&rt, alloc, AlwaysOn, desk(4, 2), drawn);
-    let program = [
-        (Do::Root, ROOT),
-        (Do::Root, ROOT),
-        (Do::End(1, 2), queued(0)),
-        (Do::End(0, 2), queued(1)),
-        (Do::Take(0), taken(1, 2)),
-        (Do::Encode, encoded(1, 117)),
-        (Do::Attempt, sent(1, Outcome::Delivered)),
-        (Do::Reply, replied(1, Next::Done)),
-    ];
-    let exporter = assert_program(&rt, alloc, config, &[], &program, (0, &[], 0));
-    assert_handed(&rt, alloc, &exporter, &[(1, Outcome::Delivered, TWO_SPANS)]);
-}
-
-#[test]
-fn batches_leave_in_order(rt: HostRuntime) {
-    let alloc = rt.alloc();
-    let config = config(&rt, alloc, AlwaysOn, desk(4, 2), roots(&rt, alloc, 5));
-    let program = [
-        (Do::Root, started(0)),
-        (Do::Root, started(1)),
-        (Do::Root, started(2)),
-        (Do::Root, started(3)),
-        (Do::Root, started(4)),
-        (Do::End(0, 2), queued(0)),
-        (Do::End(1, 2), queued(1)),
-        (Do::End(2, 2), queued(2)),
-        (Do::End(3, 2), queued(3)),
-        (Do::End(4, 2), full(4)),
-        (Do::Take(0), taken(1, 2)),
-        (Do::Encode, encoded(1, 117)),
-        (Do::Attempt, sent(1, Outcome::Delivered)),
-        (Do::Take(0), Answer::NotTaken),
-        (Do::Reply, replied(1, Next::Done)),
-        (Do::Take(0), taken(2, 2)),
-        (Do::Encode, encoded(2, 117)),
-        (Do::Attempt, sent(2, Outcome::Delivered)),
-        (Do::Reply, replied(2, Next::Done)),
-        (Do::Take(DELAY), Answer::NotTaken),
-    ];
-    assert_program(&rt, alloc, config, &[], &program, (0, &[name(4, 4)], 0));
-}
-
-#[test]
-fn a_flush_asks_for_those_that_wait(rt: HostRuntime) {
-    let alloc = rt.alloc();
-    let config = config(&rt, alloc, AlwaysOn, desk(5, 2), roots(&rt, alloc, 9));
-    let program = [
-        (Do::Root, started(0)),
-        (Do::Root, started(1)),
-        (Do::Root, started(2)),
-        (Do::Root, started(3)),
-        (Do::Root, started(4)),
-        (Do::Root, started(5)),
-        (Do::Root, started(6)),
-        (Do::Root, started(7)),
-        (Do::Root, started(8)),
-        (Do::End(0, 2), queued(0)),
-        (Do::End(1, 2), queued(1)),
-        (Do::End(2, 2), queued(2)),
-        (Do::Flush, Answer::Flush),
-        (Do::Take(0), taken(1, 2)),
-        (Do::Encode, encoded(1, 117)),
-        (Do::Attempt, sent(1, Outcome::Delivered)),
-        (Do::Reply, replied(1, Next::Done)),
-        (Do::Take(0), taken(2, 1)),
-        (Do::End(3, 2), queued(3)),
-        (Do::End(4, 2), queued(4)),
-        (Do::End(5, 2), queued(5)),
-        (Do::End(6, 2), queued(6)),
-        (Do::End(7, 2), queued(7)),
-        (Do::End(8, 2), full(8)),
-        (Do::Encode, encoded(2, 64)),
-        (Do::Attempt, sent(2, Outcome::Delivered)),
-        (Do::Reply, replied(2, Next::Done)),
-        (Do::Take(0), taken(3, 2)),
-        (Do::Encode, encoded(3, 117)),
-        (Do::Attempt, sent(3, Outcome::Delivered)),
-        (Do::Reply, replied(3, Next::Done)),
-        (Do::Take(0), taken(4, 2)),
-        (Do::Encode, encoded(4, 117)),
-        (Do::Attempt, sent(4, Outcome::Delivered)),
-        (Do::Reply, replied(4, Next::Done)),
-        (Do::Take(0), Answer::NotTaken),
-    ];
-    assert_program(&rt, alloc, config, &[], &program, (1, &[name(8, 8)], 0));
-}
-
-#[test]
-fn a_batch_is_due_after_the_delay(rt: HostRuntime) {
-    let alloc = rt.alloc();
-    let drawn = roots(&rt, alloc, 2);
-    let config = config(&rt, alloc, AlwaysOn, DeskConfig::default(), drawn);
-    let program = [
-        (Do::Take(DELAY), Answer::NotTaken),
-        (Do::Root, started(0)),
-        (Do::Root, started(1)),
-        (Do::End(0, 2), queued(0)),
-        (Do::Take(DELAY - 1), Answer::NotTaken),
-        (Do::Take(DELAY), taken(1, 1)),
-        (Do::End(1, 2), queued(1)),
-        (Do::Encode, encoded(1, 64)),
-        (Do::Attempt, sent(1, Outcome::Delivered)),
-        (Do::Reply, replied(1, Next::Done)),
-        (Do::Take(2 * DELAY - 1), Answer::NotTaken),
-        (Do::Take(2 * DELAY), taken(2, 1)),
-        (Do::Encode, encoded(2, 64)),
-        (Do::Attempt, sent(2, Outcome::Delivered)),
-        (Do::Reply, replied(2, Next::Done)),
-    ];
-    assert_program(&rt, alloc, config, &[], &program, (0, &[], 0));
-}
-
-#[test]
-fn steps_for_no_batch_do_nothing(rt: HostRuntime) {
-    let alloc = rt.alloc();
-    let config = config(&rt, alloc, AlwaysOn, desk(1, 1), roots(&rt, alloc, 1));
-    let program = [
-        (Do::Encode, Answer::Nothing),
-        (Do::Attempt, Answer::Nothing),
-        (Do::Reply, Answer::Nothing),
-        (Do::Root, started(0)),
-        (Do::End(0, 2), queued(0)),
-        (Do::Encode, Answer::Nothing),
-        (Do::Take(0), taken(1, 1)),
-        (Do::Attempt, Answer::Nothing),
-        (Do::Reply, Answer::Nothing),
-        (Do::Encode, encoded(1, 64)),
-        (Do::Encode, Answer::Nothing),
-        (Do::Reply, Answer::Nothing),
-        (Do::Attempt, sent(1, Outcome::Delivered)),
-        (Do::Encode, Answer::Nothing),
-        (Do::Attempt, Answer::Nothing),
-        (Do::Reply, replied(1, Next::Done)),
-        (Do::Encode, Answer::Nothing),
-        (Do::Attempt, Answer::Nothing),
-        (Do::Reply, Answer::Nothing),
-    ];
-    assert_program(&rt, alloc, config, &[], &program, (0, &[], 0));
+    assert_done(
+        rt,
+        alloc,
+        config,
+        &mut exporter,
+        &program,
+        "a single attempt",
+    );
+    assert_handed(rt, exporter.handed(), &[(1, 1, outcome, ONE_SPAN)]);
 }
 
 #[test]
 fn each_outcome_of_the_last_attempt_has_its_reply(rt: HostRuntime) {
-    let alloc = rt.alloc();
-    let later = Outcome::Later {
-        status: 503,
-        after: None,
-    };
-    let cases = [
-        (Outcome::Delivered, Next::Done),
-        (Outcome::Partial(-1), Next::Partial(-1)),
-        (later, Next::GiveUp(Cause::Attempts)),
-        (Outcome::Refused(400), Next::GiveUp(Cause::Refused(400))),
-        (Outcome::NoReply, Next::GiveUp(Cause::Attempts)),
-        (Outcome::Bad, Next::GiveUp(Cause::BadReply)),
-    ];
-    for (outcome, next) in cases {
-        let drawn = words(&rt, alloc, &WORDS);
-        let mut config = config(&rt, alloc, AlwaysOn, desk(1, 1), drawn);
-        config.retry = RetryConfig::single_attempt();
-        let program = [
-            (Do::Root, ROOT),
-            (Do::End(0, 2), queued(0)),
-            (Do::Take(0), taken(1, 1)),
-            (Do::Encode, encoded(1, 64)),
-            (Do::Attempt, sent(1, outcome)),
-            (Do::Reply, replied(1, next)),
-            (Do::Take(DELAY), Answer::NotTaken),
-        ];
-        let exporter = assert_program(&rt, alloc, config, &[outcome], &program, (0, &[], 0));
-        assert_handed(&rt, alloc, &exporter, &[(1, outcome, ONE_SPAN)]);
-    }
-}
-
-/// Asserts that a batch of one span is out, handed to the exporter or not, and what becomes of it
-/// when the report is closed.
-fn assert_abandoned<A: Allocator>(rt: &impl Abort, report: RunReport<A>, is_handed: bool) {
-    let batch = report.out().expect(rt, "a batch that is out");
-    assert_equal(rt, (batch.number(), batch.spans().len()), (1, 1));
-    assert_equal(rt, report.desk().out(), Some((1, is_handed)));
-    let desk = report.close();
-    assert_equal(rt, desk.out(), None);
-    let totals = desk.totals();
-    let (drops, fates) = (totals.dropped.abandoned, totals.fates.abandoned);
-    let abandoned = Entry {
-        reason: Reason::Abandoned,
-        ..name(0, 0)
-    };
-    if is_handed {
-        assert_equal(rt, (drops, fates), (0, 1));
-        assert!(rt; desk.ledger().is_empty());
-    } else {
-        assert_equal(rt, (drops, fates), (1, 0));
-        assert_equal(rt, desk.ledger().newest(), Some(&abandoned));
-    }
-}
-
-#[test]
-fn a_batch_that_is_out_ends_with_the_report(rt: HostRuntime) {
-    let alloc = rt.alloc();
-    let program = [
-        (Do::Root, started(0)),
-        (Do::End(0, 2), queued(0)),
-        (Do::Take(0), taken(1, 1)),
-        (Do::Encode, encoded(1, 64)),
-        (Do::Attempt, sent(1, Outcome::Delivered)),
-    ];
-    for (count, is_handed) in [(3, false), (4, false), (5, true)] {
-        assert!(rt; count <= program.len());
-        let config = config(&rt, alloc, AlwaysOn, desk(1, 1), roots(&rt, alloc, 1));
-        let mut exporter = exporter(&rt, alloc, &[]);
-        let report = run_program(&rt, alloc, config, &mut exporter, &program[..count]);
-        assert_abandoned(&rt, report, is_handed);
+    for (outcome, next) in LAST_OUTCOMES {
+        assert_last(&rt, rt.alloc(), *outcome, *next);
     }
 }

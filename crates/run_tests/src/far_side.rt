@@ -1,8 +1,7 @@
 //! An exporter that posts each body over a wire of its own, which may fail, and the far side of
 //! these wires: what it received, read without the code that wrote it.
-use crate::equal::assert_equal;
 use crate::random_programs::{below, one_in};
-use http_exporter::LinkExporter;
+use http_exporter::{Dial, LinkExporter};
 use otlp_http::{FailingCalls, FailingWire, FaultWrite, Target};
 use otlp_ids::OutOfMemory;
 use rand_core::Rng;
@@ -26,95 +25,80 @@ const REPLIES: [&str; 10] = [
     "",
 ];
 
-/// An attempt, and what the far side received of its body.
+/// What came of a post.
 #[derive(Drop)]
-pub(crate) struct Attempt {
-    pub(crate) number: u64,
-    pub(crate) body: Vec<u8>,
-    pub(crate) received: Option<Vec<u8>>,
+pub(crate) struct Posted {
+    /// What the far side took of the request. `None` where there was no wire.
+    pub(crate) taken: Option<Vec<u8>>,
     pub(crate) outcome: Outcome,
     pub(crate) has_failed: bool,
 }
 
-/// An exporter over wires that a seeded generator makes.
+/// An attempt, and what came of it.
 #[derive(Drop)]
-pub(crate) struct FarSide {
+pub(crate) struct Attempt {
+    pub(crate) number: u64,
+    pub(crate) body: Vec<u8>,
+    pub(crate) posted: Posted,
+}
+
+/// An exporter over wires that a dial gives, and that are kept behind each attempt.
+#[derive(Drop)]
+pub(crate) struct FarSide<D> {
     alloc: Global,
-    rng: Pcg32,
+    wires: D,
     posts: LinkExporter<()>,
     pub(crate) attempts: Vec<Attempt>,
     /// How many attempts weren't kept, for want of memory.
     pub(crate) lost: u32,
 }
 
-impl FarSide {
-    pub(crate) fn new(rt: &impl Abort, alloc: Global, seed: u64) -> FarSide {
-        let target = Target::new(alloc, "127.0.0.1", 4318, "/v1/traces").expect(rt, "a target");
+pub(crate) fn target(rt: &impl Abort, alloc: Global) -> Target {
+    Target::new(alloc, "127.0.0.1", 4318, "/v1/traces").expect(rt, "a target")
+}
+
+impl<D: Dial<Link = FailingWire>> FarSide<D> {
+    pub(crate) fn new(rt: &impl Abort, alloc: Global, wires: D) -> FarSide<D> {
         FarSide {
             alloc,
-            rng: Pcg32::new(seed, 2),
-            posts: LinkExporter::over(alloc, alloc, (), target),
+            wires,
+            posts: LinkExporter::over(alloc, alloc, (), target(rt, alloc)),
             attempts: Vec::new(alloc),
             lost: 0,
         }
     }
 
-    /// A wire that gives some reply, so many bytes a call, and may fail.
-    fn wire(&mut self) -> Result<FailingWire, AllocError> {
-        let reply = reply(below(&mut self.rng, 10));
-        let input = Vec::from_slice(self.alloc, reply.as_bytes())?;
-        let most = most(below(&mut self.rng, 3));
-        let failing = self.failing();
-        let output = Vec::new(self.alloc);
-        Ok(FailingWire::new(input, output, most.max(1), failing))
-    }
-
-    /// Which calls of a wire fail: none of half of them.
-    fn failing(&mut self) -> FailingCalls {
-        let calls = if one_in(&mut self.rng, 2) { 6 } else { 400 };
-        let call = u64::from(below(&mut self.rng, calls));
-        match below(&mut self.rng, 4) {
-            0 => FailingCalls::Once(call),
-            1 => FailingCalls::From(call),
-            _ => FailingCalls::Never,
+    /// Posts a body over a wire, if one is there.
+    fn post(&mut self, body: &[u8]) -> Result<Posted, AllocError> {
+        match self.wires.dial("", 0) {
+            Some(mut wire) => Ok(Posted {
+                outcome: self.posts.post(&mut wire, body),
+                has_failed: FaultWrite::failures(&wire) > 0,
+                taken: Some(Vec::from_slice(self.alloc, wire.taken())?),
+            }),
+            None => Ok(Posted {
+                outcome: Outcome::NoReply,
+                has_failed: false,
+                taken: None,
+            }),
         }
     }
 
-    /// Posts a body over a wire, if one is there, and keeps the attempt.
+    /// Posts a body, and keeps the attempt.
     fn attempt(&mut self, number: u64, body: &[u8]) -> Result<Outcome, AllocError> {
-        let mut attempt = Attempt {
+        let posted = self.post(body)?;
+        let outcome = posted.outcome;
+        let body = Vec::from_slice(self.alloc, body)?;
+        self.attempts.push(Attempt {
             number,
-            body: Vec::from_slice(self.alloc, body)?,
-            received: None,
-            outcome: Outcome::NoReply,
-            has_failed: false,
-        };
-        if !one_in(&mut self.rng, 8) {
-            let mut wire = self.wire()?;
-            attempt.outcome = self.posts.post(&mut wire, body);
-            attempt.has_failed = FaultWrite::failures(&wire) > 0;
-            attempt.received = received(self.alloc, wire.taken())?;
-        }
-        let outcome = attempt.outcome;
-        self.attempts.push(attempt)?;
+            body,
+            posted,
+        })?;
         Ok(outcome)
     }
 }
 
-fn reply(number: u32) -> &'static str {
-    REPLIES.get(number as usize).copied().unwrap_or("")
-}
-
-/// How many bytes a wire gives and takes a call.
-fn most(number: u32) -> usize {
-    match number {
-        0 => 1,
-        1 => 50,
-        _ => 65_536,
-    }
-}
-
-impl Exporter for FarSide {
+impl<D: Dial<Link = FailingWire>> Exporter for FarSide<D> {
     ghost use Rattle.std.specs.Prelude.{◌^◌, None};
 
     ghost handed = { λ _. None };
@@ -136,15 +120,71 @@ impl Exporter for FarSide {
     }
 }
 
-/// The body of a request, if the whole of it has come.
-fn received(alloc: Global, request: &[u8]) -> Result<Option<Vec<u8>>, AllocError> {
-    let Some((head, body)) = split_at_blank(request) else {
-        return Ok(None);
-    };
-    if content_length(head) != Some(body.len()) {
-        return Ok(None);
+/// Wires that a seeded generator makes.
+#[derive(Drop)]
+pub(crate) struct RandomWires {
+    alloc: Global,
+    rng: Pcg32,
+}
+
+impl RandomWires {
+    pub(crate) fn new(alloc: Global, seed: u64) -> RandomWires {
+        let rng = Pcg32::new(seed, 2);
+        RandomWires { alloc, rng }
     }
-    Ok(Some(Vec::from_slice(alloc, body)?))
+
+    /// Which calls of a wire fail: none of half of them.
+    fn failing(&mut self) -> FailingCalls {
+        let calls = if one_in(&mut self.rng, 2) { 6 } else { 400 };
+        let call = u64::from(below(&mut self.rng, calls));
+        match below(&mut self.rng, 4) {
+            0 => FailingCalls::Once(call),
+            1 => FailingCalls::From(call),
+            _ => FailingCalls::Never,
+        }
+    }
+}
+
+impl Dial for RandomWires {
+    type Link = FailingWire;
+
+    /// Seldom none, and else a wire that gives some reply, so many bytes a call, and may fail.
+    fn dial(&mut self, _host: &str, _port: u16) -> Option<FailingWire> {
+        if one_in(&mut self.rng, 8) {
+            return None;
+        }
+        let reply = reply(below(&mut self.rng, 10));
+        let input = Vec::from_slice(self.alloc, reply.as_bytes()).ok()?;
+        let most = most(below(&mut self.rng, 3));
+        let failing = self.failing();
+        let output = Vec::new(self.alloc);
+        Some(FailingWire::new(input, output, most.max(1), failing))
+    }
+}
+
+fn reply(number: u32) -> &'static str {
+    REPLIES.get(number as usize).copied().unwrap_or("")
+}
+
+/// How many bytes a wire gives and takes a call.
+fn most(number: u32) -> usize {
+    match number {
+        0 => 1,
+        1 => 50,
+        _ => 65_536,
+    }
+}
+
+impl Posted {
+    /// The body that the far side received, if the whole of it has come.
+    pub(crate) fn received(&self) -> Option<&[u8]> {
+        let (head, body) = split_at_blank(self.taken.as_ref()?.as_slice())?;
+        if content_length(head) == Some(body.len()) {
+            Some(body)
+        } else {
+            None
+        }
+    }
 }
 
 /// What stands before the first blank line of a text, and what stands behind it.
@@ -197,13 +237,12 @@ fn read_field(bytes: &[u8]) -> Option<(u64, &[u8], &[u8])> {
     Some((key / 8, held, rest.get(size as usize..)?))
 }
 
-/// What the fields of this number hold, in a message that is read whole.
-fn fields<'a>(rt: &impl Abort, alloc: Global, message: &'a [u8], number: u64) -> Vec<&'a [u8]> {
-    let mut found = Vec::new(alloc);
+/// Adds what the fields of this number hold, in a message that is read whole.
+fn add_fields<'a>(rt: &impl Abort, message: &'a [u8], number: u64, found: &mut Vec<&'a [u8]>) {
     let mut rest = message;
     for _field in 0..message.len() {
         if rest.is_empty() {
-            return found;
+            return;
         }
         let (key, held, behind) = read_field(rest).expect(rt, "a field");
         if key == number {
@@ -211,38 +250,27 @@ fn fields<'a>(rt: &impl Abort, alloc: Global, message: &'a [u8], number: u64) ->
         }
         rest = behind;
     }
+}
+
+/// What the fields of this number hold, in all of these messages.
+fn fields<'a>(rt: &impl Abort, alloc: Global, messages: &[&'a [u8]], number: u64) -> Vec<&'a [u8]> {
+    let mut found = Vec::new(alloc);
+    for message in messages {
+        add_fields(rt, message, number, &mut found);
+    }
     found
 }
 
-/// The identifier of a span.
-fn identifier(rt: &impl Abort, alloc: Global, span: &[u8]) -> u64 {
-    let mut number = 0u64;
-    for identifier in &fields(rt, alloc, span, 2) {
-        assert_equal(rt, identifier.len(), 8);
-        for byte in identifier.iter() {
-            number = number.wrapping_shl(8) | u64::from(*byte);
-        }
-    }
-    number
-}
-
-/// The identifiers of the spans of a scope.
-fn scope_spans(rt: &impl Abort, alloc: Global, scope: &[u8], spans: &mut Vec<u64>) {
-    for span in &fields(rt, alloc, scope, 2) {
-        spans.push(identifier(rt, alloc, span)).expect(rt, "memory");
-    }
-}
-
-/// The identifiers of the spans of a resource.
-fn resource_spans(rt: &impl Abort, alloc: Global, resource: &[u8], spans: &mut Vec<u64>) {
-    for scope in &fields(rt, alloc, resource, 2) {
-        scope_spans(rt, alloc, scope, spans);
-    }
-}
-
-/// Adds the identifiers of the spans of a body (opentelemetry-proto, trace_service.proto).
+/// Adds the identifiers of the spans of a body: of each resource, each of its scopes and each of
+/// theirs (opentelemetry-proto, trace_service.proto).
 pub(crate) fn add_spans(rt: &impl Abort, alloc: Global, body: &[u8], spans: &mut Vec<u64>) {
-    for resource in &fields(rt, alloc, body, 1) {
-        resource_spans(rt, alloc, resource, spans);
+    let resources = fields(rt, alloc, &[body], 1);
+    let scopes = fields(rt, alloc, resources.as_slice(), 2);
+    let found = fields(rt, alloc, scopes.as_slice(), 2);
+    for identifier in &fields(rt, alloc, found.as_slice(), 2) {
+        let identifier = identifier.as_array().expect(rt, "eight bytes");
+        spans
+            .push(u64::from_be_bytes(*identifier))
+            .expect(rt, "memory");
     }
 }

@@ -1,17 +1,16 @@
-//! Programs in short, what they run with, and what is compared.
-ghost use Rattle.std.specs.Prelude.{◌≤◌, length};
-ghost use Rattle.span_ring.specs.SpanRing.{IsRingSize};
-
+//! Programs in short, what they run with, and what a run tells.
 use crate::equal::{assert_equal, assert_equal_at};
-use batch_desk::DeskConfig;
-use otlp_ids::{SpanContext, SpanId, TraceFlags, TraceId};
+use batch_desk::{Desk, DeskConfig, Totals};
+use drop_ledger::Ledger;
+use otlp_ids::{OutOfMemory, SpanContext, SpanId, TraceFlags, TraceId};
 use otlp_sampler::Sampler;
 use otlp_span::{Entry, Kind, Reason, Resource, Scope, SpanCall, SpanLimits};
 use otlp_value::Value;
 use retry_core::{Next, Outcome, RetryConfig};
-use span_exporter::{Exporter, MemoryExporter};
+use span_exporter::{Exporter, Handed, MemoryExporter};
 use span_ring::MAX_QUEUE;
-use std::alloc::Allocator;
+use std::alloc::{Allocator, Global};
+use std::fmt::Debug;
 use std::process::Abort;
 use trace_api::Ended;
 use trace_history::{Answer, Parent, Step};
@@ -23,6 +22,18 @@ const ONES: u64 = 0x0101010101010101;
 
 pub(crate) const TRACE: TraceId = TraceId([1; 16]);
 
+/// A second, in nanoseconds.
+pub(crate) const SECOND: u64 = 1_000_000_000;
+
+/// The body of the first root's span, which has nothing but its name, from the moment 1 to the
+/// moment 2: 64 bytes.
+pub(crate) const BODY: &[u8] = &[
+    0x0a, 0x3e, 0x0a, 0x00, 0x12, 0x3a, 0x0a, 0x03, 0x0a, 0x01, 0x73, 0x12, 0x33, 0x0a, 0x10, 0x01,
+    0x01, 0x01, 0x01, 0x01, 0x01, 0x01, 0x01, 0x01, 0x01, 0x01, 0x01, 0x01, 0x01, 0x01, 0x01, 0x12,
+    0x08, 0x00, 0x00, 0x00, 0x00, 0x00, 0x00, 0x00, 0x01, 0x2a, 0x01, 0x61, 0x30, 0x01, 0x39, 0x01,
+    0x00, 0x00, 0x00, 0x00, 0x00, 0x00, 0x00, 0x41, 0x02, 0x00, 0x00, 0x00, 0x00, 0x00, 0x00, 0x00,
+];
+
 /// The identifier of the root that draws behind so many others.
 pub(crate) fn span_id(number: u64) -> SpanId {
     SpanId(number.wrapping_add(1).to_be_bytes())
@@ -30,6 +41,11 @@ pub(crate) fn span_id(number: u64) -> SpanId {
 
 pub(crate) fn text<A: Allocator>(rt: &impl Abort, alloc: A, text: &str) -> String<A> {
     String::from_str(alloc, text).expect(rt, "memory")
+}
+
+/// How a value is written.
+pub(crate) fn written<T: Debug>(rt: &impl Abort, alloc: Global, value: &T) -> String {
+    format!(in alloc; "{value:?}").expect(rt, "memory")
 }
 
 /// A generator of these words.
@@ -48,6 +64,11 @@ pub(crate) fn roots<A: Allocator>(rt: &impl Abort, alloc: A, count: u64) -> Word
     WordsRng::new(words)
 }
 
+// ---- steps and answers in short
+
+/// A step of a program, and what it gives.
+pub(crate) type Row = (Do, Gives);
+
 /// A step in short. Spans are internal and of the name `a`, from the moment 1 on.
 #[derive(Clone, Copy)]
 pub(crate) enum Do {
@@ -59,20 +80,41 @@ pub(crate) enum Do {
     Child(u32),
     /// A child of a sampled span of elsewhere starts, which has a trace state.
     RemoteChild,
-    /// An attribute is set on the span with this number.
-    Set(u32),
+    /// An attribute of this key is set on the span with this number.
+    Set(u32, &'static str),
+    /// The span with this number gets another name.
+    Rename(u32),
     /// The span with this number ends at this moment.
     End(u32, u64),
     Flush,
     Shutdown,
     Take(u64),
     Encode,
-    Attempt,
     /// An attempt at this moment.
-    AttemptAt(u64),
-    Reply,
+    Attempt(u64),
     /// A reply at this moment, with this word.
-    ReplyAt(u64, u64),
+    Reply(u64, u64),
+}
+
+/// An answer in short.
+#[derive(Clone, Copy)]
+pub(crate) enum Gives {
+    /// The root that draws behind so many others has started.
+    Started(u64),
+    /// The span waits, under this ticket.
+    Queued(u64),
+    /// The span is dropped under this ticket, as the queue is full.
+    Full(u64),
+    /// A batch is out: its number, and how many spans it has.
+    Taken(u64, usize),
+    /// The batch of this number has a body of this length.
+    Encoded(u64, usize),
+    /// What came of a batch's attempt: their numbers, and the outcome.
+    Sent(u64, u32, Outcome),
+    /// What follows for the batch of this number.
+    Replied(u64, Next),
+    /// Any other answer.
+    Just(Answer),
 }
 
 /// The start of a span.
@@ -87,41 +129,62 @@ fn start<A: Allocator>(rt: &impl Abort, alloc: A, scope: u32, parent: Parent<A>)
 }
 
 /// A span of elsewhere.
-fn remote<A: Allocator>(rt: &impl Abort, alloc: A) -> Parent<A> {
+pub(crate) fn elsewhere<A: Allocator>(rt: &impl Abort, alloc: A, flags: TraceFlags) -> Parent<A> {
     Parent::Given(SpanContext {
         trace: TraceId([7; 16]),
         span: SpanId([8; 8]),
-        flags: TraceFlags::SAMPLED,
+        flags,
         remote: true,
         state: text(rt, alloc, "k=v"),
     })
 }
 
-/// The call that sets an attribute.
-fn set<A: Allocator + Copy>(rt: &impl Abort, alloc: A, span: u32) -> Step<A> {
-    let call = SpanCall::SetAttribute(text(rt, alloc, "k"), Value::Int(1));
+/// A call on a span.
+fn call<A: Allocator>(span: u32, call: SpanCall<A>) -> Step<A> {
     Step::Call { span, call }
 }
 
-fn step<A: Allocator + Copy>(rt: &impl Abort, alloc: A, short: Do) -> Step<A> {
+pub(crate) fn step<A: Allocator + Copy>(rt: &impl Abort, alloc: A, short: Do) -> Step<A> {
     match short {
         Do::Root => start(rt, alloc, 0, Parent::Root),
         Do::RootIn(scope) => start(rt, alloc, scope, Parent::Root),
         Do::Child(parent) => start(rt, alloc, 0, Parent::Span(parent)),
-        Do::RemoteChild => start(rt, alloc, 0, remote(rt, alloc)),
-        Do::Set(span) => set(rt, alloc, span),
-        Do::End(span, at) => Step::Call {
-            span,
-            call: SpanCall::End(at),
-        },
+        Do::RemoteChild => {
+            let parent = elsewhere(rt, alloc, TraceFlags::SAMPLED);
+            start(rt, alloc, 0, parent)
+        }
+        Do::Set(span, key) => {
+            let key = text(rt, alloc, key);
+            call(span, SpanCall::SetAttribute(key, Value::Int(1)))
+        }
+        Do::Rename(span) => call(span, SpanCall::UpdateName(text(rt, alloc, "x"))),
+        Do::End(span, at) => call(span, SpanCall::End(at)),
         Do::Flush => Step::Flush,
         Do::Shutdown => Step::Shutdown,
         Do::Take(at) => Step::Take { at },
         Do::Encode => Step::Encode,
-        Do::Attempt => Step::Attempt { at: 10 },
-        Do::AttemptAt(at) => Step::Attempt { at },
-        Do::Reply => Step::Reply { at: 10, word: 0 },
-        Do::ReplyAt(at, word) => Step::Reply { at, word },
+        Do::Attempt(at) => Step::Attempt { at },
+        Do::Reply(at, word) => Step::Reply { at, word },
+    }
+}
+
+pub(crate) fn answer(short: Gives) -> Answer {
+    match short {
+        Gives::Started(number) => Answer::Started {
+            trace: TRACE,
+            span: span_id(number),
+        },
+        Gives::Queued(ticket) => Answer::Ended(Ended::Queued(ticket)),
+        Gives::Full(ticket) => Answer::Ended(Ended::Dropped(ticket, Reason::QueueFull)),
+        Gives::Taken(batch, spans) => Answer::Taken { batch, spans },
+        Gives::Encoded(batch, length) => Answer::Encoded { batch, length },
+        Gives::Sent(batch, attempt, outcome) => Answer::Sent {
+            batch,
+            attempt,
+            outcome,
+        },
+        Gives::Replied(batch, next) => Answer::Replied { batch, next },
+        Gives::Just(answer) => answer,
     }
 }
 
@@ -129,7 +192,7 @@ fn step<A: Allocator + Copy>(rt: &impl Abort, alloc: A, short: Do) -> Step<A> {
 pub(crate) fn steps<A: Allocator + Copy>(
     rt: &impl Abort,
     alloc: A,
-    program: &[(Do, Answer)],
+    program: &[Row],
 ) -> Vec<Step<A>, A> {
     let mut steps = Vec::new(alloc);
     for (short, _) in program {
@@ -137,6 +200,17 @@ pub(crate) fn steps<A: Allocator + Copy>(
     }
     steps
 }
+
+/// The answers to a program.
+pub(crate) fn answers<A: Allocator>(rt: &impl Abort, alloc: A, program: &[Row]) -> Vec<Answer, A> {
+    let mut answers = Vec::new(alloc);
+    for (_, short) in program {
+        answers.push(answer(*short)).expect(rt, "memory");
+    }
+    answers
+}
+
+// ---- what a run has, and what it tells
 
 /// What a run has before its first step: the scope `s`, and spans of these words that this sampler
 /// decides on. Batches are sent again as by default.
@@ -171,158 +245,207 @@ pub(crate) fn desk(queue: usize, batch: usize) -> DeskConfig {
     }
 }
 
-/// An exporter with these outcomes.
+/// An exporter on scarce memory with these outcomes.
 pub(crate) fn exporter<A: Allocator + Copy>(
     rt: &impl Abort,
-    alloc: A,
+    ample: A,
+    scarce: A,
     outcomes: &[Outcome],
 ) -> MemoryExporter<A> {
-    let outcomes = Vec::from_slice(alloc, outcomes).expect(rt, "memory");
-    MemoryExporter::new(alloc, outcomes)
+    let outcomes = Vec::from_slice(ample, outcomes).expect(rt, "memory");
+    MemoryExporter::new(scarce, outcomes)
 }
 
-// ---- answers in short
+/// What a report leaves.
+#[derive(Clone, Copy, Debug, PartialEq)]
+pub(crate) struct Left {
+    /// The number of the batch that is out, and how many spans it has.
+    pub(crate) batch: Option<(u64, usize)>,
+    /// The batch that the desk has as out, and whether it was handed.
+    pub(crate) out: Option<(u64, bool)>,
+    /// How many spans wait.
+    pub(crate) waiting: u64,
+    /// How many spans were late.
+    pub(crate) late: u64,
+    /// What is abandoned when the report is closed: spans that weren't handed, and batches that
+    /// were. But for these, the counts stay as they are.
+    pub(crate) abandoned: (u64, u64),
+}
 
-/// The answer to a root that draws behind so many others.
-pub(crate) fn started(number: u64) -> Answer {
-    Answer::Started {
-        trace: TRACE,
-        span: span_id(number),
+/// What a run answered, and what its report tells.
+#[derive(Drop)]
+pub(crate) struct Told<A: Allocator> {
+    pub(crate) answers: Vec<Answer, A>,
+    pub(crate) left: Left,
+    pub(crate) totals: Totals,
+    /// Whom the ledger names when the report is closed, the newest first.
+    pub(crate) names: Vec<Entry, A>,
+    /// The identifiers of the spans that wait then.
+    pub(crate) waiting: Vec<u64, A>,
+    /// Whom the ledger names once these are dropped too.
+    pub(crate) all_names: Vec<Entry, A>,
+}
+
+/// Whom a ledger names, the newest first.
+fn names<A: Allocator>(rt: &impl Abort, alloc: A, ledger: &Ledger<A>) -> Vec<Entry, A> {
+    let mut names = Vec::new(alloc);
+    for entry in ledger.iter() {
+        names.push(*entry).expect(rt, "memory");
     }
+    assert_equal(rt, names.len() as u64, ledger.len());
+    names
 }
 
-pub(crate) fn queued(ticket: u64) -> Answer {
-    Answer::Ended(Ended::Queued(ticket))
+/// Drops all that waits, so that the ledger names it, and answers the identifiers of these spans.
+/// No batch is out.
+fn drop_waiting<A: Allocator>(rt: &impl Abort, alloc: A, desk: &mut Desk<A>) -> Vec<u64, A> {
+    let mut waiting = Vec::new(alloc);
+    desk.shutdown();
+    for _batch in 0..desk.waiting() {
+        if let Some(batch) = desk.take(0) {
+            for span in batch.spans() {
+                let identifier = u64::from_be_bytes(span.context().span.0);
+                waiting.push(identifier).expect(rt, "memory");
+            }
+            assert!(rt; desk.is_in_hand(&batch));
+            desk.drop_batch(batch, Reason::Abandoned);
+        }
+    }
+    assert_equal(rt, desk.totals().left, 0);
+    waiting
 }
 
-pub(crate) fn full(ticket: u64) -> Answer {
-    Answer::Ended(Ended::Dropped(ticket, Reason::QueueFull))
-}
-
-pub(crate) fn taken(batch: u64, spans: usize) -> Answer {
-    Answer::Taken { batch, spans }
-}
-
-pub(crate) fn encoded(batch: u64, length: usize) -> Answer {
-    Answer::Encoded { batch, length }
-}
-
-pub(crate) fn dropped(batch: u64, reason: Reason) -> Answer {
-    Answer::Dropped { batch, reason }
-}
-
-pub(crate) fn sent(batch: u64, outcome: Outcome) -> Answer {
-    sent_again(batch, 1, outcome)
-}
-
-/// The answer to this attempt of a batch.
-pub(crate) fn sent_again(batch: u64, attempt: u32, outcome: Outcome) -> Answer {
-    Answer::Sent {
+/// What a report leaves, before it is closed.
+fn before<A: Allocator>(report: &RunReport<A>, totals: Totals) -> Left {
+    let batch = match report.out() {
+        Some(batch) => Some((batch.number(), batch.spans().len())),
+        None => None,
+    };
+    Left {
         batch,
-        attempt,
-        outcome,
+        out: report.desk().out(),
+        waiting: totals.left,
+        late: totals.late,
+        abandoned: (0, 0),
     }
 }
 
-pub(crate) fn replied(batch: u64, next: Next) -> Answer {
-    Answer::Replied { batch, next }
+/// Closes a report, and answers what it told.
+fn close<A: Allocator + Copy>(rt: &impl Abort, alloc: A, report: RunReport<A>) -> Told<A> {
+    let totals = report.desk().totals();
+    let mut told = Told {
+        answers: Vec::from_slice(alloc, report.answers()).expect(rt, "memory"),
+        left: before(&report, totals),
+        totals,
+        names: Vec::new(alloc),
+        waiting: Vec::new(alloc),
+        all_names: Vec::new(alloc),
+    };
+    let mut desk = report.close();
+    tell_closed(rt, alloc, &mut told, &mut desk);
+    told
 }
 
-/// The name of the span of a root that drew behind so many others.
-pub(crate) fn name(number: u64, ticket: u64) -> Entry {
-    Entry {
-        trace: TRACE,
-        span: span_id(number),
-        ticket,
-        reason: Reason::QueueFull,
-    }
-}
-
-// ---- runs
-
-/// Asserts that the queue can be made.
-pub(crate) fn assert_runs<S: Sampler, A: Allocator>(
+/// Tells of the desk of a report that is closed.
+fn tell_closed<A: Allocator + Copy>(
     rt: &impl Abort,
-    config: &RunConfig<S, WordsRng<A>, A>,
-)
-    ensures { IsRingSize config.now.desk.queue config.now.desk.batch }
-{
+    alloc: A,
+    told: &mut Told<A>,
+    desk: &mut Desk<A>,
+) {
+    assert_equal(rt, desk.out(), None);
+    let mut totals = desk.totals();
+    told.left.abandoned = (totals.dropped.abandoned, totals.fates.abandoned);
+    totals.dropped.abandoned = told.totals.dropped.abandoned;
+    totals.fates.abandoned = told.totals.fates.abandoned;
+    assert_equal(rt, totals, told.totals);
+    told.names = names(rt, alloc, desk.ledger());
+    told.waiting = drop_waiting(rt, alloc, desk);
+    told.all_names = names(rt, alloc, desk.ledger());
+}
+
+/// Runs these steps on scarce memory, and answers on ample memory what is told.
+pub(crate) fn run_steps<S: Sampler + Drop, E: Exporter, A: Allocator + Copy>(
+    rt: &impl Abort,
+    memory: (A, A),
+    config: RunConfig<S, WordsRng<A>, A>,
+    steps: &[Step<A>],
+    exporter: &mut E,
+) -> Result<Told<A>, OutOfMemory> {
+    let (ample, scarce) = memory;
     let (queue, batch) = (config.desk.queue, config.desk.batch);
     assert!(rt; 0 < batch && batch <= queue && queue <= MAX_QUEUE);
-}
-
-/// Runs a program, whose steps stand with the answers that are compared.
-pub(crate) fn run_program<S: Sampler + Drop, E: Exporter, A: Allocator + Copy>(
-    rt: &impl Abort,
-    alloc: A,
-    config: RunConfig<S, WordsRng<A>, A>,
-    exporter: &mut E,
-    program: &[(Do, Answer)],
-) -> RunReport<A> {
-    let steps = steps(rt, alloc, program);
-    assert_runs(rt, &config);
-    let report = run(alloc, config, steps.as_slice(), exporter).expect(rt, "memory");
-    assert_answers(rt, report.answers(), program);
-    report
-}
-
-/// Asserts that the answers are those of the program.
-pub(crate) fn assert_answers(rt: &impl Abort, answers: &[Answer], program: &[(Do, Answer)]) {
-    assert_equal(rt, answers.len(), program.len());
-    for (place, (answer, (_, want))) in answers.iter().zip(program).enumerate() {
-        assert_equal_at(rt, answer, want, place);
+    match run(scarce, config, steps, exporter) {
+        Ok(report) => Ok(close(rt, ample, report)),
+        Err(OutOfMemory) => Err(OutOfMemory),
     }
 }
 
-/// Asserts what a report leaves: how many wait, whom the ledger names, the newest first, and how
-/// many were late. No batch is out, so the desk is this one when the report is closed.
-pub(crate) fn assert_left<A: Allocator>(
-    rt: &impl Abort,
-    report: RunReport<A>,
-    left: u64,
-    names: &[Entry],
-    late: u64,
-) {
-    let totals = report.desk().totals();
-    let told = (report.out().is_none(), totals.left, totals.late);
-    assert_equal(rt, told, (true, left, late));
-    let desk = report.close();
-    let closed = (desk.totals(), desk.ledger().len());
-    assert_equal(rt, closed, (totals, names.len() as u64));
-    for (entry, want) in desk.ledger().iter().zip(names) {
-        assert_equal(rt, entry, want);
+/// Asserts that the answers are those of the program of this name.
+pub(crate) fn assert_answers(rt: &impl Abort, answers: &[Answer], program: &[Row], name: &str) {
+    assert_equal_at(rt, answers.len(), program.len(), name);
+    for (place, (_, short)) in program.iter().enumerate() {
+        let wanted = answer(*short);
+        assert_equal_at(rt, answers.get(place), Some(&wanted), (name, place));
     }
 }
 
-/// Runs a program whose exporter has these outcomes, asserts its answers and what its report leaves
-/// (`assert_left`), and answers the exporter.
-pub(crate) fn assert_program<S: Sampler + Drop, A: Allocator + Copy>(
-    rt: &impl Abort,
-    alloc: A,
-    config: RunConfig<S, WordsRng<A>, A>,
-    outcomes: &[Outcome],
-    program: &[(Do, Answer)],
-    left: (u64, &[Entry], u64),
-) -> MemoryExporter<A> {
-    let mut exporter = exporter(rt, alloc, outcomes);
-    let report = run_program(rt, alloc, config, &mut exporter, program);
-    let (waiting, names, late) = left;
-    assert_left(rt, report, waiting, names, late);
-    exporter
+// ---- what was handed
+
+/// A body that was handed: the numbers of its batch and of the attempt, what came of it, and the
+/// bytes.
+pub(crate) type HandedRow<'a> = (u64, u32, Outcome, &'a [u8]);
+
+fn handed_row<A: Allocator>(handed: &Handed<A>) -> HandedRow<'_> {
+    (
+        handed.number,
+        handed.attempt,
+        handed.outcome,
+        handed.body.as_slice(),
+    )
 }
 
-/// Asserts the bodies that were handed, in hexadecimal digits, each with its batch and outcome.
-pub(crate) fn assert_handed<A: Allocator + Copy>(
+/// Asserts that these bodies were handed.
+pub(crate) fn assert_handed<A: Allocator>(
     rt: &impl Abort,
-    alloc: A,
-    exporter: &MemoryExporter<A>,
-    want: &[(u64, Outcome, &str)],
+    handed: &[Handed<A>],
+    wanted: &[HandedRow<'_>],
 ) {
-    assert_equal(rt, exporter.handed().len(), want.len());
-    for (handed, (batch, outcome, digits)) in exporter.handed().iter().zip(want) {
-        let body = hex::encode(alloc, handed.body.as_slice()).expect(rt, "memory");
-        let found = (handed.number, handed.attempt, handed.outcome);
-        assert_equal(rt, found, (*batch, 1, *outcome));
-        assert_equal(rt, body.as_str(), *digits);
+    assert_equal(rt, handed.len(), wanted.len());
+    for (handed, wanted) in handed.iter().zip(wanted) {
+        assert_equal(rt, handed_row(handed), *wanted);
+    }
+}
+
+// ---- refusals of memory
+
+/// How many runs were refused memory once, and how many weren't.
+#[derive(Clone, Copy, Debug)]
+pub(crate) struct Refusals {
+    refused: u64,
+    granted: u64,
+}
+
+impl Refusals {
+    pub(crate) fn new() -> Refusals {
+        Refusals {
+            refused: 0,
+            granted: 0,
+        }
+    }
+
+    /// Counts a run at this place in which so many refusals were told: one at most.
+    pub(crate) fn count(&mut self, rt: &impl Abort, told: usize, place: u64) {
+        match told {
+            0 => self.granted = self.granted.saturating_add(1),
+            _ => self.refused = self.refused.saturating_add(1),
+        }
+        assert_equal_at(rt, told <= 1, true, (place, told));
+    }
+
+    /// Asserts that there were so many of each, or more.
+    pub(crate) fn assert_least(&self, rt: &impl Abort, refused: u64, granted: u64) {
+        let enough = (self.refused >= refused, self.granted >= granted);
+        assert_equal_at(rt, enough, (true, true), *self);
     }
 }

@@ -10,6 +10,8 @@ mod answered;
 #[cfg(test)]
 mod batches;
 #[cfg(test)]
+mod cases;
+#[cfg(test)]
 mod ends;
 #[cfg(test)]
 mod equal;

@@ -1,21 +1,16 @@
 //! Runs whose batches are posted over links that a dial hands out, and that fail (OTLP
 //! Specification, "OTLP/HTTP Response").
+use crate::cases::assert_done;
 use crate::equal::{assert_equal, assert_equal_at};
-use crate::fixture::{
-    Do, assert_left, config, desk, encoded, queued, replied, roots, run_program, sent, sent_again,
-    started, taken,
-};
+use crate::far_side::{FarSide, target};
+use crate::fixture::{BODY, Do, Gives, Row, SECOND, config, desk, roots};
 use http_exporter::{Dial, LinkExporter};
-use otlp_http::{FailingCalls, FailingWire, Target};
-use otlp_ids::OutOfMemory;
+use otlp_http::{FailingCalls, FailingWire};
 use otlp_sampler::AlwaysOn;
 use retry_core::{Next, Outcome};
 use span_exporter::Exporter;
 use std::alloc::Global;
 use std::process::Abort;
-use trace_history::Answer;
-
-const SECOND: u64 = 1_000_000_000;
 
 /// The head of the request that carries the body: 127 bytes.
 const HEAD: &str = concat!(
@@ -27,232 +22,147 @@ const HEAD: &str = concat!(
     "\r\n",
 );
 
-/// The body of a span that has nothing but its name: 64 bytes.
-const BODY: &[u8] = &[
-    0x0a, 0x3e, 0x0a, 0x00, 0x12, 0x3a, 0x0a, 0x03, 0x0a, 0x01, 0x73, 0x12, 0x33, 0x0a, 0x10, 0x01,
-    0x01, 0x01, 0x01, 0x01, 0x01, 0x01, 0x01, 0x01, 0x01, 0x01, 0x01, 0x01, 0x01, 0x01, 0x01, 0x12,
-    0x08, 0x00, 0x00, 0x00, 0x00, 0x00, 0x00, 0x00, 0x01, 0x2a, 0x01, 0x61, 0x30, 0x01, 0x39, 0x01,
-    0x00, 0x00, 0x00, 0x00, 0x00, 0x00, 0x00, 0x41, 0x02, 0x00, 0x00, 0x00, 0x00, 0x00, 0x00, 0x00,
-];
-
 /// How many bytes the request has.
 const SIZE: usize = 191;
 
 /// A reply that rejects two spans: its head has 38 bytes, each of which is a read, and its body 7.
 const REPLY: &[u8] = b"HTTP/1.1 200 OK\r\nContent-Length: 7\r\n\r\n\x0a\x05\x08\x02\x12\x01\x78";
 
-/// A link that gives the reply, so many bytes a call, and fails some calls.
-fn link(rt: &impl Abort, alloc: Global, most: usize, failing: FailingCalls) -> FailingWire {
-    let input = Vec::from_slice(alloc, REPLY).expect(rt, "memory");
-    FailingWire::new(input, Vec::new(alloc), most.max(1), failing)
-}
+/// What the reply says.
+const REJECTED: (Outcome, Next) = (Outcome::Partial(2), Next::Partial(2));
 
-fn target(rt: &impl Abort, alloc: Global) -> Target {
-    Target::new(alloc, "127.0.0.1", 4318, "/v1/traces").expect(rt, "a target")
-}
+/// A link, or none: how many bytes it gives and takes a call, and which calls fail.
+type Link = Option<(usize, FailingCalls)>;
 
-/// Links or none, the last one first.
-type Links = Vec<Option<FailingWire>>;
-
-/// A dial that hands out listed links.
+/// Links that are handed out in turn.
 #[derive(Drop)]
 struct ListedLinks {
-    links: Links,
+    alloc: Global,
+    links: Vec<Link>,
 }
 
 impl Dial for ListedLinks {
     type Link = FailingWire;
 
+    /// The link that comes last in the list, which gives the reply.
     fn dial(&mut self, _host: &str, _port: u16) -> Option<FailingWire> {
-        self.links.pop()?
+        let (most, failing) = self.links.pop()??;
+        let input = Vec::from_slice(self.alloc, REPLY).ok()?;
+        let output = Vec::new(self.alloc);
+        Some(FailingWire::new(input, output, most.max(1), failing))
     }
 }
 
-/// An exporter that posts over listed links, and keeps each of them behind that.
-#[derive(Drop)]
-struct KeptLinks {
-    links: Links,
-    posts: LinkExporter<()>,
-    used: Vec<FailingWire>,
-    lost: u32,
+/// A dial that hands these links out, the last one first.
+fn listed(rt: &impl Abort, alloc: Global, links: &[Link]) -> ListedLinks {
+    let links = Vec::from_slice(alloc, links).expect(rt, "memory");
+    ListedLinks { alloc, links }
 }
 
-impl KeptLinks {
-    /// Posts a body over the next link, if there is one.
-    fn post(&mut self, body: &[u8]) -> Outcome {
-        let Some(Some(mut link)) = self.links.pop() else {
-            return Outcome::NoReply;
-        };
-        let outcome = self.posts.post(&mut link, body);
-        if self.used.push(link).is_err() {
-            self.lost = self.lost.saturating_add(1);
+/// A program of a span whose attempts have these outcomes, each at the moment that was told before.
+fn program(rt: &impl Abort, alloc: Global, attempts: &[(Outcome, Next)]) -> Vec<Row> {
+    let first = [
+        (Do::Root, Gives::Started(0)),
+        (Do::End(0, 2), Gives::Queued(0)),
+        (Do::Take(0), Gives::Taken(1, 1)),
+        (Do::Encode, Gives::Encoded(1, 64)),
+    ];
+    let mut program = Vec::from_slice(alloc, &first).expect(rt, "memory");
+    let (mut at, mut number) = (0, 0u32);
+    for (outcome, next) in attempts {
+        number = number.wrapping_add(1);
+        let sent = (Do::Attempt(at), Gives::Sent(1, number, *outcome));
+        program.push(sent).expect(rt, "memory");
+        let replied = (Do::Reply(at, 0), Gives::Replied(1, *next));
+        program.push(replied).expect(rt, "memory");
+        if let Next::Again(moment) = next {
+            at = *moment;
         }
-        outcome
     }
+    program
 }
 
-impl Exporter for KeptLinks {
-    ghost use Rattle.std.specs.Prelude.{◌^◌, None};
-
-    ghost handed = { λ _. None };
-
-    ghost room = { λ _ _. 2 ^ 32 };
-
-    fn prepare(&mut self, _size: usize, _attempts: u32) -> Result<(), OutOfMemory> {
-        Ok(())
-    }
-
-    fn export(&mut self, _number: u64, _attempt: u32, body: &[u8]) -> Outcome {
-        self.post(body)
-    }
-}
-
-/// Runs a program of a span over this exporter, and asserts its answers, and that nothing is left.
-fn assert_run<E: Exporter>(
-    rt: &impl Abort,
-    alloc: Global,
-    exporter: &mut E,
-    program: &[(Do, Answer)],
-) {
+/// Runs such a program over this exporter, and asserts its answers, and that nothing is left.
+fn assert_run<E: Exporter>(rt: &impl Abort, alloc: Global, exporter: &mut E, program: &[Row]) {
     let config = config(rt, alloc, AlwaysOn, desk(1, 1), roots(rt, alloc, 1));
-    let report = run_program(rt, alloc, config, exporter, program);
-    assert_left(rt, report, 0, &[], 0);
+    assert_done(rt, alloc, config, exporter, program, "posts over links");
 }
 
-/// Runs a program over links that are handed out anew for each attempt, and asserts its answers.
-fn assert_dialled(rt: &impl Abort, alloc: Global, links: Links, program: &[(Do, Answer)]) {
-    let dial = ListedLinks { links };
-    let mut exporter = LinkExporter::over(alloc, alloc, dial, target(rt, alloc));
-    assert_run(rt, alloc, &mut exporter, program);
-}
-
-/// Runs a program over links, asserts its answers, and that each link took the beginning of the
-/// request that has so many bytes.
-fn assert_sent(
+/// Asserts what comes of these links, the last one first, which are handed out anew for each
+/// attempt: the outcomes of these attempts. Each link took the beginning of the request that has
+/// so many bytes; there is none where it took `None`.
+fn assert_posts(
     rt: &impl Abort,
     alloc: Global,
-    links: Links,
-    program: &[(Do, Answer)],
-    sizes: &[usize],
+    links: &[Link],
+    attempts: &[(Outcome, Next)],
+    sizes: &[Option<usize>],
 ) {
-    let mut exporter = KeptLinks {
-        links,
-        posts: LinkExporter::over(alloc, alloc, (), target(rt, alloc)),
-        used: Vec::new(alloc),
-        lost: 0,
-    };
-    assert_run(rt, alloc, &mut exporter, program);
-    assert_equal(rt, (exporter.used.len(), exporter.lost), (sizes.len(), 0));
-    for (used, size) in exporter.used.iter().zip(sizes) {
-        assert_front(rt, alloc, used.taken(), *size);
+    let program = program(rt, alloc, attempts);
+    let dial = listed(rt, alloc, links);
+    let mut exporter = LinkExporter::over(alloc, alloc, dial, target(rt, alloc));
+    assert_run(rt, alloc, &mut exporter, program.as_slice());
+    let mut far_side = FarSide::new(rt, alloc, listed(rt, alloc, links));
+    assert_run(rt, alloc, &mut far_side, program.as_slice());
+    let kept = (far_side.attempts.len(), far_side.lost);
+    assert_equal(rt, kept, (sizes.len(), 0));
+    for (attempt, size) in far_side.attempts.iter().zip(sizes) {
+        assert_taken(rt, alloc, attempt.posted.taken.as_ref(), *size);
     }
 }
 
 /// Asserts that this is the beginning of the request that has so many bytes.
-fn assert_front(rt: &impl Abort, alloc: Global, text: &[u8], size: usize) {
+fn assert_taken(rt: &impl Abort, alloc: Global, taken: Option<&Vec<u8>>, size: Option<usize>) {
     let mut request = Vec::from_slice(alloc, HEAD.as_bytes()).expect(rt, "memory");
     request.extend_from_slice(BODY).expect(rt, "memory");
     assert_equal(rt, request.len(), SIZE);
-    assert_equal_at(rt, Some(text), request.get(..size), size);
-}
-
-/// No link, one whose third write fails, one whose first read fails, and a good one.
-fn four_links(rt: &impl Abort, alloc: Global) -> Links {
-    let links = vec![in alloc;
-        Some(link(rt, alloc, 65_536, FailingCalls::Never)),
-        Some(link(rt, alloc, 65_536, FailingCalls::Once(1))),
-        Some(link(rt, alloc, 50, FailingCalls::Once(2))),
-        None,
-    ];
-    links.expect(rt, "memory")
+    let front = match size {
+        Some(size) => request.get(..size),
+        None => None,
+    };
+    assert_equal_at(rt, taken.map(Vec::as_slice), front, size);
 }
 
 #[test]
 fn each_failure_of_a_link_asks_for_another(rt: HostRuntime) {
-    let alloc = rt.alloc();
     let none = Outcome::NoReply;
-    let taken_in_part = Outcome::Partial(2);
-    let program = [
-        (Do::Root, started(0)),
-        (Do::End(0, 2), queued(0)),
-        (Do::Take(0), taken(1, 1)),
-        (Do::Encode, encoded(1, 64)),
-        (Do::AttemptAt(0), sent(1, none)),
-        (Do::ReplyAt(0, 0), replied(1, Next::Again(SECOND))),
-        (Do::AttemptAt(SECOND), sent_again(1, 2, none)),
-        (Do::ReplyAt(SECOND, 0), replied(1, Next::Again(3 * SECOND))),
-        (Do::AttemptAt(3 * SECOND), sent_again(1, 3, none)),
-        (
-            Do::ReplyAt(3 * SECOND, 0),
-            replied(1, Next::Again(7 * SECOND)),
-        ),
-        (Do::AttemptAt(7 * SECOND), sent_again(1, 4, taken_in_part)),
-        (Do::ReplyAt(7 * SECOND, 0), replied(1, Next::Partial(2))),
+    // No link, one whose third write fails, one whose first read fails, and a good one.
+    let links = [
+        Some((65_536, FailingCalls::Never)),
+        Some((65_536, FailingCalls::Once(1))),
+        Some((50, FailingCalls::Once(2))),
+        None,
     ];
-    assert_dialled(&rt, alloc, four_links(&rt, alloc), &program);
-    let sizes = [100, SIZE, SIZE];
-    assert_sent(&rt, alloc, four_links(&rt, alloc), &program, &sizes);
+    let attempts = [
+        (none, Next::Again(SECOND)),
+        (none, Next::Again(3 * SECOND)),
+        (none, Next::Again(7 * SECOND)),
+        REJECTED,
+    ];
+    let sizes = [None, Some(100), Some(SIZE), Some(SIZE)];
+    assert_posts(&rt, rt.alloc(), &links, &attempts, &sizes);
 }
 
-/// A link whose call of this number fails, and behind it a good one.
-fn two_links(rt: &impl Abort, alloc: Global, most: usize, call: u64) -> Links {
-    let links = vec![in alloc;
-        Some(link(rt, alloc, most, FailingCalls::Never)),
-        Some(link(rt, alloc, most, FailingCalls::Once(call))),
-    ];
-    links.expect(rt, "memory")
-}
-
-/// Asserts what comes of two such links, where this outcome is that of the first attempt: the last
-/// one. The link took all of the request.
-fn assert_once(rt: &impl Abort, alloc: Global, most: usize, call: u64, last: (Outcome, Next)) {
-    let (outcome, next) = last;
-    let program = [
-        (Do::Root, started(0)),
-        (Do::End(0, 2), queued(0)),
-        (Do::Take(0), taken(1, 1)),
-        (Do::Encode, encoded(1, 64)),
-        (Do::AttemptAt(0), sent(1, outcome)),
-        (Do::ReplyAt(0, 0), replied(1, next)),
-    ];
-    assert_dialled(rt, alloc, two_links(rt, alloc, most, call), &program);
-    let links = two_links(rt, alloc, most, call);
-    assert_sent(rt, alloc, links, &program, &[SIZE]);
-}
-
-/// Asserts what comes of two such links, where the first attempt has no reply: a second one, which
-/// sends the whole of the request. The first link took so many bytes of it.
-fn assert_twice(rt: &impl Abort, alloc: Global, most: usize, call: u64, size: usize) {
-    let none = Outcome::NoReply;
-    let program = [
-        (Do::Root, started(0)),
-        (Do::End(0, 2), queued(0)),
-        (Do::Take(0), taken(1, 1)),
-        (Do::Encode, encoded(1, 64)),
-        (Do::AttemptAt(0), sent(1, none)),
-        (Do::ReplyAt(0, 0), replied(1, Next::Again(SECOND))),
-        (Do::AttemptAt(SECOND), sent_again(1, 2, Outcome::Partial(2))),
-        (Do::ReplyAt(SECOND, 0), replied(1, Next::Partial(2))),
-    ];
-    assert_dialled(rt, alloc, two_links(rt, alloc, most, call), &program);
-    let links = two_links(rt, alloc, most, call);
-    assert_sent(rt, alloc, links, &program, &[size, SIZE]);
-}
-
-/// Asserts what comes of a link whose call of this number fails, where the request takes so many
-/// writes, the head of the reply 38 reads, and its body so many.
+/// Asserts what comes of a link whose call of this number fails, and behind it a good one, where
+/// the request takes so many writes, the head of the reply 38 reads, and its body so many.
 fn assert_fails(rt: &impl Abort, alloc: Global, most: usize, calls: (u64, u64), call: u64) {
     let (writes, reads) = calls;
-    if call < writes {
-        assert_twice(rt, alloc, most, call, (call as usize).saturating_mul(most));
-    } else if call < writes.saturating_add(38) {
-        assert_twice(rt, alloc, most, call, SIZE);
-    } else if call < writes.saturating_add(reads) {
-        // The head said that all was taken, and what the body says isn't known.
-        assert_once(rt, alloc, most, call, (Outcome::Delivered, Next::Done));
+    let links = [
+        Some((most, FailingCalls::Never)),
+        Some((most, FailingCalls::Once(call))),
+    ];
+    if call < writes.saturating_add(38) {
+        // No reply: a second attempt sends the whole of the request.
+        let attempts = [(Outcome::NoReply, Next::Again(SECOND)), REJECTED];
+        let written = SIZE.min((call as usize).saturating_mul(most));
+        let sizes = [Some(written), Some(SIZE)];
+        assert_posts(rt, alloc, &links, &attempts, &sizes);
     } else {
-        let whole = (Outcome::Partial(2), Next::Partial(2));
-        assert_once(rt, alloc, most, call, whole);
+        // Where the body fails, the head said that all was taken, and what it says isn't known.
+        let is_whole = call >= writes.saturating_add(reads);
+        let delivered = (Outcome::Delivered, Next::Done);
+        let last = if is_whole { REJECTED } else { delivered };
+        assert_posts(rt, alloc, &links, &[last], &[Some(SIZE)]);
     }
 }
 

@@ -1,56 +1,50 @@
 //! Runs to which memory is refused once, at each place in turn.
 use crate::equal::{assert_equal, assert_equal_at};
 use crate::fixture::{
-    Do, assert_answers, assert_runs, config, desk, encoded, full, queued, replied, roots, sent,
-    started, steps, taken,
+    Do, Gives, Refusals, Row, Told, assert_answers, config, desk, exporter, roots, run_steps, steps,
 };
-use batch_desk::Desk;
-use drop_ledger::Ledger;
 use failing_allocator::FailingAllocator;
 use linked_list_allocator::LocalHeap;
 use otlp_ids::{OutOfMemory, SpanId, TraceId};
 use otlp_sampler::AlwaysOn;
-use otlp_span::Reason;
+use otlp_span::{Entry, Reason};
 use retry_core::{Next, Outcome};
-use span_exporter::{Handed, MemoryExporter};
+use span_exporter::Handed;
 use std::alloc::Allocator;
 use std::process::Abort;
 use trace_api::Ended;
 use trace_history::Answer;
-use trace_run::{RunReport, run};
-
-const STEPS: usize = 20;
 
 /// A program at whose end a span was handed, one is dropped, one is in a batch that is encoded, and
 /// one waits; with its answers where no memory is refused.
-fn program() -> [(Do, Answer); STEPS] {
-    let child = Answer::Started {
-        trace: TraceId([7; 16]),
-        span: SpanId([1; 8]),
-    };
-    [
-        (Do::Root, started(0)),
-        (Do::Set(0), Answer::Done),
-        (Do::Root, started(1)),
-        (Do::Root, started(2)),
-        (Do::RemoteChild, child),
-        (Do::Set(3), Answer::Done),
-        (Do::End(0, 2), queued(0)),
-        (Do::End(1, 2), queued(1)),
-        (Do::End(2, 2), full(2)),
-        (Do::Take(0), taken(1, 1)),
-        (Do::Encode, encoded(1, 73)),
-        (Do::Encode, Answer::Nothing),
-        (Do::Attempt, sent(1, Outcome::Partial(1))),
-        (Do::Reply, replied(1, Next::Partial(1))),
-        (Do::End(3, 2), queued(3)),
-        (Do::Flush, Answer::Flush),
-        (Do::Take(0), taken(2, 1)),
-        (Do::Encode, encoded(2, 64)),
-        (Do::Take(0), Answer::NotTaken),
-        (Do::Encode, Answer::Nothing),
-    ]
-}
+const PROGRAM: &[Row] = &[
+    (Do::Root, Gives::Started(0)),
+    (Do::Set(0, "k"), Gives::Just(Answer::Done)),
+    (Do::Root, Gives::Started(1)),
+    (Do::Root, Gives::Started(2)),
+    (
+        Do::RemoteChild,
+        Gives::Just(Answer::Started {
+            trace: TraceId([7; 16]),
+            span: SpanId([1; 8]),
+        }),
+    ),
+    (Do::Set(3, "k"), Gives::Just(Answer::Done)),
+    (Do::End(0, 2), Gives::Queued(0)),
+    (Do::End(1, 2), Gives::Queued(1)),
+    (Do::End(2, 2), Gives::Full(2)),
+    (Do::Take(0), Gives::Taken(1, 1)),
+    (Do::Encode, Gives::Encoded(1, 73)),
+    (Do::Encode, Gives::Just(Answer::Nothing)),
+    (Do::Attempt(10), Gives::Sent(1, 1, Outcome::Partial(1))),
+    (Do::Reply(10, 0), Gives::Replied(1, Next::Partial(1))),
+    (Do::End(3, 2), Gives::Queued(3)),
+    (Do::Flush, Gives::Just(Answer::Flush)),
+    (Do::Take(0), Gives::Taken(2, 1)),
+    (Do::Encode, Gives::Encoded(2, 64)),
+    (Do::Take(0), Gives::Just(Answer::NotTaken)),
+    (Do::Encode, Gives::Just(Answer::Nothing)),
+];
 
 /// A ticket, and the identifier of the span that has it.
 type Ticket = (u64, SpanId);
@@ -59,7 +53,7 @@ type Ticket = (u64, SpanId);
 fn tickets<A: Allocator + Copy>(rt: &impl Abort, alloc: A, answers: &[Answer]) -> Vec<Ticket, A> {
     let mut spans = Vec::new(alloc);
     let mut tickets = Vec::new(alloc);
-    for ((short, _), answer) in program().iter().zip(answers) {
+    for ((short, _), answer) in PROGRAM.iter().zip(answers) {
         match (short, answer) {
             (_, Answer::Started { span, .. }) => spans.push(*span).expect(rt, "memory"),
             (Do::Root | Do::RemoteChild, _) => spans.push(SpanId([0; 8])).expect(rt, "memory"),
@@ -90,7 +84,13 @@ fn is_refused(answer: &Answer) -> bool {
 
 /// How many steps were refused memory.
 fn count_refused(answers: &[Answer]) -> usize {
-    answers.iter().filter(|answer| is_refused(answer)).count()
+    let mut count = 0usize;
+    for answer in answers {
+        if is_refused(answer) {
+            count = count.saturating_add(1);
+        }
+    }
+    count
 }
 
 /// How often a span stands in the bodies that were handed: each has the identifier of its span as
@@ -107,10 +107,10 @@ fn count_handed<A: Allocator>(handed: &[Handed<A>], span: SpanId) -> usize {
     count
 }
 
-/// How often a ledger names a ticket.
-fn count_named<A: Allocator>(ledger: &Ledger<A>, ticket: u64) -> usize {
+/// How often a ticket is named.
+fn count_named(names: &[Entry], ticket: u64) -> usize {
     let mut count = 0usize;
-    for entry in ledger.iter() {
+    for entry in names {
         if entry.ticket == ticket {
             count = count.saturating_add(1);
         }
@@ -118,60 +118,53 @@ fn count_named<A: Allocator>(ledger: &Ledger<A>, ticket: u64) -> usize {
     count
 }
 
-/// Drops all that waits, so that the ledger names it. No batch is out.
-fn drop_waiting<A: Allocator>(rt: &impl Abort, desk: &mut Desk<A>) {
-    desk.shutdown();
-    for _ in 0..STEPS {
-        if let Some(batch) = desk.take(0) {
-            assert!(rt; desk.is_in_hand(&batch));
-            desk.drop_batch(batch, Reason::Abandoned);
-        }
-    }
-    assert_equal(rt, desk.totals().left, 0);
-}
-
 /// Asserts that each ticket is accounted for: it was accepted or dropped, and waits, or is in the
 /// batch that is out, or is named in the ledger, or was handed; once.
 fn assert_accounted<A: Allocator + Copy>(
     rt: &impl Abort,
     ample: A,
-    report: RunReport<A>,
+    told: &Told<A>,
     handed: &[Handed<A>],
 ) {
-    let tickets = tickets(rt, ample, report.answers());
-    let totals = report.desk().totals();
-    let ended = totals.accepted.saturating_add(totals.dropped.queue_full);
+    let tickets = tickets(rt, ample, told.answers.as_slice());
+    let dropped = told.totals.dropped.queue_full;
+    let ended = told.totals.accepted.saturating_add(dropped);
     assert_equal(rt, ended, tickets.len() as u64);
-    let mut desk = report.close();
-    assert_equal(rt, desk.out(), None);
-    drop_waiting(rt, &mut desk);
     for (ticket, span) in &tickets {
-        let named = count_named(desk.ledger(), *ticket);
+        let named = count_named(told.all_names.as_slice(), *ticket);
         let handed = count_handed(handed, *span);
         assert_equal_at(rt, named.saturating_add(handed), 1, ticket);
     }
 }
 
-/// Runs the program on scarce memory, asserts that its spans are accounted for, and answers how
-/// many refusals were told.
-fn count_told<A: Allocator + Copy>(rt: &impl Abort, ample: A, scarce: A) -> usize {
-    let outcomes = Vec::from_slice(ample, &[Outcome::Partial(1)]).expect(rt, "memory");
-    let mut exporter = MemoryExporter::new(scarce, outcomes);
+/// Asserts that the spans of a run are accounted for, and its answers where no step is refused, and
+/// answers how many are.
+fn count_told<A: Allocator + Copy>(
+    rt: &impl Abort,
+    ample: A,
+    told: &Told<A>,
+    handed: &[Handed<A>],
+) -> usize {
+    assert_accounted(rt, ample, told, handed);
+    let answers = told.answers.as_slice();
+    let refused = count_refused(answers);
+    if refused == 0 {
+        assert_answers(rt, answers, PROGRAM, "no step is refused");
+    }
+    refused
+}
+
+/// Runs the program on scarce memory, and answers how many refusals were told.
+fn run_scarce<A: Allocator + Copy>(rt: &impl Abort, ample: A, scarce: A) -> usize {
+    let mut exporter = exporter(rt, ample, scarce, &[Outcome::Partial(1)]);
     let config = config(rt, ample, AlwaysOn, desk(2, 1), roots(rt, ample, 4));
-    let steps = steps(rt, ample, &program());
-    assert_runs(rt, &config);
-    match run(scarce, config, steps.as_slice(), &mut exporter) {
+    let steps = steps(rt, ample, PROGRAM);
+    let memory = (ample, scarce);
+    match run_steps(rt, memory, config, steps.as_slice(), &mut exporter) {
+        Ok(told) => count_told(rt, ample, &told, exporter.handed()),
         Err(OutOfMemory) => {
-            assert!(rt; exporter.handed().is_empty());
+            assert_equal(rt, exporter.handed().len(), 0);
             1
-        }
-        Ok(report) => {
-            let told = count_refused(report.answers());
-            if told == 0 {
-                assert_answers(rt, report.answers(), &program());
-            }
-            assert_accounted(rt, ample, report, exporter.handed());
-            told
         }
     }
 }
@@ -183,19 +176,12 @@ const MOST: u64 = 120;
 fn each_refusal_of_memory_leaves_all_spans_accounted_for(rt: HostRuntime) {
     let heap = LocalHeap::new(rt.alloc(), 65_536).expect(&rt, "memory");
     let ample = FailingAllocator::new(&heap, u64::MAX);
-    let (mut refused, mut granted) = (0u64, 0u64);
+    let mut refusals = Refusals::new();
     for fail_index in 0..MOST {
         let scarce = FailingAllocator::new(&heap, fail_index);
         // Room that is only asked for ahead may be refused without a word.
-        match count_told(&rt, &ample, &scarce) {
-            0 => granted = granted.saturating_add(1),
-            1 => refused = refused.saturating_add(1),
-            told => panic!(rt; "{told} refusals are told for one, at {fail_index}"),
-        }
+        refusals.count(&rt, run_scarce(&rt, &ample, &scarce), fail_index);
         assert_equal_at(&rt, heap.used(), 0, fail_index);
     }
-    assert!(rt;
-        refused > 40 && granted > 20,
-        "{refused} refused, {granted} granted"
-    );
+    refusals.assert_least(&rt, 41, 21);
 }

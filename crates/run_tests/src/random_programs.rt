@@ -1,7 +1,7 @@
 //! Programs that a seeded generator makes, and the settings that they run with.
-use crate::fixture::{config, text};
+use crate::fixture::{config, elsewhere, text};
 use batch_desk::DeskConfig;
-use otlp_ids::{SpanContext, SpanId, TraceFlags, TraceId};
+use otlp_ids::TraceFlags;
 use otlp_sampler::{AlwaysOn, ParentBased};
 use otlp_span::{Kind, SpanCall};
 use otlp_value::Value;
@@ -132,17 +132,6 @@ fn name(number: u32) -> &'static str {
         _ =>
             "a name that takes more bytes in a body than the others, and more room while it is kept",
     }
-}
-
-/// A parent of elsewhere.
-fn elsewhere<A: Allocator>(rt: &impl Abort, alloc: A, flags: TraceFlags) -> Parent<A> {
-    Parent::Given(SpanContext {
-        trace: TraceId([7; 16]),
-        span: SpanId([8; 8]),
-        flags,
-        remote: true,
-        state: text(rt, alloc, "k=v"),
-    })
 }
 
 /// The steps of a program, so many, by a generator of this seed.

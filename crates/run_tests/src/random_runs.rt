@@ -1,20 +1,18 @@
 //! Whole runs in which memory, wires, replies and clocks fail at random.
 use crate::equal::{assert_equal, assert_equal_at};
-use crate::far_side::{Attempt, FarSide, add_spans};
-use crate::fixture::assert_runs;
+use crate::far_side::{Attempt, FarSide, RandomWires, add_spans};
+use crate::fixture::{Told, run_steps};
 use crate::random_programs::{below, random_config, random_steps};
-use batch_desk::Desk;
 use failing_allocator::FailingAllocator;
 use linked_list_allocator::LocalHeap;
-use otlp_ids::SpanId;
-use otlp_span::{Reason, SpanCall, SpanData};
+use otlp_ids::{OutOfMemory, SpanId};
+use otlp_span::{Reason, SpanCall};
 use rand_pcg::Pcg32;
 use retry_core::{Cause, Next, Outcome};
 use std::alloc::{Allocator, Global};
 use std::process::Abort;
 use trace_api::Ended;
 use trace_history::{Answer, Parent, Step};
-use trace_run::{RunReport, run};
 
 /// How many runs there are.
 const RUNS: u64 = 2_000;
@@ -53,12 +51,18 @@ enum Event {
 /// How many kinds of events there are.
 const EVENTS: usize = 23;
 
-/// How often each event came.
-type Counts = [u32; EVENTS];
+/// The seed of the run that is under way, and how often each event came in all of them.
+#[derive(Drop)]
+struct Runs {
+    seed: u64,
+    counts: [u32; EVENTS],
+}
 
-fn count(counts: &mut Counts, event: Event) {
-    if let Some(count) = counts.get_mut(event as usize) {
-        *count = count.saturating_add(1);
+impl Runs {
+    fn count(&mut self, event: Event) {
+        if let Some(count) = self.counts.get_mut(event as usize) {
+            *count = count.saturating_add(1);
+        }
     }
 }
 
@@ -176,44 +180,18 @@ impl Book {
     }
 }
 
-/// The sampled spans that ended before the shutdown, each once.
-fn ended_spans<A: Allocator>(
+/// Reads steps and their answers, and counts the answers.
+fn read_answers<A: Allocator>(
     rt: &impl Abort,
-    alloc: Global,
+    book: &mut Book,
     steps: &[Step<A>],
     answers: &[Answer],
-) -> Vec<u64> {
-    let mut book = Book::new(alloc);
+    runs: &mut Runs,
+) {
     for (step, answer) in steps.iter().zip(answers) {
         book.take(rt, step, answer);
-    }
-    book.ended
-}
-
-/// Adds the identifiers of spans.
-fn add_all<A: Allocator>(rt: &impl Abort, spans: &[SpanData<A>], found: &mut Vec<u64>) {
-    for span in spans {
-        let identifier = u64::from_be_bytes(span.context().span.0);
-        found.push(identifier).expect(rt, "memory");
-    }
-}
-
-/// Adds the spans that a ledger names.
-fn add_named<A: Allocator>(rt: &impl Abort, desk: &Desk<A>, found: &mut Vec<u64>) {
-    for entry in desk.ledger().iter() {
-        let identifier = u64::from_be_bytes(entry.span.0);
-        found.push(identifier).expect(rt, "memory");
-    }
-}
-
-/// Adds the spans that wait, which are taken for that.
-fn add_waiting<A: Allocator>(rt: &impl Abort, mut desk: Desk<A>, found: &mut Vec<u64>) {
-    desk.shutdown();
-    for _batch in 0..STEPS {
-        if let Some(batch) = desk.take(0) {
-            add_all(rt, batch.spans(), found);
-            assert!(rt; desk.is_in_hand(&batch));
-            desk.drop_batch(batch, Reason::Abandoned);
+        if let Some(event) = event_of(step, answer) {
+            runs.count(event);
         }
     }
 }
@@ -229,8 +207,8 @@ fn add_handed(rt: &impl Abort, alloc: Global, attempts: &[Attempt], found: &mut 
                 add_spans(rt, alloc, body, found);
             }
         }
-        if let Some(received) = &attempt.received {
-            assert_equal(rt, received.as_slice(), attempt.body.as_slice());
+        if let Some(received) = attempt.posted.received() {
+            assert_equal(rt, received, attempt.body.as_slice());
         }
     }
 }
@@ -246,116 +224,111 @@ fn first_of(attempts: &[Attempt], number: u64) -> Option<(usize, &[u8])> {
 }
 
 /// Counts what came of the attempts. A reply only comes where the body was received.
-fn count_attempts(rt: &impl Abort, attempts: &[Attempt], counts: &mut Counts) {
+fn count_attempts(rt: &impl Abort, attempts: &[Attempt], runs: &mut Runs) {
     for attempt in attempts {
-        let is_received = attempt.received.is_some();
-        let is_answered = attempt.outcome != Outcome::NoReply;
+        let is_received = attempt.posted.received().is_some();
+        let is_answered = attempt.posted.outcome != Outcome::NoReply;
         assert_equal(rt, is_received || !is_answered, true);
-        if attempt.has_failed {
-            count(counts, Event::FailedWire);
+        if attempt.posted.has_failed {
+            runs.count(Event::FailedWire);
         }
         if is_received && !is_answered {
-            count(counts, Event::LostReply);
+            runs.count(Event::LostReply);
         }
         if !is_received {
-            count(counts, Event::Unreceived);
-        }
-    }
-}
-
-/// Counts the answers to the steps.
-fn count_answers<A: Allocator>(steps: &[Step<A>], answers: &[Answer], counts: &mut Counts) {
-    for (step, answer) in steps.iter().zip(answers) {
-        if let Some(event) = event_of(step, answer) {
-            count(counts, event);
+            runs.count(Event::Unreceived);
         }
     }
 }
 
 /// Adds the spans that a report leaves: those that are named, and those that wait.
-fn add_left<A: Allocator>(
-    rt: &impl Abort,
-    report: RunReport<A>,
-    found: &mut Vec<u64>,
-    counts: &mut Counts,
-) {
-    let desk = report.close();
-    if desk.ledger().count(Reason::Abandoned) > 0 {
-        count(counts, Event::Abandoned);
+fn add_left<A: Allocator>(rt: &impl Abort, told: &Told<A>, found: &mut Vec<u64>, runs: &mut Runs) {
+    let (abandoned, _) = told.left.abandoned;
+    if abandoned > 0 {
+        runs.count(Event::Abandoned);
     }
-    let before = found.len();
-    add_named(rt, &desk, found);
-    let named = found.len();
-    add_waiting(rt, desk, found);
-    assert_equal(rt, before <= named, true);
-    if named < found.len() {
-        count(counts, Event::LeftInQueue);
+    if !told.waiting.is_empty() {
+        runs.count(Event::LeftInQueue);
     }
+    for entry in &told.names {
+        let identifier = u64::from_be_bytes(entry.span.0);
+        found.push(identifier).expect(rt, "memory");
+    }
+    found
+        .extend_from_slice(told.waiting.as_slice())
+        .expect(rt, "memory");
 }
 
-/// Runs a program on scarce memory, and asserts that each sampled span that ended before the
-/// shutdown was handed, or waits, or is named: once.
-fn assert_accounted<A: Allocator + Copy>(
+/// Asserts that each sampled span that ended before the shutdown was handed, or waits, or is named:
+/// once.
+fn assert_accounted<A: Allocator>(
     rt: &impl Abort,
-    global: Global,
-    memory: (A, A),
-    seed: u64,
-    counts: &mut Counts,
+    alloc: Global,
+    steps: &[Step<A>],
+    told: &Told<A>,
+    far_side: &FarSide<RandomWires>,
+    runs: &mut Runs,
 ) {
-    let (ample, scarce) = memory;
-    let steps = random_steps(rt, ample, seed, STEPS);
-    let config = random_config(rt, ample, &mut Pcg32::new(seed, 3));
-    let mut far_side = FarSide::new(rt, global, seed);
-    assert_runs(rt, &config);
-    let Ok(report) = run(scarce, config, steps.as_slice(), &mut far_side) else {
-        count(counts, Event::RunRefused);
-        assert_equal(rt, far_side.attempts.len(), 0);
-        return;
-    };
-    assert_equal(
-        rt,
-        (report.answers().len(), far_side.lost),
-        (steps.len(), 0),
-    );
-    count_answers(steps.as_slice(), report.answers(), counts);
-    count_attempts(rt, far_side.attempts.as_slice(), counts);
-    let mut want = ended_spans(rt, global, steps.as_slice(), report.answers());
-    let mut found = Vec::new(global);
-    add_handed(rt, global, far_side.attempts.as_slice(), &mut found);
-    add_left(rt, report, &mut found, counts);
-    want.sort().expect(rt, "memory");
+    let answered = (told.answers.len(), far_side.lost);
+    assert_equal_at(rt, answered, (steps.len(), 0), runs.seed);
+    let attempts = far_side.attempts.as_slice();
+    let mut book = Book::new(alloc);
+    read_answers(rt, &mut book, steps, told.answers.as_slice(), runs);
+    count_attempts(rt, attempts, runs);
+    let mut found = Vec::new(alloc);
+    add_handed(rt, alloc, attempts, &mut found);
+    add_left(rt, told, &mut found, runs);
     found.sort().expect(rt, "memory");
-    assert_equal_at(rt, found.as_slice(), want.as_slice(), seed);
-    assert_distinct(rt, want.as_slice());
+    book.ended.sort().expect(rt, "memory");
+    assert_equal_at(rt, found.as_slice(), book.ended.as_slice(), runs.seed);
+    found.dedup();
+    assert_equal_at(rt, found.len(), book.ended.len(), runs.seed);
 }
 
-/// Asserts that no number stands twice in a sorted list.
-fn assert_distinct(rt: &impl Abort, numbers: &[u64]) {
-    for (number, next) in numbers.iter().zip(numbers.iter().skip(1)) {
-        assert_equal(rt, number < next, true);
+/// Runs a program on scarce memory, and asserts that its spans are accounted for.
+fn run_random<A: Allocator + Copy>(
+    rt: &impl Abort,
+    alloc: Global,
+    memory: (A, A),
+    runs: &mut Runs,
+) {
+    let (ample, _) = memory;
+    let steps = random_steps(rt, ample, runs.seed, STEPS);
+    let config = random_config(rt, ample, &mut Pcg32::new(runs.seed, 3));
+    let mut far_side = FarSide::new(rt, alloc, RandomWires::new(alloc, runs.seed));
+    match run_steps(rt, memory, config, steps.as_slice(), &mut far_side) {
+        Ok(told) => assert_accounted(rt, alloc, steps.as_slice(), &told, &far_side, runs),
+        Err(OutOfMemory) => {
+            runs.count(Event::RunRefused);
+            assert_equal(rt, far_side.attempts.len(), 0);
+        }
     }
 }
 
 /// Makes a run on memory that is refused up to three times, at random calls.
-fn run_once(rt: &impl Abort, global: Global, heap: &LocalHeap, seed: u64, counts: &mut Counts) {
-    let mut rng = Pcg32::new(seed, 4);
+fn run_once(rt: &impl Abort, alloc: Global, heap: &LocalHeap, runs: &mut Runs) {
+    let mut rng = Pcg32::new(runs.seed, 4);
     let mut layer = |calls: u32| u64::from(below(&mut rng, calls));
     let ample = FailingAllocator::new(heap, u64::MAX);
     let ample = FailingAllocator::new(ample, u64::MAX);
     let scarce = FailingAllocator::new(heap, layer(150));
     let scarce = FailingAllocator::new(scarce, layer(150));
-    assert_accounted(rt, global, (&ample, &scarce), seed, counts);
+    run_random(rt, alloc, (&ample, &scarce), runs);
 }
 
 #[test]
 fn random_failures_leave_all_spans_accounted_for(rt: HostRuntime) {
     let heap = LocalHeap::new(rt.alloc(), 262_144).expect(&rt, "memory");
-    let mut counts = [0; EVENTS];
+    let mut runs = Runs {
+        seed: 0,
+        counts: [0; EVENTS],
+    };
     for seed in 0..RUNS {
-        run_once(&rt, rt.alloc(), &heap, seed, &mut counts);
+        runs.seed = seed;
+        run_once(&rt, rt.alloc(), &heap, &mut runs);
         assert_equal_at(&rt, heap.used(), 0, seed);
     }
-    for (event, count) in counts.iter().enumerate() {
+    for (event, count) in runs.counts.iter().enumerate() {
         assert_equal_at(&rt, *count >= 20, true, event);
     }
 }

@@ -52,22 +52,28 @@ const NAMES: &str = concat!(
     "late 18446744073709551615\n",
 );
 
+/// Asserts the text of a report.
+fn assert_report(
+    rt: &impl Abort,
+    alloc: Global,
+    left: u64,
+    ledger: &Ledger,
+    late: u64,
+    text: &str,
+) {
+    let mut out = String::new(alloc);
+    write_report(&mut out, left, ledger, late).expect(rt, "memory");
+    assert_equal(rt, out.as_str(), text);
+}
+
 #[test]
 fn a_report_names_the_newest_first(rt: HostRuntime) {
     let alloc = rt.alloc();
     let mut ledger = Ledger::new();
+    assert_report(&rt, alloc, 0, &ledger, 0, "queued 0\nlate 0\n");
     name(&rt, alloc, &mut ledger, 10, Reason::QueueFull);
     name(&rt, alloc, &mut ledger, 6, Reason::EncodeMemory);
     name(&rt, alloc, &mut ledger, 7, Reason::TooLarge);
     name(&rt, alloc, &mut ledger, 8, Reason::Abandoned);
-    let mut out = String::new(alloc);
-    write_report(&mut out, 2, &ledger, u64::MAX).expect(&rt, "memory");
-    assert_equal(&rt, out.as_str(), NAMES);
-}
-
-#[test]
-fn a_report_without_names(rt: HostRuntime) {
-    let mut out = String::new(rt.alloc());
-    write_report(&mut out, 0, &Ledger::new(), 0).expect(&rt, "memory");
-    assert_equal(&rt, out.as_str(), "queued 0\nlate 0\n");
+    assert_report(&rt, alloc, 2, &ledger, u64::MAX, NAMES);
 }

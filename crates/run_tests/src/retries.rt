@@ -1,18 +1,10 @@
 //! Batches that are sent again (OTLP Specification, "Retryable Response Codes", "OTLP/HTTP
 //! Throttling").
-use crate::equal::assert_equal;
-use crate::fixture::{
-    Do, assert_program, config, desk, encoded, exporter, queued, replied, roots, run_program, sent,
-    sent_again, started, taken,
-};
+use crate::cases::{Case, Drawn, NOTHING_LEFT, ONE_HANDED, ONE_WAITS, assert_case};
+use crate::fixture::{BODY, Do, Gives, SECOND};
 use otlp_sampler::AlwaysOn;
 use retry_core::{Cause, Next, Outcome, RetryAfter};
-use span_exporter::MemoryExporter;
-use std::alloc::Allocator;
-use std::process::Abort;
 use trace_history::Answer;
-
-const SECOND: u64 = 1_000_000_000;
 
 /// A collector that is unavailable for two seconds.
 const UNAVAILABLE: Outcome = Outcome::Later {
@@ -20,109 +12,112 @@ const UNAVAILABLE: Outcome = Outcome::Later {
     after: Some(RetryAfter::Seconds(2)),
 };
 
-/// Asserts that so many attempts of batch 1 were handed, from 1 on, each with the bytes of the
-/// first.
-fn assert_repeats<A: Allocator>(rt: &impl Abort, exporter: &MemoryExporter<A>, attempts: u32) {
-    let handed = exporter.handed();
-    let first = handed.first().expect(rt, "an attempt");
-    assert_equal(rt, first.body.len(), 64);
-    assert_equal(rt, handed.len(), attempts as usize);
-    for (place, attempt) in handed.iter().enumerate() {
-        assert_equal(
-            rt,
-            (attempt.number, attempt.attempt as usize),
-            (1, place.wrapping_add(1)),
-        );
-        assert_equal(rt, attempt.body.as_slice(), first.body.as_slice());
+/// Each attempt of a batch has the bytes of the first.
+const CASES: &[Case] = &[
+    Case {
+        name: "an attempt waits as the collector asks",
+        desk: Some((2, 1)),
+        drawn: Drawn::Roots(2),
+        outcomes: &[UNAVAILABLE],
+        program: &[
+            (Do::Root, Gives::Started(0)),
+            (Do::Root, Gives::Started(1)),
+            (Do::End(0, 2), Gives::Queued(0)),
+            (Do::Take(0), Gives::Taken(1, 1)),
+            (Do::Encode, Gives::Encoded(1, 64)),
+            (Do::Attempt(10), Gives::Sent(1, 1, UNAVAILABLE)),
+            (Do::Attempt(10), Gives::Just(Answer::Nothing)),
+            (
+                Do::Reply(SECOND, 0),
+                Gives::Replied(1, Next::Again(3 * SECOND)),
+            ),
+            (Do::End(1, 3), Gives::Queued(1)),
+            (Do::Shutdown, Gives::Just(Answer::Shutdown)),
+            (Do::Take(SECOND), Gives::Just(Answer::NotTaken)),
+            (Do::Encode, Gives::Just(Answer::Nothing)),
+            (Do::Reply(SECOND, 0), Gives::Just(Answer::Nothing)),
+            (Do::Attempt(3 * SECOND - 1), Gives::Just(Answer::Early)),
+            (
+                Do::Attempt(3 * SECOND),
+                Gives::Sent(1, 2, Outcome::Delivered),
+            ),
+            (Do::Reply(3 * SECOND, 0), Gives::Replied(1, Next::Done)),
+        ],
+        left: ONE_WAITS,
+        names: &[],
+        handed: Some(&[(1, 1, UNAVAILABLE, BODY), (1, 2, Outcome::Delivered, BODY)]),
+    },
+    Case {
+        name: "the fifth attempt is the last",
+        desk: Some((1, 1)),
+        drawn: Drawn::Roots(1),
+        outcomes: &[Outcome::NoReply; 5],
+        program: &[
+            (Do::Root, Gives::Started(0)),
+            (Do::End(0, 2), Gives::Queued(0)),
+            (Do::Take(0), Gives::Taken(1, 1)),
+            (Do::Encode, Gives::Encoded(1, 64)),
+            (Do::Attempt(0), Gives::Sent(1, 1, Outcome::NoReply)),
+            (
+                Do::Reply(0, 500),
+                Gives::Replied(1, Next::Again(SECOND / 2)),
+            ),
+            (Do::Attempt(SECOND), Gives::Sent(1, 2, Outcome::NoReply)),
+            (
+                Do::Reply(SECOND, 0),
+                Gives::Replied(1, Next::Again(3 * SECOND)),
+            ),
+            (Do::Attempt(3 * SECOND), Gives::Sent(1, 3, Outcome::NoReply)),
+            (
+                Do::Reply(3 * SECOND, 0),
+                Gives::Replied(1, Next::Again(7 * SECOND)),
+            ),
+            (Do::Attempt(7 * SECOND), Gives::Sent(1, 4, Outcome::NoReply)),
+            (
+                Do::Reply(7 * SECOND, 4000),
+                Gives::Replied(1, Next::Again(11 * SECOND)),
+            ),
+            (
+                Do::Attempt(11 * SECOND),
+                Gives::Sent(1, 5, Outcome::NoReply),
+            ),
+            (
+                Do::Reply(11 * SECOND, 0),
+                Gives::Replied(1, Next::GiveUp(Cause::Attempts)),
+            ),
+        ],
+        left: NOTHING_LEFT,
+        names: &[],
+        handed: Some(&[
+            (1, 1, Outcome::NoReply, BODY),
+            (1, 2, Outcome::NoReply, BODY),
+            (1, 3, Outcome::NoReply, BODY),
+            (1, 4, Outcome::NoReply, BODY),
+            (1, 5, Outcome::NoReply, BODY),
+        ]),
+    },
+    Case {
+        name: "a batch that waits to be sent again ends with the report",
+        desk: Some((1, 1)),
+        drawn: Drawn::Roots(1),
+        outcomes: &[UNAVAILABLE],
+        program: &[
+            (Do::Root, Gives::Started(0)),
+            (Do::End(0, 2), Gives::Queued(0)),
+            (Do::Take(0), Gives::Taken(1, 1)),
+            (Do::Encode, Gives::Encoded(1, 64)),
+            (Do::Attempt(0), Gives::Sent(1, 1, UNAVAILABLE)),
+            (Do::Reply(0, 0), Gives::Replied(1, Next::Again(2 * SECOND))),
+        ],
+        left: ONE_HANDED,
+        names: &[],
+        handed: None,
+    },
+];
+
+#[test]
+fn batches_are_sent_again(rt: HostRuntime) {
+    for case in CASES {
+        assert_case(&rt, rt.alloc(), AlwaysOn, case);
     }
-}
-
-#[test]
-fn an_attempt_waits_as_the_collector_asks(rt: HostRuntime) {
-    let alloc = rt.alloc();
-    let config = config(&rt, alloc, AlwaysOn, desk(2, 1), roots(&rt, alloc, 2));
-    let program = [
-        (Do::Root, started(0)),
-        (Do::Root, started(1)),
-        (Do::End(0, 2), queued(0)),
-        (Do::Take(0), taken(1, 1)),
-        (Do::Encode, encoded(1, 64)),
-        (Do::AttemptAt(10), sent(1, UNAVAILABLE)),
-        (Do::AttemptAt(10), Answer::Nothing),
-        (Do::ReplyAt(SECOND, 0), replied(1, Next::Again(3 * SECOND))),
-        (Do::End(1, 3), queued(1)),
-        (Do::Shutdown, Answer::Shutdown),
-        (Do::Take(SECOND), Answer::NotTaken),
-        (Do::Encode, Answer::Nothing),
-        (Do::ReplyAt(SECOND, 0), Answer::Nothing),
-        (Do::AttemptAt(3 * SECOND - 1), Answer::Early),
-        (
-            Do::AttemptAt(3 * SECOND),
-            sent_again(1, 2, Outcome::Delivered),
-        ),
-        (Do::ReplyAt(3 * SECOND, 0), replied(1, Next::Done)),
-    ];
-    let exporter = assert_program(&rt, alloc, config, &[UNAVAILABLE], &program, (1, &[], 0));
-    assert_repeats(&rt, &exporter, 2);
-}
-
-#[test]
-fn the_fifth_attempt_is_the_last(rt: HostRuntime) {
-    let alloc = rt.alloc();
-    let config = config(&rt, alloc, AlwaysOn, desk(1, 1), roots(&rt, alloc, 1));
-    let none = Outcome::NoReply;
-    let program = [
-        (Do::Root, started(0)),
-        (Do::End(0, 2), queued(0)),
-        (Do::Take(0), taken(1, 1)),
-        (Do::Encode, encoded(1, 64)),
-        (Do::AttemptAt(0), sent(1, none)),
-        (Do::ReplyAt(0, 500), replied(1, Next::Again(SECOND / 2))),
-        (Do::AttemptAt(SECOND), sent_again(1, 2, none)),
-        (Do::ReplyAt(SECOND, 0), replied(1, Next::Again(3 * SECOND))),
-        (Do::AttemptAt(3 * SECOND), sent_again(1, 3, none)),
-        (
-            Do::ReplyAt(3 * SECOND, 0),
-            replied(1, Next::Again(7 * SECOND)),
-        ),
-        (Do::AttemptAt(7 * SECOND), sent_again(1, 4, none)),
-        (
-            Do::ReplyAt(7 * SECOND, 4000),
-            replied(1, Next::Again(11 * SECOND)),
-        ),
-        (Do::AttemptAt(11 * SECOND), sent_again(1, 5, none)),
-        (
-            Do::ReplyAt(11 * SECOND, 0),
-            replied(1, Next::GiveUp(Cause::Attempts)),
-        ),
-    ];
-    let exporter = assert_program(
-        &rt,
-        alloc,
-        config,
-        &[Outcome::NoReply; 5],
-        &program,
-        (0, &[], 0),
-    );
-    assert_repeats(&rt, &exporter, 5);
-}
-
-#[test]
-fn a_batch_that_waits_to_be_sent_again_ends_with_the_report(rt: HostRuntime) {
-    let alloc = rt.alloc();
-    let config = config(&rt, alloc, AlwaysOn, desk(1, 1), roots(&rt, alloc, 1));
-    let mut exporter = exporter(&rt, alloc, &[UNAVAILABLE]);
-    let program = [
-        (Do::Root, started(0)),
-        (Do::End(0, 2), queued(0)),
-        (Do::Take(0), taken(1, 1)),
-        (Do::Encode, encoded(1, 64)),
-        (Do::AttemptAt(0), sent(1, UNAVAILABLE)),
-        (Do::ReplyAt(0, 0), replied(1, Next::Again(2 * SECOND))),
-    ];
-    let report = run_program(&rt, alloc, config, &mut exporter, &program);
-    assert_equal(&rt, report.desk().out(), Some((1, true)));
-    let desk = report.close();
-    assert_equal(&rt, desk.totals().fates.abandoned, 1);
-    assert!(rt; desk.ledger().is_empty());
 }

@@ -1,12 +1,9 @@
 //! Starts and calls of a table on scarce memory.
-ghost use Rattle.std.specs.Prelude.{◌<◌, length};
-
 use crate::equal::{assert_equal, assert_equal_at};
-use crate::tables::{attribute, drawn, provider, scopes};
+use crate::fixture::Do;
+use crate::tables::{call, drawn, provider, scopes, start};
 use linked_list_allocator::LocalHeap;
 use otlp_sampler::{AlwaysOff, AlwaysOn, Sampler};
-use otlp_span::{Kind, SpanCall};
-use rand_core::Rng;
 use span_table::SpanTable;
 use std::alloc::Allocator;
 use std::process::Abort;
@@ -21,23 +18,8 @@ struct Answers {
     end: Answer,
 }
 
-/// Starts a span in an empty table, calls it and ends it.
-fn start_and_end<S: Sampler, R: Rng, A: Allocator + Copy>(
-    rt: &impl Abort,
-    ample: A,
-    table: &mut SpanTable<'_, S, R, A>,
-) -> Answers
-    requires { length table.old.spans < table.old.room }
-{
-    let mut pass = BodyPass::new(ample, 1).expect(rt, "memory");
-    let call = attribute(rt, ample, "a");
-    let start = table.start(0, &Parent::Root, Kind::Server, 1, "GET /");
-    let call = table.call(&mut pass, 0, &call);
-    let end = table.call(&mut pass, 0, &SpanCall::End(5));
-    Answers { start, call, end }
-}
-
-/// What a table on scarce memory answers to them. `None` where there was none for the table.
+/// What a table on scarce memory answers to a start, a call and an end. `None` where there was none
+/// for the table.
 fn make_answers<S: Sampler + Drop, A: Allocator + Copy>(
     rt: &impl Abort,
     ample: A,
@@ -49,7 +31,13 @@ fn make_answers<S: Sampler + Drop, A: Allocator + Copy>(
     let Ok(mut table) = table else {
         return None;
     };
-    Some(start_and_end(rt, ample, &mut table))
+    let mut pass = BodyPass::new(ample, 1).expect(rt, "memory");
+    let table = &mut table;
+    Some(Answers {
+        start: start(table, 0, Parent::Root),
+        call: call(rt, ample, table, &mut pass, Do::Set(0, "a")),
+        end: call(rt, ample, table, &mut pass, Do::End(0, 5)),
+    })
 }
 
 /// Asserts that a span that was refused isn't there, and that one that started ends.

@@ -1,13 +1,17 @@
-//! What the tests make tables of.
-use crate::fixture::{text, words};
+//! What the tests make tables of, and what they do with them.
+ghost use Rattle.std.specs.Prelude.{◌≡◌, ◌+◌, ◌<◌, length};
+
+use crate::fixture::{Do, step, words};
 use otlp_ids::{SpanId, TraceId};
 use otlp_sampler::Sampler;
-use otlp_span::{Resource, Scope, SpanCall, SpanLimits};
-use otlp_value::Value;
+use otlp_span::{Kind, Resource, Scope, SpanLimits};
+use rand_core::Rng;
+use span_table::SpanTable;
 use std::alloc::Allocator;
 use std::process::Abort;
 use std::sync::Arc;
-use trace_api::Provider;
+use trace_api::{BodyPass, Provider};
+use trace_history::{Answer, Parent, Step};
 use words_rng::WordsRng;
 
 pub(crate) const TRACE: TraceId = TraceId([1, 2, 3, 4, 5, 6, 7, 8, 9, 10, 11, 12, 13, 14, 15, 16]);
@@ -48,7 +52,29 @@ pub(crate) fn scopes<A: Allocator + Copy>(rt: &impl Abort, alloc: A) -> Vec<Scop
     scopes
 }
 
-/// A call that sets an attribute.
-pub(crate) fn attribute<A: Allocator>(rt: &impl Abort, alloc: A, key: &str) -> SpanCall<A> {
-    SpanCall::SetAttribute(text(rt, alloc, key), Value::Int(1))
+/// Starts a span in a table: its name is `GET /`, and it begins at the moment 1000.
+pub(crate) fn start<S: Sampler, R: Rng, A: Allocator + Copy>(
+    table: &mut SpanTable<'_, S, R, A>,
+    scope: u32,
+    parent: Parent<A>,
+) -> Answer
+    requires { length table.old.spans < table.old.room }
+    ensures one_more { length table.new.spans ≡ length table.old.spans + 1 }
+    ensures room { table.new.room ≡ table.old.room }
+{
+    table.start(scope, &parent, Kind::Server, 1_000, "GET /")
+}
+
+/// Calls a span of a table, if the step is a call.
+pub(crate) fn call<S: Sampler, R: Rng, A: Allocator + Copy>(
+    rt: &impl Abort,
+    ample: A,
+    table: &mut SpanTable<'_, S, R, A>,
+    pass: &mut BodyPass<A>,
+    short: Do,
+) -> Answer {
+    match step(rt, ample, short) {
+        Step::Call { span, call } => table.call(pass, span, &call),
+        _ => Answer::Nothing,
+    }
 }
