@@ -1,5 +1,6 @@
 //! Comparisons, each a call of a function of its own: `assert_eq!` in its place is proved with the
 //! body that it stands in, which takes ten times as long.
+use std::alloc::Global;
 use std::fmt::Debug;
 use std::process::Abort;
 
@@ -15,4 +16,10 @@ where
     P: Debug + Drop,
 {
     assert_eq!(rt; left, right, "at {place:?}");
+}
+
+/// Asserts what `Debug` shows.
+pub(crate) fn assert_shown(rt: &impl Abort, alloc: Global, shown: &impl Debug, text: &str) {
+    let told = format!(in alloc; "{shown:?}").expect(rt, "memory");
+    assert_equal(rt, told.as_str(), text);
 }

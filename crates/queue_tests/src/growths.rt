@@ -1,7 +1,8 @@
 //! Rings and desks to whose making memory is refused once, at each place in turn.
-use crate::desk::name;
+use crate::driver::{Driver, new_desk};
 use crate::equal::{assert_equal, assert_equal_at};
-use crate::spans::Spans;
+use crate::ring::{expect_run, fill, new_ring, push_beyond};
+use crate::spans::name;
 use batch_desk::{Admitted, Desk, DeskConfig};
 use failing_allocator::FailingAllocator;
 use linked_list_allocator::LocalHeap;
@@ -14,7 +15,7 @@ use std::process::Abort;
 const MOST: u64 = 10;
 
 /// How often a making was refused memory, and how often it wasn't.
-#[derive(Debug, Clone, Copy, PartialEq, Eq)]
+#[derive(Debug, Clone, Copy, Default, PartialEq, Eq)]
 struct Counts {
     refused: u64,
     made: u64,
@@ -30,53 +31,47 @@ impl Counts {
     }
 }
 
-/// Makes a ring of four places with runs of so many items, fills it and empties it. Answers whether
-/// it was made: where it wasn't, nothing is kept.
+/// Makes a ring of four places with runs as long as this one, fills it and empties it. Answers
+/// whether it was made: where it wasn't, nothing is kept.
 fn is_ring_made<A: Allocator + Copy>(
     rt: &impl Abort,
     heap: &LocalHeap,
     scarce: A,
-    batch: usize,
+    run: &[u32],
 ) -> bool {
-    match SpanRing::new(scarce, 4, batch) {
+    match new_ring(scarce, 4, run.len()) {
         Ok(ring) => {
-            assert_ring(rt, ring, batch);
+            assert_ring(rt, ring, run);
             true
         }
         Err(fault) => {
-            assert_equal(rt, (fault, heap.used()), (RingFault::OutOfMemory, 0));
+            assert_refused(rt, heap, fault);
             false
         }
     }
 }
 
-/// Asserts that a ring takes four items, and gives the first of them in a run.
-fn assert_ring<A: Allocator + Copy>(rt: &impl Abort, mut ring: SpanRing<u64, A>, batch: usize) {
-    for item in 0..4u64 {
-        assert_equal(rt, ring.push(item), Ok(()));
-    }
-    assert_equal(rt, ring.push(4), Err(4));
-    assert!(rt; !ring.run_out());
-    let run = ring.take_run().expect(rt, "a run");
-    for (item, want) in run.as_slice().iter().zip(0..4u64) {
-        assert_equal(rt, *item, want);
-    }
-    let counts = (run.len(), ring.len().saturating_add(run.len()));
-    assert_equal(rt, counts, (batch, 4));
-    assert!(rt; ring.run_out() && run.room() == ring.batch());
-    ring.give_back(run);
+/// Asserts that a ring takes four items, and gives the first of them in this run.
+fn assert_ring<A: Allocator>(rt: &impl Abort, mut ring: SpanRing<u32, A>, run: &[u32]) {
+    fill(rt, &mut ring, 0..4);
+    push_beyond(rt, &mut ring, 4);
+    expect_run(rt, &mut ring, run);
+    assert_equal(rt, ring.len().saturating_add(run.len()), 4);
+}
+
+/// Asserts that memory was refused, and nothing is kept of it.
+fn assert_refused(rt: &impl Abort, heap: &LocalHeap, fault: RingFault) {
+    assert_equal(rt, fault, RingFault::OutOfMemory);
+    assert_equal(rt, heap.used(), 0);
 }
 
 /// Makes a ring while each call for memory is refused in turn.
-fn refuse_rings(rt: &impl Abort, alloc: Global, batch: usize) -> Counts {
+fn refuse_rings(rt: &impl Abort, alloc: Global, run: &[u32]) -> Counts {
     let heap = LocalHeap::new(alloc, 16_384).expect(rt, "memory");
-    let mut counts = Counts {
-        refused: 0,
-        made: 0,
-    };
+    let mut counts = Counts::default();
     for fail_index in 0..MOST {
         let scarce = FailingAllocator::new(&heap, fail_index);
-        let is_made = is_ring_made(rt, &heap, &scarce, batch);
+        let is_made = is_ring_made(rt, &heap, &scarce, run);
         assert_equal_at(rt, is_made, !scarce.has_failed(), fail_index);
         assert_equal_at(rt, heap.used(), 0, fail_index);
         counts.count(is_made);
@@ -88,9 +83,10 @@ fn refuse_rings(rt: &impl Abort, alloc: Global, batch: usize) -> Counts {
 fn each_growth_of_a_ring_is_refused_in_turn(rt: HostRuntime) {
     // The list of segments that wait and that of spare ones, and each segment: as many as the queue
     // fills, and one more.
-    for (batch, refused, made) in [(4, 4, 6), (2, 5, 5), (1, 7, 3)] {
-        let counts = refuse_rings(&rt, rt.alloc(), batch);
-        assert_equal_at(&rt, counts, Counts { refused, made }, batch);
+    let rows: [(&[u32], u64, u64); 3] = [(&[0, 1, 2, 3], 4, 6), (&[0, 1], 5, 5), (&[0], 7, 3)];
+    for (run, refused, made) in rows {
+        let counts = refuse_rings(&rt, rt.alloc(), run);
+        assert_equal_at(&rt, counts, Counts { refused, made }, run);
     }
 }
 
@@ -107,46 +103,36 @@ fn is_desk_made<A: Allocator + Copy>(
         batch: 1,
         delay_ms: 0,
     };
-    match Desk::new(scarce, config, 0) {
+    match new_desk(scarce, config) {
         Ok(desk) => {
             assert_desk(rt, ample, desk);
             true
         }
         Err(fault) => {
-            assert_equal(rt, (fault, heap.used()), (RingFault::OutOfMemory, 0));
+            assert_refused(rt, heap, fault);
             false
         }
     }
 }
 
 /// Asserts that a desk queues two spans, names a third, and gives the first.
-fn assert_desk<A: Allocator + Copy>(rt: &impl Abort, ample: A, mut desk: Desk<A>) {
-    let spans = Spans::new(rt, ample);
-    for number in 0..2 {
-        let admitted = desk.admit(spans.ended(rt, number));
-        assert_equal(rt, admitted, Admitted::Queued(number));
-    }
-    assert_equal(rt, desk.admit(spans.ended(rt, 2)), Admitted::Full(2));
-    let batch = desk.take(0).expect(rt, "a batch is due");
-    for span in batch.spans() {
-        assert_equal(rt, span.ticket(), 0);
-    }
-    assert_equal(rt, batch.spans().len(), 1);
-    assert!(rt; desk.is_in_hand(&batch));
-    desk.drop_batch(batch, Reason::Abandoned);
-    assert_equal(rt, desk.pop_entry(), Some(name(0, Reason::Abandoned)));
-    assert_equal(rt, desk.pop_entry(), Some(name(2, Reason::QueueFull)));
-    assert_equal(rt, (desk.pop_entry(), desk.waiting()), (None, 1));
+fn assert_desk<A: Allocator + Copy>(rt: &impl Abort, ample: A, desk: Desk<A>) {
+    let mut desk = Driver::of_desk(rt, ample, desk);
+    desk.queue(rt, 0..2);
+    assert_equal(rt, desk.admit(rt, 2), Admitted::Full(2));
+    let batch = desk.take(rt, 0, 1, &[0]);
+    desk.drop_batch(rt, batch, Reason::Abandoned);
+    desk.pop(rt, Some(name(0, Reason::Abandoned)));
+    desk.pop(rt, Some(name(2, Reason::QueueFull)));
+    desk.pop(rt, None);
+    desk.assert_waiting(rt, 1, false);
 }
 
 #[test]
 fn each_growth_of_a_desk_is_refused_in_turn(rt: HostRuntime) {
     let heap = LocalHeap::new(rt.alloc(), 16_384).expect(&rt, "memory");
     let ample = FailingAllocator::new(&heap, u64::MAX);
-    let mut counts = Counts {
-        refused: 0,
-        made: 0,
-    };
+    let mut counts = Counts::default();
     for fail_index in 0..MOST {
         let scarce = FailingAllocator::new(&heap, fail_index);
         let is_made = is_desk_made(&rt, &heap, &ample, &scarce);
@@ -160,4 +146,43 @@ fn each_growth_of_a_desk_is_refused_in_turn(rt: HostRuntime) {
         made: 5,
     };
     assert_equal(&rt, counts, want);
+}
+
+/// The fault of a ring of four places on this memory.
+fn ring_fault<A: Allocator + Copy>(alloc: A) -> Option<RingFault> {
+    let made: Result<SpanRing<u64, A>, RingFault> = new_ring(alloc, 4, 4);
+    made.err()
+}
+
+/// The fault of a desk on this memory.
+fn desk_fault<A: Allocator + Copy>(alloc: A) -> Option<RingFault> {
+    let config = DeskConfig {
+        queue: 4,
+        batch: 2,
+        delay_ms: 0,
+    };
+    new_desk(alloc, config).err()
+}
+
+/// Counts a making, which was refused memory where it has a fault: nothing is then kept.
+fn count_fault(rt: &impl Abort, heap: &LocalHeap, counts: &mut Counts, fault: Option<RingFault>) {
+    if let Some(fault) = fault {
+        assert_refused(rt, heap, fault);
+    }
+    counts.count(fault.is_none());
+    assert_equal(rt, heap.used(), 0);
+}
+
+#[test]
+fn each_memory_that_new_wants_may_be_refused(rt: HostRuntime) {
+    let (mut rings, mut desks) = (Counts::default(), Counts::default());
+    for size in (0..400usize).step_by(8) {
+        let scarce = LocalHeap::new(rt.alloc(), size).expect(&rt, "memory");
+        count_fault(&rt, &scarce, &mut rings, ring_fault(&scarce));
+        count_fault(&rt, &scarce, &mut desks, desk_fault(&scarce));
+    }
+    // Room for the items that wait alone doesn't do: those of the run are wanted besides.
+    for counts in [rings, desks] {
+        assert_equal_at(&rt, counts.refused > 4 && counts.made > 4, true, counts);
+    }
 }

@@ -5,6 +5,8 @@
 #[cfg(test)]
 mod desk;
 #[cfg(test)]
+mod driver;
+#[cfg(test)]
 mod equal;
 #[cfg(test)]
 mod freed;

@@ -1,9 +1,13 @@
 //! A desk as plain lists, to compare desks with.
+use crate::spans::name;
 use batch_desk::{Admitted, DeskConfig, Totals};
-use otlp_span::Reason;
+use otlp_span::{Entry, Reason};
 use retry_core::Fate;
 use std::alloc::Global;
 use std::process::Abort;
+
+/// The number of each span.
+pub(crate) const NUMBER: u64 = 7;
 
 /// A span that was accepted: its place among these, from 0 on, and its ticket.
 #[derive(Clone, Copy)]
@@ -20,7 +24,7 @@ pub(crate) struct Plain {
     pub(crate) out: Vec<Accepted>,
     pub(crate) is_handed: bool,
     pub(crate) number: u64,
-    pub(crate) ledger: Vec<(u64, Reason)>,
+    pub(crate) ledger: Vec<Entry>,
     next_ticket: u64,
     asked: u64,
     last_take: u64,
@@ -64,7 +68,11 @@ impl Plain {
     }
 
     fn name(&mut self, rt: &impl Abort, ticket: u64, reason: Reason) {
-        self.ledger.push((ticket, reason)).expect(rt, "memory");
+        let entry = Entry {
+            ticket,
+            ..name(NUMBER, reason)
+        };
+        self.ledger.push(entry).expect(rt, "memory");
         let dropped = &mut self.totals.dropped;
         match reason {
             Reason::QueueFull => add(&mut dropped.queue_full, 1),
@@ -86,7 +94,7 @@ impl Plain {
     pub(crate) fn is_due(&self, now: u64) -> bool {
         let delay = u64::from(self.config.delay_ms).saturating_mul(1_000_000);
         let is_time = now >= self.last_take.saturating_add(delay);
-        let is_asked = self.waiting.iter().any(|span| span.place < self.asked);
+        let is_asked = !is_behind(self.waiting.first(), self.asked);
         let is_full = self.waiting.len() >= self.config.batch;
         !self.waiting.is_empty() && (is_time || is_asked || is_full || self.totals.closed)
     }
@@ -144,8 +152,15 @@ impl Plain {
 
     /// Whether none of the first so many accepted spans waits or is out.
     pub(crate) fn is_flushed(&self, mark: u64) -> bool {
-        let is_behind = |span: &Accepted| span.place >= mark;
-        self.waiting.iter().all(is_behind) && self.out.iter().all(is_behind)
+        is_behind(self.waiting.first(), mark) && is_behind(self.out.first(), mark)
+    }
+}
+
+/// Whether the oldest span of a list, if it has one, isn't among the first so many.
+fn is_behind(oldest: Option<&Accepted>, mark: u64) -> bool {
+    match oldest {
+        Some(span) => span.place >= mark,
+        None => true,
     }
 }
 

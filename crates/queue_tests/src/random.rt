@@ -1,10 +1,10 @@
 //! Random calls of desks, each compared with plain lists.
-ghost use Rattle.std.specs.Prelude.{◌<◌, ◌≢◌};
+ghost use Rattle.std.specs.Prelude.{◌<◌};
 
+use crate::driver::Driver;
 use crate::equal::assert_equal;
-use crate::plain::Plain;
-use crate::spans::Spans;
-use batch_desk::{Batch, Desk, DeskConfig, Mark};
+use crate::plain::{NUMBER, Plain};
+use batch_desk::{Batch, DeskConfig, Mark};
 use otlp_span::Reason;
 use retry_core::Fate;
 use std::alloc::Global;
@@ -28,9 +28,7 @@ impl Draws {
     }
 
     /// Why a batch is dropped.
-    fn reason(&mut self) -> Reason
-        ensures { result ≢ Reason.QueueFull }
-    {
+    fn reason(&mut self) -> Reason {
         match self.below(3) {
             0 => Reason::EncodeMemory,
             1 => Reason::TooLarge,
@@ -63,7 +61,7 @@ impl Draws {
 /// A desk and what it should be, at a moment, with the mark of the last flush.
 #[derive(Drop)]
 struct Pair {
-    desk: Desk,
+    desk: Driver,
     plain: Plain,
     now: u64,
     mark: Mark,
@@ -72,7 +70,7 @@ struct Pair {
 
 impl Pair {
     fn new(rt: &impl Abort, alloc: Global, config: DeskConfig) -> Pair {
-        let mut desk = Desk::new(alloc, config, 0).expect(rt, "memory");
+        let mut desk = Driver::new(rt, alloc, config);
         let mark = desk.flush();
         Pair {
             desk,
@@ -83,9 +81,8 @@ impl Pair {
         }
     }
 
-    fn admit(&mut self, rt: &impl Abort, spans: &Spans) {
-        let admitted = self.desk.admit(spans.ended(rt, 7));
-        assert_equal(rt, admitted, self.plain.admit(rt));
+    fn admit(&mut self, rt: &impl Abort) {
+        assert_equal(rt, self.desk.admit(rt, NUMBER), self.plain.admit(rt));
     }
 
     fn flush(&mut self) {
@@ -101,32 +98,31 @@ impl Pair {
     }
 
     fn pop(&mut self, rt: &impl Abort) {
-        let popped = self
-            .desk
-            .pop_entry()
-            .map(|entry| (entry.ticket, entry.reason));
-        assert_equal(rt, popped, self.plain.ledger.pop());
+        self.desk.pop(rt, self.plain.ledger.pop());
     }
 
     fn take(&mut self, rt: &impl Abort) -> Option<Batch> {
         let is_due = self.plain.is_due(self.now);
-        let Some(batch) = self.desk.take(self.now) else {
-            assert_equal(rt, is_due, false);
-            return None;
-        };
-        assert_equal(rt, is_due, true);
-        self.plain.take(rt, self.now);
+        let taken = self.desk.take_due(rt, self.now);
+        assert_equal(rt, taken.is_some(), is_due);
+        if let Some(batch) = &taken {
+            self.plain.take(rt, self.now);
+            self.compare_batch(rt, batch);
+        }
+        taken
+    }
+
+    fn compare_batch(&self, rt: &impl Abort, batch: &Batch) {
         assert_equal(rt, batch.number(), self.plain.number);
         assert_equal(rt, batch.spans().len(), self.plain.out.len());
         for (span, want) in batch.spans().iter().zip(&self.plain.out) {
             assert_equal(rt, span.ticket(), want.ticket);
         }
-        Some(batch)
     }
 
-    fn hand(&mut self) {
-        if let Some((number, false)) = self.desk.out() {
-            self.desk.handed(number);
+    fn hand(&mut self, rt: &impl Abort, batch: &Batch) {
+        if !self.plain.is_handed {
+            self.desk.hand(rt, batch);
             self.plain.hand();
         }
     }
@@ -134,90 +130,77 @@ impl Pair {
     fn end(&mut self, rt: &impl Abort, draws: &mut Draws, batch: Batch) {
         if self.plain.is_handed {
             let fate = draws.fate();
-            assert!(rt; self.desk.is_handed(&batch));
-            self.desk.settle(batch, fate);
+            self.desk.settle(rt, batch, fate);
             self.plain.settle(fate);
         } else {
             let reason = draws.reason();
-            assert!(rt; self.desk.is_in_hand(&batch));
-            self.desk.drop_batch(batch, reason);
+            self.desk.drop_batch(rt, batch, reason);
             self.plain.drop_batch(rt, reason);
         }
     }
 
-    /// A random call.
-    fn step(
+    /// Takes a batch, or ends the one that is out.
+    fn take_or_end(
         &mut self,
         rt: &impl Abort,
-        spans: &Spans,
         draws: &mut Draws,
         held: Option<Batch>,
     ) -> Option<Batch> {
-        match (draws.below(200), held) {
-            (0, held) => {
-                self.shutdown();
-                held
-            }
-            (1..20, held) => {
-                self.flush();
-                held
-            }
-            (20..50, held) => {
-                self.pop(rt);
-                held
-            }
-            (50..80, held) => {
-                self.hand();
-                held
-            }
-            (80..120, None) => self.take(rt),
-            (80..120, Some(batch)) => {
+        match held {
+            Some(batch) => {
                 self.end(rt, draws, batch);
                 None
             }
-            (_, held) => {
-                self.admit(rt, spans);
-                held
-            }
+            None => self.take(rt),
         }
+    }
+
+    /// A random call.
+    fn step(&mut self, rt: &impl Abort, draws: &mut Draws, held: Option<Batch>) -> Option<Batch> {
+        match draws.below(200) {
+            0 => self.shutdown(),
+            1..20 => self.flush(),
+            20..50 => self.pop(rt),
+            50..80 => {
+                if let Some(batch) = &held {
+                    self.hand(rt, batch);
+                }
+            }
+            80..120 => return self.take_or_end(rt, draws, held),
+            _ => self.admit(rt),
+        }
+        held
     }
 
     /// The desk shows what the lists have.
     fn compare(&self, rt: &impl Abort) {
         assert_equal(rt, self.desk.totals(), self.plain.totals);
-        assert_equal(rt, self.desk.out(), self.plain.out_state());
-        assert_equal(rt, self.desk.due(self.now), self.plain.is_due(self.now));
-        assert_equal(
-            rt,
-            self.desk.flushed(self.mark),
-            self.plain.is_flushed(self.marked),
-        );
-        let ledger = self.desk.ledger();
-        assert_equal(rt, ledger.len(), self.plain.ledger.len() as u64);
-        let newest = ledger.newest().map(|entry| (entry.ticket, entry.reason));
-        assert_equal(rt, newest, self.plain.ledger.last().copied());
+        assert_equal(rt, self.desk.desk.out(), self.plain.out_state());
+        let is_due = self.plain.is_due(self.now);
+        assert_equal(rt, self.desk.desk.due(self.now), is_due);
+        let is_flushed = self.plain.is_flushed(self.marked);
+        assert_equal(rt, self.desk.is_flushed(self.mark), is_flushed);
+        let names = &self.plain.ledger;
+        self.desk
+            .assert_ledger(rt, names.len() as u64, names.last());
     }
 
     /// The whole ledger.
     fn compare_ledger(&self, rt: &impl Abort) {
-        for (entry, want) in self
-            .desk
-            .ledger()
-            .iter()
-            .zip(self.plain.ledger.iter().rev())
-        {
-            assert_equal(rt, (entry.ticket, entry.reason), *want);
+        let names = self.desk.desk.ledger().iter();
+        for (name, want) in names.zip(self.plain.ledger.iter().rev()) {
+            assert_equal(rt, name, want);
         }
     }
 }
 
 /// 500 random calls of one desk.
-fn run_desk(rt: &impl Abort, alloc: Global, spans: &Spans, draws: &mut Draws) {
+fn run_desk(rt: &impl Abort, alloc: Global, draws: &mut Draws) {
     let mut pair = Pair::new(rt, alloc, draws.config());
     let mut held = None;
     for _ in 0..500 {
         pair.now = pair.now.saturating_add(draws.below(1_000_000));
-        held = pair.step(rt, spans, draws, held);
+        held = pair.step(rt, draws, held);
         pair.compare(rt);
     }
     if let Some(batch) = held {
@@ -229,9 +212,8 @@ fn run_desk(rt: &impl Abort, alloc: Global, spans: &Spans, draws: &mut Draws) {
 
 #[test]
 fn desks_are_as_plain_lists(rt: HostRuntime) {
-    let spans = Spans::new(&rt, rt.alloc());
     let mut draws = Draws { state: 10 };
     for _ in 0..200 {
-        run_desk(&rt, rt.alloc(), &spans, &mut draws);
+        run_desk(&rt, rt.alloc(), &mut draws);
     }
 }

@@ -11,6 +11,17 @@ const BAD_RETRY: &str =
     "bad retry settings: 1 to 5 attempts, a wait of 1 to 30000 ms, the longest to 300000 ms, \
      the least to the longest";
 
+/// An attempt, its outcome, the moment of that, a random word, and the moment of the next attempt.
+type Row = (u32, Outcome, u64, u64, u64);
+
+/// Asserts that another attempt follows each of these, and when.
+fn assert_again(rt: &impl Abort, config: &RetryConfig, rows: &[Row]) {
+    for (attempt, outcome, now, word, moment) in rows {
+        let next = follows(rt, config, *attempt, *outcome, *now, *word);
+        assert_equal_at(rt, next, Next::Again(*moment), (*attempt, *outcome, *now));
+    }
+}
+
 /// What follows from this attempt, which there has to be.
 fn follows(
     rt: &impl Abort,
@@ -24,20 +35,6 @@ fn follows(
     decide(config, attempt, &outcome, now, word)
 }
 
-/// Checks that another attempt follows this one, and when.
-fn assert_again(
-    rt: &impl Abort,
-    config: &RetryConfig,
-    attempt: u32,
-    outcome: Outcome,
-    at: (u64, u64),
-    moment: u64,
-) {
-    let (now, word) = at;
-    let next = follows(rt, config, attempt, outcome, now, word);
-    assert_equal_at(rt, next, Next::Again(moment), (attempt, outcome, at));
-}
-
 /// A reply with status 503 that asks for this wait.
 fn unavailable(after: RetryAfter) -> Outcome {
     Outcome::Later {
@@ -46,71 +43,52 @@ fn unavailable(after: RetryAfter) -> Outcome {
     }
 }
 
-#[test]
-fn waits_double_and_words_shorten_them(rt: HostRuntime) {
-    let config = RetryConfig::default();
-    for (attempt, word, moment) in [
-        (1, 0, 1_000_000_000),
-        (1, 500, 500_000_000),
-        (1, 501, 1_000_000_000),
-        (2, 0, 2_000_000_000),
-        (2, 1000, 1_000_000_000),
-        (3, 1, 3_999_000_000),
-        (4, 4000, 4_000_000_000),
-        (4, 4001, 8_000_000_000),
-    ] {
-        assert_again(&rt, &config, attempt, Outcome::NoReply, (0, word), moment);
-    }
+/// A reply with status 503 that asks to wait for so many seconds.
+fn seconds(wait: u64) -> Outcome {
+    unavailable(RetryAfter::Seconds(wait))
 }
 
 #[test]
-fn waits_stop_at_the_greatest(rt: HostRuntime) {
+fn waits_double_up_to_the_greatest_and_words_shorten_them(rt: HostRuntime) {
+    let rows = [
+        (1, Outcome::NoReply, 0, 0, 1_000_000_000),
+        (1, Outcome::NoReply, 0, 500, 500_000_000),
+        (1, Outcome::NoReply, 0, 501, 1_000_000_000),
+        (2, Outcome::NoReply, 0, 0, 2_000_000_000),
+        (2, Outcome::NoReply, 0, 1000, 1_000_000_000),
+        (3, Outcome::NoReply, 0, 1, 3_999_000_000),
+        (4, Outcome::NoReply, 0, 4000, 4_000_000_000),
+        (4, Outcome::NoReply, 0, 4001, 8_000_000_000),
+    ];
+    assert_again(&rt, &RetryConfig::default(), &rows);
+    let rows = [
+        (1, Outcome::NoReply, 0, 15_000, 15_000_000_000),
+        (2, Outcome::NoReply, 0, 0, 60_000_000_000),
+        (3, Outcome::NoReply, 0, 0, 100_000_000_000),
+        (4, Outcome::NoReply, 0, 50_000, 50_000_000_000),
+    ];
     let config = RetryConfig::new(5, 30_000, 100_000).expect(&rt, "settings");
-    for (attempt, word, moment) in [
-        (1, 15_000, 15_000_000_000),
-        (2, 0, 60_000_000_000),
-        (3, 0, 100_000_000_000),
-        (4, 50_000, 50_000_000_000),
-    ] {
-        assert_again(&rt, &config, attempt, Outcome::NoReply, (0, word), moment);
-    }
+    assert_again(&rt, &config, &rows);
 }
 
 #[test]
 fn collectors_are_waited_for_as_they_ask(rt: HostRuntime) {
-    let config = RetryConfig::default();
-    for (after, now, moment) in [
-        (RetryAfter::Seconds(0), 7, 7),
-        (RetryAfter::Seconds(7), 7, 7_000_000_007),
-        (RetryAfter::Seconds(301), 0, 300_000_000_000),
-        (RetryAfter::Seconds(u64::MAX), 0, 300_000_000_000),
-        (
-            RetryAfter::Date(DATE),
-            784_111_775_000_000_000,
-            784_111_777_000_000_000,
-        ),
-        (
-            RetryAfter::Date(DATE),
-            784_111_777_000_000_001,
-            784_111_777_000_000_001,
-        ),
-        (RetryAfter::Date(u64::MAX), 5, 300_000_000_005),
-    ] {
-        assert_again(&rt, &config, 1, unavailable(after), (now, 9), moment);
-    }
-}
-
-#[test]
-fn moments_stop_at_the_last_one(rt: HostRuntime) {
-    let config = RetryConfig::default();
-    for (outcome, now) in [
-        (Outcome::NoReply, 18_446_744_073_709_551_000),
-        (unavailable(RetryAfter::Seconds(1)), u64::MAX),
-        (unavailable(RetryAfter::Date(u64::MAX)), u64::MAX),
-    ] {
-        let last = 18_446_744_073_709_551_615;
-        assert_again(&rt, &config, 1, outcome, (now, 0), last);
-    }
+    let date = unavailable(RetryAfter::Date(DATE));
+    let last_date = unavailable(RetryAfter::Date(u64::MAX));
+    let rows = [
+        (1, seconds(0), 7, 9, 7),
+        (1, seconds(7), 7, 9, 7_000_000_007),
+        (1, seconds(301), 0, 9, 300_000_000_000),
+        (1, seconds(u64::MAX), 0, 9, 300_000_000_000),
+        (1, date, 784_111_775_000_000_000, 9, 784_111_777_000_000_000),
+        (1, date, 784_111_777_000_000_001, 9, 784_111_777_000_000_001),
+        (1, last_date, 5, 9, 300_000_000_005),
+        // Moments stop at the last one.
+        (1, Outcome::NoReply, 18_446_744_073_709_551_000, 0, u64::MAX),
+        (1, seconds(1), u64::MAX, 0, u64::MAX),
+        (1, last_date, u64::MAX, 0, u64::MAX),
+    ];
+    assert_again(&rt, &RetryConfig::default(), &rows);
 }
 
 #[test]
@@ -150,7 +128,7 @@ fn each_outcome_is_followed(rt: &impl Abort, config: &RetryConfig, attempt: u32,
 fn a_batch_of_one_attempt_is_not_sent_again(rt: HostRuntime) {
     let config = RetryConfig::single_attempt();
     assert_equal(&rt, config.attempts(), 1);
-    let outcome = unavailable(RetryAfter::Seconds(7));
+    let outcome = seconds(7);
     let next = follows(&rt, &config, 1, outcome, 0, 0);
     assert_equal(&rt, next, Next::GiveUp(Cause::Attempts));
 }
@@ -166,51 +144,39 @@ fn with_least(rt: &impl Abort, longest_ms: u32, least_ms: u32) -> RetryConfig {
 
 #[test]
 fn no_wait_is_shorter_than_the_least(rt: HostRuntime) {
-    let config = with_least(&rt, 30_000, 2000);
     let date = unavailable(RetryAfter::Date(DATE));
-    for (attempt, outcome, now, moment) in [
-        (1, unavailable(RetryAfter::Seconds(0)), 5, 2_000_000_005),
-        (1, unavailable(RetryAfter::Date(0)), 5, 2_000_000_005),
-        (1, Outcome::NoReply, 5, 2_000_000_005),
-        (1, unavailable(RetryAfter::Seconds(7)), 5, 7_000_000_005),
-        (3, Outcome::NoReply, 5, 4_000_000_005),
+    let rows = [
+        (1, seconds(0), 5, 0, 2_000_000_005),
+        (1, unavailable(RetryAfter::Date(0)), 5, 0, 2_000_000_005),
+        (1, Outcome::NoReply, 5, 0, 2_000_000_005),
+        (1, seconds(7), 5, 0, 7_000_000_005),
+        (3, Outcome::NoReply, 5, 0, 4_000_000_005),
         // A date that is nearer than the least wait, as far as it, and farther.
-        (1, date, 784_111_776_000_000_000, 784_111_778_000_000_000),
-        (1, date, 784_111_775_000_000_001, 784_111_777_000_000_001),
-        (1, date, 784_111_775_000_000_000, 784_111_777_000_000_000),
-        (1, date, 784_111_770_000_000_000, 784_111_777_000_000_000),
-    ] {
-        assert_again(&rt, &config, attempt, outcome, (now, 0), moment);
-    }
-}
-
-#[test]
-fn the_least_wait_may_be_the_greatest(rt: HostRuntime) {
-    let config = with_least(&rt, 300_000, 300_000);
-    for outcome in [
-        Outcome::NoReply,
-        unavailable(RetryAfter::Seconds(0)),
-        unavailable(RetryAfter::Seconds(301)),
-        unavailable(RetryAfter::Date(DATE)),
-    ] {
-        assert_again(&rt, &config, 1, outcome, (5, 0), 300_000_000_005);
-    }
+        (1, date, 784_111_776_000_000_000, 0, 784_111_778_000_000_000),
+        (1, date, 784_111_775_000_000_001, 0, 784_111_777_000_000_001),
+        (1, date, 784_111_775_000_000_000, 0, 784_111_777_000_000_000),
+        (1, date, 784_111_770_000_000_000, 0, 784_111_777_000_000_000),
+    ];
+    assert_again(&rt, &with_least(&rt, 30_000, 2000), &rows);
+    // The least wait may be the greatest.
+    let rows = [
+        (1, Outcome::NoReply, 5, 0, 300_000_000_005),
+        (1, seconds(0), 5, 0, 300_000_000_005),
+        (1, seconds(301), 5, 0, 300_000_000_005),
+        (1, date, 5, 0, 300_000_000_005),
+    ];
+    assert_again(&rt, &with_least(&rt, 300_000, 300_000), &rows);
 }
 
 #[test]
 fn a_least_wait_of_0_is_none(rt: HostRuntime) {
-    let config = RetryConfig::default().with_least_wait(0);
-    assert_equal(&rt, config, Ok(RetryConfig::default()));
     let config = with_least(&rt, 30_000, 0);
-    assert_again(
-        &rt,
-        &config,
-        1,
-        unavailable(RetryAfter::Seconds(0)),
-        (5, 0),
-        5,
-    );
-    assert_again(&rt, &config, 1, Outcome::NoReply, (5, 500), 500_000_005);
+    assert_equal(&rt, config, RetryConfig::default());
+    let rows = [
+        (1, seconds(0), 5, 0, 5),
+        (1, Outcome::NoReply, 5, 500, 500_000_005),
+    ];
+    assert_again(&rt, &config, &rows);
 }
 
 #[test]
@@ -228,37 +194,40 @@ fn the_least_wait_has_a_range(rt: HostRuntime) {
     }
 }
 
+/// Makes settings, which keep these numbers, or are refused.
+fn assert_settings(rt: &impl Abort, numbers: (u32, u32, u32), fault: Option<BadRetry>) {
+    let (attempts, initial_ms, max_ms) = numbers;
+    match RetryConfig::new(attempts, initial_ms, max_ms) {
+        Ok(config) => {
+            assert_equal_at(rt, None, fault, numbers);
+            assert_equal(rt, config.attempts(), attempts);
+            assert_equal(rt, config.initial_ms(), initial_ms);
+            assert_equal(rt, config.max_ms(), max_ms);
+        }
+        Err(refused) => assert_equal_at(rt, Some(refused), fault, numbers),
+    }
+}
+
 #[test]
 fn settings_have_ranges(rt: HostRuntime) {
-    for (attempts, initial_ms, max_ms) in [
-        (1, 1000, 30_000),
-        (5, 1000, 30_000),
-        (5, 1, 1),
-        (5, 1, 300_000),
-        (5, 30_000, 30_000),
-        (5, 30_000, 300_000),
+    for (numbers, fault) in [
+        ((1, 1000, 30_000), None),
+        ((5, 1000, 30_000), None),
+        ((5, 1, 1), None),
+        ((5, 1, 300_000), None),
+        ((5, 30_000, 30_000), None),
+        ((5, 30_000, 300_000), None),
+        ((0, 1000, 30_000), Some(BadRetry)),
+        ((6, 1000, 30_000), Some(BadRetry)),
+        ((5, 0, 30_000), Some(BadRetry)),
+        ((5, 30_001, 300_000), Some(BadRetry)),
+        ((5, 1000, 999), Some(BadRetry)),
+        ((5, 1000, 300_001), Some(BadRetry)),
     ] {
-        let config = RetryConfig::new(attempts, initial_ms, max_ms).expect(&rt, "settings");
-        assert_equal(&rt, config.attempts(), attempts);
-        assert_equal(&rt, config.initial_ms(), initial_ms);
-        assert_equal(&rt, config.max_ms(), max_ms);
-    }
-    for (attempts, initial_ms, max_ms) in [
-        (0, 1000, 30_000),
-        (6, 1000, 30_000),
-        (5, 0, 30_000),
-        (5, 30_001, 300_000),
-        (5, 1000, 999),
-        (5, 1000, 300_001),
-    ] {
-        let refused = RetryConfig::new(attempts, initial_ms, max_ms);
-        assert_equal(&rt, refused, Err(BadRetry));
+        assert_settings(&rt, numbers, fault);
     }
     let told = format!(in rt.alloc(); "{BadRetry}").expect(&rt, "memory");
     assert_equal(&rt, told.as_str(), BAD_RETRY);
-    assert_equal(
-        &rt,
-        RetryConfig::new(5, 1000, 30_000),
-        Ok(RetryConfig::default()),
-    );
+    let default = RetryConfig::new(5, 1000, 30_000);
+    assert_equal(&rt, default, Ok(RetryConfig::default()));
 }

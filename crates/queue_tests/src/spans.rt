@@ -1,11 +1,11 @@
-//! Spans of one resource and one scope, each with its number as its identifier.
+//! Spans of one resource and one scope, each with its number as its identifier, and their names.
 use otlp_ids::{SpanContext, SpanId, TraceFlags, TraceId};
-use otlp_span::{Kind, Open, Resource, Scope, SpanData, SpanLimits, SpanRecord};
+use otlp_span::{Entry, Kind, Open, Reason, Resource, Scope, SpanData, SpanLimits, SpanRecord};
 use std::alloc::{Allocator, Global};
 use std::process::Abort;
 use std::sync::Arc;
 
-pub(crate) const TRACE: TraceId = TraceId([1; 16]);
+const TRACE: TraceId = TraceId([1; 16]);
 
 /// What the spans share.
 #[derive(Drop)]
@@ -17,16 +17,8 @@ pub(crate) struct Spans<A: Allocator = Global> {
 
 impl<A: Allocator + Copy> Spans<A> {
     pub(crate) fn new(rt: &impl Abort, alloc: A) -> Spans<A> {
-        let resource = Resource {
-            attributes: Vec::new(alloc),
-            schema_url: String::new(alloc),
-        };
-        let scope = Scope {
-            name: String::new(alloc),
-            version: String::new(alloc),
-            attributes: Vec::new(alloc),
-            schema_url: String::new(alloc),
-        };
+        let resource = Resource::new(alloc, Vec::new(alloc));
+        let scope = Scope::named(alloc, "").expect(rt, "memory");
         Spans {
             alloc,
             resource: Arc::new(alloc, resource).expect(rt, "memory"),
@@ -54,5 +46,22 @@ impl<A: Allocator + Copy> Spans<A> {
         };
         let record = SpanRecord::open(self.alloc, opening, &SpanLimits::default());
         record.expect(rt, "memory").close(2)
+    }
+
+    /// A span that has ended, whose ticket is this one.
+    pub(crate) fn ticketed(&self, rt: &impl Abort, number: u64, ticket: u64) -> SpanData<A> {
+        let mut span = self.ended(rt, number);
+        span.set_ticket(ticket);
+        span
+    }
+}
+
+/// The name of the span with this number, which is its ticket.
+pub(crate) fn name(number: u64, reason: Reason) -> Entry {
+    Entry {
+        trace: TRACE,
+        span: SpanId(number.to_be_bytes()),
+        ticket: number,
+        reason,
     }
 }

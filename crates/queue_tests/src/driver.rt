@@ -1,0 +1,198 @@
+//! Desks that are driven by hand. Each call of a desk stands in one function, which compares what is
+//! so at each such call.
+use crate::equal::assert_equal;
+use crate::spans::{Spans, name};
+use batch_desk::{Admitted, Batch, Desk, DeskConfig, Mark, NamedBatch, Totals};
+use otlp_span::{Entry, Reason};
+use retry_core::Fate;
+use span_ring::RingFault;
+use std::alloc::{Allocator, Global};
+use std::ops::Range;
+use std::process::Abort;
+
+/// Makes a desk at moment 0.
+pub(crate) fn new_desk<A: Allocator + Copy>(
+    alloc: A,
+    config: DeskConfig,
+) -> Result<Desk<A>, RingFault> {
+    Desk::new(alloc, config, 0)
+}
+
+/// A desk, and what the spans share that it is given.
+#[derive(Drop)]
+pub(crate) struct Driver<A: Allocator = Global> {
+    pub(crate) desk: Desk<A>,
+    pub(crate) spans: Spans<A>,
+}
+
+impl<A: Allocator + Copy> Driver<A> {
+    /// Drives a desk that is made at moment 0.
+    pub(crate) fn new(rt: &impl Abort, alloc: A, config: DeskConfig) -> Driver<A> {
+        Driver {
+            desk: new_desk(alloc, config).expect(rt, "memory"),
+            spans: Spans::new(rt, alloc),
+        }
+    }
+
+    /// Drives a desk of these sizes, whose delay is 5000 ms.
+    pub(crate) fn of_sizes(rt: &impl Abort, alloc: A, queue: usize, batch: usize) -> Driver<A> {
+        let config = DeskConfig {
+            queue,
+            batch,
+            delay_ms: 5000,
+        };
+        Driver::new(rt, alloc, config)
+    }
+
+    /// Drives a desk with spans on memory of its own.
+    pub(crate) fn of_desk(rt: &impl Abort, alloc: A, desk: Desk<A>) -> Driver<A> {
+        Driver {
+            desk,
+            spans: Spans::new(rt, alloc),
+        }
+    }
+
+    /// Ends a span with this number.
+    pub(crate) fn admit(&mut self, rt: &impl Abort, number: u64) -> Admitted {
+        self.desk.admit(self.spans.ended(rt, number))
+    }
+
+    /// Queues spans with these numbers, which are their tickets.
+    pub(crate) fn queue(&mut self, rt: &impl Abort, numbers: Range<u64>) {
+        for number in numbers {
+            assert_equal(rt, self.admit(rt, number), Admitted::Queued(number));
+        }
+    }
+
+    pub(crate) fn flush(&mut self) -> Mark {
+        self.desk.flush()
+    }
+
+    pub(crate) fn shutdown(&mut self) -> Mark {
+        self.desk.shutdown()
+    }
+
+    pub(crate) fn is_flushed(&self, mark: Mark) -> bool {
+        self.desk.flushed(mark)
+    }
+
+    pub(crate) fn totals(&self) -> Totals {
+        self.desk.totals()
+    }
+
+    /// Takes a batch where one is due. None is out.
+    pub(crate) fn take_due(&mut self, rt: &impl Abort, now: u64) -> Option<Batch<A>> {
+        let is_due = self.desk.due(now);
+        let taken = self.desk.take(now);
+        assert_equal(rt, taken.is_some(), is_due);
+        taken
+    }
+
+    /// Takes a batch of these tickets.
+    pub(crate) fn take(
+        &mut self,
+        rt: &impl Abort,
+        now: u64,
+        number: u64,
+        tickets: &[u64],
+    ) -> Batch<A> {
+        let batch = self.take_due(rt, now).expect(rt, "a batch is due");
+        assert_equal(rt, batch.number(), number);
+        assert_equal(rt, batch.spans().len(), tickets.len());
+        for (span, ticket) in batch.spans().iter().zip(tickets) {
+            assert_equal(rt, span.ticket(), *ticket);
+        }
+        batch
+    }
+
+    /// Takes none.
+    pub(crate) fn take_none(&mut self, rt: &impl Abort, now: u64) {
+        if let Some(batch) = self.take_due(rt, now) {
+            self.drop_batch(rt, batch, Reason::Abandoned);
+            panic!(rt; "no batch is due");
+        }
+    }
+
+    /// Hands the batch over that is in hand.
+    pub(crate) fn hand(&mut self, rt: &impl Abort, batch: &Batch<A>) {
+        assert_equal(rt, self.desk.is_in_hand(batch), true);
+        assert_equal(rt, self.desk.is_handed(batch), false);
+        assert_equal(rt, self.desk.can_settle(batch), false);
+        assert_eq!(rt; self.desk.out(), Some((batch.number(), false)));
+        self.desk.handed(batch.number());
+        assert_equal(rt, self.desk.out(), Some((batch.number(), true)));
+    }
+
+    /// Ends the batch that is out, which was handed, and maybe cleared since.
+    pub(crate) fn settle(&mut self, rt: &impl Abort, batch: Batch<A>, fate: Fate) {
+        assert_equal(rt, self.desk.is_handed(&batch), !batch.spans().is_empty());
+        assert!(rt; self.desk.can_settle(&batch));
+        self.desk.settle(batch, fate);
+        assert_equal(rt, self.desk.out(), None);
+    }
+
+    /// Hands the batch over, and settles it.
+    pub(crate) fn deliver(&mut self, rt: &impl Abort, batch: Batch<A>) {
+        self.hand(rt, &batch);
+        self.settle(rt, batch, Fate::Delivered);
+    }
+
+    /// Takes a batch of these tickets, hands it over, and settles it.
+    pub(crate) fn pass(&mut self, rt: &impl Abort, now: u64, number: u64, tickets: &[u64]) {
+        let batch = self.take(rt, now, number, tickets);
+        self.deliver(rt, batch);
+    }
+
+    /// Drops the batch that is in hand.
+    pub(crate) fn drop_batch(&mut self, rt: &impl Abort, batch: Batch<A>, reason: Reason) {
+        assert!(rt; reason != Reason::QueueFull && self.desk.is_in_hand(&batch));
+        self.desk.drop_batch(batch, reason);
+        assert_equal(rt, self.desk.out(), None);
+    }
+
+    /// Drops the batch that is in hand, whose spans are named.
+    pub(crate) fn drop_named(&mut self, rt: &impl Abort, named: NamedBatch<A>) {
+        assert!(rt; self.desk.can_drop(&named));
+        self.desk.drop_named(named);
+        assert_equal(rt, self.desk.out(), None);
+    }
+
+    /// Pops the newest name of the ledger, which has to be this one.
+    pub(crate) fn pop(&mut self, rt: &impl Abort, want: Option<Entry>) {
+        assert_equal(rt, self.desk.pop_entry(), want);
+    }
+
+    /// Asserts how many spans wait, and whether the desk is closed.
+    pub(crate) fn assert_waiting(&self, rt: &impl Abort, waiting: usize, is_closed: bool) {
+        assert_equal(rt, self.desk.waiting(), waiting);
+        assert_equal(rt, self.desk.is_closed(), is_closed);
+    }
+
+    /// Asserts how many names the ledger has, and which is the newest.
+    pub(crate) fn assert_ledger(&self, rt: &impl Abort, len: u64, newest: Option<&Entry>) {
+        assert_equal(rt, self.desk.ledger().len(), len);
+        assert_equal(rt, self.desk.ledger().is_empty(), len == 0);
+        assert_equal(rt, self.desk.ledger().newest(), newest);
+    }
+}
+
+/// Names the spans of a batch, which have these tickets.
+pub(crate) fn into_named<A: Allocator>(
+    rt: &impl Abort,
+    batch: Batch<A>,
+    reason: Reason,
+    tickets: Range<u64>,
+) -> NamedBatch<A> {
+    assert!(rt; reason != Reason::QueueFull);
+    let number = batch.number();
+    let named = batch.into_named(reason);
+    assert_equal(rt, named.number(), number);
+    assert_equal(rt, named.reason(), reason);
+    let mut ticket = tickets.start;
+    for entry in named.names() {
+        assert_equal(rt, *entry, name(ticket, reason));
+        ticket = ticket.saturating_add(1);
+    }
+    assert_equal(rt, ticket, tickets.end);
+    named
+}
