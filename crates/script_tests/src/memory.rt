@@ -1,13 +1,12 @@
 //! Scripts for which each call for memory is refused once.
 
 use crate::equal::assert_equal_at;
-use crate::scripts::REMOTE;
+use crate::scripts::{REMOTE, parse};
 use failing_allocator::FailingAllocator;
 use linked_list_allocator::LocalHeap;
-use span_script::{Script, ScriptError};
-use std::alloc::Global;
+use span_script::ScriptError;
+use std::alloc::{Allocator, Global};
 use std::process::Abort;
-use std::test::Fail;
 
 /// A script with a line of each kind that takes memory.
 const LINES: &str = concat!(
@@ -31,32 +30,35 @@ const LINES: &str = concat!(
 /// More calls for memory than a script here takes.
 const MOST: u64 = 100;
 
+/// How many steps a script has.
+fn count_steps<A: Allocator + Copy>(alloc: A, text: &str) -> Result<usize, ScriptError> {
+    Ok(parse(alloc, text)?.steps.len())
+}
+
 /// Parses the text, each time with another call for memory refused. It is refused, or the script
 /// has so many steps: room that is only asked for ahead may be refused without a word. All memory
 /// is given back.
-fn is_refused(rt: &impl Abort, alloc: Global, text: &str, steps: usize) -> Result<(), Fail> {
-    let heap = LocalHeap::new(alloc, 65_536)?;
+fn assert_refused(rt: &impl Abort, alloc: Global, text: &str, steps: usize) {
+    let heap = LocalHeap::new(alloc, 65_536).expect(rt, "memory");
     let (mut refused, mut read) = (0u64, 0u64);
     for fail_index in 0..MOST {
         let scarce = FailingAllocator::new(&heap, fail_index);
-        match Script::parse(&scarce, text.as_bytes()) {
-            Ok(script) => {
-                assert_equal_at(rt, script.steps.len(), steps, fail_index);
-                read = read.saturating_add(1);
-            }
-            Err(error) => {
-                assert_equal_at(rt, error, ScriptError::OutOfMemory, fail_index);
-                refused = refused.saturating_add(1);
-            }
-        }
+        let count = count_steps(&scarce, text);
+        let want = if count.is_ok() {
+            read = read.saturating_add(1);
+            Ok(steps)
+        } else {
+            refused = refused.saturating_add(1);
+            Err(ScriptError::OutOfMemory)
+        };
+        assert_equal_at(rt, count, want, fail_index);
         assert_equal_at(rt, heap.used(), 0, fail_index);
     }
     assert!(rt; refused > 2 && read > 2, "{refused} {read}");
-    Ok(())
 }
 
 #[test]
-fn is_refused_memory(rt: HostRuntime) -> Result<(), Fail> {
-    is_refused(&rt, rt.alloc(), LINES, 8)?;
-    is_refused(&rt, rt.alloc(), REMOTE, 2)
+fn is_refused_memory(rt: HostRuntime) {
+    assert_refused(&rt, rt.alloc(), LINES, 8);
+    assert_refused(&rt, rt.alloc(), REMOTE, 2);
 }

@@ -4,7 +4,8 @@ use crate::equal::{assert_equal, assert_equal_at};
 use script_words::{
     WordFault, around_colon, byte, generator_words, integer, number, parts_of, small_number, text,
 };
-use std::test::Fail;
+use std::alloc::Global;
+use std::process::Abort;
 
 #[test]
 fn reads_numbers(rt: HostRuntime) {
@@ -17,40 +18,51 @@ fn reads_numbers(rt: HostRuntime) {
 }
 
 #[test]
-fn reads_hexadecimal_words(rt: HostRuntime) -> Result<(), Fail> {
+fn reads_hexadecimal_words(rt: HostRuntime) {
     let words = [b"0102030405060708".as_slice(), b"FFFFFFFFFFFFFFFF"];
-    let Ok(numbers) = generator_words(rt.alloc(), &words) else {
-        return Err(Fail::from("two numbers"));
-    };
+    let numbers = generator_words(rt.alloc(), &words);
+    let numbers = numbers.ok().expect(&rt, "two numbers");
     assert_equal(
         &rt,
         numbers.as_slice(),
         [0x0102030405060708, u64::MAX].as_slice(),
     );
-    Ok(())
+}
+
+/// Asserts that a word spells this text, or how it is bad.
+fn assert_text(rt: &impl Abort, alloc: Global, word: &str, want: Result<&str, WordFault>) {
+    let read = text(alloc, word.as_bytes());
+    let read = match &read {
+        Ok(read) => Ok(read.as_str()),
+        Err(fault) => Err(*fault),
+    };
+    assert_equal_at(rt, read, want, word);
 }
 
 #[test]
 fn reads_texts(rt: HostRuntime) {
-    let alloc = rt.alloc();
-    for (word, want) in [("%", ""), ("a%20b", "a b"), ("%e2%82%Ac", "€")] {
-        let read = text(alloc, word.as_bytes()).ok();
-        let read = read.as_ref().map(|read| read.as_str());
-        assert_equal_at(&rt, read, Some(want), word);
+    for (word, want) in [
+        ("%", Ok("")),
+        ("a%20b", Ok("a b")),
+        ("%e2%82%Ac", Ok("€")),
+        ("", Err(WordFault::Bad)),
+        ("a%2", Err(WordFault::Bad)),
+    ] {
+        assert_text(&rt, rt.alloc(), word, want);
     }
-    assert_equal(&rt, text(alloc, b"").err(), Some(WordFault::Bad));
-    assert_equal(&rt, text(alloc, b"a%2").err(), Some(WordFault::Bad));
 }
 
 #[test]
-fn cuts_words(rt: HostRuntime) -> Result<(), Fail> {
-    let parts = parts_of(rt.alloc(), b"a,,b", b',')?;
+fn cuts_words(rt: HostRuntime) {
+    let parts = parts_of(rt.alloc(), b"a,,b", b',').expect(&rt, "memory");
     assert_equal(&rt, parts.len(), 3);
-    assert_equal(
-        &rt,
-        around_colon(b"a:b:c"),
-        Some((b"a".as_slice(), b"b:c".as_slice())),
-    );
-    assert_equal(&rt, around_colon(b"abc"), None);
-    Ok(())
+    for (word, want) in [
+        (
+            b"a:b:c".as_slice(),
+            Some((b"a".as_slice(), b"b:c".as_slice())),
+        ),
+        (b"abc", None),
+    ] {
+        assert_equal(&rt, around_colon(word), want);
+    }
 }

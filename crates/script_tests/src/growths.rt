@@ -1,8 +1,10 @@
 //! Runs of the program to which memory is refused once, at each place in turn.
+
+use crate::equal::{assert_equal, assert_equal_at};
+use crate::program::{Printed, run};
 use failing_allocator::FailingAllocator;
 use linked_list_allocator::LocalHeap;
-use script_program::script;
-use std::alloc::{Allocator, Global};
+use std::alloc::Global;
 use std::process::Abort;
 
 /// A history of a span with an attribute and its child, whose batch is sent twice, since the first
@@ -137,104 +139,71 @@ enum Refused {
     Nothing,
 }
 
-/// Whether a text is these pieces, one behind the other.
-fn is_made_of(text: &[u8], pieces: &[&str]) -> bool {
-    let mut rest = text;
+/// These pieces, one behind the other.
+fn join(rt: &impl Abort, alloc: Global, pieces: &[&str]) -> String {
+    let mut text = String::new(alloc);
     for piece in pieces {
-        match rest.strip_prefix(piece.as_bytes()) {
-            Some(behind) => rest = behind,
-            None => return false,
-        }
+        text.push_str(piece).expect(rt, "memory");
     }
-    rest.is_empty()
+    text
 }
 
 /// What memory was refused to where this was printed. `None` where it tells nothing of the kind.
-fn told_by(printed: &[u8]) -> Option<Refused> {
-    let outputs: [(&[&str], Refused); 5] = [
-        (&GOOD, Refused::Nothing),
-        (&NO_SPAN, Refused::FirstStart),
-        (&PLAIN_SPAN, Refused::Attribute),
-        (&NO_CHILD, Refused::SecondStart),
-        (&DROPPED, Refused::Encoding),
+fn told_by(rt: &impl Abort, alloc: Global, printed: &Printed) -> Option<Refused> {
+    let outputs: [(&[&str], &str, u8, Refused); 6] = [
+        (&[], "out of memory\n", 3, Refused::Program),
+        (&GOOD, "", 0, Refused::Nothing),
+        (&NO_SPAN, "", 0, Refused::FirstStart),
+        (&PLAIN_SPAN, "", 0, Refused::Attribute),
+        (&NO_CHILD, "", 0, Refused::SecondStart),
+        (&DROPPED, "", 0, Refused::Encoding),
     ];
-    for (pieces, refused) in outputs {
-        if is_made_of(printed, pieces) {
+    for (pieces, faults, status, refused) in outputs {
+        let output = join(rt, alloc, pieces);
+        if printed.output.as_slice() == output.as_bytes() {
+            assert_equal(rt, printed.faults.as_slice(), faults.as_bytes());
+            assert_equal(rt, printed.status, status);
             return Some(refused);
         }
     }
     None
 }
 
-/// Runs the history on this memory, and answers what was refused.
-fn run_scarce<A: Allocator + Copy>(rt: &impl Abort, alloc: Global, scarce: A) -> Refused {
-    let mut output = Vec::new(alloc);
-    let mut faults = Vec::new(alloc);
-    let mut input = HISTORY.as_bytes();
-    let status = script(scarce, &mut input, &mut output, &mut faults, false);
-    if status == 3 {
-        assert!(rt; output.is_empty());
-        assert!(rt; faults.as_slice() == b"out of memory\n".as_slice());
-        return Refused::Program;
-    }
-    assert!(rt; status == 0 && faults.is_empty());
-    told_by(output.as_slice()).expect(rt, "lines that tell what was refused")
+/// How often this was refused memory.
+fn count_of(told: &[Refused], wanted: Refused) -> usize {
+    told.iter().filter(|refused| **refused == wanted).count()
 }
 
 /// More calls for memory than there are.
 const MOST: u64 = 110;
 
-/// How often each was refused memory.
-#[derive(Debug, Clone, Copy, PartialEq, Eq)]
-struct Counts {
-    program: u64,
-    first_start: u64,
-    attribute: u64,
-    second_start: u64,
-    encoding: u64,
-    nothing: u64,
-}
-
-impl Counts {
-    fn count(&mut self, refused: Refused) {
-        let count = match refused {
-            Refused::Program => &mut self.program,
-            Refused::FirstStart => &mut self.first_start,
-            Refused::Attribute => &mut self.attribute,
-            Refused::SecondStart => &mut self.second_start,
-            Refused::Encoding => &mut self.encoding,
-            Refused::Nothing => &mut self.nothing,
-        };
-        *count = count.saturating_add(1);
-    }
-}
-
 #[test]
 fn each_growth_of_a_run_is_refused_in_turn(rt: HostRuntime) {
     let heap = LocalHeap::new(rt.alloc(), 400_000).expect(&rt, "memory");
-    let mut counts = Counts {
-        program: 0,
-        first_start: 0,
-        attribute: 0,
-        second_start: 0,
-        encoding: 0,
-        nothing: 0,
-    };
-    let mut is_behind_the_last = false;
+    let mut told = Vec::new(rt.alloc());
+    let mut has_failed = true;
     for fail_index in 0..MOST {
         let scarce = FailingAllocator::new(&heap, fail_index);
-        let refused = run_scarce(&rt, rt.alloc(), &scarce);
-        assert!(rt; heap.used() == 0, "at {fail_index}");
+        let printed = run(rt.alloc(), &scarce, HISTORY, false);
+        let refused = told_by(&rt, rt.alloc(), &printed);
+        let refused = refused.expect(&rt, "lines that tell what was refused");
+        has_failed = scarce.has_failed();
         // Some ask for more room than is wanted, and for less where that is refused: then nothing is told.
-        let is_told = scarce.has_failed() || refused == Refused::Nothing;
-        assert!(rt; is_told, "{refused:?} at {fail_index}");
-        is_behind_the_last = !scarce.has_failed();
-        counts.count(refused);
+        let is_told = has_failed || refused == Refused::Nothing;
+        assert_equal_at(&rt, (heap.used(), is_told), (0, true), fail_index);
+        told.push(refused).expect(&rt, "memory");
     }
-    assert!(rt; is_behind_the_last, "{counts:?}");
+    // Each call for memory was refused once.
+    assert_equal(&rt, has_failed, false);
     // A start takes the copy of its name, the slip and the record; an attribute the copies of its
     // key and its text, and the room of the list.
-    let of_spans = (counts.first_start, counts.attribute, counts.second_start);
-    assert!(rt; of_spans == (3, 3, 3), "{counts:?}");
-    assert!(rt; counts.program > 20 && counts.encoding > 10, "{counts:?}");
+    for refused in [
+        Refused::FirstStart,
+        Refused::Attribute,
+        Refused::SecondStart,
+    ] {
+        assert_equal_at(&rt, count_of(told.as_slice(), refused), 3, refused);
+    }
+    assert_equal(&rt, count_of(told.as_slice(), Refused::Program) > 20, true);
+    assert_equal(&rt, count_of(told.as_slice(), Refused::Encoding) > 10, true);
 }
