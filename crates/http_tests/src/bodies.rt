@@ -141,36 +141,36 @@ fn a_reply_that_is_cut_has_ended(rt: HostRuntime) {
     assert_cut(&rt, rt.alloc(), b"\r\n\nHTTP/1.0 200\nContent-Length:7\n\n");
 }
 
-/// Checks what a reply is read as whose bytes take so many reads, where each of these fails in
-/// turn: its head takes a read a byte.
+/// Checks what a reply is read as whose head has so many bytes, a read each, and that takes so many
+/// reads, where each of these fails in turn.
 fn assert_stops(
     rt: &impl Abort,
     alloc: Global,
-    head: &[u8],
-    body: &[u8],
+    text: &[u8],
+    head: usize,
     most: usize,
     reads: usize,
 ) {
-    let text = joined(rt, alloc, head, body);
     for at in 0..reads {
-        let wanted = if at < head.len() {
+        let wanted = if at < head {
             Err(HttpFault::Device)
         } else {
             Ok((200, None, Err(HttpFault::Device)))
         };
         let rest = (text.len().saturating_sub(at), 1);
-        assert_reply(rt, alloc, &text, failing(most, at as u64), (wanted, rest));
+        assert_reply(rt, alloc, text, failing(most, at as u64), (wanted, rest));
     }
     let whole = (Ok((200, None, Ok(BODY))), (0, 0));
-    assert_reply(rt, alloc, &text, failing(most, reads as u64), whole);
+    assert_reply(rt, alloc, text, failing(most, reads as u64), whole);
 }
 
 #[test]
 fn a_reply_stops_at_each_read_that_fails(rt: HostRuntime) {
     let alloc = rt.alloc();
-    assert_stops(&rt, alloc, HEAD, BODY, 1, 45);
-    assert_stops(&rt, alloc, HEAD, BODY, 65_536, 39);
-    assert_stops(&rt, alloc, chunks::REPLY, chunks::CHUNKS, 1, 93);
+    assert_stops(&rt, alloc, REPLY, 38, 1, 45);
+    assert_stops(&rt, alloc, REPLY, 38, 65_536, 39);
+    let text = joined(&rt, alloc, chunks::REPLY, chunks::CHUNKS);
+    assert_stops(&rt, alloc, &text, 47, 1, 93);
 }
 
 #[test]
