@@ -1,10 +1,12 @@
 //! What the tests of both processors start spans with, and what they compare.
+use crate::equal::assert_equal;
 use otlp_ids::{SpanContext, SpanId, TraceId};
 use otlp_sampler::{AlwaysOn, Sampler};
 use otlp_span::{Entry, Kind, Reason, Resource, Scope, SpanLimits};
 use retry_core::Outcome;
 use span_exporter::MemoryExporter;
-use std::alloc::Allocator;
+use std::alloc::{Allocator, Global};
+use std::fmt::Display;
 use std::process::Abort;
 use std::sync::Arc;
 use trace_api::{Provider, Span};
@@ -20,6 +22,21 @@ const SPAN: SpanId = SpanId([17, 18, 19, 20, 21, 22, 23, 24]);
 /// When each span ends.
 pub(crate) const END: u64 = 2;
 
+/// A resource with this schema.
+fn resource<A: Allocator + Copy>(rt: &impl Abort, alloc: A, schema: &str) -> Arc<Resource<A>, A> {
+    let resource = Resource {
+        attributes: Vec::new(alloc),
+        schema_url: String::from_str(alloc, schema).expect(rt, "memory"),
+    };
+    Arc::new(alloc, resource).expect(rt, "memory")
+}
+
+/// The scope `s`.
+fn scope<A: Allocator + Copy>(rt: &impl Abort, alloc: A) -> Arc<Scope<A>, A> {
+    let scope = Scope::named(alloc, "s").expect(rt, "memory");
+    Arc::new(alloc, scope).expect(rt, "memory")
+}
+
 /// Starts a root of the name `a` in the scope `s` of a resource with this schema, at 1, which this
 /// sampler decides on.
 pub(crate) fn root<S: Sampler + Drop, A: Allocator + Copy>(
@@ -28,16 +45,8 @@ pub(crate) fn root<S: Sampler + Drop, A: Allocator + Copy>(
     sampler: S,
     schema: &str,
 ) -> Span<A> {
-    let schema_url = String::from_str(alloc, schema).expect(rt, "memory");
-    let resource = Resource {
-        attributes: Vec::new(alloc),
-        schema_url,
-    };
-    let resource = Arc::new(alloc, resource).expect(rt, "memory");
-    let scope = Scope::named(alloc, "s").expect(rt, "memory");
-    let scope = Arc::new(alloc, scope).expect(rt, "memory");
-    let provider = Provider::new(sampler, resource, SpanLimits::default());
-    let tracer = provider.tracer(scope);
+    let provider = Provider::new(sampler, resource(rt, alloc, schema), SpanLimits::default());
+    let tracer = provider.tracer(scope(rt, alloc));
     let mut words = WordsRng::new(Vec::from_slice(alloc, &WORDS).expect(rt, "memory"));
     let parent: Option<SpanContext<A>> = None;
     let name = String::from_str(alloc, "a").expect(rt, "memory");
@@ -67,4 +76,10 @@ pub(crate) fn exporter<A: Allocator + Copy>(
     outcomes: &[Outcome],
 ) -> MemoryExporter<A> {
     MemoryExporter::new(alloc, Vec::from_slice(alloc, outcomes).expect(rt, "memory"))
+}
+
+/// Asserts how a fault is told.
+pub(crate) fn assert_told<T: Display>(rt: &impl Abort, alloc: Global, fault: &T, want: &str) {
+    let told = format!(in alloc; "{fault}").expect(rt, "memory");
+    assert_equal(rt, told.as_str(), want);
 }

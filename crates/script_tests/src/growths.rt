@@ -188,7 +188,8 @@ fn each_growth_of_a_run_is_refused_in_turn(rt: HostRuntime) {
         let refused = told_by(&rt, rt.alloc(), &printed);
         let refused = refused.expect(&rt, "lines that tell what was refused");
         has_failed = scarce.has_failed();
-        // Some ask for more room than is wanted, and for less where that is refused: then nothing is told.
+        // Some ask for more room than is wanted, and for less where that is refused: then nothing
+        // is told.
         let is_told = has_failed || refused == Refused::Nothing;
         assert_equal_at(&rt, (heap.used(), is_told), (0, true), fail_index);
         told.push(refused).expect(&rt, "memory");

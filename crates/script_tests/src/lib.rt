@@ -1,6 +1,6 @@
-//! Tests of the script's language, of its words and of the program `trace-script`, over public calls
-//! alone. What each line says, and what the program prints for a script, is tried by the stored runs
-//! of the program, in examples/.
+//! Tests of the script's language, of its words and of the program `trace-script`, over public
+//! calls alone. What each line says, and what the program prints for a script, is tried by the
+//! stored runs of the program, in examples/.
 #![tactic(auto)]
 
 #[cfg(test)]

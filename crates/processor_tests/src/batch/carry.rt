@@ -81,9 +81,12 @@ fn end_spans<J: Naming, R: Wait + Abort + Copy>(
     may_be_late: bool,
 ) {
     for _ in 0..spans {
-        match end(&rt, alloc, pass) {
-            Ended::Queued(_) | Ended::Dropped(_, Reason::QueueFull) => {}
-            other => assert!(rt; may_be_late && other == Ended::Late, "{other:?}"),
+        let answer = end(&rt, alloc, pass);
+        if !matches!(
+            answer,
+            Ended::Queued(_) | Ended::Dropped(_, Reason::QueueFull)
+        ) {
+            assert_equal(&rt, (may_be_late, answer), (true, Ended::Late));
         }
     }
 }
@@ -122,7 +125,7 @@ pub(crate) fn do_first<J: Naming, R: Wait + Abort + Clock + Copy>(
         assert_equal(&rt, end(&rt, alloc, pass), Ended::Queued(ticket));
     }
     if matches!(task, Task::EndWhileSending) {
-        assert!(rt; is_reached(&rt, stage, SENDING, LOOKS), "nothing is sent");
+        assert_equal(&rt, is_reached(&rt, stage, SENDING, LOOKS), true);
         assert_equal(&rt, end(&rt, alloc, pass), Ended::Queued(1));
     }
     if matches!(task, Task::Flush) {
@@ -155,7 +158,7 @@ where
             thread::join(
                 &rt,
                 move || do_first(rt, alloc, first, task, stage),
-                || assert!(rt; is_reached(&rt, stage, ANSWERED, LOOKS), "no answer"),
+                || assert_equal(&rt, is_reached(&rt, stage, ANSWERED, LOOKS), true),
             );
         }
     }

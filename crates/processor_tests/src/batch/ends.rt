@@ -2,12 +2,14 @@
 ghost use Rattle.std.specs.Prelude.{◌≡◌};
 
 use crate::batch::fixture::{close, config, end, make, queue};
+use crate::batch::neighbors;
+use crate::batch::neighbors::close_out;
 use crate::equal::{assert_equal, assert_equal_at};
-use crate::fixture::{END, entry, root, sampled};
+use crate::fixture::{END, assert_told, entry, root, sampled};
 use batch_desk::Totals;
 use batch_processor::{
-    BatchBlank, BatchConfig, BatchProcessor, Flushed, MAX_PASSES, Missing, Naming, NewFault, Parts,
-    Pass, WorkerLeft,
+    BatchBlank, BatchConfig, Flushed, MAX_PASSES, Missing, Naming, NewFault, Parts, Pass,
+    WorkerLeft,
 };
 use drop_ledger::DropCounts;
 use otlp_sampler::AlwaysOff;
@@ -78,7 +80,7 @@ fn give_back<J: Naming, R: Wait + Abort + Copy>(rt: R, alloc: Global, blank: Bat
     } = make::<J, R, Global>(rt, alloc, blank, config(8, 4), 2, 0);
     let mut last = passes.pop().expect(&rt, "a pass");
     end_late(&rt, alloc, &mut last);
-    let missing = processor.close_out(passes, worker).err();
+    let missing = close_out(processor, passes, worker).err();
     let Missing {
         processor,
         mut passes,
@@ -110,20 +112,14 @@ fn count_passes<J: Naming, R: Wait + Abort + Copy>(
 ) -> Result<usize, NewFault>
     requires { blank ≡ J.name }
 {
-    match BatchProcessor::<J, R>::new(alloc, rt, blank, config, passes, 0) {
-        Ok(
-            Parts {
-                processor,
-                passes,
-                worker,
-            },
-        ) => {
-            let count = passes.len();
-            close(rt, alloc, processor, passes, worker);
-            Ok(count)
-        }
-        Err(fault) => Err(fault),
-    }
+    let Parts {
+        processor,
+        passes,
+        worker,
+    } = neighbors::make::<J, R, Global>(alloc, rt, blank, config, passes, 0)?;
+    let count = passes.len();
+    close(rt, alloc, processor, passes, worker);
+    Ok(count)
 }
 
 #[test]
@@ -163,11 +159,9 @@ fn each_fault_tells_itself(rt: HostRuntime) {
         ),
         (NewFault::OutOfMemory, "out of memory"),
     ] {
-        let told = format!(in rt.alloc(); "{fault}").expect(&rt, "memory");
-        assert_equal(&rt, told.as_str(), want);
+        assert_told(&rt, rt.alloc(), &fault, want);
     }
-    let told = format!(in rt.alloc(); "{WorkerLeft}").expect(&rt, "memory");
-    assert_equal(&rt, told.as_str(), "the worker has left");
+    assert_told(&rt, rt.alloc(), &WorkerLeft, "the worker has left");
 }
 
 #[test]

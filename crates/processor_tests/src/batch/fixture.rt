@@ -3,12 +3,14 @@
 ghost use Rattle.std.specs.Prelude.{◌≡◌, ℕ};
 ghost use Rattle.batch_processor.specs.Working.{IsPrepared};
 
+use crate::batch::neighbors;
 use crate::equal::assert_equal;
-use crate::fixture::{END, entry, sampled};
+use crate::fixture::{END, entry, root};
 use batch_desk::{DeskConfig, Totals};
 use batch_processor::{
     BatchBlank, BatchConfig, BatchProcessor, ManualClock, Naming, Parts, Pass, WorkEnd, WorkerPass,
 };
+use otlp_sampler::AlwaysOn;
 use otlp_span::{Entry, Reason};
 use otlp_wire::{Field, Fields, Payload};
 use span_exporter::{Exporter, Handed};
@@ -115,17 +117,27 @@ pub(crate) fn make<J: Naming, R: Wait + Abort + Copy, A: Allocator + Copy>(
     requires { blank ≡ J.name }
     ensures { (room : ℕ → ℕ) → IsPrepared room result.worker }
 {
-    let made = BatchProcessor::<J, R, A>::new(alloc, rt, blank, config, passes, now);
+    let made = neighbors::make::<J, R, A>(alloc, rt, blank, config, passes, now);
     made.expect(&rt, "a processor")
 }
 
-/// How a span is answered that is sampled and ends on a pass.
+/// How a span is answered that is sampled, of a resource with this schema, and ends on a pass.
+pub(crate) fn end_in<J: Naming, R: Wait + Abort, A: Allocator + Copy>(
+    rt: &R,
+    alloc: A,
+    schema: &str,
+    pass: &mut Pass<J, R, A>,
+) -> Ended {
+    root(rt, alloc, AlwaysOn, schema).end(pass, END)
+}
+
+/// The same of a resource without a schema.
 pub(crate) fn end<J: Naming, R: Wait + Abort, A: Allocator + Copy>(
     rt: &R,
     alloc: A,
     pass: &mut Pass<J, R, A>,
 ) -> Ended {
-    sampled(rt, alloc).end(pass, END)
+    end_in(rt, alloc, "", pass)
 }
 
 /// So many spans end on the first pass. Each is queued, from this ticket on.
@@ -179,7 +191,7 @@ pub(crate) fn close<J: Naming, R: Wait + Abort + Copy, A: Allocator + Copy>(
     passes: Vec<Pass<J, R, A>, A>,
     worker: WorkerPass<J, R, A>,
 ) -> Left<A> {
-    let accounts = processor.close_out(passes, worker).ok();
+    let accounts = neighbors::close_out(processor, passes, worker).ok();
     let desk = accounts.expect(&rt, "all passes are there").desk;
     let mut names = Vec::new(alloc);
     names

@@ -108,7 +108,7 @@ where
     J: Naming,
     R: Wait + Abort + Clock + Copy,
 {
-    assert!(rt; is_reached(&rt, stage, ASKING, LOOKS), "nobody asks");
+    assert_equal(&rt, is_reached(&rt, stage, ASKING, LOOKS), true);
     thread::sleep(&rt, Duration::from_millis(20));
     worker.leave();
 }

@@ -2,9 +2,10 @@
 ghost use Rattle.std.specs.Prelude.{◌≡◌};
 
 use crate::batch::fixture::{Left, assert_named, close, config, count_spans, queue, work};
+use crate::batch::neighbors;
 use crate::equal::{assert_equal, assert_equal_at};
 use batch_desk::FateCounts;
-use batch_processor::{BatchBlank, BatchProcessor, Naming, NewFault, Parts};
+use batch_processor::{BatchBlank, Naming, NewFault, Parts};
 use failing_allocator::FailingAllocator;
 use linked_list_allocator::LocalHeap;
 use otlp_span::Reason;
@@ -65,7 +66,7 @@ where
     A: Allocator + Copy,
     requires { blank ≡ J.name }
 {
-    let made = BatchProcessor::<J, R, A>::new(scarce, rt, blank, config(4, 2), 2, 0);
+    let made = neighbors::make::<J, R, A>(scarce, rt, blank, config(4, 2), 2, 0);
     let Parts {
         processor,
         mut passes,

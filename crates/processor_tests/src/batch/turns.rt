@@ -3,14 +3,15 @@ ghost use Rattle.std.specs.Prelude.{◌≡◌};
 ghost use Rattle.batch_processor.specs.Working.{IsPrepared};
 
 use crate::batch::fixture::{
-    Left, SECOND, assert_named, close, config, count_body, count_spans, end, make, queue, work,
+    Left, SECOND, assert_named, close, config, count_body, count_spans, end, end_in, make, queue,
+    work,
 };
+use crate::batch::neighbors::close_out;
 use crate::equal::{assert_equal, assert_equal_at};
-use crate::fixture::{END, entry, exporter, root};
+use crate::fixture::{entry, exporter};
 use batch_processor::{
     BatchBlank, BatchConfig, BatchProcessor, Clock, Naming, Parts, Pass, WorkEnd, WorkerPass,
 };
-use otlp_sampler::AlwaysOn;
 use otlp_span::Reason;
 use retry_core::{Outcome, RetryAfter};
 use span_exporter::{Exporter, Handed, MemoryExporter};
@@ -105,7 +106,7 @@ where
     assert_equal(&rt, end(&rt, alloc, &mut last), Ended::Queued(0));
     work(rt, alloc, &mut worker, &mut exporter, 0, 1);
     assert_shown(rt, alloc, &processor, &last, &worker);
-    let missing = processor.close_out(passes, worker).err();
+    let missing = close_out(processor, passes, worker).err();
     missing.expect(&rt, "a pass is missing").discard();
     assert_equal(&rt, last.pop_entry(), Some(entry(0, Reason::Abandoned)));
     assert_equal(&rt, last.pop_entry(), None);
@@ -138,16 +139,6 @@ impl Clock for Minutes {
         self.0.set(moment);
         moment
     }
-}
-
-/// How a span is answered that ends on a pass, in this schema.
-fn end_in<J: Naming, R: Wait + Abort>(
-    rt: &R,
-    alloc: Global,
-    schema: &str,
-    pass: &mut Pass<J, R>,
-) -> Ended {
-    root(rt, alloc, AlwaysOn, schema).end(pass, END)
 }
 
 /// Ends the spans of a job on the first pass. Each is queued.

@@ -2,17 +2,19 @@
 ghost use Rattle.std.specs.Prelude.{◌≡◌};
 
 use crate::equal::{assert_equal, assert_equal_at};
-use crate::fixture::{END, entry, exporter, root, sampled};
-use crate::simple::fixture::assert_handed;
+use crate::fixture::{END, assert_told, entry, exporter, root, sampled};
+use crate::simple::fixture::{assert_handed, close, end, make};
+use crate::simple::neighbors;
+use crate::simple::neighbors::close_out;
 use batch_desk::{FateCounts, Totals};
 use otlp_proto::DEFAULT_MAX_BODY;
 use otlp_sampler::AlwaysOff;
 use otlp_span::{Entry, Reason};
 use retry_core::Outcome;
 use simple_processor::{
-    Flushed, MAX_PASSES, Naming, SimpleBlank, SimpleFault, SimpleMissing, SimpleParts,
-    SimpleProcessor,
+    Flushed, MAX_PASSES, Naming, SimpleBlank, SimpleFault, SimpleMissing, SimpleParts, SimplePass,
 };
+use span_exporter::MemoryExporter;
 use std::alloc::Global;
 use std::fmt::Debug;
 use std::marker::Brand;
@@ -46,20 +48,17 @@ fn count_outcomes<J: Naming, R: Wait + Abort + Copy>(rt: R, alloc: Global, blank
     requires { blank ≡ J.name }
 {
     let exporter = exporter(&rt, alloc, &OUTCOMES);
-    let made = SimpleProcessor::<J, _, R>::new(alloc, rt, blank, exporter, 1, DEFAULT_MAX_BODY);
     let SimpleParts {
         processor,
         mut passes,
-    } = made.expect(&rt, "a processor");
+    } = make::<J, _, R, Global>(rt, alloc, blank, exporter, 1, DEFAULT_MAX_BODY);
     let mut pass = passes.pop().expect(&rt, "a pass");
     for ticket in 0..6u64 {
-        let mut span = sampled(&rt, alloc);
-        assert_equal(&rt, span.end(&mut pass, END), Ended::Handed(ticket));
+        assert_equal(&rt, end(&rt, alloc, &mut pass), Ended::Handed(ticket));
         assert_equal(&rt, pass.force_flush(), Flushed);
     }
     passes.push(pass).expect(&rt, "memory");
-    let accounts = processor.close_out(passes).ok();
-    let accounts = accounts.expect(&rt, "all passes are there");
+    let accounts = close(rt, processor, passes);
     assert_handed(&rt, alloc, accounts.exporter.handed(), &OUTCOMES);
     let want = Totals {
         accepted: 6,
@@ -95,24 +94,36 @@ fn write_parts<J: Naming, R: Wait + Abort + Copy>(rt: R, alloc: Global, blank: S
 {
     assert_written(&rt, alloc, &blank, "Blank { .. }");
     let exporter = exporter(&rt, alloc, &[]);
-    let made = SimpleProcessor::<J, _, R>::new(alloc, rt, blank, exporter, 1, DEFAULT_MAX_BODY);
-    let parts = made.expect(&rt, "a processor");
+    let parts = make::<J, _, R, Global>(rt, alloc, blank, exporter, 1, DEFAULT_MAX_BODY);
     assert_written(&rt, alloc, &parts, PARTS);
     let SimpleParts { processor, passes } = parts;
-    let missing = processor.close_out(Vec::new(alloc)).err();
+    let missing = close_out(processor, Vec::new(alloc)).err();
     let missing = missing.expect(&rt, "a pass is missing");
     assert_written(&rt, alloc, &missing, MISSING);
     let SimpleMissing {
         processor,
         passes: _,
     } = missing;
-    let accounts = processor.close_out(passes).ok();
-    assert_written(&rt, alloc, &accounts.expect(&rt, "accounts"), ACCOUNTS);
+    let accounts = close(rt, processor, passes);
+    assert_written(&rt, alloc, &accounts, ACCOUNTS);
 }
 
 #[test]
 fn a_processor_writes_how_many_passes_it_has(rt: HostRuntime) {
     write_parts::<Brand, HostRuntime>(rt, rt.alloc(), SimpleBlank::default());
+}
+
+/// Ends a span twice, and one that isn't sampled.
+fn end_otherwise<J: Naming, R: Wait + Abort>(
+    rt: &R,
+    alloc: Global,
+    pass: &mut SimplePass<J, MemoryExporter, R>,
+) {
+    let mut span = sampled(rt, alloc);
+    assert_equal(rt, span.end(pass, END), Ended::Handed(0));
+    assert_equal(rt, span.end(pass, END), Ended::AlreadyEnded);
+    let mut dropped = root(rt, alloc, AlwaysOff, "");
+    assert_equal(rt, dropped.end(pass, END), Ended::NotSampled);
 }
 
 /// Ends spans before and after a shutdown by the other pass, one that isn't sampled, and one twice.
@@ -121,33 +132,27 @@ fn shut_down<J: Naming, R: Wait + Abort + Copy>(rt: R, alloc: Global, blank: Sim
     requires { blank ≡ J.name }
 {
     let exporter = exporter(&rt, alloc, &[]);
-    let made = SimpleProcessor::<J, _, R>::new(alloc, rt, blank, exporter, 2, DEFAULT_MAX_BODY);
     let SimpleParts {
         processor,
         mut passes,
-    } = made.expect(&rt, "a processor");
+    } = make::<J, _, R, Global>(rt, alloc, blank, exporter, 2, DEFAULT_MAX_BODY);
     let mut last = passes.pop().expect(&rt, "a pass");
     let mut pass = passes.pop().expect(&rt, "another pass");
-    let mut span = sampled(&rt, alloc);
-    assert_equal(&rt, span.end(&mut pass, END), Ended::Handed(0));
-    assert_equal(&rt, span.end(&mut pass, END), Ended::AlreadyEnded);
-    let mut dropped = root(&rt, alloc, AlwaysOff, "");
-    assert_equal(&rt, dropped.end(&mut pass, END), Ended::NotSampled);
+    end_otherwise(&rt, alloc, &mut pass);
     for _ in 0..2u32 {
         assert_equal(&rt, last.shutdown(), Flushed);
-        assert_equal(&rt, sampled(&rt, alloc).end(&mut pass, END), Ended::Late);
+        assert_equal(&rt, end(&rt, alloc, &mut pass), Ended::Late);
     }
     assert_equal(&rt, pass.pop_entry(), None);
     passes.push(pass).expect(&rt, "memory");
-    let missing = processor.close_out(passes).err();
+    let missing = close_out(processor, passes).err();
     let SimpleMissing {
         processor,
         mut passes,
     } = missing.expect(&rt, "a pass is missing");
     assert_equal(&rt, passes.len(), 1);
     passes.push(last).expect(&rt, "memory");
-    let accounts = processor.close_out(passes).ok();
-    let accounts = accounts.expect(&rt, "all passes are there");
+    let accounts = close(rt, processor, passes);
     let want = Totals {
         accepted: 1,
         taken: 1,
@@ -179,17 +184,15 @@ fn end_within<J: Naming, R: Wait + Abort + Copy>(
     requires { blank ≡ J.name }
 {
     let exporter = exporter(&rt, alloc, &[]);
-    let made = SimpleProcessor::<J, _, R>::new(alloc, rt, blank, exporter, 1, max_body);
     let SimpleParts {
         processor,
         mut passes,
-    } = made.expect(&rt, "a processor");
+    } = make::<J, _, R, Global>(rt, alloc, blank, exporter, 1, max_body);
     let mut pass = passes.pop().expect(&rt, "a pass");
-    let answer = sampled(&rt, alloc).end(&mut pass, END);
+    let answer = end(&rt, alloc, &mut pass);
     let named = pass.pop_entry();
     passes.push(pass).expect(&rt, "memory");
-    let accounts = processor.close_out(passes).ok();
-    let totals = accounts.expect(&rt, "all passes are there").totals;
+    let totals = close(rt, processor, passes).totals;
     (answer, named, (totals.handed, totals.dropped.too_large))
 }
 
@@ -218,7 +221,7 @@ fn count_passes<J: Naming, R: Wait + Abort + Copy>(
     requires { blank ≡ J.name }
 {
     let exporter = exporter(&rt, alloc, &[]);
-    let parts = SimpleProcessor::<J, _, R>::new(
+    let parts = neighbors::make::<J, _, R, Global>(
         alloc,
         rt,
         blank,
@@ -241,6 +244,6 @@ fn a_processor_has_1_to_64_passes(rt: HostRuntime) {
         let count = count_passes::<Brand, HostRuntime>(rt, rt.alloc(), blank, passes);
         assert_equal(&rt, count, want);
     }
-    let told = format!(in rt.alloc(); "{}", SimpleFault::BadPasses).expect(&rt, "memory");
-    assert_equal(&rt, told.as_str(), "a processor has 1 to 64 passes");
+    let fault = SimpleFault::BadPasses;
+    assert_told(&rt, rt.alloc(), &fault, "a processor has 1 to 64 passes");
 }

@@ -1,9 +1,19 @@
-//! What the tests of the simple processor compare.
+//! How the tests of the simple processor make, lead and close out a processor, and what they
+//! compare.
+ghost use Rattle.std.specs.Prelude.{◌≡◌};
+
 use crate::equal::assert_equal;
+use crate::fixture::{END, sampled};
+use crate::simple::neighbors;
 use retry_core::Outcome;
-use span_exporter::Handed;
+use simple_processor::{
+    Naming, SimpleAccounts, SimpleBlank, SimpleParts, SimplePass, SimpleProcessor,
+};
+use span_exporter::{Exporter, Handed};
 use std::alloc::Allocator;
 use std::process::Abort;
+use std::sync::Wait;
+use trace_api::Ended;
 
 /// The body of a request with one such span as the tests start, which has ended at `END`.
 const BODY: &str = concat!(
@@ -29,4 +39,51 @@ pub(crate) fn assert_handed<A: Allocator + Copy>(
         assert_equal(rt, attempt.outcome, *outcome);
         assert_equal(rt, body.as_str(), BODY);
     }
+}
+
+/// A processor that is made with ample memory.
+pub(crate) fn make<J, E, R, A>(
+    rt: R,
+    alloc: A,
+    blank: SimpleBlank,
+    exporter: E,
+    passes: usize,
+    max_body: usize,
+) -> SimpleParts<J, E, R, A>
+where
+    J: Naming,
+    E: Exporter + Drop,
+    R: Wait + Abort + Copy,
+    A: Allocator + Copy,
+    requires { blank ≡ J.name }
+{
+    let made = neighbors::make::<J, E, R, A>(alloc, rt, blank, exporter, passes, max_body);
+    made.expect(&rt, "a processor")
+}
+
+/// How a span is answered that is sampled and ends on a pass.
+pub(crate) fn end<J, E, R, A>(rt: &R, alloc: A, pass: &mut SimplePass<J, E, R, A>) -> Ended
+where
+    J: Naming,
+    E: Exporter,
+    R: Wait + Abort,
+    A: Allocator + Copy,
+{
+    sampled(rt, alloc).end(pass, END)
+}
+
+/// What a processor comes to whose passes are all back.
+pub(crate) fn close<J, E, R, A>(
+    rt: R,
+    processor: SimpleProcessor<J, E, R, A>,
+    passes: Vec<SimplePass<J, E, R, A>, A>,
+) -> SimpleAccounts<E, A>
+where
+    J: Naming,
+    E: Exporter + Drop,
+    R: Wait + Abort + Copy,
+    A: Allocator + Copy,
+{
+    let accounts = neighbors::close_out(processor, passes).ok();
+    accounts.expect(&rt, "all passes are there")
 }

@@ -3,10 +3,11 @@ ghost use Rattle.std.specs.Prelude.{◌≡◌};
 
 use crate::equal::assert_equal;
 use crate::fixture::{END, sampled};
+use crate::simple::fixture::{close, make};
 use otlp_ids::OutOfMemory;
 use otlp_proto::DEFAULT_MAX_BODY;
 use retry_core::Outcome;
-use simple_processor::{Flushed, Naming, SimpleBlank, SimpleParts, SimplePass, SimpleProcessor};
+use simple_processor::{Flushed, Naming, SimpleBlank, SimpleParts, SimplePass};
 use span_exporter::Exporter;
 use std::alloc::Global;
 use std::marker::Brand;
@@ -100,11 +101,10 @@ where
         prepared: (0, 0),
         flushed: false,
     };
-    let made = SimpleProcessor::<J, _, R>::new(alloc, rt, blank, exporter, 2, DEFAULT_MAX_BODY);
     let SimpleParts {
         processor,
         mut passes,
-    } = made.expect(&rt, "a processor");
+    } = make::<J, _, R, Global>(rt, alloc, blank, exporter, 2, DEFAULT_MAX_BODY);
     let mut pass = passes.pop().expect(&rt, "a pass");
     let other = start(rt, alloc, passes.pop().expect(&rt, "another pass"));
     for _ in rt.forever() {
@@ -117,8 +117,7 @@ where
     stage.store(FLUSHED, Ordering::SeqCst);
     passes.push(pass).expect(&rt, "memory");
     passes.push(other.join(&rt)).expect(&rt, "memory");
-    let accounts = processor.close_out(passes).ok();
-    let accounts = accounts.expect(&rt, "all passes are there");
+    let accounts = close(rt, processor, passes);
     assert!(rt; !accounts.exporter.flushed, "flushed within an export");
     assert_equal(&rt, accounts.exporter.prepared, (70_071, 1));
 }

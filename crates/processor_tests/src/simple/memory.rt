@@ -2,14 +2,14 @@
 ghost use Rattle.std.specs.Prelude.{◌≡◌};
 
 use crate::equal::{assert_equal, assert_equal_at};
-use crate::fixture::{END, entry, sampled};
+use crate::fixture::entry;
+use crate::simple::fixture::{close, end};
+use crate::simple::neighbors;
 use failing_allocator::FailingAllocator;
 use linked_list_allocator::LocalHeap;
 use otlp_proto::DEFAULT_MAX_BODY;
 use otlp_span::Reason;
-use simple_processor::{
-    Naming, SimpleBlank, SimpleFault, SimpleParts, SimplePass, SimpleProcessor,
-};
+use simple_processor::{Naming, SimpleBlank, SimpleFault, SimpleParts, SimplePass};
 use span_exporter::MemoryExporter;
 use std::alloc::Allocator;
 use std::marker::Brand;
@@ -36,8 +36,7 @@ fn end_two<J: Naming, R: Wait + Abort + Copy, A: Allocator + Copy>(
 ) -> Refused {
     let mut refused = Refused::Nothing;
     for ticket in 0..2u64 {
-        let mut span = sampled(&rt, ample);
-        let answer = span.end(pass, END);
+        let answer = end(&rt, ample, pass);
         if answer != Ended::Handed(ticket) {
             assert_equal(&rt, answer, Ended::Dropped(ticket, Reason::EncodeMemory));
             assert_equal(&rt, refused, Refused::Nothing);
@@ -62,7 +61,7 @@ fn end_scarce<J: Naming, R: Wait + Abort + Copy, A: Allocator + Copy>(
     let SimpleParts {
         processor,
         mut passes,
-    } = match SimpleProcessor::<J, _, R, A>::new(scarce, rt, blank, exporter, 2, DEFAULT_MAX_BODY) {
+    } = match neighbors::make::<J, _, R, A>(scarce, rt, blank, exporter, 2, DEFAULT_MAX_BODY) {
         Ok(parts) => parts,
         Err(fault) => {
             assert_equal(&rt, fault, SimpleFault::OutOfMemory);
@@ -80,8 +79,7 @@ fn end_scarce<J: Naming, R: Wait + Abort + Copy, A: Allocator + Copy>(
         assert_equal(&rt, pass.pop_entry(), None);
     }
     passes.push(pass).expect(&rt, "room for a pass");
-    let accounts = processor.close_out(passes).ok();
-    let accounts = accounts.expect(&rt, "all passes are there");
+    let accounts = close(rt, processor, passes);
     let (handed, dropped) = if named.is_some() { (1, 1) } else { (2, 0) };
     assert_equal(&rt, accounts.totals.dropped.encode_memory, dropped);
     assert_equal(&rt, accounts.totals.handed, handed);

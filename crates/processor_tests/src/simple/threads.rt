@@ -2,11 +2,11 @@
 ghost use Rattle.std.specs.Prelude.{◌≡◌};
 
 use crate::equal::assert_equal;
-use crate::fixture::{END, exporter, sampled};
+use crate::fixture::exporter;
+use crate::simple::fixture::{close, end, make};
+use crate::simple::neighbors::close_out;
 use otlp_proto::DEFAULT_MAX_BODY;
-use simple_processor::{
-    Flushed, Naming, SimpleBlank, SimpleMissing, SimpleParts, SimplePass, SimpleProcessor,
-};
+use simple_processor::{Flushed, Naming, SimpleBlank, SimpleMissing, SimpleParts, SimplePass};
 use span_exporter::MemoryExporter;
 use std::alloc::Global;
 use std::marker::Brand;
@@ -32,8 +32,8 @@ where
 {
     let started = thread::spawn(&rt, move || -> SimplePass<J, MemoryExporter, R> {
         for _ in 0..SPANS {
-            let mut span = sampled(&rt, alloc);
-            assert!(rt; matches!(span.end(&mut pass, END), Ended::Handed(_)));
+            let answer = end(&rt, alloc, &mut pass);
+            assert_equal(&rt, matches!(answer, Ended::Handed(_)), true);
         }
         pass
     });
@@ -70,37 +70,36 @@ where
     requires { blank ≡ J.name }
 {
     let exporter = exporter(&rt, alloc, &[]);
-    let made = SimpleProcessor::<J, _, R>::new(
-        alloc,
+    let SimpleParts { processor, passes } = make::<J, _, R, Global>(
         rt,
+        alloc,
         blank,
         exporter,
         THREADS,
         DEFAULT_MAX_BODY,
     );
-    let SimpleParts { processor, passes } = made.expect(&rt, "a processor");
     let mut passes = run_threads(rt, alloc, passes);
     let mut last = passes.pop().expect(&rt, "a pass");
     assert_equal(&rt, last.shutdown(), Flushed);
     let mut other = passes.pop().expect(&rt, "another pass");
-    assert_equal(&rt, sampled(&rt, alloc).end(&mut other, END), Ended::Late);
+    assert_equal(&rt, end(&rt, alloc, &mut other), Ended::Late);
     passes.push(other).expect(&rt, "memory");
-    let missing = processor.close_out(passes).err();
+    let missing = close_out(processor, passes).err();
     let SimpleMissing {
         processor,
         mut passes,
     } = missing.expect(&rt, "a pass is missing");
     assert_equal(&rt, passes.len(), THREADS - 1);
     passes.push(last).expect(&rt, "memory");
-    let accounts = processor.close_out(passes).ok();
-    let accounts = accounts.expect(&rt, "all passes are there");
+    let accounts = close(rt, processor, passes);
     assert_equal(&rt, accounts.exporter.handed().len(), 400);
     assert_equal(
         &rt,
         (accounts.totals.handed, accounts.totals.late),
         (400, 1),
     );
-    assert!(rt; accounts.totals.closed && accounts.ledger.is_empty());
+    let (closed, names) = (accounts.totals.closed, accounts.ledger.len());
+    assert_equal(&rt, (closed, names), (true, 0));
 }
 
 #[test]
