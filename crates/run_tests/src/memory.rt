@@ -139,7 +139,7 @@ fn assert_accounted<A: Allocator + Copy>(
 
 /// Asserts that the spans of a run are accounted for, and its answers where no step is refused, and
 /// answers how many are.
-fn count_told<A: Allocator + Copy>(
+fn count_answered<A: Allocator + Copy>(
     rt: &impl Abort,
     ample: A,
     told: &Told<A>,
@@ -154,19 +154,30 @@ fn count_told<A: Allocator + Copy>(
     refused
 }
 
+/// How many refusals were told of a run, whose spans are accounted for.
+fn count_told<A: Allocator + Copy>(
+    rt: &impl Abort,
+    ample: A,
+    told: &Result<Told<A>, OutOfMemory>,
+    handed: &[Handed<A>],
+) -> usize {
+    match told {
+        Ok(told) => count_answered(rt, ample, told, handed),
+        Err(OutOfMemory) => {
+            assert_equal(rt, handed.len(), 0);
+            1
+        }
+    }
+}
+
 /// Runs the program on scarce memory, and answers how many refusals were told.
 fn run_scarce<A: Allocator + Copy>(rt: &impl Abort, ample: A, scarce: A) -> usize {
     let mut exporter = exporter(rt, ample, scarce, &[Outcome::Partial(1)]);
     let config = config(rt, ample, AlwaysOn, desk(2, 1), roots(rt, ample, 4));
     let steps = steps(rt, ample, PROGRAM);
     let memory = (ample, scarce);
-    match run_steps(rt, memory, config, steps.as_slice(), &mut exporter) {
-        Ok(told) => count_told(rt, ample, &told, exporter.handed()),
-        Err(OutOfMemory) => {
-            assert_equal(rt, exporter.handed().len(), 0);
-            1
-        }
-    }
+    let told = run_steps(rt, memory, config, steps.as_slice(), &mut exporter);
+    count_told(rt, ample, &told, exporter.handed())
 }
 
 /// More calls for memory than the run makes.

@@ -285,6 +285,24 @@ fn assert_accounted<A: Allocator>(
     assert_equal_at(rt, found.len(), book.ended.len(), runs.seed);
 }
 
+/// Asserts what is told of a run: nothing was handed where there was no memory for it.
+fn assert_told<A: Allocator>(
+    rt: &impl Abort,
+    alloc: Global,
+    steps: &[Step<A>],
+    told: &Result<Told<A>, OutOfMemory>,
+    far_side: &FarSide<RandomWires>,
+    runs: &mut Runs,
+) {
+    match told {
+        Ok(told) => assert_accounted(rt, alloc, steps, told, far_side, runs),
+        Err(OutOfMemory) => {
+            runs.count(Event::RunRefused);
+            assert_equal(rt, far_side.attempts.len(), 0);
+        }
+    }
+}
+
 /// Runs a program on scarce memory, and asserts that its spans are accounted for.
 fn run_random<A: Allocator + Copy>(
     rt: &impl Abort,
@@ -296,13 +314,8 @@ fn run_random<A: Allocator + Copy>(
     let steps = random_steps(rt, ample, runs.seed, STEPS);
     let config = random_config(rt, ample, &mut Pcg32::new(runs.seed, 3));
     let mut far_side = FarSide::new(rt, alloc, RandomWires::new(alloc, runs.seed));
-    match run_steps(rt, memory, config, steps.as_slice(), &mut far_side) {
-        Ok(told) => assert_accounted(rt, alloc, steps.as_slice(), &told, &far_side, runs),
-        Err(OutOfMemory) => {
-            runs.count(Event::RunRefused);
-            assert_equal(rt, far_side.attempts.len(), 0);
-        }
-    }
+    let told = run_steps(rt, memory, config, steps.as_slice(), &mut far_side);
+    assert_told(rt, alloc, steps.as_slice(), &told, &far_side, runs);
 }
 
 /// Makes a run on memory that is refused up to three times, at random calls.
