@@ -151,7 +151,7 @@ fn a_batch_of_thousands_is_named(rt: HostRuntime) {
     let named = into_named(&rt, batch, Reason::Abandoned, 0..MANY);
     desk.drop_named(&rt, named);
     desk.assert_ledger(&rt, MANY, Some(&name(MANY - 1, Reason::Abandoned)));
-    assert_equal(&rt, desk.totals().dropped.abandoned, MANY);
+    assert_equal(&rt, desk.desk.ledger().count(Reason::Abandoned), MANY);
     for number in (0..MANY).rev() {
         desk.pop(&rt, Some(name(number, Reason::Abandoned)));
     }

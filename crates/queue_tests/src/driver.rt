@@ -1,5 +1,5 @@
-//! Desks that are driven by hand. Each call of a desk stands in one function, which compares what is
-//! so at each such call.
+//! Desks that are driven by hand. Each call of a desk stands in one function, which compares what
+//! is so at each such call.
 use crate::equal::assert_equal;
 use crate::spans::{Spans, name};
 use batch_desk::{Admitted, Batch, Desk, DeskConfig, Mark, NamedBatch, Totals};

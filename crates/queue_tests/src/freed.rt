@@ -18,8 +18,8 @@ fn a_cleared_batch_is_settled(rt: HostRuntime) {
     batch.clear();
     assert_equal(&rt, (batch.number(), batch.spans().len()), (1, 0));
     desk.settle(&rt, batch, Fate::Delivered);
+    desk.assert_waiting(&rt, 1, false);
     let totals = desk.totals();
-    assert_equal(&rt, totals.left, 1);
     assert_equal(&rt, totals.handed, 2);
     assert_equal(&rt, totals.fates.delivered, 1);
     desk.assert_ledger(&rt, 0, None);
@@ -156,25 +156,41 @@ fn settle_next<A: Allocator + Copy>(
     assert_equal(rt, heap.used() < used, true);
 }
 
-/// On this heap the calls that a lock is held for neither take nor free memory.
+/// Fills a desk with room for two spans, and then drops its first batch, of so many.
+fn fill_and_drop<A: Allocator + Copy>(
+    rt: &impl Abort,
+    heap: &LocalHeap,
+    desk: &mut Driver<A>,
+    count: u64,
+) {
+    offer(rt, heap, desk, 0, Admitted::Queued(0));
+    offer(rt, heap, desk, 1, Admitted::Queued(1));
+    offer(rt, heap, desk, 2, Admitted::Full(2));
+    desk.assert_waiting(rt, 2, false);
+    desk.assert_ledger(rt, 1, Some(&name(2, Reason::QueueFull)));
+    drop_next(rt, heap, desk, count);
+}
+
+/// On this heap the calls that a lock is held for neither take nor free memory. In the end so many
+/// spans wait, and the one that was dropped last has this number.
 fn hold_nothing_up<A: Allocator + Copy>(
     rt: &impl Abort,
     alloc: A,
     heap: &LocalHeap,
     config: DeskConfig,
-) -> Driver<A> {
+    waiting: usize,
+    newest: u64,
+) {
     let mut desk = Driver::new(rt, alloc, config);
-    offer(rt, heap, &mut desk, 0, Admitted::Queued(0));
-    offer(rt, heap, &mut desk, 1, Admitted::Queued(1));
-    offer(rt, heap, &mut desk, 2, Admitted::Full(2));
-    desk.assert_waiting(rt, 2, false);
-    desk.assert_ledger(rt, 1, Some(&name(2, Reason::QueueFull)));
-    drop_next(rt, heap, &mut desk, config.batch as u64);
+    fill_and_drop(rt, heap, &mut desk, config.batch as u64);
     offer(rt, heap, &mut desk, 3, Admitted::Queued(3));
     desk.shutdown();
     offer(rt, heap, &mut desk, 4, Admitted::Late);
     settle_next(rt, heap, &mut desk, alloc);
-    desk
+    desk.assert_waiting(rt, waiting, true);
+    let names = newest.saturating_add(2);
+    desk.assert_ledger(rt, names, Some(&name(newest, Reason::TooLarge)));
+    assert_equal(rt, desk.totals().late, 1);
 }
 
 #[test]
@@ -186,11 +202,7 @@ fn no_call_under_a_lock_takes_or_frees_memory(rt: HostRuntime) {
             batch,
             delay_ms,
         };
-        let mut desk = hold_nothing_up(&rt, &heap, &heap, config);
-        desk.assert_waiting(&rt, waiting, true);
-        desk.assert_ledger(&rt, newest + 2, Some(&name(newest, Reason::TooLarge)));
-        assert_equal(&rt, desk.totals().late, 1);
-        drop(desk);
+        hold_nothing_up(&rt, &heap, &heap, config, waiting, newest);
         assert_equal(&rt, heap.used(), 0);
     }
 }

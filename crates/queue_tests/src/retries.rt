@@ -59,6 +59,8 @@ fn waits_double_up_to_the_greatest_and_words_shorten_them(rt: HostRuntime) {
         (3, Outcome::NoReply, 0, 1, 3_999_000_000),
         (4, Outcome::NoReply, 0, 4000, 4_000_000_000),
         (4, Outcome::NoReply, 0, 4001, 8_000_000_000),
+        // Moments stop at the last one.
+        (1, Outcome::NoReply, 18_446_744_073_709_551_000, 0, u64::MAX),
     ];
     assert_again(&rt, &RetryConfig::default(), &rows);
     let rows = [
@@ -84,7 +86,6 @@ fn collectors_are_waited_for_as_they_ask(rt: HostRuntime) {
         (1, date, 784_111_777_000_000_001, 9, 784_111_777_000_000_001),
         (1, last_date, 5, 9, 300_000_000_005),
         // Moments stop at the last one.
-        (1, Outcome::NoReply, 18_446_744_073_709_551_000, 0, u64::MAX),
         (1, seconds(1), u64::MAX, 0, u64::MAX),
         (1, last_date, u64::MAX, 0, u64::MAX),
     ];
