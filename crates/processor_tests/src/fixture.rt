@@ -2,14 +2,14 @@
 use crate::equal::assert_equal;
 use otlp_ids::{SpanContext, SpanId, TraceId};
 use otlp_sampler::{AlwaysOn, Sampler};
-use otlp_span::{Entry, Kind, Reason, Resource, Scope, SpanLimits};
+use otlp_span::{Entry, Kind, Reason, Resource, Scope, SpanData, SpanLimits};
 use retry_core::Outcome;
 use span_exporter::MemoryExporter;
 use std::alloc::{Allocator, Global};
 use std::fmt::Display;
 use std::process::Abort;
 use std::sync::Arc;
-use trace_api::{Provider, Span};
+use trace_api::{EndPass, Ended, Provider, Span};
 use words_rng::WordsRng;
 
 /// The words of the identifiers of each span.
@@ -57,6 +57,38 @@ pub(crate) fn root<S: Sampler + Drop, A: Allocator + Copy>(
 /// Starts a root that is sampled.
 pub(crate) fn sampled<A: Allocator + Copy>(rt: &impl Abort, alloc: A) -> Span<A> {
     root(rt, alloc, AlwaysOn, "")
+}
+
+/// How a root is answered that ends on a pass, which this sampler decides on, of a resource with
+/// this schema.
+pub(crate) fn end_in<S: Sampler + Drop, A: Allocator + Copy, P: EndPass<SpanData<A>>>(
+    rt: &impl Abort,
+    alloc: A,
+    sampler: S,
+    schema: &str,
+    pass: &mut P,
+) -> Ended {
+    root(rt, alloc, sampler, schema).end(pass, END)
+}
+
+/// How a root is answered that is sampled and ends on a pass.
+pub(crate) fn end<A: Allocator + Copy, P: EndPass<SpanData<A>>>(
+    rt: &impl Abort,
+    alloc: A,
+    pass: &mut P,
+) -> Ended {
+    end_in(rt, alloc, AlwaysOn, "", pass)
+}
+
+/// Ends a root that is sampled twice on a pass.
+pub(crate) fn end_twice<A: Allocator + Copy, P: EndPass<SpanData<A>>>(
+    rt: &impl Abort,
+    alloc: A,
+    pass: &mut P,
+) -> (Ended, Ended) {
+    let mut span = sampled(rt, alloc);
+    let first = span.end(pass, END);
+    (first, span.end(pass, END))
 }
 
 /// The name of such a span, dropped under this ticket for this reason.

@@ -2,8 +2,9 @@
 ghost use Rattle.std.specs.Prelude.{◌≡◌};
 ghost use Rattle.batch_processor.specs.Working.{IsPrepared};
 
-use crate::batch::fixture::{Left, close, config, end, make};
+use crate::batch::fixture::{Left, close, config, make};
 use crate::equal::assert_equal;
+use crate::fixture::end;
 use batch_processor::{
     BatchBlank, Flushed, ManualClock, Naming, Parts, Pass, WorkEnd, WorkerLeft, WorkerPass,
 };

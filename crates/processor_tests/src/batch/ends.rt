@@ -1,11 +1,11 @@
 //! Spans that end while no batch is sent, and processors that are made and closed out.
 ghost use Rattle.std.specs.Prelude.{◌≡◌};
 
-use crate::batch::fixture::{close, config, end, make, queue};
+use crate::batch::fixture::{close, config, make, queue};
 use crate::batch::neighbors;
 use crate::batch::neighbors::close_out;
 use crate::equal::{assert_equal, assert_equal_at};
-use crate::fixture::{END, assert_told, entry, root, sampled};
+use crate::fixture::{assert_told, end, end_in, end_twice, entry};
 use batch_desk::Totals;
 use batch_processor::{
     BatchBlank, BatchConfig, Flushed, MAX_PASSES, Missing, Naming, NewFault, Parts, Pass,
@@ -59,13 +59,12 @@ fn pops(rt: HostRuntime) {
 
 /// Ends a span that is dropped, asks for all and shuts down, and ends a span twice behind that.
 fn end_late<J: Naming, R: Wait + Abort>(rt: &R, alloc: Global, pass: &mut Pass<J, R>) {
-    let mut dropped = root(rt, alloc, AlwaysOff, "");
-    assert_equal(rt, dropped.end(pass, END), Ended::NotSampled);
+    let dropped = end_in(rt, alloc, AlwaysOff, "", pass);
+    assert_equal(rt, dropped, Ended::NotSampled);
     assert_equal(rt, pass.force_flush(), Ok(Flushed));
     assert_equal(rt, pass.shutdown(), Ok(Flushed));
-    let mut span = sampled(rt, alloc);
-    assert_equal(rt, span.end(pass, END), Ended::Late);
-    assert_equal(rt, span.end(pass, END), Ended::AlreadyEnded);
+    let twice = end_twice(rt, alloc, pass);
+    assert_equal(rt, twice, (Ended::Late, Ended::AlreadyEnded));
 }
 
 /// Nothing was queued, so a shutdown waits for nothing, and the span that ends behind it is late.

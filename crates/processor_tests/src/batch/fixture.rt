@@ -5,12 +5,11 @@ ghost use Rattle.batch_processor.specs.Working.{IsPrepared};
 
 use crate::batch::neighbors;
 use crate::equal::assert_equal;
-use crate::fixture::{END, entry, root};
+use crate::fixture::{end, entry};
 use batch_desk::{DeskConfig, Totals};
 use batch_processor::{
     BatchBlank, BatchConfig, BatchProcessor, ManualClock, Naming, Parts, Pass, WorkEnd, WorkerPass,
 };
-use otlp_sampler::AlwaysOn;
 use otlp_span::{Entry, Reason};
 use otlp_wire::{Field, Fields, Payload};
 use span_exporter::{Exporter, Handed};
@@ -119,25 +118,6 @@ pub(crate) fn make<J: Naming, R: Wait + Abort + Copy, A: Allocator + Copy>(
 {
     let made = neighbors::make::<J, R, A>(alloc, rt, blank, config, passes, now);
     made.expect(&rt, "a processor")
-}
-
-/// How a span is answered that is sampled, of a resource with this schema, and ends on a pass.
-pub(crate) fn end_in<J: Naming, R: Wait + Abort, A: Allocator + Copy>(
-    rt: &R,
-    alloc: A,
-    schema: &str,
-    pass: &mut Pass<J, R, A>,
-) -> Ended {
-    root(rt, alloc, AlwaysOn, schema).end(pass, END)
-}
-
-/// The same of a resource without a schema.
-pub(crate) fn end<J: Naming, R: Wait + Abort, A: Allocator + Copy>(
-    rt: &R,
-    alloc: A,
-    pass: &mut Pass<J, R, A>,
-) -> Ended {
-    end_in(rt, alloc, "", pass)
 }
 
 /// So many spans end on the first pass. Each is queued, from this ticket on.

@@ -2,9 +2,9 @@
 ghost use Rattle.std.specs.Prelude.{◌≡◌};
 
 use crate::batch::carry::{ASKING, LOOKS, Task, do_first, is_reached};
-use crate::batch::fixture::{Left, SECOND, assert_named, close, config, end, make, queue, work};
+use crate::batch::fixture::{Left, SECOND, assert_named, close, config, make, queue, work};
 use crate::equal::{assert_equal, assert_equal_at};
-use crate::fixture::exporter;
+use crate::fixture::{end, exporter};
 use batch_desk::Totals;
 use batch_processor::{BatchBlank, Flushed, Naming, Parts, Pass, WorkerLeft, WorkerPass};
 use otlp_span::Reason;

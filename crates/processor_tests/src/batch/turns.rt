@@ -3,15 +3,15 @@ ghost use Rattle.std.specs.Prelude.{◌≡◌};
 ghost use Rattle.batch_processor.specs.Working.{IsPrepared};
 
 use crate::batch::fixture::{
-    Left, SECOND, assert_named, close, config, count_body, count_spans, end, end_in, make, queue,
-    work,
+    Left, SECOND, assert_named, close, config, count_body, count_spans, make, queue, work,
 };
 use crate::batch::neighbors::close_out;
 use crate::equal::{assert_equal, assert_equal_at};
-use crate::fixture::{entry, exporter};
+use crate::fixture::{end, end_in, entry, exporter};
 use batch_processor::{
     BatchBlank, BatchConfig, BatchProcessor, Clock, Naming, Parts, Pass, WorkEnd, WorkerPass,
 };
+use otlp_sampler::AlwaysOn;
 use otlp_span::Reason;
 use retry_core::{Outcome, RetryAfter};
 use span_exporter::{Exporter, Handed, MemoryExporter};
@@ -152,7 +152,8 @@ fn end_spans<J: Naming, R: Wait + Abort>(
     let mut ticket = 0u64;
     for _ in 0..job.spans {
         for schema in job.schemas {
-            assert_equal(rt, end_in(rt, alloc, schema, pass), Ended::Queued(ticket));
+            let answer = end_in(rt, alloc, AlwaysOn, schema, pass);
+            assert_equal(rt, answer, Ended::Queued(ticket));
             ticket = ticket.saturating_add(1);
         }
     }
@@ -198,36 +199,63 @@ where
     (close(rt, alloc, processor, passes, worker), exporter)
 }
 
+/// Does a job with a processor of its own.
+fn run_job<R: Wait + Abort + time::Clock + Copy>(
+    rt: R,
+    alloc: Global,
+    job: &Job<'_>,
+) -> (Left, MemoryExporter) {
+    do_job::<Brand, R>(rt, alloc, BatchBlank::new(), job)
+}
+
+/// Sends 800 spans, three in a batch, in so many calls of the worker, for so many turns each time.
+fn send_800<R: Wait + Abort + time::Clock + Copy>(
+    rt: R,
+    alloc: Global,
+    calls: u32,
+    turns: u64,
+) -> (Left, MemoryExporter) {
+    let job = Job {
+        config: config(800, 3),
+        schemas: &[""],
+        spans: 800,
+        calls,
+        turns,
+        outcomes: &[
+            LATER,
+            Outcome::NoReply,
+            Outcome::Partial(1),
+            Outcome::Refused(400),
+            Outcome::Bad,
+        ],
+    };
+    run_job(rt, alloc, &job)
+}
+
 #[test]
 fn one_turn_at_a_time_sends_the_same(rt: HostRuntime) {
-    let outcomes = [
-        LATER,
-        Outcome::NoReply,
-        Outcome::Partial(1),
-        Outcome::Refused(400),
-        Outcome::Bad,
-    ];
-    let mut done = Vec::new(rt.alloc());
-    for (calls, turns) in [(1, 1000), (1000, 1)] {
-        let job = Job {
-            config: config(800, 3),
-            schemas: &[""],
-            spans: 800,
-            calls,
-            turns,
-            outcomes: &outcomes,
-        };
-        let blank = BatchBlank::new();
-        let sent = do_job::<Brand, HostRuntime>(rt, rt.alloc(), blank, &job);
-        done.push(sent).expect(&rt, "memory");
-    }
-    let (singly, one_by_one) = done.pop().expect(&rt, "the second job");
-    let (at_once, all) = done.pop().expect(&rt, "the first job");
+    let (at_once, all) = send_800(rt, rt.alloc(), 1, 1000);
+    let (singly, one_by_one) = send_800(rt, rt.alloc(), 1000, 1);
     assert_equal(&rt, singly.totals, at_once.totals);
-    assert!(rt; one_by_one.handed() == all.handed(), "other batches");
+    assert_equal(&rt, one_by_one.handed() == all.handed(), true);
     // The first batch takes 8 turns, for three attempts, and each other one 4.
     assert_equal(&rt, all.handed().len(), 251);
     assert_equal(&rt, count_spans(&rt, rt.alloc(), all.handed()), 747);
+}
+
+/// Asserts that these batches were sent, told by their numbers and by how many resources and how
+/// many spans are in their bodies.
+fn assert_sent(
+    rt: &impl Abort,
+    alloc: Global,
+    handed: &[Handed],
+    batches: &[(u64, (usize, usize))],
+) {
+    assert_equal(rt, handed.len(), batches.len());
+    for (attempt, (number, counts)) in handed.iter().zip(batches) {
+        assert_equal(rt, attempt.number, *number);
+        assert_equal(rt, count_body(rt, alloc, attempt.body.as_slice()), *counts);
+    }
 }
 
 /// How a batch of two spans ends that is in hand behind so many turns.
@@ -242,8 +270,7 @@ fn a_batch_in_hand_is_abandoned(rt: HostRuntime) {
             turns,
             outcomes: &[LATER],
         };
-        let blank = BatchBlank::new();
-        let (left, exporter) = do_job::<Brand, HostRuntime>(rt, rt.alloc(), blank, &job);
+        let (left, exporter) = run_job(rt, rt.alloc(), &job);
         let totals = left.totals;
         assert_equal_at(&rt, exporter.handed().len(), attempts, turns);
         assert_equal_at(&rt, totals.dropped.abandoned, abandoned, turns);
@@ -269,8 +296,7 @@ fn a_body_above_the_greatest_is_not_sent(rt: HostRuntime) {
             turns: 4,
             outcomes: &[],
         };
-        let blank = BatchBlank::new();
-        let (left, exporter) = do_job::<Brand, HostRuntime>(rt, rt.alloc(), blank, &job);
+        let (left, exporter) = run_job(rt, rt.alloc(), &job);
         let dropped = 1u64.saturating_sub(handed);
         assert_equal_at(&rt, exporter.handed().len() as u64, handed, max_body);
         assert_equal_at(&rt, left.totals.fates.delivered, handed, max_body);
@@ -293,8 +319,7 @@ fn the_batch_behind_one_that_is_too_large_is_sent(rt: HostRuntime) {
         turns: 6,
         outcomes: &[],
     };
-    let blank = BatchBlank::new();
-    let (left, exporter) = do_job::<Brand, HostRuntime>(rt, rt.alloc(), blank, &job);
+    let (left, exporter) = run_job(rt, rt.alloc(), &job);
     let totals = left.totals;
     assert_equal(
         &rt,
@@ -302,8 +327,7 @@ fn the_batch_behind_one_that_is_too_large_is_sent(rt: HostRuntime) {
         (1, 1),
     );
     assert_named(&rt, left.names.as_slice(), 1, 0, Reason::TooLarge);
-    assert_eq!(rt; exporter.handed().len(), 1);
-    assert_equal(&rt, exporter.handed()[0].number, 2);
+    assert_sent(&rt, rt.alloc(), exporter.handed(), &[(2, (1, 1))]);
 }
 
 #[test]
@@ -316,12 +340,9 @@ fn two_providers_feed_one_processor(rt: HostRuntime) {
         turns: 4,
         outcomes: &[],
     };
-    let blank = BatchBlank::new();
-    let (left, exporter) = do_job::<Brand, HostRuntime>(rt, rt.alloc(), blank, &job);
+    let (left, exporter) = run_job(rt, rt.alloc(), &job);
     assert_equal(&rt, left.totals.fates.delivered, 1);
-    assert_eq!(rt; exporter.handed().len(), 1);
-    let body = exporter.handed()[0].body.as_slice();
-    assert_equal(&rt, count_body(&rt, rt.alloc(), body), (2, 6));
+    assert_sent(&rt, rt.alloc(), exporter.handed(), &[(1, (2, 6))]);
 }
 
 #[test]
@@ -334,14 +355,12 @@ fn large_batches_are_sent_whole(rt: HostRuntime) {
         turns: 8,
         outcomes: &[],
     };
-    let blank = BatchBlank::new();
-    let (left, exporter) = do_job::<Brand, HostRuntime>(rt, rt.alloc(), blank, &job);
+    let (left, exporter) = run_job(rt, rt.alloc(), &job);
     let totals = left.totals;
     assert_equal(&rt, (totals.handed, totals.fates.delivered), (4096, 2));
-    assert_equal(&rt, exporter.handed().len(), 2);
+    let batches = [(1, (1, 2048)), (2, (1, 2048))];
+    assert_sent(&rt, rt.alloc(), exporter.handed(), &batches);
     for attempt in exporter.handed() {
-        let body = attempt.body.as_slice();
-        assert_equal(&rt, body.len() > 65_536, true);
-        assert_equal(&rt, count_body(&rt, rt.alloc(), body), (1, 2048));
+        assert_equal(&rt, attempt.body.len() > 65_536, true);
     }
 }

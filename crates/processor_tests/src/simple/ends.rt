@@ -2,8 +2,8 @@
 ghost use Rattle.std.specs.Prelude.{◌≡◌};
 
 use crate::equal::{assert_equal, assert_equal_at};
-use crate::fixture::{END, assert_told, entry, exporter, root, sampled};
-use crate::simple::fixture::{assert_handed, close, end, make};
+use crate::fixture::{assert_told, end, end_in, end_twice, entry, exporter};
+use crate::simple::fixture::{assert_handed, close, make};
 use crate::simple::neighbors;
 use crate::simple::neighbors::close_out;
 use batch_desk::{FateCounts, Totals};
@@ -12,9 +12,8 @@ use otlp_sampler::AlwaysOff;
 use otlp_span::{Entry, Reason};
 use retry_core::Outcome;
 use simple_processor::{
-    Flushed, MAX_PASSES, Naming, SimpleBlank, SimpleFault, SimpleMissing, SimpleParts, SimplePass,
+    Flushed, MAX_PASSES, Naming, SimpleBlank, SimpleFault, SimpleMissing, SimpleParts,
 };
-use span_exporter::MemoryExporter;
 use std::alloc::Global;
 use std::fmt::Debug;
 use std::marker::Brand;
@@ -113,19 +112,6 @@ fn a_processor_writes_how_many_passes_it_has(rt: HostRuntime) {
     write_parts::<Brand, HostRuntime>(rt, rt.alloc(), SimpleBlank::default());
 }
 
-/// Ends a span twice, and one that isn't sampled.
-fn end_otherwise<J: Naming, R: Wait + Abort>(
-    rt: &R,
-    alloc: Global,
-    pass: &mut SimplePass<J, MemoryExporter, R>,
-) {
-    let mut span = sampled(rt, alloc);
-    assert_equal(rt, span.end(pass, END), Ended::Handed(0));
-    assert_equal(rt, span.end(pass, END), Ended::AlreadyEnded);
-    let mut dropped = root(rt, alloc, AlwaysOff, "");
-    assert_equal(rt, dropped.end(pass, END), Ended::NotSampled);
-}
-
 /// Ends spans before and after a shutdown by the other pass, one that isn't sampled, and one twice.
 /// With a pass missing, all is given back.
 fn shut_down<J: Naming, R: Wait + Abort + Copy>(rt: R, alloc: Global, blank: SimpleBlank)
@@ -138,7 +124,10 @@ fn shut_down<J: Naming, R: Wait + Abort + Copy>(rt: R, alloc: Global, blank: Sim
     } = make::<J, _, R, Global>(rt, alloc, blank, exporter, 2, DEFAULT_MAX_BODY);
     let mut last = passes.pop().expect(&rt, "a pass");
     let mut pass = passes.pop().expect(&rt, "another pass");
-    end_otherwise(&rt, alloc, &mut pass);
+    let twice = end_twice(&rt, alloc, &mut pass);
+    assert_equal(&rt, twice, (Ended::Handed(0), Ended::AlreadyEnded));
+    let dropped = end_in(&rt, alloc, AlwaysOff, "", &mut pass);
+    assert_equal(&rt, dropped, Ended::NotSampled);
     for _ in 0..2u32 {
         assert_equal(&rt, last.shutdown(), Flushed);
         assert_equal(&rt, end(&rt, alloc, &mut pass), Ended::Late);

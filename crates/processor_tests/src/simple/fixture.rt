@@ -1,9 +1,7 @@
-//! How the tests of the simple processor make, lead and close out a processor, and what they
-//! compare.
+//! How the tests of the simple processor make and close out a processor, and what they compare.
 ghost use Rattle.std.specs.Prelude.{◌≡◌};
 
 use crate::equal::assert_equal;
-use crate::fixture::{END, sampled};
 use crate::simple::neighbors;
 use retry_core::Outcome;
 use simple_processor::{
@@ -13,7 +11,6 @@ use span_exporter::{Exporter, Handed};
 use std::alloc::Allocator;
 use std::process::Abort;
 use std::sync::Wait;
-use trace_api::Ended;
 
 /// The body of a request with one such span as the tests start, which has ended at `END`.
 const BODY: &str = concat!(
@@ -59,17 +56,6 @@ where
 {
     let made = neighbors::make::<J, E, R, A>(alloc, rt, blank, exporter, passes, max_body);
     made.expect(&rt, "a processor")
-}
-
-/// How a span is answered that is sampled and ends on a pass.
-pub(crate) fn end<J, E, R, A>(rt: &R, alloc: A, pass: &mut SimplePass<J, E, R, A>) -> Ended
-where
-    J: Naming,
-    E: Exporter,
-    R: Wait + Abort,
-    A: Allocator + Copy,
-{
-    sampled(rt, alloc).end(pass, END)
 }
 
 /// What a processor comes to whose passes are all back.

@@ -2,8 +2,8 @@
 ghost use Rattle.std.specs.Prelude.{◌≡◌};
 
 use crate::equal::{assert_equal, assert_equal_at};
-use crate::fixture::entry;
-use crate::simple::fixture::{close, end};
+use crate::fixture::{end, entry};
+use crate::simple::fixture::close;
 use crate::simple::neighbors;
 use failing_allocator::FailingAllocator;
 use linked_list_allocator::LocalHeap;

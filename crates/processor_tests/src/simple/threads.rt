@@ -2,8 +2,8 @@
 ghost use Rattle.std.specs.Prelude.{◌≡◌};
 
 use crate::equal::assert_equal;
-use crate::fixture::exporter;
-use crate::simple::fixture::{close, end, make};
+use crate::fixture::{end, exporter};
+use crate::simple::fixture::{close, make};
 use crate::simple::neighbors::close_out;
 use otlp_proto::DEFAULT_MAX_BODY;
 use simple_processor::{Flushed, Naming, SimpleBlank, SimpleMissing, SimpleParts, SimplePass};
