@@ -24,7 +24,8 @@ pub(crate) fn make<J: Naming, R: Wait + Copy, A: Allocator + Copy>(
     now: u64,
 ) -> Result<Parts<J, R, A>, NewFault>
     requires { blank ≡ J.name }
-    ensures count { IfOk result (λ parts. parts.processor.passes ≤ vec_len parts.passes) }
+    ensures count { IfOk result (λ parts. parts.processor.passes ≡ passes) }
+    ensures passes { IfOk result (λ parts. vec_len parts.passes ≡ passes) }
     ensures worker { IfOk result (λ parts. (room : ℕ → ℕ) → IsPrepared room parts.worker) }
 {
     BatchProcessor::<J, R, A>::new(alloc, rt, blank, config, passes, now)

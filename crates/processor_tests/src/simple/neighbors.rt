@@ -25,7 +25,8 @@ pub(crate) fn make<J: Naming, E: Exporter + Drop, R: Wait + Copy, A: Allocator +
     max_body: usize,
 ) -> Result<SimpleParts<J, E, R, A>, SimpleFault>
     requires { blank ≡ J.name }
-    ensures { IfOk result (λ parts. parts.processor.passes ≤ vec_len parts.passes) }
+    ensures count { IfOk result (λ parts. parts.processor.passes ≡ passes) }
+    ensures passes { IfOk result (λ parts. vec_len parts.passes ≡ passes) }
 {
     SimpleProcessor::<J, E, R, A>::new(alloc, rt, blank, exporter, passes, max_body)
 }
