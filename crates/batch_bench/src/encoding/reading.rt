@@ -1,5 +1,5 @@
 //! Bodies that are read.
-use crate::figures::{Tenths, time_each};
+use crate::encoding::figures::{Tenths, time_each};
 use anyhow::Result;
 use linked_list_allocator::LocalHeap;
 use otlp_read::read_request;

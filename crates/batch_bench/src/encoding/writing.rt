@@ -1,5 +1,5 @@
 //! Batches that are grouped and encoded, and bodies that are copied.
-use crate::figures::{Tenths, time_each, with_byte};
+use crate::encoding::figures::{Tenths, time_each, with_byte};
 use anyhow::Result;
 use otlp_proto::encode;
 use otlp_span::SpanData;

@@ -1,8 +1,8 @@
 //! What is printed.
-use crate::batches::{Shape, batch};
-use crate::figures::Tenths;
-use crate::reading::{empty_resources, memory_of, time_reading};
-use crate::writing::{time_copying, time_encoding, time_grouping};
+use crate::encoding::batches::{Shape, batch};
+use crate::encoding::figures::Tenths;
+use crate::encoding::reading::{empty_resources, memory_of, time_reading};
+use crate::encoding::writing::{time_copying, time_encoding, time_grouping};
 use anyhow::Result;
 use otlp_proto::{body_of, encode};
 use otlp_span::SpanData;
