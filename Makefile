@@ -14,6 +14,8 @@ test: docs ## The gate: documents, every proof from nothing, wrong bodies, tests
 	tools/wrong-bodies
 	tools/wrong-bodies-test
 	tools/runs
+	tools/collector-runs
+	tools/demo-runs
 	tools/wont-compile
 
 docs: ## Compare the documents with the sources
