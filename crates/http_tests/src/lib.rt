@@ -1,5 +1,5 @@
-//! Tests of `http_wire`, `otlp_http`, `http_exporter`, `otlp_serve` and `otlp_collector` over
-//! public calls alone. The crate has no items of its own.
+//! Tests of `http_wire`, `otlp_http`, `http_exporter`, `otlp_serve`, `otlp_collector` and
+//! `collector_program` over public calls alone. The crate has no items of its own.
 #![tactic(auto)]
 
 #[cfg(test)]
