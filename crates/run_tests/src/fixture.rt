@@ -53,15 +53,12 @@ pub(crate) fn words<A: Allocator>(rt: &impl Abort, alloc: A, words: &[u64]) -> W
     WordsRng::new(Vec::from_slice(alloc, words).expect(rt, "memory"))
 }
 
-/// A generator from which so many roots draw `TRACE` and each its `span_id`.
-pub(crate) fn roots<A: Allocator>(rt: &impl Abort, alloc: A, count: u64) -> WordsRng<A> {
-    let mut words = Vec::new(alloc);
-    for number in 0..count {
-        for word in [ONES, ONES, number.wrapping_add(1)] {
-            words.push(word).expect(rt, "memory");
-        }
-    }
-    WordsRng::new(words)
+/// The words of three roots, which draw `TRACE` and each its `span_id`, and of another span.
+const WORDS: [u64; 10] = [ONES, ONES, 1, ONES, ONES, 2, ONES, ONES, 3, ONES];
+
+/// A generator of these words.
+pub(crate) fn roots<A: Allocator>(rt: &impl Abort, alloc: A) -> WordsRng<A> {
+    words(rt, alloc, &WORDS)
 }
 
 // ---- steps and answers in short
@@ -74,20 +71,13 @@ pub(crate) type Row = (Do, Gives);
 pub(crate) enum Do {
     /// A root starts.
     Root,
-    /// A root starts in the scope of this number.
-    RootIn(u32),
-    /// A child of the span with this number starts.
-    Child(u32),
     /// A child of a sampled span of elsewhere starts, which has a trace state.
     RemoteChild,
     /// An attribute of this key is set on the span with this number.
     Set(u32, &'static str),
-    /// The span with this number gets another name.
-    Rename(u32),
     /// The span with this number ends at this moment.
     End(u32, u64),
     Flush,
-    Shutdown,
     Take(u64),
     Encode,
     /// An attempt at this moment.
@@ -118,9 +108,9 @@ pub(crate) enum Gives {
 }
 
 /// The start of a span.
-fn start<A: Allocator>(rt: &impl Abort, alloc: A, scope: u32, parent: Parent<A>) -> Step<A> {
+fn start<A: Allocator>(rt: &impl Abort, alloc: A, parent: Parent<A>) -> Step<A> {
     Step::Start {
-        scope,
+        scope: 0,
         parent,
         kind: Kind::Internal,
         at: 1,
@@ -146,21 +136,17 @@ fn call<A: Allocator>(span: u32, call: SpanCall<A>) -> Step<A> {
 
 pub(crate) fn step<A: Allocator + Copy>(rt: &impl Abort, alloc: A, short: Do) -> Step<A> {
     match short {
-        Do::Root => start(rt, alloc, 0, Parent::Root),
-        Do::RootIn(scope) => start(rt, alloc, scope, Parent::Root),
-        Do::Child(parent) => start(rt, alloc, 0, Parent::Span(parent)),
+        Do::Root => start(rt, alloc, Parent::Root),
         Do::RemoteChild => {
             let parent = elsewhere(rt, alloc, TraceFlags::SAMPLED);
-            start(rt, alloc, 0, parent)
+            start(rt, alloc, parent)
         }
         Do::Set(span, key) => {
             let key = text(rt, alloc, key);
             call(span, SpanCall::SetAttribute(key, Value::Int(1)))
         }
-        Do::Rename(span) => call(span, SpanCall::UpdateName(text(rt, alloc, "x"))),
         Do::End(span, at) => call(span, SpanCall::End(at)),
         Do::Flush => Step::Flush,
-        Do::Shutdown => Step::Shutdown,
         Do::Take(at) => Step::Take { at },
         Do::Encode => Step::Encode,
         Do::Attempt(at) => Step::Attempt { at },
@@ -199,15 +185,6 @@ pub(crate) fn steps<A: Allocator + Copy>(
         steps.push(step(rt, alloc, *short)).expect(rt, "memory");
     }
     steps
-}
-
-/// The answers to a program.
-pub(crate) fn answers<A: Allocator>(rt: &impl Abort, alloc: A, program: &[Row]) -> Vec<Answer, A> {
-    let mut answers = Vec::new(alloc);
-    for (_, short) in program {
-        answers.push(answer(*short)).expect(rt, "memory");
-    }
-    answers
 }
 
 // ---- what a run has, and what it tells
@@ -257,7 +234,7 @@ pub(crate) fn exporter<A: Allocator + Copy>(
 }
 
 /// What a report leaves.
-#[derive(Clone, Copy, Debug, PartialEq)]
+#[derive(Clone, Copy)]
 pub(crate) struct Left {
     /// The number of the batch that is out, and how many spans it has.
     pub(crate) batch: Option<(u64, usize)>,
@@ -270,6 +247,18 @@ pub(crate) struct Left {
     /// What is abandoned when the report is closed: spans that weren't handed, and batches that
     /// were. But for these, the counts stay as they are.
     pub(crate) abandoned: (u64, u64),
+}
+
+/// Asserts that a report leaves this.
+pub(crate) fn assert_left(rt: &impl Abort, found: &Left, wanted: &Left) {
+    assert_equal(rt, found.batch, wanted.batch);
+    assert_equal(rt, found.out, wanted.out);
+    assert_equal(
+        rt,
+        (found.waiting, found.late),
+        (wanted.waiting, wanted.late),
+    );
+    assert_equal(rt, found.abandoned, wanted.abandoned);
 }
 
 /// What a run answered, and what its report tells.
@@ -317,12 +306,10 @@ fn drop_waiting<A: Allocator>(rt: &impl Abort, alloc: A, desk: &mut Desk<A>) -> 
 
 /// What a report leaves, before it is closed.
 fn before<A: Allocator>(report: &RunReport<A>, totals: Totals) -> Left {
-    let batch = match report.out() {
-        Some(batch) => Some((batch.number(), batch.spans().len())),
-        None => None,
-    };
     Left {
-        batch,
+        batch: report
+            .out()
+            .map(|batch| (batch.number(), batch.spans().len())),
         out: report.desk().out(),
         waiting: totals.left,
         late: totals.late,
@@ -381,12 +368,12 @@ pub(crate) fn run_steps<S: Sampler + Drop, E: Exporter, A: Allocator + Copy>(
     }
 }
 
-/// Asserts that the answers are those of the program of this name.
-pub(crate) fn assert_answers(rt: &impl Abort, answers: &[Answer], program: &[Row], name: &str) {
-    assert_equal_at(rt, answers.len(), program.len(), name);
+/// Asserts that the answers are those of a program.
+pub(crate) fn assert_answers(rt: &impl Abort, answers: &[Answer], program: &[Row]) {
+    assert_equal(rt, answers.len(), program.len());
     for (place, (_, short)) in program.iter().enumerate() {
         let wanted = answer(*short);
-        assert_equal_at(rt, answers.get(place), Some(&wanted), (name, place));
+        assert_equal_at(rt, answers.get(place), Some(&wanted), place);
     }
 }
 

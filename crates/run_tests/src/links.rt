@@ -1,9 +1,11 @@
 //! Runs whose batches are posted over links that a dial hands out, and that fail (OTLP
 //! Specification, "OTLP/HTTP Response").
-use crate::cases::assert_done;
 use crate::equal::{assert_equal, assert_equal_at};
 use crate::far_side::{FarSide, target};
-use crate::fixture::{BODY, Do, Gives, Row, SECOND, config, desk, roots};
+use crate::fixture::{
+    BODY, Do, Gives, Left, Row, SECOND, assert_answers, assert_left, config, desk, roots,
+    run_steps, steps,
+};
 use http_exporter::{Dial, LinkExporter};
 use otlp_http::{FailingCalls, FailingWire};
 use otlp_sampler::AlwaysOn;
@@ -82,10 +84,24 @@ fn program(rt: &impl Abort, alloc: Global, attempts: &[(Outcome, Next)]) -> Vec<
     program
 }
 
+/// No batch is out, no span waits, and none was late.
+const NOTHING_LEFT: Left = Left {
+    batch: None,
+    out: None,
+    waiting: 0,
+    late: 0,
+    abandoned: (0, 0),
+};
+
 /// Runs such a program over this exporter, and asserts its answers, and that nothing is left.
 fn assert_run<E: Exporter>(rt: &impl Abort, alloc: Global, exporter: &mut E, program: &[Row]) {
-    let config = config(rt, alloc, AlwaysOn, desk(1, 1), roots(rt, alloc, 1));
-    assert_done(rt, alloc, config, exporter, program, "posts over links");
+    let config = config(rt, alloc, AlwaysOn, desk(1, 1), roots(rt, alloc));
+    let steps = steps(rt, alloc, program);
+    let told = run_steps(rt, (alloc, alloc), config, steps.as_slice(), exporter);
+    let told = told.expect(rt, "memory");
+    assert_answers(rt, told.answers.as_slice(), program);
+    assert_left(rt, &told.left, &NOTHING_LEFT);
+    assert_equal(rt, told.names.len(), 0);
 }
 
 /// Asserts what comes of these links, the last one first, which are handed out anew for each

@@ -1,7 +1,8 @@
 //! Runs to which memory is refused once, at each place in turn.
 use crate::equal::{assert_equal, assert_equal_at};
 use crate::fixture::{
-    Do, Gives, Refusals, Row, Told, assert_answers, config, desk, exporter, roots, run_steps, steps,
+    Do, Gives, Left, Refusals, Row, TRACE, Told, assert_answers, assert_left, config, desk,
+    exporter, roots, run_steps, span_id, steps,
 };
 use failing_allocator::FailingAllocator;
 use linked_list_allocator::LocalHeap;
@@ -137,8 +138,33 @@ fn assert_accounted<A: Allocator + Copy>(
     }
 }
 
-/// Asserts that the spans of a run are accounted for, and its answers where no step is refused, and
-/// answers how many are.
+/// What is left where no memory is refused: the second batch is out, and the span of elsewhere
+/// waits.
+const LEFT: Left = Left {
+    batch: Some((2, 1)),
+    out: Some((2, false)),
+    waiting: 1,
+    late: 0,
+    abandoned: (1, 0),
+};
+
+/// Asserts what is answered and left where no memory is refused. The batch that is out ends with the
+/// report: it was not handed, so its span is the newest that is named.
+fn assert_whole<A: Allocator>(rt: &impl Abort, told: &Told<A>) {
+    assert_answers(rt, told.answers.as_slice(), PROGRAM);
+    assert_left(rt, &told.left, &LEFT);
+    let names = [(1, Reason::Abandoned), (2, Reason::QueueFull)];
+    let names = names.map(|(ticket, reason)| Entry {
+        trace: TRACE,
+        span: span_id(ticket),
+        ticket,
+        reason,
+    });
+    assert_equal(rt, told.names.as_slice(), names.as_slice());
+}
+
+/// Asserts that the spans of a run are accounted for, and all that is told where no step is refused,
+/// and answers how many are.
 fn count_answered<A: Allocator + Copy>(
     rt: &impl Abort,
     ample: A,
@@ -146,10 +172,9 @@ fn count_answered<A: Allocator + Copy>(
     handed: &[Handed<A>],
 ) -> usize {
     assert_accounted(rt, ample, told, handed);
-    let answers = told.answers.as_slice();
-    let refused = count_refused(answers);
+    let refused = count_refused(told.answers.as_slice());
     if refused == 0 {
-        assert_answers(rt, answers, PROGRAM, "no step is refused");
+        assert_whole(rt, told);
     }
     refused
 }
@@ -173,7 +198,7 @@ fn count_told<A: Allocator + Copy>(
 /// Runs the program on scarce memory, and answers how many refusals were told.
 fn run_scarce<A: Allocator + Copy>(rt: &impl Abort, ample: A, scarce: A) -> usize {
     let mut exporter = exporter(rt, ample, scarce, &[Outcome::Partial(1)]);
-    let config = config(rt, ample, AlwaysOn, desk(2, 1), roots(rt, ample, 4));
+    let config = config(rt, ample, AlwaysOn, desk(2, 1), roots(rt, ample));
     let steps = steps(rt, ample, PROGRAM);
     let memory = (ample, scarce);
     let told = run_steps(rt, memory, config, steps.as_slice(), &mut exporter);

@@ -1,7 +1,7 @@
 //! Whole runs in which memory, wires, replies and clocks fail at random.
 use crate::equal::{assert_equal, assert_equal_at};
 use crate::far_side::{Attempt, FarSide, RandomWires, add_spans};
-use crate::fixture::{Told, run_steps};
+use crate::fixture::{Left, Told, run_steps};
 use crate::random_programs::{below, random_config, random_steps};
 use failing_allocator::FailingAllocator;
 use linked_list_allocator::LocalHeap;
@@ -33,6 +33,7 @@ enum Event {
     Late,
     TooLarge,
     Abandoned,
+    BatchAbandoned,
     LeftInQueue,
     Delivered,
     Partial,
@@ -49,7 +50,7 @@ enum Event {
 }
 
 /// How many kinds of events there are.
-const EVENTS: usize = 23;
+const EVENTS: usize = 24;
 
 /// The seed of the run that is under way, and how often each event came in all of them.
 #[derive(Drop)]
@@ -241,11 +242,25 @@ fn count_attempts(rt: &impl Abort, attempts: &[Attempt], runs: &mut Runs) {
     }
 }
 
+/// What is abandoned when a report is closed that leaves this: the spans of the batch that is out, or
+/// the batch itself where it was handed.
+fn abandoned_with(left: &Left) -> (u64, u64) {
+    match (left.batch, left.out) {
+        (Some((_, spans)), Some((_, false))) => (spans as u64, 0),
+        (Some(_), Some((_, true))) => (0, 1),
+        _ => (0, 0),
+    }
+}
+
 /// Adds the spans that a report leaves: those that are named, and those that wait.
 fn add_left<A: Allocator>(rt: &impl Abort, told: &Told<A>, found: &mut Vec<u64>, runs: &mut Runs) {
-    let (abandoned, _) = told.left.abandoned;
-    if abandoned > 0 {
+    assert_equal(rt, told.left.abandoned, abandoned_with(&told.left));
+    let (spans, batches) = told.left.abandoned;
+    if spans > 0 {
         runs.count(Event::Abandoned);
+    }
+    if batches > 0 {
+        runs.count(Event::BatchAbandoned);
     }
     if !told.waiting.is_empty() {
         runs.count(Event::LeftInQueue);

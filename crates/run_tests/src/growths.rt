@@ -1,11 +1,31 @@
-//! Runs of the program to which memory is refused once, at each place in turn.
-
+//! The program `trace-script` where memory is refused to it once, at each place in turn.
 use crate::equal::{assert_equal, assert_equal_at};
-use crate::program::{Printed, run};
 use failing_allocator::FailingAllocator;
 use linked_list_allocator::LocalHeap;
-use std::alloc::Global;
+use script_program::script;
+use std::alloc::{Allocator, Global};
 use std::process::Abort;
+
+/// What the program answers and prints.
+#[derive(Drop)]
+struct Printed {
+    status: u8,
+    output: Vec<u8>,
+    faults: Vec<u8>,
+}
+
+/// Runs a script on this memory, or answers its body.
+fn run<A: Allocator + Copy>(alloc: Global, memory: A, text: &str, body: bool) -> Printed {
+    let mut output = Vec::new(alloc);
+    let mut faults = Vec::new(alloc);
+    let mut input = text.as_bytes();
+    let status = script(memory, &mut input, &mut output, &mut faults, body);
+    Printed {
+        status,
+        output,
+        faults,
+    }
+}
 
 /// A history of a span with an attribute and its child, whose batch is sent twice, since the first
 /// attempt has no reply.
@@ -174,7 +194,7 @@ fn count_of(told: &[Refused], wanted: Refused) -> usize {
     told.iter().filter(|refused| **refused == wanted).count()
 }
 
-/// More calls for memory than there are.
+/// More calls for memory than each of these scripts makes.
 const MOST: u64 = 110;
 
 #[test]
@@ -207,4 +227,93 @@ fn each_growth_of_a_run_is_refused_in_turn(rt: HostRuntime) {
     }
     assert_equal(&rt, count_of(told.as_slice(), Refused::Program) > 20, true);
     assert_equal(&rt, count_of(told.as_slice(), Refused::Encoding) > 10, true);
+}
+
+// ---- scripts that are printed whole, or not at all
+
+/// A line of each kind that takes memory while it is read. No span ends.
+const LINES: &str = "words 0102030405060708 090a0b0c0d0e0f10 1112131415161718
+resource k T:a,b
+scope 0 s v u
+sattr 0 k t:v
+scope 1 t v u
+sattr 1 l I:1,2
+attr 0 k I:1,2
+event 0 1 e k B:true l I:1,2
+exception 0 1 T M S k t:x
+link 7 0102030405060708090a0b0c0d0e0f10 1112131415161718 aB k=v:w a i:1
+status 0 error x
+name 0 b
+end 0 2
+answer delivered
+flush
+start 0 root server 1 a
+start 0 remote:0102030405060708090A0b0c0d0e0f10:1112131415161718:aB:k=v:w client 2 b
+";
+
+/// Two spans with these words, whose body this is.
+const TWO_SPANS: &str = "words 0102030405060708 090a0b0c0d0e0f10 1112131415161718 2122232425262728
+scope 0 s % %
+start 0 root internal 1 a
+start 0 0 internal 1 b
+end 0 2
+end 1 2
+";
+
+const TWO_SPANS_BODY: &str = concat!(
+    "0a7d0a0012790a030a0173",
+    "12330a100102030405060708090a0b0c0d0e0f1012081112131415161718",
+    "2a01613001390100000000000000410200000000000000",
+    "123d0a100102030405060708090a0b0c0d0e0f10120821222324252627282208111213141516",
+    "17182a01623001390100000000000000410200000000000000\n",
+);
+
+/// A span that isn't sampled, whose start and calls take no memory.
+const NOT_SAMPLED: &str = "words 0102030405060708 090a0b0c0d0e0f10 1112131415161718
+sampler off
+scope 0 s % %
+start 0 root internal 1 a
+attr 0 k t:v
+name 0 b
+end 0 2
+";
+
+const NOT_SAMPLED_RUN: &str = "start 0 0102030405060708090a0b0c0d0e0f10 1112131415161718
+call 0 ok
+call 0 ok
+end 0 not-sampled
+queued 0
+late 0
+";
+
+/// Runs a script, each time with another call for memory refused, until none is left. It prints this,
+/// or it is told that memory was refused, which happens so often or more.
+fn assert_refused(rt: &impl Abort, alloc: Global, script: (&str, bool), wanted: &str, least: u64) {
+    let (text, body) = script;
+    let heap = LocalHeap::new(alloc, 400_000).expect(rt, "memory");
+    let mut refused = 0u64;
+    let mut has_failed = true;
+    for fail_index in 0..MOST {
+        let scarce = FailingAllocator::new(&heap, fail_index);
+        let printed = run(alloc, &scarce, text, body);
+        has_failed = scarce.has_failed();
+        let mut told = (0, wanted, "");
+        if has_failed && printed.status == 3 {
+            refused = refused.saturating_add(1);
+            told = (3, "", "out of memory\n");
+        }
+        let (status, output, faults) = told;
+        assert_equal_at(rt, printed.output.as_slice(), output.as_bytes(), fail_index);
+        assert_equal_at(rt, printed.faults.as_slice(), faults.as_bytes(), fail_index);
+        assert_equal_at(rt, (printed.status, heap.used()), (status, 0), fail_index);
+    }
+    assert_equal_at(rt, (has_failed, refused >= least), (false, true), refused);
+}
+
+#[test]
+fn each_growth_of_a_script_is_refused_in_turn(rt: HostRuntime) {
+    let alloc = rt.alloc();
+    assert_refused(&rt, alloc, (LINES, true), "\n", 40);
+    assert_refused(&rt, alloc, (TWO_SPANS, true), TWO_SPANS_BODY, 20);
+    assert_refused(&rt, alloc, (NOT_SAMPLED, false), NOT_SAMPLED_RUN, 10);
 }
