@@ -31,7 +31,7 @@ const SIZE: usize = 191;
 const REPLY: &[u8] = b"HTTP/1.1 200 OK\r\nContent-Length: 7\r\n\r\n\x0a\x05\x08\x02\x12\x01\x78";
 
 /// What the reply says.
-const REJECTED: (Outcome, Next) = (Outcome::Partial(2), Next::Partial(2));
+const REJECTED: Attempted = (Outcome::Partial(2), Next::Partial(2));
 
 /// A link, or none: how many bytes it gives and takes a call, and which calls fail.
 type Link = Option<(usize, FailingCalls)>;
@@ -61,25 +61,43 @@ fn listed(rt: &impl Abort, alloc: Global, links: &[Link]) -> ListedLinks {
     ListedLinks { alloc, links }
 }
 
+/// A span ends, and its batch is encoded.
+const ENCODED: &[Row] = &[
+    (Do::Root, Gives::Started(0)),
+    (Do::End(0, 2), Gives::Queued(0)),
+    (Do::Take(0), Gives::Taken(1, 1)),
+    (Do::Encode, Gives::Encoded(1, 64)),
+];
+
+/// What comes of an attempt, and what follows.
+type Attempted = (Outcome, Next);
+
+/// The rows of the attempt of this number at this moment.
+fn attempt(at: u64, number: u32, attempted: Attempted) -> [Row; 2] {
+    let (outcome, next) = attempted;
+    [
+        (Do::Attempt(at), Gives::Sent(1, number, outcome)),
+        (Do::Reply(at, 0), Gives::Replied(1, next)),
+    ]
+}
+
+/// The moment of the attempt behind one at this moment.
+fn moment_behind(at: u64, next: Next) -> u64 {
+    match next {
+        Next::Again(moment) => moment,
+        _ => at,
+    }
+}
+
 /// A program of a span whose attempts have these outcomes, each at the moment that was told before.
-fn program(rt: &impl Abort, alloc: Global, attempts: &[(Outcome, Next)]) -> Vec<Row> {
-    let first = [
-        (Do::Root, Gives::Started(0)),
-        (Do::End(0, 2), Gives::Queued(0)),
-        (Do::Take(0), Gives::Taken(1, 1)),
-        (Do::Encode, Gives::Encoded(1, 64)),
-    ];
-    let mut program = Vec::from_slice(alloc, &first).expect(rt, "memory");
-    let (mut at, mut number) = (0, 0u32);
-    for (outcome, next) in attempts {
+fn program(rt: &impl Abort, alloc: Global, attempts: &[Attempted]) -> Vec<Row> {
+    let mut program = Vec::from_slice(alloc, ENCODED).expect(rt, "memory");
+    let (mut at, mut number) = (0, 1u32);
+    for attempted in attempts {
+        let rows = attempt(at, number, *attempted);
+        program.extend_from_slice(&rows).expect(rt, "memory");
+        at = moment_behind(at, attempted.1);
         number = number.wrapping_add(1);
-        let sent = (Do::Attempt(at), Gives::Sent(1, number, *outcome));
-        program.push(sent).expect(rt, "memory");
-        let replied = (Do::Reply(at, 0), Gives::Replied(1, *next));
-        program.push(replied).expect(rt, "memory");
-        if let Next::Again(moment) = next {
-            at = *moment;
-        }
     }
     program
 }
@@ -111,7 +129,7 @@ fn assert_posts(
     rt: &impl Abort,
     alloc: Global,
     links: &[Link],
-    attempts: &[(Outcome, Next)],
+    attempts: &[Attempted],
     sizes: &[Option<usize>],
 ) {
     let program = program(rt, alloc, attempts);

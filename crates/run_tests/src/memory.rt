@@ -50,22 +50,38 @@ const PROGRAM: &[Row] = &[
 /// A ticket, and the identifier of the span that has it.
 type Ticket = (u64, SpanId);
 
+/// The identifier of the span that a step asks for, or zeros where none started.
+fn asked_for(step: &Do, answer: &Answer) -> Option<SpanId> {
+    match (step, answer) {
+        (_, Answer::Started { span, .. }) => Some(*span),
+        (Do::Root | Do::RemoteChild, _) => Some(SpanId([0; 8])),
+        _ => None,
+    }
+}
+
+/// The number of the span that a step ends, and the ticket that this gives.
+fn ended_with(step: &Do, answer: &Answer) -> Option<(u32, u64)> {
+    let (Do::End(span, _), Answer::Ended(ended)) = (step, answer) else {
+        return None;
+    };
+    match ended {
+        Ended::Queued(ticket) | Ended::Dropped(ticket, _) => Some((*span, *ticket)),
+        _ => None,
+    }
+}
+
 /// The tickets that these answers give.
 fn tickets<A: Allocator + Copy>(rt: &impl Abort, alloc: A, answers: &[Answer]) -> Vec<Ticket, A> {
     let mut spans = Vec::new(alloc);
     let mut tickets = Vec::new(alloc);
-    for ((short, _), answer) in PROGRAM.iter().zip(answers) {
-        match (short, answer) {
-            (_, Answer::Started { span, .. }) => spans.push(*span).expect(rt, "memory"),
-            (Do::Root | Do::RemoteChild, _) => spans.push(SpanId([0; 8])).expect(rt, "memory"),
-            (Do::End(span, _), Answer::Ended(Ended::Queued(ticket) | Ended::Dropped(ticket, _))) =>
-                {
-                    let span = spans
-                        .get(*span as usize)
-                        .expect(rt, "a span that has started");
-                    tickets.push((*ticket, *span)).expect(rt, "memory");
-                }
-            _ => {}
+    for ((step, _), answer) in PROGRAM.iter().zip(answers) {
+        if let Some(span) = asked_for(step, answer) {
+            spans.push(span).expect(rt, "memory");
+        }
+        if let Some((span, ticket)) = ended_with(step, answer) {
+            let span = spans.get(span as usize).copied();
+            let span = span.expect(rt, "a span that has started");
+            tickets.push((ticket, span)).expect(rt, "memory");
         }
     }
     tickets
