@@ -1,6 +1,7 @@
 //! Comparisons, each a call of a function of its own: `assert_eq!` in its place is proved with the
 //! body that it stands in, which takes ten times as long.
-use std::fmt::Debug;
+use std::alloc::Allocator;
+use std::fmt::{Debug, Display};
 use std::process::Abort;
 
 /// Asserts that two values are equal.
@@ -15,4 +16,26 @@ where
     P: Debug + Drop,
 {
     assert_eq!(rt; left, right, "at {place:?}");
+}
+
+/// Asserts what `Debug` shows.
+pub(crate) fn assert_shown<A: Allocator>(
+    rt: &impl Abort,
+    alloc: A,
+    shown: &impl Debug,
+    text: &str,
+) {
+    let told = format!(in alloc; "{shown:?}").expect(rt, "memory");
+    assert_equal(rt, told.as_str(), text);
+}
+
+/// Asserts what `Display` tells.
+pub(crate) fn assert_told<A: Allocator>(
+    rt: &impl Abort,
+    alloc: A,
+    told: &impl Display,
+    text: &str,
+) {
+    let told = format!(in alloc; "{told}").expect(rt, "memory");
+    assert_equal(rt, told.as_str(), text);
 }

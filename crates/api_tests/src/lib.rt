@@ -4,23 +4,17 @@
 #![tactic(auto)]
 
 #[cfg(test)]
-mod all_calls;
-#[cfg(test)]
 mod allocator;
 #[cfg(test)]
 mod calls;
+#[cfg(test)]
+mod copies;
 #[cfg(test)]
 mod equal;
 #[cfg(test)]
 mod ids;
 #[cfg(test)]
-mod memory;
-#[cfg(test)]
-mod parts;
-#[cfg(test)]
 mod refusals;
-#[cfg(test)]
-mod replays;
 #[cfg(test)]
 mod samplers;
 #[cfg(test)]

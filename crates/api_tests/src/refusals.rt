@@ -1,13 +1,15 @@
-//! Starts of spans, and calls on them, to which memory is refused once, at each place in turn.
-use crate::all_calls::pairs;
-use crate::calls::assert_kept;
+//! Starts of spans, calls on them, and replays of such calls, to which memory is refused once, at
+//! each place in turn.
+use crate::calls::{assert_called, assert_kept};
 use crate::equal::{assert_equal, assert_equal_at};
-use crate::spans::{CALLS, END, START, WORDS, call, context, provider, scope, start, text, words};
+use crate::spans::{
+    CALLS, END, START, WORDS, call, context, limits, opening, provider, scope, start, words,
+};
 use failing_allocator::FailingAllocator;
 use linked_list_allocator::LocalHeap;
 use otlp_ids::OutOfMemory;
 use otlp_sampler::AlwaysOn;
-use otlp_span::{Kind, SpanCall};
+use otlp_span::{Kind, SpanCall, replay};
 use rand_core::Rng;
 use std::alloc::{Allocator, Global};
 use std::process::Abort;
@@ -25,22 +27,6 @@ enum Way {
 /// All that a span has, written.
 fn shown<A: Allocator + Copy>(rt: &impl Abort, alloc: A, span: &Span<A>) -> String<A> {
     format!(in alloc; "{span:?}").expect(rt, "memory")
-}
-
-/// A call by its number, as `call` gives it; an event and a link have an attribute.
-fn rich_call<A: Allocator + Copy>(rt: &impl Abort, alloc: A, number: u32) -> SpanCall<A> {
-    match number {
-        1 => SpanCall::AddEvent {
-            name: text(rt, alloc, "x"),
-            timestamp: 5,
-            attributes: pairs(rt, alloc, "k", "long"),
-        },
-        3 => SpanCall::AddLink {
-            span_context: context(rt, alloc, 1),
-            attributes: pairs(rt, alloc, "k", "long"),
-        },
-        _ => call(rt, alloc, number),
-    }
 }
 
 /// Makes a call by the method of its name. None of these is an end.
@@ -83,12 +69,12 @@ fn make_call<A: Allocator + Copy>(
     number: u32,
     way: Way,
 ) -> Result<(), OutOfMemory> {
-    let call = rich_call(rt, ample, number);
+    let made = call(rt, ample, number);
     match way {
-        Way::Names => call_by_name(span, call),
+        Way::Names => call_by_name(span, made),
         Way::Values => {
             let mut pass = BodyPass::new(ample, 0).expect(rt, "a pass of no room");
-            assert_equal(rt, span.call(&mut pass, call)?, None);
+            assert_equal(rt, span.call(&mut pass, made)?, None);
             Ok(())
         }
     }
@@ -125,7 +111,7 @@ fn start_child<A: Allocator + Copy>(
     memory: A,
     way: Way,
 ) -> Result<Span<A>, StartFault> {
-    let parent = context(rt, ample, 1);
+    let parent = context(rt, ample, 1, "k=v");
     let mut words = words(rt, ample, &[WORDS[2], 5]);
     let started = match way {
         Way::Values => start(rt, tracer, memory, &mut words, Some(&parent), ample),
@@ -203,10 +189,19 @@ fn live_on<A: Allocator + Copy>(
     let (mut span, is_refused) = start_at_last(rt, heap, &tracer, ample, scarce, way);
     let mut twin = start_child(rt, &tracer, ample, ample, Way::Values).expect(rt, "memory");
     let refused = make_calls(rt, heap, ample, &mut span, &mut twin, way);
+    end_and_call(rt, ample, &mut span, way);
+    if is_refused { Refused::Start } else { refused }
+}
+
+/// Ends a span, and makes the calls again: those behind the first end change nothing.
+fn end_and_call<A: Allocator + Copy>(rt: &impl Abort, ample: A, span: &mut Span<A>, way: Way) {
     let mut pass = BodyPass::new(ample, 1).expect(rt, "memory");
     assert_equal(rt, span.end(&mut pass, END), Ended::Queued(0));
-    assert_kept(rt, &pass);
-    if is_refused { Refused::Start } else { refused }
+    for number in 0..CALLS {
+        make_call(rt, ample, span, number, way).expect(rt, "memory");
+    }
+    assert_equal(rt, span.end(&mut pass, START), Ended::AlreadyEnded);
+    assert_kept(rt, ample, &pass);
 }
 
 /// More calls for memory than a start and the calls make.
@@ -266,4 +261,45 @@ fn each_growth_of_a_start_and_of_the_calls_is_refused_in_turn(rt: HostRuntime) {
         let calls = [1, 2, 4, 2, 0, 0, 0];
         assert_equal(&rt, counts.calls.as_slice(), calls.as_slice());
     }
+}
+
+/// The calls, the end, and a call behind it.
+fn calls<A: Allocator + Copy>(rt: &impl Abort, alloc: A) -> Vec<SpanCall<A>, A> {
+    let mut calls = Vec::new(alloc);
+    for number in 0..CALLS {
+        calls.push(call(rt, alloc, number)).expect(rt, "memory");
+    }
+    calls.push(SpanCall::End(END)).expect(rt, "memory");
+    calls.push(call(rt, alloc, 0)).expect(rt, "memory");
+    calls
+}
+
+/// Replays the calls on scarce memory. Answers whether that was refused memory.
+fn is_replay_refused<A: Allocator + Copy>(rt: &impl Abort, ample: A, scarce: A) -> bool {
+    let calls = calls(rt, ample);
+    match replay(scarce, opening(rt, ample), &limits(), calls.as_slice()) {
+        Ok(span) => {
+            assert_called(rt, ample, &span);
+            false
+        }
+        Err(OutOfMemory) => true,
+    }
+}
+
+#[test]
+fn each_growth_of_a_replay_is_refused_in_turn(rt: HostRuntime) {
+    let heap = LocalHeap::new(rt.alloc(), 65_536).expect(&rt, "memory");
+    let ample = FailingAllocator::new(&heap, u64::MAX);
+    let mut refused = 0u32;
+    for fail_index in 0..2 * MOST {
+        let scarce = FailingAllocator::new(&heap, fail_index);
+        let is_refused = is_replay_refused(&rt, &ample, &scarce);
+        assert_equal_at(&rt, is_refused, scarce.has_failed(), fail_index);
+        assert_equal_at(&rt, heap.used(), 0, fail_index);
+        if is_refused {
+            refused = refused.saturating_add(1);
+        }
+    }
+    // The slip and the record, and of each call its copy and what is kept of it.
+    assert_equal(&rt, refused, 25);
 }

@@ -6,7 +6,6 @@ ghost use Rattle.otlp_ids.specs.SpanContext.{parent_view};
 ghost use Rattle.otlp_sampler.specs.Sampling.{decision_view};
 
 use crate::equal::{assert_equal, assert_equal_at};
-use linked_list_allocator::LocalHeap;
 use otlp_ids::{SpanContext, SpanId, TraceFlags, TraceId};
 use otlp_sampler::{AlwaysOff, AlwaysOn, Decision, ParentBased, Sampler};
 use otlp_span::Kind;
@@ -51,37 +50,6 @@ fn a_decision_is_recording_and_sampled_as_it_says(rt: HostRuntime) {
         assert_equal_at(&rt, decision.is_recording(), recording, decision);
         assert_equal_at(&rt, decision.is_sampled(), sampled, decision);
     }
-}
-
-#[test]
-fn a_child_is_as_its_parent_and_a_root_as_its_sampler_says(rt: HostRuntime) {
-    let sampler = ParentBased::new(AlwaysOff);
-    let parent = context(rt.alloc(), 1, true, 3);
-    assert_equal(
-        &rt,
-        ask(&sampler, Some(&parent), "a"),
-        Decision::RecordAndSample,
-    );
-    let invalid = context(rt.alloc(), 0, false, 1);
-    assert_equal(&rt, ask(&sampler, Some(&invalid), "a"), Decision::Drop);
-    let root = ParentBased::new(AlwaysOn);
-    assert_equal(
-        &rt,
-        ask(&root, Some(&invalid), "a"),
-        Decision::RecordAndSample,
-    );
-}
-
-#[test]
-fn a_parent_may_stand_in_any_memory(rt: HostRuntime) {
-    let heap = LocalHeap::new(rt.alloc(), 0).expect(&rt, "memory");
-    let parent = context(&heap, 1, true, 1);
-    let sampler = ParentBased::new(AlwaysOff);
-    assert_equal(
-        &rt,
-        ask(&sampler, Some(&parent), "a"),
-        Decision::RecordAndSample,
-    );
 }
 
 #[test]

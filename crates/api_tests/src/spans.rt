@@ -1,7 +1,7 @@
 //! What the tests start spans with.
 use otlp_ids::{SpanContext, SpanId, TraceFlags, TraceId};
 use otlp_sampler::Sampler;
-use otlp_span::{Kind, Resource, Scope, SpanCall, SpanLimits, Status};
+use otlp_span::{Kind, Open, Resource, Scope, SpanCall, SpanLimits, Status};
 use otlp_value::Value;
 use std::alloc::Allocator;
 use std::process::Abort;
@@ -47,27 +47,49 @@ pub(crate) fn scope<A: Allocator + Copy>(rt: &impl Abort, alloc: A) -> Arc<Scope
     Arc::new(alloc, scope).expect(rt, "memory")
 }
 
+/// Limits by which spans keep one attribute.
+pub(crate) fn limits() -> SpanLimits {
+    SpanLimits {
+        max_attributes_per_span: 1,
+        ..SpanLimits::default()
+    }
+}
+
 /// A provider whose spans keep one attribute.
 pub(crate) fn provider<S: Sampler + Drop, A: Allocator + Copy>(
     rt: &impl Abort,
     alloc: A,
     sampler: S,
 ) -> Provider<S, A> {
-    let limits = SpanLimits {
-        max_attributes_per_span: 1,
-        ..SpanLimits::default()
-    };
-    Provider::new(sampler, resource(rt, alloc), limits)
+    Provider::new(sampler, resource(rt, alloc), limits())
 }
 
-/// The context of a remote parent, with these flags and the trace state `k=v`.
-pub(crate) fn context<A: Allocator>(rt: &impl Abort, alloc: A, flags: u8) -> SpanContext<A> {
+/// The context of a remote parent, with these flags and this trace state.
+pub(crate) fn context<A: Allocator>(
+    rt: &impl Abort,
+    alloc: A,
+    flags: u8,
+    state: &str,
+) -> SpanContext<A> {
     SpanContext {
         trace: PARENT_TRACE,
         span: PARENT,
         flags: TraceFlags(flags),
         remote: true,
-        state: text(rt, alloc, "k=v"),
+        state: text(rt, alloc, state),
+    }
+}
+
+/// What a child of that parent is opened with.
+pub(crate) fn opening<A: Allocator + Copy>(rt: &impl Abort, alloc: A) -> Open<A> {
+    Open {
+        context: context(rt, alloc, 1, "k=v"),
+        parent: Some(PARENT),
+        resource: resource(rt, alloc),
+        scope: scope(rt, alloc),
+        name: text(rt, alloc, "GET /"),
+        kind: Kind::Server,
+        start: START,
     }
 }
 
@@ -98,9 +120,6 @@ pub(crate) fn start_root<S: Sampler + Drop, A: Allocator + Copy>(
     started.expect(rt, "a root starts")
 }
 
-/// How many calls `call` gives that take memory on a span.
-pub(crate) const ADDING: u32 = 4;
-
 /// How many calls `call` gives.
 pub(crate) const CALLS: u32 = 7;
 
@@ -112,17 +131,25 @@ pub(crate) fn call<A: Allocator + Copy>(rt: &impl Abort, alloc: A, number: u32) 
         1 => SpanCall::AddEvent {
             name: text(rt, alloc, "x"),
             timestamp: 5,
-            attributes: Vec::new(alloc),
+            attributes: pairs(rt, alloc),
         },
         2 => exception(rt, alloc),
         3 => SpanCall::AddLink {
-            span_context: context(rt, alloc, 1),
-            attributes: Vec::new(alloc),
+            span_context: context(rt, alloc, 1, "k=v"),
+            attributes: pairs(rt, alloc),
         },
         4 => SpanCall::SetAttribute(text(rt, alloc, "b"), Value::Int(2)),
         5 => SpanCall::SetStatus(Status::Error(text(rt, alloc, "x"))),
         _ => SpanCall::UpdateName(text(rt, alloc, "x")),
     }
+}
+
+/// An attribute.
+fn pairs<A: Allocator + Copy>(rt: &impl Abort, alloc: A) -> Vec<(String<A>, Value<A>), A> {
+    let mut all = Vec::new(alloc);
+    let value = Value::text(alloc, "long").expect(rt, "memory");
+    all.push((text(rt, alloc, "k"), value)).expect(rt, "memory");
+    all
 }
 
 /// An exception of the type `E`.

@@ -6,13 +6,13 @@ use crate::spans::{
     END, PARENT, PARENT_TRACE, SPAN, TRACE, WORDS, context, provider, scope, start, start_root,
     text, words,
 };
+use failing_allocator::FailingAllocator;
 use otlp_ids::{SpanContext, TraceFlags, TraceId};
 use otlp_sampler::{AlwaysOff, AlwaysOn, ParentBased, Sampler};
-use otlp_span::Reason;
-use rand_core::Rng;
-use std::alloc::{Allocator, Global};
+use otlp_span::{Reason, SpanData};
+use std::alloc::Allocator;
 use std::process::Abort;
-use trace_api::{BodyPass, EndPass, Ended, StartFault, Tracer};
+use trace_api::{BodyPass, EndPass, Ended, Tracer};
 
 /// Takes no span: each comes too late. It counts them.
 #[derive(Drop)]
@@ -50,15 +50,23 @@ fn assert_context<A: Allocator + Copy>(
     assert_equal(rt, context, &wanted);
 }
 
+/// Starts a root by this sampler, and asserts its flags and whether it is recorded.
+fn assert_root<S: Sampler + Drop, A: Allocator + Copy>(
+    rt: &impl Abort,
+    alloc: A,
+    sampler: S,
+    flags: u8,
+    is_recording: bool,
+) {
+    let root = start_root(rt, alloc, sampler);
+    assert_context(rt, alloc, root.context(), TRACE, flags, "");
+    assert_equal(rt, root.is_recording(), is_recording);
+}
+
 #[test]
 fn a_root_has_new_identifiers_and_the_sampled_flag_alone(rt: HostRuntime) {
-    let alloc = rt.alloc();
-    let sampled = start_root(&rt, alloc, AlwaysOn);
-    assert_context(&rt, alloc, sampled.context(), TRACE, 1, "");
-    assert!(rt; sampled.is_recording());
-    let dropped = start_root(&rt, alloc, AlwaysOff);
-    assert_context(&rt, alloc, dropped.context(), TRACE, 0, "");
-    assert!(rt; !dropped.is_recording());
+    assert_root(&rt, rt.alloc(), AlwaysOn, 1, true);
+    assert_root(&rt, rt.alloc(), AlwaysOff, 0, false);
 }
 
 /// Starts and ends a child of a parent with these flags, and asserts what it has of its parent.
@@ -69,12 +77,11 @@ fn assert_child<S: Sampler, A: Allocator + Copy>(
     flags: u8,
     ended: Ended,
 ) {
-    let parent = context(rt, alloc, flags);
-    let mut words = words(rt, alloc, &[WORDS[2], 5]);
+    let parent = context(rt, alloc, flags, "k=v");
+    let mut words = words(rt, alloc, &WORDS[2..]);
     let started = start(rt, tracer, alloc, &mut words, Some(&parent), alloc);
     let mut child = started.expect(rt, "a child starts");
     assert_context(rt, alloc, child.context(), PARENT_TRACE, flags, "k=v");
-    assert_equal(rt, words.next_u64(), 5);
     let mut pass = BodyPass::new(alloc, 1).expect(rt, "memory");
     assert_equal_at(rt, child.end(&mut pass, END), ended, flags);
     for span in pass.spans() {
@@ -91,62 +98,56 @@ fn a_child_has_the_trace_the_flags_and_the_state_of_its_parent(rt: HostRuntime) 
     assert_child(&rt, &tracer, alloc, 3, Ended::Queued(0));
 }
 
-#[test]
-fn only_zeros_are_no_randomness(rt: HostRuntime) {
-    let alloc = rt.alloc();
-    let provider = provider(&rt, alloc, AlwaysOn);
-    let tracer = provider.tracer(scope(&rt, alloc));
-    // Eight draws of a span's identifier, one word each, behind a trace's.
-    let mut words = words(&rt, alloc, &[1, 2, 0, 0, 0, 0, 0, 0, 0, 0, 6]);
-    let fault = start(&rt, &tracer, alloc, &mut words, None, alloc).err();
-    assert_equal(&rt, fault, Some(StartFault::NoRandomness));
-    assert_equal(&rt, words.next_u64(), 6);
-}
-
-/// Asserts how a fault is told.
-fn assert_told(rt: &impl Abort, alloc: Global, fault: StartFault, text: &str) {
-    let told = format!(in alloc; "{fault}").expect(rt, "memory");
-    assert_equal(rt, told.as_str(), text);
-}
-
-#[test]
-fn faults_are_told(rt: HostRuntime) {
-    let text = "no randomness: only zeros were drawn";
-    assert_told(&rt, rt.alloc(), StartFault::NoRandomness, text);
-    assert_told(&rt, rt.alloc(), StartFault::OutOfMemory, "out of memory");
+/// Starts a root and ends it at this moment. Answers what the end answers.
+fn end_root<A: Allocator + Copy, P: EndPass<SpanData<A>>>(
+    rt: &impl Abort,
+    alloc: A,
+    pass: &mut P,
+    end: u64,
+) -> Ended {
+    let mut span = start_root(rt, alloc, AlwaysOn);
+    let ended = span.end(pass, end);
+    assert_equal(rt, span.end(pass, end), Ended::AlreadyEnded);
+    ended
 }
 
 #[test]
 fn a_pass_may_be_of_ones_own(rt: HostRuntime) {
     let mut pass = Closed { late: 0 };
-    let mut sampled = start_root(&rt, rt.alloc(), AlwaysOn);
-    assert_equal(&rt, sampled.end(&mut pass, END), Ended::Late);
-    assert_equal(&rt, sampled.end(&mut pass, END), Ended::AlreadyEnded);
+    assert_equal(&rt, end_root(&rt, rt.alloc(), &mut pass, END), Ended::Late);
     assert_equal(&rt, pass.late, 1);
-}
-
-/// Starts a root and ends it at this moment, and asserts what the end answers.
-fn assert_end<A: Allocator + Copy>(
-    rt: &impl Abort,
-    alloc: A,
-    pass: &mut BodyPass<A>,
-    end: u64,
-    answer: Ended,
-) {
-    let mut span = start_root(rt, alloc, AlwaysOn);
-    assert_equal(rt, span.end(pass, end), answer);
 }
 
 #[test]
 fn a_pass_keeps_spans_while_there_is_room(rt: HostRuntime) {
     let alloc = rt.alloc();
     let mut pass = BodyPass::new(alloc, 2).expect(&rt, "memory");
-    assert_end(&rt, alloc, &mut pass, 5, Ended::Queued(0));
-    assert_end(&rt, alloc, &mut pass, 6, Ended::Queued(1));
-    let full = Ended::Dropped(2, Reason::QueueFull);
-    assert_end(&rt, alloc, &mut pass, 7, full);
-    let spans = pass.spans();
-    assert_eq!(rt; spans.len(), 2);
-    assert_equal(&rt, (spans[0].end_time(), spans[0].ticket()), (5, 0));
-    assert_equal(&rt, (spans[1].end_time(), spans[1].ticket()), (6, 1));
+    for (end, answer) in [
+        (5, Ended::Queued(0)),
+        (6, Ended::Queued(1)),
+        (7, Ended::Dropped(2, Reason::QueueFull)),
+    ] {
+        assert_equal(&rt, end_root(&rt, alloc, &mut pass, end), answer);
+    }
+    let mut kept = pass
+        .spans()
+        .iter()
+        .map(|span| (span.end_time(), span.ticket()));
+    assert_equal(&rt, kept.next(), Some((5, 0)));
+    assert_equal(&rt, kept.next(), Some((6, 1)));
+    assert_equal(&rt, kept.next(), None);
+}
+
+/// Whether a pass for so many spans is refused memory.
+fn is_pass_refused<A: Allocator + Copy>(scarce: A, room: usize) -> bool {
+    BodyPass::new(scarce, room).is_err()
+}
+
+#[test]
+fn a_pass_without_room_takes_no_memory(rt: HostRuntime) {
+    for (fail_index, room, refused) in [(0, 4, true), (1, 4, false), (0, 0, false)] {
+        let scarce = FailingAllocator::new(rt.alloc(), fail_index);
+        let is_refused = is_pass_refused(&scarce, room);
+        assert_equal_at(&rt, is_refused, refused, (fail_index, room));
+    }
 }

@@ -44,14 +44,6 @@ impl<A: Allocator + Copy> Driver<A> {
         Driver::new(rt, alloc, config)
     }
 
-    /// Drives a desk with spans on memory of its own.
-    pub(crate) fn of_desk(rt: &impl Abort, alloc: A, desk: Desk<A>) -> Driver<A> {
-        Driver {
-            desk,
-            spans: Spans::new(rt, alloc),
-        }
-    }
-
     /// Ends a span with this number.
     pub(crate) fn admit(&mut self, rt: &impl Abort, number: u64) -> Admitted {
         self.desk.admit(self.spans.ended(rt, number))
@@ -88,73 +80,30 @@ impl<A: Allocator + Copy> Driver<A> {
         taken
     }
 
-    /// Takes a batch of these tickets.
-    pub(crate) fn take(
-        &mut self,
-        rt: &impl Abort,
-        now: u64,
-        number: u64,
-        tickets: &[u64],
-    ) -> Batch<A> {
-        let batch = self.take_due(rt, now).expect(rt, "a batch is due");
-        assert_equal(rt, batch.number(), number);
-        assert_equal(rt, batch.spans().len(), tickets.len());
-        for (span, ticket) in batch.spans().iter().zip(tickets) {
-            assert_equal(rt, span.ticket(), *ticket);
-        }
-        batch
-    }
-
-    /// Takes none.
-    pub(crate) fn take_none(&mut self, rt: &impl Abort, now: u64) {
-        if let Some(batch) = self.take_due(rt, now) {
-            self.drop_batch(rt, batch, Reason::Abandoned);
-            panic!(rt; "no batch is due");
-        }
-    }
-
     /// Hands the batch over that is in hand.
     pub(crate) fn hand(&mut self, rt: &impl Abort, batch: &Batch<A>) {
         assert_equal(rt, self.desk.is_in_hand(batch), true);
-        assert_equal(rt, self.desk.is_handed(batch), false);
-        assert_equal(rt, self.desk.can_settle(batch), false);
         assert_eq!(rt; self.desk.out(), Some((batch.number(), false)));
         self.desk.handed(batch.number());
-        assert_equal(rt, self.desk.out(), Some((batch.number(), true)));
+        assert_equal(rt, self.desk.is_handed(batch), true);
     }
 
     /// Ends the batch that is out, which was handed, and maybe cleared since.
     pub(crate) fn settle(&mut self, rt: &impl Abort, batch: Batch<A>, fate: Fate) {
-        assert_equal(rt, self.desk.is_handed(&batch), !batch.spans().is_empty());
         assert!(rt; self.desk.can_settle(&batch));
         self.desk.settle(batch, fate);
-        assert_equal(rt, self.desk.out(), None);
-    }
-
-    /// Hands the batch over, and settles it.
-    pub(crate) fn deliver(&mut self, rt: &impl Abort, batch: Batch<A>) {
-        self.hand(rt, &batch);
-        self.settle(rt, batch, Fate::Delivered);
-    }
-
-    /// Takes a batch of these tickets, hands it over, and settles it.
-    pub(crate) fn pass(&mut self, rt: &impl Abort, now: u64, number: u64, tickets: &[u64]) {
-        let batch = self.take(rt, now, number, tickets);
-        self.deliver(rt, batch);
     }
 
     /// Drops the batch that is in hand.
     pub(crate) fn drop_batch(&mut self, rt: &impl Abort, batch: Batch<A>, reason: Reason) {
         assert!(rt; reason != Reason::QueueFull && self.desk.is_in_hand(&batch));
         self.desk.drop_batch(batch, reason);
-        assert_equal(rt, self.desk.out(), None);
     }
 
     /// Drops the batch that is in hand, whose spans are named.
     pub(crate) fn drop_named(&mut self, rt: &impl Abort, named: NamedBatch<A>) {
         assert!(rt; self.desk.can_drop(&named));
         self.desk.drop_named(named);
-        assert_equal(rt, self.desk.out(), None);
     }
 
     /// Pops the newest name of the ledger, which has to be this one.
@@ -176,23 +125,16 @@ impl<A: Allocator + Copy> Driver<A> {
     }
 }
 
-/// Names the spans of a batch, which have these tickets.
+/// Names the spans of a batch.
 pub(crate) fn into_named<A: Allocator>(
     rt: &impl Abort,
     batch: Batch<A>,
     reason: Reason,
-    tickets: Range<u64>,
 ) -> NamedBatch<A> {
     assert!(rt; reason != Reason::QueueFull);
-    let number = batch.number();
+    let (number, count) = (batch.number(), batch.spans().len());
     let named = batch.into_named(reason);
-    assert_equal(rt, named.number(), number);
-    assert_equal(rt, named.reason(), reason);
-    let mut ticket = tickets.start;
-    for entry in named.names() {
-        assert_equal(rt, *entry, name(ticket, reason));
-        ticket = ticket.saturating_add(1);
-    }
-    assert_equal(rt, ticket, tickets.end);
+    assert_equal(rt, (named.number(), named.reason()), (number, reason));
+    assert_equal(rt, named.names().count(), count);
     named
 }

@@ -23,3 +23,9 @@ pub(crate) fn assert_shown(rt: &impl Abort, alloc: Global, shown: &impl Debug, t
     let told = format!(in alloc; "{shown:?}").expect(rt, "memory");
     assert_equal(rt, told.as_str(), text);
 }
+
+/// Asserts how what `Debug` shows begins.
+pub(crate) fn assert_begins(rt: &impl Abort, alloc: Global, shown: &impl Debug, front: &str) {
+    let told = format!(in alloc; "{shown:?}").expect(rt, "memory");
+    assert_equal(rt, told.as_str().starts_with(front), true);
+}

@@ -91,12 +91,18 @@ impl Plain {
         self.totals.closed = true;
     }
 
-    pub(crate) fn is_due(&self, now: u64) -> bool {
+    /// Why a batch is due where spans wait: 1 where there are enough for one, and 2 where they are
+    /// asked for, as behind a shutdown, and 4 where the delay has passed.
+    pub(crate) fn causes(&self, now: u64) -> usize {
         let delay = u64::from(self.config.delay_ms).saturating_mul(1_000_000);
-        let is_time = now >= self.last_take.saturating_add(delay);
-        let is_asked = !is_behind(self.waiting.first(), self.asked);
         let is_full = self.waiting.len() >= self.config.batch;
-        !self.waiting.is_empty() && (is_time || is_asked || is_full || self.totals.closed)
+        let is_asked = !is_behind(self.waiting.first(), self.asked) || self.totals.closed;
+        let is_time = now >= self.last_take.saturating_add(delay);
+        usize::from(is_full) | usize::from(is_asked) << 1 | usize::from(is_time) << 2
+    }
+
+    pub(crate) fn is_due(&self, now: u64) -> bool {
+        !self.waiting.is_empty() && self.causes(now) > 0
     }
 
     /// Takes the next batch, which is due; none is out.
@@ -150,9 +156,11 @@ impl Plain {
         }
     }
 
-    /// Whether none of the first so many accepted spans waits or is out.
-    pub(crate) fn is_flushed(&self, mark: u64) -> bool {
-        is_behind(self.waiting.first(), mark) && is_behind(self.out.first(), mark)
+    /// Where the first so many accepted spans are: 1 where one of them waits, and 2 where one is out.
+    pub(crate) fn places(&self, mark: u64) -> usize {
+        let waits = !is_behind(self.waiting.first(), mark);
+        let is_out = !is_behind(self.out.first(), mark);
+        usize::from(waits) | usize::from(is_out) << 1
     }
 }
 

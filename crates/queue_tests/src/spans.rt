@@ -10,7 +10,7 @@ const TRACE: TraceId = TraceId([1; 16]);
 /// What the spans share.
 #[derive(Drop)]
 pub(crate) struct Spans<A: Allocator = Global> {
-    alloc: A,
+    pub(crate) alloc: A,
     resource: Arc<Resource<A>, A>,
     scope: Arc<Scope<A>, A>,
 }
@@ -30,7 +30,7 @@ impl<A: Allocator + Copy> Spans<A> {
     pub(crate) fn ended(&self, rt: &impl Abort, number: u64) -> SpanData<A> {
         let context = SpanContext {
             trace: TRACE,
-            span: SpanId(number.to_be_bytes()),
+            span: span_id(number),
             flags: TraceFlags(1),
             remote: false,
             state: String::new(self.alloc),
@@ -47,20 +47,18 @@ impl<A: Allocator + Copy> Spans<A> {
         let record = SpanRecord::open(self.alloc, opening, &SpanLimits::default());
         record.expect(rt, "memory").close(2)
     }
+}
 
-    /// A span that has ended, whose ticket is this one.
-    pub(crate) fn ticketed(&self, rt: &impl Abort, number: u64, ticket: u64) -> SpanData<A> {
-        let mut span = self.ended(rt, number);
-        span.set_ticket(ticket);
-        span
-    }
+/// The identifier of the span with this number.
+pub(crate) fn span_id(number: u64) -> SpanId {
+    SpanId(number.to_be_bytes())
 }
 
 /// The name of the span with this number, which is its ticket.
 pub(crate) fn name(number: u64, reason: Reason) -> Entry {
     Entry {
         trace: TRACE,
-        span: SpanId(number.to_be_bytes()),
+        span: span_id(number),
         ticket: number,
         reason,
     }
