@@ -39,3 +39,14 @@ pub(crate) fn assert_told<A: Allocator>(
     let told = format!(in alloc; "{told}").expect(rt, "memory");
     assert_equal(rt, told.as_str(), text);
 }
+
+/// Asserts how what `Debug` shows begins.
+pub(crate) fn assert_begins<A: Allocator>(
+    rt: &impl Abort,
+    alloc: A,
+    shown: &impl Debug,
+    front: &str,
+) {
+    let told = format!(in alloc; "{shown:?}").expect(rt, "memory");
+    assert_equal(rt, told.as_str().starts_with(front), true);
+}

@@ -1,8 +1,8 @@
 //! A large desk, which is let go. What small ones do is compared with plain lists (`random`), and
 //! stands in the stored runs.
-use crate::driver::{Driver, into_named};
 use crate::equal::assert_equal;
-use crate::spans::name;
+use crate::queue::driver::{Driver, into_named};
+use crate::queue::spans::name;
 use otlp_span::Reason;
 
 /// The most spans that a queue has by the standard's numbers.

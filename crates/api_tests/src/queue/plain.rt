@@ -1,5 +1,5 @@
 //! A desk as plain lists, to compare desks with.
-use crate::spans::name;
+use crate::queue::spans::name;
 use batch_desk::{Admitted, DeskConfig, Totals};
 use otlp_span::{Entry, Reason};
 use retry_core::Fate;

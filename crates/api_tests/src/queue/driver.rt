@@ -1,7 +1,7 @@
 //! Desks that are driven by hand. Each call of a desk stands in one function, which compares what
 //! is so at each such call.
 use crate::equal::assert_equal;
-use crate::spans::{Spans, name};
+use crate::queue::spans::{Spans, name};
 use batch_desk::{Admitted, Batch, Desk, DeskConfig, Mark, NamedBatch, Totals};
 use otlp_span::{Entry, Reason};
 use retry_core::Fate;

@@ -1,9 +1,9 @@
 //! Random calls of desks, each compared with plain lists.
 ghost use Rattle.std.specs.Prelude.{◌<◌};
 
-use crate::driver::{Driver, into_named};
 use crate::equal::{assert_equal, assert_equal_at};
-use crate::plain::{Accepted, NUMBER, Plain};
+use crate::queue::driver::{Driver, into_named};
+use crate::queue::plain::{Accepted, NUMBER, Plain};
 use batch_desk::{Admitted, Batch, DeskConfig, Mark};
 use otlp_span::{Reason, SpanData};
 use retry_core::Fate;

@@ -1,7 +1,7 @@
 //! What the calls of a desk free, and what they leave to be freed by who calls them.
-use crate::driver::{Driver, into_named};
 use crate::equal::assert_equal;
-use crate::spans::name;
+use crate::queue::driver::{Driver, into_named};
+use crate::queue::spans::name;
 use batch_desk::{Admitted, Batch};
 use linked_list_allocator::LocalHeap;
 use otlp_span::Reason;

@@ -2,7 +2,7 @@
 ghost use Rattle.std.specs.Prelude.{◌≡◌, []};
 
 use crate::equal::{assert_begins, assert_equal, assert_shown};
-use crate::spans::{Spans, name, span_id};
+use crate::queue::spans::{Spans, name, span_id};
 use drop_ledger::Ledger;
 use otlp_span::{Entry, Reason, Slip};
 use std::ops::Range;

@@ -1,8 +1,8 @@
 //! Rings and desks that are made, or aren't: for their sizes, and since memory is refused once, at
 //! each place in turn.
-use crate::driver::new_desk;
 use crate::equal::{assert_equal, assert_equal_at};
-use crate::ring::new_ring;
+use crate::queue::driver::new_desk;
+use crate::queue::ring::new_ring;
 use batch_desk::DeskConfig;
 use failing_allocator::FailingAllocator;
 use linked_list_allocator::LocalHeap;
