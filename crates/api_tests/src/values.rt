@@ -12,15 +12,15 @@ use std::process::Abort;
 /// The keys that a list has room for.
 const KEYS: [&str; 10] = ["a", "b", "c", "d", "e", "f", "g", "h", "i", "j"];
 
-/// Sets the number of a key at this place, which is put into ample memory.
+/// Sets a number, whose key is put into ample memory.
 fn set<A: Allocator + Copy>(
     rt: &impl Abort,
     list: &mut AttributeList<A>,
     ample: A,
-    place: usize,
+    key: &str,
+    number: i64,
 ) -> Result<(), OutOfMemory> {
-    let key = KEYS.get(place).copied().unwrap_or("beyond");
-    list.set(text(rt, ample, key), Value::Int(place as i64))
+    list.set(text(rt, ample, key), Value::Int(number))
 }
 
 /// Asserts that a list has the first so many keys, each with its number.
@@ -45,15 +45,16 @@ fn first_refused<A: Allocator + Copy>(rt: &impl Abort, ample: A, scarce: A) -> O
     };
     let mut list = AttributeList::new(scarce, limits);
     let mut refused = None;
-    for place in 0..10 {
-        if set(rt, &mut list, ample, place).is_err() {
+    for (place, key) in KEYS.iter().enumerate() {
+        if set(rt, &mut list, ample, key, place as i64).is_err() {
             assert_pairs(rt, &list, place);
-            set(rt, &mut list, ample, place).expect(rt, "memory that is not refused again");
+            let again = set(rt, &mut list, ample, key, place as i64);
+            again.expect(rt, "memory that is not refused again");
             refused = Some(place);
         }
     }
     assert_pairs(rt, &list, 10);
-    set(rt, &mut list, ample, 10).expect(rt, "no memory is wanted");
+    set(rt, &mut list, ample, "beyond", 0).expect(rt, "no memory is wanted");
     assert_equal(rt, (list.dropped(), list.into_pairs().len()), (1, 10));
     refused
 }
