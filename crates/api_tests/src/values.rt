@@ -9,8 +9,19 @@ use otlp_value::{AttributeList, Limits, Value};
 use std::alloc::Allocator;
 use std::process::Abort;
 
-/// The keys that a list has room for.
-const KEYS: [&str; 10] = ["a", "b", "c", "d", "e", "f", "g", "h", "i", "j"];
+/// The numbers that a list has room for, and their keys.
+const PAIRS: [(&str, i64); 10] = [
+    ("a", 1),
+    ("b", 2),
+    ("c", 3),
+    ("d", 4),
+    ("e", 5),
+    ("f", 6),
+    ("g", 7),
+    ("h", 8),
+    ("i", 9),
+    ("j", 10),
+];
 
 /// Sets a number, whose key is put into ample memory.
 fn set<A: Allocator + Copy>(
@@ -23,16 +34,13 @@ fn set<A: Allocator + Copy>(
     list.set(text(rt, ample, key), Value::Int(number))
 }
 
-/// Asserts that a list has the first so many keys, each with its number.
+/// Asserts that a list has the first so many of the numbers.
 fn assert_pairs<A: Allocator>(rt: &impl Abort, list: &AttributeList<A>, count: usize) {
     assert_equal(rt, (list.pairs().len(), list.dropped()), (count, 0));
-    for (place, (key, value)) in list.pairs().iter().enumerate() {
-        assert_equal(rt, Some(key.as_str()), KEYS.get(place).copied());
-        assert_equal(
-            rt,
-            matches!(value, Value::Int(number) if *number == place as i64),
-            true,
-        );
+    for ((key, value), (want, number)) in list.pairs().iter().zip(PAIRS) {
+        assert_equal(rt, key.as_str(), want);
+        let is_equal = matches!(value, Value::Int(found) if *found == number);
+        assert_equal(rt, is_equal, true);
     }
 }
 
@@ -45,10 +53,10 @@ fn first_refused<A: Allocator + Copy>(rt: &impl Abort, ample: A, scarce: A) -> O
     };
     let mut list = AttributeList::new(scarce, limits);
     let mut refused = None;
-    for (place, key) in KEYS.iter().enumerate() {
-        if set(rt, &mut list, ample, key, place as i64).is_err() {
+    for (place, (key, number)) in PAIRS.iter().enumerate() {
+        if set(rt, &mut list, ample, key, *number).is_err() {
             assert_pairs(rt, &list, place);
-            let again = set(rt, &mut list, ample, key, place as i64);
+            let again = set(rt, &mut list, ample, key, *number);
             again.expect(rt, "memory that is not refused again");
             refused = Some(place);
         }
