@@ -9,13 +9,14 @@ help: ## List the targets
 run: ## Build programs without their proofs and run them: a service, threads and a collector, the examples, and spans that a collector prints
 	tools/run-programs
 
-test: docs ## The gate: documents, every proof from nothing, wrong bodies, tests, programs, stored runs and what must not compile (tens of minutes)
+test: docs ## The gate: documents, every proof from nothing, wrong bodies, tests, programs, stored runs, hostile bodies and what must not compile (tens of minutes)
 	rt ci
 	tools/wrong-bodies
 	tools/wrong-bodies-test
 	tools/runs
 	tools/collector-runs
 	tools/demo-runs
+	tools/hostile-bodies
 	tools/wont-compile
 
 docs: ## Compare the documents with the sources
