@@ -28,7 +28,7 @@ fn counts_varints(rt: HostRuntime) {
 }
 
 /// A payload that is written.
-#[derive(Clone, Copy, Debug)]
+#[derive(Clone, Copy)]
 enum Payload {
     Varint(u64),
     Fixed64(u64),
@@ -60,11 +60,9 @@ fn appends_each_payload(rt: HostRuntime) {
     ] {
         write(payload, &mut out).expect(&rt, "memory");
     }
-    let varints = b"\x96\x01\x00\xac\x02\xff\xff\xff\xff\xff\xff\xff\xff\xff\x01";
-    let others = b"\x01\0\0\0\0\0\0\0\x01\0\0\0\x07testing\0";
-    assert!(rt; out.as_slice().starts_with(varints), "{out:?}");
-    assert!(rt; out.as_slice().ends_with(others), "{out:?}");
-    assert_equal(&rt, out.len(), varints.len() + others.len());
+    let bytes = b"\x96\x01\x00\xac\x02\xff\xff\xff\xff\xff\xff\xff\xff\xff\x01\
+        \x01\0\0\0\0\0\0\0\x01\0\0\0\x07testing\0";
+    assert_equal(&rt, out.as_slice(), bytes.as_slice());
 }
 
 /// Puts the payload at the place, a LEN's bytes without their length.
@@ -107,11 +105,10 @@ fn puts_each_payload_at_its_place(rt: HostRuntime) {
     ] {
         at = put(&rt, &mut out, at, payload);
     }
-    let varints = b".\x96\x01\x00\xff\xff\xff\xff\xff\xff\xff\xff\xff\x01";
-    let others = b"\x01\0\0\0\0\0\0\0\x01\0\0\0testing";
+    let bytes = b".\x96\x01\x00\xff\xff\xff\xff\xff\xff\xff\xff\xff\x01\
+        \x01\0\0\0\0\0\0\0\x01\0\0\0testing";
     assert_equal(&rt, at, 33);
-    assert!(rt; out.starts_with(varints), "{out:?}");
-    assert!(rt; out.ends_with(others), "{out:?}");
+    assert_equal(&rt, out.as_slice(), bytes.as_slice());
 }
 
 // Whether the writer got its memory, on a heap of so many bytes, or nothing where not even the
@@ -120,11 +117,8 @@ fn grows(rt: &impl Abort, alloc: Global, payload: Payload, size: usize) -> Optio
     let heap = LocalHeap::new(alloc, size).expect(rt, "memory");
     let mut out = Vec::from_slice(&heap, b"what stood before").ok()?;
     let written = write(payload, &mut out).is_ok();
-    assert!(rt;
-        out.as_slice().starts_with(b"what stood before"),
-        "{payload:?} at {size}"
-    );
-    assert_equal_at(rt, out.len() > 17, written, (payload, size));
+    let stands = out.as_slice().starts_with(b"what stood before");
+    assert_equal_at(rt, (stands, out.len() > 17), (true, written), size);
     Some(written)
 }
 
@@ -139,8 +133,8 @@ fn assert_grows(rt: &impl Abort, alloc: Global, payload: Payload) {
             None => {}
         }
     }
-    assert!(rt; refused > 0, "{payload:?} was never refused");
-    assert!(rt; written > 0, "{payload:?} never wrote");
+    assert_equal_at(rt, refused > 0, true, refused);
+    assert_equal_at(rt, written > 0, true, written);
 }
 
 #[test]
