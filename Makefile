@@ -16,6 +16,7 @@ test: docs ## The gate: documents, every proof from nothing, wrong bodies, tests
 	tools/runs
 	tools/collector-runs
 	tools/demo-runs
+	tools/export-runs
 	tools/hostile-bodies
 	tools/wont-compile
 
