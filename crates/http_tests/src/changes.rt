@@ -1,7 +1,7 @@
 //! Replies and requests in which a seeded generator has changed bytes.
 
 use crate::equal::assert_equal;
-use crate::fixture::{BODY, Told, in_parts, joined, read_text, told};
+use crate::fixture::{BODY, Told, assert_reply, in_parts, joined, read_way, told};
 use crate::posts;
 use otlp_http::HttpFault;
 use otlp_serve::PostFault;
@@ -54,8 +54,10 @@ fn is_named(answer: Told<'_>) -> bool {
 
 /// Checks that a text is read the same by a wire that gives three bytes a call.
 fn assert_same_in_parts(rt: &impl Abort, alloc: Global, text: &[u8]) {
-    let answer = read_text(rt, alloc, text, 3);
-    assert_equal(rt, is_named(told(&answer)), true);
+    let (answer, rest) = read_way(rt, alloc, alloc, text, in_parts(65_536));
+    let told = told(&answer);
+    assert_equal(rt, is_named(told), true);
+    assert_reply(rt, alloc, text, in_parts(3), (told, rest));
 }
 
 #[test]
@@ -110,7 +112,7 @@ fn assert_post_same_in_parts(rt: &impl Abort, alloc: Global, text: &[u8], is_siz
 fn a_changed_request_is_read_the_same_in_parts(rt: HostRuntime) {
     let alloc = rt.alloc();
     let mut rng = Pcg32::new(5, 1);
-    let text = joined(&rt, alloc, posts::HEAD.as_bytes(), BODY);
+    let text = joined(&rt, alloc, posts::HEAD, BODY);
     for _post in 0..25_000u32 {
         let changed = changed(&rt, alloc, &mut rng, &text, (0, 133));
         assert_post_same_in_parts(&rt, alloc, &changed, true);

@@ -1,11 +1,9 @@
 //! Readers and writers that count their failures.
 
 use crate::equal::assert_equal;
-use crate::fixture::wire;
 use failing_allocator::FailingAllocator;
 use http_wire::{FRONT_ROOM, Front};
 use otlp_http::{Counted, DeviceFailed, FailingCalls, FailingWire, FaultRead, FaultWrite};
-use std::alloc::Allocator;
 use std::io::{self, ErrorKind, Read, Write};
 use std::process::Abort;
 
@@ -69,36 +67,15 @@ fn a_write_of_no_byte_is_a_failure(rt: HostRuntime) {
     }
 }
 
-/// Checks what a read answers into room that has these bytes, and what the room has then.
-fn assert_reads(
-    rt: &impl Abort,
-    reader: &mut impl FaultRead,
-    room: &mut [u8],
-    answer: Result<usize, DeviceFailed>,
-    wanted: &[u8],
-) {
-    assert_equal(rt, reader.read(room), answer);
-    let found: &[u8] = room;
-    assert_equal(rt, found, wanted);
-}
-
 #[test]
 fn bytes_pass_through(rt: HostRuntime) {
     let mut reader = Counted::new(b"abc".as_slice());
     let mut room = [0; 2];
-    assert_reads(&rt, &mut reader, &mut room, Ok(2), b"ab");
-    assert_reads(&rt, &mut reader, &mut room, Ok(1), b"cb");
-    assert_reads(&rt, &mut reader, &mut room, Ok(0), b"cb");
+    for (answer, wanted) in [(Ok(2), *b"ab"), (Ok(1), *b"cb"), (Ok(0), *b"cb")] {
+        let read = reader.read(&mut room);
+        assert_equal(&rt, (read, room), (answer, wanted));
+    }
     assert_equal(&rt, FaultRead::failures(&reader), 0);
-}
-
-#[test]
-fn bytes_that_are_written_pass_through(rt: HostRuntime) {
-    let mut writer = Counted::new(Vec::new(rt.alloc()));
-    assert_equal(&rt, FaultWrite::write(&mut writer, b"xy"), Ok(2));
-    assert_equal(&rt, FaultWrite::failures(&writer), 0);
-    let taken = writer.into_inner();
-    assert_equal(&rt, taken.as_slice(), b"xy".as_slice());
 }
 
 #[test]
@@ -114,38 +91,13 @@ fn a_front_takes_bytes_while_there_is_room(rt: HostRuntime) {
 }
 
 #[test]
-fn a_wire_gives_its_bytes_and_fails_as_told(rt: HostRuntime) {
-    let mut wire = wire(&rt, rt.alloc(), b"abcde", 2, FailingCalls::Once(1));
-    let failed = Err(DeviceFailed);
-    assert_reads(&rt, &mut wire, &mut [0; 4], Ok(2), b"ab\0\0");
-    assert_reads(&rt, &mut wire, &mut [0; 4], failed, b"\0\0\0\0");
-    assert_equal(&rt, wire.left(), b"cde".as_slice());
-    assert_equal(&rt, wire.write(b"xyz"), Ok(2));
-    assert_equal(&rt, wire.taken(), b"xy".as_slice());
-    assert_reads(&rt, &mut wire, &mut [0; 1], Ok(1), b"c");
-    assert_reads(&rt, &mut wire, &mut [0; 4], Ok(2), b"de\0\0");
-    assert_reads(&rt, &mut wire, &mut [0; 4], Ok(0), b"\0\0\0\0");
-    let failures = (FaultRead::failures(&wire), FaultWrite::failures(&wire));
-    assert_equal(&rt, failures, (1, 1));
-}
-
-/// Checks what a write of two bytes to a wire answers, and what the wire has taken then.
-fn assert_writes<A: Allocator>(
-    rt: &impl Abort,
-    wire: &mut FailingWire<A>,
-    answer: Result<usize, DeviceFailed>,
-    taken: &[u8],
-) {
-    assert_equal(rt, wire.write(b"ab"), answer);
-    assert_equal(rt, wire.taken(), taken);
-}
-
-#[test]
 fn a_write_without_memory_is_a_failure(rt: HostRuntime) {
     let scarce = FailingAllocator::new(rt.alloc(), 0);
     let output = Vec::new(&scarce);
     let mut wire = FailingWire::new(Vec::new(&scarce), output, 4, FailingCalls::Never);
-    assert_writes(&rt, &mut wire, Err(DeviceFailed), b"");
-    assert_writes(&rt, &mut wire, Ok(2), b"ab");
+    assert_equal(&rt, wire.write(b"ab"), Err(DeviceFailed));
+    assert_equal(&rt, wire.taken(), b"".as_slice());
+    assert_equal(&rt, wire.write(b"ab"), Ok(2));
+    assert_equal(&rt, wire.taken(), b"ab".as_slice());
     assert_equal(&rt, FaultWrite::failures(&wire), 1);
 }

@@ -1,10 +1,10 @@
 //! Bodies that an exporter posts over a link, and attempts over a link each.
 
 use crate::equal::{assert_equal, assert_equal_at};
-use crate::fixture::{joined, wire};
+use crate::fixture::{bytes_of, joined, target, wire};
 use failing_allocator::FailingAllocator;
 use http_exporter::{Dial, LinkExporter};
-use otlp_http::{FailingCalls, FailingWire, Target};
+use otlp_http::{FailingCalls, FailingWire};
 use retry_core::{Outcome, RetryAfter};
 use span_exporter::Exporter;
 use std::alloc::{Allocator, Global};
@@ -17,12 +17,10 @@ const GOOD: &str = "HTTP/1.1 200 OK\r\nContent-Length: 0\r\n\r\n";
 const TOO_LARGE: &str = "HTTP/1.1 413 Content Too Large\r\nContent-Length: 0\r\n\r\n";
 
 /// The fields of a request to a collector on this machine, up to the length of its body.
-const FIELDS: &str = concat!(
-    "POST /v1/traces HTTP/1.1\r\n",
-    "Host: 127.0.0.1:4318\r\n",
-    "Content-Type: application/x-protobuf\r\n",
-    "Content-Length: ",
-);
+const FIELDS: &[u8] = b"POST /v1/traces HTTP/1.1\r\n\
+    Host: 127.0.0.1:4318\r\n\
+    Content-Type: application/x-protobuf\r\n\
+    Content-Length: ";
 
 /// A dial that gives listed links, the last one first, for one host and port.
 #[derive(Drop)]
@@ -54,17 +52,14 @@ fn exporter<A: Allocator + Copy>(
     global: Global,
     links: Vec<Option<FailingWire>>,
 ) -> LinkExporter<ListedLinks, A> {
-    let target = Target::new(alloc, "127.0.0.1", 4318, "/v1/traces").expect(rt, "a target");
+    let target = target(alloc, "127.0.0.1", 4318, "/v1/traces").expect(rt, "a target");
     LinkExporter::over(alloc, global, ListedLinks { links }, target)
 }
 
-/// So many bytes, no two neighbours of which are equal.
-fn body(rt: &impl Abort, alloc: Global, size: usize) -> Vec<u8> {
-    let mut bytes = Vec::new(alloc);
-    for i in 0..size {
-        bytes.push((i % 251) as u8).expect(rt, "memory");
-    }
-    bytes
+/// As many times 62 bytes, which are distinct.
+fn body(rt: &impl Abort, alloc: Global, times: usize) -> Vec<u8> {
+    let piece = b"0123456789abcdefghijklmnopqrstuvwxyzABCDEFGHIJKLMNOPQRSTUVWXYZ";
+    bytes_of(rt, alloc, (b"", piece, times, b""))
 }
 
 /// What comes of a body that is posted over this link, what the link took, and how many bytes of
@@ -82,34 +77,43 @@ fn posted<A: Allocator + Copy>(
     (outcome, taken, link.left().len())
 }
 
-/// Checks what comes of a body that is posted over a link whose calls fail from this one on, and
-/// what the link took: all of the request.
-fn assert_posted(rt: &impl Abort, alloc: Global, size: usize, calls: u64, wanted: Outcome) {
-    let body = body(rt, alloc, size);
+/// Checks what comes of a body of as many times 62 bytes, told by these digits, that is posted over
+/// a link whose calls fail from this one on, and what the link took: all of the request.
+fn assert_posted(
+    rt: &impl Abort,
+    alloc: Global,
+    length: (usize, &str),
+    calls: u64,
+    wanted: Outcome,
+) {
+    let (times, digits) = length;
+    let body = body(rt, alloc, times);
     let link = link(rt, alloc, GOOD, FailingCalls::From(calls));
     let exporter = exporter(rt, alloc, alloc, Vec::new(alloc));
     let (outcome, taken, _) = posted(rt, alloc, exporter, link, &body);
-    assert_equal_at(rt, outcome, wanted, (size, calls));
-    let head = format!(in alloc; "{FIELDS}{size}\r\nConnection: close\r\n\r\n");
-    let text = joined(rt, alloc, head.expect(rt, "memory").as_bytes(), &body);
-    assert_equal_at(rt, taken.as_slice(), text.as_slice(), (size, calls));
+    assert_equal_at(rt, outcome, wanted, (digits, calls));
+    let mut text = joined(rt, alloc, FIELDS, digits.as_bytes());
+    for piece in [b"\r\nConnection: close\r\n\r\n".as_slice(), &body] {
+        text.extend_from_slice(piece).expect(rt, "memory");
+    }
+    assert_equal_at(rt, taken.as_slice(), text.as_slice(), (digits, calls));
 }
 
 #[test]
 fn a_request_goes_out_in_one_write_or_two(rt: HostRuntime) {
     let alloc = rt.alloc();
     // A body that fits behind the head goes with it, and the next call is the first read.
-    for (size, writes) in [(0, 1), (64, 1), (5000, 2)] {
-        assert_posted(&rt, alloc, size, writes, Outcome::NoReply);
-        assert_posted(&rt, alloc, size, 1000, Outcome::Delivered);
+    for (times, digits, writes) in [(0, "0", 1), (1, "62", 1), (81, "5022", 2)] {
+        assert_posted(&rt, alloc, (times, digits), writes, Outcome::NoReply);
+        assert_posted(&rt, alloc, (times, digits), 1000, Outcome::Delivered);
     }
-    assert_posted(&rt, alloc, 70_000, 1000, Outcome::Delivered);
+    assert_posted(&rt, alloc, (1130, "70060"), 1000, Outcome::Delivered);
 }
 
 /// Checks what comes of a body whose second write fails where this reply waits to be read, which it
 /// is where that is asked for.
 fn assert_stopped(rt: &impl Abort, alloc: Global, reply: &str, reads: bool, wanted: Outcome) {
-    let body = body(rt, alloc, 70_000);
+    let body = body(rt, alloc, 1130);
     let link = link(rt, alloc, reply, FailingCalls::Once(1));
     let plain = exporter(rt, alloc, alloc, Vec::new(alloc));
     let exporter = if reads {

@@ -1,7 +1,10 @@
 //! Texts that tests read as replies, how they come, and what is told of a reply in plain values.
 
 use crate::equal::{assert_equal, assert_equal_at};
-use otlp_http::{FailingCalls, FailingWire, FaultRead, HeadLimits, HttpFault, Reply, read_reply};
+use otlp_http::{
+    FailingCalls, FailingWire, FaultRead, HeadLimits, HttpFault, Reply, Target, TargetFault,
+    read_reply,
+};
 use retry_core::RetryAfter;
 use std::alloc::{Allocator, Global};
 use std::process::Abort;
@@ -41,6 +44,20 @@ pub(crate) fn body_of<A: Allocator>(
     }
 }
 
+/// A text: a piece so many times between two others.
+pub(crate) type Text = (&'static [u8], &'static [u8], usize, &'static [u8]);
+
+/// The bytes of a text.
+pub(crate) fn bytes_of(rt: &impl Abort, alloc: Global, text: Text) -> Vec<u8> {
+    let (front, piece, count, end) = text;
+    let mut bytes = Vec::from_slice(alloc, front).expect(rt, "memory");
+    for _copy in 0..count {
+        bytes.extend_from_slice(piece).expect(rt, "memory");
+    }
+    bytes.extend_from_slice(end).expect(rt, "memory");
+    bytes
+}
+
 /// What two pieces of text are, one behind the other.
 pub(crate) fn joined(rt: &impl Abort, alloc: Global, front: &[u8], rest: &[u8]) -> Vec<u8> {
     let mut text = Vec::from_slice(alloc, front).expect(rt, "memory");
@@ -66,7 +83,24 @@ pub(crate) fn repeated(
     text
 }
 
-/// The whole reply of a collector that has this status, this reason and these last fields.
+/// The whole reply of a collector that has this status and reason and these last fields.
+pub(crate) fn reply_with(rt: &impl Abort, alloc: Global, status: &str, fields: &str) -> String {
+    let rest = "\r\nContent-Type: application/x-protobuf\r\nContent-Length: 0\r\n";
+    let mut text = String::new(alloc);
+    for piece in [
+        "HTTP/1.1 ",
+        status,
+        rest,
+        "Connection: close\r\n",
+        fields,
+        "\r\n",
+    ] {
+        text.push_str(piece).expect(rt, "memory");
+    }
+    text
+}
+
+/// The same of this status, this reason and these last fields.
 pub(crate) fn reply_text(
     rt: &impl Abort,
     alloc: Global,
@@ -74,9 +108,18 @@ pub(crate) fn reply_text(
     reason: &str,
     fields: &str,
 ) -> String {
-    let rest = "Content-Length: 0\r\nConnection: close\r\n";
-    let text = format!(in alloc; "HTTP/1.1 {code} {reason}\r\n{TYPE}{rest}{fields}\r\n");
-    text.expect(rt, "memory")
+    let status = format!(in alloc; "{code} {reason}").expect(rt, "memory");
+    reply_with(rt, alloc, status.as_str(), fields)
+}
+
+/// A target with this host, this port and this path.
+pub(crate) fn target<A: Allocator + Copy>(
+    alloc: A,
+    host: &str,
+    port: u16,
+    path: &str,
+) -> Result<Target<A>, TargetFault> {
+    Target::new(alloc, host, port, path)
 }
 
 /// A wire that gives these bytes, at most so many a call.
@@ -162,26 +205,6 @@ pub(crate) fn read_way<A: Allocator + Copy>(
     (answer, rest)
 }
 
-/// What a text is read as: by a wire that gives all that is asked for, and the same by one that
-/// gives at most so many bytes a call.
-pub(crate) fn read_text(
-    rt: &impl Abort,
-    alloc: Global,
-    text: &[u8],
-    most: usize,
-) -> Result<Reply, HttpFault> {
-    let (answer, rest) = read_way(rt, alloc, alloc, text, in_parts(65_536));
-    let (other, other_rest) = read_way(rt, alloc, alloc, text, in_parts(most));
-    assert_equal_at(rt, (told(&other), other_rest), (told(&answer), rest), text);
-    answer
-}
-
-/// Checks what a text is read as, at once and a byte a call.
-pub(crate) fn assert_read(rt: &impl Abort, alloc: Global, text: &[u8], wanted: Told<'_>) {
-    let answer = read_text(rt, alloc, text, 1);
-    assert_equal_at(rt, told(&answer), wanted, text);
-}
-
 /// Checks what a text that comes this way is read as, and what is left of it.
 pub(crate) fn assert_reply(
     rt: &impl Abort,
@@ -192,4 +215,20 @@ pub(crate) fn assert_reply(
 ) {
     let (answer, rest) = read_way(rt, alloc, alloc, text, way);
     assert_equal_at(rt, (told(&answer), rest), wanted, text);
+}
+
+/// The most bytes that a call gives of a text that is read in parts of several sizes, and at once.
+pub(crate) const PARTS: [usize; 5] = [1, 2, 3, 5, 65_536];
+
+/// Checks what a text is read as in parts of several sizes, and how many of its bytes are left.
+pub(crate) fn assert_read(
+    rt: &impl Abort,
+    alloc: Global,
+    text: &[u8],
+    wanted: Told<'_>,
+    left: usize,
+) {
+    for most in PARTS {
+        assert_reply(rt, alloc, text, in_parts(most), (wanted, (left, 0)));
+    }
 }

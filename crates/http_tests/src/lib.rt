@@ -5,8 +5,6 @@
 #[cfg(test)]
 mod answers;
 #[cfg(test)]
-mod bodies;
-#[cfg(test)]
 mod changes;
 #[cfg(test)]
 mod chunks;
@@ -23,13 +21,11 @@ mod faults;
 #[cfg(test)]
 mod fixture;
 #[cfg(test)]
-mod heads;
-#[cfg(test)]
-mod outcomes;
-#[cfg(test)]
 mod places;
 #[cfg(test)]
 mod posts;
+#[cfg(test)]
+mod replies;
 #[cfg(test)]
 mod requests;
 #[cfg(test)]

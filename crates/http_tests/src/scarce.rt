@@ -1,8 +1,8 @@
 //! Messages that are read while memory is refused.
 
 use crate::equal::{assert_equal, assert_equal_at};
-use crate::fixture::{self, BODY, HEAD, body_of, in_parts, joined};
-use crate::places::BAD_FIELD;
+use crate::fixture::{self, BODY, HEAD, in_parts, joined};
+use crate::replies::BAD_FIELD;
 use crate::{chunks, posts};
 use failing_allocator::FailingAllocator;
 use otlp_http::HttpFault;
@@ -10,17 +10,20 @@ use otlp_serve::PostFault;
 use std::alloc::{Allocator, Global};
 use std::process::Abort;
 
-/// The body of a reply that is read with this memory, or why there is none.
+/// Why a reply that is read with this memory has no body, and checks the body where it has one.
 fn reply_with<A: Allocator + Copy>(
     rt: &impl Abort,
     alloc: A,
     global: Global,
     text: &[u8],
-) -> Result<Vec<u8, A>, HttpFault> {
+) -> Option<HttpFault> {
     let (answer, _) = fixture::read_way(rt, alloc, global, text, in_parts(64));
-    match answer {
-        Ok(reply) => reply.body,
-        Err(fault) => Err(fault),
+    match fixture::told(&answer) {
+        Ok((_, _, Ok(body))) => {
+            assert_equal(rt, body, BODY);
+            None
+        }
+        Ok((_, _, Err(fault))) | Err(fault) => Some(fault),
     }
 }
 
@@ -30,11 +33,14 @@ fn post_with<A: Allocator + Copy>(
     alloc: A,
     global: Global,
     text: &[u8],
-) -> Result<Vec<u8, A>, HttpFault> {
+) -> Option<HttpFault> {
     let (answer, _) = posts::read_way(rt, alloc, global, text, in_parts(64));
-    match answer {
-        Ok(post) => Ok(post.body),
-        Err(PostFault::Head(fault) | PostFault::Body(fault)) => Err(fault),
+    match posts::told(&answer) {
+        Ok((_, _, body)) => {
+            assert_equal(rt, body, BODY);
+            None
+        }
+        Err(PostFault::Head(fault) | PostFault::Body(fault)) => Some(fault),
     }
 }
 
@@ -48,14 +54,12 @@ fn read_scarce(
     fail_index: u64,
 ) -> (bool, Option<HttpFault>) {
     let scarce = FailingAllocator::new(alloc, fail_index);
-    let read = if is_post {
+    let fault = if is_post {
         post_with(rt, &scarce, alloc, text)
     } else {
         reply_with(rt, &scarce, alloc, text)
     };
-    let body = body_of(&read);
-    assert_equal_at(rt, body.unwrap_or(BODY), BODY, fail_index);
-    (scarce.has_failed(), body.err())
+    (scarce.has_failed(), fault)
 }
 
 /// Checks that each call for memory of such a reading may be refused, which is told, and that there
@@ -86,7 +90,7 @@ fn assert_refusals(
 #[test]
 fn each_refusal_of_memory_is_told(rt: HostRuntime) {
     let alloc = rt.alloc();
-    let post = posts::HEAD.as_bytes();
+    let post = posts::HEAD;
     assert_refusals(&rt, alloc, (HEAD, BODY), false, 2);
     assert_refusals(&rt, alloc, (post, BODY), true, 4);
     assert_refusals(&rt, alloc, (chunks::REPLY, chunks::CHUNKS), false, 5);
