@@ -80,8 +80,8 @@ fn make_call<A: Allocator + Copy>(
     }
 }
 
-/// Makes a call, and where it is refused memory, makes it again. Answers whether it was refused: the
-/// span was then as before, and nothing was kept of the call.
+/// Makes a call, and where it is refused memory, makes it again. Answers whether it was refused:
+/// the span was then as before, and nothing was kept of the call.
 fn is_call_refused<A: Allocator + Copy>(
     rt: &impl Abort,
     heap: &LocalHeap,
@@ -102,8 +102,8 @@ fn is_call_refused<A: Allocator + Copy>(
     is_refused
 }
 
-/// Starts a child of a parent with a trace state on this memory. The word of its identifier is spent
-/// also where it doesn't start, and no other.
+/// Starts a child of a parent with a trace state on this memory. The word of its identifier is
+/// spent also where it doesn't start, and no other.
 fn start_child<A: Allocator + Copy>(
     rt: &impl Abort,
     tracer: &Tracer<'_, AlwaysOn, A>,
@@ -124,8 +124,8 @@ fn start_child<A: Allocator + Copy>(
     started
 }
 
-/// Starts a child, and where that is refused memory, starts it again. Answers whether it was refused:
-/// nothing was then kept of it.
+/// Starts a child, and where that is refused memory, starts it again. Answers whether it was
+/// refused: nothing was then kept of it.
 fn start_at_last<A: Allocator + Copy>(
     rt: &impl Abort,
     heap: &LocalHeap,

@@ -1,5 +1,5 @@
-//! How long a span takes to be grouped, to be encoded, as a part of a body that is copied, and to be
-//! read.
+//! How long a span takes to be grouped, to be encoded, as a part of a body that is copied, and to
+//! be read.
 mod batches;
 mod figures;
 mod reading;

@@ -1,6 +1,6 @@
-//! What a collector answers where its reply is canned, and what becomes of a connection where a reply
-//! breaks off, an output fails or memory is refused. What else it answers, prints and tells is
-//! compared over whole runs of the program (`tools/collector-runs`).
+//! What a collector answers where its reply is canned, and what becomes of a connection where a
+//! reply breaks off, an output fails or memory is refused. What else it answers, prints and tells
+//! is compared over whole runs of the program (`tools/collector-runs`).
 
 use crate::equal::{assert_equal, assert_equal_at};
 use crate::fixture::{TYPE, joined, reply_text, wire};
@@ -56,8 +56,8 @@ fn told(answered: &Answered) -> Told {
     (answered.status, groups)
 }
 
-/// What a connection over which this text comes is answered, where these writes of the reply fail and
-/// this one is canned, or how many bytes of it were written before that; and what was written.
+/// What a connection over which this text comes is answered, where these writes of the reply fail
+/// and this one is canned, or how many bytes of it were written before that; and what was written.
 fn answered(
     rt: &impl Abort,
     alloc: Global,
@@ -76,8 +76,8 @@ fn answered(
     (told, taken)
 }
 
-/// Checks what a request with this first line and this body is answered, and how many groups of spans
-/// were taken, where a reply is canned.
+/// Checks what a request with this first line and this body is answered, and how many groups of
+/// spans were taken, where a reply is canned.
 fn assert_canned(
     rt: &impl Abort,
     alloc: Global,
@@ -181,7 +181,8 @@ fn served<A: Allocator + Copy>(
     (printed, lines, replied)
 }
 
-/// Checks whether a connection over which this text comes is printed, and this is, and this replied.
+/// Checks whether a connection over which this text comes is printed, and this is, and this
+/// replied.
 fn assert_served(
     rt: &impl Abort,
     alloc: Global,
@@ -218,8 +219,8 @@ fn an_output_that_fails_is_told(rt: HostRuntime) {
     }
 }
 
-/// Checks that a connection was replied this, and that its line and these behind it were printed, or a
-/// front of them where memory was refused. Answers whether all were.
+/// Checks that a connection was replied this, and that its line and these behind it were printed,
+/// or a front of them where memory was refused. Answers whether all were.
 fn is_printed(
     rt: &impl Abort,
     alloc: Global,
@@ -239,8 +240,8 @@ fn is_printed(
     is_whole
 }
 
-/// Serves a connection while one call for memory is refused. Answers whether it was, and whether the
-/// reply told so.
+/// Serves a connection while one call for memory is refused. Answers whether it was, and whether
+/// the reply told so.
 fn is_refused(rt: &impl Abort, alloc: Global, text: &[u8], fail_index: u64) -> (bool, bool) {
     let scarce = FailingAllocator::new(alloc, fail_index);
     let never = FailingCalls::Never;

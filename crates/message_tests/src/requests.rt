@@ -65,8 +65,8 @@ fn outcome_of<A: Allocator + Copy>(
     }
 }
 
-/// What comes of it within 65,536 bytes of memory, while one call for memory is refused, and whether
-/// one was.
+/// What comes of it within 65,536 bytes of memory, while one call for memory is refused, and
+/// whether one was.
 fn outcome_within(
     rt: &impl Abort,
     alloc: Global,

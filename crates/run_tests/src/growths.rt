@@ -286,8 +286,8 @@ queued 0
 late 0
 ";
 
-/// Runs a script, each time with another call for memory refused, until none is left. It prints this,
-/// or it is told that memory was refused, which happens so often or more.
+/// Runs a script, each time with another call for memory refused, until none is left. It prints
+/// this, or it is told that memory was refused, which happens so often or more.
 fn assert_refused(rt: &impl Abort, alloc: Global, script: (&str, bool), wanted: &str, least: u64) {
     let (text, body) = script;
     let heap = LocalHeap::new(alloc, 400_000).expect(rt, "memory");

@@ -164,8 +164,8 @@ const LEFT: Left = Left {
     abandoned: (1, 0),
 };
 
-/// Asserts what is answered and left where no memory is refused. The batch that is out ends with the
-/// report: it was not handed, so its span is the newest that is named.
+/// Asserts what is answered and left where no memory is refused. The batch that is out ends with
+/// the report: it was not handed, so its span is the newest that is named.
 fn assert_whole<A: Allocator>(rt: &impl Abort, told: &Told<A>) {
     assert_answers(rt, told.answers.as_slice(), PROGRAM);
     assert_left(rt, &told.left, &LEFT);
@@ -179,8 +179,8 @@ fn assert_whole<A: Allocator>(rt: &impl Abort, told: &Told<A>) {
     assert_equal(rt, told.names.as_slice(), names.as_slice());
 }
 
-/// Asserts that the spans of a run are accounted for, and all that is told where no step is refused,
-/// and answers how many are.
+/// Asserts that the spans of a run are accounted for, and all that is told where no step is
+/// refused, and answers how many are.
 fn count_answered<A: Allocator + Copy>(
     rt: &impl Abort,
     ample: A,

@@ -242,8 +242,8 @@ fn count_attempts(rt: &impl Abort, attempts: &[Attempt], runs: &mut Runs) {
     }
 }
 
-/// What is abandoned when a report is closed that leaves this: the spans of the batch that is out, or
-/// the batch itself where it was handed.
+/// What is abandoned when a report is closed that leaves this: the spans of the batch that is out,
+/// or the batch itself where it was handed.
 fn abandoned_with(left: &Left) -> (u64, u64) {
     match (left.batch, left.out) {
         (Some((_, spans)), Some((_, false))) => (spans as u64, 0),

@@ -156,7 +156,8 @@ impl Plain {
         }
     }
 
-    /// Where the first so many accepted spans are: 1 where one of them waits, and 2 where one is out.
+    /// Where the first so many accepted spans are: 1 where one of them waits, and 2 where one is
+    /// out.
     pub(crate) fn places(&self, mark: u64) -> usize {
         let waits = !is_behind(self.waiting.first(), mark);
         let is_out = !is_behind(self.out.first(), mark);

@@ -1,5 +1,5 @@
-//! What follows from an attempt to send a batch, and how long is waited. Waits by the usual settings
-//! stand in the stored runs.
+//! What follows from an attempt to send a batch, and how long is waited. Waits by the usual
+//! settings stand in the stored runs.
 use crate::equal::{assert_equal, assert_equal_at};
 use retry_core::{BadRetry, Cause, Next, Outcome, RetryAfter, RetryConfig, decide};
 use std::process::Abort;
