@@ -65,24 +65,6 @@ pub(crate) fn joined(rt: &impl Abort, alloc: Global, front: &[u8], rest: &[u8]) 
     text
 }
 
-/// What a piece is between two others that stands there so many times.
-pub(crate) fn repeated(
-    rt: &impl Abort,
-    alloc: Global,
-    front: &str,
-    piece: &str,
-    count: usize,
-    end: &str,
-) -> String {
-    let mut text = String::new(alloc);
-    text.push_str(front).expect(rt, "memory");
-    for _copy in 0..count {
-        text.push_str(piece).expect(rt, "memory");
-    }
-    text.push_str(end).expect(rt, "memory");
-    text
-}
-
 /// The whole reply of a collector that has this status and reason and these last fields.
 pub(crate) fn reply_with(rt: &impl Abort, alloc: Global, status: &str, fields: &str) -> String {
     let rest = "\r\nContent-Type: application/x-protobuf\r\nContent-Length: 0\r\n";
