@@ -9,6 +9,7 @@ mod by_hand;
 mod requests;
 mod service;
 mod simple;
+mod threads;
 
 use anyhow::Result;
 use std::io::Write;

@@ -1,7 +1,7 @@
 //! A service of four threads over a batch processor, whose worker has a thread of its own.
 ghost use Rattle.std.specs.Prelude.{◌≡◌, None};
 
-use crate::requests::serve;
+use crate::threads::serve_all;
 use anyhow::{Context, Result};
 use rand::make_rng;
 use rand::rngs::StdRng;
@@ -12,7 +12,7 @@ use std::thread::{self, JoinHandle, Threads};
 use std::time;
 use trace_kit::export::MemoryExporter;
 use trace_kit::processor::{
-    Accounts, BatchBlank, BatchConfig, BatchProcessor, Clock, Naming, Parts, Pass, SystemClock,
+    Accounts, BatchBlank, BatchConfig, BatchProcessor, Clock, Naming, Parts, SystemClock,
     WorkerPass,
 };
 
@@ -23,19 +23,6 @@ const REQUESTS: u64 = 250;
 
 /// How many spans end in all.
 pub const SPANS: u64 = THREADS as u64 * REQUESTS;
-
-/// Starts a thread that serves requests on this pass, and gives it back.
-fn start<J, R>(rt: R, alloc: Global, mut pass: Pass<J, R>) -> Result<JoinHandle<Result<Pass<J, R>>>>
-where
-    J: Naming + Send + Sync + 'static,
-    R: Threads + Wait + RandomSource + time::Clock + Copy + Send + Sync + 'static,
-{
-    let started = thread::spawn(&rt, move || -> Result<Pass<J, R>> {
-        serve(&rt, alloc, REQUESTS, &mut pass)?;
-        Ok(pass)
-    });
-    Ok(started?)
-}
 
 /// Starts the thread of the worker, which hands batches over until all is drained.
 fn start_worker<J, R>(
@@ -62,23 +49,6 @@ where
     Ok(started?)
 }
 
-/// Serves requests on a thread for each pass, and gives the passes back.
-fn serve_all<J, R>(rt: R, alloc: Global, passes: Vec<Pass<J, R>>) -> Result<Vec<Pass<J, R>>>
-where
-    J: Naming + Send + Sync + 'static,
-    R: Threads + Wait + RandomSource + time::Clock + Copy + Send + Sync + 'static,
-{
-    let mut threads = Vec::new(alloc);
-    for pass in passes {
-        threads.push(start(rt, alloc, pass)?)?;
-    }
-    let mut passes = Vec::new(alloc);
-    for thread in threads {
-        passes.push(thread.join(&rt)?)?;
-    }
-    Ok(passes)
-}
-
 /// What becomes of the spans of all threads.
 pub fn run<J, R>(rt: R, alloc: Global, blank: BatchBlank) -> Result<Accounts>
 where
@@ -95,7 +65,7 @@ where
         worker,
     } = parts;
     let worker = start_worker(rt, alloc, worker)?;
-    let mut passes = serve_all(rt, alloc, passes)?;
+    let mut passes = serve_all(rt, alloc, REQUESTS, passes)?;
     if let Some(pass) = passes.first_mut() {
         pass.shutdown()?;
     }

@@ -6,54 +6,21 @@
 ghost use Rattle.std.specs.Prelude.{◌≡◌};
 
 use crate::requests::serve;
+use crate::threads::serve_all;
 use anyhow::{Context, Result};
 use std::alloc::Global;
 use std::io::Write;
 use std::random::RandomSource;
 use std::sync::Wait;
-use std::thread::{self, JoinHandle, Threads};
+use std::thread::Threads;
 use std::time;
 use trace_kit::export::{DEFAULT_MAX_BODY, MemoryExporter};
-use trace_kit::processor::{
-    Naming, SimpleAccounts, SimpleBlank, SimpleParts, SimplePass, SimpleProcessor,
-};
+use trace_kit::processor::{Naming, SimpleAccounts, SimpleBlank, SimpleParts, SimpleProcessor};
 
 const THREADS: usize = 4;
 
 /// How many requests each thread serves.
 const REQUESTS: u64 = 25;
-
-type Pass<J, R> = SimplePass<J, MemoryExporter, R>;
-
-/// Starts a thread that serves requests on this pass, and gives it back.
-fn start<J, R>(rt: R, alloc: Global, mut pass: Pass<J, R>) -> Result<JoinHandle<Result<Pass<J, R>>>>
-where
-    J: Naming + Send + Sync + 'static,
-    R: Threads + Wait + RandomSource + time::Clock + Copy + Send + Sync + 'static,
-{
-    let started = thread::spawn(&rt, move || -> Result<Pass<J, R>> {
-        serve(&rt, alloc, REQUESTS, &mut pass)?;
-        Ok(pass)
-    });
-    Ok(started?)
-}
-
-/// Serves requests on a thread for each pass, and gives the passes back.
-fn serve_all<J, R>(rt: R, alloc: Global, passes: Vec<Pass<J, R>>) -> Result<Vec<Pass<J, R>>>
-where
-    J: Naming + Send + Sync + 'static,
-    R: Threads + Wait + RandomSource + time::Clock + Copy + Send + Sync + 'static,
-{
-    let mut threads = Vec::new(alloc);
-    for pass in passes {
-        threads.push(start(rt, alloc, pass)?)?;
-    }
-    let mut passes = Vec::new(alloc);
-    for thread in threads {
-        passes.push(thread.join(&rt)?)?;
-    }
-    Ok(passes)
-}
 
 /// What becomes of the spans: those of the threads, and one that ends behind a shutdown.
 fn accounts_of<J, R>(
@@ -76,7 +43,7 @@ where
         DEFAULT_MAX_BODY,
     )?;
     let SimpleParts { processor, passes } = parts;
-    let mut passes = serve_all(rt, alloc, passes)?;
+    let mut passes = serve_all(rt, alloc, REQUESTS, passes)?;
     for pass in &mut passes {
         pass.shutdown();
         serve(&rt, alloc, 1, pass)?;
