@@ -122,21 +122,11 @@ const USUAL: HeadLimits = HeadLimits {
     body: 65_536,
 };
 
-/// Those of three trailers.
-const THREE: HeadLimits = HeadLimits {
-    head: 16_384,
-    fields: 3,
-    body: 9,
-};
-
 /// A chunk of no byte, behind which there are no trailers.
 const LAST: &[u8] = b"0\r\n\r\n";
 
 /// Why a body is refused that has more bytes than the limit.
 const LARGE: Result<usize, HttpFault> = Err(HttpFault::TooLarge);
-
-/// The same of a line that is too long, and of trailers that are too many or too long.
-const LONG: Result<usize, HttpFault> = Err(HttpFault::BadChunk);
 
 /// Checks what chunks are within these limits: so many times `b`, or nothing.
 fn assert_within(
@@ -156,30 +146,6 @@ fn assert_within(
     for most in [1usize, 4_096] {
         assert_both(rt, alloc, &chunks, within(most, limits), (wanted, left));
     }
-}
-
-#[test]
-fn lines_and_trailers_have_the_limits_of_heads(rt: HostRuntime) {
-    let alloc = rt.alloc();
-    // A line of 16,384 bytes, with its CR LF, and one of more.
-    let text: Text = (b"0;", b"x", 16_380, b"\r\n\r\n");
-    assert_within(&rt, alloc, text, USUAL, Ok(0), 0);
-    let text: Text = (b"0;", b"x", 16_381, b"\r\n\r\n");
-    assert_within(&rt, alloc, text, USUAL, LONG, 3);
-    // Trailers of 16,384 bytes, with the empty line.
-    let text: Text = (b"0\r\nA:", b"x", 16_378, b"\r\n\r\n");
-    assert_within(&rt, alloc, text, USUAL, Ok(0), 0);
-    let text: Text = (b"0\r\nA:", b"x", 16_379, b"\r\n\r\n");
-    assert_within(&rt, alloc, text, USUAL, LONG, 1);
-    // As many fields as a head may have, and one more, told at the end of its line.
-    let text: Text = (b"0\r\n", b"A: b\r\n", 64, b"\r\n");
-    assert_within(&rt, alloc, text, USUAL, Ok(0), 0);
-    let text: Text = (b"0\r\n", b"A: b\r\n", 65, b"\r\n");
-    assert_within(&rt, alloc, text, USUAL, LONG, 2);
-    let text: Text = (b"0\r\n", b"A: b\r\n", 3, b"\r\n");
-    assert_within(&rt, alloc, text, THREE, Ok(0), 0);
-    let text: Text = (b"0\r\n", b"A: b\n", 4, b"\n");
-    assert_within(&rt, alloc, text, THREE, LONG, 1);
 }
 
 #[test]

@@ -1,10 +1,7 @@
 //! Requests that a collector reads whole, and requests that are cut or fail.
 
 use crate::equal::assert_equal_at;
-use crate::fixture::{
-    BODY, PARTS, Rest, Text, Way, bytes_of, failing, in_parts, joined, rest_of, wire,
-};
-use crate::replies::LONG_FIELD;
+use crate::fixture::{BODY, PARTS, Rest, Way, bytes_of, failing, in_parts, joined, rest_of, wire};
 use otlp_serve::{FaultRead, HeadLimits, HttpFault, Post, PostFault, read_post};
 use std::alloc::{Allocator, Global};
 use std::process::Abort;
@@ -34,9 +31,6 @@ pub(crate) fn told<A: Allocator>(answer: &Result<Post<A>, PostFault>) -> Told<'_
         Err(fault) => Err(*fault),
     }
 }
-
-/// What a request with no body is read as.
-const EMPTY: Told<'static> = Ok(("GET", "/", b""));
 
 /// The whole request.
 const WHOLE: Told<'static> = Ok(("POST", "/v1/traces", BODY));
@@ -100,75 +94,6 @@ pub(crate) fn post_of(body: Result<&[u8], HttpFault>) -> Told<'_> {
     }
 }
 
-/// Checks what a request is read as, and how many of its bytes are left.
-fn assert_text(rt: &impl Abort, alloc: Global, text: Text, wanted: Told<'_>, left: usize) {
-    assert_read(rt, alloc, &bytes_of(rt, alloc, text), wanted, left);
-}
-
-#[test]
-fn a_request_has_its_parts(rt: HostRuntime) {
-    let alloc = rt.alloc();
-    let text: Text = (SHORT_HEAD, BODY, 1, b"");
-    assert_text(&rt, alloc, text, Ok(("PUT", "/x?y=é", BODY)), 0);
-    // What stands behind a request is left.
-    let text: Text = (HEAD, BODY, 1, b"");
-    assert_text(&rt, alloc, text, WHOLE, 0);
-    let text: Text = (HEAD, BODY, 1, b"POST");
-    assert_text(&rt, alloc, text, WHOLE, 4);
-    let text: Text = (HEAD, BODY, 2, b"");
-    assert_text(&rt, alloc, text, WHOLE, 7);
-    let text: Text = (b"GET / HTTP/1.1\r\n", b"", 0, b"\r\n");
-    assert_text(&rt, alloc, text, EMPTY, 0);
-}
-
-/// Checks what body a request has with these fields and three bytes behind its head, or why it has
-/// none, and how many of the bytes are left.
-fn assert_body(
-    rt: &impl Abort,
-    alloc: Global,
-    fields: &'static [u8],
-    body: Result<&[u8], HttpFault>,
-    left: usize,
-) {
-    let text = (
-        b"POST / HTTP/1.1\r\n".as_slice(),
-        fields,
-        1,
-        b"\r\nabc".as_slice(),
-    );
-    assert_text(rt, alloc, text, post_of(body), left);
-}
-
-#[test]
-fn a_body_is_as_long_as_its_head_says(rt: HostRuntime) {
-    let alloc = rt.alloc();
-    assert_body(&rt, alloc, b"", Ok(b""), 3);
-    assert_body(&rt, alloc, b"Content-Length: 0\r\n", Ok(b""), 3);
-    assert_body(&rt, alloc, b"Content-Length: 2\r\n", Ok(b"ab"), 1);
-    assert_body(
-        &rt,
-        alloc,
-        b"Content-Length: 2\r\ncontent-length:2 \r\n",
-        Ok(b"ab"),
-        1,
-    );
-    assert_body(&rt, alloc, b"Content-Length: 0003\r\n", Ok(b"abc"), 0);
-    assert_body(
-        &rt,
-        alloc,
-        b"Content-Length: 65536\r\n",
-        Err(HttpFault::Ended),
-        0,
-    );
-    assert_body(
-        &rt,
-        alloc,
-        b"Content-Length: 65537\r\n",
-        Err(HttpFault::TooLarge),
-        3,
-    );
-}
-
 /// Fields that tell no length.
 const NO_LENGTHS: [&[u8]; 10] = [
     b"Content-Length: x\r\n",
@@ -183,15 +108,28 @@ const NO_LENGTHS: [&[u8]; 10] = [
     b"Content-Length: 1\r\ntransfer-encoding: chunked\r\n",
 ];
 
+/// Checks that a request with these fields tells no length, and that the three bytes behind its head
+/// are left.
+fn assert_no_length(rt: &impl Abort, alloc: Global, fields: &'static [u8]) {
+    let text = (
+        b"POST / HTTP/1.1\r\n".as_slice(),
+        fields,
+        1,
+        b"\r\nabc".as_slice(),
+    );
+    let bad = PostFault::Body(HttpFault::BadLength);
+    assert_read(rt, alloc, &bytes_of(rt, alloc, text), Err(bad), 3);
+}
+
 #[test]
 fn a_length_that_is_none_is_bad(rt: HostRuntime) {
     for fields in NO_LENGTHS {
-        assert_body(&rt, rt.alloc(), fields, Err(HttpFault::BadLength), 3);
+        assert_no_length(&rt, rt.alloc(), fields);
     }
 }
 
-/// Checks that each front of a request with this head has ended.
-fn assert_cut(rt: &impl Abort, alloc: Global, head: &[u8]) {
+/// Checks that each front of a request with this head has ended, and what the whole is read as.
+fn assert_cut(rt: &impl Abort, alloc: Global, head: &[u8], wanted: Told<'_>) {
     let text = joined(rt, alloc, head, BODY);
     for size in 0..text.len() {
         let front = text.get(..size).expect(rt, "a front");
@@ -202,38 +140,13 @@ fn assert_cut(rt: &impl Abort, alloc: Global, head: &[u8]) {
         };
         assert_read(rt, alloc, front, Err(ended), 0);
     }
+    assert_read(rt, alloc, &text, wanted, 0);
 }
 
 #[test]
 fn a_request_that_is_cut_has_ended(rt: HostRuntime) {
-    assert_cut(&rt, rt.alloc(), HEAD);
-    assert_cut(&rt, rt.alloc(), SHORT_HEAD);
-}
-
-/// What a request is read as whose head is too large.
-const TOO_LARGE: Told<'static> = Err(PostFault::Head(HttpFault::TooLarge));
-
-#[test]
-fn a_head_has_limits(rt: HostRuntime) {
-    let alloc = rt.alloc();
-    let text: Text = (b"GET / HTTP/1.1\r\n", b"A: b\r\n", 64, b"\r\n");
-    assert_text(&rt, alloc, text, EMPTY, 0);
-    // A field too many is told at the end of the head.
-    let text: Text = (b"GET / HTTP/1.1\r\n", b"A: b\r\n", 65, b"\r\nc");
-    assert_text(&rt, alloc, text, TOO_LARGE, 1);
-    let text: Text = (b"GET / HTTP/1.1\r\n", LONG_FIELD, 64, b"\r\n");
-    assert_text(&rt, alloc, text, EMPTY, 0);
-    // Heads of 16,384 bytes, and of more.
-    let text: Text = (b"GET / HTTP/1.1\r\nA: ", b"b", 16_361, b"\r\n\r\n");
-    assert_text(&rt, alloc, text, EMPTY, 0);
-    let text: Text = (b"GET / HTTP/1.1\r\nA: ", b"b", 16_362, b"\r\n\r\n");
-    assert_text(&rt, alloc, text, TOO_LARGE, 1);
-    let text: Text = (b"", b"\n", 16_366, b"GET / HTTP/1.1\r\n\r\n");
-    assert_text(&rt, alloc, text, EMPTY, 0);
-    let text: Text = (b"", b"\r\n", 8_183, b"GET / HTTP/1.1\r\n\r\n");
-    assert_text(&rt, alloc, text, EMPTY, 0);
-    let text: Text = (b"", b"\n", 16_384, b"GET");
-    assert_text(&rt, alloc, text, TOO_LARGE, 3);
+    assert_cut(&rt, rt.alloc(), HEAD, WHOLE);
+    assert_cut(&rt, rt.alloc(), SHORT_HEAD, Ok(("PUT", "/x?y=é", BODY)));
 }
 
 /// Texts that are no request, and how many of their bytes are left.

@@ -23,27 +23,6 @@ const OK: &[u8] = b"HTTP/1.1 200 OK\r\n";
 /// The rest of a head that is not looked at, and three bytes behind it.
 const ABC: &[u8] = b"\r\nabc";
 
-/// Replies with neither fields nor a body, and their statuses.
-const STATUSES: [(&[u8], u16); 10] = [
-    (b"HTTP/1.1 200 Any\r\n\r\n", 200),
-    (b"HTTP/1.1 204 Any\r\n\r\n", 204),
-    (b"HTTP/1.1 299 Any\r\n\r\n", 299),
-    (b"HTTP/1.1 304 Any\r\n\r\n", 304),
-    (b"HTTP/1.1 400 Any\r\n\r\n", 400),
-    (b"HTTP/1.1 429 Any\r\n\r\n", 429),
-    (b"HTTP/1.1 503 Any\r\n\r\n", 503),
-    (b"HTTP/1.1 999 Any\r\n\r\n", 999),
-    (b"HTTP/1.1 099 Any\r\n\r\n", 99),
-    (b"HTTP/1.0 200\n\n", 200),
-];
-
-#[test]
-fn a_head_has_a_status(rt: HostRuntime) {
-    for (text, status) in STATUSES {
-        assert_read(&rt, rt.alloc(), text, Ok((status, None, Ok(b""))), 0);
-    }
-}
-
 /// Fields of a reply without a body, and the wait that it asks for.
 const WAITS: [(&[u8], Option<RetryAfter>); 17] = [
     (
@@ -110,28 +89,6 @@ fn the_first_wait_counts_if_it_is_one(rt: HostRuntime) {
     for (fields, wait) in WAITS {
         assert_asks(&rt, rt.alloc(), fields, wait);
     }
-}
-
-#[test]
-fn a_body_has_its_length(rt: HostRuntime) {
-    let alloc = rt.alloc();
-    let text: Text = (REPLY, b"", 0, b"");
-    assert_text(&rt, alloc, text, WHOLE, 0);
-    // Nothing behind a reply is read.
-    let text: Text = (REPLY, b"HTTP", 1, b"");
-    assert_text(&rt, alloc, text, WHOLE, 4);
-    let text: Text = (OK, b"Content-Length: 2\r\ncontent-length: 2 \r\n", 1, ABC);
-    assert_text(&rt, alloc, text, Ok((200, None, Ok(b"ab"))), 1);
-    let text: Text = (OK, b"Content-Length: 0002\r\n", 1, ABC);
-    assert_text(&rt, alloc, text, Ok((200, None, Ok(b"ab"))), 1);
-    let text: Text = (OK, b"Content-Length: 0\r\n", 1, ABC);
-    assert_text(&rt, alloc, text, Ok((200, None, Ok(b""))), 3);
-    let text: Text = (OK, b"", 0, ABC);
-    assert_text(&rt, alloc, text, Ok((200, None, Ok(b"abc"))), 0);
-    let text: Text = (b"HTTP/1.1 204 Any\r\n", b"Content-Length: 2\r\n", 1, ABC);
-    assert_text(&rt, alloc, text, Ok((204, None, Ok(b""))), 3);
-    let text: Text = (b"HTTP/1.1 304 Any\r\n", b"Content-Length: 2\r\n", 1, ABC);
-    assert_text(&rt, alloc, text, Ok((304, None, Ok(b""))), 3);
 }
 
 /// Fields of a reply with three bytes behind its head, why it has no body, and how many of the
@@ -236,67 +193,6 @@ fn of_a_bad_reply_its_head_is_read_at_most(rt: HostRuntime) {
     }
 }
 
-/// An interim head, which asks for a wait that doesn't count.
-const INTERIM: &[u8] = b"HTTP/1.1 100 Continue\r\nRetry-After: 1\r\n\r\n";
-
-/// The first line of a reply with no body, and the end of its head: 18 bytes.
-const PLAIN: &[u8] = b"HTTP/1.1 204 N\r\n\r\n";
-
-/// A field of 234 bytes.
-pub(crate) const LONG_FIELD: &[u8] =
-    b"X-Name: vvvvvvvvvvvvvvvvvvvvvvvvvvvvvvvvvvvvvvvvvvvvvvvvvvvvvvvv\
-    vvvvvvvvvvvvvvvvvvvvvvvvvvvvvvvvvvvvvvvvvvvvvvvvvvvvvvvvvvvvvvvvvvvvvvvvvvvvvvvvvvvv\
-    vvvvvvvvvvvvvvvvvvvvvvvvvvvvvvvvvvvvvvvvvvvvvvvvvvvvvvvvvvvvvvvvvvvvvvvvvvvvvvvvvvvv\
-    \r\n";
-
-/// What a reply is read as whose head is too large.
-const TOO_LARGE: Told<'static> = Err(HttpFault::TooLarge);
-
-/// What a reply with no body is read as.
-const NO_CONTENT: Told<'static> = Ok((204, None, Ok(b"")));
-
-#[test]
-fn a_head_has_limits(rt: HostRuntime) {
-    let alloc = rt.alloc();
-    let text: Text = (b"HTTP/1.1 204 N\r\n", b"A: b\r\n", 64, b"\r\n");
-    assert_text(&rt, alloc, text, NO_CONTENT, 0);
-    let text: Text = (b"HTTP/1.1 204 N\r\n", b"A: b\r\n", 65, b"\r\n");
-    assert_text(&rt, alloc, text, TOO_LARGE, 0);
-    let text: Text = (b"HTTP/1.1 204 N\r\n", LONG_FIELD, 64, b"\r\n");
-    assert_text(&rt, alloc, text, NO_CONTENT, 0);
-    // Heads of 16,384 bytes, and of more.
-    let text: Text = (b"HTTP/1.1 204\r\nA: ", b"b", 16_363, b"\r\n\r\n");
-    assert_text(&rt, alloc, text, NO_CONTENT, 0);
-    let text: Text = (b"HTTP/1.1 204\r\nA: ", b"b", 16_364, b"\r\n\r\n");
-    assert_text(&rt, alloc, text, TOO_LARGE, 1);
-    let text: Text = (b"", b"\n", 16_366, PLAIN);
-    assert_text(&rt, alloc, text, NO_CONTENT, 0);
-    let text: Text = (b"", b"\r\n", 8_183, PLAIN);
-    assert_text(&rt, alloc, text, NO_CONTENT, 0);
-    let text: Text = (b"", b"\n", 16_367, PLAIN);
-    assert_text(&rt, alloc, text, TOO_LARGE, 1);
-    let text: Text = (b"", b"\n", 16_384, PLAIN);
-    assert_text(&rt, alloc, text, TOO_LARGE, 18);
-    let text: Text = (b"", b"\n", 16_383, b"");
-    assert_text(&rt, alloc, text, Err(HttpFault::Ended), 0);
-    // What is no empty line.
-    let text: Text = (b"", b"\r", 1, PLAIN);
-    assert_text(&rt, alloc, text, Err(HttpFault::BadHead), 2);
-}
-
-#[test]
-fn sixteen_interim_heads_are_skipped(rt: HostRuntime) {
-    let alloc = rt.alloc();
-    let text: Text = (b"", INTERIM, 0, REPLY);
-    assert_text(&rt, alloc, text, WHOLE, 0);
-    let text: Text = (b"", INTERIM, 1, REPLY);
-    assert_text(&rt, alloc, text, WHOLE, 0);
-    let text: Text = (b"", INTERIM, 16, REPLY);
-    assert_text(&rt, alloc, text, WHOLE, 0);
-    let text: Text = (b"", INTERIM, 17, REPLY);
-    assert_text(&rt, alloc, text, Err(HttpFault::BadHead), 45);
-}
-
 #[test]
 fn interim_heads_may_stand_behind_many_empty_lines(rt: HostRuntime) {
     let alloc = rt.alloc();
@@ -319,7 +215,7 @@ const LOWER: [(HeadLimits, Told<'static>, usize); 3] = [
             fields: 0,
             body: 7,
         },
-        TOO_LARGE,
+        Err(HttpFault::TooLarge),
         7,
     ),
     (
@@ -328,7 +224,7 @@ const LOWER: [(HeadLimits, Told<'static>, usize); 3] = [
             fields: 1,
             body: 7,
         },
-        TOO_LARGE,
+        Err(HttpFault::TooLarge),
         8,
     ),
     (
