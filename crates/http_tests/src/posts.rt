@@ -108,8 +108,8 @@ const NO_LENGTHS: [&[u8]; 10] = [
     b"Content-Length: 1\r\ntransfer-encoding: chunked\r\n",
 ];
 
-/// Checks that a request with these fields tells no length, and that the three bytes behind its head
-/// are left.
+/// Checks that a request with these fields tells no length, and that the three bytes behind its
+/// head are left.
 fn assert_no_length(rt: &impl Abort, alloc: Global, fields: &'static [u8]) {
     let text = (
         b"POST / HTTP/1.1\r\n".as_slice(),

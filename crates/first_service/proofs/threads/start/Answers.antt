@@ -5,8 +5,8 @@ use Rattle.account_book.proofs.Crosses.{four_send, result_send}
 use Rattle.first_service.proofs.Sends.{count_send, error_send}
 use Rattle.first_service.proofs.threads.start.Goals as goal
 
--- what the thread's closure captures may cross: the runtime's value, the allocator, how many requests
--- and the pass
+-- what the thread's closure captures may cross: the runtime's value, the allocator, how many
+-- requests and the pass
 pub spawn-started-requires-send-F : goal.spawn-started-requires-send-F
 spawn-started-requires-send-F g c κs within =
     let b = c.type_bounds in
