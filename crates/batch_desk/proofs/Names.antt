@@ -1,23 +1,20 @@
--- The spans of a run that are moved, and the names that go onto the ledger, the last one first.
+-- The spans of a run that are moved, and the names that go onto a ledger, the first one first.
 use Rattle.std.proofs.Common.{◌≡◌, ◌≢◌, refl, sym, ap, ◌∙◌, ℕ, zero, suc, ◌+◌, false, List, [], ◌∷◌, ◌++◌, drop, take, append_assoc, Some, add-one}
-use Rattle.std.proofs.lemmas.List.{map-append, reverse-append}
+use Rattle.std.proofs.lemmas.List.{reverse-append}
 use Rattle.std.specs.Prelude.{map, reverse, slice_get}
 use Rattle.span_model.specs.Dropped.{queue_full, is_reason}
 use Rattle.otlp_span.specs.Dropped.{reason_view}
 use Rattle.otlp_span.specs.declared.reason.Reason.{Reason}
 use Rattle.otlp_span.specs.declared.reason.Reason.TheVariants.{QueueFull, EncodeMemory, TooLarge, Abandoned}
 
--- the last one goes in front of those that are named
-pub names-last : {X Y : Type 0} (f : X → Y) (items rest : List X) (x : X) (below above : List Y) → items ≡ rest ++ x ∷ [] → above ≡ f x ∷ below
-    → map f rest ++ above ≡ map f items ++ below
-names-last f items rest x below above e a =
-    ap (λ ys. map f rest ++ ys) a
-    ∙ sym (append_assoc (map f rest) (f x ∷ []) below)
-    ∙ ap (λ ys. ys ++ below) (sym (map-append f rest (x ∷ [])) ∙ ap (map f) (sym e))
-
--- the last one is the first of them all turned
-pub turned-last : {X : Type 0} (items rest : List X) (x : X) → items ≡ rest ++ x ∷ [] → reverse items ≡ x ∷ reverse rest
-turned-last items rest x e = ap reverse e ∙ reverse-append rest (x ∷ [])
+-- one more is named
+pub names-first : {X Y : Type 0} (f : X → Y) (items rest : List X) (x : X) (below above : List Y) → items ≡ x ∷ rest → above ≡ f x ∷ below
+    → reverse above ++ map f rest ≡ reverse below ++ map f items
+names-first f items rest x below above e a =
+    ap (λ ys. reverse ys ++ map f rest) a
+    ∙ ap (λ ys. ys ++ map f rest) (reverse-append (f x ∷ []) below)
+    ∙ append_assoc (reverse below) (f x ∷ []) (map f rest)
+    ∙ ap (λ zs. reverse below ++ map f zs) (sym e)
 
 -- the first one of those that are left behind the first ones
 next-taken : {X : Type 0} (items : List X) (count : ℕ) (x : X) → slice_get (drop count items) 0 ≡ Some x → take (suc count) items ≡ take count items ++ x ∷ []

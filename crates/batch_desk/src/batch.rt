@@ -1,4 +1,4 @@
-ghost use Rattle.std.specs.Prelude.{◌≡◌, ◌≢◌, ◌≤◌, ◌+◌, ◌-◌, ◌++◌, [], length, reverse, take, vec_capacity, vec_len};
+ghost use Rattle.std.specs.Prelude.{◌≡◌, ◌≢◌, ◌≤◌, ◌+◌, ◌-◌, ◌++◌, [], length, take, vec_capacity, vec_len};
 ghost use Rattle.otlp_span.specs.Dropped.{reason_view};
 ghost use Rattle.batch_desk.specs.Batch.{named_batch};
 
@@ -54,8 +54,7 @@ impl<A: Allocator> Batch<A> {
         ensures capacity { vec_capacity spent.new ≡ vec_capacity spent.old }
     {
         let count = self.run.len().min(spent.capacity() - spent.len());
-        self.run.reverse();
-        move_last(&mut self.run, count, spent);
+        move_first(&mut self.run, count, spent);
         self.run.clear();
     }
 
@@ -85,9 +84,8 @@ impl<A: Allocator> Batch<A> {
     }
 }
 
-/// Moves the last `count` spans of a run, the last one first, behind those of `into`, where there
-/// is room for them.
-fn move_last<A: Allocator>(
+/// Moves the first `count` spans of a run behind those of `into`, where there is room for them.
+fn move_first<A: Allocator>(
     run: &mut Run<SpanData<A>, A>,
     count: usize,
     into: &mut Vec<SpanData<A>, A>,
@@ -95,10 +93,10 @@ fn move_last<A: Allocator>(
     requires there { count ≤ length run.old.items }
     requires room { vec_len into.old + count ≤ vec_capacity into.old }
     ensures room { run.new.room ≡ run.old.room }
-    ensures into { into.new.items ≡ into.old.items ++ take count (reverse run.old.items) }
+    ensures into { into.new.items ≡ into.old.items ++ take count run.old.items }
     ensures capacity { vec_capacity into.new ≡ vec_capacity into.old }
 {
     for _ in 0..count {
-        into.push_reserved(run.pop_back().unwrap());
+        into.push_reserved(run.pop_front().unwrap());
     }
 }

@@ -77,16 +77,17 @@ pub(crate) fn name_span<A: Allocator>(
     remains
 }
 
-/// Names the spans of a run, the last one first, and frees all else of them: the names, in the
-/// order of the spans.
+/// Names the spans of a run, and frees all else of them: the names, in the order of the spans.
 pub(crate) fn names_of<A: Allocator>(run: &mut Run<SpanData<A>, A>, reason: Reason) -> Ledger<A>
     ensures names { result ≡ map (entry_of (reason_view reason)) run.old.items }
     ensures run { run.new ≡ record run.old { items = [] } }
 {
-    let mut ledger = Ledger::new();
+    let mut newest_first = Ledger::new();
     for _ in 0..run.len() {
-        let span = run.pop_back().unwrap();
-        name_span(&mut ledger, span, reason);
+        let span = run.pop_front().unwrap();
+        name_span(&mut newest_first, span, reason);
     }
-    ledger
+    let mut names = Ledger::new();
+    names.append_reversed(newest_first);
+    names
 }

@@ -1,2 +1,5 @@
 pub mod Lengths
+pub mod SlotItems
+pub mod SlotSizes
+pub mod Slots
 pub mod Steps

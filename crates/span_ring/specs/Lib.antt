@@ -1,4 +1,5 @@
 -- What contracts see of a ring and of a run, and how the segments of a ring hold its items.
 pub mod Run
 pub mod Segments
+pub mod Slot
 pub mod SpanRing

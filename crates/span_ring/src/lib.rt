@@ -10,6 +10,7 @@ mod ring;
 mod run;
 mod segment;
 mod segments;
+mod slot;
 
 pub use fault::RingFault;
 pub use ring::{MAX_QUEUE, SpanRing};

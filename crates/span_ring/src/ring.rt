@@ -182,7 +182,7 @@ impl<T, A: Allocator> SpanRing<T, A> {
         let segment = self.segments.detach_front(self.batch);
         self.len -= segment.len();
         self.run_out = true;
-        Some(Run { segment })
+        Some(segment.into_run())
     }
 
     /// Takes the run back, whose [`room`](Run::room) is the batch's, and drops what it still has.
@@ -193,9 +193,7 @@ impl<T, A: Allocator> SpanRing<T, A> {
         requires room { run.room ≡ self.old.batch }
         ensures { self.new ≡ record self.old { run_out = false } }
     {
-        let Run { mut segment } = run;
-        segment.clear();
-        self.segments.spare.push_reserved(segment);
+        self.segments.spare.push_reserved(run.into_spare());
         self.run_out = false;
     }
 }

@@ -1,6 +1,7 @@
-ghost use Rattle.std.specs.Prelude.{◌≡◌, ◌≤◌, ◌==◌, ◌++◌, [], length, option_to_list, reverse, IsNone, ◌↔◌};
+ghost use Rattle.std.specs.Prelude.{◌≡◌, ◌≤◌, ◌==◌, ◌++◌, [], length, option_to_list, IsNone, ◌↔◌};
 
 use crate::segment::Segment;
+use crate::slot::{Slot, view};
 use std::alloc::{Allocator, Global};
 use std::fmt;
 use std::marker::Model;
@@ -10,39 +11,53 @@ use std::marker::Model;
 /// A run can't be dropped: it goes back to the ring by
 /// [`SpanRing::give_back`](crate::SpanRing::give_back).
 pub struct Run<T, A: Allocator = Global> {
-    pub(crate) segment: Segment<T, A>,
+    pub(crate) slots: Vec<Slot<T>, A>,
+    // How many slots have no item any more: the first ones.
+    pub(crate) taken: usize,
 }
 
 impl<T, A: Allocator> Model for Run<T, A> {
+    ghost use Rattle.std.specs.Prelude.{vec_capacity};
     ghost use Rattle.span_ring.specs.Run.{RunView};
+    ghost use Rattle.span_ring.specs.Slot.{AreTaken, items_in};
 
     ghost Value = { RunView T };
 
-    ghost view = { λ r. r.segment };
+    ghost view = { λ r. record {
+      items = items_in r.slots.items;
+      room = vec_capacity r.slots;
+    } };
+
+    ghost invariant = { λ r. AreTaken r.taken r.slots.items };
 }
 
 impl<T, A: Allocator> Run<T, A> {
-    /// Drops the items.
+    /// Drops the items, first to last.
+    #[tactic(auto, using(crate::proofs::SlotItems::slot_items))]
     pub fn clear(&mut self)
     where
         T: Drop,
         ensures { self.new ≡ record self.old { items = [] } }
     {
-        self.segment.clear();
+        while let Some(item) = self.pop_front() {
+            drop(item);
+        }
     }
 
     /// The items, first to last.
+    #[tactic(auto, using(crate::proofs::SlotItems::slot_items))]
     pub fn as_slice(&self) -> &[T]
         ensures { result.now ≡ self.now.items }
     {
-        self.segment.as_slice()
+        view(&self.slots.as_slice()[self.taken..])
     }
 
     /// How many items the run has.
+    #[tactic(auto, using(crate::proofs::SlotItems::slot_items))]
     pub fn len(&self) -> usize
         ensures { result ≡ length self.now.items }
     {
-        self.segment.len()
+        self.slots.len() - self.taken
     }
 
     /// Whether the run has no item.
@@ -53,27 +68,39 @@ impl<T, A: Allocator> Run<T, A> {
     }
 
     /// How many items the run has room for: the size of a batch of its ring.
+    #[tactic(auto, using(crate::proofs::SlotItems::slot_items))]
     pub fn room(&self) -> usize
         ensures room { result ≡ self.now.room }
         ensures within { length self.now.items ≤ result }
     {
-        self.segment.room()
+        self.slots.capacity()
     }
 
-    /// Turns the order of the items, so that [`pop_back`](Run::pop_back) takes the first one first.
-    pub fn reverse(&mut self)
-        ensures { self.new ≡ record self.old { items = reverse self.old.items } }
-    {
-        self.segment.reverse();
-    }
-
-    /// Takes the last item out. `None` where there is none.
-    pub fn pop_back(&mut self) -> Option<T>
+    /// Takes the first item out, in constant time. `None` where there is none.
+    #[tactic(auto, using(crate::proofs::SlotItems::slot_items))]
+    pub fn pop_front(&mut self) -> Option<T>
         ensures none { IsNone result ↔ (self.old.items ≡ []) }
-        ensures last { self.old.items ≡ self.new.items ++ option_to_list result }
+        ensures first { self.old.items ≡ option_to_list result ++ self.new.items }
         ensures room { self.new.room ≡ self.old.room }
     {
-        self.segment.pop_back()
+        if self.taken == self.slots.len() {
+            return None;
+        }
+        let item = self.slots[self.taken].take();
+        self.taken += 1;
+        Some(item)
+    }
+
+    /// Drops the items that are left, and leaves a segment without items.
+    #[tactic(auto, using(crate::proofs::SlotItems::slot_items))]
+    pub(crate) fn into_spare(mut self) -> Segment<T, A>
+    where
+        T: Drop,
+        ensures { result ≡ record self { items = [] } }
+    {
+        self.clear();
+        let Run { slots, taken: _ } = self;
+        Segment::of_gone(slots)
     }
 }
 

@@ -63,17 +63,64 @@ fn rings_and_runs_are_shown(rt: HostRuntime) -> Result<(), Fail> {
     let text = "SpanRing { items: [2, 3, 4], queue: 3, batch: 2, run_out: true }";
     assert_shown(&rt, alloc, &ring, text);
     assert_both_send(&ring, &run);
-    run.reverse();
-    assert_shown(&rt, alloc, &run, "[1, 0]");
-    assert_equal(&rt, run.pop_back(), Some(0));
+    assert_equal(&rt, run.pop_front(), Some(0));
+    assert_shown(&rt, alloc, &run, "[1]");
     assert_equal(&rt, (run.len(), run.room()), (1, 2));
     run.clear();
-    assert_equal(&rt, (run.is_empty(), run.pop_back()), (true, None));
+    assert_equal(&rt, (run.is_empty(), run.pop_front()), (true, None));
     give_back(&rt, &mut ring, run);
     let run = take(&rt, &mut ring).expect(&rt, "items wait");
     assert_shown(&rt, alloc, &run, "[2, 3]");
     give_back(&rt, &mut ring, run);
     assert_equal(&rt, (ring.len(), ring.is_empty()), (1, false));
+    Ok(())
+}
+
+/// Takes the items of a run one by one, as digits behind others, and gives the run back.
+fn read_run(rt: &impl Abort, ring: &mut SpanRing<u32>, mut run: Run<u32>, digits: u32) -> u32 {
+    let mut read = digits;
+    for _ in 0..run.len() {
+        if let Some(item) = run.pop_front() {
+            read = read.wrapping_mul(10).wrapping_add(item);
+        }
+    }
+    give_back(rt, ring, run);
+    read
+}
+
+/// Takes a run, reads it, and gives it back: no digit where none waits.
+fn read_next(rt: &impl Abort, ring: &mut SpanRing<u32>, digits: u32) -> u32 {
+    match take(rt, ring) {
+        Some(run) => read_run(rt, ring, run, digits),
+        None => digits,
+    }
+}
+
+#[test]
+fn a_ring_of_one_item_takes_another_while_its_run_is_out(rt: HostRuntime) -> Result<(), Fail> {
+    let mut ring = new_ring(rt.alloc(), 1, 1)?;
+    assert_equal(&rt, ring.push(1), Ok(()));
+    let run = take(&rt, &mut ring).expect(&rt, "an item waits");
+    assert_equal(&rt, ring.push(2), Ok(()));
+    assert_equal(&rt, ring.push(3), Err(3));
+    let digits = read_run(&rt, &mut ring, run, 0);
+    assert_equal(&rt, read_next(&rt, &mut ring, digits), 12);
+    Ok(())
+}
+
+#[test]
+fn all_four_segments_are_in_use_while_the_second_run_is_out(rt: HostRuntime) -> Result<(), Fail> {
+    let mut ring = new_ring(rt.alloc(), 5, 2)?;
+    assert_equal(&rt, fill(&mut ring, 1..4), 3);
+    let digits = read_next(&rt, &mut ring, 0);
+    let run = take(&rt, &mut ring).expect(&rt, "an item waits");
+    // Five of six are taken.
+    assert_equal(&rt, fill(&mut ring, 4..10), 5);
+    let mut digits = read_run(&rt, &mut ring, run, digits);
+    for _ in 0..3 {
+        digits = read_next(&rt, &mut ring, digits);
+    }
+    assert_equal(&rt, digits, 12_345_678);
     Ok(())
 }
 
@@ -107,7 +154,7 @@ fn each_item_is_dropped_once(rt: HostRuntime) -> Result<(), Fail> {
         let mut ring = new_ring(rt.alloc(), 4, 4)?;
         push_counted(&rt, &mut ring, &drops, 3);
         let mut run = take(&rt, &mut ring).expect(&rt, "three items wait");
-        drop(run.pop_back());
+        drop(run.pop_front());
         assert_equal(&rt, drops.get(), 1);
         give_back(&rt, &mut ring, run);
         assert_equal(&rt, drops.get(), 3);
