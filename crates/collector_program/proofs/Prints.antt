@@ -5,13 +5,15 @@ use Rattle.std.proofs.lemmas.List.{take-append-le}
 use Rattle.std.specs.Io.KnownBytes.{Appends}
 use Rattle.std.proofs.KnownBytes.{Appends-nil, Appends-trans}
 use Rattle.std.specs.Prelude.{None, Some, Ok, Err, Result, OnErr, OnOk}
+use Rattle.std.proofs.lemmas.List.Elements.{All-nil, All-push}
+use Rattle.http_wire.specs.declared.limits.HeadLimits.{HeadLimits}
 use Rattle.std.specs.Option.{option_map_or}
 use Rattle.message_model.specs.Messages.{triples}
 use Rattle.message_model.specs.Tables
 use Rattle.message_model.specs.Tables.{Message}
 use Rattle.span_text.specs.Lines.{spans_text}
 use Rattle.span_text.specs.Printed.{AppendsFront}
-use Rattle.collector_program.specs.Printed.{Outcome, PrintsAll, PrintsConnections, connection_text, connections_text, listening_line}
+use Rattle.collector_program.specs.Printed.{Outcome, MayBecome, PrintsAll, PrintsConnections, PrintsOne, PrintsServed, collector_limits, connection_text, connections_text, listening_line, no_outcome, nothing, served}
 
 -- ---- fronts
 
@@ -27,8 +29,8 @@ front-rest old now new first rest f r =
 
 -- ---- one connection after another
 
-pub none-yet : (old : Option (List ℕ)) → PrintsConnections 0 old old
-none-yet old = record { outcomes = []; many = refl; gained = Appends-nil old }
+pub none-yet : (limits : HeadLimits) (old : Option (List ℕ)) → PrintsConnections limits 0 old old
+none-yet limits old = record { outcomes = []; many = refl; each = All-nil (MayBecome limits); gained = Appends-nil old }
 
 more-text : (number : ℕ) (outcomes : List Outcome) (last : Outcome) → connections_text number (outcomes ++ last ∷ []) ≡ connections_text number outcomes ++ connection_text (number + length outcomes) last
 more-text number [] last =
@@ -39,23 +41,28 @@ more-text number (o ∷ outcomes) last =
     ap (λ t. connection_text number o ++ t) (more-text (number + 1) outcomes last ∙ ap (λ n. connections_text (number + 1) outcomes ++ connection_text n last) same)
     ∙ sym (append_assoc (connection_text number o) (connections_text (number + 1) outcomes) (connection_text (number + suc (length outcomes)) last))
 
-pub one-more : (n : ℕ) (old now new : Option (List ℕ)) (last : Outcome) → PrintsConnections n old now → Appends now new (connection_text (n + 1) last) → PrintsConnections (n + 1) old new
-one-more n old now new last h more =
+pub one-more : (limits : HeadLimits) (n : ℕ) (old now new : Option (List ℕ)) → PrintsConnections limits n old now → PrintsOne limits (n + 1) now new → PrintsConnections limits (n + 1) old new
+one-more limits n old now new h one =
+    let last = one.outcome in
+    let more = one.gained in
     let number : 1 + length h.outcomes ≡ n + 1 = rw h.many (omega arith) in
     let text = more-text 1 h.outcomes last ∙ ap (λ k. connections_text 1 h.outcomes ++ connection_text k last) number in
     record {
       outcomes = h.outcomes ++ last ∷ [];
       many = length-append h.outcomes (last ∷ []) ∙ ap (λ k. k + 1) h.many;
+      each = All-push (MayBecome limits) h.outcomes last h.each one.is;
       gained = rw text (Appends-trans old now new (connections_text 1 h.outcomes) (connection_text (n + 1) last) h.gained more);
     }
 
 -- the line of the port, and then the connections
-pub all-printed : (port told count : ℕ) (old now new : Option (List ℕ)) → (port ≢ 0 → told ≡ port) → Appends old now (listening_line told) → PrintsConnections count now new → PrintsAll port count old new
-all-printed port told count old now new named line h = record {
+pub all-printed : (port told count max_body : ℕ) (old now new : Option (List ℕ)) → (port ≢ 0 → told ≡ port) → Appends old now (listening_line told)
+    → PrintsConnections (collector_limits max_body) count now new → PrintsAll port count max_body old new
+all-printed port told count max_body old now new named line h = record {
   told = told;
   named = named;
   outcomes = h.outcomes;
   many = h.many;
+  each = h.each;
   gained = Appends-trans old now new (listening_line told) (connections_text 1 h.outcomes) line h.gained;
 }
 
@@ -90,10 +97,16 @@ both-begun (Err x) old now new line o m e first rest = rw e (front-rest old now 
 pub line-alone : (old now : Option (List ℕ)) (line : List ℕ) (o : Option (Message Tables.request)) → o ≡ None → Appends old now line → Appends old now (line ++ spans_part o)
 line-alone old now line o e first = rw (e, append-nil line) first
 
--- ---- texts in memory
+-- ---- one connection
 
-pub in-memory : (number : ℕ) (before after : List ℕ) → before ≡ [] → ((outcome : Outcome) × Appends (Some before) (Some after) (connection_text number outcome)) → (outcome : Outcome) × (after ≡ connection_text number outcome)
-in-memory number before after none h = (h.0, h.1 ∙ ap (λ l. l ++ connection_text number h.0) none)
+pub one-without : (limits : HeadLimits) (number : ℕ) (old new : Option (List ℕ)) → Appends old new (connection_text number no_outcome) → PrintsOne limits number old new
+one-without limits number old new gained = record { outcome = no_outcome; is = nothing refl; gained = gained }
 
-pub written : (number : ℕ) (old new : Option (List ℕ)) (text : List ℕ) → ((outcome : Outcome) × (text ≡ connection_text number outcome)) → Appends old new text → (outcome : Outcome) × Appends old new (connection_text number outcome)
-written number old new text h gained = (h.0, subst (Appends old new) h.1 gained)
+pub one-served : (limits : HeadLimits) (number : ℕ) (old new : Option (List ℕ)) (before after : ℕ) (written writes printed prints : Option (List ℕ))
+    → PrintsServed limits number old new before after written writes printed prints → PrintsOne limits number printed prints
+one-served limits number old new before after written writes printed prints h =
+    record { outcome = h.outcome; is = served old new before after written writes h.is; gained = h.gained }
+
+-- a text in memory that is put out
+pub one-written : (limits : HeadLimits) (number : ℕ) (text : List ℕ) (old new : Option (List ℕ)) → PrintsOne limits number (Some []) (Some text) → Appends old new text → PrintsOne limits number old new
+one-written limits number text old new h gained = record { outcome = h.outcome; is = h.is; gained = subst (Appends old new) h.gained gained }

@@ -1,5 +1,5 @@
 -- What the program prints. (profile)
-use Rattle.std.specs.Prelude.{◌≡◌, ◌≢◌, ℕ, ◌+◌, List, [], ◌∷◌, ◌++◌, length, Option, Some, None, codes, decimal, option_map}
+use Rattle.std.specs.Prelude.{◌≡◌, ◌≢◌, ℕ, ◌+◌, List, [], ◌∷◌, ◌++◌, length, All, Option, Some, None, codes, decimal, option_map}
 use Rattle.std.specs.Option.{option_map_or}
 use Rattle.std.specs.Io.KnownBytes.{Appends}
 use Rattle.message_model.specs.Messages.{triples}
@@ -73,23 +73,44 @@ pub record PrintsServedFront (limits : HeadLimits) (number : ℕ) (old new : Opt
 
 -- ---- the program
 
+-- what is read of a request: heads as `HeadLimits::default` has them, and bodies up to the limit
+abbrev pub collector_limits : ℕ → HeadLimits
+collector_limits max_body = record { head = 16_384; fields = 64; body = max_body }
+
+-- It is what can become of a connection: there was none, or none that could be made ready; or it
+-- was served so, whatever came over it.
+pub data MayBecome (limits : HeadLimits) (outcome : Outcome) : Type 0 where
+  nothing : outcome ≡ no_outcome → MayBecome limits outcome
+  served : (old new : Option (List ℕ)) (before after : ℕ) (written writes : Option (List ℕ))
+      → HasOutcome limits old new before after written writes outcome
+      → MayBecome limits outcome
+
+-- what is known of the output gained the text of what can become of the connection with this number
+pub record PrintsOne (limits : HeadLimits) (number : ℕ) (old new : Option (List ℕ)) : Type 0 where
+  pub outcome : Outcome
+  pub is : MayBecome limits outcome
+  pub gained : Appends old new (connection_text number outcome)
+
 -- the texts of connections, which are counted from this number
 abbrev pub connections_text : ℕ → List Outcome → List ℕ
 connections_text number [] = []
 connections_text number (outcome ∷ rest) =
     connection_text number outcome ++ connections_text (number + 1) rest
 
--- what is known of the output gained the texts of so many connections
-pub record PrintsConnections (count : ℕ) (old new : Option (List ℕ)) : Type 0 where
+-- what is known of the output gained the texts of what can become of so many connections
+pub record PrintsConnections (limits : HeadLimits) (count : ℕ) (old new : Option (List ℕ))
+    : Type 0 where
   pub outcomes : List Outcome
   pub many : length outcomes ≡ count
+  pub each : All (MayBecome limits) outcomes
   pub gained : Appends old new (connections_text 1 outcomes)
 
 -- It gained the line of the port, which is the one that was asked for where that isn't 0, and
--- behind it the texts of so many connections.
-pub record PrintsAll (port count : ℕ) (old new : Option (List ℕ)) : Type 0 where
+-- behind it the texts of what can become of so many connections, with bodies up to the limit.
+pub record PrintsAll (port count max_body : ℕ) (old new : Option (List ℕ)) : Type 0 where
   pub told : ℕ
   pub named : port ≢ 0 → told ≡ port
   pub outcomes : List Outcome
   pub many : length outcomes ≡ count
+  pub each : All (MayBecome (collector_limits max_body)) outcomes
   pub gained : Appends old new (listening_line told ++ connections_text 1 outcomes)

@@ -2,7 +2,7 @@
 
 ghost use Rattle.std.specs.Prelude.{◌≡◌, ◌≤◌, OnOk};
 ghost use Rattle.std.specs.Io.KnownBytes.{Appends};
-ghost use Rattle.collector_program.specs.Printed.{Outcome, connection_text};
+ghost use Rattle.collector_program.specs.Printed.{PrintsOne, connection_text, no_outcome};
 
 use crate::connection::{print_connection, serve};
 use http_wire::{Counted, FaultWrite, HeadLimits};
@@ -83,8 +83,8 @@ pub(crate) fn serve_stream<S: Read + Write + OpenStream + Drop, O: FaultWrite>(
     output: &mut O,
 ) -> Result<(), PrintFault>
     requires { limits.now.fields ≤ 64 }
-    ensures { OnOk result ((outcome : Outcome) × Appends (O.contents output.old)
-        (O.contents output.new) (connection_text number outcome)) }
+    ensures { OnOk result (PrintsOne limits.now number
+        (O.contents output.old) (O.contents output.new)) }
 {
     let Ok(stream) = stream else {
         return print_none(alloc, number, output);
@@ -100,8 +100,8 @@ pub(crate) fn serve_stream<S: Read + Write + OpenStream + Drop, O: FaultWrite>(
 
 /// Prints a connection without a reply.
 fn print_none<O: FaultWrite>(alloc: Global, number: u64, output: &mut O) -> Result<(), PrintFault>
-    ensures { OnOk result ((outcome : Outcome) × Appends (O.contents output.old)
-        (O.contents output.new) (connection_text number outcome)) }
+    ensures { OnOk result (Appends (O.contents output.old) (O.contents output.new)
+        (connection_text number no_outcome)) }
 {
     let answered: Answered = Answered {
         status: None,

@@ -1,9 +1,9 @@
 //! The program `otlp-collector`, over a runtime and writers.
 
-ghost use Rattle.std.specs.Prelude.{◌≡◌, ◌≢◌, ◌≤◌, ◌⊎◌, IfOk, OnOk, codes};
+ghost use Rattle.std.specs.Prelude.{◌≡◌, ◌≢◌, ◌≤◌, ◌⊎◌, [], IfOk, OnOk, Some, codes};
 ghost use Rattle.std.specs.Io.KnownBytes.{Appends, Keeps};
 ghost use Rattle.collector_program.specs.Command.{AskForHelp, IsTaken, number_in};
-ghost use Rattle.collector_program.specs.Printed.{Outcome, PrintsAll, PrintsConnections, connection_text, listening_line};
+ghost use Rattle.collector_program.specs.Printed.{PrintsAll, PrintsConnections, PrintsOne, collector_limits, listening_line};
 
 use crate::args::{CollectorArgs, tell_words};
 use crate::failure::{Failure, tell};
@@ -31,6 +31,7 @@ pub fn run_collector<R: Net, W: Write, F: Write>(
     ensures asked { result ≡ 0 → IsTaken words.now ⊎ AskForHelp words.now }
     ensures printed { IsTaken words.now → result ≡ 0 → PrintsAll
         (number_in (codes "port") 4318 words.now) (number_in (codes "count") 1 words.now)
+        (number_in (codes "max-body") 16_777_216 words.now)
         (W.contents output.old) (W.contents output.new) }
     ensures refused { IsTaken words.now → result ≢ 2 }
     ensures quiet { result ≡ 2 → Keeps (W.contents output.old) (W.contents output.new) }
@@ -61,7 +62,7 @@ pub fn collect<R: Net, W: Write, F: Write>(
     faults: &mut F,
 ) -> u8
     ensures status { (result ≡ 0) ⊎ ((result ≡ 1) ⊎ (result ≡ 3)) }
-    ensures printed { result ≡ 0 → PrintsAll args.port args.count
+    ensures printed { result ≡ 0 → PrintsAll args.port args.count args.max_body
         (W.contents output.old) (W.contents output.new) }
     ensures untold { result ≡ 0 → Keeps (F.contents faults.old) (F.contents faults.new) }
 {
@@ -78,7 +79,7 @@ fn listen_and_serve<R: Net, W: Write>(
     args: CollectorArgs,
     output: &mut W,
 ) -> Result<(), Failure>
-    ensures { OnOk result (PrintsAll args.port args.count
+    ensures { OnOk result (PrintsAll args.port args.count args.max_body
         (W.contents output.old) (W.contents output.new)) }
 {
     let Ok(listener) = TcpListener::bind(rt, (Ipv4Addr::LOCALHOST, args.port)) else {
@@ -86,7 +87,23 @@ fn listen_and_serve<R: Net, W: Write>(
     };
     let port = port_of(&listener, args.port)?;
     print_port(alloc, port, output)?;
-    serve_connections(alloc, &listener, args, output)
+    serve_connections(
+        alloc,
+        &listener,
+        args.count,
+        &limits_of(args.max_body),
+        output,
+    )
+}
+
+/// What is read of a request whose body has at most so many bytes.
+fn limits_of(max_body: u64) -> HeadLimits
+    ensures { result ≡ collector_limits max_body }
+{
+    HeadLimits {
+        body: max_body as usize,
+        ..HeadLimits::default()
+    }
 }
 
 /// The port that is listened at, where 0 was a free one.
@@ -130,24 +147,22 @@ fn print<W: Write>(output: &mut W, text: &[u8]) -> Result<(), Failure>
 fn serve_connections<L: OpenListener, W: Write>(
     alloc: Global,
     listener: &L,
-    args: CollectorArgs,
+    count: u64,
+    limits: &HeadLimits,
     output: &mut W,
 ) -> Result<(), Failure>
 where
     L::Stream: Read + Write + OpenStream,
-    ensures { OnOk result (PrintsConnections args.count
+    requires { limits.now.fields ≤ 64 }
+    ensures { OnOk result (PrintsConnections limits.now count
         (W.contents output.old) (W.contents output.new)) }
 {
-    let limits = HeadLimits {
-        body: usize::try_from(args.max_body).unwrap_or(usize::MAX),
-        ..HeadLimits::default()
-    };
-    for served in 0..args.count {
+    for served in 0..count {
         let stream = match listener.accept() {
             Ok((stream, _)) => Ok(stream),
             Err(error) => Err(error),
         };
-        serve_next(alloc, served + 1, stream, &limits, output)?;
+        serve_next(alloc, served + 1, stream, limits, output)?;
     }
     Ok(())
 }
@@ -161,8 +176,8 @@ fn serve_next<S: Read + Write + OpenStream + Drop, W: Write>(
     output: &mut W,
 ) -> Result<(), Failure>
     requires { limits.now.fields ≤ 64 }
-    ensures { OnOk result ((outcome : Outcome) × Appends (W.contents output.old)
-        (W.contents output.new) (connection_text number outcome)) }
+    ensures { OnOk result (PrintsOne limits.now number
+        (W.contents output.old) (W.contents output.new)) }
 {
     let text = text_of_next(alloc, number, stream, limits)?;
     print(output, text.as_slice())
@@ -178,7 +193,7 @@ fn text_of_next<S: Read + Write + OpenStream + Drop>(
 ) -> Result<Vec<u8>, Failure>
     requires { limits.now.fields ≤ 64 }
     ensures { IfOk result (λ text.
-        (outcome : Outcome) × (text.items ≡ connection_text number outcome)) }
+        PrintsOne limits.now number (Some []) (Some text.items)) }
 {
     let mut text = Counted::new(Vec::new(alloc));
     match serve_stream(alloc, number, stream, limits, &mut text) {

@@ -1,18 +1,18 @@
 //! A collector on loopback, on a thread of its own.
 
 use crate::batches::Batches;
-use http_wire::{Counted, HeadLimits};
+use http_wire::{Counted, Front, HeadLimits};
 use otlp_collector::{Answered, Canned, CannedStatus, answer};
 use std::alloc::Global;
-use std::io::BufReader;
+use std::io::{BufReader, Write};
 use std::net::{Ipv4Addr, Net, TcpListener, TcpStream};
 use std::sync::Arc;
 use std::sync::atomic::{AtomicBool, Ordering};
 use std::thread::{self, JoinHandle, Threads};
 use std::time::Duration;
 
-/// How long a connection, a read and a write may each take, in milliseconds.
-pub(crate) const TIMEOUT_MS: u64 = 10_000;
+/// How long a read and a write of a connection may each take, in milliseconds.
+const TIMEOUT_MS: u64 = 10_000;
 
 /// The most bytes of a body that the collector takes.
 const MAX_BODY: usize = 16_777_216;
@@ -100,7 +100,9 @@ enum Served {
     Request(Answered),
 }
 
-/// Serves a connection. `None` where it can't be for want of memory.
+/// Serves a connection. The reply is put together first, so that the request is kept also where the
+/// reply breaks off: the exporter sends the body again then. `None` where the connection can't be
+/// served for want of memory.
 fn serve(alloc: Global, stream: &TcpStream, canned: Option<Canned>) -> Option<Served> {
     let timeout = Duration::from_millis(TIMEOUT_MS);
     stream.set_read_timeout(Some(timeout)).ok()?;
@@ -110,16 +112,15 @@ fn serve(alloc: Global, stream: &TcpStream, canned: Option<Canned>) -> Option<Se
         ..HeadLimits::default()
     };
     let mut reader = Counted::new(BufReader::new(alloc, stream).ok()?);
-    let mut writer = Counted::new(stream);
-    match answer(alloc, alloc, &mut reader, &mut writer, &limits, canned) {
-        Ok(answered) if answered.status.is_none() => Some(Served::NoRequest),
-        Ok(answered) => Some(Served::Request(answered)),
-        // The reply didn't go out whole: the exporter sends the body again.
-        Err(_) => Some(Served::Request(Answered {
-            status: None,
-            request: None,
-        })),
+    let mut reply = Front::new();
+    // There is room for each reply.
+    let answered = answer(alloc, alloc, &mut reader, &mut reply, &limits, canned).ok()?;
+    if answered.status.is_none() {
+        return Some(Served::NoRequest);
     }
+    let mut writer = stream;
+    let _ = writer.write_all(reply.taken());
+    Some(Served::Request(answered))
 }
 
 /// The reply to the good body with this number, from 0 on: 200, 502, 429, 200 over and over. Who is

@@ -4,7 +4,7 @@ ghost use Rattle.std.specs.Io.KnownBytes.{Keeps};
 ghost use Rattle.demo_program.specs.Command.{AreMistaken, AskForHelp, AskForRun};
 
 use crate::args::DemoArgs;
-use crate::collector::{Collector, TIMEOUT_MS};
+use crate::collector::Collector;
 use crate::lanes::{end_on_all, make_lanes, passes_of, shut_down};
 use crate::sums::Sums;
 use batch_desk::DeskConfig;
@@ -12,7 +12,7 @@ use batch_processor::{
     Accounts, BatchBlank, BatchConfig, BatchProcessor, Clock, Naming, Parts, SystemClock,
     WorkerPass,
 };
-use http_exporter::HttpExporter;
+use http_exporter::{DEFAULT_EXPORT_TIMEOUT_MS, HttpExporter};
 use otlp_http::{DEFAULT_PATH, Target};
 use rand_core::SeedableRng;
 use rand_pcg::Pcg64;
@@ -119,7 +119,7 @@ where
 {
     let config = config_of(args);
     let target = Target::new(alloc, "127.0.0.1", port, DEFAULT_PATH).ok()?;
-    let exporter = HttpExporter::new(alloc, rt, target, TIMEOUT_MS);
+    let exporter = HttpExporter::new(alloc, rt, target, DEFAULT_EXPORT_TIMEOUT_MS);
     let now = SystemClock::new(rt).now();
     let parts = BatchProcessor::<J, R>::new(alloc, rt, blank, config, args.threads, now).ok()?;
     let Parts {

@@ -11,11 +11,8 @@ use std::env;
 use std::io::Write;
 use std::marker::Brand;
 use std::process::ExitCode;
-use trace_kit::http::{DEFAULT_PATH, HttpExporter, Target};
+use trace_kit::http::{DEFAULT_EXPORT_TIMEOUT_MS, DEFAULT_PATH, HttpExporter, Target};
 use trace_kit::processor::BatchBlank;
-
-/// How long a connection, a read and a write may each take, in milliseconds.
-const TIMEOUT_MS: u64 = 10_000;
 
 fn main(rt: HostRuntime) -> Result<ExitCode> {
     let alloc = rt.alloc();
@@ -30,7 +27,8 @@ fn main(rt: HostRuntime) -> Result<ExitCode> {
         port.as_str().parse::<u16>()?,
         DEFAULT_PATH,
     )?;
-    let exporter = HttpExporter::new(alloc, rt, target, TIMEOUT_MS).reading_after_a_stop();
+    let timeout_ms = DEFAULT_EXPORT_TIMEOUT_MS;
+    let exporter = HttpExporter::new(alloc, rt, target, timeout_ms).reading_after_a_stop();
     // `Brand` stands for the name of this one processor, which the types of its passes have.
     let accounts = service::run::<Brand, HostRuntime>(rt, alloc, BatchBlank::new(), exporter)?;
     let totals = accounts.desk.totals();

@@ -10,4 +10,4 @@ mod tcp;
 
 pub use dial::Dial;
 pub use exporter::LinkExporter;
-pub use tcp::{HttpExporter, TcpDial};
+pub use tcp::{DEFAULT_EXPORT_TIMEOUT_MS, HttpExporter, TcpDial};

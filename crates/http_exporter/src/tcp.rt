@@ -11,6 +11,13 @@ use std::marker::Model;
 use std::net::{Net, OpenStream, TcpStream, ToSocketAddrs};
 use std::time::Duration;
 
+/// How long an export may take where no other time is chosen, in milliseconds: what a program hands
+/// to [`LinkExporter::new`] then (OpenTelemetry Trace SDK, "Batching processor",
+/// `exportTimeoutMillis`).
+pub const DEFAULT_EXPORT_TIMEOUT_MS: u64 = 30_000;
+
+const _: () = prove!(DEFAULT_EXPORT_TIMEOUT_MS == 30_000);
+
 /// Dials over TCP: a connection of its own for each request, without Nagle's delay, and without a
 /// buffer: each byte of a reply's head costs a call of the system. What a system's sockets give and
 /// take no contract says. In contracts it is a `TcpDialing`.

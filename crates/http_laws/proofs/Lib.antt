@@ -4,6 +4,7 @@ pub mod ChunksAgree
 pub mod Fields
 pub mod Interims
 pub mod Lacks
+pub mod PostFaultsAgree
 pub mod PostFields
 pub mod PostsAgree
 pub mod TrailersAgree

@@ -17,7 +17,7 @@ use Rattle.http_laws.proofs.Lacks.{front_of}
 use Rattle.http_laws.proofs.PostFields.{exceeds_not}
 
 -- no head stands where none came
-lacks_not : (limits : HeadLimits) (text left : List ℕ) (failed : Type 0) (fault : HttpFault) (head : RequestHead) (rest : List ℕ)
+pub lacks_not : (limits : HeadLimits) (text left : List ℕ) (failed : Type 0) (fault : HttpFault) (head : RequestHead) (rest : List ℕ)
     → LacksRequest limits text (Some left) failed fault → ¬ failed → fault ≢ faults.OutOfMemory
     → IsRequestText limits (print_request head) head → text ++ left ≡ print_request head ++ rest → ⊥
 lacks_not limits text left failed faults.Ended head rest x sound ample is e =
@@ -37,7 +37,7 @@ lacks_not limits text left failed faults.BadLength head rest x sound ample is e 
 lacks_not limits text left failed faults.BadChunk head rest x sound ample is e = x
 
 -- fields that are taken aren't refused
-refuses_not : (limits : HeadLimits) (head : RequestHead) (fault : HttpFault) → RefusesFields (request_fields head) fault
+pub refuses_not : (limits : HeadLimits) (head : RequestHead) (fault : HttpFault) → RefusesFields (request_fields head) fault
     → fault ≢ faults.OutOfMemory → All IsTaken (request_fields head) → ⊥
 refuses_not limits head faults.BadHead x ample kept = x kept
 refuses_not limits head faults.OutOfMemory x ample kept = ample refl
@@ -48,7 +48,7 @@ refuses_not limits head faults.BadChunk x ample kept = x
 refuses_not limits head faults.TooLarge x ample kept = x
 
 -- two heads at the front of the same bytes are one
-heads : (bytes : List ℕ) (h k : RequestHead) (taken left other_taken other_left : List ℕ) → IsRequestHead h → IsRequestHead k
+pub heads : (bytes : List ℕ) (h k : RequestHead) (taken left other_taken other_left : List ℕ) → IsRequestHead h → IsRequestHead k
     → bytes ≡ (print_request h ++ taken) ++ left → bytes ≡ (print_request k ++ other_taken) ++ other_left
     → (h ≡ k) × (taken ++ left ≡ other_taken ++ other_left)
 heads bytes h k taken left other_taken other_left x y e f =

@@ -1,5 +1,8 @@
--- Bytes mean one request. (RFC 9112, sections 2 to 6; limits: profile)
-use Rattle.std.specs.Prelude.{◌≡◌, ℕ, List, Some, Result, Ok, Err, MatchResult}
+-- Bytes mean one request, or have one fault in its place. (RFC 9112, sections 2 to 6; limits:
+-- profile)
+use Rattle.std.specs.Prelude.{◌≡◌, ℕ, ◌⊎◌, List, [], ◌++◌, length, Some, Result, Ok, Err, MatchResult}
+use Rattle.httparse.specs.Grammar.{NeverHasRequest, EndsInTarget}
+use Rattle.httparse.specs.Spans.{RequestExceeds}
 use Rattle.http_wire.specs.declared.fault.HttpFault.TheVariants as faults
 use Rattle.http_wire.specs.declared.limits.HeadLimits.{HeadLimits}
 use Rattle.http_wire.specs.Devices.{HasFailed}
@@ -45,3 +48,28 @@ BytesMeanOnePost =
     (limits : HeadLimits) (bytes : List ℕ) (post : HttpPost) (answer : Result HttpPost PostFault)
     → IsPostMeaning limits bytes (Ok post) → IsPostMeaning limits bytes answer
     → MatchResult answer (IsSamePost post) (λ _. ⊥)
+
+-- A head begins that has too many fields.
+pub record HasManyRequestFields (limits : HeadLimits) (bytes : List ℕ) : Type 0 where
+  pub text : List ℕ
+  pub rest : List ℕ
+  pub whole : bytes ≡ text ++ rest
+  pub many : RequestExceeds limits.fields text
+
+-- The bytes end, or reach the limit, in a target that no head can have, as one that isn't UTF-8:
+-- that is told where the target ends.
+pub record StopsInBadTarget (limits : HeadLimits) (bytes : List ℕ) : Type 0 where
+  pub text : List ℕ
+  pub rest : List ℕ
+  pub whole : bytes ≡ text ++ rest
+  pub stops : (rest ≡ []) ⊎ (length text ≡ limits.head)
+  pub inside : EndsInTarget text
+  pub never : NeverHasRequest text
+
+-- If they mean none, it is for one cause, unless a head has too many fields or stops in a bad
+-- target.
+abbrev pub BytesMeanOnePostFault : Type 0
+BytesMeanOnePostFault =
+    (limits : HeadLimits) (bytes : List ℕ) (fault other : PostFault)
+    → IsPostMeaning limits bytes (Err fault) → IsPostMeaning limits bytes (Err other)
+    → ¬ (HasManyRequestFields limits bytes) → ¬ (StopsInBadTarget limits bytes) → other ≡ fault

@@ -2,7 +2,7 @@
 #![tactic(auto)]
 
 ghost use Rattle.http_laws.specs.Meanings.{BytesMeanOneFault, BytesMeanOneReply};
-ghost use Rattle.http_laws.specs.Requests.{BytesMeanOnePost};
+ghost use Rattle.http_laws.specs.Requests.{BytesMeanOnePost, BytesMeanOnePostFault};
 
 /// Where no read fails and no memory is refused, the bytes alone say what they mean. If they mean a
 /// reply, they mean nothing else. If there is none, they say why, but for a head with too many
@@ -14,8 +14,12 @@ pub fn bytes_mean_one_thing()
 {}
 
 /// Where no read fails and no memory is refused, bytes that mean a request mean nothing else: its
-/// method, its target, the values of its fields under each name, and its body. (RFC 9112, sections
-/// 2 to 6; the limits: profile)
+/// method, its target, the values of its fields under each name, and its body. If there is none,
+/// they say why, and whether its head or its body can't be had, but for a head with too many fields
+/// that breaks off or goes wrong behind them, and for one that stops in a target which no head can
+/// have: either may be told. (RFC 9112, sections 2 to 6; the limits, and that either may be told:
+/// profile)
 pub fn bytes_mean_one_request()
-    ensures { BytesMeanOnePost }
+    ensures post { BytesMeanOnePost }
+    ensures fault { BytesMeanOnePostFault }
 {}

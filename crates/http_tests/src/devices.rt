@@ -76,6 +76,11 @@ fn bytes_pass_through(rt: HostRuntime) {
         assert_equal(&rt, (read, room), (answer, wanted));
     }
     assert_equal(&rt, FaultRead::failures(&reader), 0);
+    let mut writer = Counted::new(Vec::new(rt.alloc()));
+    assert_equal(&rt, FaultWrite::write(&mut writer, b"ab"), Ok(2));
+    assert_equal(&rt, FaultWrite::write(&mut writer, b"c"), Ok(1));
+    assert_equal(&rt, FaultWrite::failures(&writer), 0);
+    assert_equal(&rt, writer.into_inner().as_slice(), b"abc".as_slice());
 }
 
 #[test]

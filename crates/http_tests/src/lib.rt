@@ -21,6 +21,8 @@ mod faults;
 #[cfg(test)]
 mod fixture;
 #[cfg(test)]
+mod network;
+#[cfg(test)]
 mod places;
 #[cfg(test)]
 mod posts;

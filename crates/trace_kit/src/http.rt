@@ -2,7 +2,7 @@
 //! which posts each body to a [`Target`] over TCP, and [`LinkExporter`], which does the same over
 //! any [`Dial`]; below them the requests and replies, [`write_request`], [`read_reply`], and
 //! [`outcome_of`] for what a reply means.
-pub use http_exporter::{Dial, HttpExporter, LinkExporter, TcpDial};
+pub use http_exporter::{DEFAULT_EXPORT_TIMEOUT_MS, Dial, HttpExporter, LinkExporter, TcpDial};
 pub use http_wire::{
     Counted, DeviceFailed, FaultRead, FaultWrite, HeadLimits, HttpFault, MOST_FIELDS, Stopped,
 };

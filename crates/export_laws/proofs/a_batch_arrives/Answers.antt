@@ -4,10 +4,10 @@ use Rattle.export_laws.proofs.Memory.{unavailable}
 use Rattle.export_laws.proofs.a_batch_arrives.Goals as goal
 
 pub returns-clause-whole : goal.returns-clause-whole
-returns-clause-whole c = batch_arrives c.bytes_mean_one_request.ensures
+returns-clause-whole c = batch_arrives c.bytes_mean_one_request.ensures.post
 
 pub returns-clause-broken_off : goal.returns-clause-broken_off
-returns-clause-broken_off c = one_of_two c.bytes_mean_one_request.ensures
+returns-clause-broken_off c = one_of_two c.bytes_mean_one_request.ensures.post
 
 pub returns-clause-unavailable : goal.returns-clause-unavailable
 returns-clause-unavailable c = unavailable
