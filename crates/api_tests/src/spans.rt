@@ -85,6 +85,7 @@ pub(crate) fn opening<A: Allocator + Copy>(rt: &impl Abort, alloc: A) -> Open<A>
     Open {
         context: context(rt, alloc, 1, "k=v"),
         parent: Some(PARENT),
+        parent_remote: true,
         resource: resource(rt, alloc),
         scope: scope(rt, alloc),
         name: text(rt, alloc, "GET /"),

@@ -7,7 +7,7 @@ use crate::spans::{
     text, words,
 };
 use failing_allocator::FailingAllocator;
-use otlp_ids::{SpanContext, TraceFlags, TraceId};
+use otlp_ids::{SpanContext, SpanId, TraceFlags, TraceId};
 use otlp_sampler::{AlwaysOff, AlwaysOn, ParentBased, Sampler};
 use otlp_span::{Reason, SpanData};
 use std::alloc::Allocator;
@@ -96,6 +96,42 @@ fn a_child_has_the_trace_the_flags_and_the_state_of_its_parent(rt: HostRuntime) 
     let tracer = provider.tracer(scope(&rt, alloc));
     assert_child(&rt, &tracer, alloc, 2, Ended::NotSampled);
     assert_child(&rt, &tracer, alloc, 3, Ended::Queued(0));
+}
+
+/// Starts and ends a span under this parent, and asserts what it keeps of the parent: the
+/// identifier, and whether it is remote.
+fn assert_parent<A: Allocator + Copy>(
+    rt: &impl Abort,
+    alloc: A,
+    parent: Option<SpanContext<A>>,
+    kept: (Option<SpanId>, bool),
+) {
+    let provider = provider(rt, alloc, AlwaysOn);
+    let tracer = provider.tracer(scope(rt, alloc));
+    let mut words = words(rt, alloc, &WORDS);
+    let started = start(rt, &tracer, alloc, &mut words, parent.as_ref(), alloc);
+    let mut span = started.expect(rt, "a span starts");
+    let mut pass = BodyPass::new(alloc, 1).expect(rt, "memory");
+    assert_equal(rt, span.end(&mut pass, END), Ended::Queued(0));
+    for span in pass.spans() {
+        let is = (span.parent_span_id(), span.has_remote_parent());
+        assert_equal(rt, is, kept);
+    }
+}
+
+#[test]
+fn a_span_keeps_whether_its_parent_is_remote(rt: HostRuntime) {
+    let alloc = rt.alloc();
+    let remote = context(&rt, alloc, 1, "");
+    let mut local = context(&rt, alloc, 1, "");
+    local.remote = false;
+    // It counts as none, though it is remote.
+    let mut invalid = context(&rt, alloc, 1, "");
+    invalid.span = SpanId([0; 8]);
+    assert_parent(&rt, alloc, None, (None, false));
+    assert_parent(&rt, alloc, Some(remote), (Some(PARENT), true));
+    assert_parent(&rt, alloc, Some(local), (Some(PARENT), false));
+    assert_parent(&rt, alloc, Some(invalid), (None, false));
 }
 
 /// Starts a root and ends it at this moment. Answers what the end answers.

@@ -3,7 +3,7 @@ use Rattle.std.proofs.Common.{◌≡◌, refl, sym, ap, ◌∙◌, subst, ℕ, �
 use Rattle.std.specs.Prelude.{map, option_map, reverse}
 use Rattle.std.proofs.lemmas.List.{take_min, drop_min, length-map}
 use Rattle.span_model.specs.Spans.{EndedSpan}
-use Rattle.span_model.specs.Dropped.{Entry, Reason, queue_full, entry_of, is_reason}
+use Rattle.drop_model.specs.Dropped.{Entry, Reason, queue_full, entry_of, is_reason}
 use Rattle.retry_model.specs.Retries.{Fate}
 use Rattle.desk_model.specs.Queue.{queued, full, late, flush, shutdown, handed, settled, popped}
 use Rattle.desk_model.specs.Desks.{DeskConfig, Desk, OutBatch, Does, DropsSpans, IsDesk, TakesSpans, accepted_count, capped, handed_out, is_due, is_in_hand, is_with_exporter, new_desk, out_size, with_drops, with_fate}

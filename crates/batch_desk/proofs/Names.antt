@@ -2,7 +2,7 @@
 use Rattle.std.proofs.Common.{◌≡◌, ◌≢◌, refl, sym, ap, ◌∙◌, ℕ, zero, suc, ◌+◌, false, List, [], ◌∷◌, ◌++◌, drop, take, append_assoc, Some, add-one}
 use Rattle.std.proofs.lemmas.List.{reverse-append}
 use Rattle.std.specs.Prelude.{map, reverse, slice_get}
-use Rattle.span_model.specs.Dropped.{queue_full, is_reason}
+use Rattle.drop_model.specs.Dropped.{queue_full, is_reason}
 use Rattle.otlp_span.specs.Dropped.{reason_view}
 use Rattle.otlp_span.specs.declared.reason.Reason.{Reason}
 use Rattle.otlp_span.specs.declared.reason.Reason.TheVariants.{QueueFull, EncodeMemory, TooLarge, Abandoned}

@@ -1,7 +1,7 @@
 -- What a contract sees of a `Batch` and of a `NamedBatch`.
 use Rattle.std.specs.Prelude.{ℕ, List, map}
 use Rattle.span_model.specs.Spans.{EndedSpan}
-use Rattle.span_model.specs.Dropped.{Entry, Reason, entry_of}
+use Rattle.drop_model.specs.Dropped.{Entry, Reason, entry_of}
 
 -- its number, its spans in queue order, and how many it has room for
 pub record BatchView : Type 0 where

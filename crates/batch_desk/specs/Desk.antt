@@ -1,7 +1,7 @@
 -- What the calls of a desk answer, and what they leave of it.
 use Rattle.std.specs.Prelude.{◌≡◌, ℕ, ◌+◌, ◌-◌, ◌^◌, ◌==◌, Bool, true, false, if◌then◌else◌, List, [], ◌∷◌, ◌++◌, length, take, drop, map, reverse, min, Option, None, Some, option_map}
 use Rattle.span_model.specs.Spans.{EndedSpan, with_ticket}
-use Rattle.span_model.specs.Dropped.{Entry, Reason, queue_full, entry_of}
+use Rattle.drop_model.specs.Dropped.{Entry, Reason, queue_full, entry_of}
 use Rattle.desk_model.specs.Queue.{DeskEvent, queued, full, late}
 use Rattle.desk_model.specs.Desks.{DeskConfig, Desk, with_drops, capped}
 use Rattle.batch_desk.specs.Batch.{BatchView, NamedView}

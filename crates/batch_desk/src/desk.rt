@@ -2,7 +2,7 @@ ghost use Rattle.std.specs.Prelude.{List, ◌≡◌, ◌≢◌, ◌+◌, ◌-◌
 ghost use Rattle.span_ring.specs.SpanRing.{IsRingSize};
 ghost use Rattle.span_ring.specs.declared.ring.TheConstants.{MAX_QUEUE};
 ghost use Rattle.span_model.specs.Spans.{EndedSpan};
-ghost use Rattle.span_model.specs.Dropped.{entry_of};
+ghost use Rattle.drop_model.specs.Dropped.{entry_of};
 ghost use Rattle.desk_model.specs.Queue as events;
 ghost use Rattle.desk_model.specs.Desks.{Does, DropsSpans, IsDesk, TakesSpans, accepted_count, handed_out, in_hand_size, is_due, is_flushed, new_desk, out_size, with_fate, worker_drops};
 ghost use Rattle.otlp_span.specs.Dropped.{entry_view, reason_view};

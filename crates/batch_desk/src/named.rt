@@ -1,5 +1,5 @@
 ghost use Rattle.std.specs.Prelude.{◌≡◌, ◌-◌, ◌^◌, ◌<◌, ◌∷◌, [], length, map};
-ghost use Rattle.span_model.specs.Dropped.{entry_of};
+ghost use Rattle.drop_model.specs.Dropped.{entry_of};
 ghost use Rattle.otlp_span.specs.Dropped.{reason_view};
 
 use drop_ledger::Ledger;
@@ -21,7 +21,7 @@ pub struct NamedBatch<A: Allocator = Global> {
 
 impl<A: Allocator> Model for NamedBatch<A> {
     ghost use Rattle.std.specs.Prelude.{◌≡◌, [], false};
-    ghost use Rattle.span_model.specs.Dropped.{is_reason, queue_full};
+    ghost use Rattle.drop_model.specs.Dropped.{is_reason, queue_full};
     ghost use Rattle.otlp_span.specs.Dropped.{reason_view};
     ghost use Rattle.batch_desk.specs.Batch.{NamedView};
 

@@ -3,7 +3,7 @@
 -- on the second pass, which pops the entry of 2 and shuts down, and one that ends behind that is
 -- late.
 use Rattle.std.specs.Prelude.{ℕ, List, [], ◌∷◌, Option, Some, None, false}
-use Rattle.span_model.specs.Dropped.{Reason}
+use Rattle.drop_model.specs.Dropped.{Reason}
 use Rattle.retry_model.specs.Retries.{Outcome, later, Fate}
 use Rattle.retry_model.specs.Waits.{RetryConfig}
 use Rattle.desk_examples.specs.Histories.{named, span_at}

@@ -2,7 +2,7 @@
 //! Response).
 
 ghost use Rattle.std.specs.Prelude.{◌≡◌, [], ◌∷◌, Some, None};
-ghost use Rattle.span_model.specs.Dropped as names;
+ghost use Rattle.drop_model.specs.Dropped as names;
 ghost use Rattle.retry_model.specs.Retries.{Fate, Outcome, given_up, later, no_reply};
 ghost use Rattle.desk_examples.specs.Histories.{named};
 ghost use Rattle.batch_model.specs.Worker.{dropped_spans, fates, handed_spans, numbers, taken_spans, worker_entries};

@@ -1,7 +1,7 @@
 //! What passes know (profile).
 
 ghost use Rattle.std.specs.Prelude.{◌≡◌, ◌-◌, ◌^◌, [], ◌∷◌, true, false};
-ghost use Rattle.span_model.specs.Dropped.{queue_full};
+ghost use Rattle.drop_model.specs.Dropped.{queue_full};
 ghost use Rattle.desk_examples.specs.Histories.{named, span_at};
 ghost use Rattle.pass_model.specs.Passes.{all_dropped, all_popped, all_accepted, all_tickets, drops, late_count, shutdown_count, tickets};
 ghost use Rattle.pass_model.specs.Clauses.{is_closed, numbers_below};

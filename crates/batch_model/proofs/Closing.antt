@@ -8,7 +8,7 @@ use Rattle.std.proofs.lemmas.List.FromFn.{length-range_with_len}
 use Rattle.account_book.specs.Accounts.{Replaces, Removes, Closes}
 use Rattle.account_book.proofs.Facts.{each_closed, each_map, each_removed, each_same, gathered_all, length_removed, nothing_of, one_removed, one_replaced, part_kept, part_removed}
 use Rattle.span_model.specs.Spans.{EndedSpan}
-use Rattle.span_model.specs.Dropped.{Entry}
+use Rattle.drop_model.specs.Dropped.{Entry}
 use Rattle.desk_model.specs.Desks.{Desk, DeskConfig, drop_counts, new_desk}
 use Rattle.pass_model.specs.Passes.{Drop, PassAccount, accepted_spans, all_accepted, all_dropped, all_popped, dropped_entries, drops, new_account}
 use Rattle.pass_model.proofs.Lists.{counts_same}

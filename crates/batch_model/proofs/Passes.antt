@@ -8,7 +8,7 @@ use Rattle.std.proofs.lemmas.List.Sorted.{IsPermutation-refl, IsPermutation-sym,
 use Rattle.account_book.specs.Accounts.{Replaces}
 use Rattle.account_book.proofs.Facts.{gathered_replaced, each_at, each_replaced, each_split}
 use Rattle.span_model.specs.Spans.{EndedSpan}
-use Rattle.span_model.specs.Dropped.{Entry, queue_full, entry_of}
+use Rattle.drop_model.specs.Dropped.{Entry, queue_full, entry_of}
 use Rattle.desk_model.specs.Desks.{Desk, accepted_count, capped, drop_counts, is_flushed, with_drops}
 use Rattle.desk_model.proofs.Events.{counts-more}
 use Rattle.pass_model.specs.Passes as ends_of

@@ -5,7 +5,7 @@ use Rattle.std.specs.List.{AllByRecursion, flat_map}
 use Rattle.std.proofs.lemmas.Grind.{flat_map-append}
 use Rattle.account_book.proofs.Facts.{each_append}
 use Rattle.span_model.specs.Spans.{EndedSpan}
-use Rattle.span_model.specs.Dropped.{Reason, queue_full, encode_memory, too_large, Entry, entry_of}
+use Rattle.drop_model.specs.Dropped.{Reason, queue_full, encode_memory, too_large, Entry, entry_of}
 use Rattle.export_model.specs.Export.{LacksBody}
 use Rattle.retry_model.specs.Retries.{Outcome}
 use Rattle.batch_model.specs.Worker.{BatchEnd, settled, dropped, EndedBatch, OutBatch, WorkerAccount, entries_by}

@@ -8,7 +8,7 @@ use Rattle.std.proofs.lemmas.List.Sorted.{IsPermutation-trans, IsPermutation-app
 use Rattle.std.proofs.lemmas.Grind.{flat_map-append}
 use Rattle.account_book.proofs.Facts.{each_map}
 use Rattle.span_model.specs.Spans.{EndedSpan}
-use Rattle.span_model.specs.Dropped.{Entry, Reason, entry_of}
+use Rattle.drop_model.specs.Dropped.{Entry, Reason, entry_of}
 use Rattle.retry_model.specs.Retries.{Outcome, Fate}
 use Rattle.desk_model.specs.Desks.{Desk, drop_counts, fate_counts, handed_out, out_size, with_drops, with_fate}
 use Rattle.desk_model.proofs.Events.{counts-more, fates-more}

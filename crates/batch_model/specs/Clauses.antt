@@ -8,7 +8,7 @@ use Rattle.message_model.specs.Messages.{body_meaning}
 use Rattle.message_model.specs.Tables
 use Rattle.message_model.specs.Canon.{canon}
 use Rattle.span_model.specs.Spans.{EndedSpan}
-use Rattle.span_model.specs.Dropped.{Reason, Entry}
+use Rattle.drop_model.specs.Dropped.{Reason, Entry}
 use Rattle.export_model.specs.Export.{LacksBody, groups, grouped_triples, request_message}
 use Rattle.retry_model.specs.Retries.{Outcome, Fate, abandoned, fate_of}
 use Rattle.desk_model.specs.Desks.{DeskConfig, DropCounts, FateCounts, drop_counts, fate_counts}

@@ -2,7 +2,7 @@
 use Rattle.std.specs.Prelude.{ℕ, ◌+◌, Bool, true, false, List, [], ◌∷◌, ◌++◌, filter_map, Option, Some, None}
 use Rattle.retry_model.specs.Retries.{Outcome, Fate}
 use Rattle.span_model.specs.Spans.{EndedSpan}
-use Rattle.span_model.specs.Dropped.{Reason}
+use Rattle.drop_model.specs.Dropped.{Reason}
 use Rattle.pass_model.specs.Passes.{PassAccount, new_account}
 use Rattle.batch_model.specs.Worker as batches
 use Rattle.batch_model.specs.Worker.{WorkerAccount, OutBatch, EndedBatch, BatchEnd, new_worker}

@@ -3,7 +3,7 @@
 use Rattle.std.specs.Prelude.{ℕ, List, [], ◌∷◌, ◌++◌, map, filter_map, Option, Some, None, Bool, false}
 use Rattle.std.specs.List.{flat_map}
 use Rattle.span_model.specs.Spans.{EndedSpan}
-use Rattle.span_model.specs.Dropped.{Reason, Entry, entry_of}
+use Rattle.drop_model.specs.Dropped.{Reason, Entry, entry_of}
 use Rattle.retry_model.specs.Retries.{Outcome, Fate}
 
 -- How a batch ended: it was handed to the exporter, with this body, in attempts that came to this,

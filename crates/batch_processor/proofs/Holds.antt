@@ -7,7 +7,7 @@ use Rattle.std.proofs.lemmas.List.{length-map, length-take}
 use Rattle.std.proofs.lemmas.List.Elements.{All-contains, All-from_recursion}
 use Rattle.account_book.specs.Accounts.{Replaces}
 use Rattle.span_model.specs.Spans.{EndedSpan, with_ticket}
-use Rattle.span_model.specs.Dropped.{Entry, queue_full, entry_of}
+use Rattle.drop_model.specs.Dropped.{Entry, queue_full, entry_of}
 use Rattle.desk_model.specs.Desks.{Desk, DeskConfig, accepted_count, is_due, with_drops}
 use Rattle.batch_desk.specs.Batch.{BatchView, NamedView}
 use Rattle.batch_desk.specs.Desk.{IsNamedOut, IsOut, admission, after_admission, after_drop, after_names, after_take, next_batch, out_state}

@@ -7,7 +7,7 @@ use Rattle.std.proofs.lemmas.List.{append-nil, append_assoc, length-append}
 use Rattle.std.proofs.lemmas.Grind.{flat_map-append}
 use Rattle.account_book.proofs.Facts.{each_append}
 use Rattle.span_model.specs.Spans.{EndedSpan}
-use Rattle.span_model.specs.Dropped.{Reason}
+use Rattle.drop_model.specs.Dropped.{Reason}
 use Rattle.export_model.specs.Export.{LacksBody}
 use Rattle.retry_model.specs.Retries.{Outcome, Fate, again, fate_of, next_of}
 use Rattle.retry_model.specs.Retries as retries

@@ -3,7 +3,7 @@ use Rattle.std.specs.Prelude.{◌≡◌, ℕ, ◌<◌, ◌≤◌, List, [], leng
 use Rattle.span_model.specs.Spans.{EndedSpan}
 use Rattle.batch_model.specs.Clauses.{Origin}
 use Rattle.std.specs.List.{AllByRecursion}
-use Rattle.span_model.specs.Dropped.{entry_of}
+use Rattle.drop_model.specs.Dropped.{entry_of}
 use Rattle.batch_desk.specs.Batch.{BatchView, NamedView}
 use Rattle.pass_model.specs.Passes.{tickets}
 use Rattle.batch_model.specs.Holders.{Holder, account_in, after_flush, after_shutdown, on_pass, origin_in, worker_in}

@@ -1,7 +1,7 @@
 -- What was done at the queues of the examples, and what is asked of it.
 use Rattle.std.specs.Prelude.{ℕ, ◌+◌, List, [], ◌∷◌, ◌++◌, map, replicate, Bool, false, Option, None, Some}
 use Rattle.span_model.specs.Spans.{internal, unset, EndedSpan}
-use Rattle.span_model.specs.Dropped.{Reason, Entry}
+use Rattle.drop_model.specs.Dropped.{Reason, Entry}
 use Rattle.retry_model.specs.Retries.{Fate}
 use Rattle.desk_model.specs.Queue.{DeskEvent, queued, full, flush, taken, handed, settled, waiting_spans, batch_spans, ledger_entries, popped_entries}
 use Rattle.desk_model.specs.Desks.{DeskConfig, OutBatch, Desk, desk_of, is_due, is_flushed, AreAllowed}

@@ -1,7 +1,7 @@
 //! What is kept of spans that are dropped, and all that a desk shows (profile).
 
 ghost use Rattle.std.specs.Prelude.{◌≡◌, [], ◌∷◌, ◌++◌, pos, None, true, false};
-ghost use Rattle.span_model.specs.Dropped.{queue_full, too_large, encode_memory};
+ghost use Rattle.drop_model.specs.Dropped.{queue_full, too_large, encode_memory};
 ghost use Rattle.retry_model.specs.Retries.{Fate};
 ghost use Rattle.desk_model.specs.Queue.{flush, shutdown, late, taken, handed, dropped, settled, popped, drops, ledger_entries, popped_entries};
 ghost use Rattle.desk_model.specs.Desks.{no_drops, no_fates};

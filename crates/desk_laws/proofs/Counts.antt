@@ -1,7 +1,7 @@
 -- The counts that a desk shows add up.
 use Rattle.std.proofs.Common.{◌≡◌, refl, sym, ap, ◌∙◌, subst, ℕ, ◌+◌, ◌<◌, ◌≤◌, arith, List, [], ◌∷◌, ◌++◌, length, true, false, true≢false, length-append, length-drop}
 use Rattle.span_model.specs.Spans.{EndedSpan}
-use Rattle.span_model.specs.Dropped.{Reason, is_reason}
+use Rattle.drop_model.specs.Dropped.{Reason, is_reason}
 use Rattle.desk_model.specs.Queue.{DeskEvent, queued, full, late, flush, shutdown, taken, handed, dropped, settled, popped, accepted_spans, taken_count, waiting_spans, last_batch, last_spans, last_size, handed_spans, stage, Stage, not_out, in_hand, with_exporter, drops}
 use Rattle.desk_model.specs.Desks.{DeskConfig, DropCounts, Desk, with_drops, worker_drops, in_hand_size, out_as, is_in_hand, is_with_exporter, drop_counts, desk_of, Allowed}
 use Rattle.desk_model.proofs.Steps.{IsWithin, accepted-kept, waiting-kept, accepted-queued, waiting-queued, waiting-taken, accepted-adds, length-last, by-steps, within-step, allowed-within}

@@ -4,7 +4,7 @@ use Rattle.std.specs.Prelude.{count_by, map, reverse}
 use Rattle.std.specs.List.{list_any}
 use Rattle.std.proofs.lemmas.List.{append-nil, map-append, reverse-append}
 use Rattle.std.proofs.lemmas.List.Sums.{sum_by-append, sum_by-take-drop}
-use Rattle.span_model.specs.Dropped.{Entry}
+use Rattle.drop_model.specs.Dropped.{Entry}
 use Rattle.desk_model.specs.Queue.{DeskEvent, queued, full, late, flush, shutdown, taken, handed, dropped, settled, popped, gather, entries_by, drops, push, stack_on, ledger_steps_by, ledger_entries, entries_popped_by, popped_entries}
 use Rattle.desk_model.proofs.Lists.{gather-more, stack-pushes}
 use Rattle.desk_model.proofs.Steps.{drops-kept, ledger-more}

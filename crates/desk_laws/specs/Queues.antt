@@ -3,7 +3,7 @@
 use Rattle.std.specs.Prelude.{◌≡◌, ℕ, ◌+◌, ◌-◌, ◌<◌, ◌≤◌, ◌==◌, nat_lt, nat_le, min, if◌then◌else◌, Bool, true, false, List, [], ◌∷◌, ◌++◌, length, map, take, drop, reverse, count_by, flat_map}
 use Rattle.std.specs.List.{list_any, range_with_len}
 use Rattle.span_model.specs.Spans.{EndedSpan}
-use Rattle.span_model.specs.Dropped.{Entry}
+use Rattle.drop_model.specs.Dropped.{Entry}
 use Rattle.desk_model.specs.Queue.{DeskEvent, flush, taken, popped, Stage, not_out, in_hand, with_exporter, stage, is_shutdown, tickets, accepted_spans, taken_count, waiting_spans, batch_spans, last_batch, last_spans, handed_spans, in_hand_spans, drops, ledger_entries, popped_entries}
 use Rattle.desk_model.specs.Desks.{DeskConfig, worker_drops, in_hand_size, accepted_count, is_flushed, desk_of, AreAllowed}
 

@@ -2,7 +2,7 @@
 -- Batching processor; batches and ledger: profile)
 use Rattle.std.specs.Prelude.{◌≡◌, ℕ, pos, ◌+◌, ◌-◌, ◌*◌, ◌^◌, ◌<◌, min, nat_lt, nat_le, Bool, true, false, not, ◌&&◌, ◌||◌, if◌then◌else◌, List, [], ◌∷◌, ◌++◌, length, count_by, Option, Some, None}
 use Rattle.span_model.specs.Spans.{EndedSpan}
-use Rattle.span_model.specs.Dropped.{Reason, Entry, is_reason, count_of_reason}
+use Rattle.drop_model.specs.Dropped.{Reason, Entry, is_reason, count_of_reason}
 use Rattle.retry_model.specs.Retries.{Fate}
 use Rattle.desk_model.specs.Queue.{DeskEvent, queued, full, late, flush, shutdown, taken, handed, dropped, settled, popped, tickets, taken_count, waiting_spans, last_batch, last_spans, last_size, Stage, not_out, in_hand, with_exporter, stage, last_moment, handed_spans, fates, drops, ledger_entries, late_count, asked_count, is_closed}
 

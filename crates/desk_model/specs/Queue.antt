@@ -5,7 +5,7 @@ use Rattle.std.specs.Prelude.{ℕ, ◌-◌, ◌^◌, ◌==◌, Bool, true, false
 use Rattle.std.specs.List.{list_any}
 use Rattle.span_model.specs.Attributes.{last_or}
 use Rattle.span_model.specs.Spans.{EndedSpan}
-use Rattle.span_model.specs.Dropped.{Reason, queue_full, Entry, entry_of}
+use Rattle.drop_model.specs.Dropped.{Reason, queue_full, Entry, entry_of}
 use Rattle.retry_model.specs.Retries.{Fate}
 
 -- What was done, and what was answered. A list of these is a history, the first one first.

@@ -1,6 +1,6 @@
 ghost use Rattle.std.specs.Prelude.{◌≡◌, ◌+◌, ◌-◌, ◌^◌, ◌<◌, ◌∷◌, ◌++◌, ◌==◌, [], IfNone, IfSome, IsTrue, length, option_map, reverse, slice_get};
 ghost use Rattle.std.specs.Option.{ForSome};
-ghost use Rattle.span_model.specs.Dropped.{count_of_reason};
+ghost use Rattle.drop_model.specs.Dropped.{count_of_reason};
 ghost use Rattle.otlp_span.specs.Dropped.{entry_view, reason_view};
 ghost use Rattle.otlp_span.specs.Slips.{entries_of, is_named};
 
@@ -22,7 +22,7 @@ pub struct Ledger<A: Allocator = Global> {
 
 impl<A: Allocator> Model for Ledger<A> {
     ghost use Rattle.std.specs.Prelude.{List};
-    ghost use Rattle.span_model.specs.Dropped.{Entry};
+    ghost use Rattle.drop_model.specs.Dropped.{Entry};
     ghost use Rattle.otlp_span.specs.Slips.{entries_of};
     ghost use Rattle.drop_ledger.specs.Counts.{IsLedger};
 

@@ -14,15 +14,15 @@ batch = span_a [] ∷ []
 abbrev pub local : Address
 local = record { host = codes "127.0.0.1"; port = 4318; path = codes "/v1/traces" }
 
--- the limits of a collector that allows bodies of 64 bytes
+-- the limits of a collector that allows bodies of 70 bytes
 abbrev pub small : HeadLimits
-small = record { head = 127; fields = 4; body = 64 }
+small = record { head = 127; fields = 4; body = 70 }
 
 -- the head of the request (RFC 9112, sections 3 and 5), and the request
 abbrev pub head_bytes : List ℕ
 head_bytes =
     codes "POST /v1/traces HTTP/1.1\r\nHost: 127.0.0.1:4318\r\n" ++
-    codes "Content-Type: application/x-protobuf\r\nContent-Length: 64\r\n" ++
+    codes "Content-Type: application/x-protobuf\r\nContent-Length: 70\r\n" ++
     codes "Connection: close\r\n\r\n"
 
 abbrev pub request_bytes : List ℕ

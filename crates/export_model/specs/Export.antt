@@ -1,6 +1,6 @@
 -- The OTLP image of a span, and spans grouped under their resources and scopes.
 -- opentelemetry-proto: trace.proto, common.proto, resource.proto, trace_service.proto.
-use Rattle.std.specs.Prelude.{ℕ, ◌<◌, ℤ, pos, List, [], length, map, flat_map, filter, Bool, false, ◌&&◌, Option, Some, None, bytes_eq}
+use Rattle.std.specs.Prelude.{ℕ, ◌<◌, ◌+◌, if◌then◌else◌, ℤ, pos, List, [], length, map, flat_map, filter, Bool, false, ◌&&◌, Option, Some, None, bytes_eq}
 use Rattle.std.specs.Bool.{beq}
 use Rattle.std.specs.Ordering.{int_eq}
 use lib.Pointwise.{pointwise}
@@ -10,8 +10,8 @@ use Rattle.message_model.specs.Tables.{Message, ◌▸◌}
 use Rattle.message_model.specs.Messages.{Triple}
 use Rattle.message_model.specs.Canon.{canon}
 use Rattle.span_model.specs.Attributes.{Value, text, bool, int, texts, bools, ints, Attribute, distinct_of}
-use Rattle.span_model.specs.Dropped.{Reason, encode_memory, too_large}
-use Rattle.span_model.specs.Spans.{Kind, internal, server, client, producer, consumer, Status, unset, ok, error, Event, Link, Span, Resource, Scope, EndedSpan}
+use Rattle.drop_model.specs.Dropped.{Reason, encode_memory, too_large}
+use Rattle.span_model.specs.Spans.{Kind, internal, server, client, producer, consumer, Status, unset, ok, error, Event, Link, Parent, has_remote_parent, Span, Resource, Scope, EndedSpan}
 
 -- ---- in the protocol's messages
 
@@ -48,11 +48,17 @@ scope_message s = s.name ▸ s.version ▸ attribute_messages s.attributes ▸ 0
 abbrev pub event_message : Event → Message Tables.event
 event_message e = e.at ▸ e.name ▸ attribute_messages e.attributes.items ▸ e.attributes.dropped ▸ tt
 
--- without flags (trace.proto: Span.Link; no flags: profile)
+-- The flags of a context in bits 0 to 7, that it is known whether it comes from elsewhere in bit 8,
+-- and whether it does in bit 9. This is never 0, so flags are always written, though the canon
+-- leaves out a number that is 0: that rests on bit 8 alone. (trace.proto: SpanFlags)
+abbrev pub flags_number : ℕ → Bool → ℕ
+flags_number flags remote = flags + 0x100 + (if remote then 0x200 else 0)
+
+-- with whether its context comes from elsewhere (trace.proto: Span.Link)
 abbrev pub link_message : Link → Message Tables.link
 link_message l =
     l.context.trace ▸ l.context.span ▸ l.context.state ▸ attribute_messages l.attributes.items ▸
-    l.attributes.dropped ▸ tt
+    l.attributes.dropped ▸ flags_number l.context.flags l.context.remote ▸ tt
 
 -- (trace.proto: Status)
 abbrev pub status_message : Status → Message Tables.status
@@ -69,11 +75,11 @@ kind_number producer = pos 4
 kind_number consumer = pos 5
 
 -- a root has no parent's id (trace.proto: Span)
-abbrev pub parent_id : Option (List ℕ) → List ℕ
+abbrev pub parent_id : Option Parent → List ℕ
 parent_id None = []
-parent_id (Some id) = id
+parent_id (Some parent) = parent.id
 
--- without flags (trace.proto: Span; no flags: profile)
+-- with whether its parent comes from elsewhere, which that of a root never does (trace.proto: Span)
 abbrev pub span_message : Span → Message Tables.span
 span_message s =
     s.context.trace ▸ s.context.span ▸ s.context.state ▸ parent_id s.parent ▸ s.name ▸
@@ -81,7 +87,7 @@ span_message s =
     attribute_messages s.attributes.items ▸ s.attributes.dropped ▸
     map event_message s.events.items ▸ s.events.dropped ▸
     map link_message s.links.items ▸ s.links.dropped ▸
-    status_message s.status ▸ tt
+    status_message s.status ▸ flags_number s.context.flags (has_remote_parent s.parent) ▸ tt
 
 -- The OTLP image of a span under a resource and a scope, with the schema URL of each.
 -- (trace.proto: ResourceSpans, ScopeSpans, Span)

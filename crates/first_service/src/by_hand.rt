@@ -37,6 +37,7 @@ fn ended_span(alloc: Global, shop: &Shop, id: u8) -> Result<SpanData, OutOfMemor
             state: String::new(alloc),
         },
         parent: None,
+        parent_remote: false,
         resource: shop.resource.clone()?,
         scope: shop.scope.clone()?,
         name: String::new(alloc),

@@ -6,7 +6,7 @@ use Rattle.std.proofs.lemmas.Bool.{false≢true, and_parts, ltb-true}
 use Rattle.message_model.specs.AnyValue.{AnyValue, AnyValues, no_values, KeyValues, no_pairs, pair}
 use Rattle.message_model.specs.AnyValue as protocol
 use Rattle.message_model.specs.Wire.{Field}
-use Rattle.message_model.specs.Tables.{Shape, text, bytes, bool, uint32, int64, enum, fixed64, any, message, repeated, Table, end, ◌⦂◌◂◌, ValueOf, Message, is_element, is_shape, is_table}
+use Rattle.message_model.specs.Tables.{Shape, text, bytes, bool, uint32, int64, enum, fixed64, fixed32, any, message, repeated, Table, end, ◌⦂◌◂◌, ValueOf, Message, is_element, is_shape, is_table}
 use Rattle.message_model.specs.Messages.{value, max_depth, meaning}
 use Rattle.message_model.specs.Reading.{done}
 use Rattle.message_model.specs.Canon.{shortest, payload_bytes, bytes_field, unless_empty, unless_no_fields, message_field, is_flat, field_bytes, row_bytes, value_fields, values_fields, pairs_fields, shape_fields, element_fields, table_fields, canon}
@@ -105,6 +105,7 @@ mutual
   shape-fits n int64 x h l = h
   shape-fits n enum x h l = h
   shape-fits n fixed64 x h l = h
+  shape-fits n fixed32 x h l = h
   shape-fits n any x h l = let own : length (row_bytes (value_fields x)) < 2 ^ 64 = size-content n (row_bytes (value_fields x)) _ l in (value-back max_depth x (fits-value max_depth x h own), own)
   shape-fits n (message t) x h l = let own : length (row_bytes (table_fields t x)) < 2 ^ 64 = size-message n (table_fields t x) (is_flat t) _ l in (table-fits t x h own, own)
   shape-fits n (repeated s) x h l = all-fit (λ y. IsWhole s y) (λ y. FitsShape (value max_depth) s y) (λ y. element_fields n s y) (λ y k m. element-fits n s y k m) x h l
@@ -117,6 +118,7 @@ mutual
   element-fits n int64 x h l = h
   element-fits n enum x h l = h
   element-fits n fixed64 x h l = h
+  element-fits n fixed32 x h l = h
   element-fits n any x h l = let own : length (row_bytes (value_fields x)) < 2 ^ 64 = size-content n (row_bytes (value_fields x)) _ l in (value-back max_depth x (fits-value max_depth x h own), own)
   element-fits n (message t) x h l = let own : length (row_bytes (table_fields t x)) < 2 ^ 64 = size-content n (row_bytes (table_fields t x)) _ l in (table-fits t x h own, own)
   element-fits n (repeated s) x h l = all-fit (λ y. IsWhole s y) (λ y. FitsShape (value max_depth) s y) (λ y. element_fields n s y) (λ y k m. element-fits n s y k m) x h l
@@ -135,6 +137,7 @@ to-element uint32 h = absurd (false≢true h)
 to-element int64 h = absurd (false≢true h)
 to-element enum h = absurd (false≢true h)
 to-element fixed64 h = absurd (false≢true h)
+to-element fixed32 h = absurd (false≢true h)
 to-element (repeated s) h = absurd (false≢true h)
 
 mutual
@@ -146,6 +149,7 @@ mutual
   to-shape int64 h = tt
   to-shape enum h = tt
   to-shape fixed64 h = tt
+  to-shape fixed32 h = tt
   to-shape any h = tt
   to-shape (message t) h = to-table 0 t h
   to-shape (repeated s) h = let p = and_parts (is_element s) (is_shape s) h in (to-element s p.0, to-shape s p.1)

@@ -7,9 +7,9 @@ use Rattle.std.proofs.lemmas.Bool.{eq-eqb, ne_eqb, eqb-true, lt-ltb}
 use mir.Val.{SFits}
 use mir.Facts.{to_z-of_z, Fits-of_z}
 use Rattle.message_model.specs.Reading.{Reading, ◌>>=◌, done, each}
-use Rattle.message_model.specs.Wire.{Field, Payload, varint, i64, len, row}
+use Rattle.message_model.specs.Wire.{Field, Payload, varint, i64, i32, len, row}
 use Rattle.message_model.specs.AnyValue.{AnyValue}
-use Rattle.message_model.specs.Tables.{Shape, text, bytes, bool, uint32, int64, enum, fixed64, any, message, repeated, Table, end, ◌⦂◌◂◌, ValueOf, Message}
+use Rattle.message_model.specs.Tables.{Shape, text, bytes, bool, uint32, int64, enum, fixed64, fixed32, any, message, repeated, Table, end, ◌⦂◌◂◌, ValueOf, Message}
 use Rattle.message_model.specs.Messages.{PayloadReading, wire, wire_type, is_field, payloads, last_number, joined_rows, read, read_table, utf8, meaning, value, max_depth}
 use Rattle.message_model.specs.Canon.{number_field, bytes_field, unless_empty, unless_no_fields, message_field, is_flat, row_bytes, value_fields, shape_fields, element_fields, table_fields, canon}
 use Rattle.message_model.proofs.RowLaws.{HasPayload, HaveSpellings, row-row_bytes}
@@ -19,7 +19,15 @@ use Rattle.message_model.proofs.RowLaws.{HasPayload, HaveSpellings, row-row_byte
 abbrev pub IsElement : Shape → Type 0
 IsElement any = Unit {0}
 IsElement (message t) = Unit {0}
-IsElement _ = ⊥
+IsElement text = ⊥
+IsElement bytes = ⊥
+IsElement bool = ⊥
+IsElement uint32 = ⊥
+IsElement int64 = ⊥
+IsElement enum = ⊥
+IsElement fixed64 = ⊥
+IsElement fixed32 = ⊥
+IsElement (repeated s) = ⊥
 
 abbrev mutual
   pub IsShape : Shape → Type 0
@@ -30,6 +38,7 @@ abbrev mutual
   IsShape int64 = Unit {0}
   IsShape enum = Unit {0}
   IsShape fixed64 = Unit {0}
+  IsShape fixed32 = Unit {0}
   IsShape any = Unit {0}
   IsShape (message t) = IsTable 0 t
   IsShape (repeated s) = IsElement s × IsShape s
@@ -49,6 +58,7 @@ abbrev mutual
   FitsShape values int64 i = SFits w64 i
   FitsShape values enum i = (k : ℕ) × (k < 2 ^ 31) × (i ≡ pos k)
   FitsShape values fixed64 x = x < 2 ^ 64
+  FitsShape values fixed32 x = x < 2 ^ 32
   FitsShape values any v = (values (len (row_bytes (value_fields v)) ∷ []) ≡ done v) × (length (row_bytes (value_fields v)) < 2 ^ 64)
   FitsShape values (message t) r = FitsTable values t r × (length (row_bytes (table_fields t r)) < 2 ^ 64)
   FitsShape values (repeated s) xs = AllByRecursion (λ x. FitsShape values s x) xs
@@ -144,6 +154,7 @@ element-numbers n uint32 x = (refl, tt)
 element-numbers n int64 x = (refl, tt)
 element-numbers n enum x = (refl, tt)
 element-numbers n fixed64 x = (refl, tt)
+element-numbers n fixed32 x = (refl, tt)
 element-numbers n any x = (refl, tt)
 element-numbers n (message t) x = (refl, tt)
 element-numbers n (repeated s) x = flat-numbers n (λ y. element_fields n s y) (element-numbers n s) x
@@ -157,6 +168,7 @@ shape-numbers n uint32 x = number-numbers n 0 _ _
 shape-numbers n int64 x = number-numbers n 0 _ _
 shape-numbers n enum x = number-numbers n 0 _ _
 shape-numbers n fixed64 x = number-numbers n 0 _ _
+shape-numbers n fixed32 x = number-numbers n 0 _ _
 shape-numbers n any x = (refl, tt)
 shape-numbers n (message t) x = message-numbers n _ (is_flat t)
 shape-numbers n (repeated s) x = flat-numbers n (λ y. element_fields n s y) (element-numbers n s) x
@@ -215,6 +227,14 @@ fixed-back n x = go (x == 0) refl
     go true h = sym (eqb-true x 0 h)
     go false h = ap last_number (payloads-own n fixed64 (i64 x) refl)
 
+fixed32-back : (n x : ℕ) → last_number (payloads n fixed32 (if x == 0 then [] else record { number = n; payload = i32 x } ∷ [])) ≡ x
+unfolding payloads
+fixed32-back n x = go (x == 0) refl
+  where
+    go : (t : Bool) → (x == 0) ≡ t → last_number (payloads n fixed32 (cond t [] (record { number = n; payload = i32 x } ∷ []))) ≡ x
+    go true h = sym (eqb-true x 0 h)
+    go false h = ap last_number (payloads-own n fixed32 (i32 x) refl)
+
 truth-back : (b : Bool) → not ((if b then 1 else 0) == 0) ≡ b
 truth-back true = refl
 truth-back false = refl
@@ -243,6 +263,7 @@ element-one n uint32 x h = absurd h
 element-one n int64 x h = absurd h
 element-one n enum x h = absurd h
 element-one n fixed64 x h = absurd h
+element-one n fixed32 x h = absurd h
 element-one n any x h = (_, payloads-own n any _ refl)
 element-one n (message t) x h = (_, payloads-own n (message t) _ refl)
 element-one n (repeated s) x h = absurd h
@@ -302,6 +323,7 @@ element-spelling values n uint32 x l u h = own-spelling n _ l u (omega (arith, h
 element-spelling values n int64 x l u h = own-spelling n _ l u ((Fits-of_z h).fits)
 element-spelling values n enum x l u h = own-spelling n _ l u (rw h.2 (omega (arith, h.1)))
 element-spelling values n fixed64 x l u h = own-spelling n _ l u h
+element-spelling values n fixed32 x l u h = own-spelling n _ l u h
 element-spelling values n any x l u h = bytes-spelling n _ l u h.1
 element-spelling values n (message t) x l u h = bytes-spelling n _ l u h.1
 element-spelling values n (repeated s) x l u h = flat-spelling (FitsShape values s) (λ y. element_fields n s y) (λ y k. element-spelling values n s y l u k) x h
@@ -315,6 +337,7 @@ shape-spelling values n uint32 x l u h = scalar-spelling n _ _ l u (omega (arith
 shape-spelling values n int64 x l u h = scalar-spelling n _ _ l u ((Fits-of_z h).fits)
 shape-spelling values n enum x l u h = scalar-spelling n _ _ l u (rw h.2 (omega (arith, h.1)))
 shape-spelling values n fixed64 x l u h = scalar-spelling n _ _ l u h
+shape-spelling values n fixed32 x l u h = scalar-spelling n _ _ l u h
 shape-spelling values n any x l u h = bytes-spelling n _ l u h.1
 shape-spelling values n (message t) x l u h = message-spelling n _ (is_flat t) l u h.1
 shape-spelling values n (repeated s) x l u h = flat-spelling (FitsShape values s) (λ y. element_fields n s y) (λ y k. element-spelling values n s y l u k) x h
@@ -340,6 +363,7 @@ mutual
   shape-back values n int64 x w h = ap (λ z. done (cast_signed w64 z)) (number-back n int64 (cast_unsigned w64 x) refl) ∙ ap done (to_z-of_z h)
   shape-back values n enum x w h = ap (λ z. done (cast_signed w32 (z % 2 ^ 32))) (number-back n enum (cast_unsigned w64 x) refl) ∙ ap done (ap (λ z. cast_signed w32 (cast_unsigned w64 z % 2 ^ 32)) h.2 ∙ enumeration-back h.0 h.1 ∙ sym h.2)
   shape-back values n fixed64 x w h = ap done (fixed-back n x)
+  shape-back values n fixed32 x w h = ap done (fixed32-back n x)
   shape-back values n any x w h = ap values (payloads-own n any _ refl) ∙ h.0
   shape-back values n (message t) x w h = flat-back (read_table values t) n (message t) (table_fields t x) (is_flat t) refl (table-spelling values 0 t x w h.0) ∙ table-back values 0 t x w h.0
   shape-back values n (repeated s) x w h = repeated-back values n s w.0 (λ y k. element-back values n s y w.0 w.1 k) x h
@@ -352,6 +376,7 @@ mutual
   element-back values n int64 x el w h = absurd el
   element-back values n enum x el w h = absurd el
   element-back values n fixed64 x el w h = absurd el
+  element-back values n fixed32 x el w h = absurd el
   element-back values n any x el w h = ap values (payloads-own n any _ refl) ∙ h.0
   element-back values n (message t) x el w h = message-back (read_table values t) n (message t) (table_fields t x) refl (table-spelling values 0 t x w h.0) ∙ table-back values 0 t x w h.0
   element-back values n (repeated s) x el w h = absurd el

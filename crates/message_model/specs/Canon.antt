@@ -5,7 +5,7 @@ use Rattle.std.specs.Prelude.{ℕ, zero, suc, ◌+◌, ◌*◌, ◌/◌, ◌%◌
 use Rattle.std.specs.Int.{w32, w64, to_le_bytes, cast_unsigned}
 use Rattle.message_model.specs.Wire.{Payload, varint, i64, len, i32, Field}
 use Rattle.message_model.specs.AnyValue.{AnyValue, AnyValues, no_values, value, KeyValues, no_pairs, pair}
-use Rattle.message_model.specs.Tables.{Shape, text, bytes, bool, uint32, int64, enum, fixed64, any, message, repeated, Table, end, ◌⦂◌◂◌, ValueOf, Message}
+use Rattle.message_model.specs.Tables.{Shape, text, bytes, bool, uint32, int64, enum, fixed64, fixed32, any, message, repeated, Table, end, ◌⦂◌◂◌, ValueOf, Message}
 use Rattle.message_model.specs.Messages.{wire_type}
 
 -- ---- fields as bytes
@@ -99,7 +99,14 @@ abbrev pub is_scalar : Shape → Bool
 is_scalar any = false
 is_scalar (message t) = false
 is_scalar (repeated s) = false
-is_scalar _ = true
+is_scalar text = true
+is_scalar bytes = true
+is_scalar bool = true
+is_scalar uint32 = true
+is_scalar int64 = true
+is_scalar enum = true
+is_scalar fixed64 = true
+is_scalar fixed32 = true
 
 -- The message holds scalars, texts and bytes alone, as Status and ExportTracePartialSuccess do, but
 -- neither Resource nor InstrumentationScope. (opentelemetry-proto)
@@ -121,6 +128,7 @@ unfoldable mutual
   shape_fields n int64 i = number_field n (cast_unsigned w64 i)
   shape_fields n enum i = number_field n (cast_unsigned w64 i)
   shape_fields n fixed64 x = if x == 0 then [] else record { number = n; payload = i64 x } ∷ []
+  shape_fields n fixed32 x = if x == 0 then [] else record { number = n; payload = i32 x } ∷ []
   shape_fields n any v = bytes_field n (row_bytes (value_fields v)) ∷ []
   shape_fields n (message t) r =
       if is_flat t then unless_no_fields n (table_fields t r)
@@ -137,6 +145,7 @@ unfoldable mutual
   element_fields n int64 i = record { number = n; payload = varint (cast_unsigned w64 i) } ∷ []
   element_fields n enum i = record { number = n; payload = varint (cast_unsigned w64 i) } ∷ []
   element_fields n fixed64 x = record { number = n; payload = i64 x } ∷ []
+  element_fields n fixed32 x = record { number = n; payload = i32 x } ∷ []
   element_fields n any v = bytes_field n (row_bytes (value_fields v)) ∷ []
   element_fields n (message t) r = message_field n (table_fields t r) ∷ []
   element_fields n (repeated s) xs = flat_map (λ x. element_fields n s x) xs

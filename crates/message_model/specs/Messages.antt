@@ -8,7 +8,7 @@ use Rattle.message_model.specs.Wire.{Payload, varint, i64, len, i32, Field, row}
 use Rattle.std.specs.List.{last_or}
 use Rattle.message_model.specs.AnyValue.{AnyValue, none, as_values, as_pairs}
 use Rattle.message_model.specs.Tables
-use Rattle.message_model.specs.Tables.{Shape, text, bytes, bool, uint32, int64, enum, fixed64, any, message, repeated, Table, end, ◌⦂◌◂◌, ◌▸◌, ValueOf, Message, key_value, array_value, key_value_list, resource, scope, span, scope_spans, resource_spans, request}
+use Rattle.message_model.specs.Tables.{Shape, text, bytes, bool, uint32, int64, enum, fixed64, fixed32, any, message, repeated, Table, end, ◌⦂◌◂◌, ◌▸◌, ValueOf, Message, key_value, array_value, key_value_list, resource, scope, span, scope_spans, resource_spans, request}
 
 -- ---- payloads
 
@@ -29,6 +29,7 @@ wire uint32 = 0
 wire int64 = 0
 wire enum = 0
 wire fixed64 = 1
+wire fixed32 = 5
 wire any = 2
 wire (message t) = 2
 wire (repeated s) = wire s
@@ -96,6 +97,7 @@ unfoldable mutual
   read values int64 ps = done (cast_signed w64 (last_number ps))
   read values enum ps = done (cast_signed w32 (last_number ps % 2 ^ 32))
   read values fixed64 ps = done (last_number ps)
+  read values fixed32 ps = done (last_number ps)
   read values any ps = values ps
   read values (message t) ps = joined_rows ps >>= λ fields. read_table values t fields
   read values (repeated s) ps = each (λ p. read values s (p ∷ [])) ps

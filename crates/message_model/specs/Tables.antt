@@ -7,7 +7,7 @@ mutual
   -- What a field of a table holds. `any` is an AnyValue. (Protocol Buffers, Language Guide: Scalar
   -- Value Types)
   pub data Shape : Type 0 where
-    text bytes bool uint32 int64 enum fixed64 : Shape
+    text bytes bool uint32 int64 enum fixed64 fixed32 : Shape
     any : Shape
     message : Table → Shape
     repeated : Shape → Shape
@@ -19,7 +19,8 @@ mutual
 
 infixr 20 ◌⦂◌◂◌
 abbrev mutual
-  -- The values of a field. A text is its UTF-8 bytes, `fixed64` a number of 64 bits without a sign.
+  -- The values of a field. A text is its UTF-8 bytes, `fixed64` a number of 64 bits without a sign
+  -- and `fixed32` one of 32.
   pub ValueOf : Shape → Type 0
   ValueOf text = List ℕ
   ValueOf bytes = List ℕ
@@ -28,6 +29,7 @@ abbrev mutual
   ValueOf int64 = ℤ
   ValueOf enum = ℤ
   ValueOf fixed64 = ℕ
+  ValueOf fixed32 = ℕ
   ValueOf any = AnyValue
   ValueOf (message t) = Message t
   ValueOf (repeated s) = List (ValueOf s)
@@ -50,22 +52,37 @@ x ▸ r = (x, r)
 abbrev pub is_element : Shape → Bool
 is_element any = true
 is_element (message t) = true
-is_element _ = false
+is_element text = false
+is_element bytes = false
+is_element bool = false
+is_element uint32 = false
+is_element int64 = false
+is_element enum = false
+is_element fixed64 = false
+is_element fixed32 = false
+is_element (repeated s) = false
 
 -- whether the field, or the table above a number, can be written
 abbrev mutual
   pub is_shape : Shape → Bool
   is_shape (message t) = is_table 0 t
   is_shape (repeated s) = is_element s && is_shape s
-  is_shape _ = true
+  is_shape any = true
+  is_shape text = true
+  is_shape bytes = true
+  is_shape bool = true
+  is_shape uint32 = true
+  is_shape int64 = true
+  is_shape enum = true
+  is_shape fixed64 = true
+  is_shape fixed32 = true
 
   pub is_table : ℕ → Table → Bool
   is_table low end = true
   is_table low (n ⦂ s ◂ t) = nat_lt low n && (nat_lt n (2 ^ 29) && (is_shape s && is_table n t))
 
--- ---- the messages of a trace export. Fields that the tables leave out are unknown: flags of
--- ---- spans and links, entity references of resources. (opentelemetry-proto; which are left out:
--- ---- profile)
+-- ---- the messages of a trace export. Fields that the tables leave out are unknown: entity
+-- ---- references of resources. (opentelemetry-proto; which are left out: profile)
 
 -- key, value (common.proto: KeyValue)
 abbrev pub key_value : Table
@@ -91,9 +108,11 @@ scope = 1 ⦂ text ◂ 2 ⦂ text ◂ 3 ⦂ repeated (message key_value) ◂ 4 �
 abbrev pub event : Table
 event = 1 ⦂ fixed64 ◂ 2 ⦂ text ◂ 3 ⦂ repeated (message key_value) ◂ 4 ⦂ uint32 ◂ end
 
--- trace id, span id, trace state, attributes, how many were dropped (trace.proto: Span.Link)
+-- trace id, span id, trace state, attributes, how many were dropped, flags (trace.proto: Span.Link)
 abbrev pub link : Table
-link = 1 ⦂ bytes ◂ 2 ⦂ bytes ◂ 3 ⦂ text ◂ 4 ⦂ repeated (message key_value) ◂ 5 ⦂ uint32 ◂ end
+link =
+    1 ⦂ bytes ◂ 2 ⦂ bytes ◂ 3 ⦂ text ◂ 4 ⦂ repeated (message key_value) ◂ 5 ⦂ uint32 ◂ 6 ⦂ fixed32 ◂
+    end
 
 -- message, code: 0 is Unset, 1 is Ok, 2 is Error (trace.proto: Status)
 abbrev pub status : Table
@@ -116,7 +135,8 @@ span =
     12 ⦂ uint32 ◂  -- events dropped
     13 ⦂ repeated (message link) ◂
     14 ⦂ uint32 ◂  -- links dropped
-    15 ⦂ message status ◂ end
+    15 ⦂ message status ◂
+    16 ⦂ fixed32 ◂ end  -- flags
 
 -- scope, spans, schema URL of the scope (trace.proto: ScopeSpans)
 abbrev pub scope_spans : Table

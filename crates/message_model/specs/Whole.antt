@@ -7,7 +7,7 @@ use Rattle.std.specs.Str.{is_utf8}
 use Rattle.std.specs.List.{AllByRecursion}
 use mir.Val.{SFits}
 use Rattle.message_model.specs.AnyValue.{AnyValue, AnyValues, no_values, value, KeyValues, no_pairs, pair}
-use Rattle.message_model.specs.Tables.{Shape, text, bytes, bool, uint32, int64, enum, fixed64, any, message, repeated, Table, end, ◌⦂◌◂◌, ValueOf, Message}
+use Rattle.message_model.specs.Tables.{Shape, text, bytes, bool, uint32, int64, enum, fixed64, fixed32, any, message, repeated, Table, end, ◌⦂◌◂◌, ValueOf, Message}
 use Rattle.message_model.specs.Messages.{max_depth}
 
 -- (Protocol Buffers, Language Guide: Scalar Value Types)
@@ -53,6 +53,7 @@ abbrev mutual
   IsWhole int64 i = SFits w64 i
   IsWhole enum i = (k : ℕ) × (k < 2 ^ 31) × (i ≡ pos k)
   IsWhole fixed64 x = x < 2 ^ 64
+  IsWhole fixed32 x = x < 2 ^ 32
   IsWhole any v = IsValue max_depth v
   IsWhole (message t) r = IsMessage t r
   IsWhole (repeated s) xs = AllByRecursion (λ x. IsWhole s x) xs

@@ -1,7 +1,7 @@
 //! Groups of spans by resource and scope, a large body, the greatest length, and refused memory.
 
 use crate::equal::{assert_equal, assert_equal_at, assert_told};
-use crate::samples::{Sample, spans_of};
+use crate::samples::{Sample, spans_of, spans_of_remote};
 use failing_allocator::FailingAllocator;
 use linked_list_allocator::LocalHeap;
 use otlp_proto::{EncodeFault, body_of, encode};
@@ -88,19 +88,21 @@ const FILLED: Sample<'_> = Sample {
 
 /// The body of two spans under two resources.
 const TWO_RESOURCES: &str = concat!(
-    "0a3e0a00",
-    "123a",
+    "0a440a00",
+    "1240",
     "0a030a0173",
-    "1233",
+    "1239",
     "0a100102030405060708090a0b0c0d0e0f1012081112131415161718",
     "2a01613001390100000000000000410200000000000000",
-    "0a470a00",
-    "1240",
+    "850101010000", // flags of the span
+    "0a4d0a00",
+    "1246",
     "0a060a017412",
     "0131",
-    "1233",
+    "1239",
     "0a100102030405060708090a0b0c0d0e0f1012081112131415161718",
     "2a01613001390100000000000000410200000000000000",
+    "850101010000", // flags of the span
     "1a0175", // schema URL of the scope
     "1a0172", // schema URL of the resource
 );
@@ -118,14 +120,44 @@ fn assert_exported(
     }
 }
 
-/// The body of a span in a scope whose name has 70,000 bytes, up to the name.
-const LARGE_FRONT: &str = "0ab3a3040a0012ada3040af4a2040af0a204";
+/// The body of a span whose parent is remote, with a link to a remote context.
+const OF_REMOTE: &str = concat!(
+    "0a710a00",
+    "126d",
+    "0a030a0173",
+    "1266",
+    "0a100102030405060708090a0b0c0d0e0f1012081112131415161718",
+    "22082122232425262728", // the parent
+    "2a01613001390100000000000000410200000000000000",
+    "6a21",
+    "0a100102030405060708090a0b0c0d0e0f1012081112131415161718",
+    "3501030000",   // flags of the link: sampled, remote
+    "850101030000", // flags of the span: sampled, of a remote parent
+);
 
-/// That body behind the name.
+/// The body of that span.
+fn body_of_remote(alloc: Global) -> Result<Vec<u8>, EncodeFault> {
+    let spans = spans_of_remote(alloc, FIRST)?;
+    body_of(alloc, &spans, 115)
+}
+
+#[test]
+fn a_remote_parent_and_a_remote_link_are_written(rt: HostRuntime) {
+    let alloc = rt.alloc();
+    let body = body_of_remote(alloc).expect(&rt, "memory");
+    let digits = hex::encode(alloc, body.as_slice()).expect(&rt, "memory");
+    assert_equal(&rt, digits.as_str(), OF_REMOTE);
+}
+
+/// The body of a span in a scope whose name has 70,000 bytes, up to the name.
+const LARGE_FRONT: &str = "0ab9a3040a0012b3a3040af4a2040af0a204";
+
+/// That body behind the name: a span, as a field of its scope.
 const LARGE_END: &str = concat!(
-    "1233",
+    "1239",
     "0a100102030405060708090a0b0c0d0e0f1012081112131415161718",
     "2a01613001390100000000000000410200000000000000",
+    "850101010000", // flags of the span
 );
 
 #[test]
@@ -136,15 +168,27 @@ fn exports_a_large_body_within_the_greatest_length(rt: HostRuntime) {
     let body = [LARGE_FRONT, &digits, LARGE_END]
         .concat(alloc)
         .expect(&rt, "memory");
-    assert_equal(&rt, body.len(), 140_142);
+    assert_equal(&rt, body.len(), 140_154);
     let large: &[Sample<'_>] = &[Sample {
         resource: "",
         scope: [&name, "", ""],
     }];
-    assert_exported(&rt, alloc, (large, 70_071), Ok(&body));
-    for max in [70_070, 65_536, 0] {
+    assert_exported(&rt, alloc, (large, 70_077), Ok(&body));
+    for max in [70_076, 65_536, 0] {
         assert_exported(&rt, alloc, (large, max), Err(EncodeFault::TooLarge));
     }
+}
+
+/// The body of 4,096 equal spans, up to the first.
+const MANY_FRONT: &str = "0a8be00e0a001285e00e0a030a0173";
+
+#[test]
+fn exports_4096_spans_in_one_body(rt: HostRuntime) {
+    let alloc = rt.alloc();
+    let spans = LARGE_END.repeat(alloc, 4_096).expect(&rt, "memory");
+    let body = [MANY_FRONT, &spans].concat(alloc).expect(&rt, "memory");
+    let samples = vec![in alloc; FIRST; 4_096].expect(&rt, "memory");
+    assert_exported(&rt, alloc, (&samples, 241_679), Ok(&body));
 }
 
 const R: Sample<'_> = Sample {
@@ -175,7 +219,7 @@ fn count_calls(
     let heap = LocalHeap::new(alloc, 65_536).expect(rt, "memory");
     let ample = FailingAllocator::new(&heap, u64::MAX);
     let scarce = FailingAllocator::new(&heap, fail_index);
-    let made = made(rt, alloc, (&ample, &scarce), (samples, making, 137));
+    let made = made(rt, alloc, (&ample, &scarce), (samples, making, 149));
     let want = if scarce.has_failed() {
         Err(EncodeFault::OutOfMemory)
     } else {

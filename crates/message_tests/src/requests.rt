@@ -155,6 +155,27 @@ fn a_million_resources_are_read(rt: HostRuntime) {
     assert_equal_at(&rt, outcome_of(&rt, alloc, alloc, row), Outcome::Whole, 0);
 }
 
+/// A request of a resource whose schema URL has 100,000 bytes, up to the URL.
+const LONG_TEXT_FRONT: &[u8] = b"\x0a\xa4\x8d\x06\x1a\xa0\x8d\x06";
+
+/// What is shown of it, up to the URL.
+const LONG_TEXT_SHOWN: &str = "Request { resource_spans: [ResourceSpans { resource: Resource { \
+    attributes: [], dropped_attributes_count: 0 }, scope_spans: [], schema_url: \"";
+
+#[test]
+fn a_text_of_100_000_bytes_is_read(rt: HostRuntime) {
+    let alloc = rt.alloc();
+    let text = "0123456789".repeat(alloc, 10_000).expect(&rt, "memory");
+    let mut body = Vec::from_slice(alloc, LONG_TEXT_FRONT).expect(&rt, "memory");
+    body.extend_from_slice(text.as_bytes())
+        .expect(&rt, "memory");
+    let shown = [LONG_TEXT_SHOWN, &text, "\" }] }"]
+        .concat(alloc)
+        .expect(&rt, "memory");
+    let row = (body.as_slice(), Telling::Values, shown.as_str());
+    assert_equal_at(&rt, outcome_of(&rt, alloc, alloc, row), Outcome::Whole, 0);
+}
+
 /// How many calls for memory are refused, each in its turn, before a request is read, and how many
 /// before its spans are listed.
 fn count_refused(rt: &impl Abort, alloc: Global, row: (&[u8], Telling, &str)) -> (u64, u64) {

@@ -5,7 +5,7 @@ use Rattle.std.specs.List.{Contains}
 use Rattle.message_model.specs.AnyValue.{AnyValue}
 use Rattle.message_model.specs.Reading.{Reading, Reads, done, ◌>>=◌}
 use Rattle.message_model.specs.Wire.{Field, Payload, len, row}
-use Rattle.message_model.specs.Tables.{Shape, text, bytes, bool, uint32, int64, enum, fixed64, any, message, repeated, Table, end, ◌⦂◌◂◌, ◌▸◌}
+use Rattle.message_model.specs.Tables.{Shape, text, bytes, bool, uint32, int64, enum, fixed64, fixed32, any, message, repeated, Table, end, ◌⦂◌◂◌, ◌▸◌}
 use Rattle.message_model.specs.Messages.{PayloadReading, payloads, joined_rows, read, read_table, utf8, value, max_depth, meaning}
 use Rattle.otlp_message.specs.declared.fault.ReadFault.{ReadFault}
 use Rattle.otlp_message.specs.Faults.{NamesOne}
@@ -29,6 +29,7 @@ mutual
   kept-is values int64 x ps h = ap (λ n. done (cast_signed w64 n)) (sym h)
   kept-is values enum x ps h = ap (λ n. done (cast_signed w32 (n % 2 ^ 32))) (sym h)
   kept-is values fixed64 x ps h = ap done (sym h)
+  kept-is values fixed32 x ps h = ap done (sym h)
   kept-is values any x ps h = ap values (sym h)
   kept-is values (message t) x ps h =
       let r = read_table values t (joined_rows ps).value in
@@ -51,6 +52,7 @@ mutual
   none-kept values int64 = refl
   none-kept values enum = refl
   none-kept values fixed64 = refl
+  none-kept values fixed32 = refl
   none-kept values any = refl
   none-kept values (message t) = (refl, none-gathered values t)
   none-kept values (repeated s) = (refl, refl)

@@ -1,10 +1,11 @@
 -- The fields of a message, gathered one after another.
-use Rattle.std.proofs.Common.{◌≡◌, refl, sym, ap, subst, ◌∙◌, ℕ, List, [], ◌∷◌, ◌++◌, append_assoc, append-nil, inl, inr}
+use Rattle.std.proofs.Common.{◌≡◌, ◌≢◌, ◌+◌, arith, length, refl, sym, ap, subst, ◌∙◌, ℕ, List, [], ◌∷◌, ◌++◌, append_assoc, append-nil, inl, inr}
 use Rattle.std.specs.List.{Contains}
+use Rattle.std.proofs.lemmas.List.{length-append}
 use Rattle.std.proofs.lemmas.List.Elements.{Contains-append_cases}
 use Rattle.message_model.specs.AnyValue.{AnyValue}
 use Rattle.message_model.specs.Reading.{Reading, Fault, Reads, each}
-use Rattle.message_model.specs.Wire.{Field, Payload, put, len, row}
+use Rattle.message_model.specs.Wire.{Field, Payload, put, len, row, row_after}
 use Rattle.message_model.specs.Tables.{Shape, message, repeated, Table, ValueOf}
 use Rattle.message_model.specs.Messages.{PayloadReading, payloads, joined_rows, read, read_table}
 use Rattle.otlp_message.specs.declared.fault.ReadFault.{ReadFault}
@@ -42,6 +43,15 @@ field-fails values t P content left new f h e fault bad before after =
     names-within (read_table values t (before ++ (row content).value ++ after)).faults (part_faults values t before content after) (within-right (row content).faults _) fault
     (subst (λ l. NamesOne (read_table values t l).faults fault) (sym (ap (λ l. before ++ l ++ after) (read-split P (row content) left new f h e) ∙ regroup before h.fields f new.value after))
     (bad (before ++ h.fields) (new.value ++ after)))
+
+-- no bytes have no field
+pub has-bytes : (P : List Field → Type 0) (content : List ℕ) (left new : Reading (List Field)) (f : Field) → FieldsRead P (row content) left → left ≡ put f new → content ≢ []
+unfolding row row_after
+has-bytes P content left new f h e none =
+    let whole : (row content).value ≡ h.fields ++ f ∷ new.value = read-split P (row content) left new f h e in
+    let empty : (row content).value ≡ [] = ap (λ bs. (row bs).value) none in
+    let size : length (h.fields ++ f ∷ new.value) ≡ length h.fields + length (f ∷ new.value) = length-append h.fields (f ∷ new.value) in
+    absurd (omega (arith, ap length empty, ap length whole, size))
 
 -- ---- a part of a message
 

@@ -3,7 +3,7 @@ use Rattle.std.proofs.Common.{◌≡◌, refl, sym, ap, ◌∙◌, ℕ, List, []
 use Rattle.std.specs.Borrow.{Bor}
 use Rattle.std.specs.Option.{option_map, option_to_list, unwrap_or}
 use Rattle.std.specs.List.{last_or}
-use Rattle.message_model.specs.Wire.{Field, Payload, varint, i64, len}
+use Rattle.message_model.specs.Wire.{Field, Payload, varint, i64, i32, len}
 use Rattle.message_model.specs.Tables.{Shape, text, int64}
 use Rattle.message_model.specs.Messages.{payloads, number_in, bytes_in, last_number, last_bytes}
 use Rattle.otlp_message.proofs.OnePayload.{payloads-append}
@@ -50,6 +50,14 @@ last-fixed64 ps (Some n) = ap (λ o. number_in (unwrap_or o (varint 0))) (last_o
 pub fixed64-more : (n : ℕ) (s : Shape) (fields : List Field) (f : Field) (found : Option ℕ) (old : ℕ) → payloads n s (f ∷ []) ≡ option_to_list (option_map i64 found) →
     old ≡ last_number (payloads n s fields) → unwrap_or found old ≡ last_number (payloads n s (fields ++ f ∷ []))
 fixed64-more n s fields f found old e h = ap (unwrap_or found) h ∙ sym (ap last_number (payloads-append n s fields (f ∷ []) ∙ ap (λ l. payloads n s fields ++ l) e) ∙ last-fixed64 (payloads n s fields) found)
+
+last-fixed32 : (ps : List Payload) (found : Option ℕ) → last_number (ps ++ option_to_list (option_map i32 found)) ≡ unwrap_or found (last_number ps)
+last-fixed32 ps None = ap last_number (append-nil ps)
+last-fixed32 ps (Some n) = ap (λ o. number_in (unwrap_or o (varint 0))) (last_or-push None ps (i32 n))
+
+pub fixed32-more : (n : ℕ) (s : Shape) (fields : List Field) (f : Field) (found : Option ℕ) (old : ℕ) → payloads n s (f ∷ []) ≡ option_to_list (option_map i32 found) →
+    old ≡ last_number (payloads n s fields) → unwrap_or found old ≡ last_number (payloads n s (fields ++ f ∷ []))
+fixed32-more n s fields f found old e h = ap (unwrap_or found) h ∙ sym (ap last_number (payloads-append n s fields (f ∷ []) ∙ ap (λ l. payloads n s fields ++ l) e) ∙ last-fixed32 (payloads n s fields) found)
 
 -- after one more field of a partial success
 pub counts-more : (old : PartialFields) (f : Field) (number : Option ℕ) (bytes : Option (Bor (List ℕ))) → payloads 1 int64 (f ∷ []) ≡ option_to_list (option_map varint number) →

@@ -2,7 +2,7 @@
 use Rattle.std.proofs.Common.{◌≡◌, refl, sym, ap, ap₂, ◌∙◌, arith, ℕ, List, [], ◌∷◌, ◌++◌, Bool, true, false, cond, filter, map, ◌&&◌, ◌==◌}
 use Rattle.std.proofs.lemmas.Bool.{ne_eqb}
 use Rattle.std.specs.Borrow.{Bor}
-use Rattle.message_model.specs.Wire.{Field, varint, i64, len}
+use Rattle.message_model.specs.Wire.{Field, varint, i64, i32, len}
 use Rattle.message_model.proofs.ReadBack.{payloads-own}
 use Rattle.otlp_wire.specs.Fields.{payload_of, field_of}
 use Rattle.otlp_wire.specs.declared.reader.Field.{Field as Found}
@@ -49,6 +49,18 @@ found-fixed64 f n v e1 e2 s w = ap₂ (λ m p. payloads n s (record { number = m
 
 pub no-fixed64 : (f : Found) (n : ℕ) → ((v : ℕ) → f.payload ≡ I64 v → ⊥) → (s : Shape) → wire s ≡ 1 → payloads n s (field_of f ∷ []) ≡ []
 no-fixed64 f n h s w = other-type n s (field_of f) (λ e. is-fixed64 f.payload h (e ∙ w))
+
+pub is-fixed32 : (p : Payload) → ((v : ℕ) → p ≡ I32 v → ⊥) → wire_type (payload_of p) ≡ 5 → ⊥
+is-fixed32 (Varint v) h e = omega (arith, e)
+is-fixed32 (I64 v) h e = omega (arith, e)
+is-fixed32 (Len b) h e = omega (arith, e)
+is-fixed32 (I32 v) h e = h v refl
+
+pub found-fixed32 : (f : Found) (n v : ℕ) → f.payload ≡ I32 v → f.number ≡ n → (s : Shape) → wire s ≡ 5 → payloads n s (field_of f ∷ []) ≡ i32 v ∷ []
+found-fixed32 f n v e1 e2 s w = ap₂ (λ m p. payloads n s (record { number = m; payload = payload_of p } ∷ [])) e2 e1 ∙ payloads-own n s (i32 v) (sym w)
+
+pub no-fixed32 : (f : Found) (n : ℕ) → ((v : ℕ) → f.payload ≡ I32 v → ⊥) → (s : Shape) → wire s ≡ 5 → payloads n s (field_of f ∷ []) ≡ []
+no-fixed32 f n h s w = other-type n s (field_of f) (λ e. is-fixed32 f.payload h (e ∙ w))
 
 pub found-bytes : (f : Found) (n : ℕ) (bytes : Bor (List ℕ)) → f.payload ≡ Len bytes → f.number ≡ n → (s : Shape) → wire s ≡ 2 → payloads n s (field_of f ∷ []) ≡ len bytes.now ∷ []
 found-bytes f n bytes e1 e2 s w = ap₂ (λ m p. payloads n s (record { number = m; payload = payload_of p } ∷ [])) e2 e1 ∙ payloads-own n s (len bytes.now) (sym w)

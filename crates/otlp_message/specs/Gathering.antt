@@ -5,7 +5,7 @@ use Rattle.std.specs.Int.{w32, w64, cast_signed}
 use Rattle.message_model.specs.Reading.{Reading, Reads, Fault, done, ◌>>=◌}
 use Rattle.message_model.specs.Wire.{Field, Payload, row}
 use Rattle.message_model.specs.AnyValue.{AnyValue}
-use Rattle.message_model.specs.Tables.{Shape, text, bytes, bool, uint32, int64, enum, fixed64, any, message, repeated, Table, end, ◌⦂◌◂◌, ◌▸◌, ValueOf, Message}
+use Rattle.message_model.specs.Tables.{Shape, text, bytes, bool, uint32, int64, enum, fixed64, fixed32, any, message, repeated, Table, end, ◌⦂◌◂◌, ◌▸◌, ValueOf, Message}
 use Rattle.message_model.specs.Messages.{PayloadReading, payloads, last_number, last_bytes, joined_rows, read, read_table, utf8, value, max_depth}
 
 abbrev mutual
@@ -19,6 +19,7 @@ abbrev mutual
   Kept int64 = ℕ
   Kept enum = ℕ
   Kept fixed64 = ℕ
+  Kept fixed32 = ℕ
   Kept any = List Payload
   Kept (message t) = Gathered t
   Kept (repeated s) = List (ValueOf s)
@@ -38,6 +39,7 @@ abbrev mutual
   IsKept values int64 x ps = x ≡ last_number ps
   IsKept values enum x ps = x ≡ last_number ps
   IsKept values fixed64 x ps = x ≡ last_number ps
+  IsKept values fixed32 x ps = x ≡ last_number ps
   IsKept values any x ps = x ≡ ps
   IsKept values (message t) x ps =
       ((joined_rows ps).faults ≡ []) × IsGathered values t x (joined_rows ps).value
@@ -83,6 +85,7 @@ abbrev mutual
   no_payload int64 = 0
   no_payload enum = 0
   no_payload fixed64 = 0
+  no_payload fixed32 = 0
   no_payload any = []
   no_payload (message t) = nothing t
   no_payload (repeated s) = []
@@ -102,6 +105,7 @@ abbrev mutual
   finished values int64 x = done (cast_signed w64 x)
   finished values enum x = done (cast_signed w32 (x % 2 ^ 32))
   finished values fixed64 x = done x
+  finished values fixed32 x = done x
   finished values any x = values x
   finished values (message t) x = finished_table values t x
   finished values (repeated s) xs = done xs

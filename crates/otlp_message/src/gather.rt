@@ -1,6 +1,6 @@
 //! The fields of a message, gathered one after another, whatever its table.
 
-ghost use Rattle.std.specs.Prelude.{◌≡◌, ◌++◌, List, [], ◌∷◌, IfOk, IfErr, OnOk};
+ghost use Rattle.std.specs.Prelude.{◌≡◌, ◌≢◌, ◌++◌, List, [], ◌∷◌, IfOk, IfErr, IsErrOf, OnOk};
 ghost use Rattle.message_model.specs.Wire;
 ghost use Rattle.message_model.specs.Wire.{row};
 ghost use Rattle.message_model.specs.Tables.{Table, message};
@@ -45,6 +45,7 @@ fn gather<'a, G: GatherFields<'a>>(gathered: &mut G, content: &'a [u8]) -> Resul
     ensures whole { OnOk result ((row content.now).faults ≡ []) }
     ensures err { IfErr result (λ fault. (before after : List Wire.Field) → NamesOne
         (part_faults (value max_depth) G.table before content.now after) fault) }
+    ensures memory { IsErrOf result ReadFault.OutOfMemory → content.now ≢ [] }
 {
     for field in Fields::new(content) {
         gathered.take(field?)?;
@@ -81,7 +82,7 @@ pub fn gather_in<'a, G: GatherFields<'a>>(
 /// # Errors
 ///
 /// A `ReadFault` that the bytes have, or `OutOfMemory` where what is kept of them could not be
-/// stored.
+/// stored; of no bytes nothing is.
 pub fn gather_all<'a, G: GatherFields<'a>>(empty: G, content: &'a [u8]) -> Result<G, ReadFault>
 where
     G: Drop,
@@ -90,6 +91,7 @@ where
         (Wire.len content.now ∷ []) ≡ finished (value max_depth) (message G.table) (G.gathered g)) }
     ensures err { IfErr result (λ fault. NamesOne
         (read (value max_depth) (message G.table) (Wire.len content.now ∷ [])).faults fault) }
+    ensures memory { IsErrOf result ReadFault.OutOfMemory → content.now ≢ [] }
 {
     let mut gathered = empty;
     gather(&mut gathered, content)?;

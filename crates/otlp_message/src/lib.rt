@@ -4,7 +4,7 @@
 //!
 //! Whoever reads a message of another table writes a type that keeps what counts of its fields, and
 //! implements [`GatherFields`] for it: its `take` keeps a number by [`last_varint`] or
-//! [`last_fixed64`], a text or bytes by [`last_bytes`], a message by [`gather_in`], and a member of
+//! [`last_fixed64`] or [`last_fixed32`], a text or bytes by [`last_bytes`], a message by [`gather_in`], and a member of
 //! a repeated field by [`bytes_in`] with [`gather_all`]. What doesn't count is not looked into:
 //! fields that are unknown or of another wire type, and the texts that a later one replaces.
 #![tactic(auto)]
@@ -19,6 +19,6 @@ mod response_writer;
 pub use content::{copy_bytes, read_text};
 pub use fault::ReadFault;
 pub use gather::{GatherFields, gather_all, gather_in};
-pub use payloads::{bytes_in, last_bytes, last_fixed64, last_varint, low_32_bits};
+pub use payloads::{bytes_in, last_bytes, last_fixed32, last_fixed64, last_varint, low_32_bits};
 pub use response::{PartialSuccess, Response, read_rejected_spans, read_response};
 pub use response_writer::write_response;

@@ -86,6 +86,31 @@ pub fn last_fixed64(before: u64, field: Field<'_>, number: u32) -> u64
     fixed64_in(field, number).unwrap_or(before)
 }
 
+/// The number of the field, where it has this number and is 4 bytes.
+fn fixed32_in(field: Field<'_>, number: u32) -> Option<u32>
+    ensures { (s : Shape) → wire s ≡ 5 →
+        payloads number s (field_of field.entry ∷ []) ≡
+        option_to_list (option_map Wire.i32 result) }
+{
+    let Payload::I32(value) = field.payload else {
+        return None;
+    };
+    if field.number != number {
+        return None;
+    }
+    Some(value)
+}
+
+/// The last number of 4 bytes under this number, where the one before the field is this, which is 0
+/// before the first one (Protocol Buffers, Encoding, "Last One Wins").
+pub fn last_fixed32(before: u32, field: Field<'_>, number: u32) -> u32
+    ensures { (s : Shape) → wire s ≡ 5 → (fields : List Wire.Field) →
+        before ≡ messages.last_number (payloads number s fields) →
+        result ≡ messages.last_number (payloads number s (fields ++ field_of field.entry ∷ [])) }
+{
+    fixed32_in(field, number).unwrap_or(before)
+}
+
 /// The low 32 bits of the number: what a varint means in a field of 32 bits (Protocol Buffers,
 /// Language Guide, "Updating A Message Type").
 pub fn low_32_bits(number: u64) -> u32

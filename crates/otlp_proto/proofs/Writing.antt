@@ -4,8 +4,11 @@ use Rattle.std.proofs.lemmas.List.{append-nil, length-append, map-append}
 use Rattle.std.proofs.Math.Seq.{take-suc}
 use Rattle.std.proofs.lemmas.Bool.{eqb-true, ne_eqb}
 use Rattle.std.specs.List.{AllByRecursion}
-use Rattle.message_model.specs.Wire.{Field, varint, i64}
-use Rattle.message_model.specs.Tables.{Shape, text, bytes, uint32, enum, fixed64, message, repeated, Table, end, ◌⦂◌◂◌, ValueOf, Message}
+use Rattle.std.specs.Prelude.{Option, None, Some, option_map, unwrap_or}
+use Rattle.span_model.specs.Spans.{Parent}
+use Rattle.export_model.specs.Export.{parent_id}
+use Rattle.message_model.specs.Wire.{Field, varint, i64, i32}
+use Rattle.message_model.specs.Tables.{Shape, text, bytes, uint32, enum, fixed64, fixed32, message, repeated, Table, end, ◌⦂◌◂◌, ValueOf, Message}
 use Rattle.message_model.specs.Messages.{wire_type}
 use Rattle.message_model.specs.Canon.{septets_of, shortest, payload_bytes, field_bytes, bytes_field, unless_empty, unless_no_fields, is_flat, row_bytes, shape_fields, shape_bytes, table_fields, canon}
 use Rattle.message_model.specs.Whole.{IsText, IsWhole, IsMessage}
@@ -96,6 +99,19 @@ some-fixed64 {n} {x} h w q = one (record { number = n; payload = i64 x }) (rw (n
 pub no-fixed64 : {n : ℕ} {c : Cursor} → Puts n fixed64 0 c c
 unfolding shape_fields
 no-fixed64 = none refl (omega arith)
+
+pub some-fixed32 : {n x : ℕ} {c d : Cursor} → x ≢ 0 → x < 2 ^ 32 → Lays (field_bytes (record { number = n; payload = i32 x })) c d → Puts n fixed32 x c d
+unfolding shape_fields
+some-fixed32 {n} {x} h w q = one (record { number = n; payload = i32 x }) (rw (not-zero x h) refl) w q
+
+pub no-fixed32 : {n : ℕ} {c : Cursor} → Puts n fixed32 0 c c
+unfolding shape_fields
+no-fixed32 = none refl (omega arith)
+
+-- the identifier of a parent, of which only the identifier is asked
+pub parent-id : (p : Option Parent) → unwrap_or (option_map (λ q. q.id) p) [] ≡ parent_id p
+parent-id None = refl
+parent-id (Some q) = refl
 
 pub no-octets-at-all : {n : ℕ} {c : Cursor} → Puts n bytes [] c c
 no-octets-at-all = no-octets refl

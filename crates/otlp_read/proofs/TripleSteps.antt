@@ -1,5 +1,5 @@
 -- Lists through one index more.
-use Rattle.std.proofs.Common.{◌≡◌, ℕ, ◌<◌, ◌+◌, List, [], ◌∷◌, ◌++◌, map, flat_map, take, get_or, length, sym, ap, ◌∙◌, append_assoc}
+use Rattle.std.proofs.Common.{◌≡◌, ◌≢◌, arith, refl, ℕ, zero, suc, ◌<◌, ◌+◌, List, [], ◌∷◌, ◌++◌, map, flat_map, take, get_or, length, sym, ap, ◌∙◌, append_assoc, Result, Ok, Err, OnErr}
 use Rattle.std.proofs.lemmas.List.{map-append, take_more, append-nil}
 use Rattle.std.proofs.lemmas.List.Concat.{flat_map-append}
 
@@ -22,3 +22,22 @@ flat_map-more f g xs i x l e old mid new p q =
 -- of one more at the end, seen by a view
 pub map-pushed : {X Y : Type 0} (f : X → Y) (xs new : List X) (x : X) → new ≡ xs ++ x ∷ [] → map f new ≡ map f xs ++ f x ∷ []
 map-pushed f xs new x e = ap (map f) e ∙ map-append f xs (x ∷ [])
+
+-- ---- where there is an item, something comes of it
+
+pub on-err-always : {T E P : Type 0} (r : Result T E) → P → OnErr r P
+on-err-always (Ok x) p = tt
+on-err-always (Err e) p = p
+
+append-none : {Z : Type 0} (a b : List Z) → a ++ b ≡ [] → (a ≡ []) × (b ≡ [])
+append-none [] b e = (refl, e)
+append-none (z ∷ a) b e = absurd (omega (arith, ap length e))
+
+pub some-mapped : {X Y Z : Type 0} (f : Y → Z) (g : X → Y) (xs : List X) (i : ℕ) → i < length xs → map f (map g xs) ≢ []
+some-mapped f g [] i l n = absurd (omega (arith, l))
+some-mapped f g (x ∷ xs) i l n = absurd (omega (arith, ap length n))
+
+pub some-part : {X Y Z : Type 0} (f : Y → List Z) (g : X → Y) (xs : List X) (i : ℕ) (x : X) → i < length xs → x ≡ get_or xs i x → f (g x) ≢ [] → flat_map f (map g xs) ≢ []
+some-part f g [] i x l e h n = absurd (omega (arith, l))
+some-part f g (y ∷ xs) zero x l e h n = h (ap (λ z. f (g z)) e ∙ (append-none (f (g y)) (flat_map f (map g xs)) n).0)
+some-part f g (y ∷ xs) (suc i) x l e h n = some-part f g xs i x (omega (arith, l)) e h ((append-none (f (g y)) (flat_map f (map g xs)) n).1)

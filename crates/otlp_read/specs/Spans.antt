@@ -42,7 +42,7 @@ event_gathered x =
 abbrev pub link_view : {A : Type 0} → Link A → Message Tables.link
 link_view x =
     x.trace_id.items ▸ x.span_id.items ▸ string_bytes x.trace_state ▸
-    pairs_view x.attributes.items ▸ x.dropped_attributes_count ▸ tt
+    pairs_view x.attributes.items ▸ x.dropped_attributes_count ▸ x.flags ▸ tt
 
 -- each of them
 abbrev pub links_view : {A : Type 0} → List (Link A) → List (Message Tables.link)
@@ -52,7 +52,7 @@ links_view xs = map link_view xs
 abbrev pub link_gathered : {A : Type 0} → LinkParts A → Gathered Tables.link
 link_gathered x =
     x.trace_id.now ▸ x.span_id.now ▸ x.trace_state.now ▸ pairs_view x.attributes.items ▸
-    x.dropped_attributes_count ▸ tt
+    x.dropped_attributes_count ▸ x.flags ▸ tt
 
 -- (trace.proto: Span)
 abbrev pub span_view : {A : Type 0} → Span A → Message Tables.span
@@ -61,7 +61,7 @@ span_view x =
     string_bytes x.name ▸ x.kind ▸ x.start_time_unix_nano ▸ x.end_time_unix_nano ▸
     pairs_view x.attributes.items ▸ x.dropped_attributes_count ▸ events_view x.events.items ▸
     x.dropped_events_count ▸ links_view x.links.items ▸ x.dropped_links_count ▸
-    status_view x.status ▸ tt
+    status_view x.status ▸ x.flags ▸ tt
 
 -- each of them
 abbrev pub spans_view : {A : Type 0} → List (Span A) → List (Message Tables.span)
@@ -73,4 +73,4 @@ span_gathered x =
     x.trace_id.now ▸ x.span_id.now ▸ x.trace_state.now ▸ x.parent_span_id.now ▸ x.name.now ▸
     x.kind ▸ x.start_time_unix_nano ▸ x.end_time_unix_nano ▸ pairs_view x.attributes.items ▸
     x.dropped_attributes_count ▸ events_view x.events.items ▸ x.dropped_events_count ▸
-    links_view x.links.items ▸ x.dropped_links_count ▸ status_gathered x.status ▸ tt
+    links_view x.links.items ▸ x.dropped_links_count ▸ status_gathered x.status ▸ x.flags ▸ tt

@@ -1,7 +1,7 @@
 //! Requests as they were received (opentelemetry-proto, trace_service.proto:
 //! ExportTraceServiceRequest; trace.proto: ResourceSpans, ScopeSpans).
 
-ghost use Rattle.std.specs.Prelude.{◌≡◌, List, [], ◌∷◌, IfOk, IfErr, OnOk};
+ghost use Rattle.std.specs.Prelude.{◌≡◌, ◌≢◌, List, [], ◌∷◌, IfOk, IfErr, IsErrOf, IsOk, OnOk};
 ghost use Rattle.message_model.specs.Reading.{Reads};
 ghost use Rattle.message_model.specs.Wire;
 ghost use Rattle.message_model.specs.Tables;
@@ -188,6 +188,7 @@ impl<A: Allocator + Copy> RequestParts<A> {
             (request_gathered self)) (request_view x)) }
         ensures err { IfErr result (λ fault. NamesOne (finished (value max_depth)
             (message Tables.request) (request_gathered self)).faults fault) }
+        ensures whole { IsOk result }
     {
         Ok(Request {
             resource_spans: self.resource_spans,
@@ -290,12 +291,14 @@ fn push_resource_spans<A: Allocator + Copy>(
 ///
 /// # Errors
 ///
-/// A `ReadFault` that the body has, or `OutOfMemory` where what is kept of it could not be stored.
+/// A `ReadFault` that the body has, or `OutOfMemory` where what is kept of it could not be stored; a
+/// body of no bytes takes no memory.
 pub fn read_request<A: Allocator + Copy>(alloc: A, body: &[u8]) -> Result<Request<A>, ReadFault>
     ensures ok { IfOk result (λ request.
         Reads (meaning Tables.request body.now) (request_view request)) }
     ensures err { IfErr result (λ fault.
         NamesOne (meaning Tables.request body.now).faults fault) }
+    ensures memory { IsErrOf result ReadFault.OutOfMemory → body.now ≢ [] }
 {
     let parts = gather_all(RequestParts::new(alloc), body)?;
     parts.finish()

@@ -15,8 +15,8 @@ ghost use Rattle.otlp_read.specs.Spans.{status_view, status_gathered, event_view
 
 use crate::any_value::{AnyValue, push_attribute};
 use otlp_message::{
-    GatherFields, ReadFault, bytes_in, copy_bytes, gather_all, last_bytes, last_fixed64,
-    last_varint, low_32_bits, read_text,
+    GatherFields, ReadFault, bytes_in, copy_bytes, gather_all, last_bytes, last_fixed32,
+    last_fixed64, last_varint, low_32_bits, read_text,
 };
 use otlp_wire::{Field, Fields};
 use std::alloc::{Allocator, Global};
@@ -60,9 +60,13 @@ pub struct Link<A: Allocator = Global> {
     pub attributes: Vec<(String<A>, AnyValue<A>), A>,
     /// How many attributes were dropped.
     pub dropped_attributes_count: u32,
+    /// The flags of its context in the low 8 bits, whether it is known that the context is remote in
+    /// bit 8, and whether it is in bit 9 (trace.proto: SpanFlags); 0 where the field is absent, and
+    /// other bits as they were received.
+    pub flags: u32,
 }
 
-/// A span (opentelemetry-proto, trace.proto: Span). Flags are not read. (profile)
+/// A span (opentelemetry-proto, trace.proto: Span).
 #[derive(Drop)]
 #[derive_where(Debug)]
 pub struct Span<A: Allocator = Global> {
@@ -97,6 +101,10 @@ pub struct Span<A: Allocator = Global> {
     pub dropped_links_count: u32,
     /// Its status.
     pub status: Status<A>,
+    /// The flags of its context in the low 8 bits, whether it is known that its parent is remote in
+    /// bit 8, and whether it is in bit 9 (trace.proto: SpanFlags); 0 where the field is absent, and
+    /// other bits as they were received.
+    pub flags: u32,
 }
 
 /// What is gathered of the fields of a status.
@@ -244,6 +252,7 @@ pub(crate) struct LinkParts<'a, A: Allocator> {
     trace_state: &'a [u8],
     attributes: Vec<(String<A>, AnyValue<A>), A>,
     dropped_attributes_count: u64,
+    flags: u32,
 }
 
 impl<'a, A: Allocator + Copy> LinkParts<'a, A> {
@@ -258,6 +267,7 @@ impl<'a, A: Allocator + Copy> LinkParts<'a, A> {
             trace_state: b"",
             attributes: Vec::new(alloc),
             dropped_attributes_count: 0,
+            flags: 0,
         }
     }
 
@@ -275,6 +285,7 @@ impl<'a, A: Allocator + Copy> LinkParts<'a, A> {
             trace_state: read_text(alloc, self.trace_state)?,
             attributes: self.attributes,
             dropped_attributes_count: low_32_bits(self.dropped_attributes_count),
+            flags: self.flags,
         })
     }
 }
@@ -293,6 +304,7 @@ impl<'a, A: Allocator + Copy> GatherFields<'a> for LinkParts<'a, A> {
         self.trace_state = last_bytes(self.trace_state, field, 3);
         push_attribute(self.alloc, &mut self.attributes, field, 4)?;
         self.dropped_attributes_count = last_varint(self.dropped_attributes_count, field, 5);
+        self.flags = last_fixed32(self.flags, field, 6);
         Ok(())
     }
 }
@@ -316,6 +328,7 @@ pub(crate) struct SpanParts<'a, A: Allocator> {
     links: Vec<Link<A>, A>,
     dropped_links_count: u64,
     status: StatusParts<'a, A>,
+    flags: u32,
 }
 
 impl<'a, A: Allocator + Copy> SpanParts<'a, A> {
@@ -340,6 +353,7 @@ impl<'a, A: Allocator + Copy> SpanParts<'a, A> {
             links: Vec::new(alloc),
             dropped_links_count: 0,
             status: StatusParts::new(alloc),
+            flags: 0,
         }
     }
 
@@ -367,6 +381,7 @@ impl<'a, A: Allocator + Copy> SpanParts<'a, A> {
             links: self.links,
             dropped_links_count: low_32_bits(self.dropped_links_count),
             status: self.status.finish()?,
+            flags: self.flags,
         })
     }
 }
@@ -395,6 +410,7 @@ impl<'a, A: Allocator + Copy> GatherFields<'a> for SpanParts<'a, A> {
         push_link(self.alloc, &mut self.links, field, 13)?;
         self.dropped_links_count = last_varint(self.dropped_links_count, field, 14);
         self.status.take_in(field, 15)?;
+        self.flags = last_fixed32(self.flags, field, 16);
         Ok(())
     }
 }

@@ -1,7 +1,7 @@
 //! Spans with the scope and the resource that they stand under (opentelemetry-proto, trace.proto:
 //! ResourceSpans, ScopeSpans).
 
-ghost use Rattle.std.specs.Prelude.{◌≡◌, ◌++◌, IfOk, OnOk, map, string_bytes};
+ghost use Rattle.std.specs.Prelude.{◌≡◌, ◌≢◌, [], ◌++◌, IfOk, OnErr, OnOk, map, string_bytes};
 ghost use Rattle.message_model.specs.Messages.{triples, resource_triples, scope_triples};
 ghost use Rattle.otlp_read.specs.Resources.{resource_view};
 ghost use Rattle.otlp_read.specs.Requests.{scope_spans_view, resource_spans_view, request_view};
@@ -35,9 +35,11 @@ fn push_scope<'a, A: Allocator + Copy>(
     group: &'a ResourceSpans<A>,
     scope_group: &'a ScopeSpans<A>,
 ) -> Result<(), OutOfMemory>
-    ensures { OnOk result (triples_view found.new.items ≡ triples_view found.old.items
+    ensures appended { OnOk result (triples_view found.new.items ≡ triples_view found.old.items
         ++ scope_triples (resource_view group.now.resource) (string_bytes group.now.schema_url)
         (scope_spans_view scope_group.now)) }
+    ensures memory { OnErr result (scope_triples (resource_view group.now.resource)
+        (string_bytes group.now.schema_url) (scope_spans_view scope_group.now) ≢ []) }
 {
     for span in &scope_group.spans {
         found.push(Triple {
@@ -56,8 +58,9 @@ fn push_resource<'a, A: Allocator + Copy>(
     found: &mut Vec<Triple<'a, A>, A>,
     group: &'a ResourceSpans<A>,
 ) -> Result<(), OutOfMemory>
-    ensures { OnOk result (triples_view found.new.items ≡ triples_view found.old.items
+    ensures appended { OnOk result (triples_view found.new.items ≡ triples_view found.old.items
         ++ resource_triples (resource_spans_view group.now)) }
+    ensures memory { OnErr result (resource_triples (resource_spans_view group.now) ≢ []) }
 {
     for scope_group in &group.scope_spans {
         push_scope(found, group, scope_group)?;
@@ -73,8 +76,9 @@ impl<A: Allocator + Copy> Request<A> {
     ///
     /// `OutOfMemory` where the list of them could not be stored. An empty one takes no memory.
     pub fn triples(&self) -> Result<Vec<Triple<'_, A>, A>, OutOfMemory>
-        ensures { IfOk result (λ found. map triple_view found.items ≡
+        ensures listed { IfOk result (λ found. map triple_view found.items ≡
             triples (request_view self.now)) }
+        ensures memory { OnErr result (triples (request_view self.now) ≢ []) }
     {
         let mut found = Vec::new(*self.resource_spans.allocator());
         for group in &self.resource_spans {

@@ -5,7 +5,7 @@ use Rattle.span_model.specs.Attributes.{Kept}
 use Rattle.span_model.specs.Spans as model
 use Rattle.otlp_ids.specs.SpanContext.{context_view}
 use Rattle.otlp_span.specs.declared.body.SpanBody.{SpanBody}
-use Rattle.otlp_span.specs.Parts.{event_view, kind_view, limits_view, link_view, resource_view, scope_view, parent_id_view, status_view}
+use Rattle.otlp_span.specs.Parts.{event_view, kind_view, limits_view, link_view, resource_view, scope_view, kept_parent_view, status_view}
 
 -- what is kept, each item in the model
 abbrev pub kept_view : {T M : Type 0} → (T → M) → Kept T → Kept M
@@ -14,7 +14,7 @@ kept_view view kept = record { items = map view kept.items; dropped = kept.dropp
 abbrev pub span_view : {A : Type 0} → SpanBody A → model.Span
 span_view b = record {
   context = context_view b.context;
-  parent = parent_id_view b.parent;
+  parent = kept_parent_view b.parent b.parent_remote;
   name = string_bytes b.name;
   kind = kind_view b.kind;
   start = b.start;

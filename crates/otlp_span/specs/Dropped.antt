@@ -1,5 +1,5 @@
 -- What reasons and names of dropped spans are in the model.
-use Rattle.span_model.specs.Dropped as model
+use Rattle.drop_model.specs.Dropped as model
 use Rattle.otlp_span.specs.declared.reason.Reason.{Reason}
 use Rattle.otlp_span.specs.declared.reason.Reason.TheVariants as reasons
 use Rattle.otlp_span.specs.declared.slip.Entry.{Entry}

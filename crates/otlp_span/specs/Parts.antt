@@ -51,10 +51,14 @@ scope_view s = record {
 abbrev pub parent_id_view : Option SpanId → Option (List ℕ)
 parent_id_view parent = option_map (λ id. id.0) parent
 
+-- the parent of this identifier, with its remoteness; without an identifier there is none
+abbrev pub kept_parent_view : Option SpanId → Bool → Option model.Parent
+kept_parent_view parent remote = option_map (λ id. record { id = id.0; remote = remote }) parent
+
 abbrev pub start_view : {A : Type 0} → Open A → model.Start
 start_view o = record {
   context = context_view o.context;
-  parent = parent_id_view o.parent;
+  parent = kept_parent_view o.parent o.parent_remote;
   name = string_bytes o.name;
   kind = kind_view o.kind;
   at = o.start;

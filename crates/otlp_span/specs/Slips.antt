@@ -1,7 +1,7 @@
 -- The names that hang together, the newest first.
 use Rattle.std.specs.Prelude.{ℕ, ◌+◌, List, [], ◌∷◌, length, Bool, IsTrue, true, false, Option, None, Some}
 use Rattle.std.specs.Option.{ForSome}
-use Rattle.span_model.specs.Dropped as model
+use Rattle.drop_model.specs.Dropped as model
 use Rattle.otlp_span.specs.declared.slip.Note.{Note}
 use Rattle.otlp_span.specs.declared.slip.Note.TheVariants as notes
 use Rattle.otlp_span.specs.Dropped.{entry_view}

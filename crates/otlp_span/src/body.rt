@@ -23,6 +23,8 @@ pub(crate) struct SpanBody<A: Allocator> {
     pub(crate) limits: SpanLimits,
     pub(crate) context: SpanContext<A>,
     pub(crate) parent: Option<SpanId>,
+    // Without a parent it says nothing.
+    pub(crate) parent_remote: bool,
     pub(crate) kind: Kind,
     pub(crate) resource: Arc<Resource<A>, A>,
     pub(crate) scope: Arc<Scope<A>, A>,

@@ -1,6 +1,6 @@
-ghost use Rattle.std.specs.Prelude.{◌≡◌, [], map};
-ghost use Rattle.span_model.specs.Dropped.{entry_of};
-ghost use Rattle.span_model.specs.Spans.{with_ticket};
+ghost use Rattle.std.specs.Prelude.{◌≡◌, [], map, option_map};
+ghost use Rattle.drop_model.specs.Dropped.{entry_of};
+ghost use Rattle.span_model.specs.Spans.{has_remote_parent, with_ticket};
 ghost use Rattle.otlp_ids.specs.SpanContext.{context_view};
 ghost use Rattle.otlp_value.specs.Value.{attributes_view};
 ghost use Rattle.otlp_span.specs.Dropped.{entry_view, reason_view};
@@ -56,9 +56,17 @@ impl<A: Allocator> SpanData<A> {
 
     /// The identifier of the span's parent; a root has none.
     pub fn parent_span_id(&self) -> Option<SpanId>
-        ensures { parent_id_view result ≡ self.now.span.parent }
+        ensures { parent_id_view result ≡ option_map (λ p. p.id) self.now.span.parent }
     {
         self.body.parent
+    }
+
+    /// Whether the span has a parent that came from elsewhere (Trace API, "SpanContext", IsRemote;
+    /// trace.proto, Span.flags, bits 8 and 9); false for a root.
+    pub fn has_remote_parent(&self) -> bool
+        ensures { result ≡ has_remote_parent self.now.span.parent }
+    {
+        self.body.parent.is_some() && self.body.parent_remote
     }
 
     /// What made the span (Resource SDK).

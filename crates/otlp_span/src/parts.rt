@@ -190,6 +190,9 @@ pub struct Open<A: Allocator = Global> {
     pub context: SpanContext<A>,
     /// The identifier of its parent; a root has none.
     pub parent: Option<SpanId>,
+    /// Whether the parent came from elsewhere (Trace API, "SpanContext", IsRemote; trace.proto,
+    /// Span.flags, bits 8 and 9). A root has false; without a parent it says nothing.
+    pub parent_remote: bool,
     /// What makes the span, shared with its other spans.
     pub resource: Arc<Resource<A>, A>,
     /// The part of the program that makes the span, shared with its other spans.

@@ -58,6 +58,7 @@ impl<A: Allocator + Copy> SpanRecord<A> {
         let Open {
             context,
             parent,
+            parent_remote,
             resource,
             scope,
             name,
@@ -73,6 +74,7 @@ impl<A: Allocator + Copy> SpanRecord<A> {
                 limits: *limits,
                 context,
                 parent,
+                parent_remote,
                 resource,
                 scope,
                 name,

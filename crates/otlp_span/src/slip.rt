@@ -46,7 +46,7 @@ pub(crate) enum Note<A: Allocator> {
 
 impl<A: Allocator> Model for Slip<A> {
     ghost use Rattle.std.specs.Prelude.{List, length};
-    ghost use Rattle.span_model.specs.Dropped.{Entry};
+    ghost use Rattle.drop_model.specs.Dropped.{Entry};
 
     ghost Value = { List Entry };
 
@@ -168,7 +168,7 @@ pub struct Entries<'a, A: Allocator = Global> {
 impl<'a, A: Allocator> Model for Entries<'a, A> {
     ghost use Rattle.std.specs.Prelude.{List};
     ghost use Rattle.std.specs.Option.{ForSome, option_copied};
-    ghost use Rattle.span_model.specs.Dropped.{Entry};
+    ghost use Rattle.drop_model.specs.Dropped.{Entry};
 
     ghost Value = { List Entry };
 

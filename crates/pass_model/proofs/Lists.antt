@@ -5,7 +5,7 @@ use Rattle.std.specs.List.{AllByRecursion, range_with_len}
 use Rattle.std.proofs.lemmas.List.{append_assoc}
 use Rattle.std.proofs.lemmas.List.Sorted.{IsPermutation-sym, IsPermutation-trans, IsPermutation-append_left, IsPermutation-append_right, IsPermutation-append_comm, sum_by-IsPermutation}
 use Rattle.account_book.proofs.Facts.{each_append, each_map}
-use Rattle.span_model.specs.Dropped.{Entry, Reason, count_of_reason}
+use Rattle.drop_model.specs.Dropped.{Entry, Reason, count_of_reason}
 use Rattle.desk_model.specs.Desks.{drop_counts}
 use Rattle.pass_model.specs.Passes.{Rises}
 use Rattle.pass_model.specs.Clauses.{numbers_below}

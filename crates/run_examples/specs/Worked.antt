@@ -6,9 +6,10 @@ use lib.Utf8.{encode}
 use Prim.Native.String.{String}
 use Rattle.message_model.specs.Canon.{canon, septets_of}
 use Rattle.span_model.specs.Attributes.{Attribute, int}
-use Rattle.span_model.specs.Dropped.{Reason, Entry}
+use Rattle.drop_model.specs.Dropped.{Reason, Entry}
 use Rattle.span_model.specs.Identifiers.{Words, first_valid}
 use Rattle.span_model.specs.Sampling.{SamplerMeaning, always_on}
+use Rattle.span_model.specs.Spans as spans
 use Rattle.span_model.specs.Spans.{default_limits, internal, unset, Context, Call, Resource, Scope, EndedSpan, first_or, span}
 use Rattle.span_model.specs.Starts.{Ids, started_span, ids_of, ids_words}
 use Rattle.export_model.specs.Export.{groups, body_length}
@@ -227,7 +228,7 @@ delivers number size =
 -- ---- spans
 
 -- the span of this word under this name, with this parent and these attributes
-abbrev pub ended_span : ℕ → ℕ → Option (List ℕ) → String → List Attribute → EndedSpan
+abbrev pub ended_span : ℕ → ℕ → Option spans.Parent → String → List Attribute → EndedSpan
 ended_span ticket word parent name attributes = record {
   resource = no_resource;
   scope = scope_s;
@@ -257,7 +258,8 @@ abbrev pub first_span : ℕ → EndedSpan
 first_span ticket = ended_span ticket 3 None "a" []
 
 abbrev pub child_span : ℕ → ℕ → EndedSpan
-child_span ticket word = ended_span ticket word (Some (id 3)) "a" []
+child_span ticket word =
+    ended_span ticket word (Some (record { id = id 3; remote = false })) "a" []
 
 -- the name of a dropped span of this word
 abbrev pub dropped_entry : Reason → ℕ → ℕ → Entry

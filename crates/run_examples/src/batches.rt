@@ -2,7 +2,7 @@
 //! lengths stand here.
 
 ghost use Rattle.std.specs.Prelude.{◌≡◌, [], ◌∷◌, ◌++◌, pos, Some, None};
-ghost use Rattle.span_model.specs.Dropped.{encode_memory, too_large};
+ghost use Rattle.drop_model.specs.Dropped.{encode_memory, too_large};
 ghost use Rattle.span_model.specs.Sampling.{always_on};
 ghost use Rattle.retry_model.specs.Retries.{Outcome, later, no_reply, bad, seconds, Next, give_up, Cause, attempts};
 ghost use Rattle.history_model.specs.Steps.{Step};

@@ -1,9 +1,9 @@
 //! What ends and other calls answer, and the spans that end (OpenTelemetry Trace API, "End"; Trace
 //! SDK, "OnEnd", "Shutdown").
 
-ghost use Rattle.std.specs.Prelude.{◌≡◌, [], ◌∷◌, ◌++◌, pos, true, Some, None};
+ghost use Rattle.std.specs.Prelude.{◌≡◌, [], ◌∷◌, ◌++◌, codes, pos, true, Some, None};
 ghost use Rattle.span_model.specs.Sampling.{always_on, always_off, as_parent, record_only};
-ghost use Rattle.span_model.specs.Spans.{Call};
+ghost use Rattle.span_model.specs.Spans.{Call, error, ok, set_status, unset};
 ghost use Rattle.history_model.specs.Steps.{given, Step};
 ghost use Rattle.run_model.specs.Runs.{Answer, done, no_span, out_of_memory};
 ghost use Rattle.run_examples.specs.Worked.{id, queue_of, run_with, starts, first, child, family, calls, ends, context, set, pair, answers_from, answers_without, ended_without, started, queued, full, late, not_sampled, already_ended, ended_span, first_span, child_span};
@@ -58,13 +58,19 @@ pub fn shutdown()
         Answer.flush ∷ queued 0 ∷ [] }
 {}
 
-/// What calls answer. A call that is ignored takes no memory, and no end does.
+/// What calls answer. A call that is ignored takes no memory; nor does an end, or a status without
+/// a description.
 #[tactic(auto, unfolding(crate::specs::Worked::answers_from, crate::specs::Worked::answers_without))]
 pub fn calls()
     ensures done { answers_from 1 (queue_of 4) (first ∷ calls 0 (set "k" (pos 1)) ∷ []) ≡
         done ∷ [] }
     ensures refused { answers_without (1 ∷ []) 1 (queue_of 4)
         (first ∷ calls 0 (set "k" (pos 1)) ∷ []) ≡ out_of_memory ∷ [] }
+    // A status without a description has no text to copy.
+    ensures status { answers_without (1 ∷ 2 ∷ 3 ∷ []) 1 (queue_of 4)
+        (first ∷ calls 0 (set_status ok) ∷ calls 0 (set_status unset) ∷
+        calls 0 (set_status (error (codes "e"))) ∷ []) ≡
+        done ∷ done ∷ out_of_memory ∷ [] }
     ensures no_span { answers_without (0 ∷ []) 0 (queue_of 4) (calls 0 (set "k" (pos 1)) ∷ []) ≡
         no_span ∷ [] }
     ensures end { answers_without (1 ∷ []) 1 (queue_of 4) (first ∷ ends 0 ∷ []) ≡ queued 0 ∷ [] }
@@ -103,5 +109,5 @@ pub fn values()
     // The span of a refused start can't end.
     ensures refused_start { ended_without (0 ∷ []) (queue_of 4)
         (first ∷ ends 0 ∷ starts 0 (given (context true 1 "")) ∷ ends 1 ∷ []) ≡
-        ended_span 0 4 (Some (id 9)) "a" [] ∷ [] }
+        ended_span 0 4 (Some (record { id = id 9; remote = true })) "a" [] ∷ [] }
 {}

@@ -3,7 +3,7 @@
 //! queue full, one is in a batch that is out, one waits, and one is late.
 
 ghost use Rattle.std.specs.Prelude.{◌≡◌, [], ◌∷◌, ◌++◌, Some, None, true, false};
-ghost use Rattle.span_model.specs.Dropped.{queue_full};
+ghost use Rattle.drop_model.specs.Dropped.{queue_full};
 ghost use Rattle.retry_model.specs.Retries.{Outcome, Fate};
 ghost use Rattle.desk_model.specs.Queue as desk;
 ghost use Rattle.run_model.specs.Answers.{not_out, to_encode, to_send, to_judge, AreAnswers};

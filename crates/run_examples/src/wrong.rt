@@ -2,7 +2,7 @@
 //! ledger: profile). Each breaks one of the conditions that the right one meets.
 
 ghost use Rattle.std.specs.Prelude.{◌≡◌, [], ◌∷◌, ◌++◌, None};
-ghost use Rattle.span_model.specs.Dropped.{too_large};
+ghost use Rattle.drop_model.specs.Dropped.{too_large};
 ghost use Rattle.retry_model.specs.Retries.{Outcome};
 ghost use Rattle.run_model.specs.Runs.{Answer, not_taken, nothing};
 ghost use Rattle.run_model.specs.Answers.{AreAnswers};

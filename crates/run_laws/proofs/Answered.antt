@@ -3,7 +3,7 @@ use Rattle.std.proofs.Common.{◌≡◌, refl, sym, ap, ◌∙◌, ℕ, ◌+◌,
 use Rattle.std.specs.Prelude.{is_none, if◌then◌else◌}
 use Rattle.std.specs.List.{list_any}
 use Rattle.std.specs.Option.{option_map_or}
-use Rattle.span_model.specs.Dropped.{Reason, queue_full, encode_memory, too_large}
+use Rattle.drop_model.specs.Dropped.{Reason, queue_full, encode_memory, too_large}
 use Rattle.span_model.specs.Sampling.{is_sampled}
 use Rattle.span_model.specs.Spans.{Call, is_end}
 use Rattle.span_model.specs.Starts.{Ids, StartedSpan}
@@ -12,7 +12,7 @@ use Rattle.desk_model.specs.Desks.{Desk, is_due, desk_of}
 use Rattle.history_model.specs.Steps.{Step}
 use Rattle.history_model.specs.History.{Setup}
 use Rattle.run_model.specs.Runs.{Ended, queued, late, not_sampled, already_ended, Answer, started, no_randomness, no_span, out_of_memory, done, ended, taken, not_taken, encoded, sent, early, replied, nothing, Answered, span_at, calls_so_far}
-use Rattle.run_model.specs.Answers.{RunConfig, Given, Progress, not_out, to_encode, to_send, to_judge, to_retry, takes_memory, is_live, start_answer, end_answer, call_answer, take_answer, encode_answer, attempt_answer, reply_answer, last_length, desk_after, answer_to, progress, last_attempt, IsAnswer}
+use Rattle.run_model.specs.Answers.{RunConfig, Given, Progress, not_out, to_encode, to_send, to_judge, to_retry, takes_memory, call_takes_memory, start_answer, end_answer, call_answer, take_answer, encode_answer, attempt_answer, reply_answer, last_length, desk_after, answer_to, progress, last_attempt, IsAnswer}
 use Rattle.run_laws.specs.Laws.{is_first_end, was_shut, is_full, says_late, says_full, says_queued, may_take, says_taken, LateBehindShutdown, DroppedWhereFull, QueuedWhereRoom, TakenWhereDue, TakesTheFirst, OfRuns}
 use Rattle.run_laws.proofs.Histories.{answer-at}
 
@@ -81,7 +81,7 @@ module _ (f : Answer → Bool) (q : Quiet f) where
 
   quiet-call : ((e : Ended) → f (ended e) ≡ false) → (run : RunConfig) (before : List Answered) (desk : Desk) (refused : Bool) (n : ℕ) (c : Call) (o : Option StartedSpan) → f (call_answer run before desk refused n c o) ≡ false
   quiet-call t run before desk refused n c None = q.of_no_span
-  quiet-call t run before desk refused n c (Some s) = by (is_end c) (refused && is_live s (calls_so_far before n))
+  quiet-call t run before desk refused n c (Some s) = by (is_end c) (refused && call_takes_memory s (calls_so_far before n) c)
     where
       by : (e b : Bool) → f (if e then ended (end_answer run before desk n s) else if b then out_of_memory else done) ≡ false
       by true b = t _
@@ -115,10 +115,10 @@ module _ (f : Answer → Bool) (says : Bool → Bool → Bool) (t : TellsEnds f 
   ends-call : (refused : Bool) (n : ℕ) (c : Call) → f (call_answer run before (desk_after run before) refused n c (span_at run.setup before n)) ≡ told (Step.call n c)
   ends-call refused n c = by (span_at run.setup before n)
     where
-      end-or-not : (s : StartedSpan) (e : Bool) → f (if e then ended (end_answer run before (desk_after run before) n s) else if refused && is_live s (calls_so_far before n) then out_of_memory else done)
+      end-or-not : (s : StartedSpan) (e : Bool) → f (if e then ended (end_answer run before (desk_after run before) n s) else if refused && call_takes_memory s (calls_so_far before n) c then out_of_memory else done)
           ≡ (e && not (list_any is_end (calls_so_far before n)) && is_sampled s.decision && says (was_shut before) (is_full run before))
       end-or-not s true = t.of_end (list_any is_end (calls_so_far before n)) (is_sampled s.decision) (was_shut before) (is_full run before) _
-      end-or-not s false = or-not (refused && is_live s (calls_so_far before n))
+      end-or-not s false = or-not (refused && call_takes_memory s (calls_so_far before n) c)
         where
           or-not : (b : Bool) → f (if b then out_of_memory else done) ≡ false
           or-not true = t.quiet.of_memory

@@ -6,7 +6,7 @@ use Rattle.std.proofs.lemmas.List.{append-nil, map-append}
 use Rattle.std.proofs.lemmas.List.Elements.{filter-append}
 use Rattle.std.proofs.lemmas.Bool.{eqb-true, eq-eqb, ltb-false, leb-true, leb-false, false_from_ne_true}
 use Rattle.span_model.specs.Attributes.{last_or}
-use Rattle.span_model.specs.Dropped.{Reason, too_large}
+use Rattle.drop_model.specs.Dropped.{Reason, too_large}
 use Rattle.span_model.specs.Spans.{EndedSpan, Call, is_end}
 use Rattle.span_model.specs.Starts.{StartedSpan}
 use Rattle.retry_model.specs.Retries.{Outcome, Next, again, give_up, Fate, fate_of}
@@ -20,7 +20,7 @@ use Rattle.desk_laws.proofs.Batches.{range-more}
 use Rattle.history_model.specs.Steps.{Step}
 use Rattle.history_model.specs.History.{Setup}
 use Rattle.run_model.specs.Runs.{Answer, started, out_of_memory, done, ended, taken, not_taken, encoded, sent, early, replied, Answered, span_at, calls_so_far, event_by, events_behind, desk_events}
-use Rattle.run_model.specs.Answers.{RunConfig, Progress, not_out, to_encode, to_send, to_judge, to_retry, progress_by, progress, attempts_by, last_attempt, takes_memory, is_live, Given, start_answer, end_answer, call_answer, take_answer, last_length, encode_answer, attempt_answer, reply_answer, desk_after, answer_to, IsAnswer, AreAnswers}
+use Rattle.run_model.specs.Answers.{RunConfig, Progress, not_out, to_encode, to_send, to_judge, to_retry, progress_by, progress, attempts_by, last_attempt, takes_memory, call_takes_memory, Given, start_answer, end_answer, call_answer, take_answer, last_length, encode_answer, attempt_answer, reply_answer, desk_after, answer_to, IsAnswer, AreAnswers}
 use Rattle.run_model.specs.Headline.{Attempt, attempt_by, attempts, attempts_with, attempts_of, AreNumbered}
 use Rattle.run_model.proofs.More.{progress-none, progress-some, last_attempt-none, last_attempt-some, attempts-none, attempts-some}
 use Rattle.run_laws.specs.Laws.{OfRuns, OfSettings, KeepsFromEncoding, moment_by, retry_moment, AttemptsAreNumbered, AttemptsAreFew, AttemptsAreFiveAtMost, NoAttemptIsEarly, RepliesAreDecided}
@@ -183,7 +183,7 @@ module _ (run : RunConfig) (h : List Answered) where
 
   told-call : (step : Step) (refused : Bool) (n : ℕ) (c : Call) (o : Option StartedSpan) → Told run h step (call_answer run h (desk_after run h) refused n c o)
   told-call step refused n c None = tt
-  told-call step refused n c (Some s) = by (is_end c) (refused && is_live s (calls_so_far h n))
+  told-call step refused n c (Some s) = by (is_end c) (refused && call_takes_memory s (calls_so_far h n) c)
     where
       by : (e b : Bool) → Told run h step (if e then ended (end_answer run h (desk_after run h) n s) else if b then out_of_memory else done)
       by true b = tt

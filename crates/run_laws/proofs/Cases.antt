@@ -1,7 +1,7 @@
 -- What an answer says of the queue and of a batch, case by case.
 use Rattle.std.proofs.Common.{◌≡◌, refl, ℕ, false, Option, Some, None, option_map}
 use Rattle.std.specs.Prelude.{◌==◌, if◌then◌else◌, List, []}
-use Rattle.span_model.specs.Dropped.{Reason, queue_full, encode_memory, too_large, abandoned}
+use Rattle.drop_model.specs.Dropped.{Reason, queue_full, encode_memory, too_large, abandoned}
 use Rattle.span_model.specs.Spans.{EndedSpan}
 use Rattle.retry_model.specs.Retries.{Outcome, Next, fate_of}
 use Rattle.desk_model.specs.Queue.{DeskEvent}

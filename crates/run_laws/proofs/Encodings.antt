@@ -1,6 +1,6 @@
 -- What encodings answer.
 use Rattle.std.proofs.Common.{◌≡◌, ap, subst, ◌∙◌, ℕ, List, [], ◌∷◌, ◌++◌, Some}
-use Rattle.span_model.specs.Dropped.{Reason}
+use Rattle.drop_model.specs.Dropped.{Reason}
 use Rattle.desk_model.specs.Queue.{drops, entries_by}
 use Rattle.desk_model.specs.Queue as desk
 use Rattle.desk_model.proofs.Lists.{gather-more}

@@ -8,7 +8,7 @@ use Rattle.std.proofs.lemmas.List.Elements.{filter_map-append}
 use Rattle.std.proofs.lemmas.Grind.{flat_map-append}
 use Rattle.std.proofs.lemmas.Bool.{eqb-true, eq-eqb, lt-ltb, le-ltb, cases_order}
 use Rattle.span_model.specs.Attributes.{distinct_of}
-use Rattle.span_model.specs.Dropped.{queue_full}
+use Rattle.drop_model.specs.Dropped.{queue_full}
 use Rattle.span_model.specs.Spans.{EndedSpan}
 use Rattle.span_model.proofs.Lists.{distinct-more}
 use Rattle.retry_model.specs.Retries.{Outcome, Next, Fate, fate_of}

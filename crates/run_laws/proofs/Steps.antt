@@ -4,7 +4,7 @@ use Rattle.std.specs.Prelude.{is_none, if◌then◌else◌}
 use Rattle.std.specs.List.{list_any}
 use Rattle.std.proofs.lemmas.Bool.{eqb-true, eq-eqb, false_from_ne_true, cases_order}
 use Rattle.std.proofs.lemmas.List.Sorted.{sum_by-IsPermutation}
-use Rattle.span_model.specs.Dropped.{Reason, queue_full, encode_memory, too_large, is_reason}
+use Rattle.drop_model.specs.Dropped.{Reason, queue_full, encode_memory, too_large, is_reason}
 use Rattle.span_model.specs.Sampling.{is_sampled}
 use Rattle.span_model.specs.Spans.{EndedSpan, Kind, Call, is_end}
 use Rattle.span_model.specs.Starts.{StartedSpan}
@@ -21,7 +21,7 @@ use Rattle.desk_laws.proofs.Tickets.{in-places, each-once, times-below}
 use Rattle.history_model.specs.Steps.{Step, Parent, is_shutdown}
 use Rattle.history_model.specs.History.{Setup}
 use Rattle.run_model.specs.Runs.{Ended, queued, late, not_sampled, already_ended, Answer, started, no_randomness, no_span, out_of_memory, done, ended, taken, not_taken, encoded, sent, early, replied, nothing, Answered, span_at, calls_so_far, ended_by, event_by, desk_events}
-use Rattle.run_model.specs.Answers.{RunConfig, Given, Progress, not_out, to_encode, to_send, to_judge, to_retry, last_attempt, progress_by, progress, takes_memory, is_live, start_answer, end_answer, call_answer, take_answer, last_length, encode_answer, attempt_answer, reply_answer, desk_after, answer_to, IsAnswer, AreAnswers}
+use Rattle.run_model.specs.Answers.{RunConfig, Given, Progress, not_out, to_encode, to_send, to_judge, to_retry, last_attempt, progress_by, progress, takes_memory, call_takes_memory, start_answer, end_answer, call_answer, take_answer, last_length, encode_answer, attempt_answer, reply_answer, desk_after, answer_to, IsAnswer, AreAnswers}
 use Rattle.run_model.proofs.More.{is_shut, ended-shut, ended-none, span-of-end, progress-none, progress-some}
 use Rattle.run_model.specs.Headline.{numbers_below, EachOnce}
 use Rattle.run_laws.specs.Laws.{OfHistories, OfRuns, HandedAreNotDropped, TakenBehindShutdown, was_shut, may_take, EventsAreAllowed, NoneUnaccountedFor, WaitingAreEnded, BatchesAreEnded, DropsNameEnded}
@@ -245,7 +245,7 @@ module _ (run : RunConfig) (h : List Answered) (a : Account run h) (tried : (mom
 
   after-call : (n : ℕ) (c : Call) (refused : Bool) (o : Option StartedSpan) → span_at run.setup h n ≡ o → After (Step.call n c) (call_answer run h (desk_of run.desk 0 events) refused n c o)
   after-call n c refused None e = quiet run h (told (Step.call n c) no_span) (missing-ends-none run.setup h n c no_span refl e) refl (ap stage_of (progress-none h (told (Step.call n c) no_span) refl)) refl a
-  after-call n c refused (Some s) e = by (is_end c) refl (refused && is_live s (calls_so_far h n))
+  after-call n c refused (Some s) e = by (is_end c) refl (refused && call_takes_memory s (calls_so_far h n) c)
     where
       by : (b : Bool) → is_end c ≡ b → (r : Bool) → After (Step.call n c) (if b then ended (end_answer run h (desk_of run.desk 0 events) n s) else if r then out_of_memory else done)
       by true f r = after-end n c s e f

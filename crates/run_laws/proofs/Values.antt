@@ -3,7 +3,7 @@ use Rattle.std.proofs.Common.{◌≡◌, refl, sym, ap, ◌∙◌, ℕ, zero, su
 use Rattle.std.specs.Prelude.{◌==◌, if◌then◌else◌, unwrap_or}
 use Rattle.std.specs.List.{list_any, take_while, AllByRecursion, cons_option}
 use Rattle.std.proofs.lemmas.List.Sums.{take_while-cons}
-use Rattle.span_model.specs.Dropped.{Reason, queue_full, Entry, entry_of}
+use Rattle.drop_model.specs.Dropped.{Reason, queue_full, Entry, entry_of}
 use Rattle.span_model.specs.Spans.{EndedSpan}
 use Rattle.desk_model.specs.Queue.{DeskEvent, popped, ticket_of, taken_count, accepted_spans, batch_sizes, slices, batch_spans, last_spans, last_batch, waiting_spans, gather, entries_by, drops}
 use Rattle.desk_model.specs.Queue as desk

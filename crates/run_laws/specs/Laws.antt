@@ -4,7 +4,7 @@ use Rattle.std.specs.Prelude.{◌≡◌, ℕ, ◌+◌, ◌-◌, ◌^◌, ◌<◌
 use Rattle.std.specs.List.{list_any, AllByRecursion}
 use Rattle.std.specs.Option.{option_map_or}
 use Rattle.span_model.specs.Attributes.{last_or}
-use Rattle.span_model.specs.Dropped.{Reason, queue_full, encode_memory, too_large, Entry, entry_of}
+use Rattle.drop_model.specs.Dropped.{Reason, queue_full, encode_memory, too_large, Entry, entry_of}
 use Rattle.span_model.specs.Sampling.{is_sampled}
 use Rattle.span_model.specs.Spans.{EndedSpan, is_end}
 use Rattle.retry_model.specs.Retries.{Outcome, Next, again, give_up}

@@ -1,11 +1,11 @@
 -- The answer to each step of a run. (Trace API; Trace SDK, Batching processor; OTLP Specification,
 -- OTLP/HTTP)
-use Rattle.std.specs.Prelude.{◌≡◌, ℕ, ◌+◌, ◌==◌, nat_lt, nat_le, min, Bool, false, not, ◌&&◌, ◌||◌, if◌then◌else◌, List, [], ◌∷◌, ◌++◌, length, filter_map, Option, Some, None, is_some, is_none, slice_get}
+use Rattle.std.specs.Prelude.{◌≡◌, ℕ, ◌+◌, ◌==◌, nat_lt, nat_le, min, Bool, true, false, not, ◌&&◌, ◌||◌, if◌then◌else◌, List, [], ◌∷◌, ◌++◌, length, filter_map, Option, Some, None, is_some, is_none, slice_get}
 use Rattle.std.specs.List.{list_any}
 use Rattle.span_model.specs.Attributes.{is_empty, last_or}
-use Rattle.span_model.specs.Dropped.{queue_full, encode_memory, too_large}
+use Rattle.drop_model.specs.Dropped.{queue_full, encode_memory, too_large}
 use Rattle.span_model.specs.Sampling.{is_sampled, is_recording}
-use Rattle.span_model.specs.Spans.{Call, is_end}
+use Rattle.span_model.specs.Spans.{Call, unset, ok, set_status, end, is_end}
 use Rattle.span_model.specs.Starts.{StartedSpan}
 use Rattle.export_model.specs.Export.{groups, body_length}
 use Rattle.retry_model.specs.Retries.{Outcome, Next, again, give_up}
@@ -58,13 +58,26 @@ end_answer run before desk n s =
 abbrev pub is_live : StartedSpan → List Call → Bool
 is_live s calls = is_recording s.decision && not (list_any is_end calls)
 
--- A call that is ignored takes no memory, and no end does. (Trace API, Span operations)
+-- A call has a text, which is copied: all but an end and a status without a description do.
+-- (profile)
+abbrev pub has_text : Call → Bool
+has_text (set_status unset) = false
+has_text (set_status ok) = false
+has_text (end at) = false
+has_text _ = true
+
+-- It takes memory: it counts, and has a text to copy. (profile)
+abbrev pub call_takes_memory : StartedSpan → List Call → Call → Bool
+call_takes_memory s calls c = is_live s calls && has_text c
+
+-- Memory is refused only to a call that takes some. One that is ignored takes none, and no end
+-- does. (Trace API, Span operations)
 abbrev pub call_answer : RunConfig → List Answered → Desk → Bool → ℕ → Call → Option StartedSpan
     → Answer
 call_answer run before desk refused n c None = no_span
 call_answer run before desk refused n c (Some s) =
     if is_end c then ended (end_answer run before desk n s)
-    else if refused && is_live s (calls_so_far before n) then out_of_memory else done
+    else if refused && call_takes_memory s (calls_so_far before n) c then out_of_memory else done
 
 -- ---- batches
 

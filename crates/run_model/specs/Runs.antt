@@ -3,7 +3,7 @@
 use Rattle.std.specs.Prelude.{ℕ, ◌==◌, Bool, true, false, not, if◌then◌else◌, List, [], ◌∷◌, ◌++◌, filter_map, take_while, Option, Some, None, option_map, slice_get}
 use Rattle.std.specs.List.{cons_option}
 use Rattle.std.specs.Option.{option_and_then}
-use Rattle.span_model.specs.Dropped.{Reason, queue_full, encode_memory, too_large, abandoned}
+use Rattle.drop_model.specs.Dropped.{Reason, queue_full, encode_memory, too_large, abandoned}
 use Rattle.span_model.specs.Spans.{Call, EndedSpan, with_ticket}
 use Rattle.span_model.specs.Starts.{Ids, StartedSpan}
 use Rattle.retry_model.specs.Retries.{Outcome, Next, fate_of}

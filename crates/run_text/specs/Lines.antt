@@ -3,7 +3,7 @@ use Rattle.std.specs.Prelude.{ℕ, Bool, true, false, if◌then◌else◌, List,
 use Rattle.std.specs.Fmt.{signed_decimal}
 use Rattle.std.specs.List.{flat_map}
 use Rattle.hex.specs.Hex.{encode_lower}
-use Rattle.span_model.specs.Dropped.{Reason, Entry}
+use Rattle.drop_model.specs.Dropped.{Reason, Entry}
 use Rattle.span_model.specs.Spans.{is_end}
 use Rattle.retry_model.specs.Retries.{Next, Cause}
 use Rattle.history_model.specs.Steps.{Step}

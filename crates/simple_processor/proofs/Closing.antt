@@ -4,7 +4,7 @@ use Rattle.std.specs.Prelude.{IsPermutation, Option, Some, None, OnSome, map, dr
 use Rattle.std.specs.List.{AllByRecursion}
 use Rattle.std.proofs.lemmas.List.{nil_from_length, drop_at}
 use Rattle.std.proofs.lemmas.List.Sorted.{IsPermutation-refl, IsPermutation-sym, IsPermutation-trans, IsPermutation-map, IsPermutation-append_right, length_permutation}
-use Rattle.span_model.specs.Dropped.{Entry}
+use Rattle.drop_model.specs.Dropped.{Entry}
 use Rattle.desk_model.specs.Desks.{capped, drop_counts, fate_counts}
 use Rattle.batch_desk.specs.Views.{fate_counts_view}
 use Rattle.batch_desk.specs.declared.totals.Totals.{Totals}

@@ -4,7 +4,7 @@ use Rattle.std.specs.Prelude.{IsPermutation, Option, Some, None}
 use Rattle.std.proofs.lemmas.List.{append-nil}
 use Rattle.std.proofs.lemmas.List.Sorted.{IsPermutation-refl, IsPermutation-sym, IsPermutation-to_front}
 use Rattle.span_model.specs.Spans.{EndedSpan, with_ticket}
-use Rattle.span_model.specs.Dropped.{Reason, queue_full, encode_memory, too_large, abandoned, Entry, entry_of}
+use Rattle.drop_model.specs.Dropped.{Reason, queue_full, encode_memory, too_large, abandoned, Entry, entry_of}
 use Rattle.export_model.specs.Export.{LacksBody}
 use Rattle.retry_model.specs.Retries.{fate_of, next_of}
 use Rattle.desk_model.specs.Desks.{DropCounts, capped, drop_counts, fate_counts, with_drops, with_fate}

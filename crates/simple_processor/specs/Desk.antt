@@ -2,7 +2,7 @@
 -- processor; tickets, the ledger and counts: profile)
 use Rattle.std.specs.Prelude.{◌≡◌, ℕ, ◌+◌, ◌-◌, ◌^◌, ◌<◌, ◌≤◌, ◌==◌, Bool, true, false, List, [], ◌∷◌, length, Option, Some, None}
 use Rattle.span_model.specs.Spans.{EndedSpan, with_ticket}
-use Rattle.span_model.specs.Dropped.{Reason, encode_memory, too_large, Entry, entry_of}
+use Rattle.drop_model.specs.Dropped.{Reason, encode_memory, too_large, Entry, entry_of}
 use Rattle.export_model.specs.Export.{LacksBody}
 use Rattle.retry_model.specs.Retries.{Fate, Outcome, fate_of, next_of}
 use Rattle.desk_model.specs.Desks.{DropCounts, FateCounts, capped, no_drops, no_fates, with_fate}

@@ -1,7 +1,7 @@
 -- How what lies under the lock stands to the accounts. (profile)
 use Rattle.std.specs.Prelude.{◌≡◌, ℕ, ◌+◌, ◌≤◌, List, [], ◌++◌, length, map, IsPermutation, Option, Some, None}
 use Rattle.std.specs.List.{AllByRecursion}
-use Rattle.span_model.specs.Dropped.{Entry}
+use Rattle.drop_model.specs.Dropped.{Entry}
 use Rattle.desk_model.specs.Desks.{drop_counts, fate_counts}
 use Rattle.span_exporter.specs.Handed.{Handed, Gains}
 use Rattle.pass_model.specs.Passes.{PassAccount, drops, all_accepted, all_dropped, all_popped}

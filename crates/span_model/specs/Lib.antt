@@ -1,6 +1,5 @@
 pub mod Attributes
 pub mod Spans
-pub mod Dropped
 pub mod Identifiers
 pub mod Sampling
 pub mod Starts

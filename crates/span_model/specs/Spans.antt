@@ -55,11 +55,23 @@ default_limits = record {
   value_length = None;
 }
 
--- How a span was started. `parent` is the parent's span id, and a root has none. Moments are
--- nanoseconds since 1970. (Trace API, Span Creation)
+-- The parent of a span: its span id, and whether it came from elsewhere. (Trace API, SpanContext,
+-- IsRemote; opentelemetry-proto, trace.proto: Span)
+pub record Parent : Type 0 where
+  pub id : List ℕ
+  pub remote : Bool
+
+-- whether there is a parent that came from elsewhere; a root has none (opentelemetry-proto,
+-- trace.proto: Span)
+abbrev pub has_remote_parent : Option Parent → Bool
+has_remote_parent None = false
+has_remote_parent (Some parent) = parent.remote
+
+-- How a span was started; a root has no parent. Moments are nanoseconds since 1970. (Trace API,
+-- Span Creation)
 pub record Start : Type 0 where
   pub context : Context
-  pub parent : Option (List ℕ)
+  pub parent : Option Parent
   pub name : List ℕ
   pub kind : Kind
   pub at : ℕ
@@ -78,7 +90,7 @@ pub record Link : Type 0 where
 -- a span, as an exporter gets it (Trace SDK, Additional Span Interfaces)
 pub record Span : Type 0 where
   pub context : Context
-  pub parent : Option (List ℕ)
+  pub parent : Option Parent
   pub name : List ℕ
   pub kind : Kind
   pub start : ℕ

@@ -3,7 +3,7 @@
 use Rattle.std.specs.Prelude.{ℕ, ◌≡◌, ◌+◌, List, [], ◌∷◌, ◌++◌, Bool, true, false, if◌then◌else◌, Option, Some, None, option_map}
 use Rattle.std.specs.List.{list_any}
 use Rattle.std.specs.Option.{option_and_then, option_map_or}
-use Rattle.span_model.specs.Spans.{Context, Kind, Start, SpanLimits, Resource, Scope, Call, EndedSpan, Recording, is_end, span}
+use Rattle.span_model.specs.Spans.{Context, Parent, Kind, Start, SpanLimits, Resource, Scope, Call, EndedSpan, Recording, is_end, span}
 use Rattle.span_model.specs.Identifiers.{Words, trace_id, span_id, words_spent, words_after, with_sampled_flag}
 use Rattle.span_model.specs.Sampling.{SamplerMeaning, Decision, valid_parent, is_recording, is_sampled}
 
@@ -52,6 +52,11 @@ flags_of (Some parent) sampled = with_sampled_flag sampled parent.flags
 abbrev pub state_of : Option Context → List ℕ
 state_of None = []
 state_of (Some parent) = parent.state
+
+-- The parent that a span keeps: the span id of its context, and whether that came from elsewhere.
+-- (Trace API, Span Creation, SpanContext, IsRemote)
+abbrev pub parent_of : Context → Parent
+parent_of c = record { id = c.span; remote = c.remote }
 
 -- ---- a span that starts
 
@@ -107,7 +112,7 @@ started_span_as tracer a ids decision = record {
       remote = false;
       state = state_of a.parent;
     };
-    parent = option_map (λ c. c.span) a.parent;
+    parent = option_map parent_of a.parent;
     name = a.name;
     kind = a.kind;
     at = a.at;

@@ -13,7 +13,7 @@ use Rattle.history_model.specs.Steps as program
 use Rattle.history_model.specs.History.{SpanStep, Setup, StartResult, call, start_results, words_left, calls_on}
 use Rattle.history_model.proofs.Histories.{outcomes-call, outcome-has-flag, all-live}
 use Rattle.run_model.specs.Runs.{is_refused, span_steps}
-use Rattle.run_model.specs.Answers.{is_live}
+use Rattle.run_model.specs.Answers.{has_text, is_live}
 use Rattle.otlp_ids.specs.WordStream.{words_of}
 use Rattle.otlp_span.specs.Parts.{call_view}
 use Rattle.otlp_span.specs.declared.parts.SpanCall.{SpanCall}
@@ -91,10 +91,10 @@ live-is s calls = by (list_any is_end calls) refl (is_recording s.decision) refl
 
 -- whether it was made
 made-by : (c : Call) (old new : HeldSpan) (answer : Answer) → MadeAs c old new answer →
-    ((answer ≡ answers.Done) × Does c old new) ⊎ ((answer ≡ answers.OutOfMemory) × (is_recording_state old.state ≡ true) × (new ≡ old))
+    ((answer ≡ answers.Done) × Does c old new) ⊎ ((answer ≡ answers.OutOfMemory) × (is_recording_state old.state ≡ true) × (has_text c ≡ true) × (new ≡ old))
 made-by c old new (answers.Started trace id) h = absurd h
 made-by c old new answers.NoRandomness h = absurd h
-made-by c old new answers.OutOfMemory h = inr (refl, h.0, h.1)
+made-by c old new answers.OutOfMemory h = inr (refl, h.0, h.1, h.2)
 made-by c old new answers.NoSpan h = absurd h
 made-by c old new answers.Done h = inl (refl, h)
 made-by c old new (answers.Ended said) h = absurd h
@@ -248,7 +248,7 @@ module _ {S R : Type 0} (meaning : S → SamplerMeaning) (stream : R → Stream)
   table-is admits before after answer (Some (Some held)) e x = ⊎_elim
       (λ k. ⊎_elim
       (λ m. rw m.0 (called-is held x.0 (has-span setup steps n old.spans held h.spans e) m.1 x.1))
-      (λ m. let unchanged : slice_set old.spans n (Some x.0) ≡ old.spans = ap (λ y. slice_set old.spans n (Some y)) m.2 ∙ set-same old.spans n (Some held) e in rw m.0 (refused-is (x.1 ∙ unchanged)))
+      (λ m. let unchanged : slice_set old.spans n (Some x.0) ≡ old.spans = ap (λ y. slice_set old.spans n (Some y)) m.3 ∙ set-same old.spans n (Some held) e in rw m.0 (refused-is (x.1 ∙ unchanged)))
       (made-by c held x.0 answer (x.2.made k.0)))
       (λ k. let ends : EndsSpan admits k.0 held before answer x.0 after = rw k.1 at x.2.ended in
       let does : Does c held x.0 = subst (λ y. Does y held x.0) (sym k.1) ends.does in
@@ -259,7 +259,7 @@ module _ {S R : Type 0} (meaning : S → SamplerMeaning) (stream : R → Stream)
 
 module _ {S R P : Type 0} (meaning : S → SamplerMeaning) (stream : R → Stream) (admits : P → EndedSpan → Ended → P → Type 0) (n : ℕ) (old : TableWith S R) (news : List (Option HeldSpan)) (before after : P) (answer : Answer) where
   pub answered-is : (c : Call) (slot : Option (Option HeldSpan)) → slice_get old.spans n ≡ slot → CallsAmong admits n c slot old.spans before answer news after → is_end c ≡ false →
-      (setup : Setup) (steps : List SpanStep) → IsTable meaning stream setup steps old → answer_view answer ≡ answer_to_call (is_refused (answer_view answer)) (calls_so_far steps n) (span_numbered setup steps n)
+      (setup : Setup) (steps : List SpanStep) → IsTable meaning stream setup steps old → answer_view answer ≡ answer_to_call (is_refused (answer_view answer)) (calls_so_far steps n) c (span_numbered setup steps n)
   answered-is c None e x k setup steps h = let none = numbered-none setup steps n old.spans h.spans (none-there old.spans n e) in rw (x.answered, none) refl
   answered-is c (Some None) e x k setup steps h = let none = numbered-none setup steps n old.spans h.spans (none-in old.spans n e) in rw (x.answered, none) refl
   answered-is c (Some (Some held)) e x k setup steps h =
@@ -267,7 +267,7 @@ module _ {S R P : Type 0} (meaning : S → SamplerMeaning) (stream : R → Strea
       let numbered = numbered-is setup steps n held has in
       ⊎_elim
       (λ m. rw (m.0, numbered) refl)
-      (λ m. let live : is_live has.s (calls_on n steps) ≡ true = live-is has.s (calls_on n steps) (subst (λ y. is_recording_state y.state ≡ true) has.held_is m.1) in rw (m.0, numbered, live) refl)
+      (λ m. let live : is_live has.s (calls_on n steps) ≡ true = live-is has.s (calls_on n steps) (subst (λ y. is_recording_state y.state ≡ true) has.held_is m.1) in rw (m.0, numbered, live, m.2) refl)
       (made-by c held x.0 answer (x.2.made k))
 
   pub asks-nothing-is : (c : Call) (slot : Option (Option HeldSpan)) → CallsAmong admits n c slot old.spans before answer news after → is_end c ≡ false → after ≡ before

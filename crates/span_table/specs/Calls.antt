@@ -2,16 +2,18 @@
 use Rattle.std.specs.Prelude.{◌≡◌, ◌≢◌, ℕ, true, false, List, Option, Some, None, IfSome, slice_set}
 use Rattle.span_model.specs.Spans.{Call, EndedSpan, end, end_of, is_end}
 use Rattle.span_model.specs.Starts.{Does, HeldSpan, ended, is_recording_state}
+use Rattle.run_model.specs.Answers.{has_text}
 use Rattle.trace_api.specs.Calls.{Asks, IsRecordingWith, Says, goes_to_pass}
 use Rattle.trace_api.specs.declared.pass.Ended.{Ended}
 use Rattle.trace_api.specs.declared.pass.Ended.TheVariants as ends
 use Rattle.trace_history.specs.declared.answer.Answer.{Answer}
 use Rattle.trace_history.specs.declared.answer.Answer.TheVariants as answers
 
--- A call that is no end was made, or there was no room for it and nothing changed.
+-- A call that is no end was made, or there was no room for what it takes and nothing changed.
 abbrev pub MadeAs : Call → HeldSpan → HeldSpan → Answer → Type 0
 MadeAs c old new answers.Done = Does c old new
-MadeAs c old new answers.OutOfMemory = (is_recording_state old.state ≡ true) × (new ≡ old)
+MadeAs c old new answers.OutOfMemory =
+    (is_recording_state old.state ≡ true) × (has_text c ≡ true) × (new ≡ old)
 MadeAs c old new _ = ⊥
 
 -- the end of a span, and what the pass says to it

@@ -10,7 +10,7 @@ use Rattle.span_model.specs.Starts.{HeldSpan, Provider, StartedSpan, Tracer, hel
 use Rattle.history_model.specs.Steps.{Parent, root, numbered, given, Step}
 use Rattle.history_model.specs.History.{SpanStep, Setup, StartResult, start_result, start_results, parent_among, words_left, calls_on}
 use Rattle.run_model.specs.Runs.{Answer, done, no_span, out_of_memory, span_steps}
-use Rattle.run_model.specs.Answers.{is_live, start_answer}
+use Rattle.run_model.specs.Answers.{call_takes_memory, start_answer}
 use Rattle.otlp_ids.specs.WordStream.{words_of}
 use Rattle.trace_api.specs.Starts.{ProviderWith, TracerWith, tracer_view}
 
@@ -83,11 +83,11 @@ answer_to_start setup steps refused scope parent kind at name =
     start_answer there refused
     (start_result setup earlier false scope parent kind at name).span
 
--- What is answered to a call that is no end, on a span with these calls, if there is one.
-abbrev pub answer_to_call : Bool → List Call → Option StartedSpan → Answer
-answer_to_call refused calls None = no_span
-answer_to_call refused calls (Some s) =
-    if refused && is_live s calls then out_of_memory else done
+-- What is answered to this call, which is no end, on a span with these calls, if there is one.
+abbrev pub answer_to_call : Bool → List Call → Call → Option StartedSpan → Answer
+answer_to_call refused calls c None = no_span
+answer_to_call refused calls c (Some s) =
+    if refused && call_takes_memory s calls c then out_of_memory else done
 
 -- ---- parents
 

@@ -1,10 +1,11 @@
 //! The spans that a program has started.
-ghost use Rattle.std.specs.Prelude.{◌≡◌, ◌+◌, ◌<◌, [], IfOk, IfSome, List, OnErr, OnOk, false, length, map, option_map, slice_get};
+ghost use Rattle.std.specs.Prelude.{◌≡◌, ◌+◌, ◌<◌, [], IfOk, IfSome, List, OnErr, OnOk, false, length, map, option_map, slice_get, true};
 ghost use Rattle.std.specs.Vec.{vec_capacity};
 ghost use Rattle.span_model.specs.Spans.{end_of, is_end};
 ghost use Rattle.span_model.specs.Starts.{Does};
 ghost use Rattle.history_model.specs.History.{SpanStep, Setup};
 ghost use Rattle.history_model.specs.Steps as program;
+ghost use Rattle.run_model.specs.Answers.{has_text};
 ghost use Rattle.run_model.specs.Runs.{is_refused};
 ghost use Rattle.otlp_ids.specs.SpanContext.{parent_view};
 ghost use Rattle.otlp_ids.specs.WordStream.{words_of};
@@ -166,8 +167,9 @@ impl<'a, S: Sampler, R: Rng, A: Allocator + Copy> SpanTable<'a, S, R, A> {
     ///
     /// The answer is `NoSpan` where there is no such span. Else it is `Ended` to an end, with what
     /// became of the span as `Span::end` says it, and to any other call `Done`, or `OutOfMemory`
-    /// where what it is to store has no room; the span is then unchanged. Only the first end of a
-    /// sampled span asks the pass.
+    /// where there is no room for its copy or for what it is to store; the span is then unchanged.
+    /// A status without a description takes none. Only the first end of a sampled span asks the
+    /// pass.
     pub fn call<P: EndPass<SpanData<A>>>(
         &mut self,
         pass: &mut P,
@@ -178,7 +180,7 @@ impl<'a, S: Sampler, R: Rng, A: Allocator + Copy> SpanTable<'a, S, R, A> {
             (setup : Setup) (steps : List SpanStep)
             → IsTable S.meaning R.stream setup steps self.old
             → answer ≡ answer_to_call (is_refused answer) (calls_so_far steps number)
-            (span_numbered setup steps number) }
+            (call_view call.now) (span_numbered setup steps number) }
         ensures asks_nothing { is_end (call_view call.now) ≡ false → pass.new ≡ pass.old }
         ensures ended { IfSome (end_of (call_view call.now))
             (λ at. (setup : Setup) (steps : List SpanStep) →
@@ -251,6 +253,7 @@ fn copy_call<P: EndPass<SpanData<A>>, A: Allocator + Copy>(
     requires { is_end (call_view call.now) ≡ false }
     ensures ok { OnOk result (Does (call_view call.now) span.old span.new) }
     ensures err { OnErr result (span.new ≡ span.old) }
+    ensures refused { OnErr result (has_text (call_view call.now) ≡ true) }
     ensures asks_nothing { pass.new ≡ pass.old }
 {
     let call = call.copy(alloc)?;

@@ -2,7 +2,7 @@
 use Rattle.std.specs.Prelude.{ℕ, zero, suc, Bool, true, false, if◌then◌else◌, ◌||◌, ◌==◌, List, [], ◌∷◌, ◌++◌, codes, decimal}
 use Rattle.std.specs.Char.{is_ascii_alphanumeric}
 use Rattle.std.specs.Fmt.{signed_decimal}
-use Rattle.std.specs.Int.{w64, to_be_bytes}
+use Rattle.std.specs.Int.{w32, w64, to_be_bytes}
 use Rattle.std.specs.List.{flat_map, join_by, list_any}
 use Rattle.hex.specs.Hex.{encode_lower}
 use Rattle.message_model.specs.AnyValue.{AnyValue, AnyValues, KeyValues, none, no_values, value, no_pairs, pair}
@@ -69,6 +69,11 @@ unfoldable mutual
 
 -- ---- the lines of a span
 
+-- flags by eight lower case hexadecimal digits, behind this word; none where they are 0
+abbrev pub flags_line : List ℕ → ℕ → List ℕ
+flags_line name flags =
+    if flags == 0 then [] else line (name ∷ encode_lower (to_be_bytes w32 flags) ∷ [])
+
 -- a pair, behind the word of what it belongs to
 abbrev pub pair_line : List ℕ → Message Tables.key_value → List ℕ
 pair_line name (key ▸ v ▸ rest) = line (name ∷ text_word key ∷ value_word v ∷ [])
@@ -94,10 +99,10 @@ event_lines (at ▸ name ▸ attributes ▸ dropped ▸ rest) =
     ++ pair_lines (codes "eattr") attributes
 
 abbrev pub link_lines : Message Tables.link → List ℕ
-link_lines (trace ▸ span ▸ state ▸ attributes ▸ dropped ▸ rest) =
+link_lines (trace ▸ span ▸ state ▸ attributes ▸ dropped ▸ flags ▸ rest) =
     line (codes "link" ∷ bytes_word trace ∷ bytes_word span ∷ text_word state
     ∷ decimal dropped ∷ [])
-    ++ pair_lines (codes "lattr") attributes
+    ++ flags_line (codes "lflags") flags ++ pair_lines (codes "lattr") attributes
 
 -- the code, and the message
 abbrev pub status_line : Message Tables.status → List ℕ
@@ -109,6 +114,13 @@ abbrev pub span_line : Message Tables.span → List ℕ
 span_line (trace ▸ span ▸ state ▸ parent ▸ name ▸ kind ▸ start ▸ end ▸ rest) =
     line (codes "span" ∷ bytes_word trace ∷ bytes_word span ∷ bytes_word parent ∷ text_word state
     ∷ signed_decimal kind ∷ decimal start ∷ decimal end ∷ text_word name ∷ [])
+
+-- its flags
+abbrev pub span_flags : Message Tables.span → List ℕ
+span_flags (trace ▸ span ▸ state ▸ parent ▸ name ▸ kind ▸ start ▸ end ▸ attributes
+    ▸ dropped_attributes ▸ events ▸ dropped_events ▸ links ▸ dropped_links ▸ status ▸ flags
+    ▸ rest) =
+    flags_line (codes "flags") flags
 
 -- its attributes, events and links
 abbrev pub part_lines : Message Tables.span → List ℕ
@@ -125,10 +137,10 @@ end_lines (trace ▸ span ▸ state ▸ parent ▸ name ▸ kind ▸ start ▸ e
     ∷ decimal dropped_links ∷ [])
     ++ status_line status
 
--- the lines of a span, with those of its resource and its scope behind the first one
+-- the lines of a span, with those of its resource and its scope behind those that say what it is
 abbrev pub triple_lines : Triple → List ℕ
 triple_lines t =
-    span_line t.span ++ resource_lines t.resource t.resource_schema
+    span_line t.span ++ span_flags t.span ++ resource_lines t.resource t.resource_schema
     ++ scope_lines t.scope t.scope_schema ++ part_lines t.span ++ end_lines t.span
 
 -- the lines of spans, one span after another

@@ -6,7 +6,7 @@ ghost use Rattle.otlp_read.specs.Spans.{event_view, events_view, link_view, link
 ghost use Rattle.otlp_read.specs.Triples.{triple_view};
 ghost use Rattle.otlp_read.specs.Values.{pair_view, pairs_view};
 ghost use Rattle.std.specs.List.{flat_map};
-ghost use Rattle.span_text.specs.Lines.{bytes_word, end_lines, event_lines, link_lines, pair_line, pair_lines, part_lines, resource_lines, scope_lines, span_line, status_line, text_word, triple_lines};
+ghost use Rattle.span_text.specs.Lines.{bytes_word, end_lines, event_lines, flags_line, link_lines, pair_line, pair_lines, part_lines, resource_lines, scope_lines, span_line, status_line, text_word, triple_lines};
 
 use crate::value::push_value;
 use crate::words::{push_bytes, push_text};
@@ -44,6 +44,24 @@ fn push_pair_lines<A: Allocator + Copy>(
         push_pair_line(out, name, pair)?;
     }
     Ok(())
+}
+
+/// Appends flags by eight hexadecimal digits, behind the word of their line, unless they are 0.
+fn push_flags<A: Allocator + Copy>(
+    out: &mut String<A>,
+    name: &str,
+    flags: u32,
+) -> Result<(), OutOfMemory>
+    ensures { OnOk result (string_bytes out.new
+        ≡ string_bytes out.old ++ flags_line name.now flags) }
+{
+    if flags == 0 {
+        return Ok(());
+    }
+    let digits = hex::encode(*out.allocator(), flags.to_be_bytes())?;
+    write!(out, "{name} ")?;
+    out.push_str(&digits)?;
+    Ok(out.push('\n')?)
 }
 
 /// Appends the lines of a resource, with its schema URL.
@@ -144,6 +162,7 @@ fn push_link<A: Allocator + Copy>(out: &mut String<A>, link: &Link<A>) -> Result
     push_ids(out, "link", &link.trace_id, &link.span_id)?;
     push_text(out, &link.trace_state)?;
     writeln!(out, " {}", link.dropped_attributes_count)?;
+    push_flags(out, "lflags", link.flags)?;
     push_pair_lines(out, "lattr", &link.attributes)
 }
 
@@ -238,7 +257,8 @@ fn push_end<A: Allocator + Copy>(out: &mut String<A>, span: &Span<A>) -> Result<
     push_status(out, &span.status)
 }
 
-/// Appends the lines of a span, with those of its resource and its scope behind the first.
+/// Appends the lines of a span, with those of its resource and its scope behind those that say what
+/// it is.
 pub(crate) fn push_triple<A: Allocator + Copy>(
     out: &mut String<A>,
     triple: &Triple<'_, A>,
@@ -247,6 +267,7 @@ pub(crate) fn push_triple<A: Allocator + Copy>(
         ≡ string_bytes out.old ++ triple_lines (triple_view triple.now)) }
 {
     push_span(out, triple.span)?;
+    push_flags(out, "flags", triple.span.flags)?;
     push_resource(out, triple.resource, triple.resource_schema_url)?;
     push_scope(out, triple.scope, triple.scope_schema_url)?;
     push_parts(out, triple.span)?;

@@ -45,18 +45,18 @@ fn print_triple<W: FaultWrite, A: Allocator + Copy>(
 /// Writes the lines of each span of a request, in the order of reading, each span with its resource
 /// and its scope (profile):
 ///
-/// - `span TRACE SPAN PARENT STATE KIND START END NAME`;
+/// - `span TRACE SPAN PARENT STATE KIND START END NAME`, and `flags F` unless its flags are 0;
 /// - `resource DROPPED SCHEMA`, and `rattr KEY VALUE` for each of its attributes;
 /// - `scope NAME VERSION SCHEMA DROPPED`, and `sattr KEY VALUE` for each of its attributes;
 /// - `attr KEY VALUE` for each attribute of the span;
 /// - `event AT NAME DROPPED` for each event, and `eattr KEY VALUE` for each of its attributes;
-/// - `link TRACE SPAN STATE DROPPED` for each link, and `lattr KEY VALUE` for each of its
-///   attributes;
+/// - `link TRACE SPAN STATE DROPPED` for each link, `lflags F` unless its flags are 0, and
+///   `lattr KEY VALUE` for each of its attributes;
 /// - `dropped ATTRIBUTES EVENTS LINKS`, and `status CODE MESSAGE`.
 ///
 /// In a text each byte but ASCII letters, digits, `.`, `_`, `-`, `/` and `:` is `%` and two lower
 /// case hexadecimal digits, and the empty text is `%`. Identifiers and bytes are lower case
-/// hexadecimal digits, of which none are `%`. Numbers are decimal, moments in nanoseconds since
+/// hexadecimal digits, of which none are `%`, and flags are eight of these. Numbers are decimal, moments in nanoseconds since
 /// 1970.
 ///
 /// A value is `t:` and a text, `b:true`, `b:false`, `i:` and a number, `d:` and the 64 bits of a

@@ -10,7 +10,7 @@ ghost use Rattle.span_model.specs.Starts as model;
 ghost use Rattle.span_model.specs.Starts.{start_request};
 ghost use Rattle.otlp_ids.specs.SpanContext.{context_view, parent_view};
 ghost use Rattle.otlp_ids.specs.WordStream.{Spends, words_of};
-ghost use Rattle.otlp_span.specs.Parts.{kind_view, limits_view, resource_view, scope_view};
+ghost use Rattle.otlp_span.specs.Parts.{kept_parent_view, kind_view, limits_view, resource_view, scope_view};
 ghost use Rattle.otlp_sampler.specs.Sampling.{decision_view};
 ghost use Rattle.trace_api.specs.Starts.{IsDecided, OpensAs, StartsAs, ids_view, opening_view, tracer_view};
 
@@ -218,12 +218,15 @@ fn child_state<A: Allocator + Copy>(
     Ok(String::from_str(alloc, context.state.as_str())?)
 }
 
-/// The identifier of the parent's span, if there is one.
-fn parent_id<A: Allocator>(parent: Option<&SpanContext<A>>) -> Option<SpanId>
-    ensures { option_map (λ id. id.0) result ≡
-        option_map (λ context. context.span) (parent_view parent.entry) }
+/// The identifier of the parent's span, if there is one, and whether it came from elsewhere.
+fn kept_parent<A: Allocator>(parent: Option<&SpanContext<A>>) -> (Option<SpanId>, bool)
+    ensures { kept_parent_view result.0 result.1 ≡
+        option_map model.parent_of (parent_view parent.entry) }
 {
-    parent.map(|context| context.span)
+    match parent {
+        Some(context) => (Some(context.span), context.remote),
+        None => (None, false),
+    }
 }
 
 /// What a span keeps of its name that was decided on so: a copy, where it is recorded.
@@ -246,10 +249,11 @@ fn kept_name<A: Allocator>(
 impl<'a, S: Sampler, A: Allocator + Copy> Tracer<'a, S, A> {
     /// Starts a span (Trace API, "Span Creation"; Trace SDK, "SDK Span creation") at a moment, in
     /// nanoseconds since 1970. With a valid parent it belongs to the parent's trace, and has its
-    /// trace state and its flags, but for the sampled flag; an invalid parent counts as none. A
-    /// root begins a trace, and has the sampled flag alone, where it is sampled. The words of the
-    /// generator are drawn before the sampler is asked and before memory is taken: first those of
-    /// the trace's identifier, if it is a new one, then those of the span's.
+    /// trace state and its flags, but for the sampled flag; it keeps whether the parent came from
+    /// elsewhere. An invalid parent counts as none. A root begins a trace, and has the sampled flag
+    /// alone, where it is sampled. The words of the generator are drawn before the sampler is asked
+    /// and before memory is taken: first those of the trace's identifier, if it is a new one, then
+    /// those of the span's.
     ///
     /// # Errors
     ///
@@ -364,9 +368,11 @@ impl<'a, S: Sampler, A: Allocator + Copy> Tracer<'a, S, A> {
             return Ok(Span::not_recording(context));
         }
         let provider = self.provider;
+        let (parent, parent_remote) = kept_parent(opening.decided.parent);
         let opening = Open {
             context: context.copy(alloc)?,
-            parent: parent_id(opening.decided.parent),
+            parent,
+            parent_remote,
             resource: Arc::try_clone(&provider.resource)?,
             scope: Arc::try_clone(&self.scope)?,
             name: opening.name,

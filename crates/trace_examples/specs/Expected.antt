@@ -28,13 +28,19 @@ status_of message code = codes message ▸ pos code ▸ tt
 abbrev pub span_named : String → Message Tables.span
 span_named name =
     [] ▸ [] ▸ [] ▸ [] ▸ codes name ▸ pos 0 ▸ 0 ▸ 0 ▸
-    [] ▸ 0 ▸ [] ▸ 0 ▸ [] ▸ 0 ▸ status_of "" 0 ▸ tt
+    [] ▸ 0 ▸ [] ▸ 0 ▸ [] ▸ 0 ▸ status_of "" 0 ▸ 0 ▸ tt
+
+-- a span of which all but the flags are left out
+abbrev pub span_of_flags : ℕ → Message Tables.span
+span_of_flags flags =
+    [] ▸ [] ▸ [] ▸ [] ▸ [] ▸ pos 0 ▸ 0 ▸ 0 ▸
+    [] ▸ 0 ▸ [] ▸ 0 ▸ [] ▸ 0 ▸ status_of "" 0 ▸ flags ▸ tt
 
 -- a span of which all but the kind is left out
 abbrev pub span_of_kind : ℤ → Message Tables.span
 span_of_kind kind =
     [] ▸ [] ▸ [] ▸ [] ▸ [] ▸ kind ▸ 0 ▸ 0 ▸
-    [] ▸ 0 ▸ [] ▸ 0 ▸ [] ▸ 0 ▸ status_of "" 0 ▸ tt
+    [] ▸ 0 ▸ [] ▸ 0 ▸ [] ▸ 0 ▸ status_of "" 0 ▸ 0 ▸ tt
 
 -- a request of one resource and one scope
 abbrev pub request_of : Message Tables.resource → Message Tables.scope → List (Message Tables.span)

@@ -1,5 +1,5 @@
 -- The spans of the examples, and what they belong to.
-use Rattle.std.specs.Prelude.{ℕ, List, [], ◌∷◌, ◌++◌, replicate, false, Option, None, Some, codes}
+use Rattle.std.specs.Prelude.{ℕ, List, [], ◌∷◌, ◌++◌, replicate, Bool, true, false, Option, None, Some, codes}
 use Rattle.std.specs.Str.{chars}
 use lib.Utf8.{encode}
 use Prim.Native.String.{String}
@@ -82,13 +82,13 @@ start_a =
       at = 1;
     }
 
--- its child named b, with a trace state
-abbrev pub start_b : String → Start
+-- its child named b, which has it as a remote parent or not, with a trace state
+abbrev pub start_b : Bool → String → Start
 unfolding hex
-start_b state =
+start_b remote state =
     record {
       context = context_of child_id state;
-      parent = Some span_id;
+      parent = Some (record { id = span_id; remote = remote });
       name = codes "b";
       kind = internal;
       at = 1;
@@ -110,10 +110,15 @@ abbrev pub span_a : List Call → EndedSpan
 unfolding hex
 span_a calls = ended_span_of no_resource scope_s default_limits start_a calls
 
--- its child, span b
+-- its child, span b, of the same process
 abbrev pub span_b : String → EndedSpan
 unfolding hex
-span_b state = ended_span_of no_resource scope_s default_limits (start_b state) []
+span_b state = ended_span_of no_resource scope_s default_limits (start_b false state) []
+
+-- likewise, of another process
+abbrev pub remote_span_b : EndedSpan
+unfolding hex
+remote_span_b = ended_span_of no_resource scope_s default_limits (start_b true "") []
 
 -- span a, of another scope or another resource
 abbrev pub span_in : Resource → Scope → EndedSpan

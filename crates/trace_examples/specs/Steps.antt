@@ -4,6 +4,7 @@ use Rattle.std.specs.Str.{chars}
 use lib.Utf8.{encode}
 use Prim.Native.String.{String}
 use Rattle.span_model.specs.Attributes.{Attribute, int}
+use Rattle.span_model.specs.Spans as model
 use Rattle.span_model.specs.Spans.{default_limits, Context, server, unset, Call, Resource, Scope, SpanLimits, Span, EndedSpan, span}
 use Rattle.span_model.specs.Identifiers.{first_valid}
 use Rattle.span_model.specs.Sampling.{SamplerMeaning, Decision, drop, record_and_sample, ByParent, valid_parent, parent_based}
@@ -52,6 +53,13 @@ parent_with remote flags =
 abbrev pub local_context : List ℕ → List ℕ → ℕ → String → Context
 local_context trace id flags state =
     record { trace = trace; span = id; flags = flags; remote = false; state = codes state }
+
+-- the parent of this identifier, of this process or of elsewhere
+abbrev pub local_parent : List ℕ → Option model.Parent
+local_parent id = Some (record { id = id; remote = false })
+
+abbrev pub remote_parent : List ℕ → Option model.Parent
+remote_parent id = Some (record { id = id; remote = true })
 
 -- ---- identifiers
 
@@ -117,7 +125,7 @@ started_by sampler parent words =
     (start_request parent (codes "a") server 5) (slice_index words)
 
 -- that span, with this context and parent, and this decision
-abbrev pub begun_in : Scope → String → ℕ → Context → Option (List ℕ) → Decision → StartedSpan
+abbrev pub begun_in : Scope → String → ℕ → Context → Option model.Parent → Decision → StartedSpan
 begun_in scope name at context parent decision = record {
   resource = host;
   scope = scope;
@@ -126,7 +134,7 @@ begun_in scope name at context parent decision = record {
   decision = decision;
 }
 
-abbrev pub begun_span : Context → Option (List ℕ) → Decision → StartedSpan
+abbrev pub begun_span : Context → Option model.Parent → Decision → StartedSpan
 begun_span context parent decision = begun_in scope_t "a" 5 context parent decision
 
 -- ---- what a program holds
@@ -139,7 +147,7 @@ held_after decision calls =
 
 -- a span with this context and parent, this name, these moments and, but for these attributes,
 -- nothing set
-abbrev pub span_between : Context → Option (List ℕ) → String → ℕ → ℕ → List Attribute → ℕ → Span
+abbrev pub span_between : Context → Option model.Parent → String → ℕ → ℕ → List Attribute → ℕ → Span
 span_between context parent name from until pairs dropped = record {
   context = context;
   parent = parent;

@@ -5,7 +5,7 @@ ghost use Rattle.span_model.specs.Attributes.{text, int, texts, capped_count};
 ghost use Rattle.trace_examples.specs.Hex.{hex};
 ghost use Rattle.span_model.specs.Spans.{default_limits};
 ghost use Rattle.trace_examples.specs.Samples.{pair, set, kept};
-ghost use Rattle.trace_examples.specs.Bytes.{plain_span};
+ghost use Rattle.trace_examples.specs.Bytes.{a_with};
 ghost use Rattle.trace_examples.specs.Written.{limited_bytes};
 
 /// At most so many keys are kept: the first ones that were set, each with its last value. Later
@@ -49,13 +49,13 @@ pub fn in_spans()
     ensures two_of_three { limited_bytes (record default_limits { attributes = 2 }) (
         set "a" (int (pos 1)) ∷ set "b" (int (pos 2)) ∷ set "c" (int (pos 3)) ∷
         set "a" (int (pos 4)) ∷ set "c" (int (pos 5)) ∷ []) ≡
-        plain_span ++
-        hex "4a 07 0a 01 61 12 02 18 04" ++ hex "4a 07 0a 01 62 12 02 18 02" ++ hex "50 02" }
+        a_with
+        (hex "4a 07 0a 01 61 12 02 18 04" ++ hex "4a 07 0a 01 62 12 02 18 02" ++ hex "50 02") }
     ensures no_room { limited_bytes (record default_limits { attributes = 0 })
         (set "a" (int (pos 1)) ∷ []) ≡
-        plain_span ++ hex "50 01" }
+        a_with (hex "50 01") }
     // The text xy cut to one character.
     ensures cut_text { limited_bytes (record default_limits { value_length = Some 1 })
         (set "a" (text (codes "xy")) ∷ []) ≡
-        plain_span ++ hex "4a 08 0a 01 61 12 03 0a 01 78" }
+        a_with (hex "4a 08 0a 01 61 12 03 0a 01 78") }
 {}

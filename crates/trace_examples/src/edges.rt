@@ -9,9 +9,9 @@ ghost use Rattle.span_model.specs.Spans.{default_limits, unset, ok, add_event, r
 ghost use Rattle.message_model.specs.Tables.{◌▸◌};
 ghost use Rattle.trace_examples.specs.Hex.{hex};
 ghost use Rattle.trace_examples.specs.Samples.{span_id, context_of, pair, kept, set_error};
-ghost use Rattle.trace_examples.specs.Bytes.{plain_span};
+ghost use Rattle.trace_examples.specs.Bytes.{a_with, plain_span};
 ghost use Rattle.trace_examples.specs.Expected.{key_value, array_of, pairs_of, resource_of, scope_named, status_of};
-ghost use Rattle.trace_examples.specs.Expected.{span_of_kind, request_of, resource_alone, no_spans};
+ghost use Rattle.trace_examples.specs.Expected.{span_of_flags, span_of_kind, request_of, resource_alone, no_spans};
 ghost use Rattle.trace_examples.specs.Read.{read, faults, read_value, read_pair, in_arrays, attribute_body};
 ghost use Rattle.trace_examples.specs.Written.{span_bytes, limited_bytes};
 
@@ -42,6 +42,8 @@ pub fn wire()
     // (profile)
     ensures name_before_a_fault { faults (hex "0a 0b 12 09 12 07 2a 01 ff 2a 05 61 61") ≡
         truncated ∷ bad_utf8 ∷ [] }
+    // Flags of three bytes.
+    ensures flags_cut_off { faults (hex "0a 09 12 07 12 05 85 01 01 01 00") ≡ truncated ∷ [] }
     // An unknown field, 99, is not looked into.
     ensures unknown_field_of_any_bytes { read (hex "9a 06 02 80 80") ≡ done no_spans }
     // A known number with another wire type is skipped.
@@ -84,6 +86,22 @@ pub fn readings()
         (request_of (resource_of []) (scope_named "") (span_of_kind (negsuc (2 ^ 31 - 1)) ∷ [])) }
     ensures kind_past_32_bits { read (hex "0a 0a 12 08 12 06 30 81 80 80 80 10") ≡
         done (request_of (resource_of []) (scope_named "") (span_of_kind (pos 1) ∷ [])) }
+    // Flags are any number of 32 bits, its least byte first, and the last one counts. A field 16 of
+    // another wire type is skipped, here a varint and eight bytes.
+    ensures flags_of_any_bits { read (hex "0a 0a 12 08 12 06 85 01 78 56 34 f2") ≡
+        done (request_of (resource_of []) (scope_named "") (span_of_flags 0xf2345678 ∷ [])) }
+    ensures last_flags { read (hex "0a 10 12 0e 12 0c 85 01 01 01 00 00 85 01 02 01 00 00") ≡
+        done (request_of (resource_of []) (scope_named "") (span_of_flags 0x102 ∷ [])) }
+    ensures flags_as_a_varint { read (hex "0a 08 12 06 12 04 80 01 81 02") ≡
+        read (hex "0a 04 12 02 12 00") }
+    ensures flags_in_eight_bytes { read
+        (hex "0a 0e 12 0c 12 0a 81 01 01 01 00 00 00 00 00 00") ≡
+        read (hex "0a 04 12 02 12 00") }
+    ensures flags_of_a_link { read (hex "0a 0b 12 09 12 07 6a 05 35 78 56 34 f2") ≡
+        done (request_of (resource_of []) (scope_named "") ((
+        [] ▸ [] ▸ [] ▸ [] ▸ [] ▸ pos 0 ▸ 0 ▸ 0 ▸
+        [] ▸ 0 ▸ [] ▸ 0 ▸ (([] ▸ [] ▸ [] ▸ [] ▸ 0 ▸ 0xf2345678 ▸ tt) ∷ []) ▸ 0 ▸
+        status_of "" 0 ▸ 0 ▸ tt) ∷ [])) }
     // A status without fields is as good as none.
     ensures status_without_fields { read (hex "0a 06 12 04 12 02 7a 00") ≡
         read (hex "0a 04 12 02 12 00") }
@@ -91,7 +109,7 @@ pub fn readings()
     ensures short_trace_id { read (hex "0a 07 12 05 12 03 0a 01 ff") ≡
         done (request_of (resource_of []) (scope_named "") ((
         (255 ∷ []) ▸ [] ▸ [] ▸ [] ▸ [] ▸ pos 0 ▸ 0 ▸ 0 ▸
-        [] ▸ 0 ▸ [] ▸ 0 ▸ [] ▸ 0 ▸ status_of "" 0 ▸ tt) ∷ [])) }
+        [] ▸ 0 ▸ [] ▸ 0 ▸ [] ▸ 0 ▸ status_of "" 0 ▸ 0 ▸ tt) ∷ [])) }
 {}
 
 /// The greatest depth. A value in 63 arrays has depth 64, which is allowed, and its members have
@@ -143,17 +161,17 @@ pub fn calls()
     ensures exception_at_its_limit { limited_bytes (record default_limits { event_attributes = 1 })
         (record_exception (codes "E") (codes "m") [] 0 (pair "exception.type" (text (codes "F")) ∷
         pair "" (int (pos 1)) ∷ pair "b" (int (pos 1)) ∷ []) ∷ []) ≡
-        plain_span ++ hex "5a 24 12 09" ++ codes "exception" ++
-        hex "1a 15 0a 0e" ++ codes "exception.type" ++ hex "12 03 0a 01 46" ++ hex "20 02" }
+        a_with (hex "5a 24 12 09" ++ codes "exception" ++
+        hex "1a 15 0a 0e" ++ codes "exception.type" ++ hex "12 03 0a 01 46" ++ hex "20 02") }
     // A limit on texts cuts the value of an event's attribute, but neither its key nor the event's
     // name.
     ensures uncut_name_and_key { limited_bytes (record default_limits { value_length = Some 1 })
         (add_event (codes "name") 0 (pair "key" (text (codes "xy")) ∷ []) ∷ []) ≡
-        plain_span ++ hex "5a 12 12 04" ++ codes "name" ++
-        hex "1a 0a 0a 03" ++ codes "key" ++ hex "12 03 0a 01 78" }
+        a_with (hex "5a 12 12 04" ++ codes "name" ++
+        hex "1a 0a 0a 03" ++ codes "key" ++ hex "12 03 0a 01 78") }
     // Ok, Unset, Error e: an ignored Unset makes no room for an Error.
     ensures unset_after_ok { span_bytes (set_status ok ∷ set_status unset ∷ set_error "e" ∷ []) ≡
-        plain_span ++ hex "7a 02 18 01" }
+        a_with (hex "7a 02 18 01") }
     // A link to a context that is sampled, but of which the span id alone is valid, is ignored.
     ensures half_valid_link { span_bytes (add_link
         (record (context_of span_id "") { trace = replicate 16 0 }) [] ∷ []) ≡

@@ -12,12 +12,12 @@ ghost use Rattle.trace_examples.specs.Read.{faults, beginnings, read_value, nest
 #[tactic(auto, unfolding(crate::specs::Hex::hex, crate::specs::Read::faults))]
 pub fn truncations()
     // Each of the 63 proper beginnings of the body of one span.
-    ensures of_one_span { map faults (beginnings 63 plain_body) ≡ replicate 63 (truncated ∷ []) }
+    ensures of_one_span { map faults (beginnings 69 plain_body) ≡ replicate 69 (truncated ∷ []) }
     // Each of the 52 of the body with its fields in falling order.
     ensures of_reversed { map faults (beginnings 52 reversed_body) ≡ replicate 52 (truncated ∷ []) }
     // The bodies themselves have no faults.
     ensures whole { map faults (plain_body ∷ reversed_body ∷ []) ≡ [] ∷ [] ∷ [] }
-    ensures lengths { map length (plain_body ∷ reversed_body ∷ []) ≡ 64 ∷ 53 ∷ [] }
+    ensures lengths { map length (plain_body ∷ reversed_body ∷ []) ≡ 70 ∷ 53 ∷ [] }
     // A length that goes past the end of the message around it, with a byte behind that message.
     ensures inside { faults (hex "0a 02 0a 02 08 01") ≡ truncated ∷ [] }
     // Fixed numbers with one byte too few.

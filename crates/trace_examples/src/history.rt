@@ -11,7 +11,7 @@ ghost use Rattle.history_model.specs.Steps.{root, numbered, given};
 ghost use Rattle.history_model.specs.History.{call, calls_on, ended_numbers};
 ghost use Rattle.trace_examples.specs.Hex.{hex};
 ghost use Rattle.trace_examples.specs.Samples.{trace_id, span_id, child_id, pair, set, rename, scope_s, scope_t};
-ghost use Rattle.trace_examples.specs.Steps.{root_words, span_word, child_word, parent_trace, parent_id, parent_with, local_context};
+ghost use Rattle.trace_examples.specs.Steps.{root_words, span_word, child_word, parent_trace, parent_id, parent_with, local_context, local_parent, remote_parent};
 ghost use Rattle.trace_examples.specs.Steps.{begun_in, span_between, begin, begin_refused, outcomes_by, ended_by, gives, gives_none, exported_in};
 
 /// What starts come to, each behind the ones before it: the words that it takes, and its span.
@@ -24,7 +24,7 @@ pub fn outcomes()
         (begun_in scope_s "a" 5 (local_context trace_id span_id 1 "") None record_and_sample) ∷
         gives 1
         (begun_in scope_t "b" 6 (local_context trace_id child_id 1 "")
-        (Some span_id) record_and_sample) ∷ [] }
+        (local_parent span_id) record_and_sample) ∷ [] }
     // A span is a parent also after its end, and where it was dropped. A call takes no word.
     ensures child_of_an_ended_span { outcomes_by (as_parent always_off)
         (root_words ++ child_word ∷ [])
@@ -32,13 +32,13 @@ pub fn outcomes()
         gives 3 (begun_in scope_s "a" 5 (local_context trace_id span_id 0 "") None sampling.drop) ∷
         gives 1
         (begun_in scope_s "b" 7 (local_context trace_id child_id 0 "")
-        (Some span_id) sampling.drop) ∷ [] }
+        (local_parent span_id) sampling.drop) ∷ [] }
     // A parent of elsewhere, and one that is invalid.
     ensures given_parent { outcomes_by always_on (span_word ∷ [])
         (begin 0 (given (parent_with true 2)) 5 "a" ∷ []) ≡
         gives 1
         (begun_in scope_s "a" 5 (local_context parent_trace span_id 3 "k=v")
-        (Some parent_id) record_and_sample) ∷ [] }
+        (remote_parent parent_id) record_and_sample) ∷ [] }
     ensures invalid_parent { outcomes_by always_on root_words
         (begin 0 (given (record (parent_with true 2) { span = replicate 8 0 })) 5 "a" ∷ []) ≡
         gives 3
@@ -106,7 +106,8 @@ pub fn exports()
         (begin 0 root 5 "a" ∷ begin 1 (numbered 0) 6 "b" ∷ call 1 (Call.end 7) ∷
         call 0 (Call.end 8) ∷ []) ≡
         exported_in 0 scope_t
-        (span_between (local_context trace_id child_id 1 "") (Some span_id) "b" 6 7 [] 0) ∷
+        (span_between (local_context trace_id child_id 1 "")
+        (local_parent span_id) "b" 6 7 [] 0) ∷
         exported_in 1 scope_s
         (span_between (local_context trace_id span_id 1 "") None "a" 5 8 [] 0) ∷ [] }
     // Calls on both, one after the other.
@@ -115,7 +116,7 @@ pub fn exports()
         call 1 (set "k" (int (pos 1))) ∷ call 0 (rename "c") ∷ call 1 (set "l" (int (pos 2))) ∷
         call 1 (Call.end 7) ∷ call 0 (set "m" (int (pos 3))) ∷ call 0 (Call.end 8) ∷ []) ≡
         exported_in 0 scope_s
-        (span_between (local_context trace_id child_id 1 "") (Some span_id) "b" 6 7
+        (span_between (local_context trace_id child_id 1 "") (local_parent span_id) "b" 6 7
         (pair "k" (int (pos 1)) ∷ []) 1) ∷
         exported_in 1 scope_s (span_between (local_context trace_id span_id 1 "") None "c" 5 8
         (pair "m" (int (pos 3)) ∷ []) 0) ∷ [] }
@@ -147,7 +148,7 @@ pub fn exports()
         call 0 (Call.end 7) ∷ call 1 (Call.end 8) ∷ []) ≡
         exported_in 0 scope_s
         (span_between (local_context parent_trace child_id 1 "k=v")
-        (Some parent_id) "b" 6 8 [] 0) ∷ [] }
+        (remote_parent parent_id) "b" 6 8 [] 0) ∷ [] }
     // A start to which memory was refused has its number, and gives no span, which can't end.
     ensures refused { ended_by always_on (root_words ++ root_words)
         (begin_refused 0 root 5 "a" ∷ begin 0 root 6 "b" ∷ call 0 (Call.end 7) ∷

@@ -6,7 +6,7 @@ ghost use Rattle.message_model.specs.Reading.{done};
 ghost use Rattle.message_model.specs.Tables.{◌▸◌};
 ghost use Rattle.trace_examples.specs.Hex.{hex};
 ghost use Rattle.trace_examples.specs.Samples.{trace_id, span_id};
-ghost use Rattle.trace_examples.specs.Bytes.{plain_body, reversed_body};
+ghost use Rattle.trace_examples.specs.Bytes.{body_without_flags, plain_body, reversed_body};
 ghost use Rattle.trace_examples.specs.Expected.{key_value, array_of, pairs_of, resource_of, scope_named, status_of, span_named};
 ghost use Rattle.trace_examples.specs.Expected.{request_of, resource_alone, no_spans};
 ghost use Rattle.trace_examples.specs.Read.{read, read_pair, read_value};
@@ -16,11 +16,16 @@ ghost use Rattle.trace_examples.specs.Read.{read, read_pair, read_value};
 pub fn whole_bodies()
     ensures one_span { read plain_body ≡ done (request_of (resource_of []) (scope_named "s") ((
         trace_id ▸ span_id ▸ [] ▸ [] ▸ codes "a" ▸ pos 1 ▸ 1 ▸ 2 ▸
-        [] ▸ 0 ▸ [] ▸ 0 ▸ [] ▸ 0 ▸ status_of "" 0 ▸ tt) ∷ [])) }
+        [] ▸ 0 ▸ [] ▸ 0 ▸ [] ▸ 0 ▸ status_of "" 0 ▸ 0x101 ▸ tt) ∷ [])) }
+    // Without the field its flags are 0.
+    ensures without_flags { read body_without_flags ≡
+        done (request_of (resource_of []) (scope_named "s") ((
+        trace_id ▸ span_id ▸ [] ▸ [] ▸ codes "a" ▸ pos 1 ▸ 1 ▸ 2 ▸
+        [] ▸ 0 ▸ [] ▸ 0 ▸ [] ▸ 0 ▸ status_of "" 0 ▸ 0 ▸ tt) ∷ [])) }
     // Fields in falling order, the status in two parts, the name twice, and an unknown field 99.
     ensures reversed { read reversed_body ≡ done (request_of (resource_of []) (scope_named "") ((
         trace_id ▸ span_id ▸ [] ▸ [] ▸ codes "a" ▸ pos 0 ▸ 0 ▸ 0 ▸
-        [] ▸ 0 ▸ [] ▸ 0 ▸ [] ▸ 0 ▸ status_of "x" 2 ▸ tt) ∷ [])) }
+        [] ▸ 0 ▸ [] ▸ 0 ▸ [] ▸ 0 ▸ status_of "x" 2 ▸ 0 ▸ tt) ∷ [])) }
     ensures empty { read [] ≡ done no_spans }
 {}
 
@@ -51,7 +56,7 @@ pub fn fields()
     ensures kind_below_zero { read (hex "0a 0a 12 08 12 06 30 ff ff ff ff 0f") ≡
         done (request_of (resource_of []) (scope_named "") ((
         [] ▸ [] ▸ [] ▸ [] ▸ [] ▸ negsuc 0 ▸ 0 ▸ 0 ▸
-        [] ▸ 0 ▸ [] ▸ 0 ▸ [] ▸ 0 ▸ status_of "" 0 ▸ tt) ∷ [])) }
+        [] ▸ 0 ▸ [] ▸ 0 ▸ [] ▸ 0 ▸ status_of "" 0 ▸ 0 ▸ tt) ∷ [])) }
 {}
 
 /// Values of one member.

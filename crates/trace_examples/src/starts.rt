@@ -11,7 +11,7 @@ ghost use Rattle.span_model.specs.Sampling.{always_on, always_off, as_parent, re
 ghost use Rattle.span_model.specs.Starts.{flags_of, not_recording, ended};
 ghost use Rattle.trace_examples.specs.Hex.{hex};
 ghost use Rattle.trace_examples.specs.Samples.{trace_id, span_id, pair, set};
-ghost use Rattle.trace_examples.specs.Steps.{root_words, span_word, parent_trace, parent_id, parent_with, local_context};
+ghost use Rattle.trace_examples.specs.Steps.{root_words, span_word, parent_trace, parent_id, parent_with, local_context, local_parent, remote_parent};
 ghost use Rattle.trace_examples.specs.Steps.{ids_drawn, words_drawn, five_decisions, started_by, begun_span, held_after, recorded_root};
 
 /// The identifiers of a span: a trace id of two words where it has no parent, and then a span id of
@@ -78,15 +78,17 @@ pub fn starts()
     ensures child { started_by always_on (Some (parent_with true 2)) (span_word ∷ []) ≡
         Some
         (begun_span (local_context parent_trace span_id 3 "k=v")
-        (Some parent_id) record_and_sample) }
+        (remote_parent parent_id) record_and_sample) }
     ensures dropped_child { started_by always_off (Some (parent_with false 3)) (span_word ∷ []) ≡
         Some
-        (begun_span (local_context parent_trace span_id 2 "k=v") (Some parent_id) sampling.drop) }
+        (begun_span (local_context parent_trace span_id 2 "k=v")
+        (local_parent parent_id) sampling.drop) }
     // A span that is only recorded isn't sampled.
     ensures recorded_child { started_by (λ _. record_only) (Some (parent_with true 1))
         (span_word ∷ []) ≡
         Some
-        (begun_span (local_context parent_trace span_id 0 "k=v") (Some parent_id) record_only) }
+        (begun_span (local_context parent_trace span_id 0 "k=v")
+        (remote_parent parent_id) record_only) }
     // A parent of which one identifier is all zeros counts as none.
     ensures parent_without_span { started_by always_on
         (Some (record (parent_with true 3) { span = replicate 8 0 })) root_words ≡
@@ -122,21 +124,23 @@ pub fn default_samplers()
     ensures remote { started_by (as_parent always_off) (Some (parent_with true 0))
         (span_word ∷ []) ≡
         Some
-        (begun_span (local_context parent_trace span_id 0 "k=v") (Some parent_id) sampling.drop) }
+        (begun_span (local_context parent_trace span_id 0 "k=v")
+        (remote_parent parent_id) sampling.drop) }
     ensures remote_sampled { started_by (as_parent always_off) (Some (parent_with true 3))
         (span_word ∷ []) ≡
         Some
         (begun_span (local_context parent_trace span_id 3 "k=v")
-        (Some parent_id) record_and_sample) }
+        (remote_parent parent_id) record_and_sample) }
     ensures local_sampled { started_by (as_parent always_off) (Some (parent_with false 1))
         (span_word ∷ []) ≡
         Some
         (begun_span (local_context parent_trace span_id 1 "k=v")
-        (Some parent_id) record_and_sample) }
+        (local_parent parent_id) record_and_sample) }
     ensures local { started_by (as_parent always_off) (Some (parent_with false 2))
         (span_word ∷ []) ≡
         Some
-        (begun_span (local_context parent_trace span_id 2 "k=v") (Some parent_id) sampling.drop) }
+        (begun_span (local_context parent_trace span_id 2 "k=v")
+        (local_parent parent_id) sampling.drop) }
     // An invalid parent: a root, with a new trace and no flag.
     ensures invalid { started_by (as_parent always_off)
         (Some (record (parent_with false 1) { span = replicate 8 0 })) root_words ≡

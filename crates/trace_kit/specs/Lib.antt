@@ -7,7 +7,7 @@ pub use Rattle.span_model.specs.Identifiers
 pub use Rattle.span_model.specs.Sampling
 pub use Rattle.span_model.specs.Spans
 pub use Rattle.span_model.specs.Starts
-pub use Rattle.span_model.specs.Dropped
+pub use Rattle.drop_model.specs.Dropped
 pub use Rattle.desk_model.specs.Desks
 pub use Rattle.desk_model.specs.Queue
 pub use Rattle.retry_model.specs.Retries

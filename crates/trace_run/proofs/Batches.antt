@@ -4,7 +4,7 @@ use Rattle.std.specs.Prelude.{if◌then◌else◌}
 use Rattle.std.proofs.lemmas.Bool.{ne_eqb, lt-ltb, le-ltb, le-leb, lt-leb}
 use Rattle.rand_core.specs.Stream.{Stream}
 use Rattle.span_model.specs.Sampling.{SamplerMeaning}
-use Rattle.span_model.specs.Dropped.{Reason as model-Reason, too_large as model-too_large}
+use Rattle.drop_model.specs.Dropped.{Reason as model-Reason, too_large as model-too_large}
 use Rattle.span_model.specs.Spans.{EndedSpan}
 use Rattle.export_model.specs.Export.{LacksBody, groups, body_length}
 use Rattle.retry_model.specs.Retries as retries

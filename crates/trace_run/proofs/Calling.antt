@@ -27,7 +27,7 @@ module _ {S R : Type 0} (meaning : S → SamplerMeaning) (stream : R → Stream)
   EndsWith c answer desk2 = IfSome (end_of c) (λ now. (setup : Setup) (steps : List SpanStep) → IsTable meaning stream setup steps table → EndsAs Admits (span_numbered setup steps n) (calls_on n steps) now desk answer desk2)
 
   abbrev pub Right : Call → CodeAnswer → Type 0
-  Right c answer = is_end c ≡ false → answer_view answer ≡ answer_to_call (is_refused (answer_view answer)) (calls_on n (span_steps h)) (span_numbered run.setup (span_steps h) n)
+  Right c answer = is_end c ≡ false → answer_view answer ≡ answer_to_call (is_refused (answer_view answer)) (calls_on n (span_steps h)) c (span_numbered run.setup (span_steps h) n)
 
   no-end : (c : Call) → is_end c ≡ false → (answer : CodeAnswer) (table2 : TableWith S R) (desk2 : Desk) → Right c answer → desk2 ≡ desk → TakesStep meaning stream (Step.call n c) (answer_view answer) table table2 → length table2.spans ≡ length table.spans
       → Stands meaning stream run (h ++ record { step = Step.call n c; answer = answer_view answer } ∷ []) table2 desk2 out
@@ -46,7 +46,7 @@ module _ {S R : Type 0} (meaning : S → SamplerMeaning) (stream : R → Stream)
   called (Call.update_name s) answer table2 desk2 small right same ended takes many = no-end (Call.update_name s) refl answer table2 desk2 right (same refl) takes many
 
   quiet : (answer : CodeAnswer) (c : Call) → is_end c ≡ false → Right c answer → attempt_by (answer_view answer) ≡ None
-  quiet answer c e right = ap attempt_by (right e) ∙ (quiet-call (is_refused (answer_view answer)) (calls_on n (span_steps h)) (span_numbered run.setup (span_steps h) n) Step.flush).attempt
+  quiet answer c e right = ap attempt_by (right e) ∙ (quiet-call (is_refused (answer_view answer)) (calls_on n (span_steps h)) c (span_numbered run.setup (span_steps h) n) Step.flush).attempt
 
   pub called-tells : (c : Call) (answer : CodeAnswer) (desk2 : Desk) → Right c answer → EndsWith c answer desk2 → attempt_by (answer_view answer) ≡ None
   called-tells (end now) answer desk2 right ended = end-tells (span_numbered run.setup (span_steps h) n) (calls_on n (span_steps h)) now desk desk2 answer (ended run.setup (span_steps h) at.spans)

@@ -9,7 +9,7 @@ use Rattle.rand_core.specs.Stream.{Stream}
 use Rattle.span_model.specs.Sampling.{SamplerMeaning, is_sampled}
 use Rattle.span_model.specs.Spans.{Call, EndedSpan, end, is_end, with_ticket}
 use Rattle.span_model.specs.Starts.{StartedSpan, exported_span}
-use Rattle.span_model.specs.Dropped.{queue_full}
+use Rattle.drop_model.specs.Dropped.{queue_full}
 use Rattle.retry_model.specs.Retries.{delivered}
 use Rattle.desk_model.specs.Queue as queue
 use Rattle.desk_model.specs.Queue.{DeskEvent, last_spans, size_of_take}

@@ -13,7 +13,7 @@ use Rattle.history_model.specs.Steps.{Parent, Step, is_shutdown}
 use Rattle.history_model.specs.History.{SpanStep, Setup, calls_on}
 use Rattle.history_model.proofs.Histories.{ended-start, ended-no-more}
 use Rattle.run_model.specs.Runs.{Answer, started, out_of_memory, done, Answered, is_refused, span_steps, ended_by, event_by, desk_events}
-use Rattle.run_model.specs.Answers.{RunConfig, start_answer, call_answer, takes_memory, is_live, progress_by, desk_after, IsAnswer}
+use Rattle.run_model.specs.Answers.{RunConfig, start_answer, call_answer, takes_memory, call_takes_memory, progress_by, desk_after, IsAnswer}
 use Rattle.run_model.specs.Headline.{pending_as, pending_after, attempt_by}
 use Rattle.run_model.proofs.More.{is_shut, shut-more, ended-open, ended-shut, ended-none, ended-some, events-more, progress-none, quiet-attempts, last_attempt-none, answers-more}
 use Rattle.retry_model.specs.Retries.{delivered}
@@ -41,9 +41,9 @@ quiet-start there refused (Some s) step = by (refused && takes_memory s)
     by true = record { event = λ setup h. refl; stage = refl; attempt = refl }
     by false = record { event = λ setup h. refl; stage = refl; attempt = refl }
 
-pub quiet-call : (refused : Bool) (calls : List Call) (s : Option StartedSpan) (step : Step) → IsQuiet (answer_to_call refused calls s) step
-quiet-call refused calls None step = record { event = λ setup h. refl; stage = refl; attempt = refl }
-quiet-call refused calls (Some s) step = by (refused && is_live s calls)
+pub quiet-call : (refused : Bool) (calls : List Call) (c : Call) (s : Option StartedSpan) (step : Step) → IsQuiet (answer_to_call refused calls c s) step
+quiet-call refused calls c None step = record { event = λ setup h. refl; stage = refl; attempt = refl }
+quiet-call refused calls c (Some s) step = by (refused && call_takes_memory s calls c)
   where
     by : (b : Bool) → IsQuiet (cond b out_of_memory done) step
     by true = record { event = λ setup h. refl; stage = refl; attempt = refl }
@@ -122,15 +122,15 @@ module _ {S R : Type 0} (meaning : S → SamplerMeaning) (stream : R → Stream)
       by false f true s = ended-shut run.setup h x s
       by false f false s = ended-some run.setup h x (SpanStep.call n c) s refl (rw f refl) ∙ ended-no-more run.setup (span_steps h) n c (rw e refl) ∙ sym (ended-open run.setup h s)
 
-  pub call-on : (n : ℕ) (c : Call) (answer : Answer) (table2 : TableWith S R) → is_end c ≡ false → answer ≡ answer_to_call (is_refused answer) (calls_on n (span_steps h)) (span_numbered run.setup (span_steps h) n)
+  pub call-on : (n : ℕ) (c : Call) (answer : Answer) (table2 : TableWith S R) → is_end c ≡ false → answer ≡ answer_to_call (is_refused answer) (calls_on n (span_steps h)) c (span_numbered run.setup (span_steps h) n)
       → TakesStep meaning stream (Step.call n c) answer table table2 → length table2.spans ≡ length table.spans
       → Stands meaning stream run (h ++ record { step = Step.call n c; answer = answer } ∷ []) table2 desk out
   call-on n c answer table2 e right takes many =
       let x : Answered = record { step = Step.call n c; answer = answer } in
-      quiet-on x table2 (subst (λ a. IsQuiet a x.step) (sym right) (quiet-call (is_refused answer) (calls_on n (span_steps h)) (span_numbered run.setup (span_steps h) n) x.step)) (spans-on x table2 takes) (call-same n c answer e) refl (omega (arith, many))
+      quiet-on x table2 (subst (λ a. IsQuiet a x.step) (sym right) (quiet-call (is_refused answer) (calls_on n (span_steps h)) c (span_numbered run.setup (span_steps h) n) x.step)) (spans-on x table2 takes) (call-same n c answer e) refl (omega (arith, many))
       (record { given = record { refused = is_refused answer; outcome = delivered }; is = right ∙ by (span_numbered run.setup (span_steps h) n) })
     where
-      by : (s : Option StartedSpan) → answer_to_call (is_refused answer) (calls_on n (span_steps h)) s ≡ call_answer run h (desk_after run h) (is_refused answer) n c s
+      by : (s : Option StartedSpan) → answer_to_call (is_refused answer) (calls_on n (span_steps h)) c s ≡ call_answer run h (desk_after run h) (is_refused answer) n c s
       by None = refl
       by (Some s) = rw e refl
 

@@ -1,6 +1,6 @@
 -- What a run leaves, and what is left of it once it is closed. (profile)
 use Rattle.std.specs.Prelude.{List, Option, Some, None, if◌then◌else◌}
-use Rattle.span_model.specs.Dropped as dropped
+use Rattle.drop_model.specs.Dropped as dropped
 use Rattle.retry_model.specs.Retries as retries
 use Rattle.desk_model.specs.Desks.{Desk, with_fate}
 use Rattle.batch_desk.specs.Desk.{after_drop}

@@ -38,6 +38,7 @@ impl<A: Allocator + Copy> Spans<A> {
         let opening = Open {
             context,
             parent: None,
+            parent_remote: false,
             resource: self.resource.clone().expect(rt, "memory"),
             scope: self.scope.clone().expect(rt, "memory"),
             name: String::new(self.alloc),

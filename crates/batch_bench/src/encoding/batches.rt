@@ -78,6 +78,7 @@ fn ended_span(
             state: String::new(alloc),
         },
         parent: None,
+        parent_remote: false,
         resource: resource.clone()?,
         scope: scope.clone()?,
         name: String::from_str(alloc, "GET /cart")?,

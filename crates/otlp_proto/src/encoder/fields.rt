@@ -17,6 +17,8 @@ pub enum WireType {
     SixtyFourBit,
     /// A length, and so many bytes.
     LengthDelimited,
+    /// Four bytes.
+    ThirtyTwoBit,
 }
 
 impl WireType {
@@ -29,6 +31,7 @@ impl WireType {
             WireType::Varint => 0,
             WireType::SixtyFourBit => 1,
             WireType::LengthDelimited => 2,
+            WireType::ThirtyTwoBit => 5,
         }
     }
 }
@@ -103,5 +106,15 @@ pub fn put_fixed64<S: Sink>(sink: &mut S, number: u32, value: u64)
     if value != 0 {
         put_key(sink, number, WireType::SixtyFourBit);
         sink.put_fixed64(value);
+    }
+}
+
+/// Puts a number of 32 bits in four bytes, unless it is 0.
+pub fn put_fixed32<S: Sink>(sink: &mut S, number: u32, value: u32)
+    ensures { Puts number Tables.fixed32 value (S.cursor sink.old) (S.cursor sink.new) }
+{
+    if value != 0 {
+        put_key(sink, number, WireType::ThirtyTwoBit);
+        sink.put_fixed32(value);
     }
 }

@@ -6,9 +6,10 @@ ghost use Rattle.export_model.specs.Export as model;
 ghost use Rattle.otlp_span.specs.Parts.{status_view};
 ghost use Rattle.otlp_proto.specs.Encode.{Puts};
 
-use crate::encoder::fields::{put_bytes, put_enum, put_fixed64, put_text, put_uint32};
+use crate::encoder::fields::{put_bytes, put_enum, put_fixed32, put_fixed64, put_text, put_uint32};
 use crate::encoder::messages::{Submessage, encoded_len, put_each, put_sized};
 use crate::encoder::sink::Sink;
+use otlp_ids::TraceFlags;
 use otlp_span::{Event, Link, Resource, Scope, Status};
 use std::alloc::Allocator;
 
@@ -36,6 +37,21 @@ impl<B: Allocator> Submessage for Event<B> {
     }
 }
 
+/// Bit 8 of the flags of a span or a link: it is known whether the parent, or the link's context, is
+/// remote (trace.proto: SpanFlags).
+const HAS_IS_REMOTE: u32 = 0x100;
+
+/// Bit 9: it is remote (trace.proto: SpanFlags).
+const IS_REMOTE: u32 = 0x200;
+
+/// The number that these flags of a context are in the protocol, where this is remote or not.
+pub fn flags_number(flags: TraceFlags, remote: bool) -> u32
+    ensures { result ≡ model.flags_number flags.0 remote }
+{
+    let known = flags.0 as u32 + HAS_IS_REMOTE;
+    if remote { known + IS_REMOTE } else { known }
+}
+
 impl<B: Allocator> Submessage for Link<B> {
     ghost use Rattle.message_model.specs.Tables;
     ghost use Rattle.message_model.specs.Canon.{canon};
@@ -59,6 +75,7 @@ impl<B: Allocator> Submessage for Link<B> {
         put_text(sink, 3, context.state.as_str());
         put_each(sink, 4, self.attributes.as_slice());
         put_uint32(sink, 5, self.dropped_attributes_count);
+        put_fixed32(sink, 6, flags_number(context.flags, context.remote));
     }
 }
 

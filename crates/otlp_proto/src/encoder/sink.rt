@@ -20,6 +20,10 @@ pub trait Sink {
     fn put_fixed64(&mut self, value: u64)
         ensures { Lays (payload_bytes (Wire.i64 value)) (cursor self.old) (cursor self.new) };
 
+    /// Takes a number as four bytes, the lowest first.
+    fn put_fixed32(&mut self, value: u32)
+        ensures { Lays (payload_bytes (Wire.i32 value)) (cursor self.old) (cursor self.new) };
+
     /// Takes these bytes.
     fn put_bytes(&mut self, bytes: &[u8])
         ensures { Lays bytes.now (cursor self.old) (cursor self.new) };
@@ -69,6 +73,10 @@ impl Sink for Length {
 
     fn put_fixed64(&mut self, _value: u64) {
         self.add(8);
+    }
+
+    fn put_fixed32(&mut self, _value: u32) {
+        self.add(4);
     }
 
     fn put_bytes(&mut self, bytes: &[u8]) {
@@ -136,6 +144,12 @@ impl<A: Allocator> Sink for Buffer<A> {
     fn put_fixed64(&mut self, value: u64) {
         if self.has_room(8) {
             self.at = otlp_wire::put_fixed64(self.bytes.as_mut_slice(), self.at, value);
+        }
+    }
+
+    fn put_fixed32(&mut self, value: u32) {
+        if self.has_room(4) {
+            self.at = otlp_wire::put_fixed32(self.bytes.as_mut_slice(), self.at, value);
         }
     }
 

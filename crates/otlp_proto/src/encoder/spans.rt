@@ -1,15 +1,16 @@
 //! Spans, and how long the message of each is (opentelemetry-proto, trace.proto: Span).
-ghost use Rattle.std.specs.Prelude.{◌≡◌, ◌≢◌, [], IfOk, OnOk, OnErr, map, flat_map, pos};
+ghost use Rattle.std.specs.Prelude.{◌≡◌, ◌≢◌, [], IfOk, OnOk, OnErr, map, flat_map, pos, unwrap_or};
 ghost use Rattle.message_model.specs.Tables;
+ghost use Rattle.span_model.specs.Spans.{has_remote_parent};
 ghost use Rattle.export_model.specs.Export as model;
 ghost use Rattle.otlp_span.specs.Parts.{kind_view, parent_id_view};
 ghost use Rattle.scope_group.specs.Group.{scope_group_view, resource_group_view, groups_view};
 ghost use Rattle.otlp_proto.specs.Encode.{Puts, AddsLens};
 ghost use Rattle.otlp_proto.specs.Grouped.{spans_in, all_spans};
 
-use crate::encoder::fields::{put_bytes, put_enum, put_fixed64, put_text, put_uint32};
+use crate::encoder::fields::{put_bytes, put_enum, put_fixed32, put_fixed64, put_text, put_uint32};
 use crate::encoder::messages::{Submessage, encoded_len, put_each};
-use crate::encoder::parts::put_status;
+use crate::encoder::parts::{flags_number, put_status};
 use crate::encoder::sink::Sink;
 use otlp_ids::{OutOfMemory, SpanId};
 use otlp_span::{Kind, SpanData};
@@ -31,12 +32,21 @@ fn kind_number(kind: Kind) -> u8
 
 /// Puts the identifier of a parent; a root has none.
 fn put_parent<S: Sink>(sink: &mut S, number: u32, parent: Option<SpanId>)
-    ensures { Puts number Tables.bytes (model.parent_id (parent_id_view parent))
+    ensures { Puts number Tables.bytes (unwrap_or (parent_id_view parent) [])
         (S.cursor sink.old) (S.cursor sink.new) }
 {
     if let Some(id) = parent {
         put_bytes(sink, number, &id.0);
     }
+}
+
+/// The number of a span's flags in the protocol: those of its context, and whether its parent is
+/// remote.
+fn span_flags<A: Allocator>(span: &SpanData<A>) -> u32
+    ensures { let kept = span.now.span in
+        result ≡ model.flags_number kept.context.flags (has_remote_parent kept.parent) }
+{
+    flags_number(span.context().flags, span.has_remote_parent())
 }
 
 impl<B: Allocator> Submessage for SpanData<B> {
@@ -68,6 +78,7 @@ impl<B: Allocator> Submessage for SpanData<B> {
         put_each(sink, 13, self.links());
         put_uint32(sink, 14, self.dropped_links_count());
         put_status(sink, 15, self.status());
+        put_fixed32(sink, 16, span_flags(self));
     }
 }
 

@@ -5,7 +5,7 @@ use Rattle.otlp_wire.specs.Fields.{GivesField, field_of}
 use Rattle.otlp_message.specs.Faults.{NamesOne}
 use Rattle.otlp_message.specs.Gathering.{IsGathered, part_faults}
 use Rattle.otlp_message.proofs.FieldsRead.{read-more}
-use Rattle.otlp_message.proofs.GatherSteps.{Behind, behind-more, field-fails}
+use Rattle.otlp_message.proofs.GatherSteps.{Behind, behind-more, field-fails, has-bytes}
 use Rattle.otlp_message.proofs.gather.gather.Goals as goal
 
 pub returns-in_err-take-clause-err : goal.returns-in_err-take-clause-err
@@ -14,6 +14,11 @@ returns-in_err-take-clause-err g c =
     let told : c.from_residual-in_err-take.result ≡ Err c.in_err-take.field-0.0 = grind arith in
     subst (λ r. IfErr r (λ fault. (before after : List Field) → NamesOne (part_faults (value max_depth) g.G.GatherFields.table before c.args.content.now after) fault)) (sym told)
     (field-fails (value max_depth) g.G.GatherFields.table _ c.args.content.now _ _ (field_of c.in_ok-field.field-0) c.loop-field.invariant.2 gives c.in_err-take.field-0.0 c.in_err-take.ensures.err)
+
+pub returns-in_err-take-clause-memory : goal.returns-in_err-take-clause-memory
+returns-in_err-take-clause-memory g c wants =
+    let gives = subst (λ r. GivesField c.loop-field.field-iterator (Some r) c.next.new.self) c.in_ok-field.was c.in-Some.ensures.steps in
+    has-bytes _ c.args.content.now _ _ (field_of c.in_ok-field.field-0) c.loop-field.invariant.2 gives
 
 pub loop-field-preserved : goal.loop-field-preserved
 loop-field-preserved g c =

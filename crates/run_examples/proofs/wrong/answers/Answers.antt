@@ -1,6 +1,6 @@
 use Rattle.std.proofs.Common.{◌≡◌, ap, ℕ, ◌+◌, ◌∷◌, ◌++◌, take, drop, Bool, true, false, if◌then◌else◌, arith}
 use Rattle.message_model.specs.Canon.{canon, septets_of}
-use Rattle.span_model.specs.Dropped.{encode_memory, too_large}
+use Rattle.drop_model.specs.Dropped.{encode_memory, too_large}
 use Rattle.span_model.specs.Identifiers.{first_valid}
 use Rattle.span_model.specs.Spans.{span}
 use Rattle.span_model.specs.Starts.{started_span, ids_of, ids_words}

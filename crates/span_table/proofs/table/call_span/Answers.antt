@@ -29,7 +29,7 @@ pub returns-then-is_err : goal.returns-then-is_err
 returns-then-is_err g c =
     let call = not-end c.args.call.now c.in_default.not-End in
     record {
-      made = λ k. (sym c.is_recording.ensures ∙ c.if-not-is_recording.false, where-refused c.copy_call.result (sym c.is_err.ensures.value ∙ c.if-is_err.true) c.copy_call.ensures.err);
+      made = λ k. (sym c.is_recording.ensures ∙ c.if-not-is_recording.false, where-refused c.copy_call.result (sym c.is_err.ensures.value ∙ c.if-is_err.true) c.copy_call.ensures.refused, where-refused c.copy_call.result (sym c.is_err.ensures.value ∙ c.if-is_err.true) c.copy_call.ensures.err);
       asks_nothing = λ k. c.copy_call.ensures.asks_nothing;
       ended = rw call.1 tt;
     }

@@ -8,7 +8,7 @@ use Rattle.span_text.proofs.print.print_spans.Goals as goal
 pub returns-in_err-print_triple-clause-err : goal.returns-in_err-print_triple-clause-err
 returns-in_err-print_triple-clause-err g c =
     let contents = g.W.FaultWrite.contents in
-    let all = ap (λ ts. spans_text (map triple_view ts)) c.deref-triple-items.ensures.value ∙ ap spans_text c.in_ok-triples.ensures in
+    let all = ap (λ ts. spans_text (map triple_view ts)) c.deref-triple-items.ensures.value ∙ ap spans_text c.in_ok-triples.ensures.listed in
     on-err c.from_residual-in_err-print_triple.result _
     (subst (AppendsFront (contents c.args.writer.now) (contents c.print_triple.new.writer)) all
     (parts-front triple_lines triple_view c.deref-triple-items.result.now c.loop-triple.triple-index c.triple-item.result (contents c.args.writer.now) (contents c.loop-triple.writer) (contents c.print_triple.new.writer)

@@ -15,6 +15,7 @@ returns c = record {
   two_equal_spans = record { request = refl; triples = refl };
   parent_and_child = record { request = refl; triples = refl };
   trace_state = record { request = refl; triples = refl };
+  child_of_remote = record { request = refl; triples = refl };
   two_scopes = record { request = refl; triples = refl };
   first_scope_again = record { request = refl; triples = refl };
   two_resources = record { request = refl; triples = refl };

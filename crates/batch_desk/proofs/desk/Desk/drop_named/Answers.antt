@@ -1,6 +1,6 @@
 use Rattle.std.proofs.Common.{ap, arith, sym, ◌∙◌}
 use Rattle.std.proofs.lemmas.Grind.{common_steps}
-use Rattle.span_model.specs.Dropped.{is_reason, queue_full}
+use Rattle.drop_model.specs.Dropped.{is_reason, queue_full}
 use Rattle.desk_model.specs.Desks.{is_in_hand}
 use Rattle.batch_desk.proofs.Histories.{named_follows}
 use Rattle.batch_desk.proofs.desk.Desk.drop_named.Goals as goal

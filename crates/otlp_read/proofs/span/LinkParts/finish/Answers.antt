@@ -1,6 +1,6 @@
 use Rattle.std.proofs.Common.{◌≡◌, sym, subst, Err, IfErr, arith}
 use Rattle.message_model.specs.Tables
-use Rattle.message_model.specs.Tables.{message, repeated, text, bytes, uint32, enum, fixed64, end, ◌⦂◌◂◌}
+use Rattle.message_model.specs.Tables.{message, repeated, text, bytes, uint32, enum, fixed64, fixed32, end, ◌⦂◌◂◌}
 use Rattle.message_model.specs.Messages.{value, max_depth}
 use Rattle.otlp_message.specs.Faults.{NamesOne}
 use Rattle.otlp_message.specs.Gathering.{finished}
@@ -14,5 +14,5 @@ returns-in_err-read_text-clause-err g c =
     let told : c.from_residual-in_err-read_text.result ≡ Err c.in_err-read_text.field-0.0 = grind arith in
     subst (λ r. IfErr r (λ fault. NamesOne (finished (value max_depth) (message Tables.link) (link_gathered c.args.self)).faults fault)) (sym told)
     (names-within (finished (value max_depth) (text) ((link_gathered c.args.self).1.1.0)).faults (finished (value max_depth) (message Tables.link) (link_gathered c.args.self)).faults
-    (λ y h. (finished-others (value max_depth) 1 (bytes) (2 ⦂ bytes ◂ 3 ⦂ text ◂ 4 ⦂ repeated (message Tables.key_value) ◂ 5 ⦂ uint32 ◂ end) ((link_gathered c.args.self)) y (finished-others (value max_depth) 2 (bytes) (3 ⦂ text ◂ 4 ⦂ repeated (message Tables.key_value) ◂ 5 ⦂ uint32 ◂ end) ((link_gathered c.args.self).1) y (finished-first (value max_depth) 3 (text) (4 ⦂ repeated (message Tables.key_value) ◂ 5 ⦂ uint32 ◂ end) ((link_gathered c.args.self).1.1) y h))))
+    (λ y h. (finished-others (value max_depth) 1 (bytes) (2 ⦂ bytes ◂ 3 ⦂ text ◂ 4 ⦂ repeated (message Tables.key_value) ◂ 5 ⦂ uint32 ◂ 6 ⦂ fixed32 ◂ end) ((link_gathered c.args.self)) y (finished-others (value max_depth) 2 (bytes) (3 ⦂ text ◂ 4 ⦂ repeated (message Tables.key_value) ◂ 5 ⦂ uint32 ◂ 6 ⦂ fixed32 ◂ end) ((link_gathered c.args.self).1) y (finished-first (value max_depth) 3 (text) (4 ⦂ repeated (message Tables.key_value) ◂ 5 ⦂ uint32 ◂ 6 ⦂ fixed32 ◂ end) ((link_gathered c.args.self).1.1) y h))))
     c.in_err-read_text.field-0.0 c.in_err-read_text.ensures.err)

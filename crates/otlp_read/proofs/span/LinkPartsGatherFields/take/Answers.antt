@@ -1,7 +1,7 @@
 use Rattle.std.proofs.Common.{◌≡◌, refl, sym, subst, Err, IfErr, List, ◌∷◌, ◌++◌, arith}
 use Rattle.message_model.specs.Wire.{Field}
 use Rattle.message_model.specs.Tables
-use Rattle.message_model.specs.Tables.{message, repeated, text, bytes, uint32, enum, fixed64}
+use Rattle.message_model.specs.Tables.{message, repeated, text, bytes, uint32, enum, fixed64, fixed32}
 use Rattle.message_model.specs.Messages.{value, max_depth, read_table}
 use Rattle.otlp_wire.specs.Fields.{field_of}
 use Rattle.otlp_message.specs.Faults.{NamesOne}
@@ -15,4 +15,4 @@ returns-in_err-push_attribute-clause-err g c =
     (place-fails 3 Tables.link _ 4 (repeated (message Tables.key_value)) refl (field_of c.args.field) c.in_err-push_attribute.field-0.0 c.in_err-push_attribute.ensures.err)
 
 pub returns-clause-ok : goal.returns-clause-ok
-returns-clause-ok g c = λ fields h. (c.last_bytes-self.ensures bytes refl fields h.0, (c.last_bytes-self-2.ensures bytes refl fields h.1.0, (c.last_bytes-self-3.ensures text refl fields h.1.1.0, (c.in_ok-push_attribute.ensures.ok fields h.1.1.1.0, (c.last_varint-self.ensures uint32 refl fields h.1.1.1.1.0, tt)))))
+returns-clause-ok g c = λ fields h. (c.last_bytes-self.ensures bytes refl fields h.0, (c.last_bytes-self-2.ensures bytes refl fields h.1.0, (c.last_bytes-self-3.ensures text refl fields h.1.1.0, (c.in_ok-push_attribute.ensures.ok fields h.1.1.1.0, (c.last_varint-self.ensures uint32 refl fields h.1.1.1.1.0, (c.last_fixed32-self.ensures fixed32 refl fields h.1.1.1.1.1.0, tt))))))

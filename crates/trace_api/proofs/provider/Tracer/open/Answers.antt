@@ -1,11 +1,11 @@
-use Rattle.std.proofs.Common.{◌≡◌, ◌∙◌, refl, sym, ap, true, false, option_map, string_bytes}
+use Rattle.std.proofs.Common.{◌≡◌, ◌∙◌, refl, sym, ap, true, false, string_bytes}
 use Rattle.std.specs.Arc.{arc_value}
 use Rattle.span_model.specs.Spans.{Start}
 use Rattle.span_model.specs.Sampling.{is_recording}
 use Rattle.otlp_ids.specs.SpanContext.{context_view}
 use Rattle.span_model.specs.Starts.{StartedSpan}
 use Rattle.otlp_sampler.specs.Sampling.{decision_view}
-use Rattle.otlp_span.specs.Parts.{kind_view, limits_view, resource_view, scope_view}
+use Rattle.otlp_span.specs.Parts.{kept_parent_view, kind_view, limits_view, resource_view, scope_view}
 use Rattle.trace_api.specs.Starts.{opening_view, tracer_view}
 use Rattle.trace_api.proofs.Held.{held-dropped, held-recorded, recorded-is}
 use Rattle.trace_api.proofs.provider.Tracer.open.Goals as goal
@@ -25,11 +25,11 @@ returns g c =
     let scope = ap scope_view c.in_ok-try_clone-2.ensures ∙ ap (λ t. t.scope) c.self.view_is in
     let begin : Start = record {
       context = context_view c.in_ok-copy.field-0;
-      parent = option_map (λ id. id.0) c.parent_id.result;
+      parent = kept_parent_view c.kept_parent-parent.result.0 c.kept_parent-parent.result.1;
       name = string_bytes c.args.opening.name;
       kind = kind_view c.args.opening.kind;
       at = c.args.opening.at;
     } in
-    let started : begin ≡ s.start = rw (c.in_ok-copy.ensures.value, c.child_flags.ensures, c.is_sampled.ensures, c.in_ok-child_state.ensures.value, c.parent_id.ensures) refl in
+    let started : begin ≡ s.start = rw (c.in_ok-copy.ensures.value, c.child_flags.ensures, c.is_sampled.ensures, c.in_ok-child_state.ensures.value, c.kept_parent-parent.ensures) refl in
     let opened = c.in_ok-record.ensures ∙ recorded-is (limits_view c.provider.inside.limits) (resource_view (arc_value c.in_ok-try_clone.field-0)) (scope_view (arc_value c.in_ok-try_clone-2.field-0)) begin s limits resource scope started in
     c.recording.ensures ∙ rw (c.child_flags.ensures, c.is_sampled.ensures, c.in_ok-child_state.ensures.value, opened) (held-recorded s e)

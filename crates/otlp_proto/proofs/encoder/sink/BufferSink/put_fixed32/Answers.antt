@@ -1,0 +1,18 @@
+use Rattle.std.proofs.Common.{arith, sym, subst, length, ap}
+use Rattle.message_model.specs.Wire
+use Rattle.message_model.specs.Canon.{payload_bytes}
+use Rattle.otlp_proto.specs.Encode.{Lays}
+use Rattle.otlp_proto.proofs.Laying.{no-room}
+use Rattle.otlp_proto.proofs.encoder.sink.BufferSink.put_fixed32.Goals as goal
+
+pub put_fixed32-self-inside-requires : goal.put_fixed32-self-inside-requires
+unfolding payload_bytes
+put_fixed32-self-inside-requires g c =
+    let fits = (c.has_room.ensures _ _ (sym c.self.view_is)).0 c.if-has_room.true in
+    omega (arith, fits, c.self.invariant, ap length c.as_mut_slice.ensures.value)
+
+pub returns-else-has_room : goal.returns-else-has_room
+unfolding payload_bytes
+returns-else-has_room g c =
+    let full = (c.has_room.ensures _ _ (sym c.self.view_is)).1 c.if-has_room.false in
+    subst (λ cursor. Lays (payload_bytes (Wire.i32 c.args.value)) cursor cursor) c.self.view_is (no-room _ _ _ full)
