@@ -4,14 +4,14 @@ ghost use Rattle.std.specs.Prelude.{◌≡◌, ◌++◌, [], codes, length, repl
 ghost use Rattle.otlp_http.specs.Request.{request_head, request_text};
 ghost use Rattle.http_examples.specs.Collectors.{elsewhere, local};
 
-/// The head of a request whose body has 64 bytes, and how long the whole request is.
+/// The head of a request whose body has 70 bytes, and how long the whole request is.
 pub fn heads()
-    ensures head { request_head local 64 ≡
+    ensures head { request_head local 70 ≡
         codes "POST /v1/traces HTTP/1.1\r\nHost: 127.0.0.1:4318\r\n" ++
-        codes "Content-Type: application/x-protobuf\r\nContent-Length: 64\r\n" ++
+        codes "Content-Type: application/x-protobuf\r\nContent-Length: 70\r\n" ++
         codes "Connection: close\r\n\r\n" }
-    ensures head_bytes { length (request_head local 64) ≡ 127 }
-    ensures whole_bytes { length (request_text local (replicate 64 7)) ≡ 191 }
+    ensures head_bytes { length (request_head local 70) ≡ 127 }
+    ensures whole_bytes { length (request_text local (replicate 70 7)) ≡ 197 }
 {}
 
 /// The body stands behind the empty line as it is, also where it has none or looks like a field.

@@ -9,17 +9,18 @@ use std::alloc::Global;
 use std::process::Abort;
 
 /// The request that carries a span with nothing but its name to a collector on this machine: 127
-/// bytes of head, and 64 of a body.
+/// bytes of head, and 70 of a body.
 const REQUEST: &[u8] = b"POST /v1/traces HTTP/1.1\r\n\
     Host: 127.0.0.1:4318\r\n\
     Content-Type: application/x-protobuf\r\n\
-    Content-Length: 64\r\n\
+    Content-Length: 70\r\n\
     Connection: close\r\n\
     \r\n\
-    \x0a\x3e\x0a\x00\x12\x3a\x0a\x03\x0a\x01\x73\x12\x33\x0a\x10\x01\
+    \x0a\x44\x0a\x00\x12\x40\x0a\x03\x0a\x01\x73\x12\x39\x0a\x10\x01\
     \x02\x03\x04\x05\x06\x07\x08\x09\x0a\x0b\x0c\x0d\x0e\x0f\x10\x12\
     \x08\x11\x12\x13\x14\x15\x16\x17\x18\x2a\x01\x61\x30\x01\x39\x01\
-    \x00\x00\x00\x00\x00\x00\x00\x41\x02\x00\x00\x00\x00\x00\x00\x00";
+    \x00\x00\x00\x00\x00\x00\x00\x41\x02\x00\x00\x00\x00\x00\x00\x00\
+    \x85\x01\x01\x01\x00\x00";
 
 /// Writes the request to a wire that takes at most so many bytes a call and fails some, and checks
 /// that what it took is a front of the text. Answers what the call does, and how often the wire
@@ -35,7 +36,7 @@ fn written(
     let body = REQUEST.get(127..).unwrap_or(&[]);
     let answer = write_request(&mut wire, &target, body);
     let sent = match answer {
-        Ok(()) => 191,
+        Ok(()) => 197,
         Err(stopped) => stopped.sent,
     };
     assert_equal_at(rt, Some(wire.taken()), REQUEST.get(..sent as usize), most);
@@ -44,7 +45,7 @@ fn written(
 
 #[test]
 fn a_request_is_its_head_and_the_body(rt: HostRuntime) {
-    assert_equal(&rt, REQUEST.len(), 191);
+    assert_equal(&rt, REQUEST.len(), 197);
     for most in [1usize, 2, 64, 65_536] {
         let answer = written(&rt, rt.alloc(), most, FailingCalls::Never);
         assert_equal_at(&rt, answer, (Ok(()), 0), most);
@@ -74,11 +75,11 @@ fn assert_stops_at(rt: &impl Abort, alloc: Global, at: u64, failing: FailingCall
 #[test]
 fn a_request_stops_at_each_write_that_fails(rt: HostRuntime) {
     let alloc = rt.alloc();
-    for at in 0..191u64 {
+    for at in 0..197u64 {
         assert_stops_at(&rt, alloc, at, FailingCalls::Once(at));
         assert_stops_at(&rt, alloc, at, FailingCalls::From(at));
     }
-    let answer = written(&rt, alloc, 1, FailingCalls::Once(191));
+    let answer = written(&rt, alloc, 1, FailingCalls::Once(197));
     assert_equal(&rt, answer, (Ok(()), 0));
 }
 
@@ -91,12 +92,12 @@ fn stops(rt: &impl Abort, alloc: Global, most: usize, at: u64) -> bool {
 #[test]
 fn a_request_stops_where_more_bytes_go_at_once(rt: HostRuntime) {
     let alloc = rt.alloc();
-    // The request takes this many writes of so many bytes at least, and 191 at most.
-    for (most, least) in [(7usize, 28u64), (64, 3), (65_536, 1)] {
-        for at in 0..191 {
+    // The request takes this many writes of so many bytes at least, and 197 at most.
+    for (most, least) in [(7usize, 29u64), (64, 4), (65_536, 1)] {
+        for at in 0..197 {
             let stopped = stops(&rt, alloc, most, at);
             assert_equal_at(&rt, stopped || least <= at, true, (most, at));
         }
-        assert_equal_at(&rt, stops(&rt, alloc, most, 191), false, most);
+        assert_equal_at(&rt, stops(&rt, alloc, most, 197), false, most);
     }
 }

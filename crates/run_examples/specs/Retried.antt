@@ -22,7 +22,7 @@ abbrev pub waiting : List Answered
 waiting =
     told first (started 3) ∷ told child (started 4) ∷ told (ends 0) (queued 0)
     ∷ told Step.flush Answer.flush ∷ told (Step.take 10) (taken 1 1)
-    ∷ told Step.encode (encoded 1 64) ∷ told (Step.attempt 10) (sent 1 1 busy)
+    ∷ told Step.encode (encoded 1 70) ∷ told (Step.attempt 10) (sent 1 1 busy)
     ∷ told (Step.reply 1000000000 0) (replied 1 (again 3000000000))
     ∷ told (ends 1) (queued 1) ∷ []
 

@@ -284,7 +284,7 @@ worked =
     told first (started 3) ∷ told child (started 4) ∷ told child (started 5)
     ∷ told child (started 6) ∷ told child (started 7) ∷ told child (started 8)
     ∷ told (ends 0) (queued 0) ∷ told (ends 1) (queued 1) ∷ told (ends 2) (full 2)
-    ∷ told (Step.take 0) (Answer.taken 1 2) ∷ told Step.encode (Answer.encoded 1 127)
+    ∷ told (Step.take 0) (Answer.taken 1 2) ∷ told Step.encode (Answer.encoded 1 141)
     ∷ told (Step.attempt 0) (sent 1 1 Outcome.delivered)
     ∷ told (Step.reply 0 0) (Answer.replied 1 Next.done)
     ∷ told (ends 3) (queued 3) ∷ told Step.flush Answer.flush

@@ -14,28 +14,28 @@ ghost use Rattle.run_examples.specs.Worked.{queue_of, once_of, bodies_of, run_wi
 pub fn in_order()
     ensures once { answers_from 1 (queue_of 4)
         (first ∷ ends 0 ∷ Step.shutdown ∷ Step.take 10 ∷ sends) ≡
-        queued 0 ∷ Answer.shutdown ∷ taken 1 1 ∷ delivers 1 64 }
+        queued 0 ∷ Answer.shutdown ∷ taken 1 1 ∷ delivers 1 70 }
     ensures each_twice { answers_from 4 (queue_of 4)
         (first ∷ ends 0 ∷ Step.shutdown ∷ Step.take 10 ∷ Step.encode ∷ Step.encode ∷
         Step.attempt 0 ∷ Step.attempt 0 ∷ Step.reply 0 0 ∷ Step.reply 0 0 ∷ []) ≡
-        encoded 1 64 ∷ nothing ∷ sent 1 1 Outcome.delivered ∷ nothing ∷
+        encoded 1 70 ∷ nothing ∷ sent 1 1 Outcome.delivered ∷ nothing ∷
         replied 1 Next.done ∷ nothing ∷ [] }
     // Steps that stand too early or too late.
     ensures no_batch { answers_from 2 (queue_of 4) (first ∷ ends 0 ∷ sends) ≡
         nothing ∷ nothing ∷ nothing ∷ [] }
     ensures not_encoded { answers_from 4 (queue_of 4)
         (first ∷ ends 0 ∷ Step.shutdown ∷ Step.take 10 ∷ Step.reply 0 0 ∷ Step.attempt 0 ∷
-        Step.reply 0 0 ∷ sends) ≡ nothing ∷ nothing ∷ nothing ∷ delivers 1 64 }
+        Step.reply 0 0 ∷ sends) ≡ nothing ∷ nothing ∷ nothing ∷ delivers 1 70 }
     ensures not_sent { answers_from 4 (queue_of 4)
         (first ∷ ends 0 ∷ Step.shutdown ∷ Step.take 10 ∷ Step.encode ∷ Step.reply 0 0 ∷ []) ≡
-        encoded 1 64 ∷ nothing ∷ [] }
+        encoded 1 70 ∷ nothing ∷ [] }
     ensures judged { answers_from 7 (queue_of 4)
         (first ∷ ends 0 ∷ Step.shutdown ∷ Step.take 10 ∷ sends ++ sends) ≡
         nothing ∷ nothing ∷ nothing ∷ [] }
     // Two spans with the same identifiers are two spans, in one body.
     ensures equal_spans { answers_from 2 (run_with always_on (1 ∷ 2 ∷ 3 ∷ 1 ∷ 2 ∷ 3 ∷ []))
         (first ∷ first ∷ ends 0 ∷ ends 1 ∷ Step.take 0 ∷ sends) ≡
-        queued 0 ∷ queued 1 ∷ taken 1 2 ∷ delivers 1 117 }
+        queued 0 ∷ queued 1 ∷ taken 1 2 ∷ delivers 1 129 }
 {}
 
 /// Where memory is refused to an encoding, the batch is dropped, and its spans are named.
@@ -52,33 +52,33 @@ pub fn refused()
     ensures next_batch { answers_without (5 ∷ []) 5 (queue_of 4)
         (family 1 ++ ends 0 ∷ Step.flush ∷ Step.take 0 ∷ Step.encode ∷ ends 1 ∷ Step.flush ∷
         Step.take 0 ∷ sends) ≡
-        Answer.dropped 1 encode_memory ∷ queued 1 ∷ Answer.flush ∷ taken 2 1 ∷ delivers 2 74 }
+        Answer.dropped 1 encode_memory ∷ queued 1 ∷ Answer.flush ∷ taken 2 1 ∷ delivers 2 80 }
     // Where there is nothing to encode, none is wanted; nor do other steps want any.
     ensures nothing_to_encode { answers_without (0 ∷ []) 0 (queue_of 4) (Step.encode ∷ []) ≡
         nothing ∷ [] }
     ensures others { answers_without (2 ∷ 3 ∷ 5 ∷ 6 ∷ []) 2 (queue_of 4)
         (first ∷ ends 0 ∷ Step.flush ∷ Step.take 0 ∷ sends) ≡
-        Answer.flush ∷ taken 1 1 ∷ delivers 1 64 }
+        Answer.flush ∷ taken 1 1 ∷ delivers 1 70 }
 {}
 
 /// A body may have as many bytes as the greatest, and no more: a batch of a larger one is dropped,
 /// and its spans are named.
 #[tactic(auto, unfolding(crate::specs::Worked::answers_from, crate::specs::Worked::answers_without, crate::specs::Worked::named_by))]
 pub fn greatest()
-    ensures fits { answers_from 2 (bodies_of 64) (first ∷ ends 0 ∷ Step.take 5000000000 ∷ sends) ≡
-        taken 1 1 ∷ delivers 1 64 }
-    ensures too_large { answers_from 2 (bodies_of 63)
+    ensures fits { answers_from 2 (bodies_of 70) (first ∷ ends 0 ∷ Step.take 5000000000 ∷ sends) ≡
+        taken 1 1 ∷ delivers 1 70 }
+    ensures too_large { answers_from 2 (bodies_of 69)
         (first ∷ ends 0 ∷ Step.take 5000000000 ∷ sends) ≡
         taken 1 1 ∷ Answer.dropped 1 too_large ∷ nothing ∷ nothing ∷ [] }
     // Two spans with the same identifiers are named each.
     ensures names_each { let run = record (run_with always_on (1 ∷ 2 ∷ 3 ∷ 1 ∷ 2 ∷ 3 ∷ [])) {
-      max_body = 116;
+      max_body = 128;
     } in
         named_by [] run
         (first ∷ first ∷ ends 0 ∷ ends 1 ∷ Step.take 0 ∷ Step.encode ∷ []) ≡
         dropped_entry too_large 1 3 ∷ dropped_entry too_large 0 3 ∷ [] }
     // Want of memory is told first.
-    ensures memory_first { answers_without (3 ∷ []) 3 (bodies_of 63)
+    ensures memory_first { answers_without (3 ∷ []) 3 (bodies_of 69)
         (first ∷ ends 0 ∷ Step.take 5000000000 ∷ Step.encode ∷ []) ≡
         Answer.dropped 1 encode_memory ∷ [] }
 {}
@@ -102,5 +102,5 @@ pub fn outcomes()
     ensures next_batch { answers_by (no_reply ∷ []) 7 (once_of 4)
         (family 1 ++ ends 0 ∷ Step.flush ∷ Step.take 0 ∷ sends ++ ends 1 ∷ Step.flush ∷
         Step.take 0 ∷ sends) ≡
-        replied 1 (give_up attempts) ∷ queued 1 ∷ Answer.flush ∷ taken 2 1 ∷ delivers 2 74 }
+        replied 1 (give_up attempts) ∷ queued 1 ∷ Answer.flush ∷ taken 2 1 ∷ delivers 2 80 }
 {}

@@ -16,7 +16,7 @@ pub fn asked_to_wait()
         (first ∷ ends 0 ∷ Step.shutdown ∷ Step.take 10 ∷ Step.encode ∷ Step.attempt 10 ∷
         Step.reply 1000000000 0 ∷ Step.attempt 2999999999 ∷ Step.attempt 3000000000 ∷
         Step.reply 3000000000 0 ∷ []) ≡
-        taken 1 1 ∷ encoded 1 64 ∷ sent 1 1 (later 503 (Some (seconds 2))) ∷
+        taken 1 1 ∷ encoded 1 70 ∷ sent 1 1 (later 503 (Some (seconds 2))) ∷
         replied 1 (again 3000000000) ∷ early ∷ sent 1 2 (Outcome.partial (pos 1)) ∷
         replied 1 (Next.partial (pos 1)) ∷ [] }
 {}
@@ -49,5 +49,5 @@ pub fn stays_out()
         Step.reply 0 0 ∷ Step.attempt 1000000000 ∷ Step.reply 0 0 ∷ Step.take 0 ∷ sends) ≡
         sent 1 1 no_reply ∷ nothing ∷ replied 1 (again 1000000000) ∷ queued 1 ∷ Answer.flush ∷
         not_taken ∷ nothing ∷ nothing ∷ sent 1 2 Outcome.delivered ∷ replied 1 Next.done ∷
-        taken 2 1 ∷ delivers 2 74 }
+        taken 2 1 ∷ delivers 2 80 }
 {}

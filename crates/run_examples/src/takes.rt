@@ -36,13 +36,13 @@ pub fn delay()
     ensures passed_again { answers_from 2 (queue_of 4)
         (family 1 ++ ends 0 ∷ Step.take 6000000000 ∷ sends ++ ends 1 ∷ Step.take 10999999999 ∷
         Step.take 11000000000 ∷ []) ≡
-        queued 0 ∷ taken 1 1 ∷ delivers 1 64 ++ queued 1 ∷ not_taken ∷ taken 2 1 ∷ [] }
+        queued 0 ∷ taken 1 1 ∷ delivers 1 70 ++ queued 1 ∷ not_taken ∷ taken 2 1 ∷ [] }
     // The moment of that take may be before others.
     ensures earlier_moment { answers_from 3 (queue_of 4)
         (family 2 ++ ends 0 ∷ Step.take 6000000000 ∷ sends ++ ends 1 ∷ Step.flush ∷ Step.take 1 ∷
         sends ++ ends 2 ∷ Step.take 5000000000 ∷ Step.take 5000000001 ∷ []) ≡
-        queued 0 ∷ taken 1 1 ∷ delivers 1 64 ++ queued 1 ∷ Answer.flush ∷ taken 2 1 ∷
-        delivers 2 74 ++ queued 2 ∷ not_taken ∷ taken 3 1 ∷ [] }
+        queued 0 ∷ taken 1 1 ∷ delivers 1 70 ++ queued 1 ∷ Answer.flush ∷ taken 2 1 ∷
+        delivers 2 80 ++ queued 2 ∷ not_taken ∷ taken 3 1 ∷ [] }
 {}
 
 /// No batch is taken while one is out.
@@ -51,7 +51,7 @@ pub fn one_out()
     ensures four_spans { answers_from 8 (queue_of 4)
         (family 3 ++ ends 0 ∷ ends 1 ∷ ends 2 ∷ ends 3 ∷ Step.take 0 ∷ Step.take 0 ∷ Step.encode ∷
         Step.take 0 ∷ Step.attempt 0 ∷ Step.take 0 ∷ Step.reply 0 0 ∷ Step.take 0 ∷ []) ≡
-        taken 1 2 ∷ not_taken ∷ Answer.encoded 1 127 ∷ not_taken ∷
+        taken 1 2 ∷ not_taken ∷ Answer.encoded 1 141 ∷ not_taken ∷
         Answer.sent 1 1 Outcome.delivered ∷ not_taken ∷ Answer.replied 1 Next.done ∷
         taken 2 2 ∷ [] }
 {}
@@ -72,8 +72,8 @@ pub fn queue_of_four()
     ensures five_ends { answers_from 5 (queue_of 4)
         (family 4 ++ ends 0 ∷ ends 1 ∷ ends 2 ∷ ends 3 ∷ ends 4 ∷ Step.take 0 ∷ sends ++
         Step.take 0 ∷ sends ++ Step.take 0 ∷ []) ≡
-        queued 0 ∷ queued 1 ∷ queued 2 ∷ queued 3 ∷ full 4 ∷ taken 1 2 ∷ delivers 1 127 ++
-        taken 2 2 ∷ delivers 2 139 ++ not_taken ∷ [] }
+        queued 0 ∷ queued 1 ∷ queued 2 ∷ queued 3 ∷ full 4 ∷ taken 1 2 ∷ delivers 1 141 ++
+        taken 2 2 ∷ delivers 2 151 ++ not_taken ∷ [] }
 {}
 
 /// A queue of five: a flush asks for the three that wait, and the last of them alone is a batch.
@@ -84,7 +84,7 @@ pub fn queue_of_five()
         (family 8 ++ ends 0 ∷ ends 1 ∷ ends 2 ∷ Step.flush ∷ Step.take 0 ∷ sends ++ Step.take 0 ∷
         ends 3 ∷ ends 4 ∷ ends 5 ∷ ends 6 ∷ ends 7 ∷ ends 8 ∷ sends ++
         Step.take 0 ∷ sends ++ Step.take 0 ∷ sends ++ Step.take 0 ∷ []) ≡
-        queued 0 ∷ queued 1 ∷ queued 2 ∷ Answer.flush ∷ taken 1 2 ∷ delivers 1 127 ++ taken 2 1 ∷
-        queued 3 ∷ queued 4 ∷ queued 5 ∷ queued 6 ∷ queued 7 ∷ full 8 ∷ delivers 2 74 ++
-        taken 3 2 ∷ delivers 3 139 ++ taken 4 2 ∷ delivers 4 139 ++ not_taken ∷ [] }
+        queued 0 ∷ queued 1 ∷ queued 2 ∷ Answer.flush ∷ taken 1 2 ∷ delivers 1 141 ++ taken 2 1 ∷
+        queued 3 ∷ queued 4 ∷ queued 5 ∷ queued 6 ∷ queued 7 ∷ full 8 ∷ delivers 2 80 ++
+        taken 3 2 ∷ delivers 3 151 ++ taken 4 2 ∷ delivers 4 151 ++ not_taken ∷ [] }
 {}

@@ -33,7 +33,7 @@ pub fn answers()
     ensures too_few { ¬ (AreAnswers (queue_of 2) (with_answer second_take (Answer.taken 2 0))) }
     ensures same_number { ¬ (AreAnswers (queue_of 2) (with_answer second_take (Answer.taken 1 1))) }
     ensures other_length { ¬ (AreAnswers (queue_of 2)
-        (with_answer first_encode (Answer.encoded 1 126))) }
+        (with_answer first_encode (Answer.encoded 1 140))) }
     ensures too_large_though_it_fits { ¬ (AreAnswers (queue_of 2)
         (with_answer first_encode (Answer.dropped 1 too_large))) }
     ensures second_attempt { ¬ (AreAnswers (queue_of 2)

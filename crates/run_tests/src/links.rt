@@ -19,13 +19,13 @@ const HEAD: &str = concat!(
     "POST /v1/traces HTTP/1.1\r\n",
     "Host: 127.0.0.1:4318\r\n",
     "Content-Type: application/x-protobuf\r\n",
-    "Content-Length: 64\r\n",
+    "Content-Length: 70\r\n",
     "Connection: close\r\n",
     "\r\n",
 );
 
 /// How many bytes the request has.
-const SIZE: usize = 191;
+const SIZE: usize = 197;
 
 /// A reply that rejects two spans: its head has 38 bytes, each of which is a read, and its body 7.
 const REPLY: &[u8] = b"HTTP/1.1 200 OK\r\nContent-Length: 7\r\n\r\n\x0a\x05\x08\x02\x12\x01\x78";
@@ -66,7 +66,7 @@ const ENCODED: &[Row] = &[
     (Do::Root, Gives::Started(0)),
     (Do::End(0, 2), Gives::Queued(0)),
     (Do::Take(0), Gives::Taken(1, 1)),
-    (Do::Encode, Gives::Encoded(1, 64)),
+    (Do::Encode, Gives::Encoded(1, 70)),
 ];
 
 /// What comes of an attempt, and what follows.
@@ -202,7 +202,7 @@ fn assert_fails(rt: &impl Abort, alloc: Global, most: usize, calls: (u64, u64), 
 
 #[test]
 fn each_call_of_a_link_may_fail(rt: HostRuntime) {
-    for (most, writes, reads) in [(1, 191u64, 45u64), (65_536, 1, 39)] {
+    for (most, writes, reads) in [(1, 197u64, 45u64), (65_536, 1, 39)] {
         for call in 0..=writes.saturating_add(reads) {
             assert_fails(&rt, rt.alloc(), most, (writes, reads), call);
         }

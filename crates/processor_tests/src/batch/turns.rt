@@ -280,11 +280,11 @@ fn a_batch_in_hand_is_abandoned(rt: HostRuntime) {
     }
 }
 
-/// The body of a batch of one span, which has 64 bytes, where they are too many by one, and where
+/// The body of a batch of one span, which has 70 bytes, where they are too many by one, and where
 /// they aren't.
 #[test]
 fn a_body_above_the_greatest_is_not_sent(rt: HostRuntime) {
-    for (max_body, handed) in [(63, 0), (64, 1)] {
+    for (max_body, handed) in [(69, 0), (70, 1)] {
         let job = Job {
             config: BatchConfig {
                 max_body,
@@ -310,7 +310,7 @@ fn a_body_above_the_greatest_is_not_sent(rt: HostRuntime) {
 fn the_batch_behind_one_that_is_too_large_is_sent(rt: HostRuntime) {
     let job = Job {
         config: BatchConfig {
-            max_body: 64,
+            max_body: 70,
             ..config(2, 1)
         },
         schemas: &["schema", ""],

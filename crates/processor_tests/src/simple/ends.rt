@@ -162,7 +162,7 @@ fn a_shutdown_makes_spans_late(rt: HostRuntime) {
     shut_down::<Brand, HostRuntime>(rt, rt.alloc(), SimpleBlank::new());
 }
 
-/// How a span is answered whose body has 64 bytes, where a body may have so many; the name that is
+/// How a span is answered whose body has 70 bytes, where a body may have so many; the name that is
 /// popped then; and how many were handed, and dropped as too large.
 fn end_within<J: Naming, R: Wait + Abort + Copy>(
     rt: R,
@@ -189,8 +189,8 @@ fn end_within<J: Naming, R: Wait + Abort + Copy>(
 fn a_span_whose_body_is_too_large_is_named(rt: HostRuntime) {
     let too_large = Ended::Dropped(0, Reason::TooLarge);
     for (max_body, answer, named, counts) in [
-        (63, too_large, Some(entry(0, Reason::TooLarge)), (0, 1)),
-        (64, Ended::Handed(0), None, (1, 0)),
+        (69, too_large, Some(entry(0, Reason::TooLarge)), (0, 1)),
+        (70, Ended::Handed(0), None, (1, 0)),
     ] {
         let blank = SimpleBlank::new();
         let came = end_within::<Brand, HostRuntime>(rt, rt.alloc(), blank, max_body);

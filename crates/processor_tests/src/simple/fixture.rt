@@ -14,10 +14,11 @@ use std::sync::Wait;
 
 /// The body of a request with one such span as the tests start, which has ended at `END`.
 const BODY: &str = concat!(
-    "0a3e0a00123a0a030a0173",
-    "1233",
+    "0a440a0012400a030a0173",
+    "1239",
     "0a100102030405060708090a0b0c0d0e0f1012081112131415161718",
     "2a01613001390100000000000000410200000000000000",
+    "850101010000",
 );
 
 /// Asserts that these spans were handed, numbered from 1 on, each alone, once, with these outcomes.

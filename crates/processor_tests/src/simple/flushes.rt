@@ -119,7 +119,7 @@ where
     passes.push(other.join(&rt)).expect(&rt, "memory");
     let accounts = close(rt, processor, passes);
     assert!(rt; !accounts.exporter.flushed, "flushed within an export");
-    assert_equal(&rt, accounts.exporter.prepared, (70_071, 1));
+    assert_equal(&rt, accounts.exporter.prepared, (70_077, 1));
 }
 
 #[test]

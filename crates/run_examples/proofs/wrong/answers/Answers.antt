@@ -23,11 +23,11 @@ abbrev size-of : Answer → ℕ
 size-of (encoded number size) = size
 size-of _ = 0
 
-is-encoded : (refused : Bool) → encoded 1 126 ≡ (if refused then Answer.dropped 1 encode_memory else encoded 1 127) → ⊥
+is-encoded : (refused : Bool) → encoded 1 140 ≡ (if refused then Answer.dropped 1 encode_memory else encoded 1 141) → ⊥
 is-encoded true e = cc
-is-encoded false e = let s : 126 ≡ 127 = ap size-of e in omega (arith, s)
+is-encoded false e = let s : 140 ≡ 141 = ap size-of e in omega (arith, s)
 
-is-dropped : (refused : Bool) → Answer.dropped 1 too_large ≡ (if refused then Answer.dropped 1 encode_memory else encoded 1 127) → ⊥
+is-dropped : (refused : Bool) → Answer.dropped 1 too_large ≡ (if refused then Answer.dropped 1 encode_memory else encoded 1 141) → ⊥
 is-dropped true e = cc
 is-dropped false e = cc
 
@@ -41,7 +41,7 @@ returns c = record {
   take_refused = λ w. let e : not_taken ≡ taken 2 1 = (told-at 15 (Step.take 7) not_taken w).is in cc;
   too_few = λ w. let e : taken 2 0 ≡ taken 2 1 = (told-at 15 (Step.take 7) (taken 2 0) w).is in cc;
   same_number = λ w. let e : taken 1 1 ≡ taken 2 1 = (told-at 15 (Step.take 7) (taken 1 1) w).is in cc;
-  other_length = λ w. let i = told-at 10 Step.encode (encoded 1 126) w in is-encoded i.given.refused i.is;
+  other_length = λ w. let i = told-at 10 Step.encode (encoded 1 140) w in is-encoded i.given.refused i.is;
   too_large_though_it_fits = λ w. let i = told-at 10 Step.encode (Answer.dropped 1 too_large) w in is-dropped i.given.refused i.is;
   second_attempt = λ w. let i = told-at 11 (Step.attempt 0) (sent 1 2 Outcome.delivered) w in let e : sent 1 2 Outcome.delivered ≡ sent 1 1 i.given.outcome = i.is in cc;
   not_sent = λ w. let i = told-at 11 (Step.attempt 0) nothing w in let e : nothing ≡ sent 1 1 i.given.outcome = i.is in cc;
