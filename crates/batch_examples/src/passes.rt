@@ -1,14 +1,15 @@
 //! What passes know (profile).
 
-ghost use Rattle.std.specs.Prelude.{◌≡◌, ◌-◌, ◌^◌, [], ◌∷◌, true, false};
-ghost use Rattle.drop_model.specs.Dropped.{queue_full};
+ghost use Rattle.std.specs.Prelude.{◌≡◌, ◌-◌, ◌^◌, [], ◌∷◌, None, true, false};
+ghost use Rattle.drop_model.specs.Dropped.{abandoned, queue_full};
 ghost use Rattle.desk_examples.specs.Histories.{named, span_at};
 ghost use Rattle.pass_model.specs.Passes.{all_dropped, all_popped, all_accepted, all_tickets, drops, late_count, shutdown_count, tickets};
-ghost use Rattle.pass_model.specs.Clauses.{is_closed, numbers_below};
-ghost use Rattle.batch_model.specs.Clauses.{ToldOnlyWhereLeft, count_between, tickets_of};
+ghost use Rattle.pass_model.specs.Clauses.{CountsLate, NamesDrops, is_closed, numbers_below};
+ghost use Rattle.batch_model.specs.Batches.{abandon};
+ghost use Rattle.batch_model.specs.Clauses.{FlushesAreKept, QueuedAreAccounted, TicketsAreGiven, ToldOnlyWhereLeft, all_entries, count_between, tickets_of};
 ghost use Rattle.batch_model.specs.Holders.{after_flush, after_flushed, after_left, after_told_left};
 ghost use Rattle.batch_model.specs.Worker.{new_worker};
-ghost use Rattle.batch_examples.specs.Accounts.{both, drop_of_2, first, second};
+ghost use Rattle.batch_examples.specs.Accounts.{both, drop_of_2, first, out_with, second, worker_with};
 
 /// What two passes know together.
 pub fn together()
@@ -47,4 +48,17 @@ pub fn closings()
     ensures open { is_closed 4 (first ∷ []) ≡ false }
     // Without a shutdown a processor closes where there is no ticket left.
     ensures last { is_closed (2 ^ 64 - 1) (first ∷ []) ≡ true }
+{}
+
+/// What a processor of a queue of 2 spans comes to, where ticket 3's batch was not handed and is
+/// abandoned: nothing is left, and 4 is the next ticket.
+pub fn accounts()
+    ensures spans { QueuedAreAccounted [] both (abandon (worker_with (out_with None []))) }
+    ensures tickets { TicketsAreGiven 2 4 both }
+    ensures late { CountsLate 1 4 true both }
+    ensures flushes { FlushesAreKept [] both (abandon (worker_with (out_with None []))) }
+    // The entry of ticket 2 was popped, that of ticket 3 is left in the ledger.
+    ensures names { NamesDrops (named abandoned 3 ∷ [])
+        (record { queue_full = 1; encode_memory = 0; too_large = 0; abandoned = 1 })
+        (all_entries both (abandon (worker_with (out_with None [])))) (all_popped both) }
 {}

@@ -1,23 +1,23 @@
 -- How the accounts of a processor begin, and what they come to.
-use Rattle.std.proofs.Common.{◌≡◌, ℕ, ◌+◌, ◌≤◌, Bool, true, false, List, [], ◌∷◌, ◌++◌, length, sym, refl, ap, ◌∙◌, subst, arith}
+use Rattle.std.proofs.Common.{◌≡◌, ℕ, ◌+◌, ◌≤◌, Bool, false, List, [], ◌∷◌, ◌++◌, length, sym, refl, ap, ◌∙◌, subst, arith}
 use Rattle.std.specs.Prelude.{IsPermutation, Option, None}
-use Rattle.std.specs.List.{AllByRecursion, flat_map, range_with_len}
+use Rattle.std.specs.List.{AllByRecursion, flat_map}
 use Rattle.std.proofs.lemmas.List.{append-nil, append_assoc, length-append, nil_from_length}
-use Rattle.std.proofs.lemmas.List.Sorted.{IsPermutation-refl, IsPermutation-sym, IsPermutation-trans, IsPermutation-append_left, IsPermutation-append_right, IsPermutation-append_comm}
-use Rattle.std.proofs.lemmas.List.FromFn.{length-range_with_len}
+use Rattle.std.proofs.lemmas.List.Sorted.{IsPermutation-refl, IsPermutation-trans, IsPermutation-append_left, IsPermutation-append_right, IsPermutation-append_comm}
 use Rattle.account_book.specs.Accounts.{Replaces, Removes, Closes}
 use Rattle.account_book.proofs.Facts.{each_closed, each_map, each_removed, each_same, gathered_all, length_removed, nothing_of, one_removed, one_replaced, part_kept, part_removed}
 use Rattle.span_model.specs.Spans.{EndedSpan}
 use Rattle.drop_model.specs.Dropped.{Entry}
 use Rattle.desk_model.specs.Desks.{Desk, DeskConfig, drop_counts, new_desk}
 use Rattle.pass_model.specs.Passes.{Drop, PassAccount, accepted_spans, all_accepted, all_dropped, all_popped, dropped_entries, drops, new_account}
-use Rattle.pass_model.proofs.Lists.{counts_same}
-use Rattle.pass_model.proofs.Steps.{gives_closed, gives_new, late_closed, late_new}
-use Rattle.batch_model.specs.Worker.{BatchEnd, EndedBatch, OutBatch, WorkerAccount, dropped_spans, handed_out_spans, handed_spans, new_worker, numbers, out_spans, settled, dropped, spans_if_dropped, spans_if_settled, taken_spans, worker_entries}
-use Rattle.batch_model.specs.Clauses.{BatchesAreNumbered, FoundItFull, HandedAreCounted, NoneIsBelowAFloor, Origin, QueuedAreAccounted, AreFrom}
+use Rattle.pass_model.proofs.Steps.{gives_closed, gives_new, late_closed, late_new, names_same}
+use Rattle.batch_model.specs.Worker.{BatchEnd, EndedBatch, OutBatch, WorkerAccount, dropped_spans, handed_out_spans, handed_spans, new_worker, out_spans, settled, dropped, spans_if_dropped, spans_if_settled, taken_spans, worker_entries}
+use Rattle.batch_model.specs.Batches.{EndByWork, Origin}
+use Rattle.batch_model.specs.Clauses.{AreFrom, DropsFoundItFull, FoundItFull, IsAccounted, QueuedAreAccounted}
 use Rattle.batch_model.specs.Holders.{Holder, new_origin, pass, pass_account, pass_accounts, processor, worker, worker_account, worker_accounts}
-use Rattle.batch_model.specs.Kept.{Agrees, IsAccountOf, IsOf, KeepsFloor, Kept}
+use Rattle.batch_model.specs.Kept.{Agrees, IsAccountOf, IsOf, KeepsFloor, Kept, accepted}
 use Rattle.batch_model.proofs.Lists.{between-same}
+use Rattle.batch_model.proofs.Reasons.{none_full}
 
 -- ---- the end
 
@@ -35,12 +35,9 @@ agrees_closed desk w old done k c =
             (λ a all. each_map (FoundItFull queue (all_accepted old)) (FoundItFull queue (all_accepted done)) (drops a) still all) (each_closed (λ (a : PassAccount). AllByRecursion (FoundItFull queue (all_accepted old)) (drops a)) old done [] c k.queues.full);
       };
       tickets = gives_closed desk.next_ticket old done c k.tickets;
-      named =
+      names =
           let ws = worker_entries w in
-          IsPermutation-trans (all_dropped done ++ ws) (all_dropped old ++ ws) (desk.ledger ++ all_popped done) (IsPermutation-append_left ws (all_dropped done) (all_dropped old) names)
-          (IsPermutation-trans (all_dropped old ++ ws) (desk.ledger ++ all_popped old) (desk.ledger ++ all_popped done) k.named
-          (IsPermutation-append_right desk.ledger (all_popped old) (all_popped done) (IsPermutation-sym (all_popped done) (all_popped old) pops)));
-      counted = let ws = worker_entries w in k.counted ∙ counts_same (all_dropped done ++ ws) (all_dropped old ++ ws) (IsPermutation-append_left ws (all_dropped done) (all_dropped old) names);
+          names_same desk.ledger desk.dropped (all_dropped old ++ ws) (all_dropped done ++ ws) (all_popped old) (all_popped done) (IsPermutation-append_left ws (all_dropped done) (all_dropped old) names) pops k.names;
       late = late_closed desk.late desk.next_ticket desk.closed old done c k.late;
       floors = each_closed _ old done [] c k.floors;
       batches = k.batches;
@@ -57,6 +54,10 @@ module _ (origin said his : Origin) (marked : Bool) (desk : Desk) (all rest pass
   none_left =
       let few = k.few in let one = length_removed all (processor said) rest r in let two = length_removed rest (worker his w) passes q in let e = ap (λ (o : Origin). o.passes) said_is in
       nil_from_length left (omega arith)
+
+  -- the worker's account says what the processor's says
+  pub his_is : his ≡ said
+  his_is = (each_removed (IsOf origin) rest (worker his w) passes q (each_removed (IsOf origin) all (processor said) rest r k.origins).1).0 ∙ sym said_is
 
   worker_is : w ≡ k.account
   worker_is =
@@ -97,7 +98,7 @@ parted (b ∷ batches) = by_end b.ending refl (parted batches)
             subst (λ (l : List EndedSpan). IsPermutation (ss ++ all) l) (append_assoc hs ss ds) (IsPermutation-trans (ss ++ all) (ss ++ (hs ++ ds)) ((hs ++ ss) ++ ds) a b)
 
 module _ (origin : Origin) (desk : Desk) (passes : List PassAccount) (w : WorkerAccount) (x : IsAccountOf origin desk passes w) where
-  pub queued_are : w.out ≡ None → QueuedAreAccounted desk.waiting passes w
+  queued_are : w.out ≡ None → QueuedAreAccounted desk.waiting passes w
   queued_are none =
       let all = flat_map (λ (b : EndedBatch). b.spans) w.ended in
       let taken : taken_spans w ≡ all = ap (λ (o : Option OutBatch). all ++ out_spans o) none ∙ append-nil all in
@@ -106,18 +107,25 @@ module _ (origin : Origin) (desk : Desk) (passes : List PassAccount) (w : Worker
       subst (λ (l : List EndedSpan). IsPermutation (all_accepted passes) l) (append_assoc (handed_spans w) (dropped_spans w) desk.waiting)
       (IsPermutation-trans (all_accepted passes) (all ++ desk.waiting) ((handed_spans w ++ dropped_spans w) ++ desk.waiting) q p)
 
-  pub floors_are : NoneIsBelowAFloor desk.waiting passes
-  floors_are = each_map (λ (a : PassAccount). KeepsFloor desk.next_ticket desk.waiting (taken_spans w ++ desk.waiting) a.floor a.asked) (λ (a : PassAccount). AreFrom a.floor desk.waiting) passes (λ a f. f.above) x.agrees.floors
-
-  pub numbered_are : BatchesAreNumbered w
-  numbered_are =
-      let n : length (numbers w) ≡ desk.batches = ap length x.agrees.batches.numbered ∙ length-range_with_len 1 desk.batches in
-      x.agrees.batches.numbered ∙ ap (range_with_len 1) (sym n)
-
-  pub handed_are : w.out ≡ None → HandedAreCounted desk.handed w
+  handed_are : w.out ≡ None → desk.handed ≡ length (handed_spans w)
   handed_are none =
       let z : length (handed_out_spans w.out) ≡ 0 = ap (λ (o : Option OutBatch). length (handed_out_spans o)) none in
       let h = x.agrees.batches.handed in omega arith
+
+  -- where the worker's account is final
+  pub accounted : EndByWork origin w → IsAccounted origin desk passes w
+  accounted e = record {
+    spans = queued_are e.none_out;
+    tickets = record { given = x.agrees.tickets; full = subst (λ (c : DeskConfig). DropsFoundItFull c.queue passes) x.config x.agrees.queues.full };
+    names = record { all = x.agrees.names; not_full = none_full origin w e };
+    late = x.agrees.late;
+    batches = record { by_work = e; numbered = x.agrees.batches.numbered; rising = x.agrees.queues.rising; handed = handed_are e.none_out; settled = x.agrees.batches.fates_are };
+    flushes = record {
+      floors = each_map (λ (a : PassAccount). KeepsFloor desk.next_ticket desk.waiting (accepted desk w) a.floor a.asked) (λ (a : PassAccount). AreFrom a.floor desk.waiting) passes (λ a f. f.above) x.agrees.floors;
+      drained = λ is. (x.agrees.batches.drained is).1;
+      told = x.agrees.told;
+    };
+  }
 
 -- ---- the beginning
 
@@ -130,8 +138,10 @@ agrees_new config made accounts all = record {
     full = each_same new_account _ tt accounts all;
   };
   tickets = gives_new accounts all;
-  named = rw (nothing_of new_account dropped_entries refl accounts all, nothing_of new_account (λ (a : PassAccount). a.popped) refl accounts all) (IsPermutation-refl []);
-  counted = ap (λ (l : List Entry). drop_counts (l ++ [])) (sym (nothing_of new_account dropped_entries refl accounts all));
+  names = record {
+    named = rw (nothing_of new_account dropped_entries refl accounts all, nothing_of new_account (λ (a : PassAccount). a.popped) refl accounts all) (IsPermutation-refl []);
+    counted = ap (λ (l : List Entry). drop_counts (l ++ [])) (sym (nothing_of new_account dropped_entries refl accounts all));
+  };
   late = late_new accounts all;
   floors = each_same new_account _ (record { above = tt; floor_given = omega arith; asked_given = omega arith; mark_given = omega arith; behind = tt }) accounts all;
   batches = record { out = refl; taken = refl; numbered = refl; handed = refl; fates_are = refl; drained = λ h. cc };

@@ -13,11 +13,10 @@ use Rattle.desk_model.specs.Desks.{Desk, accepted_count, capped, drop_counts, is
 use Rattle.desk_model.proofs.Events.{counts-more}
 use Rattle.pass_model.specs.Passes as ends_of
 use Rattle.pass_model.specs.Passes.{Asked, Drop, PassAccount, SpanEnd, after_late, after_pop, all_dropped, all_popped, drop_in, dropped_entries, dropped_entry, entry_in, tickets}
-use Rattle.pass_model.specs.Clauses.{CountsLate}
-use Rattle.pass_model.proofs.Lists.{counts_same, names_more}
-use Rattle.pass_model.proofs.Steps.{closed_by, closes-last, gives_step, late_step, no_news, none_more, one_news, shut-closes}
+use Rattle.pass_model.specs.Clauses.{CountsLate, NamesDrops}
+use Rattle.pass_model.proofs.Steps.{closed_by, closes-last, gives_step, late_step, names_step, no_news, none_more, one_news, shut-closes}
 use Rattle.batch_model.specs.Worker.{WorkerAccount, taken_spans, worker_entries}
-use Rattle.batch_model.specs.Clauses.{AreFrom, DropsAreCounted, DropsAreNamed, FoundItFull}
+use Rattle.batch_model.specs.Clauses.{AreFrom, FoundItFull, all_entries}
 use Rattle.batch_model.specs.Holders.{after_flush, after_flushed, after_shutdown, after_told_left}
 use Rattle.batch_model.specs.Kept.{Agrees, KeepsFloor, accepted}
 use Rattle.batch_model.proofs.Lists.{between-all, between-append, grown_between}
@@ -36,22 +35,17 @@ pub record Keeps (desk desk' : Desk) (ss : List EndedSpan) : Type 0 where
 
 module _ (desk desk' : Desk) (w : WorkerAccount) (old new : List PassAccount) (a b : PassAccount) (r : Replaces old a b new) (k : Agrees desk old w)
     (es : List SpanEnd) (ss : List EndedSpan) (ps : List Entry) (n : QueueNews desk.next_ticket desk'.next_ticket es ss) (same : Keeps desk desk' ss) (ends : b.ends ≡ a.ends ++ es) (popped : b.popped ≡ a.popped ++ ps)
-    (found : AllByRecursion (FoundItFull desk.config.queue (accepted desk w)) (filter_map drop_in es)) (names : IsPermutation (filter_map dropped_entry es ++ desk.ledger) (desk'.ledger ++ ps)) (counts : desk'.dropped ≡ drop_counts ((all_dropped old ++ worker_entries w) ++ filter_map dropped_entry es))
+    (found : AllByRecursion (FoundItFull desk.config.queue (accepted desk w)) (filter_map drop_in es)) (names : IsPermutation (filter_map dropped_entry es ++ desk.ledger) (desk'.ledger ++ ps)) (counts : desk'.dropped ≡ drop_counts (all_entries old w ++ filter_map dropped_entry es))
     (late : CountsLate desk'.late desk'.next_ticket desk'.closed new) (tells : b.told_left ≡ true → w.left ≡ true) (one : KeepsFloor desk'.next_ticket (desk.waiting ++ ss) (accepted desk w ++ ss) b.floor b.asked) where
   dropped_is : dropped_entries b ≡ dropped_entries a ++ filter_map dropped_entry es
   dropped_is = ap (filter_map dropped_entry) ends ∙ filter_map-append dropped_entry a.ends es
 
-  named : DropsAreNamed desk'.ledger new w
-  named =
+  names_are : NamesDrops desk'.ledger desk'.dropped (all_entries new w) (all_popped new)
+  names_are =
       let all = gathered_replaced dropped_entries old a b new (filter_map dropped_entry es) r dropped_is in
       let out = gathered_replaced (λ (x : PassAccount). x.popped) old a b new ps r popped in
-      names_more (all_dropped old ++ worker_entries w) (all_dropped new ++ worker_entries w) (filter_map dropped_entry es) desk.ledger desk'.ledger (all_popped old) (all_popped new) ps
-      (grown_between (all_dropped old) (all_dropped new) (filter_map dropped_entry es) (worker_entries w) all) out k.named names
-
-  counted : DropsAreCounted desk'.dropped new w
-  counted =
-      let all = gathered_replaced dropped_entries old a b new (filter_map dropped_entry es) r dropped_is in
-      counts ∙ counts_same (all_dropped new ++ worker_entries w) ((all_dropped old ++ worker_entries w) ++ filter_map dropped_entry es) (grown_between (all_dropped old) (all_dropped new) (filter_map dropped_entry es) (worker_entries w) all)
+      names_step desk.ledger desk'.ledger desk.dropped desk'.dropped (all_entries old w) (all_entries new w) (all_popped old) (all_popped new) (filter_map dropped_entry es) ps
+      (grown_between (all_dropped old) (all_dropped new) (filter_map dropped_entry es) (worker_entries w) all) out names counts k.names
 
   accepted_is : accepted desk' w ≡ accepted desk w ++ ss
   accepted_is = ap (λ (xs : List EndedSpan). taken_spans w ++ xs) same.waiting ∙ sym (append_assoc (taken_spans w) desk.waiting ss)
@@ -60,8 +54,7 @@ module _ (desk desk' : Desk) (w : WorkerAccount) (old new : List PassAccount) (a
   agrees_pass = record {
     queues = rw (same.config, accepted_is) (queues_step desk.next_ticket desk'.next_ticket es ss n old new a b r ends desk.config.queue (accepted desk w) k.queues found);
     tickets = gives_step desk.next_ticket desk'.next_ticket es n.news old new a b r ends k.tickets;
-    named = named;
-    counted = counted;
+    names = names_are;
     late = late;
     floors = rw (same.waiting, sym (append_assoc (taken_spans w) desk.waiting ss)) (floors_step desk.next_ticket desk'.next_ticket desk.waiting (accepted desk w) ss old new a b r n.news.grows n.spans_from k.floors one);
     batches = record {
@@ -100,8 +93,8 @@ module _ (desk : Desk) (w : WorkerAccount) (old new : List PassAccount) (a b : P
   same_ledger : IsPermutation ([] ++ desk.ledger) (desk.ledger ++ [])
   same_ledger = subst (λ (es : List Entry). IsPermutation desk.ledger es) (sym (append-nil desk.ledger)) (IsPermutation-refl desk.ledger)
 
-  same_counts : desk.dropped ≡ drop_counts ((all_dropped old ++ worker_entries w) ++ [])
-  same_counts = k.counted ∙ ap drop_counts (sym (append-nil (all_dropped old ++ worker_entries w)))
+  same_counts : desk.dropped ≡ drop_counts (all_entries old w ++ [])
+  same_counts = k.names.counted ∙ ap drop_counts (sym (append-nil (all_entries old w)))
 
   same_late : b.late ≡ a.late → b.shutdowns ≡ a.shutdowns → CountsLate desk.late desk.next_ticket desk.closed new
   same_late l d =
@@ -201,9 +194,9 @@ module _ (desk : Desk) (w : WorkerAccount) (old new : List PassAccount) (a b : P
       let below = (each_split (λ (s : EndedSpan). s.ticket < desk.next_ticket) (taken_spans w) desk.waiting k.queues.below).1 in
       let all = between-all d.floor d.span.ticket desk.waiting (subst (λ (n : ℕ). AreFrom n desk.waiting) (sym floor) floor_of.above) (subst (λ (n : ℕ). AllByRecursion (λ (s : EndedSpan). s.ticket < n) desk.waiting) (sym ticket) below) in
       let found : FoundItFull desk.config.queue (accepted desk w) d = omega arith in
-      let had = all_dropped old ++ worker_entries w in
+      let had = all_entries old w in
       let one_more : with_drops queue_full 1 desk.dropped ≡ drop_counts (had ++ entry_in d ∷ []) =
-      ap (with_drops queue_full 1) k.counted ∙ sym (counts-more queue_full had (s ∷ [])) ∙ ap (λ (e : Entry). drop_counts (had ++ e ∷ [])) (sym named) in
+      ap (with_drops queue_full 1) k.names.counted ∙ sym (counts-more queue_full had (s ∷ [])) ∙ ap (λ (e : Entry). drop_counts (had ++ e ∷ [])) (sym named) in
       subst (λ (x : Desk). Agrees x new w) (sym is)
       (agrees_pass desk (record desk { next_ticket = desk.next_ticket + 1; closed = desk.next_ticket + 1 == 2 ^ 64 - 1; ledger = entry_in d ∷ desk.ledger; dropped = with_drops queue_full 1 desk.dropped }) w old new a b r k (ends_of.dropped d ∷ []) [] []
       (record { news = one_news desk.next_ticket (ends_of.dropped d) ticket; spans = refl; spans_rise = tt; spans_from = tt; spans_upto = tt })

@@ -8,8 +8,8 @@ use Rattle.span_model.specs.Spans.{EndedSpan}
 use Rattle.drop_model.specs.Dropped.{Reason, queue_full, encode_memory, too_large, Entry, entry_of}
 use Rattle.export_model.specs.Export.{LacksBody}
 use Rattle.retry_model.specs.Retries.{Outcome}
-use Rattle.batch_model.specs.Worker.{BatchEnd, settled, dropped, EndedBatch, OutBatch, WorkerAccount, entries_by}
-use Rattle.batch_model.specs.Clauses.{EndByWork, IsByWork, IsEndByWork, NoneFoundItFull, Origin, abandon, abandon_out, end_of}
+use Rattle.batch_model.specs.Worker.{BatchEnd, settled, dropped, EndedBatch, OutBatch, WorkerAccount, entries_by, worker_entries}
+use Rattle.batch_model.specs.Batches.{EndByWork, IsByWork, IsEndByWork, Origin, abandon_out, end_of}
 
 abbrev NotFull : Entry → Type 0
 NotFull e = e.reason ≢ queue_full
@@ -44,10 +44,7 @@ out_not_full None = tt
 out_not_full (Some b) = each_append NotFull (entries_by (end_of b.body b.outcomes) b.spans) [] (abandoned_not_full b.spans b.body b.outcomes) tt
 
 -- work drops none as if it had found the queue full, and who abandons a batch doesn't either
-pub none_full : (origin : Origin) (w : WorkerAccount) → EndByWork origin w → NoneFoundItFull (abandon w)
+pub none_full : (origin : Origin) (w : WorkerAccount) → EndByWork origin w → AllByRecursion NotFull (worker_entries w)
 none_full origin w k =
-    let ended : AllByRecursion NotFull (flat_map entries_in w.ended) =
     subst (AllByRecursion NotFull) (sym (ap (flat_map entries_in) k.ended ∙ flat_map-append entries_in k.earlier (abandon_out k.last)))
-    (each_append NotFull (flat_map entries_in k.earlier) (flat_map entries_in (abandon_out k.last)) (ended_not_full origin k.earlier k.by_work) (out_not_full k.last)) in
-    subst (AllByRecursion NotFull) (sym (flat_map-append entries_in w.ended (abandon_out w.out)))
-    (each_append NotFull (flat_map entries_in w.ended) (flat_map entries_in (abandon_out w.out)) ended (out_not_full w.out))
+    (each_append NotFull (flat_map entries_in k.earlier) (flat_map entries_in (abandon_out k.last)) (ended_not_full origin k.earlier k.by_work) (out_not_full k.last))

@@ -13,10 +13,11 @@ use Rattle.retry_model.specs.Retries.{Outcome, Fate}
 use Rattle.desk_model.specs.Desks.{Desk, drop_counts, fate_counts, handed_out, out_size, with_drops, with_fate}
 use Rattle.desk_model.proofs.Events.{counts-more, fates-more}
 use Rattle.pass_model.specs.Passes.{PassAccount, all_dropped, all_popped}
+use Rattle.pass_model.specs.Clauses.{NamesDrops}
 use Rattle.pass_model.proofs.Lists.{range-more}
 use Rattle.batch_model.specs.Worker.{BatchEnd, EndedBatch, OutBatch, WorkerAccount, entries_by, fate_in, fates, handed_out_spans, handed_spans, numbers, out_number, out_spans, spans_if_settled, spans_with, taken_spans, worker_entries}
 use Rattle.batch_model.specs.Worker as batches
-use Rattle.batch_model.specs.Clauses.{AreFrom, DropsAreCounted, DropsAreNamed}
+use Rattle.batch_model.specs.Clauses.{AreFrom, all_entries}
 use Rattle.batch_model.specs.Holders.{after_drained, after_drop, after_handed, after_left, after_settle, after_take, ended_with, handed_with, settled_with}
 use Rattle.batch_model.specs.Kept.{Agrees, Batches, KeepsFloor, accepted, shown_out}
 use Rattle.batch_model.proofs.Lists.{each_drop}
@@ -30,7 +31,7 @@ pub record Stays (desk desk' : Desk) : Type 0 where
   pub left : ℕ
   pub waiting : desk'.waiting ≡ drop left desk.waiting
 
-module _ (desk desk' : Desk) (u v : WorkerAccount) (passes : List PassAccount) (k : Agrees desk passes u) (same : Stays desk desk') (kept : accepted desk' v ≡ accepted desk u) (named : DropsAreNamed desk'.ledger passes v) (counted : DropsAreCounted desk'.dropped passes v) (batches : Batches desk' v) (leaves : u.left ≡ true → v.left ≡ true) where
+module _ (desk desk' : Desk) (u v : WorkerAccount) (passes : List PassAccount) (k : Agrees desk passes u) (same : Stays desk desk') (kept : accepted desk' v ≡ accepted desk u) (names : NamesDrops desk'.ledger desk'.dropped (all_entries passes v) (all_popped passes)) (batches : Batches desk' v) (leaves : u.left ≡ true → v.left ≡ true) where
   floor_stays : (a : PassAccount) → KeepsFloor desk.next_ticket desk.waiting (accepted desk u) a.floor a.asked → KeepsFloor desk'.next_ticket desk'.waiting (accepted desk u) a.floor a.asked
   floor_stays a f = record {
     above = subst (AreFrom a.floor) (sym same.waiting) (each_drop (λ (s : EndedSpan). a.floor ≤ s.ticket) same.left desk.waiting f.above);
@@ -44,8 +45,7 @@ module _ (desk desk' : Desk) (u v : WorkerAccount) (passes : List PassAccount) (
   agrees_worker = record {
     queues = rw (same.config, same.next, kept) k.queues;
     tickets = rw (same.next) k.tickets;
-    named = named;
-    counted = counted;
+    names = names;
     late = rw (same.late, same.next, same.closed) k.late;
     floors = subst (λ (ss : List EndedSpan). AllByRecursion (λ (a : PassAccount). KeepsFloor desk'.next_ticket desk'.waiting ss a.floor a.asked) passes) (sym kept)
         (each_map (λ (a : PassAccount). KeepsFloor desk.next_ticket desk.waiting (accepted desk u) a.floor a.asked) (λ (a : PassAccount). KeepsFloor desk'.next_ticket desk'.waiting (accepted desk u) a.floor a.asked) passes floor_stays k.floors);
@@ -86,7 +86,7 @@ module _ (desk : Desk) (u : WorkerAccount) (passes : List PassAccount) (k : Agre
       let kept : accepted desk' v ≡ accepted desk u = append_assoc settled_spans spans desk'.waiting ∙ ap (λ (l : List EndedSpan). settled_spans ++ l) whole ∙ ap (λ (l : List EndedSpan). l ++ desk.waiting) (sym had) in
       agrees_worker desk desk' u v passes k
       (record { config = ap (λ (d : Desk). d.config) is; next = ap (λ (d : Desk). d.next_ticket) is; closed = ap (λ (d : Desk). d.closed) is; late = ap (λ (d : Desk). d.late) is; left = n; waiting = rest }) kept
-      (subst (λ (l : List Entry). DropsAreNamed l passes v) (sym (ap (λ (d : Desk). d.ledger) is)) k.named) (ap (λ (d : Desk). d.dropped) is ∙ k.counted)
+      (rw (ap (λ (d : Desk). d.ledger) is, ap (λ (d : Desk). d.dropped) is) k.names)
       (record {
         out = ap (λ (d : Desk). d.out) is;
         taken = ap (λ (d : Desk). d.taken) is ∙ ap (λ (m : ℕ). m + length spans) (k.batches.taken ∙ ap length had) ∙ sym (length-append settled_spans spans);
@@ -115,7 +115,7 @@ module _ (desk : Desk) (u : WorkerAccount) (passes : List PassAccount) (k : Agre
         let same_taken : taken_spans v ≡ taken_spans u = ap (λ (o : Option OutBatch). settled_spans ++ out_spans (handed_with body o)) out ∙ sym had in
         subst (λ (d : Desk). Agrees d passes v) (sym is)
         (agrees_worker desk (record desk { out = handed_out desk.out; handed = desk.handed + out_size desk.out }) u v passes k
-        (record { config = refl; next = refl; closed = refl; late = refl; left = 0; waiting = refl }) (ap (λ (l : List EndedSpan). l ++ desk.waiting) same_taken) k.named k.counted
+        (record { config = refl; next = refl; closed = refl; late = refl; left = 0; waiting = refl }) (ap (λ (l : List EndedSpan). l ++ desk.waiting) same_taken) k.names
         (record {
           out = ap handed_out (k.batches.out ∙ ap shown_out out) ∙ sym (ap (λ (o : Option OutBatch). shown_out (handed_with body o)) out);
           taken = k.batches.taken ∙ sym (ap length same_taken);
@@ -158,15 +158,15 @@ module _ (desk : Desk) (u : WorkerAccount) (passes : List PassAccount) (k : Agre
         let ended : v.ended ≡ u.ended ++ e ∷ [] = ap (λ (o : Option OutBatch). u.ended ++ ended_with (λ _. batches.dropped reason) o) out in
         let taken = same_taken v e ended refl refl refl in
         let desk2 = record desk { out = None; ledger = reverse m ++ desk.ledger; dropped = with_drops reason (length b.spans) desk.dropped } in
-        let names : DropsAreNamed (reverse m ++ desk.ledger) passes v =
+        let names : IsPermutation (all_entries passes v) ((reverse m ++ desk.ledger) ++ all_popped passes) =
         subst (λ (l : List Entry). IsPermutation (all_dropped passes ++ l) ((reverse m ++ desk.ledger) ++ all_popped passes)) (sym (entries_more v e ended refl refl refl))
-        (names_on (all_dropped passes) (worker_entries u) m desk.ledger (all_popped passes) k.named) in
-        let had = all_dropped passes ++ worker_entries u in
-        let counted : with_drops reason (length b.spans) desk.dropped ≡ drop_counts (all_dropped passes ++ worker_entries v) =
-        ap (with_drops reason (length b.spans)) k.counted ∙ sym (counts-more reason had b.spans) ∙ ap drop_counts (append_assoc (all_dropped passes) (worker_entries u) m ∙ ap (λ (l : List Entry). all_dropped passes ++ l) (sym (entries_more v e ended refl refl refl))) in
+        (names_on (all_dropped passes) (worker_entries u) m desk.ledger (all_popped passes) k.names.named) in
+        let had = all_entries passes u in
+        let counted : with_drops reason (length b.spans) desk.dropped ≡ drop_counts (all_entries passes v) =
+        ap (with_drops reason (length b.spans)) k.names.counted ∙ sym (counts-more reason had b.spans) ∙ ap drop_counts (append_assoc (all_dropped passes) (worker_entries u) m ∙ ap (λ (l : List Entry). all_dropped passes ++ l) (sym (entries_more v e ended refl refl refl))) in
         subst (λ (d : Desk). Agrees d passes v) (sym is)
         (agrees_worker desk desk2 u v passes k
-        (record { config = refl; next = refl; closed = refl; late = refl; left = 0; waiting = refl }) (ap (λ (l : List EndedSpan). l ++ desk.waiting) taken) names counted
+        (record { config = refl; next = refl; closed = refl; late = refl; left = 0; waiting = refl }) (ap (λ (l : List EndedSpan). l ++ desk.waiting) taken) (record { named = names; counted = counted })
         (record {
           out = refl;
           taken = k.batches.taken ∙ sym (ap length taken);
@@ -185,11 +185,11 @@ module _ (desk : Desk) (u : WorkerAccount) (passes : List PassAccount) (k : Agre
         let ended : v.ended ≡ u.ended ++ e ∷ [] = ap (λ (o : Option OutBatch). u.ended ++ ended_with (λ x. settled_with outcomes fate x.body) o) out ∙ ap (λ (o : Option (List ℕ)). u.ended ++ record { number = b.number; spans = b.spans; ending = settled_with outcomes fate o } ∷ []) sent in
         let taken = same_taken v e ended refl refl refl in
         let desk2 = record desk { out = None; fates = with_fate fate desk.fates } in
-        let names : DropsAreNamed desk.ledger passes v =
-        subst (λ (l : List Entry). IsPermutation (all_dropped passes ++ l) (desk.ledger ++ all_popped passes)) (sym (entries_more v e ended refl refl refl ∙ append-nil (worker_entries u))) k.named in
+        let names : NamesDrops desk.ledger desk.dropped (all_entries passes v) (all_popped passes) =
+        subst (λ (l : List Entry). NamesDrops desk.ledger desk.dropped (all_dropped passes ++ l) (all_popped passes)) (sym (entries_more v e ended refl refl refl ∙ append-nil (worker_entries u))) k.names in
         subst (λ (d : Desk). Agrees d passes v) (sym is)
         (agrees_worker desk desk2 u v passes k
-        (record { config = refl; next = refl; closed = refl; late = refl; left = 0; waiting = refl }) (ap (λ (l : List EndedSpan). l ++ desk.waiting) taken) names (k.counted ∙ ap (λ (l : List Entry). drop_counts (all_dropped passes ++ l)) (sym (entries_more v e ended refl refl refl ∙ append-nil (worker_entries u))))
+        (record { config = refl; next = refl; closed = refl; late = refl; left = 0; waiting = refl }) (ap (λ (l : List EndedSpan). l ++ desk.waiting) taken) names
         (record {
           out = refl;
           taken = k.batches.taken ∙ sym (ap length taken);
@@ -206,12 +206,12 @@ module _ (desk : Desk) (u : WorkerAccount) (passes : List PassAccount) (k : Agre
 
   pub drained_agrees : desk.closed ≡ true → desk.waiting ≡ [] → Agrees desk passes (after_drained u)
   drained_agrees closed none =
-      agrees_worker desk desk u (after_drained u) passes k (record { config = refl; next = refl; closed = refl; late = refl; left = 0; waiting = refl }) refl k.named k.counted
+      agrees_worker desk desk u (after_drained u) passes k (record { config = refl; next = refl; closed = refl; late = refl; left = 0; waiting = refl }) refl k.names
       (record { out = k.batches.out; taken = k.batches.taken; numbered = k.batches.numbered; handed = k.batches.handed; fates_are = k.batches.fates_are; drained = λ _. (closed, none) }) (λ is. is)
 
   -- ---- the worker leaves
 
   pub left_agrees : Agrees desk passes (after_left u)
   left_agrees =
-      agrees_worker desk desk u (after_left u) passes k (record { config = refl; next = refl; closed = refl; late = refl; left = 0; waiting = refl }) refl k.named k.counted
+      agrees_worker desk desk u (after_left u) passes k (record { config = refl; next = refl; closed = refl; late = refl; left = 0; waiting = refl }) refl k.names
       (record { out = k.batches.out; taken = k.batches.taken; numbered = k.batches.numbered; handed = k.batches.handed; fates_are = k.batches.fates_are; drained = k.batches.drained }) (λ is. refl)

@@ -3,11 +3,11 @@ use Rattle.std.specs.Prelude.{◌≡◌, ℕ, ◌+◌, ◌<◌, ◌≤◌, Bool,
 use Rattle.std.specs.List.{AllByRecursion, range_with_len}
 use Rattle.span_model.specs.Spans.{EndedSpan}
 use Rattle.desk_model.specs.Desks as desks
-use Rattle.desk_model.specs.Desks.{Desk}
-use Rattle.pass_model.specs.Passes.{Asked, PassAccount, Rises, all_accepted}
-use Rattle.pass_model.specs.Clauses.{CountsLate, GivesTickets}
-use Rattle.batch_model.specs.Worker.{WorkerAccount, OutBatch, taken_spans, handed_spans, handed_out_spans, numbers}
-use Rattle.batch_model.specs.Clauses.{Origin, AreFrom, DropsAreCounted, DropsAreNamed, DropsFoundItFull, FatesAreCounted, ToldOnlyWhereLeft, tickets_of}
+use Rattle.desk_model.specs.Desks.{Desk, fate_counts}
+use Rattle.pass_model.specs.Passes.{Asked, PassAccount, Rises, all_accepted, all_popped}
+use Rattle.pass_model.specs.Clauses.{CountsLate, GivesTickets, NamesDrops}
+use Rattle.batch_model.specs.Worker.{WorkerAccount, OutBatch, taken_spans, handed_spans, handed_out_spans, fates, numbers}
+use Rattle.batch_model.specs.Clauses.{Origin, AreFrom, DropsFoundItFull, ToldOnlyWhereLeft, all_entries, tickets_of}
 use Rattle.batch_model.specs.Holders.{Holder, processor, pass, worker, pass_accounts, worker_accounts}
 
 -- what a desk shows of the batch that is out
@@ -53,15 +53,14 @@ pub record Batches (desk : Desk) (account : WorkerAccount) : Type 0 where
   pub numbered : numbers account ≡ range_with_len 1 desk.batches
   pub handed : desk.handed
       ≡ length (handed_spans account) + length (handed_out_spans account.out)
-  pub fates_are : FatesAreCounted desk.fates account
+  pub fates_are : desk.fates ≡ fate_counts (fates account)
   pub drained : account.drained ≡ true → (desk.closed ≡ true) × (desk.waiting ≡ [])
 
 -- what is so of all
 pub record Agrees (desk : Desk) (passes : List PassAccount) (account : WorkerAccount) : Type 0 where
   pub queues : Queues desk.config.queue desk.next_ticket passes (accepted desk account)
   pub tickets : GivesTickets desk.next_ticket passes
-  pub named : DropsAreNamed desk.ledger passes account
-  pub counted : DropsAreCounted desk.dropped passes account
+  pub names : NamesDrops desk.ledger desk.dropped (all_entries passes account) (all_popped passes)
   pub late : CountsLate desk.late desk.next_ticket desk.closed passes
   pub floors : KeepsFloors desk.next_ticket desk.waiting (accepted desk account) passes
   pub batches : Batches desk account

@@ -5,7 +5,7 @@ use Rattle.message_model.specs.Messages.{body_meaning}
 use Rattle.span_model.specs.Spans.{EndedSpan}
 use Rattle.export_model.specs.Export.{groups, grouped_triples}
 use Rattle.otlp_proto.specs.Bodies.{body_bytes}
-use Rattle.batch_model.specs.Clauses.{IsBodyOf, canonical_body}
+use Rattle.batch_model.specs.Batches.{IsBodyOf, canonical_body}
 
 same_bytes : (spans : List EndedSpan) → body_bytes (groups spans) ≡ canonical_body spans
 unfolding body_bytes canonical_body

@@ -16,7 +16,7 @@ use Rattle.retry_model.proofs.Again.{again-few}
 use Rattle.span_exporter.specs.Handed.{Handed, Gains, handing}
 use Rattle.batch_desk.specs.Batch.{BatchView}
 use Rattle.batch_model.specs.Worker.{EndedBatch, OutBatch, WorkerAccount, settled, dropped}
-use Rattle.batch_model.specs.Clauses.{EachLeadsOn, EndByWork, IsByWork, IsOutByWork, IsSent, IsSentSoFar, LeadsTo, Origin, abandon}
+use Rattle.batch_model.specs.Clauses.{EachLeadsOn, EndByWork, IsByWork, IsOutByWork, IsSent, IsSentSoFar, LeadsTo, Origin, abandon, abandon_out}
 use Rattle.batch_model.specs.Holders.{Holder, after_drained, after_drop, after_handed, after_left, after_settle, after_take, ended_with, handed_with, on_worker, origin_in, settled_with, worker, worker_in}
 use Rattle.batch_processor.specs.Holds.{IsBatchOf, IsBatchSize, IsHandedBatchOf}
 use Rattle.batch_processor.specs.Working.{GoesOn, Hand, HandStage, HasLeft, HasRoom, IsExported, IsPassWith, IsPrepared, IsReady, IsStage, IsWorking, MayBeSent, IsWorkingWith, StepsAside, TakesStep, Work, WorkerState, attempts_by, attempts_from, attempts_of, attempts_out, attempts_with, encoded_at, hand_at, handed_at, in_hand, outcomes_out, pending_at, to_encode, to_judge, to_retry, to_send, with_outcomes, work_in, work_of}
@@ -351,37 +351,26 @@ pass_works left state hand here k = record { left_is = k.here ∙ sym here; work
 pub pass_left : (state : WorkerState) (hand : Option Hand) → state.account.left ≡ true → HasLeft state hand → IsPassWith true state hand
 pass_left state hand is h = record { left_is = is; works = λ e. cc; has_left = λ _. h }
 
--- how the batches of a worker ended that hasn't left
-works_end : (origin : Origin) (w : WorkerAccount) → w.left ≡ false → AllByRecursion (IsByWork origin) w.ended → EndByWork origin w
-works_end origin w here by_work = record {
-  earlier = w.ended;
-  last = None;
-  ended = sym (append-nil w.ended);
-  by_work = by_work;
-  out = tt;
-  here = λ _. refl;
-  gone = λ is. stays_here w here is;
+-- how the batches of a worker ended, once the batch that is out is abandoned
+pub pass_end : (left : Bool) (state : WorkerState) (hand : Option Hand) → IsPassWith left state hand → EndByWork state.origin (abandon (work_in state hand).account)
+pass_end true state hand k =
+    let e = (k.has_left refl).batches in
+    record {
+      earlier = e.earlier;
+      last = e.last;
+      ended = ap (λ (o : Option OutBatch). state.account.ended ++ abandon_out (with_outcomes (state.outcomes ++ in_hand [] pending_at hand) o)) e.none_out ∙ append-nil state.account.ended ∙ e.ended;
+      by_work = e.by_work;
+      out = e.out;
+      none_out = refl;
+    }
+pass_end false state hand k = record {
+  earlier = state.account.ended;
+  last = (work_in state hand).account.out;
+  ended = refl;
+  by_work = (k.works refl).by_work;
+  out = out_by_work state.origin state.account state.outcomes hand (k.works refl);
+  none_out = refl;
 }
-
--- the attempts of the batch that is out are no matter
-same_end : (origin : Origin) (w : WorkerAccount) (outcomes : List Outcome) → EndByWork origin w → EndByWork origin (record w { out = with_outcomes outcomes w.out })
-same_end origin w outcomes k = record {
-  earlier = k.earlier;
-  last = k.last;
-  ended = k.ended;
-  by_work = k.by_work;
-  out = k.out;
-  here = k.here;
-  gone = λ is. ap (with_outcomes outcomes) (k.gone is);
-}
-
-pub pass_end : (left : Bool) (state : WorkerState) (hand : Option Hand) → IsPassWith left state hand → EndByWork state.origin (work_in state hand).account
-pass_end true state hand k = same_end state.origin state.account (state.outcomes ++ in_hand [] pending_at hand) (k.has_left refl).batches
-pass_end false state hand k = same_end state.origin state.account (state.outcomes ++ in_hand [] pending_at hand) (let w = k.works refl in works_end state.origin state.account w.here w.by_work)
-
-pub pass_out : (left : Bool) (state : WorkerState) (hand : Option Hand) → IsPassWith left state hand → IfSome (work_in state hand).account.out (IsOutByWork state.origin)
-pass_out true state hand k = subst (λ (o : Option OutBatch). IfSome (with_outcomes (state.outcomes ++ in_hand [] pending_at hand) o) (IsOutByWork state.origin)) (sym ((k.has_left refl).batches.gone k.left_is)) tt
-pass_out false state hand k = out_by_work state.origin state.account state.outcomes hand (k.works refl)
 
 -- it leaves, with a batch in hand and without one
 pub leaves_with : (state : WorkerState) (hand : Hand) → IsWorkingWith state (Some hand)
@@ -395,8 +384,7 @@ leaves_with state hand k = pass_left (record state { account = after_left (aband
     ended = refl;
     by_work = k.by_work;
     out = out_by_work state.origin state.account state.outcomes (Some hand) k;
-    here = λ is. cc;
-    gone = λ is. refl;
+    none_out = refl;
   };
 })
 

@@ -1,13 +1,12 @@
 //! The batch processor.
-ghost use Rattle.std.specs.Prelude.{◌≡◌, ℕ, ◌-◌, ◌^◌, ◌<◌, ◌≤◌, ◌++◌, ◌↔◌, ◌⊎◌, IfErr, IfOk, IfSome, IsErrOf, MatchResult, OnOk, vec_len, None, true};
+ghost use Rattle.std.specs.Prelude.{◌≡◌, ◌<◌, ◌≤◌, ◌↔◌, ◌⊎◌, IfErr, IfOk, IsErrOf, MatchResult, OnOk, vec_len, None};
 ghost use Rattle.std.specs.List.{AllByRecursion};
 ghost use Rattle.pass_model.specs.Passes.{new_account};
 ghost use Rattle.batch_model.specs.Worker.{new_worker};
 ghost use Rattle.batch_model.specs.Holders.{pass};
 ghost use Rattle.batch_processor.specs.Views.{setup_view};
 ghost use Rattle.batch_processor.specs.declared.processor.TheConstants.{MAX_PASSES};
-ghost use Rattle.pass_model.specs.Clauses.{LateAfterShutdown, LateAreCounted, TicketsAreGivenOnce, TicketsRise, is_closed};
-ghost use Rattle.batch_model.specs.Clauses.{BatchesAreNumbered, DropsAreCounted, DropsAreNamed, EndByWork, HandedAreCounted, IsOutByWork, DropsFoundItFull, DrainedLeavesNone, FatesAreCounted, NoneFoundItFull, NoneIsBelowAFloor, QueuedAreAccounted, TicketsRiseThrough, ToldOnlyWhereLeft, abandon};
+ghost use Rattle.batch_model.specs.Clauses.{IsAccounted, abandon};
 
 use crate::config::{BatchConfig, Setup};
 use crate::fault::NewFault;
@@ -89,34 +88,10 @@ impl<J: Naming, R: Wait + Drop, A: Allocator + Copy> BatchProcessor<J, R, A> {
             (λ _. self.passes ≤ vec_len passes) (λ _. vec_len passes < self.passes) }
         ensures given_back { IfErr result
             (λ m. (m.processor ≡ self) × (m.passes ≡ passes) × (m.worker ≡ worker)) }
-        ensures spans { IfOk result (λ a.
-            QueuedAreAccounted a.desk.waiting passes.items (abandon worker.account)) }
-        ensures tickets { IfOk result (λ a. TicketsAreGivenOnce a.desk.next_ticket passes.items) }
-        ensures rising { IfOk result (λ a. TicketsRise passes.items) }
-        ensures full { IfOk result (λ a. DropsFoundItFull self.desk.queue passes.items) }
-        ensures names { IfOk result (λ a.
-            DropsAreNamed a.desk.ledger passes.items (abandon worker.account)) }
-        ensures not_full { OnOk result (NoneFoundItFull (abandon worker.account)) }
-        ensures dropped { IfOk result (λ a.
-            DropsAreCounted a.desk.dropped passes.items (abandon worker.account)) }
-        ensures late { IfOk result (λ a. LateAreCounted a.desk.late passes.items) }
-        ensures late_after { IfOk result
-            (λ a. LateAfterShutdown a.desk.next_ticket passes.items) }
-        ensures closed { IfOk result
-            (λ a. a.desk.closed ≡ is_closed a.desk.next_ticket passes.items) }
-        ensures batches { IfOk result (λ a.
-            TicketsRiseThrough a.desk.waiting (abandon worker.account)) }
-        ensures numbered { OnOk result (BatchesAreNumbered (abandon worker.account)) }
-        ensures handed { IfOk result (λ a.
-            HandedAreCounted a.desk.handed (abandon worker.account)) }
-        ensures fates { IfOk result (λ a.
-            FatesAreCounted a.desk.fates (abandon worker.account)) }
-        ensures by_work { OnOk result (EndByWork worker.origin worker.account) }
-        ensures out { OnOk result (IfSome worker.account.out (IsOutByWork worker.origin)) }
-        ensures floors { IfOk result (λ a. NoneIsBelowAFloor a.desk.waiting passes.items) }
-        ensures drained { IfOk result (λ a.
-            DrainedLeavesNone a.desk.waiting (abandon worker.account)) }
-        ensures told { OnOk result (ToldOnlyWhereLeft passes.items worker.account) }
+        ensures origin { OnOk result (worker.origin ≡ self) }
+        // A batch that is out is abandoned, and that is the worker's final account.
+        ensures accounts { IfOk result
+            (λ a. IsAccounted self a.desk passes.items (abandon worker.account)) }
     {
         if passes.len() < self.setup.passes {
             return Err(Missing {

@@ -304,7 +304,8 @@ impl<J: Naming, A: Allocator + Copy> Shared<J, A> {
         requires processor { account ≡ processor (origin_in account) }
         requires worker { his ≡ worker (origin_in his) (worker_in his) }
         requires all { (origin_in account).passes ≤ vec_len passes }
-        ensures { IsAccountOf (origin_in account) result passes.items (worker_in his) }
+        ensures origin { origin_in his ≡ origin_in account }
+        ensures accounts { IsAccountOf (origin_in account) result passes.items (worker_in his) }
     {
         self.book.recognize(&mut account);
         let Some(desk) = self.desk.take() else {

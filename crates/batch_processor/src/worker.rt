@@ -1,8 +1,8 @@
 //! The worker's pass: turns of work, and what becomes of a batch in hand where it is let go.
-ghost use Rattle.std.specs.Prelude.{◌≡◌, IfOk, IfSome, IsTrue, None, true, false};
+ghost use Rattle.std.specs.Prelude.{◌≡◌, IfOk, IsTrue, None, true, false};
 ghost use Rattle.retry_model.specs.Waits.{IsRetryConfig};
 ghost use Rattle.batch_model.specs.Worker.{new_worker};
-ghost use Rattle.batch_model.specs.Clauses.{EndByWork, IsOutByWork, abandon};
+ghost use Rattle.batch_model.specs.Clauses.{EndByWork, abandon};
 ghost use Rattle.batch_model.specs.Holders.{after_left, worker};
 ghost use Rattle.batch_processor.specs.Views.{setup_view};
 ghost use Rattle.batch_processor.specs.Working.{GoesOn, IsPrepared};
@@ -202,8 +202,7 @@ impl<J: Naming, R: Wait + Drop, A: Allocator + Copy> WorkerPass<J, R, A> {
     /// Abandons the batch in hand, if there is one, as `leave` does.
     pub(crate) fn abandon(self) -> Account<J, Holding>
         ensures account { result ≡ worker self.origin (abandon self.account) }
-        ensures by_work { EndByWork self.origin self.account }
-        ensures out { IfSome self.account.out (IsOutByWork self.origin) }
+        ensures by_work { EndByWork self.origin (abandon self.account) }
     {
         let WorkerPass {
             mut worker,

@@ -1,16 +1,17 @@
--- What one more step of a pass does to what the lock keeps of tickets and of late spans, with what
--- that begins, and what it comes to.
-use Rattle.std.proofs.Common.{◌≡◌, ℕ, zero, suc, ◌+◌, ◌-◌, ◌^◌, ◌<◌, ◌≤◌, Bool, true, false, List, [], ◌∷◌, ◌++◌, sym, refl, ap, ◌∙◌, subst, arith}
+-- What one more step of a pass does to what the lock keeps of tickets, of late spans and of names,
+-- with what that begins, and what it comes to.
+use Rattle.std.proofs.Common.{◌≡◌, ℕ, ◌+◌, ◌-◌, ◌^◌, ◌<◌, ◌≤◌, Bool, true, false, List, [], ◌∷◌, ◌++◌, sym, refl, ap, ◌∙◌, subst, arith}
 use Rattle.std.specs.Prelude.{IsPermutation, map, ◌==◌, ◌||◌, nat_lt}
 use Rattle.std.specs.List.{AllByRecursion}
 use Rattle.std.proofs.lemmas.List.{append-nil, map-append}
-use Rattle.std.proofs.lemmas.List.Sorted.{IsPermutation-refl, IsPermutation-trans}
+use Rattle.std.proofs.lemmas.List.Sorted.{IsPermutation-refl, IsPermutation-sym, IsPermutation-trans, IsPermutation-append_right}
 use Rattle.account_book.specs.Accounts.{Closes, Replaces}
 use Rattle.account_book.proofs.Facts.{each_append, each_at, each_closed, each_map, each_replaced, each_same, gathered_all, gathered_replaced, nothing_of, sum_all, sum_replaced, zero_of}
-use Rattle.desk_model.specs.Desks.{capped}
+use Rattle.drop_model.specs.Dropped.{Entry}
+use Rattle.desk_model.specs.Desks.{DropCounts, capped, drop_counts}
 use Rattle.pass_model.specs.Passes.{PassAccount, Rises, SpanEnd, all_tickets, late_count, new_account, shutdown_count, ticket_of, tickets}
-use Rattle.pass_model.specs.Clauses.{CountsLate, GivesTickets, LateAfterShutdown, numbers_below}
-use Rattle.pass_model.proofs.Lists.{below-more, rises-append, same_more, still-below}
+use Rattle.pass_model.specs.Clauses.{CountsLate, GivesTickets, NamesDrops, numbers_below}
+use Rattle.pass_model.proofs.Lists.{below-more, counts_same, names_more, rises-append, same_more, still-below}
 
 -- ---- tickets
 
@@ -124,10 +125,21 @@ late_closed late next closed old done c k = record {
   closed_is = k.closed_is ∙ ap (closed_by next) (sum_all (λ (a : PassAccount). a.shutdowns) old done c);
 }
 
--- those that are late are so behind a shutdown, while there are tickets
-pub late_after : (late next : ℕ) (closed : Bool) (passes : List PassAccount) → CountsLate late next closed passes → LateAfterShutdown next passes
-late_after late next closed passes k some few = shut (shutdown_count passes) next few (sym k.closed_is ∙ k.late_if_closed some)
-  where
-    shut : (n count : ℕ) → count < 2 ^ 64 - 1 → closed_by count n ≡ true → 0 < n
-    shut zero count few is = grind (arith)
-    shut (suc n) count few is = omega arith
+-- ---- names of dropped spans
+
+-- some more are dropped and named, and some are popped
+pub names_step : (ledger ledger' : List Entry) (counts counts' : DropCounts) (dropped dropped' popped popped' ds ps : List Entry) → IsPermutation dropped' (dropped ++ ds) → IsPermutation popped' (popped ++ ps) → IsPermutation (ds ++ ledger) (ledger' ++ ps)
+    → counts' ≡ drop_counts (dropped ++ ds) → NamesDrops ledger counts dropped popped → NamesDrops ledger' counts' dropped' popped'
+names_step ledger ledger' counts counts' dropped dropped' popped popped' ds ps more gone step counted k = record {
+  named = names_more dropped dropped' ds ledger ledger' popped popped' ps more gone k.named step;
+  counted = counted ∙ counts_same dropped' (dropped ++ ds) more;
+}
+
+-- the same entries in another order
+pub names_same : (ledger : List Entry) (counts : DropCounts) (dropped dropped' popped popped' : List Entry) → IsPermutation dropped' dropped → IsPermutation popped' popped → NamesDrops ledger counts dropped popped → NamesDrops ledger counts dropped' popped'
+names_same ledger counts dropped dropped' popped popped' same out k = record {
+  named =
+      IsPermutation-trans dropped' dropped (ledger ++ popped') same
+      (IsPermutation-trans dropped (ledger ++ popped) (ledger ++ popped') k.named (IsPermutation-append_right ledger popped popped' (IsPermutation-sym popped' popped out)));
+  counted = k.counted ∙ counts_same dropped' dropped same;
+}

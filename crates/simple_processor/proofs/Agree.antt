@@ -11,8 +11,7 @@ use Rattle.span_exporter.specs.Handed.{Handed, Gains}
 use Rattle.account_book.specs.Accounts.{Replaces}
 use Rattle.account_book.proofs.Facts.{length_replaced, gathered_replaced, each_append, each_at, each_replaced, part_replaced, replaces_told}
 use Rattle.pass_model.specs.Passes.{SpanEnd, PassAccount, accepted_span, accepted_spans, all_accepted, all_dropped, all_popped, drop_in, dropped_entries, dropped_entry, drops}
-use Rattle.pass_model.proofs.Lists.{counts_same, names_more}
-use Rattle.pass_model.proofs.Steps.{News, closed_by, gives_step, late_step}
+use Rattle.pass_model.proofs.Steps.{News, closed_by, gives_step, late_step, names_step}
 use Rattle.simple_processor.specs.Bodies.{Fits, LacksItsBody, attempt_in, attempt_of_span, fates_of}
 use Rattle.simple_processor.specs.Desk.{State, drops_in, ticket_count}
 use Rattle.simple_processor.specs.Holders.{Origin, Holder, account_in, on_pass, pass, pass_account, pass_accounts}
@@ -69,9 +68,6 @@ module _ (had told told' : Option (List Handed)) (s s' : State) (old new : List 
   count_is : length (all_accepted new) ≡ length (all_accepted old) + length (filter_map accepted_span st.es)
   count_is = sym (length_permutation (all_accepted new) (all_accepted old ++ filter_map accepted_span st.es) all_accepted_is) ∙ length-append (all_accepted old) (filter_map accepted_span st.es)
 
-  drops_is : drop_counts (all_dropped new) ≡ drops_in s'
-  drops_is = sym (counts_same (all_dropped new) (all_dropped old ++ filter_map dropped_entry st.es) all_dropped_is) ∙ st.dropped (all_dropped old) k.dropped
-
   abbrev Lack : ℕ → PassAccount → Type 0
   Lack most x = AllByRecursion (LacksItsBody most) (drops x)
 
@@ -93,8 +89,8 @@ module _ (had told told' : Option (List Handed)) (s s' : State) (old new : List 
     fates = st.fates k.bodies k.fates;
     handed = let e = count_is in let f = st.handed in let h = k.handed in omega arith;
     tickets = gives_step (ticket_count s) (ticket_count s') st.es st.news old new a b r st.ends k.tickets;
-    names = names_more (all_dropped old) (all_dropped new) (filter_map dropped_entry st.es) s.ledger s'.ledger (all_popped old) (all_popped new) st.ps all_dropped_is all_popped_is k.names st.names;
-    dropped = drops_is;
+    names = names_step s.ledger s'.ledger (drops_in s) (drops_in s') (all_dropped old) (all_dropped new) (all_popped old) (all_popped new) (filter_map dropped_entry st.es) st.ps all_dropped_is all_popped_is st.names
+        (sym (st.dropped (all_dropped old) (sym k.names.counted))) k.names;
     lacking = subst (λ (most : ℕ). AllByRecursion (Lack most) new) (sym st.max_body) lacking_is;
     late = late_step (ticket_count s) (ticket_count s') s.late s'.late s.closed s'.closed old new a b r k.late st.lates st.shuts st.late st.shutdowns st.counted st.late_if_closed st.closed;
   }

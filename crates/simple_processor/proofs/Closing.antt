@@ -3,19 +3,20 @@ use Rattle.std.proofs.Common.{◌≡◌, ℕ, ◌+◌, ◌≤◌, List, [], ◌�
 use Rattle.std.specs.Prelude.{IsPermutation, Option, Some, None, OnSome, map, drop}
 use Rattle.std.specs.List.{AllByRecursion}
 use Rattle.std.proofs.lemmas.List.{nil_from_length, drop_at}
-use Rattle.std.proofs.lemmas.List.Sorted.{IsPermutation-refl, IsPermutation-sym, IsPermutation-trans, IsPermutation-map, IsPermutation-append_right, length_permutation}
+use Rattle.std.proofs.lemmas.List.Sorted.{IsPermutation-refl, IsPermutation-trans, IsPermutation-map, length_permutation}
 use Rattle.drop_model.specs.Dropped.{Entry}
-use Rattle.desk_model.specs.Desks.{capped, drop_counts, fate_counts}
+use Rattle.desk_model.specs.Desks.{drop_counts, fate_counts}
+use Rattle.drop_ledger.specs.Counts.{drop_counts_view}
 use Rattle.batch_desk.specs.Views.{fate_counts_view}
 use Rattle.batch_desk.specs.declared.totals.Totals.{Totals}
 use Rattle.span_exporter.specs.Handed.{Handed, Gains}
 use Rattle.account_book.specs.Accounts.{Replaces, Removes, Closes}
 use Rattle.account_book.proofs.Facts.{each_closed, each_removed, each_same, gathered_all, length_removed, nothing_of, one_replaced, part_kept}
-use Rattle.pass_model.specs.Passes.{PassAccount, accepted_spans, all_accepted, all_dropped, all_popped, dropped_entries, drops, late_count, new_account}
-use Rattle.pass_model.proofs.Lists.{counts_same}
-use Rattle.pass_model.proofs.Steps.{gives_closed, gives_new, late_closed, late_new}
+use Rattle.pass_model.specs.Passes.{PassAccount, accepted_spans, all_accepted, all_dropped, all_popped, dropped_entries, drops, new_account}
+use Rattle.pass_model.specs.Clauses.{CountsLate, GivesTickets, NamesDrops}
+use Rattle.pass_model.proofs.Steps.{gives_closed, gives_new, late_closed, late_new, names_same}
 use Rattle.simple_processor.specs.Bodies.{Fits, LacksItsBody, attempt_in, attempt_of_span, fates_of, told_since}
-use Rattle.simple_processor.specs.Desk.{State, new_state, ticket_count}
+use Rattle.simple_processor.specs.Desk.{State, drops_in, new_state, ticket_count}
 use Rattle.simple_processor.specs.Holders.{Origin, Holder, new_origin, pass, pass_account, pass_accounts, processor}
 use Rattle.simple_processor.specs.Kept.{Agrees, IsAccountOf, IsOf, Kept, given_tickets}
 use Rattle.simple_processor.proofs.Ends.{gains_nothing}
@@ -31,8 +32,10 @@ agrees_new had max_body accounts all = record {
   fates = refl;
   handed = ap length (sym (nothing_of new_account accepted_spans refl accounts all));
   tickets = gives_new accounts all;
-  names = subst (λ (es : List Entry). IsPermutation es (all_popped accounts)) (sym (nothing_of new_account dropped_entries refl accounts all)) (subst (λ (es : List Entry). IsPermutation [] es) (sym (nothing_of new_account (λ (a : PassAccount). a.popped) refl accounts all)) (IsPermutation-refl []));
-  dropped = ap drop_counts (nothing_of new_account dropped_entries refl accounts all);
+  names = record {
+    named = rw (nothing_of new_account dropped_entries refl accounts all, nothing_of new_account (λ (a : PassAccount). a.popped) refl accounts all) (IsPermutation-refl []);
+    counted = ap drop_counts (sym (nothing_of new_account dropped_entries refl accounts all));
+  };
   lacking = each_same new_account _ tt accounts all;
   late = late_new accounts all;
 }
@@ -79,10 +82,7 @@ agrees_closed had told s old done k c =
       fates = k.fates;
       handed = k.handed ∙ length_permutation (all_accepted done) (all_accepted old) spans;
       tickets = gives_closed (ticket_count s) old done c k.tickets;
-      names = IsPermutation-trans (all_dropped done) (all_dropped old) (s.ledger ++ all_popped done) names
-          (IsPermutation-trans (all_dropped old) (s.ledger ++ all_popped old) (s.ledger ++ all_popped done) k.names
-          (IsPermutation-append_right s.ledger (all_popped old) (all_popped done) (IsPermutation-sym (all_popped done) (all_popped old) (gathered_all (λ (a : PassAccount). a.popped) old done c))));
-      dropped = sym (counts_same (all_dropped done) (all_dropped old) names) ∙ k.dropped;
+      names = names_same s.ledger (drops_in s) (all_dropped old) (all_dropped done) (all_popped old) (all_popped done) names (gathered_all (λ (a : PassAccount). a.popped) old done c) k.names;
       lacking = each_closed _ old done [] c k.lacking;
       late = late_closed s.late (ticket_count s) s.closed old done c k.late;
     }
@@ -125,7 +125,7 @@ module _ (origin : Origin) (told : Option (List Handed)) (t : Totals) (ledger : 
   abbrev had : Option (List Handed)
   had = origin.had
 
-  pub count_is : ticket_count x.state ≡ given_tickets t
+  count_is : ticket_count x.state ≡ given_tickets t
   count_is = let a = x.totals.handed in let b = ap (λ d. d.encode_memory) x.totals.dropped in let m = ap (λ d. d.too_large) x.totals.dropped in omega arith
 
   pub spans_are : OnSome told (IsPermutation (map attempt_of_span (all_accepted accounts)) (map attempt_in (told_since had told)))
@@ -140,5 +140,11 @@ module _ (origin : Origin) (told : Option (List Handed)) (t : Totals) (ledger : 
   pub lacking_are : AllByRecursion (λ (a : PassAccount). AllByRecursion (LacksItsBody origin.max_body) (drops a)) accounts
   lacking_are = subst (λ (most : ℕ). AllByRecursion (λ (a : PassAccount). AllByRecursion (LacksItsBody most) (drops a)) accounts) x.max_body x.agrees.lacking
 
-  pub late_is : t.late ≡ capped (late_count accounts)
-  late_is = x.totals.late ∙ x.agrees.late.counted
+  pub tickets_are : GivesTickets (given_tickets t) accounts
+  tickets_are = subst (λ (n : ℕ). GivesTickets n accounts) count_is x.agrees.tickets
+
+  pub names_are : NamesDrops ledger (drop_counts_view t.dropped) (all_dropped accounts) (all_popped accounts)
+  names_are = rw (x.ledger_is, x.totals.dropped) x.agrees.names
+
+  pub late_are : CountsLate t.late (given_tickets t) t.closed accounts
+  late_are = subst (λ (n : ℕ). CountsLate t.late n t.closed accounts) count_is (rw (x.totals.late, x.totals.closed) x.agrees.late)

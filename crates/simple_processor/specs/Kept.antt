@@ -1,11 +1,11 @@
 -- How what lies under the lock stands to the accounts. (profile)
-use Rattle.std.specs.Prelude.{◌≡◌, ℕ, ◌+◌, ◌≤◌, List, [], ◌++◌, length, map, IsPermutation, Option, Some, None}
+use Rattle.std.specs.Prelude.{◌≡◌, ℕ, ◌+◌, ◌≤◌, List, [], length, map, IsPermutation, Option, Some, None}
 use Rattle.std.specs.List.{AllByRecursion}
 use Rattle.drop_model.specs.Dropped.{Entry}
-use Rattle.desk_model.specs.Desks.{drop_counts, fate_counts}
+use Rattle.desk_model.specs.Desks.{fate_counts}
 use Rattle.span_exporter.specs.Handed.{Handed, Gains}
 use Rattle.pass_model.specs.Passes.{PassAccount, drops, all_accepted, all_dropped, all_popped}
-use Rattle.pass_model.specs.Clauses.{CountsLate, GivesTickets}
+use Rattle.pass_model.specs.Clauses.{CountsLate, GivesTickets, NamesDrops}
 use Rattle.simple_processor.specs.Bodies.{Fits, LacksItsBody, attempt_in, attempt_of_span, fates_of}
 use Rattle.simple_processor.specs.Desk.{State, AreTotals, drops_in, ticket_count}
 use Rattle.batch_desk.specs.declared.totals.Totals.{Totals}
@@ -26,8 +26,7 @@ pub record Agrees (had told : Option (List Handed)) (s : State) (accounts : List
   pub fates : s.fates ≡ fate_counts (fates_of bodies)
   pub handed : s.handed ≡ length (all_accepted accounts)
   pub tickets : GivesTickets (ticket_count s) accounts
-  pub names : IsPermutation (all_dropped accounts) (s.ledger ++ all_popped accounts)
-  pub dropped : drop_counts (all_dropped accounts) ≡ drops_in s
+  pub names : NamesDrops s.ledger (drops_in s) (all_dropped accounts) (all_popped accounts)
   pub lacking : AllByRecursion
       (λ (a : PassAccount). AllByRecursion (LacksItsBody s.max_body) (drops a)) accounts
   pub late : CountsLate s.late (ticket_count s) s.closed accounts

@@ -1,12 +1,12 @@
 //! The simple processor.
-ghost use Rattle.std.specs.Prelude.{◌≡◌, ◌-◌, ◌^◌, ◌<◌, ◌≤◌, ◌++◌, ◌↔◌, ◌⊎◌, IfErr, IfOk, IsErrOf, IsPermutation, MatchResult, OnOk, OnSome, length, map, vec_len};
+ghost use Rattle.std.specs.Prelude.{◌≡◌, ◌<◌, ◌≤◌, ◌↔◌, ◌⊎◌, IfErr, IfOk, IsErrOf, IsPermutation, MatchResult, OnOk, OnSome, length, map, vec_len};
 ghost use Rattle.std.specs.List.{AllByRecursion};
 ghost use Rattle.span_exporter.specs.Handed.{Gains};
-ghost use Rattle.desk_model.specs.Desks.{capped, drop_counts, fate_counts};
+ghost use Rattle.desk_model.specs.Desks.{fate_counts};
 ghost use Rattle.drop_ledger.specs.Counts.{drop_counts_view};
 ghost use Rattle.batch_desk.specs.Views.{fate_counts_view};
-ghost use Rattle.pass_model.specs.Passes.{PassAccount, Rises, drops, all_accepted, all_dropped, all_popped, all_tickets, late_count, new_account, shutdown_count, tickets};
-ghost use Rattle.pass_model.specs.Clauses.{is_closed, numbers_below};
+ghost use Rattle.pass_model.specs.Passes.{PassAccount, drops, all_accepted, all_dropped, all_popped, new_account};
+ghost use Rattle.pass_model.specs.Clauses.{CountsLate, GivesTickets, NamesDrops};
 ghost use Rattle.simple_processor.specs.Bodies.{Fits, LacksItsBody, attempt_in, attempt_of_span, fates_of, told_since};
 ghost use Rattle.simple_processor.specs.Holders.{pass};
 ghost use Rattle.simple_processor.specs.Kept.{given_tickets};
@@ -99,7 +99,7 @@ pub struct SimpleMissing<J: Naming, E: Exporter, R, A: Allocator = Global> {
     pub passes: Vec<SimplePass<J, E, R, A>, A>,
 }
 
-impl<J: Naming, E: Exporter, R: Wait + Copy, A: Allocator + Copy> SimpleProcessor<J, E, R, A> {
+impl<J: Naming, E: Exporter, R: Copy, A: Allocator + Copy> SimpleProcessor<J, E, R, A> {
     /// A processor over this exporter, with so many passes, 1 to [`MAX_PASSES`]. A span whose body
     /// would have more than `max_body` bytes is dropped (profile). The blank becomes its accounts:
     /// a type parameter stands for its name, and so for this one processor.
@@ -160,7 +160,9 @@ impl<J: Naming, E: Exporter, R: Wait + Copy, A: Allocator + Copy> SimpleProcesso
             passes: all,
         })
     }
+}
 
+impl<J: Naming, E: Exporter, R: Wait + Copy, A: Allocator + Copy> SimpleProcessor<J, E, R, A> {
     /// Ends the processor, once all its passes are back, and answers what they come to.
     ///
     /// # Errors
@@ -189,35 +191,28 @@ impl<J: Naming, E: Exporter, R: Wait + Copy, A: Allocator + Copy> SimpleProcesso
         ensures fits { IfOk result (λ a. OnSome (E.handed a.exporter) (AllByRecursion
             (Fits self.max_body) (told_since self.had (E.handed a.exporter)))) }
 
-        // Tickets are given once, and rise on each pass.
         ensures tickets { IfOk result (λ a.
-            IsPermutation (all_tickets passes.items) (numbers_below (given_tickets a.totals))) }
-        ensures rising { OnOk result
-            (AllByRecursion (λ (a : PassAccount). Rises (tickets a)) passes.items) }
+            GivesTickets (given_tickets a.totals) passes.items) }
 
         // A dropped span is named in the ledger, until its entry is popped. It has no body alone:
         // memory was refused, or the body would be longer than it may be.
-        ensures entries { IfOk result (λ a.
-            IsPermutation (all_dropped passes.items) (a.ledger ++ all_popped passes.items)) }
-        ensures dropped { IfOk result (λ a.
-            drop_counts_view a.totals.dropped ≡ drop_counts (all_dropped passes.items)) }
+        ensures names { IfOk result (λ a.
+            NamesDrops a.ledger (drop_counts_view a.totals.dropped)
+            (all_dropped passes.items) (all_popped passes.items)) }
         ensures lacking { OnOk result (AllByRecursion
             (λ (a : PassAccount). AllByRecursion (LacksItsBody self.max_body) (drops a))
             passes.items) }
         ensures only_without_body { IfOk result (λ a. (a.totals.dropped.queue_full ≡ 0)
             × (a.totals.dropped.abandoned ≡ 0)) }
 
+        // Spans are late where none is admitted any more: after a shutdown, or without tickets.
+        ensures late { IfOk result (λ a. CountsLate a.totals.late (given_tickets a.totals)
+            a.totals.closed passes.items) }
+
         ensures handed { IfOk result
             (λ a. a.totals.handed ≡ length (all_accepted passes.items)) }
         ensures accepted { IfOk result (λ a. (a.totals.accepted ≡ a.totals.handed)
             × (a.totals.taken ≡ a.totals.handed) × (a.totals.left ≡ 0)) }
-
-        // Spans are late where none is admitted any more: after a shutdown, or without tickets.
-        ensures late { IfOk result (λ a. a.totals.late ≡ capped (late_count passes.items)) }
-        ensures late_after_shutdown { IfOk result (λ a. 0 < a.totals.late
-            → given_tickets a.totals < 2 ^ 64 - 1 → 0 < shutdown_count passes.items) }
-        ensures closed { IfOk result (λ a.
-            a.totals.closed ≡ is_closed (given_tickets a.totals) passes.items) }
     {
         if passes.len() < self.passes {
             return Err(SimpleMissing {

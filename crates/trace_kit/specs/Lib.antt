@@ -58,6 +58,7 @@ pub use Rattle.simple_processor.specs.Kept as PassKept
 pub use Rattle.simple_processor.specs.Holders as PassHolders
 pub use Rattle.batch_model.specs.Worker as BatchWorker
 pub use Rattle.batch_model.specs.Holders as BatchHolders
+pub use Rattle.batch_model.specs.Batches as BatchSends
 pub use Rattle.batch_model.specs.Clauses as BatchClauses
 pub use Rattle.batch_processor.specs.Views as BatchViews
 pub use Rattle.batch_processor.specs.Answers as BatchAnswers

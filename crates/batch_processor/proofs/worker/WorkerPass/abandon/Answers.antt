@@ -1,15 +1,11 @@
 use Rattle.std.proofs.Common.{subst}
-use Rattle.std.specs.Prelude.{IfSome}
-use Rattle.batch_model.specs.Clauses.{EndByWork, IsOutByWork}
+use Rattle.batch_model.specs.Clauses.{EndByWork, abandon}
 use Rattle.batch_processor.specs.Working.{Work}
-use Rattle.batch_processor.proofs.Turns.{pass_end, pass_out}
+use Rattle.batch_processor.proofs.Turns.{pass_end}
 use Rattle.batch_processor.proofs.worker.WorkerPass.abandon.Goals as goal
 
 pub returns-in-Some-clause-by_work : goal.returns-in-Some-clause-by_work
-returns-in-Some-clause-by_work g c = subst (λ (w : Work). EndByWork w.origin w.account) c.self.view_is (pass_end c.self.inside.left c.self.inside.worker c.self.inside.in_hand c.self.invariant)
-
-pub returns-in-Some-clause-out : goal.returns-in-Some-clause-out
-returns-in-Some-clause-out g c = subst (λ (w : Work). IfSome w.account.out (IsOutByWork w.origin)) c.self.view_is (pass_out c.self.inside.left c.self.inside.worker c.self.inside.in_hand c.self.invariant)
+returns-in-Some-clause-by_work g c = subst (λ (w : Work). EndByWork w.origin (abandon w.account)) c.self.view_is (pass_end c.self.inside.left c.self.inside.worker c.self.inside.in_hand c.self.invariant)
 
 pub returns-in-None-clause-by_work : goal.returns-in-None-clause-by_work
-returns-in-None-clause-by_work g c = subst (λ (w : Work). EndByWork w.origin w.account) c.self.view_is (pass_end c.self.inside.left c.self.inside.worker c.self.inside.in_hand c.self.invariant)
+returns-in-None-clause-by_work g c = subst (λ (w : Work). EndByWork w.origin (abandon w.account)) c.self.view_is (pass_end c.self.inside.left c.self.inside.worker c.self.inside.in_hand c.self.invariant)
