@@ -1,19 +1,17 @@
 -- What the calls of the desk do to what the lock keeps.
 use Rattle.std.proofs.Common.{◌≡◌, ℕ, zero, suc, ◌+◌, ◌^◌, ◌<◌, ◌≤◌, Bool, true, false, List, [], ◌∷◌, ◌++◌, length, take, drop, min, sym, refl, ap, ◌∙◌, subst, arith}
-use Rattle.std.specs.Prelude.{Contains, Option, Some, None, ◌==◌, ◌*◌, ◌&&◌, ◌||◌, nat_le, nat_lt, is_some, if◌then◌else◌, map, reverse, slice_get, option_map}
-use Rattle.std.specs.List.{AllByRecursion}
+use Rattle.std.specs.Prelude.{Contains, Option, Some, None, Ok, Err, ◌==◌, ◌*◌, ◌&&◌, ◌||◌, nat_le, nat_lt, is_some, if◌then◌else◌, map, reverse, slice_get, option_map}
 use Rattle.std.proofs.lemmas.Bool.{eqb-true, ltb-true}
 use Rattle.std.proofs.lemmas.List.{length-map, length-take}
-use Rattle.std.proofs.lemmas.List.Elements.{All-contains, All-from_recursion}
 use Rattle.account_book.specs.Accounts.{Replaces}
 use Rattle.span_model.specs.Spans.{EndedSpan, with_ticket}
 use Rattle.drop_model.specs.Dropped.{Entry, queue_full, entry_of}
-use Rattle.desk_model.specs.Desks.{Desk, DeskConfig, accepted_count, is_due, with_drops}
+use Rattle.desk_model.specs.Desks.{Desk, DeskConfig, OutBatch, accepted_count, is_due, is_flushed, with_drops}
 use Rattle.batch_desk.specs.Batch.{BatchView, NamedView}
 use Rattle.batch_desk.specs.Desk.{IsNamedOut, IsOut, admission, after_admission, after_drop, after_names, after_take, next_batch, out_state}
 use Rattle.batch_desk.specs.declared.admitted.Admitted.{Admitted}
 use Rattle.batch_desk.specs.declared.admitted.Admitted.TheVariants as admitted
-use Rattle.pass_model.specs.Passes.{PassAccount, tickets}
+use Rattle.pass_model.specs.Passes.{PassAccount}
 use Rattle.batch_model.specs.Worker.{WorkerAccount}
 use Rattle.batch_model.specs.Clauses.{Origin}
 use Rattle.batch_model.specs.Holders as holders
@@ -22,8 +20,10 @@ use Rattle.batch_model.specs.Kept.{Agrees, Kept, shown_out}
 use Rattle.batch_model.proofs.Holding.{agrees_there, origin_there}
 use Rattle.batch_model.proofs.Passes.{full_agrees, late_agrees, queued_agrees}
 use Rattle.batch_model.proofs.Workers.{take_agrees}
-use Rattle.batch_processor.specs.Holds.{Asks, IsBatchSize, IsHandedBatchOf, IsNamedBatchOf, Shuts}
-use Rattle.batch_processor.specs.Views.{after_end, ended_of, is_batch_answer}
+use Rattle.batch_processor.specs.Holds.{Asks, Guarded, InHold, IsBatchSize, IsHandedBatchOf, IsNamedBatchOf, IsTold, Shuts, desk_of}
+use Rattle.batch_processor.specs.declared.fault.WorkerLeft.{WorkerLeft}
+use Rattle.batch_processor.specs.declared.pass.Flushed.{Flushed}
+use Rattle.batch_processor.specs.Views.{after_end, ended_of}
 
 -- ---- a span ends
 
@@ -61,11 +61,6 @@ pub admit_config : (desk desk' : Desk) (answer : Admitted) (span : EndedSpan) �
 admit_config desk desk' (admitted.Queued ticket) span is = ap (λ (d : Desk). d.config) is
 admit_config desk desk' (admitted.Full ticket) span is = ap (λ (d : Desk). d.config) is
 admit_config desk desk' admitted.Late span is = ap (λ (d : Desk). d.config) is
-
-pub is_answer : (answer : Admitted) → is_batch_answer (ended_of answer) ≡ true
-is_answer (admitted.Queued ticket) = refl
-is_answer (admitted.Full ticket) = refl
-is_answer admitted.Late = refl
 
 -- ---- a batch is taken
 
@@ -112,26 +107,59 @@ popped_first desk desk' entry first is = by_list desk.ledger first ∙ ap (λ (l
 pub popped_is : (desk desk' : Desk) → desk' ≡ record desk { ledger = drop 1 desk.ledger } → desk' ≡ record desk { ledger = desk'.ledger }
 popped_is desk desk' is = is ∙ ap (λ (l : List Entry). record desk { ledger = l }) (sym (ap (λ (d : Desk). d.ledger) is))
 
--- ---- what a pass asked for
+-- ---- what is guarded
 
-each_part : (P : PassAccount → Type 0) (holders : List Holder) → AllByRecursion P (pass_accounts holders) → AllByRecursion (λ (h : Holder). (a : PassAccount) → h ≡ pass a → P a) holders
-each_part P [] all = tt
-each_part P (pass b ∷ holders) all = ((λ a is. subst P (ap account_in is) all.0), each_part P holders all.1)
-each_part P (processor o ∷ holders) all = ((λ a is. cc), each_part P holders all)
-each_part P (worker o w ∷ holders) all = ((λ a is. cc), each_part P holders all)
+pub guarded_some : (o : Option Desk) (left : Bool) (desk : Desk) (g : Guarded) → record { desk = desk_of o; left = left } ≡ g → o ≡ Some desk → g ≡ record { desk = desk; left = left }
+guarded_some o left desk g view is = sym view ∙ ap (λ (x : Option Desk). record { desk = desk_of x; left = left }) is
 
-module _ (origin : Origin) (left : Bool) (desk seen : Desk) (holders : List Holder) (h known h' : Holder) (mark : ℕ) (k : Kept origin left desk holders) (there : Contains holders h) (is : h ≡ pass (account_in h)) (same : known ≡ h) (desk_is : seen ≡ desk) (mark_is : mark ≡ accepted_count desk) where
-  above : AllByRecursion (λ t. t < seen.next_ticket) (tickets (account_in h))
-  above =
-      let P : PassAccount → Type 0 = λ a. AllByRecursion (λ t. t < desk.next_ticket) (tickets a) in let Q : Holder → Type 0 = λ x. (a : PassAccount) → x ≡ pass a → P a in
-      subst (λ (d : Desk). AllByRecursion (λ t. t < d.next_ticket) (tickets (account_in h))) (sym desk_is)
-      (All-contains Q holders h (All-from_recursion Q holders (each_part P holders k.agrees.tickets.below)) there (account_in h) is)
+-- the desk was changed, and nothing else
+pub desk_changed : (f : Desk → Desk) (o : Option Desk) (left : Bool) (desk desk' : Desk) (g : Guarded) → record { desk = desk_of o; left = left } ≡ g → o ≡ Some desk → desk' ≡ f desk → record { desk = desk'; left = left } ≡ record g { desk = f g.desk }
+desk_changed f o left desk desk' g view is came =
+    let now = guarded_some o left desk g view is in
+    ap (λ (d : Desk). record { desk = d; left = left }) came ∙ sym (ap (λ (x : Guarded). record x { desk = f x.desk }) now)
 
-  pub asks_of : h' ≡ on_pass (after_flush seen.next_ticket (accepted_count seen)) known → Asks mark h h'
-  asks_of told = record { next = seen.next_ticket; account = told ∙ ap (on_pass (after_flush seen.next_ticket (accepted_count seen))) same ∙ ap (λ (n : ℕ). on_pass (after_flush seen.next_ticket n) h) (ap accepted_count desk_is ∙ sym mark_is); above = above }
+pub in_hold : (origin : Origin) (left : Bool) (o : Option Desk) (desk : Desk) (holders : List Holder) (h : Holder) (g : Guarded) → Kept origin left desk holders → Contains holders h → h ≡ pass (account_in h) → record { desk = desk_of o; left = left } ≡ g → o ≡ Some desk → InHold g (account_in h)
+in_hold origin left o desk holders h g k there is view some = record {
+  origin = origin;
+  holders = holders;
+  kept = subst (λ (x : Guarded). Kept origin x.left x.desk holders) (sym (guarded_some o left desk g view some)) k;
+  there = subst (Contains holders) is there;
+}
 
-  pub shuts_of : h' ≡ on_pass (after_shutdown seen.next_ticket (accepted_count seen)) known → Shuts mark h h'
-  shuts_of told = record { next = seen.next_ticket; account = told ∙ ap (on_pass (after_shutdown seen.next_ticket (accepted_count seen))) same ∙ ap (λ (n : ℕ). on_pass (after_shutdown seen.next_ticket n) h) (ap accepted_count desk_is ∙ sym mark_is); above = above }
+-- ---- who is woken
+
+pub out_is_some : (desk : Desk) → is_some (out_state desk) ≡ is_some desk.out
+out_is_some desk = by_out desk.out
+  where
+    by_out : (out : Option OutBatch) → is_some (option_map {U = ℕ × Bool} (λ (b : OutBatch). (b.number, b.is_handed)) out) ≡ is_some out
+    by_out None = refl
+    by_out (Some b) = refl
+
+-- ---- what a pass asked for, and what it was answered
+
+pub asks_of : (g : Guarded) (seen desk : Desk) (left : Bool) (h known h' : Holder) (mark : ℕ) → g ≡ record { desk = desk; left = left } → InHold g (account_in h) → known ≡ h → seen ≡ desk → mark ≡ accepted_count desk → h' ≡ on_pass (after_flush seen.next_ticket (accepted_count seen)) known → Asks g mark h h'
+asks_of g seen desk left h known h' mark is hold same seen_is mark_is told =
+    let at : seen ≡ g.desk = seen_is ∙ sym (ap (λ (x : Guarded). x.desk) is) in
+    let count : mark ≡ accepted_count g.desk = mark_is ∙ sym (ap (λ (x : Guarded). accepted_count x.desk) is) in record {
+      hold = hold;
+      mark_is = count;
+      account = told ∙ ap (on_pass (after_flush seen.next_ticket (accepted_count seen))) same ∙ ap (λ (d : Desk). on_pass (after_flush d.next_ticket (accepted_count d)) h) at ∙ ap (λ (n : ℕ). on_pass (after_flush g.desk.next_ticket n) h) (sym count);
+    }
+
+pub shuts_of : (g : Guarded) (seen desk : Desk) (left : Bool) (h known h' : Holder) (mark : ℕ) → g ≡ record { desk = desk; left = left } → InHold g (account_in h) → known ≡ h → seen ≡ desk → mark ≡ accepted_count desk → h' ≡ on_pass (after_shutdown seen.next_ticket (accepted_count seen)) known → Shuts g mark h h'
+shuts_of g seen desk left h known h' mark is hold same seen_is mark_is told =
+    let at : seen ≡ g.desk = seen_is ∙ sym (ap (λ (x : Guarded). x.desk) is) in
+    let count : mark ≡ accepted_count g.desk = mark_is ∙ sym (ap (λ (x : Guarded). accepted_count x.desk) is) in record {
+      hold = hold;
+      mark_is = count;
+      account = told ∙ ap (on_pass (after_shutdown seen.next_ticket (accepted_count seen))) same ∙ ap (λ (d : Desk). on_pass (after_shutdown d.next_ticket (accepted_count d)) h) at ∙ ap (λ (n : ℕ). on_pass (after_shutdown g.desk.next_ticket n) h) (sym count);
+    }
+
+pub told_flushed : (g : Guarded) (mark : ℕ) (x : Flushed) (a : PassAccount) → InHold g a → is_flushed g.desk mark ≡ true → IsTold g mark (Ok x) a
+told_flushed g mark x a hold is = record { hold = hold; flushed = is; left = tt }
+
+pub told_left : (g : Guarded) (mark : ℕ) (x : WorkerLeft) (a : PassAccount) → InHold g a → is_flushed g.desk mark ≡ false → g.left ≡ true → IsTold g mark (Err x) a
+told_left g mark x a hold is left = record { hold = hold; flushed = tt; left = (is, left) }
 
 -- ---- the batch that is out
 

@@ -445,6 +445,10 @@ drained_step old mid new true s yes' no' = subst (λ (x : WorkerState). StepsAsi
       goes_on = goes_on told told told (work_in old None) (work_in mid None) (work_in (record mid { account = after_drained mid.account }) None) t.goes_on (drained_goes mid.origin mid.account mid.outcomes k told);
     })
 
+-- a worker with no batch in hand has none out
+pub no_hand_out : (state : WorkerState) (hand : Option Hand) → hand ≡ None → IsWorkingWith state None → (work_in state hand).account.out ≡ None
+no_hand_out state hand is k = subst (λ (h : Option Hand). (work_in state h).account.out ≡ None) (sym is) (ap (with_outcomes (state.outcomes ++ [])) k.tied.0)
+
 pub take_told : (origin : Origin) (a a' : Holder) (os : List Outcome) (old : WorkerState) (batch : BatchView) → IsWorkingWith old None → a ≡ worker origin (worker_in a) → state_of origin (worker_in a) os ≡ old
     → a' ≡ on_worker (after_take batch.number batch.spans) a → IsBatchOf a' batch → IsBatchSize (origin_in a) batch.spans → StepsAside old None (state_of origin (worker_in a') os) (hand_at batch to_encode)
 take_told origin a a' os old batch k is view told of size =

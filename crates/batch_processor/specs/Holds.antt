@@ -1,25 +1,86 @@
--- What holds of the lock ask for, and what they do to an account. (profile)
-use Rattle.std.specs.Prelude.{◌≡◌, ℕ, ◌<◌, ◌≤◌, List, [], length, map, Some, None}
+-- What the lock of a batch processor guards, what holds of it ask for, whom they wake, and what
+-- they do to an account. (Trace SDK, ForceFlush, Shutdown; profile)
+use Rattle.std.specs.Prelude.{◌≡◌, ℕ, ◌≤◌, ◌==◌, ◌&&◌, ◌||◌, not, Bool, true, false, List, [], Contains, length, map, Option, Some, None, is_some, Result, OnOk, OnErr}
 use Rattle.span_model.specs.Spans.{EndedSpan}
-use Rattle.batch_model.specs.Clauses.{Origin}
-use Rattle.std.specs.List.{AllByRecursion}
 use Rattle.drop_model.specs.Dropped.{entry_of}
+use Rattle.desk_model.specs.Desks.{Desk, accepted_count, is_due, is_flushed, new_desk}
 use Rattle.batch_desk.specs.Batch.{BatchView, NamedView}
-use Rattle.pass_model.specs.Passes.{tickets}
-use Rattle.batch_model.specs.Holders.{Holder, account_in, after_flush, after_shutdown, on_pass, origin_in, worker_in}
+use Rattle.pass_model.specs.Passes.{PassAccount}
+use Rattle.batch_model.specs.Clauses.{Origin}
+use Rattle.batch_model.specs.Holders.{Holder, account_in, after_flush, after_shutdown, new_origin, on_pass, origin_in, pass, worker_in}
+use Rattle.batch_model.specs.Kept.{Kept}
+use Rattle.batch_processor.specs.declared.fault.WorkerLeft.{WorkerLeft}
+use Rattle.batch_processor.specs.declared.hold.Wake.{Wake}
+use Rattle.batch_processor.specs.declared.pass.Flushed.{Flushed}
 
--- A pass asked for all that was accepted so far. The mark is the number of these, and the tickets
--- that the pass was given are below the next one.
-pub record Asks (mark : ℕ) (old new : Holder) : Type 0 where
-  pub next : ℕ
-  pub account : new ≡ on_pass (after_flush next mark) old
-  pub above : AllByRecursion (λ t. t < next) (tickets (account_in old))
+-- ---- what the lock guards
+
+-- The queue, and whether the worker has left. Once the queue was taken out, it is one at which
+-- nothing was ever done.
+pub record Guarded : Type 0 where
+  pub desk : Desk
+  pub left : Bool
+
+abbrev pub no_desk : Desk
+no_desk = new_desk new_origin.desk 0
+
+abbrev pub desk_of : Option Desk → Desk
+desk_of None = no_desk
+desk_of (Some desk) = desk
+
+-- A pass knew this in a hold of the lock, which guarded this then: what is kept of the accounts of
+-- all was so, and the pass's account was one of them.
+pub record InHold (guarded : Guarded) (account : PassAccount) : Type 0 where
+  pub origin : Origin
+  pub holders : List Holder
+  pub kept : Kept origin guarded.left guarded.desk holders
+  pub there : Contains holders (pass account)
+
+-- ---- who is woken
+
+-- What the worker waits for, but for the moment: a batch is due whatever the moment is, or no span
+-- waits any more and none is admitted.
+abbrev pub has_work : Desk → Bool
+has_work desk = is_due desk 0 || (desk.closed && length desk.waiting == 0)
+
+-- Who is woken for what a hold changed: the worker where what it waits for is so now and wasn't
+-- before, as where a batch fills, or a flush or a shutdown asks; and flushes where a batch ended,
+-- or the worker left.
+abbrev pub wake_of : Guarded → Guarded → Wake
+wake_of old new = record {
+  worker = has_work new.desk && not (has_work old.desk);
+  flushes = (is_some old.desk.out && not (is_some new.desk.out)) || (new.left && not old.left);
+}
+
+-- ---- what a pass asks for, and what it is answered
+
+-- A pass asked for all that was accepted so far: the mark is the number of these, and the account
+-- says which ticket was the next one.
+pub record Asks (guarded : Guarded) (mark : ℕ) (old new : Holder) : Type 0 where
+  pub hold : InHold guarded (account_in old)
+  pub mark_is : mark ≡ accepted_count guarded.desk
+  pub account : new ≡ on_pass (after_flush guarded.desk.next_ticket mark) old
 
 -- The same by a shutdown.
-pub record Shuts (mark : ℕ) (old new : Holder) : Type 0 where
-  pub next : ℕ
-  pub account : new ≡ on_pass (after_shutdown next mark) old
-  pub above : AllByRecursion (λ t. t < next) (tickets (account_in old))
+pub record Shuts (guarded : Guarded) (mark : ℕ) (old new : Holder) : Type 0 where
+  pub hold : InHold guarded (account_in old)
+  pub mark_is : mark ≡ accepted_count guarded.desk
+  pub account : new ≡ on_pass (after_shutdown guarded.desk.next_ticket mark) old
+
+-- What a flush is answered in a hold: that all up to its mark was settled or dropped, or else that
+-- the worker has left.
+pub record IsTold (guarded : Guarded) (mark : ℕ) (answer : Result Flushed WorkerLeft)
+    (account : PassAccount) : Type 0 where
+  pub hold : InHold guarded account
+  pub flushed : OnOk answer (is_flushed guarded.desk mark ≡ true)
+  pub left : OnErr answer ((is_flushed guarded.desk mark ≡ false) × (guarded.left ≡ true))
+
+pub record WasTold (mark : ℕ) (answer : Result Flushed WorkerLeft) (account : PassAccount)
+    : Type 0 where
+  pub guarded : Guarded
+  pub told : IsTold guarded mark answer account
+
+-- ---- batches
 
 -- The batch is the one that the worker's account has out, not handed yet.
 pub record IsBatchOf (holder : Holder) (batch : BatchView) : Type 0 where

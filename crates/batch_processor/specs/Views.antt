@@ -1,5 +1,5 @@
 -- What a processor's settings and answers are in the model.
-use Rattle.std.specs.Prelude.{Bool, true, false, List, map, Result, Ok, Err}
+use Rattle.std.specs.Prelude.{ℕ, ◌≤◌, List, map, Result, Ok, Err}
 use Rattle.span_model.specs.Spans.{EndedSpan}
 use Rattle.retry_model.specs.Retries as retries
 use Rattle.otlp_span.specs.Dropped.{reason_view}
@@ -12,6 +12,7 @@ use Rattle.batch_desk.specs.Views.{config_view}
 use Rattle.batch_desk.specs.declared.admitted.Admitted.{Admitted}
 use Rattle.batch_desk.specs.declared.admitted.Admitted.TheVariants as admitted
 use Rattle.batch_processor.specs.declared.config.Setup.{Setup}
+use Rattle.batch_processor.specs.declared.processor.TheConstants.{MAX_PASSES}
 use Rattle.span_ring.specs.declared.fault.RingFault.{RingFault}
 use Rattle.span_ring.specs.declared.fault.RingFault.TheVariants as rings
 use Rattle.batch_processor.specs.declared.fault.WorkerLeft.{WorkerLeft}
@@ -39,14 +40,6 @@ ended_of (admitted.Queued ticket) = answers.Queued ticket
 ended_of (admitted.Full ticket) = answers.Dropped ticket reasons.QueueFull
 ended_of admitted.Late = answers.Late
 
--- What a batch processor answers: the span was queued, or the queue was full, or it was late.
--- (Trace SDK, OnEnd)
-abbrev pub is_batch_answer : Ended → Bool
-is_batch_answer (answers.Queued ticket) = true
-is_batch_answer (answers.Dropped ticket reasons.QueueFull) = true
-is_batch_answer answers.Late = true
-is_batch_answer _ = false
-
 -- a span that ended, and what was answered
 abbrev pub after_end : Ended → EndedSpan → PassAccount → PassAccount
 after_end (answers.Queued ticket) span account = after_accepted ticket span account
@@ -59,6 +52,10 @@ after_end _ span account = account
 abbrev pub after_answer : Result Flushed WorkerLeft → PassAccount → PassAccount
 after_answer (Ok flushed) account = after_flushed account
 after_answer (Err left) account = after_told_left account
+
+-- a processor may have so many passes (profile)
+abbrev pub IsPassCount : ℕ → Type 0
+IsPassCount passes = (1 ≤ passes) × (passes ≤ MAX_PASSES)
 
 -- why a processor is not made, where its queue isn't
 abbrev pub new_fault : RingFault → NewFault

@@ -7,6 +7,7 @@ mod clock;
 mod config;
 mod encoder;
 mod fault;
+mod hold;
 mod holding;
 mod lock;
 mod pass;

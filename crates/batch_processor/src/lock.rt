@@ -2,12 +2,13 @@
 ghost use Rattle.std.specs.Prelude.{◌≡◌, ◌≢◌, ℕ, List, true, false, IfNone, IfSome, IsTrue, None};
 ghost use Rattle.retry_core.specs.Retries.{fate_view};
 ghost use Rattle.otlp_span.specs.Dropped.{reason_view};
-ghost use Rattle.batch_processor.specs.Holds.{IsBatchOf, IsBatchSize, IsHandedBatchOf};
+ghost use Rattle.batch_processor.specs.Holds.{IsBatchOf, IsBatchSize, IsHandedBatchOf, WasTold};
 ghost use Rattle.batch_model.specs.Holders.{account_in, after_drained, after_drop, after_left, after_settle, after_take, left_if, on_pass, on_worker, origin_in, pass, worker, worker_in};
-ghost use Rattle.batch_processor.specs.Views.{after_answer, after_end, is_batch_answer, outcomes_view};
-ghost use Rattle.batch_processor.specs.Answers.{IsFlushed, IsShutDown};
+ghost use Rattle.batch_processor.specs.Views.{after_answer, outcomes_view};
+ghost use Rattle.batch_processor.specs.Answers.{AdmitsSpan, IsFlushed, IsShutDown};
 
 use crate::fault::WorkerLeft;
+use crate::hold::{After, Wake};
 use crate::holding::Holding;
 use crate::pass::Flushed;
 use crate::shared::Shared;
@@ -16,7 +17,7 @@ use batch_desk::{Batch, Mark};
 use otlp_span::{Reason, SpanData};
 use retry_core::{Fate, Outcome};
 use std::alloc::Allocator;
-use std::sync::{Condvar, Mutex, Wait};
+use std::sync::{Condvar, Mutex, MutexGuard, Wait};
 use std::time::{Clock, Duration};
 use trace_api::Ended;
 
@@ -39,8 +40,24 @@ impl<J: Naming, A: Allocator + Copy> Lock<J, A> {
         }
     }
 
-    /// A span ends on a pass. The worker is called where a batch fills. Where the span waits, one
-    /// that was sent is freed in its place, if one is left.
+    /// Ends a hold, and wakes those that it wakes. What it answers is given once it is over.
+    fn end<T>(&self, hold: MutexGuard<'_, Shared<J, A>>, after: After<T>) -> T
+        ensures { result ≡ after.value }
+    {
+        let After { wake, value } = after;
+        let Wake { worker, flushes } = wake;
+        drop(hold);
+        if worker {
+            self.to_do.notify_one();
+        }
+        if flushes {
+            self.done.notify_all();
+        }
+        value
+    }
+
+    /// A span ends on a pass. Where it waits, one that was sent is freed in its place, if one is
+    /// left.
     pub(crate) fn admit<R: Wait>(
         &self,
         rt: &R,
@@ -48,21 +65,14 @@ impl<J: Naming, A: Allocator + Copy> Lock<J, A> {
         span: SpanData<A>,
     ) -> Ended
         requires { account.old ≡ pass (account_in account.old) }
-        ensures account { account.new ≡ on_pass (after_end result span) account.old }
-        ensures answer { is_batch_answer result ≡ true }
+        ensures admits { AdmitsSpan (account_in account.old) span result (account_in account.new) }
+        ensures pass { account.new ≡ pass (account_in account.new) }
     {
         let mut shared = self.shared.lock(rt);
-        let (answer, remains) = shared.admit(account, span);
-        let fills = remains.is_none() && shared.fills();
-        let spent = match &remains {
-            None => shared.pop_spent(),
-            Some(_) => None,
-        };
-        drop(shared);
-        if fills {
-            self.to_do.notify_one();
-        }
-        // A span that doesn't wait is freed here, behind the hold, and so is one that was sent.
+        let after = shared.admit(account, span);
+        let (answer, remains, spent) = self.end(shared, after);
+        // A span that doesn't wait is freed here, once the hold is over, and so is one that was
+        // sent.
         drop(remains);
         drop(spent);
         answer
@@ -79,8 +89,9 @@ impl<J: Naming, A: Allocator + Copy> Lock<J, A> {
         ensures pass { account.new ≡ pass (account_in account.new) }
         ensures answer { IsFlushed result (account_in account.old) (account_in account.new) }
     {
-        let mark = self.shared.lock(rt).flush(account);
-        self.to_do.notify_one();
+        let mut shared = self.shared.lock(rt);
+        let after = shared.flush(account);
+        let mark = self.end(shared, after);
         self.wait(rt, account, mark)
     }
 
@@ -94,8 +105,9 @@ impl<J: Naming, A: Allocator + Copy> Lock<J, A> {
         ensures pass { account.new ≡ pass (account_in account.new) }
         ensures answer { IsShutDown result (account_in account.old) (account_in account.new) }
     {
-        let mark = self.shared.lock(rt).shutdown(account);
-        self.to_do.notify_one();
+        let mut shared = self.shared.lock(rt);
+        let after = shared.shutdown(account);
+        let mark = self.end(shared, after);
         self.wait(rt, account, mark)
     }
 
@@ -108,7 +120,8 @@ impl<J: Naming, A: Allocator + Copy> Lock<J, A> {
     ) -> Result<Flushed, WorkerLeft>
         requires pass { account.old ≡ pass (account_in account.old) }
         requires mark { (account_in account.old).asked.mark ≡ mark }
-        ensures { account.new ≡ on_pass (after_answer result) account.old }
+        ensures account { account.new ≡ on_pass (after_answer result) account.old }
+        ensures told { WasTold mark result (account_in account.old) }
     {
         let mut shared = self.shared.lock(rt);
         for _ in rt.forever() {
@@ -180,15 +193,13 @@ impl<J: Naming, A: Allocator + Copy> Lock<J, A> {
     {
         let batch = batch.into_named(reason);
         let mut shared = self.shared.lock(rt);
-        shared.drop_batch(account, batch);
-        shared.leave_if(account, leaves);
-        drop(shared);
-        self.done.notify_all();
+        let after = shared.drop_batch(account, batch, leaves);
+        self.end(shared, after);
     }
 
     /// The worker settles its batch, and leaves by the same hold or doesn't; those who wait are
     /// called. None of its spans is freed in the hold: they are left to those who end others, or
-    /// freed behind it. `spent` is left without one.
+    /// freed once it is over. `spent` has none, and neither has what is given back.
     pub(crate) fn settle<R: Wait>(
         &self,
         rt: &R,
@@ -197,21 +208,19 @@ impl<J: Naming, A: Allocator + Copy> Lock<J, A> {
         outcomes: &Vec<Outcome, A>,
         fate: Fate,
         leaves: bool,
-        spent: &mut Vec<SpanData<A>, A>,
-    )
+        mut spent: Vec<SpanData<A>, A>,
+    ) -> Vec<SpanData<A>, A>
         requires worker { account.old ≡ worker (origin_in account.old) (worker_in account.old) }
         requires out { IsHandedBatchOf account.old batch }
         ensures { account.new ≡ on_worker (left_if leaves) (on_worker
             (after_settle (outcomes_view outcomes.now.items) (fate_view fate)) account.old) }
     {
-        batch.clear_into(spent);
+        batch.clear_into(&mut spent);
         let mut shared = self.shared.lock(rt);
-        shared.settle(account, batch, outcomes, fate);
-        shared.leave_if(account, leaves);
-        shared.leave_spent(spent);
-        drop(shared);
-        self.done.notify_all();
+        let after = shared.settle(account, batch, outcomes, fate, leaves, spent);
+        let mut spent = self.end(shared, after);
         spent.clear();
+        spent
     }
 
     /// The worker, which has none out, leaves, and those who wait are called.
@@ -219,8 +228,9 @@ impl<J: Naming, A: Allocator + Copy> Lock<J, A> {
         requires { account.old ≡ worker (origin_in account.old) (worker_in account.old) }
         ensures { account.new ≡ on_worker after_left account.old }
     {
-        self.shared.lock(rt).leave_if(account, true);
-        self.done.notify_all();
+        let mut shared = self.shared.lock(rt);
+        let after = shared.leave(account);
+        self.end(shared, after);
     }
 }
 

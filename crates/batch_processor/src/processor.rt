@@ -4,7 +4,11 @@ ghost use Rattle.std.specs.List.{AllByRecursion};
 ghost use Rattle.pass_model.specs.Passes.{new_account};
 ghost use Rattle.batch_model.specs.Worker.{new_worker};
 ghost use Rattle.batch_model.specs.Holders.{pass};
-ghost use Rattle.batch_processor.specs.Views.{setup_view};
+ghost use Rattle.span_ring.specs.SpanRing.{IsRingSize};
+ghost use Rattle.span_ring.specs.declared.ring.TheConstants.{MAX_QUEUE};
+ghost use Rattle.desk_model.specs.Desks.{new_desk};
+ghost use Rattle.batch_desk.specs.Views.{config_view};
+ghost use Rattle.batch_processor.specs.Views.{IsPassCount, setup_view};
 ghost use Rattle.batch_processor.specs.declared.processor.TheConstants.{MAX_PASSES};
 ghost use Rattle.batch_model.specs.Clauses.{IsAccounted, abandon};
 
@@ -164,22 +168,58 @@ impl<J: Naming, R: Wait + Copy, A: Allocator + Copy> BatchProcessor<J, R, A> {
           account = new_worker;
           encoded = None;
         }) }
+
+        // The first fault that holds is the answer.
         ensures bad_passes { IsErrOf result NewFault.BadPasses
             ↔ ((passes ≡ 0) ⊎ (MAX_PASSES < passes)) }
+        ensures zero_size { IsErrOf result NewFault.ZeroSize
+            ↔ (IsPassCount passes × ((config.desk.queue ≡ 0) ⊎ (config.desk.batch ≡ 0))) }
+        ensures batch_above_queue { IsErrOf result NewFault.BatchAboveQueue
+            ↔ (IsPassCount passes
+            × ((0 < config.desk.queue) × (config.desk.queue < config.desk.batch))) }
+        ensures too_large { IsErrOf result NewFault.TooLarge
+            ↔ (IsPassCount passes × ((0 < config.desk.batch)
+            × (config.desk.batch ≤ config.desk.queue) × (MAX_QUEUE < config.desk.queue))) }
+        ensures out_of_memory { IsErrOf result NewFault.OutOfMemory
+            → IsPassCount passes × IsRingSize config.desk.queue config.desk.batch }
     {
         if passes == 0 || passes > MAX_PASSES {
             return Err(NewFault::BadPasses);
         }
-        let sizes = config.desk;
-        let desk = Desk::new(alloc, sizes, now)?;
-        let spent = Vec::with_capacity(alloc, sizes.batch)?;
+        let desk = Desk::new(alloc, config.desk, now)?;
         let setup = Setup { passes, config };
+        let parts = BatchProcessor::assemble(alloc, rt, blank, setup, desk)?;
+        Ok(parts)
+    }
+
+    /// The processor over this desk, at which nothing was done.
+    fn assemble(
+        alloc: A,
+        rt: R,
+        blank: BatchBlank,
+        setup: Setup,
+        desk: Desk<A>,
+    ) -> Result<Parts<J, R, A>, AllocError>
+        requires blank { blank ≡ J.name }
+        requires desk { desk ≡ new_desk (config_view setup.config.desk) desk.last_moment }
+        requires size { 1 ≤ setup.config.desk.batch }
+        ensures processor { IfOk result (λ parts. parts.processor ≡ setup_view setup) }
+        ensures count { IfOk result (λ parts. vec_len parts.passes ≡ setup.passes) }
+        ensures passes { IfOk result
+            (λ parts. AllByRecursion (λ a. a ≡ new_account) parts.passes.items) }
+        ensures worker { IfOk result (λ parts. parts.worker ≡ record {
+          origin = setup_view setup;
+          account = new_worker;
+          encoded = None;
+        }) }
+    {
+        let spent = Vec::with_capacity(alloc, setup.config.desk.batch)?;
         let mut book = blank.named::<J>();
         let mut account = book.open::<NewProcessor>();
         book.record::<Setup, Begins>(&mut account, &setup);
         let mut his = book.open::<NewWorker>();
         book.record::<Setup, WorkerBegins>(&mut his, &setup);
-        let accounts = book.open_all::<Holding, A>(alloc, passes)?;
+        let accounts = book.open_all::<Holding, A>(alloc, setup.passes)?;
         let shared = Shared {
             desk: Some(desk),
             left: false,

@@ -1,16 +1,18 @@
 //! What threads share, with the accounts of those who share it. Each call is one hold of the lock.
-ghost use Rattle.std.specs.Prelude.{◌≡◌, ℕ, List, ◌≤◌, vec_len, true, false, option_map, IfSome, IfNone, IsTrue, OnSome, Some, None, [], IfErr, is_some};
-ghost use Rattle.desk_model.specs.Desks.{accepted_count, is_due};
+ghost use Rattle.std.specs.Prelude.{◌≡◌, ℕ, List, ◌≤◌, ◌&&◌, ◌||◌, not, vec_len, true, false, option_map, drop, IfSome, IfNone, IsTrue, Some, None, [], IfErr, is_some};
+ghost use Rattle.desk_model.specs.Desks.{accepted_count, is_due, with_fate};
+ghost use Rattle.batch_desk.specs.Desk.{admission, after_admission, after_names};
 ghost use Rattle.otlp_span.specs.Dropped.{entry_view};
 ghost use Rattle.retry_core.specs.Retries.{fate_view};
 ghost use Rattle.pass_model.specs.Passes.{after_pop};
-ghost use Rattle.batch_model.specs.Holders.{account_in, after_drained, after_drop, after_handed, after_settle, after_take, left_if, on_pass, on_worker, origin_in, pass, processor, worker, worker_in};
-ghost use Rattle.batch_processor.specs.Views.{after_answer, after_end, ended_of, is_batch_answer, outcomes_view};
-ghost use Rattle.batch_processor.specs.Holds.{Asks, IsBatchOf, IsBatchSize, IsHandedBatchOf, IsNamedBatchOf, Shuts};
+ghost use Rattle.batch_model.specs.Holders.{account_in, after_drained, after_drop, after_handed, after_left, after_settle, after_take, left_if, on_pass, on_worker, origin_in, pass, processor, worker, worker_in};
+ghost use Rattle.batch_processor.specs.Views.{after_answer, after_end, ended_of, outcomes_view};
+ghost use Rattle.batch_processor.specs.Holds.{Asks, InHold, IsBatchOf, IsBatchSize, IsHandedBatchOf, IsNamedBatchOf, IsTold, Shuts, has_work, wake_of};
 ghost use Rattle.batch_model.specs.Kept.{IsAccountOf};
 
 use crate::config::Setup;
 use crate::fault::WorkerLeft;
+use crate::hold::{After, Wake};
 use crate::holding::{
     Drains, Drops, Ends, Flushes, Hands, Holding, Leaves, Pops, Settled, Settles, ShutsDown,
     SpanEnded, Takes, ToldFlushed, ToldLeft,
@@ -26,7 +28,17 @@ use std::mem;
 use std::snapshot::Snapshot;
 use trace_api::Ended;
 
+/// What those who wait wait for: whether the worker has work, whatever the moment is; and what
+/// flushes are answered by, whether a batch is out, and whether the worker has left.
+#[derive(Clone, Copy)]
+struct Awaited {
+    has_work: bool,
+    is_out: bool,
+    left: bool,
+}
+
 /// What lies under the lock of a processor, until it is closed out, with the book of its accounts.
+/// In contracts it is the queue, and whether the worker has left.
 #[derive(Drop)]
 pub(crate) struct Shared<J: Naming, A: Allocator> {
     pub(crate) desk: Option<Desk<A>>,
@@ -40,26 +52,92 @@ pub(crate) struct Shared<J: Naming, A: Allocator> {
 
 impl<J: Naming, A: Allocator> Model for Shared<J, A> {
     ghost use Rattle.batch_model.specs.Kept.{IsShared};
+    ghost use Rattle.batch_processor.specs.Holds.{Guarded, desk_of};
     ghost use Rattle.batch_processor.specs.Views.{setup_view};
 
-    ghost Value = { Unit {0} };
+    ghost Value = { Guarded };
 
-    ghost view = { λ s. tt };
+    ghost view = { λ s. record { desk = desk_of s.desk; left = s.left } };
 
     ghost invariant = { λ s. IsShared (setup_view s.setup) s.left s.desk s.book };
 }
 
 impl<J: Naming, A: Allocator + Copy> Shared<J, A> {
-    /// A span ends on a pass. What is left of it where it doesn't wait is to be freed behind the
-    /// hold.
+    /// What those who wait wait for.
+    fn awaited(&self) -> Awaited
+        ensures work { result.has_work ≡ has_work self.now.desk }
+        ensures out { result.is_out ≡ is_some self.now.desk.out }
+        ensures left { result.left ≡ self.now.left }
+    {
+        let (has_work, is_out) = match &self.desk {
+            Some(desk) => (
+                desk.due(0) || desk.is_closed() && desk.waiting() == 0,
+                desk.out().is_some(),
+            ),
+            None => (false, false),
+        };
+        Awaited {
+            has_work,
+            is_out,
+            left: self.left,
+        }
+    }
+
+    /// Whom a hold wakes, where this was so when it began.
+    fn wake(&self, was: Awaited) -> Wake
+        ensures worker { result.worker ≡ (has_work self.now.desk && not was.has_work) }
+        ensures flushes { result.flushes
+            ≡ ((was.is_out && not (is_some self.now.desk.out)) || (self.now.left && not was.left)) }
+    {
+        let is = self.awaited();
+        Wake {
+            worker: is.has_work && !was.has_work,
+            flushes: was.is_out && !is.is_out || is.left && !was.left,
+        }
+    }
+
+    /// A span ends on a pass. What is left of it where it doesn't wait is handed out, and else a
+    /// span that was sent, if one is left: both are to be freed once the hold is over.
     pub(crate) fn admit(
+        &mut self,
+        account: &mut Account<J, Holding>,
+        span: SpanData<A>,
+    ) -> After<(Ended, Option<SpanRemains<A>>, Option<SpanData<A>>)>
+        requires { account.old ≡ pass (account_in account.old) }
+        ensures hold { InHold self.old (account_in account.old) }
+        ensures answer { result.value.0 ≡ ended_of (admission self.old.desk) }
+        ensures account { account.new ≡ on_pass (after_end result.value.0 span) account.old }
+        ensures desk { self.new ≡ record self.old {
+          desk = after_admission (admission self.old.desk) span self.old.desk;
+        } }
+        ensures wake { result.wake ≡ wake_of self.old self.new }
+    {
+        let was = self.awaited();
+        let (answer, remains) = self.queue(account, span);
+        let spent = match &remains {
+            None => self.spent.pop(),
+            Some(_) => None,
+        };
+        let wake = self.wake(was);
+        After {
+            wake,
+            value: (answer, remains, spent),
+        }
+    }
+
+    /// Queues a span that ends on a pass. What is left of it where it doesn't wait is handed out.
+    fn queue(
         &mut self,
         account: &mut Account<J, Holding>,
         span: SpanData<A>,
     ) -> (Ended, Option<SpanRemains<A>>)
         requires { account.old ≡ pass (account_in account.old) }
+        ensures hold { InHold self.old (account_in account.old) }
+        ensures answer { result.0 ≡ ended_of (admission self.old.desk) }
         ensures account { account.new ≡ on_pass (after_end result.0 span) account.old }
-        ensures answer { is_batch_answer result.0 ≡ true }
+        ensures desk { self.new ≡ record self.old {
+          desk = after_admission (admission self.old.desk) span self.old.desk;
+        } }
     {
         self.book.recognize(account);
         let Some(desk) = &mut self.desk else {
@@ -73,23 +151,12 @@ impl<J: Naming, A: Allocator + Copy> Shared<J, A> {
         (answer, remains)
     }
 
-    /// Whether just as many spans wait as a batch has.
-    pub(crate) fn fills(&self) -> bool {
-        match &self.desk {
-            Some(desk) => desk.waiting() == self.setup.config.desk.batch,
-            None => false,
-        }
-    }
-
-    /// A span that was sent, which is to be freed behind the hold, if one is left.
-    pub(crate) fn pop_spent(&mut self) -> Option<SpanData<A>> {
-        self.spent.pop()
-    }
-
     /// Leaves the spans of a batch that was sent to those who end others, where half a batch waits
     /// already: they end spans about as fast as these are sent. What they haven't freed of the batch
     /// before is handed back.
-    pub(crate) fn leave_spent(&mut self, spent: &mut Vec<SpanData<A>, A>) {
+    fn leave_spent(&mut self, spent: &mut Vec<SpanData<A>, A>)
+        ensures { self.new ≡ self.old }
+    {
         let waiting = match &self.desk {
             Some(desk) => desk.waiting(),
             None => 0,
@@ -100,9 +167,27 @@ impl<J: Naming, A: Allocator + Copy> Shared<J, A> {
     }
 
     /// A pass asks for all that was accepted so far.
-    pub(crate) fn flush(&mut self, account: &mut Account<J, Holding>) -> Mark
+    pub(crate) fn flush(&mut self, account: &mut Account<J, Holding>) -> After<Mark>
         requires { account.old ≡ pass (account_in account.old) }
-        ensures { Asks result account.old account.new }
+        ensures asks { Asks self.old result.value account.old account.new }
+        ensures desk { self.new ≡ record self.old {
+          desk = record self.old.desk { asked = accepted_count self.old.desk };
+        } }
+        ensures wake { result.wake ≡ wake_of self.old self.new }
+    {
+        let was = self.awaited();
+        let value = self.ask(account);
+        let wake = self.wake(was);
+        After { wake, value }
+    }
+
+    /// Asks the queue for all, and tells the pass's account.
+    fn ask(&mut self, account: &mut Account<J, Holding>) -> Mark
+        requires { account.old ≡ pass (account_in account.old) }
+        ensures asks { Asks self.old result account.old account.new }
+        ensures desk { self.new ≡ record self.old {
+          desk = record self.old.desk { asked = accepted_count self.old.desk };
+        } }
     {
         self.book.recognize(account);
         let Some(desk) = &mut self.desk else {
@@ -116,9 +201,27 @@ impl<J: Naming, A: Allocator + Copy> Shared<J, A> {
     }
 
     /// A pass shuts the processor down.
-    pub(crate) fn shutdown(&mut self, account: &mut Account<J, Holding>) -> Mark
+    pub(crate) fn shutdown(&mut self, account: &mut Account<J, Holding>) -> After<Mark>
         requires { account.old ≡ pass (account_in account.old) }
-        ensures { Shuts result account.old account.new }
+        ensures asks { Shuts self.old result.value account.old account.new }
+        ensures desk { self.new ≡ record self.old {
+          desk = record self.old.desk { asked = accepted_count self.old.desk; closed = true };
+        } }
+        ensures wake { result.wake ≡ wake_of self.old self.new }
+    {
+        let was = self.awaited();
+        let value = self.close_queue(account);
+        let wake = self.wake(was);
+        After { wake, value }
+    }
+
+    /// Closes the queue, asks it for all, and tells the pass's account.
+    fn close_queue(&mut self, account: &mut Account<J, Holding>) -> Mark
+        requires { account.old ≡ pass (account_in account.old) }
+        ensures asks { Shuts self.old result account.old account.new }
+        ensures desk { self.new ≡ record self.old {
+          desk = record self.old.desk { asked = accepted_count self.old.desk; closed = true };
+        } }
     {
         self.book.recognize(account);
         let Some(desk) = &mut self.desk else {
@@ -140,9 +243,12 @@ impl<J: Naming, A: Allocator + Copy> Shared<J, A> {
     ) -> Option<Result<Flushed, WorkerLeft>>
         requires pass { account.old ≡ pass (account_in account.old) }
         requires mark { (account_in account.old).asked.mark ≡ mark }
+        ensures told { IfSome result
+            (λ answer. IsTold self.old mark answer (account_in account.old)) }
         ensures some { IfSome result
             (λ answer. account.new ≡ on_pass (after_answer answer) account.old) }
         ensures none { IfNone result (account.new ≡ account.old) }
+        ensures unchanged { self.new ≡ self.old }
     {
         self.book.recognize(account);
         let Some(desk) = &self.desk else {
@@ -165,6 +271,9 @@ impl<J: Naming, A: Allocator + Copy> Shared<J, A> {
         ensures some { IfSome result
             (λ entry. account.new ≡ on_pass (after_pop (entry_view entry)) account.old) }
         ensures none { IfNone result (account.new ≡ account.old) }
+        ensures desk { self.new ≡ record self.old {
+          desk = record self.old.desk { ledger = drop 1 self.old.desk.ledger };
+        } }
     {
         self.book.recognize(account);
         let Some(desk) = &mut self.desk else {
@@ -221,11 +330,36 @@ impl<J: Naming, A: Allocator + Copy> Shared<J, A> {
         self.book.record::<Vec<u8, A>, Hands>(account, body);
     }
 
-    /// The worker drops its batch, which was not handed, and whose spans are named.
-    pub(crate) fn drop_batch(&mut self, account: &mut Account<J, Holding>, batch: NamedBatch<A>)
+    /// The worker drops its batch, which was not handed, and whose spans are named. It leaves by
+    /// the same hold, or it doesn't.
+    pub(crate) fn drop_batch(
+        &mut self,
+        account: &mut Account<J, Holding>,
+        batch: NamedBatch<A>,
+        leaves: bool,
+    ) -> After<()>
         requires worker { account.old ≡ worker (origin_in account.old) (worker_in account.old) }
         requires out { IsNamedBatchOf account.old batch }
-        ensures { account.new ≡ on_worker (after_drop batch.reason) account.old }
+        ensures account { account.new ≡ on_worker (left_if leaves)
+            (on_worker (after_drop batch.reason) account.old) }
+        ensures desk { self.new.desk ≡ after_names batch.reason batch.entries self.old.desk }
+        ensures wake { result.wake ≡ wake_of self.old self.new }
+    {
+        let was = self.awaited();
+        self.drop_named(account, batch);
+        self.leave_if(account, leaves);
+        let wake = self.wake(was);
+        After { wake, value: () }
+    }
+
+    /// Drops the worker's batch.
+    fn drop_named(&mut self, account: &mut Account<J, Holding>, batch: NamedBatch<A>)
+        requires worker { account.old ≡ worker (origin_in account.old) (worker_in account.old) }
+        requires out { IsNamedBatchOf account.old batch }
+        ensures account { account.new ≡ on_worker (after_drop batch.reason) account.old }
+        ensures desk { self.new ≡ record self.old {
+          desk = after_names batch.reason batch.entries self.old.desk;
+        } }
     {
         self.book.recognize(account);
         let Some(desk) = &mut self.desk else {
@@ -235,8 +369,38 @@ impl<J: Naming, A: Allocator + Copy> Shared<J, A> {
         desk.drop_named(batch);
     }
 
-    /// The worker settles its batch, which was handed, after these outcomes of its attempts.
+    /// The worker settles its batch, which was handed, after these outcomes of its attempts. It
+    /// leaves by the same hold, or it doesn't. Spans that were sent are left to those who end
+    /// others; those that aren't are handed out, to be freed once the hold is over.
     pub(crate) fn settle(
+        &mut self,
+        account: &mut Account<J, Holding>,
+        batch: Batch<A>,
+        outcomes: &Vec<Outcome, A>,
+        fate: Fate,
+        leaves: bool,
+        mut spent: Vec<SpanData<A>, A>,
+    ) -> After<Vec<SpanData<A>, A>>
+        requires worker { account.old ≡ worker (origin_in account.old) (worker_in account.old) }
+        requires out { IsHandedBatchOf account.old batch }
+        ensures account { account.new ≡ on_worker (left_if leaves) (on_worker
+            (after_settle (outcomes_view outcomes.now.items) (fate_view fate)) account.old) }
+        ensures desk { self.new.desk ≡ record self.old.desk {
+          out = None;
+          fates = with_fate (fate_view fate) self.old.desk.fates;
+        } }
+        ensures wake { result.wake ≡ wake_of self.old self.new }
+    {
+        let was = self.awaited();
+        self.settle_batch(account, batch, outcomes, fate);
+        self.leave_if(account, leaves);
+        self.leave_spent(&mut spent);
+        let wake = self.wake(was);
+        After { wake, value: spent }
+    }
+
+    /// Settles the worker's batch.
+    fn settle_batch(
         &mut self,
         account: &mut Account<J, Holding>,
         batch: Batch<A>,
@@ -245,8 +409,14 @@ impl<J: Naming, A: Allocator + Copy> Shared<J, A> {
     )
         requires worker { account.old ≡ worker (origin_in account.old) (worker_in account.old) }
         requires out { IsHandedBatchOf account.old batch }
-        ensures { account.new ≡ on_worker
+        ensures account { account.new ≡ on_worker
             (after_settle (outcomes_view outcomes.now.items) (fate_view fate)) account.old }
+        ensures desk { self.new ≡ record self.old {
+          desk = record self.old.desk {
+            out = None;
+            fates = with_fate (fate_view fate) self.old.desk.fates;
+          };
+        } }
     {
         self.book.recognize(account);
         let Some(desk) = &mut self.desk else {
@@ -261,11 +431,25 @@ impl<J: Naming, A: Allocator + Copy> Shared<J, A> {
         self.book.record::<Settled<A>, Settles>(account, &settled);
     }
 
+    /// The worker leaves, which has none out.
+    pub(crate) fn leave(&mut self, account: &mut Account<J, Holding>) -> After<()>
+        requires { account.old ≡ worker (origin_in account.old) (worker_in account.old) }
+        ensures account { account.new ≡ on_worker after_left account.old }
+        ensures left { self.new ≡ record self.old { left = true } }
+        ensures wake { result.wake ≡ wake_of self.old self.new }
+    {
+        let was = self.awaited();
+        self.leave_if(account, true);
+        let wake = self.wake(was);
+        After { wake, value: () }
+    }
+
     /// Whether the processor is shut down, and no span waits: for the worker, which has none out.
     pub(crate) fn drained(&mut self, account: &mut Account<J, Holding>) -> bool
         requires worker { account.old ≡ worker (origin_in account.old) (worker_in account.old) }
         ensures yes { IsTrue result → account.new ≡ on_worker after_drained account.old }
         ensures no { result ≡ false → account.new ≡ account.old }
+        ensures unchanged { self.new ≡ self.old }
     {
         self.book.recognize(account);
         let Some(desk) = &self.desk else {
@@ -279,9 +463,10 @@ impl<J: Naming, A: Allocator + Copy> Shared<J, A> {
     }
 
     /// The worker leaves by this hold, or it doesn't.
-    pub(crate) fn leave_if(&mut self, account: &mut Account<J, Holding>, leaves: bool)
+    fn leave_if(&mut self, account: &mut Account<J, Holding>, leaves: bool)
         requires { account.old ≡ worker (origin_in account.old) (worker_in account.old) }
-        ensures { account.new ≡ on_worker (left_if leaves) account.old }
+        ensures account { account.new ≡ on_worker (left_if leaves) account.old }
+        ensures left { self.new ≡ record self.old { left = leaves || self.old.left } }
     {
         if !leaves {
             return;

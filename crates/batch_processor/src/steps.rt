@@ -26,7 +26,7 @@ use std::alloc::Allocator;
 use std::marker::Model;
 use std::sync::{Arc, Wait};
 use std::time::Duration;
-use std::{thread, time};
+use std::{mem, thread, time};
 
 /// How far the batch in hand is.
 #[derive(Drop)]
@@ -228,14 +228,15 @@ impl<J: Naming, R: Wait + Drop, A: Allocator + Copy> Worker<J, R, A> {
           outcomes = [];
         } }
     {
-        self.lock.settle(
+        let spent = mem::replace(&mut self.spent, Vec::new(self.alloc));
+        self.spent = self.lock.settle(
             &self.rt,
             &mut self.account,
             batch,
             &self.outcomes,
             fate,
             leaves,
-            &mut self.spent,
+            spent,
         );
         self.outcomes.clear();
     }

@@ -114,6 +114,7 @@ impl<J: Naming, R: Wait + time::Clock + Drop, A: Allocator + Copy> WorkerPass<J,
         ensures goes_on { GoesOn (E.handed exporter.old) (E.handed exporter.new)
             self.old self.new }
         ensures drained { result ≡ WorkEnd.Drained → self.new.account.drained ≡ true }
+        ensures none_out { result ≡ WorkEnd.Drained → self.new.account.out ≡ None }
         ensures left { self.old.account.left ≡ true → result ≡ WorkEnd.TurnsSpent }
         ensures untouched { self.old.account.left ≡ true
             → (exporter.new ≡ exporter.old) × (rng.new ≡ rng.old) }
@@ -142,6 +143,7 @@ impl<J: Naming, R: Wait + time::Clock + Drop, A: Allocator + Copy> WorkerPass<J,
         ensures goes_on { GoesOn (E.handed exporter.old) (E.handed exporter.new)
             self.old self.new }
         ensures drained { IsTrue result → self.new.account.drained ≡ true }
+        ensures none_out { IsTrue result → self.new.account.out ≡ None }
     {
         let WorkerPass {
             worker,

@@ -1,7 +1,7 @@
 use Rattle.std.proofs.Common.{rules, ◌≡◌, false, ap, ◌∙◌, subst, sym}
 use Rattle.std.specs.Prelude.{None, Some}
 use Rattle.batch_processor.specs.Working.{IsWorkingWith, Work}
-use Rattle.batch_processor.proofs.Turns.{drained_step, pass_works, turn_goes, turn_ready}
+use Rattle.batch_processor.proofs.Turns.{drained_step, no_hand_out, pass_works, turn_goes, turn_ready}
 use Rattle.batch_processor.proofs.worker.WorkerPass.turn.Goals as goal
 
 pub invariant_of-self : goal.invariant_of-self
@@ -35,3 +35,10 @@ returns-in_default-clause-goes_on g c =
     let told = g.E.Exporter.handed c.args.exporter.now in let room = g.E.Exporter.room c.args.exporter.now in
     let was : c.self.inside.in_hand ≡ None = search rules in
     turn_goes told told room c.self.inside.worker c.take-in_default.new.self c.self.inside.in_hand None (Some c.in-Some-take.hand) c.keep.new.in_hand c.args.self.now c.self.view_is was c.keep.ensures (c.in-Some-take.ensures told room tt)
+
+pub returns-in_default-take-clause-none_out : goal.returns-in_default-take-clause-none_out
+returns-in_default-take-clause-none_out g c = λ _.
+    let told = g.E.Exporter.handed c.args.exporter.now in let room = g.E.Exporter.room c.args.exporter.now in
+    let left : c.take.new.self ≡ None = search rules in
+    let step = drained_step c.self.inside.worker c.take-in_default.new.self c.drained.new.self c.drained.result c.in_default-take.ensures c.drained.ensures.yes c.drained.ensures.no in
+    no_hand_out c.drained.new.self c.take.new.self left (step told room tt).ready.works

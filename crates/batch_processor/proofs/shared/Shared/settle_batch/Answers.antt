@@ -1,13 +1,14 @@
 use Rattle.std.proofs.Common.{ap, refl}
-use Rattle.desk_model.specs.Desks.{Desk}
+use Rattle.desk_model.specs.Desks.{Desk, with_fate}
 use Rattle.batch_model.proofs.Holding.{kept_of, kept_worker, origin_there}
 use Rattle.batch_processor.specs.Views.{setup_view}
 use Rattle.retry_core.specs.Retries.{fate_view}
 use Rattle.batch_processor.specs.Views.{outcomes_view}
 use Rattle.batch_model.specs.Holders.{after_settle, worker_in}
 use Rattle.batch_model.proofs.Workers.{settle_agrees}
-use Rattle.batch_processor.proofs.Holds.{handed_room, handed_state}
-use Rattle.batch_processor.proofs.shared.Shared.settle.Goals as goal
+use Rattle.batch_processor.proofs.Holds.{desk_changed, handed_room, handed_state}
+use Rattle.std.specs.Prelude.{None}
+use Rattle.batch_processor.proofs.shared.Shared.settle_batch.Goals as goal
 
 pub invariant_of-self : goal.invariant_of-self
 invariant_of-self g c =
@@ -28,3 +29,7 @@ settle-requires-clause-room g c =
     let desk = c.in-Some.desk in let origin = setup_view c.self.inside.setup in
     let kept = kept_of origin c.self.inside.left c.self.inside.desk desk c.self.inside.book c.self.invariant c.in-Some.is in
     handed_room origin c.self.inside.left desk c.self.inside.book c.args.account.now c.args.batch kept c.recognize.ensures.there c.requires.worker c.requires.out
+
+pub returns-clause-desk : goal.returns-clause-desk
+returns-clause-desk g c =
+    desk_changed (λ (d : Desk). record d { out = None; fates = with_fate (fate_view c.args.fate) d.fates }) c.self.inside.desk c.self.inside.left c.in-Some.desk c.settle.new.self c.args.self.now c.self.view_is c.in-Some.is c.settle.ensures.desk

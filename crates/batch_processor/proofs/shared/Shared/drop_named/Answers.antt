@@ -4,8 +4,9 @@ use Rattle.batch_model.proofs.Holding.{kept_of, kept_worker, origin_there}
 use Rattle.batch_model.proofs.Workers.{drop_agrees}
 use Rattle.batch_model.specs.Holders.{after_drop, worker_in}
 use Rattle.batch_processor.specs.Views.{setup_view}
-use Rattle.batch_processor.proofs.Holds.{named_drop, named_is}
-use Rattle.batch_processor.proofs.shared.Shared.drop_batch.Goals as goal
+use Rattle.batch_processor.proofs.Holds.{desk_changed, named_drop, named_is}
+use Rattle.batch_desk.specs.Desk.{after_names}
+use Rattle.batch_processor.proofs.shared.Shared.drop_named.Goals as goal
 
 pub invariant_of-self : goal.invariant_of-self
 invariant_of-self g c =
@@ -21,3 +22,7 @@ drop_named-requires g c =
     let desk = c.in-Some.desk in let origin = setup_view c.self.inside.setup in
     let kept = kept_of origin c.self.inside.left c.self.inside.desk desk c.self.inside.book c.self.invariant c.in-Some.is in
     named_is origin c.self.inside.left desk c.self.inside.book c.args.account.now c.args.batch kept c.recognize.ensures.there c.requires.worker c.requires.out
+
+pub returns-clause-desk : goal.returns-clause-desk
+returns-clause-desk g c =
+    desk_changed (after_names c.args.batch.reason c.args.batch.entries) c.self.inside.desk c.self.inside.left c.in-Some.desk c.drop_named.new.self c.args.self.now c.self.view_is c.in-Some.is c.drop_named.ensures.desk
