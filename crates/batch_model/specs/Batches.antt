@@ -1,6 +1,6 @@
 -- How a batch of a batch processor is sent, and how it ends. (Trace SDK, Batching processor, Span
 -- Exporter; OTLP Specification, OTLP/HTTP; numbers and the greatest body: profile)
-use Rattle.std.specs.Prelude.{◌≡◌, ℕ, ◌+◌, ◌≤◌, List, [], ◌∷◌, ◌++◌, length, Option, Some, None, IfSome}
+use Rattle.std.specs.Prelude.{◌≡◌, true, false, ℕ, ◌+◌, ◌≤◌, List, [], ◌∷◌, ◌++◌, length, Option, Some, None, IfSome}
 use Rattle.std.specs.List.{AllByRecursion}
 use Rattle.message_model.specs.Reading.{Reads}
 use Rattle.message_model.specs.Messages.{body_meaning}
@@ -124,3 +124,8 @@ pub record EndByWork (origin : Origin) (worker : WorkerAccount) : Type 0 where
   pub by_work : AllByRecursion (IsByWork origin) earlier
   pub out : IfSome last (IsOutByWork origin)
   pub none_out : worker.out ≡ None
+
+-- Until a worker leaves, its batches ended by work alone. One that has left has none out.
+pub record WorksUntilItLeaves (origin : Origin) (worker : WorkerAccount) : Type 0 where
+  pub by_work : worker.left ≡ false → AllByRecursion (IsByWork origin) worker.ended
+  pub none_out : worker.left ≡ true → worker.out ≡ None

@@ -10,7 +10,7 @@ use Rattle.pass_model.specs.Passes.{PassAccount, Drop, Rises, drops, all_accepte
 use Rattle.pass_model.specs.Clauses.{CountsLate, GivesTickets, NamesDrops}
 use Rattle.batch_model.specs.Worker.{WorkerAccount, taken_spans, handed_spans, dropped_spans, worker_entries, fates, numbers}
 pub use Rattle.batch_model.specs.Batches.{Origin, canonical_body, IsBodyOf, LeadsTo, EachLeadsOn, IsSent, IsSettled, IsEndByWork, IsByWork}
-pub use Rattle.batch_model.specs.Batches.{IsSentSoFar, IsOutByWork, end_of, abandoned_end, abandon_out, abandon, EndByWork}
+pub use Rattle.batch_model.specs.Batches.{IsSentSoFar, IsOutByWork, end_of, abandoned_end, abandon_out, abandon, EndByWork, WorksUntilItLeaves}
 
 abbrev pub tickets_of : List EndedSpan → List ℕ
 tickets_of spans = map (λ (s : EndedSpan). s.ticket) spans

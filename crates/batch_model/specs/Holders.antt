@@ -4,8 +4,10 @@ use Rattle.retry_model.specs.Retries.{Outcome, Fate}
 use Rattle.span_model.specs.Spans.{EndedSpan}
 use Rattle.drop_model.specs.Dropped.{Reason}
 use Rattle.pass_model.specs.Passes.{PassAccount, new_account}
+pub use Rattle.pass_model.specs.Passes.{after_flush, after_shutdown, after_flushed, after_told_left}
 use Rattle.batch_model.specs.Worker as batches
 use Rattle.batch_model.specs.Worker.{WorkerAccount, OutBatch, EndedBatch, BatchEnd, new_worker}
+pub use Rattle.batch_model.specs.Worker.{after_left}
 use Rattle.batch_model.specs.Clauses.{Origin}
 
 -- the processor's own account, that of a pass, or that of the worker
@@ -59,28 +61,6 @@ abbrev pub on_worker : (WorkerAccount → WorkerAccount) → Holder → Holder
 on_worker f (worker origin account) = worker origin (f account)
 on_worker f holder = holder
 
--- ---- what a hold of the lock tells a pass, beside what is so of every processor
-
--- a flush asked, where this ticket was the next one, and so many spans were accepted
-abbrev pub after_flush : ℕ → ℕ → PassAccount → PassAccount
-after_flush ticket mark account =
-    record account { asked = record { ticket = ticket; mark = mark } }
-
--- and a shutdown
-abbrev pub after_shutdown : ℕ → ℕ → PassAccount → PassAccount
-after_shutdown ticket mark account = record account {
-  asked = record { ticket = ticket; mark = mark };
-  shutdowns = account.shutdowns + 1;
-}
-
--- what was asked for is flushed
-abbrev pub after_flushed : PassAccount → PassAccount
-after_flushed account = record account { floor = account.asked.ticket }
-
--- it is not, and the worker has left
-abbrev pub after_told_left : PassAccount → PassAccount
-after_told_left account = record account { told_left = true }
-
 -- ---- what a hold of the lock tells the worker
 
 -- a batch was taken
@@ -123,10 +103,6 @@ after_settle outcomes fate account = record account {
 -- all is drained
 abbrev pub after_drained : WorkerAccount → WorkerAccount
 after_drained account = record account { drained = true }
-
--- it has left
-abbrev pub after_left : WorkerAccount → WorkerAccount
-after_left account = record account { left = true }
 
 -- it leaves by this hold, or it doesn't
 abbrev pub left_if : Bool → WorkerAccount → WorkerAccount

@@ -1,6 +1,6 @@
 -- What the worker of a batch processor knows of its batches. (Trace SDK, Batching processor, Span
 -- Exporter; numbers, the ledger and fates: profile)
-use Rattle.std.specs.Prelude.{ℕ, List, [], ◌∷◌, ◌++◌, map, filter_map, Option, Some, None, Bool, false}
+use Rattle.std.specs.Prelude.{ℕ, List, [], ◌∷◌, ◌++◌, map, filter_map, Option, Some, None, Bool, true, false}
 use Rattle.std.specs.List.{flat_map}
 use Rattle.span_model.specs.Spans.{EndedSpan}
 use Rattle.drop_model.specs.Dropped.{Reason, Entry, entry_of}
@@ -37,6 +37,10 @@ pub record WorkerAccount : Type 0 where
 -- a worker that has done nothing
 abbrev pub new_worker : WorkerAccount
 new_worker = record { ended = []; out = None; drained = false; left = false }
+
+-- it has left
+abbrev pub after_left : WorkerAccount → WorkerAccount
+after_left account = record account { left = true }
 
 -- ---- what it did with the spans
 

@@ -16,7 +16,7 @@ use Rattle.retry_model.proofs.Again.{again-few}
 use Rattle.span_exporter.specs.Handed.{Handed, Gains, handing}
 use Rattle.batch_desk.specs.Batch.{BatchView}
 use Rattle.batch_model.specs.Worker.{EndedBatch, OutBatch, WorkerAccount, settled, dropped}
-use Rattle.batch_model.specs.Clauses.{EachLeadsOn, EndByWork, IsByWork, IsOutByWork, IsSent, IsSentSoFar, LeadsTo, Origin, abandon, abandon_out}
+use Rattle.batch_model.specs.Clauses.{EachLeadsOn, EndByWork, IsByWork, IsOutByWork, IsSent, IsSentSoFar, LeadsTo, Origin, WorksUntilItLeaves, abandon, abandon_out}
 use Rattle.batch_model.specs.Holders.{Holder, after_drained, after_drop, after_handed, after_left, after_settle, after_take, ended_with, handed_with, on_worker, origin_in, settled_with, worker, worker_in}
 use Rattle.batch_processor.specs.Holds.{IsBatchOf, IsBatchSize, IsHandedBatchOf}
 use Rattle.batch_processor.specs.Working.{GoesOn, Hand, HandStage, HasLeft, HasRoom, IsExported, IsPassWith, IsPrepared, IsReady, IsStage, IsWorking, MayBeSent, IsWorkingWith, StepsAside, TakesStep, Work, WorkerState, attempts_by, attempts_from, attempts_of, attempts_out, attempts_with, encoded_at, hand_at, handed_at, in_hand, outcomes_out, pending_at, to_encode, to_judge, to_retry, to_send, with_outcomes, work_in, work_of}
@@ -370,6 +370,17 @@ pass_end false state hand k = record {
   by_work = (k.works refl).by_work;
   out = out_by_work state.origin state.account state.outcomes hand (k.works refl);
   none_out = refl;
+}
+
+-- how they ended until the worker leaves
+pub pass_until_left : (left : Bool) (state : WorkerState) (hand : Option Hand) → IsPassWith left state hand → WorksUntilItLeaves state.origin (work_in state hand).account
+pass_until_left true state hand k = record {
+  by_work = λ here. absurd (let e : true ≡ false = sym k.left_is ∙ here in cc);
+  none_out = λ gone. ap (with_outcomes (state.outcomes ++ in_hand [] pending_at hand)) (k.has_left refl).batches.none_out;
+}
+pass_until_left false state hand k = record {
+  by_work = λ here. (k.works refl).by_work;
+  none_out = λ gone. absurd (let e : true ≡ false = sym gone ∙ k.left_is in cc);
 }
 
 -- it leaves, with a batch in hand and without one

@@ -10,36 +10,9 @@ use Rattle.span_exporter.specs.Handed.{Handed, Gains, handing}
 use Rattle.batch_desk.specs.Batch.{BatchView}
 use Rattle.batch_model.specs.Worker.{BatchEnd, settled, dropped, EndedBatch, OutBatch, WorkerAccount}
 use Rattle.batch_model.specs.Clauses.{EachLeadsOn, EndByWork, IsBodyOf, IsByWork, Origin}
+pub use Rattle.batch_processor.specs.Attempts.{attempts_from, attempts_by, attempts_with, attempts_out, attempts_of, Work, outcomes_out, HasRoom, IsPrepared, GoesOn}
 use Rattle.batch_processor.specs.declared.steps.Stage.{Stage}
 use Rattle.batch_processor.specs.declared.steps.Stage.TheVariants as stages
-
--- ---- attempts
-
--- the attempts of a batch, of this body, from this one on, with what they came to
-abbrev pub attempts_from : ℕ → ℕ → List ℕ → List Outcome → List Handed
-attempts_from number attempt body [] = []
-attempts_from number attempt body (outcome ∷ outcomes) =
-    record { number = number; attempt = attempt; body = body; outcome = outcome }
-    ∷ attempts_from number (attempt + 1) body outcomes
-
-abbrev pub attempts_by : ℕ → BatchEnd → List Handed
-attempts_by number (settled body outcomes fate) = attempts_from number 1 body outcomes
-attempts_by number (dropped reason) = []
-
-abbrev pub attempts_with : ℕ → Option (List ℕ) → List Outcome → List Handed
-attempts_with number None outcomes = []
-attempts_with number (Some body) outcomes = attempts_from number 1 body outcomes
-
-abbrev pub attempts_out : Option OutBatch → List Handed
-attempts_out None = []
-attempts_out (Some batch) = attempts_with batch.number batch.body batch.outcomes
-
--- All attempts that a worker made, in order: those of one batch after the other, numbered from 1
--- on, each with the body with which its batch was handed.
-abbrev pub attempts_of : WorkerAccount → List Handed
-attempts_of worker =
-    flat_map (λ (b : EndedBatch). attempts_by b.number b.ending) worker.ended
-    ++ attempts_out worker.out
 
 -- ---- between two turns
 
@@ -82,13 +55,6 @@ pending_at _ = []
 abbrev pub in_hand : {X : Type 0} → X → (HandStage → X) → Option Hand → X
 in_hand none f None = none
 in_hand none f (Some hand) = f hand.stage
-
--- A worker's pass, as its contracts see it: what the processor began with, what the worker knows,
--- with what the attempts of the batch that is out came to, and the body that this batch has.
-pub record Work : Type 0 where
-  pub origin : Origin
-  pub account : WorkerAccount
-  pub encoded : Option (List ℕ)
 
 abbrev pub with_outcomes : List Outcome → Option OutBatch → Option OutBatch
 with_outcomes outcomes None = None
@@ -146,35 +112,6 @@ pub record IsWorking (origin : Origin) (account : WorkerAccount) (outcomes : Lis
   pub by_work : AllByRecursion (IsByWork origin) account.ended
   pub again : EachLeadsOn origin.retry 1 outcomes
   pub tied : IsTied origin account outcomes hand
-
--- ---- what work does
-
-abbrev pub outcomes_out : Option OutBatch → List Outcome
-outcomes_out None = []
-outcomes_out (Some batch) = batch.outcomes
-
--- The exporter has room for what is left of the attempts of an encoded batch.
-abbrev pub HasRoom : RetryConfig → (ℕ → ℕ) → Option (List ℕ) → List Outcome → Type 0
-HasRoom retry room None outcomes = Unit {0}
-HasRoom retry room (Some body) outcomes = retry.attempts ≤ room (length body) + length outcomes
-
-abbrev pub IsPrepared : (ℕ → ℕ) → Work → Type 0
-IsPrepared room work =
-    HasRoom work.origin.retry room work.encoded (outcomes_out work.account.out)
-
--- An exporter that tells has gained just the attempts that the worker's account gained. Batches
--- ended by work alone, and none that had ended is changed. The worker hasn't left meanwhile, and
--- where it had before, nothing is done.
-pub record GoesOn (told told' : Option (List Handed)) (old new : Work) : Type 0 where
-  pub origin : new.origin ≡ old.origin
-  pub more : List Handed
-  pub gains : Gains more told told'
-  pub attempts : attempts_of new.account ≡ attempts_of old.account ++ more
-  pub batches : List EndedBatch
-  pub ended : new.account.ended ≡ old.account.ended ++ batches
-  pub by_work : AllByRecursion (IsByWork old.origin) batches
-  pub left : new.account.left ≡ old.account.left
-  pub stays : old.account.left ≡ true → new ≡ old
 
 -- ---- what a step does
 

@@ -10,7 +10,7 @@ ghost use Rattle.desk_model.specs.Desks.{new_desk};
 ghost use Rattle.batch_desk.specs.Views.{config_view};
 ghost use Rattle.batch_processor.specs.Views.{IsPassCount, setup_view};
 ghost use Rattle.batch_processor.specs.declared.processor.TheConstants.{MAX_PASSES};
-ghost use Rattle.batch_model.specs.Clauses.{IsAccounted, abandon};
+ghost use Rattle.batch_model.specs.Clauses.{IsAccounted, WorksUntilItLeaves, abandon};
 
 use crate::config::{BatchConfig, Setup};
 use crate::fault::NewFault;
@@ -93,6 +93,7 @@ impl<J: Naming, R: Wait + Drop, A: Allocator + Copy> BatchProcessor<J, R, A> {
         ensures given_back { IfErr result
             (λ m. (m.processor ≡ self) × (m.passes ≡ passes) × (m.worker ≡ worker)) }
         ensures origin { OnOk result (worker.origin ≡ self) }
+        ensures works { OnOk result (WorksUntilItLeaves self worker.account) }
         // A batch that is out is abandoned, and that is the worker's final account.
         ensures accounts { IfOk result
             (λ a. IsAccounted self a.desk passes.items (abandon worker.account)) }

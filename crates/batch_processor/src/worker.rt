@@ -2,7 +2,7 @@
 ghost use Rattle.std.specs.Prelude.{◌≡◌, IfOk, IsTrue, None, true, false};
 ghost use Rattle.retry_model.specs.Waits.{IsRetryConfig};
 ghost use Rattle.batch_model.specs.Worker.{new_worker};
-ghost use Rattle.batch_model.specs.Clauses.{EndByWork, abandon};
+ghost use Rattle.batch_model.specs.Clauses.{EndByWork, WorksUntilItLeaves, abandon};
 ghost use Rattle.batch_model.specs.Holders.{after_left, worker};
 ghost use Rattle.batch_processor.specs.Views.{setup_view};
 ghost use Rattle.batch_processor.specs.Working.{GoesOn, IsPrepared};
@@ -205,6 +205,7 @@ impl<J: Naming, R: Wait + Drop, A: Allocator + Copy> WorkerPass<J, R, A> {
     pub(crate) fn abandon(self) -> Account<J, Holding>
         ensures account { result ≡ worker self.origin (abandon self.account) }
         ensures by_work { EndByWork self.origin (abandon self.account) }
+        ensures works { WorksUntilItLeaves self.origin self.account }
     {
         let WorkerPass {
             mut worker,

@@ -60,9 +60,11 @@ pub use Rattle.batch_model.specs.Worker as BatchWorker
 pub use Rattle.batch_model.specs.Holders as BatchHolders
 pub use Rattle.batch_model.specs.Batches as BatchSends
 pub use Rattle.batch_model.specs.Clauses as BatchClauses
+pub use Rattle.batch_model.specs.Kept as BatchKept
 pub use Rattle.batch_processor.specs.Views as BatchViews
 pub use Rattle.batch_processor.specs.Answers as BatchAnswers
-pub use Rattle.batch_processor.specs.Working as BatchWorking
+pub use Rattle.batch_processor.specs.Holds as BatchHolds
+pub use Rattle.batch_processor.specs.Attempts as BatchWorking
 pub use Rattle.run_text.specs.Lines
 pub use Rattle.trace_run.specs.Out
 pub use Rattle.trace_run.specs.Run

@@ -64,7 +64,8 @@ pub(crate) enum Task {
     EndLate(u64),
     /// A span ends while another one is being sent.
     EndWhileSending,
-    /// A flush asks for a span, whose batch isn't full.
+    /// A flush on the first pass, which ended nothing, asks for a span that ended on the last one,
+    /// and whose batch isn't full.
     Flush,
     /// A flush asks for a span, which nobody sends until the worker leaves.
     FlushUntilItLeaves,
@@ -121,7 +122,11 @@ pub(crate) fn do_first<J: Naming, R: Wait + Abort + Clock + Copy>(
     task: Task,
     stage: &AtomicU64,
 ) {
-    let spans = if matches!(task, Task::EndThree) { 3 } else { 1 };
+    let spans = match task {
+        Task::EndThree => 3,
+        Task::Flush => 0,
+        _ => 1,
+    };
     for ticket in 0..spans {
         assert_equal(&rt, end(&rt, alloc, pass), Ended::Queued(ticket));
     }
@@ -137,6 +142,12 @@ pub(crate) fn do_first<J: Naming, R: Wait + Abort + Clock + Copy>(
         assert_equal(&rt, pass.force_flush(), Err(WorkerLeft));
     }
     stage.store(ANSWERED, Ordering::SeqCst);
+}
+
+/// Ends a span on the last pass, the first one of the processor.
+fn end_on_last<J: Naming, R: Wait + Abort>(rt: &R, alloc: Global, passes: &mut [Pass<J, R>]) {
+    let last = passes.last_mut().expect(rt, "a pass");
+    assert_equal(rt, end(rt, alloc, last), Ended::Queued(0));
 }
 
 /// Does a task and shuts the processor down. Then a span that ends is late.
@@ -155,6 +166,9 @@ where
         Task::EndMany(spans) => end_on_each(rt, alloc, passes.as_mut_slice(), spans, false),
         Task::EndLate(spans) => end_on_each(rt, alloc, passes.as_mut_slice(), spans, true),
         _ => {
+            if matches!(task, Task::Flush) {
+                end_on_last(&rt, alloc, passes.as_mut_slice());
+            }
             let first = passes.first_mut().expect(&rt, "a pass");
             thread::join(
                 &rt,

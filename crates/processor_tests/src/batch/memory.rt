@@ -1,7 +1,7 @@
 //! Processors to which memory is refused once, at each place in turn.
 ghost use Rattle.std.specs.Prelude.{◌≡◌};
 
-use crate::batch::fixture::{Left, assert_named, close, config, count_spans, queue, work};
+use crate::batch::fixture::{Left, assert_named, close, config, count_spans, make, queue, work};
 use crate::batch::neighbors;
 use crate::equal::{assert_equal, assert_equal_at};
 use batch_desk::FateCounts;
@@ -56,8 +56,8 @@ fn assert_settled<A: Allocator>(rt: &impl Abort, left: &Left<A>, refused: Refuse
 }
 
 /// Six spans end, and their batches are sent on scarce memory. Where a batch is refused memory, it is
-/// dropped, and the others are sent. The first batch is settled while half a one waits, so that the
-/// next two spans, at their ends, have those of the first batch freed in their place: as much memory
+/// dropped, and the others are sent. The first batch is settled while half a one waits, so that each
+/// of the next two spans, at its end, has one of the first batch freed in its place: as much memory
 /// is used as before.
 fn send_scarce<J, R, A>(rt: R, heap: &LocalHeap, ample: A, scarce: A, blank: BatchBlank) -> Refused
 where
@@ -83,9 +83,11 @@ where
     work(rt, ample, &mut worker, &mut exporter, 0, TURNS);
     let used = heap.used();
     let sent = exporter.handed().len();
-    queue(&rt, ample, passes.as_mut_slice(), 3, 2);
+    queue(&rt, ample, passes.as_mut_slice(), 3, 1);
+    let one_more = heap.used();
+    queue(&rt, ample, passes.as_mut_slice(), 4, 1);
     if sent > 0 {
-        assert_equal(&rt, heap.used(), used);
+        assert_equal(&rt, (one_more, heap.used()), (used, used));
     }
     queue(&rt, ample, passes.as_mut_slice(), 5, 1);
     work(rt, ample, &mut worker, &mut exporter, 0, 2 * TURNS);
@@ -98,6 +100,39 @@ where
     let spans = count_spans(&rt, ample, exporter.handed());
     assert_equal(&rt, spans as u64, left.totals.handed);
     refused
+}
+
+/// A batch is settled while no span waits: the worker frees its spans, and the next end has none
+/// freed in its place.
+fn send_while_none_waits<J, R, A>(rt: R, heap: &LocalHeap, alloc: A, blank: BatchBlank)
+where
+    J: Naming,
+    R: Wait + Abort + Clock + Copy,
+    A: Allocator + Copy,
+    requires { blank ≡ J.name }
+{
+    let Parts {
+        processor,
+        mut passes,
+        mut worker,
+    } = make::<J, R, A>(rt, alloc, blank, config(4, 2), 1, 0);
+    let mut exporter = MemoryExporter::new(alloc, Vec::new(alloc));
+    queue(&rt, alloc, passes.as_mut_slice(), 0, 2);
+    work(rt, alloc, &mut worker, &mut exporter, 0, TURNS);
+    assert_equal(&rt, exporter.handed().len(), 1);
+    let used = heap.used();
+    queue(&rt, alloc, passes.as_mut_slice(), 2, 1);
+    assert_equal(&rt, heap.used() > used, true);
+    close(rt, alloc, processor, passes, worker);
+}
+
+#[test]
+fn spans_that_were_sent_while_none_waits_are_freed_at_once(rt: HostRuntime) {
+    let heap = LocalHeap::new(rt.alloc(), 65_536).expect(&rt, "memory");
+    let ample = FailingAllocator::new(&heap, u64::MAX);
+    let blank = BatchBlank::new();
+    send_while_none_waits::<Brand, HostRuntime, _>(rt, &heap, &ample, blank);
+    assert_equal(&rt, heap.used(), 0);
 }
 
 /// More calls for memory than there are.

@@ -9,10 +9,12 @@ use crate::batch::neighbors::close_out;
 use crate::equal::{assert_equal, assert_equal_at};
 use crate::fixture::{end, end_in, entry, exporter};
 use batch_processor::{
-    BatchBlank, BatchConfig, BatchProcessor, Clock, Naming, Parts, Pass, WorkEnd, WorkerPass,
+    BatchBlank, BatchConfig, BatchProcessor, Clock, Naming, Parts, Pass, SystemClock, WorkEnd,
+    WorkerPass,
 };
 use otlp_sampler::AlwaysOn;
 use otlp_span::Reason;
+use rand_core::Rng;
 use retry_core::{Outcome, RetryAfter};
 use span_exporter::{Exporter, Handed, MemoryExporter};
 use std::alloc::Global;
@@ -41,9 +43,9 @@ fn assert_sent_twice(rt: &impl Abort, alloc: Global, handed: &[Handed]) {
     }
 }
 
-/// A second after the processor was made, the delay has passed, so a batch that isn't full is sent.
-/// Two seconds behind the reply it is sent again.
-fn send_again<J, R>(rt: R, alloc: Global, blank: BatchBlank)
+/// Once the delay has passed since the processor was made, a batch that isn't full is due. It is
+/// sent at this moment, no earlier than that, and again two seconds after the reply.
+fn send_again<J, R>(rt: R, alloc: Global, blank: BatchBlank, made: u64, sent: u64)
 where
     J: Naming,
     R: Wait + Abort + time::Clock + Copy,
@@ -55,16 +57,32 @@ where
         processor,
         mut passes,
         mut worker,
-    } = make::<J, R, Global>(rt, alloc, blank, settings, 1, SECOND);
+    } = make::<J, R, Global>(rt, alloc, blank, settings, 1, made);
     let mut exporter = exporter(&rt, alloc, &[LATER]);
     queue(&rt, alloc, passes.as_mut_slice(), 0, 1);
-    work(rt, alloc, &mut worker, &mut exporter, 2 * SECOND - 1, 10);
+    let due = made.saturating_add(SECOND);
+    let again = sent.saturating_add(2 * SECOND);
+    work(
+        rt,
+        alloc,
+        &mut worker,
+        &mut exporter,
+        due.saturating_sub(1),
+        10,
+    );
     assert_equal(&rt, exporter.handed().len(), 0);
-    work(rt, alloc, &mut worker, &mut exporter, 2 * SECOND, 4);
+    work(rt, alloc, &mut worker, &mut exporter, sent, 4);
     assert_equal(&rt, exporter.handed().len(), 1);
-    work(rt, alloc, &mut worker, &mut exporter, 4 * SECOND - 1, 100);
+    work(
+        rt,
+        alloc,
+        &mut worker,
+        &mut exporter,
+        again.saturating_sub(1),
+        100,
+    );
     assert_equal(&rt, exporter.handed().len(), 1);
-    work(rt, alloc, &mut worker, &mut exporter, 4 * SECOND, 10);
+    work(rt, alloc, &mut worker, &mut exporter, again, 10);
     let totals = close(rt, alloc, processor, passes, worker).totals;
     assert_equal(&rt, (totals.handed, totals.fates.delivered), (1, 1));
     assert_sent_twice(&rt, alloc, exporter.handed());
@@ -72,7 +90,70 @@ where
 
 #[test]
 fn waits_again(rt: HostRuntime) {
-    send_again::<Brand, HostRuntime>(rt, rt.alloc(), BatchBlank::new());
+    send_again::<Brand, HostRuntime>(rt, rt.alloc(), BatchBlank::new(), SECOND, 2 * SECOND);
+}
+
+#[test]
+fn waits_again_at_later_moments(rt: HostRuntime) {
+    let (made, sent) = (77 * SECOND + 5, 79 * SECOND + 3);
+    send_again::<Brand, HostRuntime>(rt, rt.alloc(), BatchBlank::new(), made, sent);
+}
+
+/// A batch is sent twice, so two words are drawn, and the third is left.
+fn draw<J, R>(rt: R, alloc: Global, blank: BatchBlank)
+where
+    J: Naming,
+    R: Wait + Abort + time::Clock + Copy,
+    requires { blank ≡ J.name }
+{
+    let Parts {
+        processor,
+        mut passes,
+        mut worker,
+    } = make::<J, R, Global>(rt, alloc, blank, config(1, 1), 1, 0);
+    let mut exporter = exporter(&rt, alloc, &[LATER]);
+    queue(&rt, alloc, passes.as_mut_slice(), 0, 1);
+    let words = Vec::from_slice(alloc, &[11, 22, 33]).expect(&rt, "memory");
+    let mut rng = WordsRng::new(words);
+    let clock = Minutes(Cell::new(0));
+    let end = worker.work(&mut exporter, &clock, &mut rng, 10);
+    assert_equal(&rt, end, WorkEnd::TurnsSpent);
+    assert_equal(&rt, (exporter.handed().len(), rng.next_u64()), (2, 33));
+    close(rt, alloc, processor, passes, worker);
+}
+
+#[test]
+fn one_word_is_drawn_for_each_reply(rt: HostRuntime) {
+    draw::<Brand, HostRuntime>(rt, rt.alloc(), BatchBlank::new());
+}
+
+/// Nothing is to be done: how long twenty turns take, in nanoseconds.
+fn idle<J, R>(rt: R, alloc: Global, blank: BatchBlank) -> u64
+where
+    J: Naming,
+    R: Wait + Abort + time::Clock + Copy,
+    requires { blank ≡ J.name }
+{
+    let Parts {
+        processor,
+        passes,
+        mut worker,
+    } = make::<J, R, Global>(rt, alloc, blank, config(8, 4), 1, 0);
+    let mut exporter = exporter(&rt, alloc, &[]);
+    let clock = SystemClock::new(rt);
+    let began = clock.now();
+    work(rt, alloc, &mut worker, &mut exporter, 0, 20);
+    let took = clock.now().saturating_sub(began);
+    close(rt, alloc, processor, passes, worker);
+    took
+}
+
+/// A turn without anything to do waits for five milliseconds, so twenty of them take no less than
+/// forty, though some may be woken early.
+#[test]
+fn idle_turns_take_their_time(rt: HostRuntime) {
+    let took = idle::<Brand, HostRuntime>(rt, rt.alloc(), BatchBlank::new());
+    assert_equal(&rt, took >= 40_000_000, true);
 }
 
 /// Asserts how the parts of a processor of two passes are shown.

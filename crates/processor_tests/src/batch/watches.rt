@@ -47,12 +47,14 @@ impl<'a, R: Clock> Exporter for Watching<'a, R> {
     }
 }
 
-/// Does a task with one pass, and answers how many batches of at most so many spans were sent, and
-/// at how many of them the exporter saw, in so many looks, that the other thread was answered.
+/// Does a task with so many passes, and answers how many batches of at most so many spans were
+/// sent, and at how many of them the exporter saw, in so many looks, that the other thread was
+/// answered.
 fn watch<J, R>(
     rt: R,
     alloc: Global,
     blank: BatchBlank,
+    passes: usize,
     batch: usize,
     task: Task,
     looks: u32,
@@ -71,7 +73,7 @@ where
         seen: 0,
     };
     let plan = Plan {
-        passes: 1,
+        passes,
         batch,
         task,
         turns: 2000,
@@ -84,13 +86,14 @@ where
 #[test]
 fn end_while_sending(rt: HostRuntime) {
     let (blank, task) = (BatchBlank::new(), Task::EndWhileSending);
-    let seen = watch::<Brand, HostRuntime>(rt, rt.alloc(), blank, 1, task, LOOKS);
+    let seen = watch::<Brand, HostRuntime>(rt, rt.alloc(), blank, 1, 1, task, LOOKS);
     assert_equal(&rt, seen, (2, 2));
 }
 
+/// A pass that ended nothing isn't answered before the batch of another pass's span is settled.
 #[test]
 fn flush_waits(rt: HostRuntime) {
     let (blank, task) = (BatchBlank::new(), Task::Flush);
-    let seen = watch::<Brand, HostRuntime>(rt, rt.alloc(), blank, 4, task, 10_000);
+    let seen = watch::<Brand, HostRuntime>(rt, rt.alloc(), blank, 2, 4, task, 10_000);
     assert_equal(&rt, seen, (1, 0));
 }

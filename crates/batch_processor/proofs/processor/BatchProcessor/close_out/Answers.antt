@@ -1,10 +1,16 @@
 use Rattle.std.proofs.Common.{◌≡◌, ap, ◌∙◌, sym, subst}
-use Rattle.batch_model.specs.Batches.{EndByWork, Origin, abandon}
+use Rattle.batch_model.specs.Batches.{EndByWork, Origin, WorksUntilItLeaves, abandon}
 use Rattle.batch_model.specs.Holders.{origin_in, worker_in}
 use Rattle.batch_model.specs.Worker.{WorkerAccount}
 use Rattle.batch_model.specs.Kept.{IsAccountOf}
 use Rattle.batch_model.proofs.Closing.{accounted}
 use Rattle.batch_processor.proofs.processor.BatchProcessor.close_out.Goals as goal
+
+pub returns-clause-works : goal.returns-clause-works
+returns-clause-works g c =
+    let said : origin_in c.self.inside.account ≡ c.args.self = ap origin_in c.self.invariant ∙ c.self.view_is in
+    let same : c.args.worker.origin ≡ c.args.self = sym (ap origin_in c.abandon-his.ensures.account) ∙ c.close-desk.ensures.origin ∙ said in
+    subst (λ (o : Origin). WorksUntilItLeaves o c.args.worker.account) same c.abandon-his.ensures.works
 
 pub returns-clause-accounts : goal.returns-clause-accounts
 returns-clause-accounts g c =
