@@ -1,5 +1,6 @@
+pub mod Carved
 pub mod Lengths
-pub mod SlotItems
-pub mod SlotSizes
-pub mod Slots
+pub mod Owners
+pub mod PlacesLaws
+pub mod Rooms
 pub mod Steps

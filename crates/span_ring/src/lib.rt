@@ -6,11 +6,12 @@
 #![tactic(auto)]
 
 mod fault;
+mod places;
 mod ring;
+mod room;
 mod run;
 mod segment;
 mod segments;
-mod slot;
 
 pub use fault::RingFault;
 pub use ring::{MAX_QUEUE, SpanRing};

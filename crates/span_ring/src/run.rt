@@ -1,7 +1,8 @@
 ghost use Rattle.std.specs.Prelude.{◌≡◌, ◌≤◌, ◌==◌, ◌++◌, [], length, option_to_list, IsNone, ◌↔◌};
 
+use crate::places::Places;
+use crate::room::{RoomOwner, attach};
 use crate::segment::Segment;
-use crate::slot::{Slot, view};
 use std::alloc::{Allocator, Global};
 use std::fmt;
 use std::marker::Model;
@@ -11,29 +12,30 @@ use std::marker::Model;
 /// A run can't be dropped: it goes back to the ring by
 /// [`SpanRing::give_back`](crate::SpanRing::give_back).
 pub struct Run<T, A: Allocator = Global> {
-    pub(crate) slots: Vec<Slot<T>, A>,
-    // How many slots have no item any more: the first ones.
+    pub(crate) places: Places<T>,
+    pub(crate) owner: RoomOwner<T, A>,
+    // How many places have no item any more: the first ones.
     pub(crate) taken: usize,
+    pub(crate) len: usize,
+    pub(crate) room: usize,
 }
 
 impl<T, A: Allocator> Model for Run<T, A> {
-    ghost use Rattle.std.specs.Prelude.{vec_capacity};
+    ghost use Rattle.std.specs.Prelude.{◌≡◌, ◌+◌, [], length, vec_capacity};
+    ghost use Rattle.std.specs.Vec.{vec_ptr};
     ghost use Rattle.span_ring.specs.Run.{RunView};
-    ghost use Rattle.span_ring.specs.Slot.{AreTaken, items_in};
 
     ghost Value = { RunView T };
 
-    ghost view = { λ r. record {
-      items = items_in r.slots.items;
-      room = vec_capacity r.slots;
-    } };
+    ghost view = { λ r. record { items = r.places.items; room = r.room } };
 
-    ghost invariant = { λ r. AreTaken r.taken r.slots.items };
+    ghost invariant = { λ r. (r.owner.items ≡ []) × (r.places.at ≡ vec_ptr r.owner)
+        × (r.room ≡ vec_capacity r.owner) × (r.places.before ≡ r.taken)
+        × (r.len ≡ length r.places.items) × (r.taken + r.len + r.places.after ≡ r.room) };
 }
 
 impl<T, A: Allocator> Run<T, A> {
     /// Drops the items, first to last.
-    #[tactic(auto, using(crate::proofs::SlotItems::slot_items))]
     pub fn clear(&mut self)
     where
         T: Drop,
@@ -45,62 +47,65 @@ impl<T, A: Allocator> Run<T, A> {
     }
 
     /// The items, first to last.
-    #[tactic(auto, using(crate::proofs::SlotItems::slot_items))]
     pub fn as_slice(&self) -> &[T]
         ensures { result.now ≡ self.now.items }
     {
-        view(&self.slots.as_slice()[self.taken..])
+        self.places.view(self.owner.base(), self.taken, self.len)
     }
 
     /// How many items the run has.
-    #[tactic(auto, using(crate::proofs::SlotItems::slot_items))]
     pub fn len(&self) -> usize
         ensures { result ≡ length self.now.items }
     {
-        self.slots.len() - self.taken
+        self.len
     }
 
     /// Whether the run has no item.
     pub fn is_empty(&self) -> bool
         ensures { result ≡ (length self.now.items == 0) }
     {
-        self.len() == 0
+        self.len == 0
     }
 
     /// How many items the run has room for: the size of a batch of its ring.
-    #[tactic(auto, using(crate::proofs::SlotItems::slot_items))]
     pub fn room(&self) -> usize
         ensures room { result ≡ self.now.room }
         ensures within { length self.now.items ≤ result }
     {
-        self.slots.capacity()
+        self.room
     }
 
     /// Takes the first item out, in constant time. `None` where there is none.
-    #[tactic(auto, using(crate::proofs::SlotItems::slot_items))]
     pub fn pop_front(&mut self) -> Option<T>
         ensures none { IsNone result ↔ (self.old.items ≡ []) }
         ensures first { self.old.items ≡ option_to_list result ++ self.new.items }
         ensures room { self.new.room ≡ self.old.room }
     {
-        if self.taken == self.slots.len() {
+        if self.len == 0 {
             return None;
         }
-        let item = self.slots[self.taken].take();
+        let base = self.owner.base();
+        let item = self.places.read(base, self.taken);
         self.taken += 1;
+        self.len -= 1;
         Some(item)
     }
 
     /// Drops the items that are left, and leaves a segment without items.
-    #[tactic(auto, using(crate::proofs::SlotItems::slot_items))]
     pub(crate) fn into_spare(mut self) -> Segment<T, A>
     where
         T: Drop,
         ensures { result ≡ record self { items = [] } }
     {
         self.clear();
-        let Run { slots, taken: _ } = self;
-        Segment::of_gone(slots)
+        let Run {
+            places,
+            owner,
+            taken: _,
+            len: _,
+            room: _,
+        } = self;
+        Segment::of(attach(places, owner))
     }
 }
 

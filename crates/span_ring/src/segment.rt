@@ -1,31 +1,33 @@
 ghost use Rattle.std.specs.Prelude.{◌≡◌, ◌<◌, ◌++◌, ◌∷◌, [], length, vec_capacity, IfOk};
 ghost use Rattle.span_ring.specs.Run.{empty_run};
-ghost use Rattle.span_ring.specs.Slot.{HaveNone};
 
+use crate::places::Places;
+use crate::room::{RoomOwner, attach, detach};
 use crate::run::Run;
-use crate::slot::{Slot, view};
 use std::alloc::{AllocError, Allocator, Global};
 use std::marker::Model;
 
-/// Slots that all have items, and room for more, as many as a batch has: it is taken once, and
-/// stays as it is.
+/// The room of a `Vec` without items, for as many as a batch has, used from the first place on: it
+/// is taken once, and stays where it is.
 pub(crate) struct Segment<T, A: Allocator = Global> {
-    slots: Vec<Slot<T>, A>,
+    places: Places<T>,
+    owner: RoomOwner<T, A>,
+    len: usize,
+    room: usize,
 }
 
 impl<T, A: Allocator> Model for Segment<T, A> {
-    ghost use Rattle.std.specs.Prelude.{vec_capacity};
+    ghost use Rattle.std.specs.Prelude.{◌≡◌, ◌+◌, [], length, vec_capacity};
+    ghost use Rattle.std.specs.Vec.{vec_ptr};
     ghost use Rattle.span_ring.specs.Run.{RunView};
-    ghost use Rattle.span_ring.specs.Slot.{HaveItems, items_in};
 
     ghost Value = { RunView T };
 
-    ghost view = { λ s. record {
-      items = items_in s.slots.items;
-      room = vec_capacity s.slots;
-    } };
+    ghost view = { λ s. record { items = s.places.items; room = s.room } };
 
-    ghost invariant = { λ s. HaveItems s.slots.items };
+    ghost invariant = { λ s. (s.owner.items ≡ []) × (s.places.at ≡ vec_ptr s.owner)
+        × (s.room ≡ vec_capacity s.owner) × (s.places.before ≡ 0)
+        × (s.len ≡ length s.places.items) × (s.len + s.places.after ≡ s.room) };
 }
 
 impl<T, A: Allocator> Segment<T, A> {
@@ -33,62 +35,79 @@ impl<T, A: Allocator> Segment<T, A> {
     pub(crate) fn with_room(alloc: A, room: usize) -> Result<Segment<T, A>, AllocError>
         ensures { IfOk result (λ segment. segment ≡ empty_run room) }
     {
-        let slots = Vec::with_capacity(alloc, room)?;
-        Ok(Segment { slots })
+        let vec = Vec::with_capacity(alloc, room)?;
+        Ok(Segment::of(vec))
     }
 
-    /// The segment of slots that have no items, which are let go.
-    #[tactic(auto, using(crate::proofs::SlotItems::slot_items))]
-    pub(crate) fn of_gone(mut slots: Vec<Slot<T>, A>) -> Segment<T, A>
-        requires { HaveNone slots.items }
-        ensures { result ≡ empty_run (vec_capacity slots) }
+    /// The room of the `Vec`, which has no items.
+    pub(crate) fn of(vec: Vec<T, A>) -> Segment<T, A>
+        requires { vec.items ≡ [] }
+        ensures { result ≡ empty_run (vec_capacity vec) }
     {
-        while let Some(slot) = slots.pop() {
-            slot.let_go();
+        let room = vec.capacity();
+        let (places, owner) = detach(vec);
+        Segment {
+            places,
+            owner,
+            len: 0,
+            room,
         }
-        Segment { slots }
     }
 
     /// How many items it has.
-    #[tactic(auto, using(crate::proofs::SlotItems::slot_items))]
     pub(crate) fn len(&self) -> usize
         ensures { result ≡ length self.now.items }
     {
-        self.slots.len()
+        self.len
     }
 
     /// The items, first to last.
-    #[tactic(auto, using(crate::proofs::SlotItems::slot_items))]
     pub(crate) fn as_slice(&self) -> &[T]
         ensures { result.now ≡ self.now.items }
     {
-        view(self.slots.as_slice())
+        self.places.view(self.owner.base(), 0, self.len)
     }
 
     /// Puts the item behind the others.
-    #[tactic(auto, using(crate::proofs::SlotItems::slot_items))]
     pub(crate) fn push(&mut self, item: T)
         requires { length self.old.items < self.old.room }
         ensures { self.new ≡ record self.old { items = self.old.items ++ item ∷ [] } }
     {
-        self.slots.push_reserved(Slot::of(item));
+        let base = self.owner.base();
+        self.places.write(base, self.len, item);
+        self.len += 1;
     }
 
     /// The segment as a run, from which items are taken.
-    #[tactic(auto, using(crate::proofs::SlotItems::slot_items))]
     pub(crate) fn into_run(self) -> Run<T, A>
         ensures { result ≡ self }
     {
-        let Segment { slots } = self;
-        Run { slots, taken: 0 }
+        let Segment {
+            places,
+            owner,
+            len,
+            room,
+        } = self;
+        Run {
+            places,
+            owner,
+            taken: 0,
+            len,
+            room,
+        }
     }
 
     /// Frees the room of a segment without items.
     pub(crate) fn free(self)
         requires { self.items ≡ [] }
     {
-        let Segment { slots } = self;
-        slots.destroy_empty();
+        let Segment {
+            places,
+            owner,
+            len: _,
+            room: _,
+        } = self;
+        attach(places, owner).destroy_empty();
     }
 }
 

@@ -1,4 +1,4 @@
-use Rattle.std.proofs.Common.{◌≡◌, [], ◌∷◌, ◌++◌, arith}
+use Rattle.std.proofs.Common.{◌≡◌, [], ◌∷◌, ◌++◌, length, arith, ap}
 use Rattle.std.proofs.lemmas.Grind.{common_steps}
 use Rattle.std.proofs.lemmas.List.{append-nil}
 use Rattle.span_ring.specs.Segments.{AreSpare}
@@ -11,3 +11,8 @@ returns-in-None-clause-items g c =
     let all : AreSpare c.args.batch (c.take_last-next.new.self.items ++ c.take_last-next.result ∷ []) = rw (← c.take_last-next.ensures.items) c.requires.all_spare in
     let none : c.take_last-next.result.items ≡ [] = (last_spare c.args.batch _ _ all).1 in
     grind (arith, common_steps, append-nil, items_of_more, none)
+
+pub returns-in-None-clause-filling : goal.returns-in-None-clause-filling
+returns-in-None-clause-filling g c =
+    let all : AreSpare c.args.batch (c.take_last-next.new.self.items ++ c.take_last-next.result ∷ []) = rw (← c.take_last-next.ensures.items) c.requires.all_spare in
+    let last = last_spare c.args.batch _ _ all in rw c.replace.ensures.after (omega (arith, ap length last.1), last.2)

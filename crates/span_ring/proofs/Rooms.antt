@@ -1,0 +1,64 @@
+-- Room and items side by side: how a place goes from the one to the other.
+use Rattle.std.proofs.Common.{◌≡◌, ◌∙◌, ℕ, zero, suc, ◌+◌, ◌*◌, ◌-◌, ◌^◌, ◌<◌, ◌≤◌, ap, List, [], ◌∷◌, ◌++◌, length, drop as drop_n, arith, refl, sym}
+use native.Mathlib.Nat.{zero-mul, suc-mul, one-mul}
+use Rattle.std.proofs.Math.Nat.{add-mul}
+use seplogic.Ra.Ura.{Ura}
+use base.Fraction.{full_share}
+use base.Logic.{ent, sep}
+use prog.Memory.{capped}
+use prog.Capped.{capped_is}
+use base.Fml.{froom}
+use mir.Syntax.{Ty, ty_array}
+use prog.Memory.{size}
+use types.Logic.{Logic, sem}
+use types.Kit.{‵, use0, ◌$◌, ◌∵◌, !, qed, by, move, drop, use2, fsplit, fjoin, rewrite, done}
+use denote.RattleType.{RattleType}
+use denote.Memory.{part_at}
+use denote.RawPtr.Room.{past, room_glue}
+use denote.Steps.{nothing}
+use Rattle.std.specs.Mem.{type_size}
+use Rattle.span_ring.specs.Places.{items_own}
+
+past_is : (τ : Ty) (m o : ℕ) → past τ m o ≡ m * size τ + o
+past_is τ zero o = omega (arith, zero-mul (size τ))
+past_is τ (suc m) o = past_is τ m (o + size τ) ∙ omega (arith, suc-mul m (size τ))
+
+module _ {M : Type 1} {𝓤 : Ura M} (𝓛 : Logic 𝓤) (b : ℕ) where
+  -- room right behind other room
+  pub joined : (τ : Ty) (m n o at : ℕ) → at ≡ m * size τ + o → ent 𝓤 (sep 𝓤 (sem 𝓛 (froom (ty_array τ m) b o)) (sem 𝓛 (froom (ty_array τ n) b at))) (sem 𝓛 (froom (ty_array τ (m + n)) b o))
+  joined τ m n o at e = qed 𝓛 (‵ (froom (ty_array τ m) b o) ∷ ‵ (froom (ty_array τ n) b at) ∷ []) ∵ move ! (1 ∷ []) $
+      rewrite ! 0 (λ (k : ℕ). ‵ (froom (ty_array τ n) b k)) (e ∙ sym (past_is τ m o)) refl $ move ! (1 ∷ 0 ∷ []) $ by ! (room_glue 𝓛 τ m n b o)
+
+  module _ (R : RattleType) (x : R.Denot) where
+    -- an item right behind others
+    pub one_more : (xs : List R.Denot) (o at : ℕ) → at ≡ length xs * type_size R + o
+        → ent 𝓤 (sep 𝓤 (sem 𝓛 (items_own R b o xs)) (sem 𝓛 (part_at R full_share x b at))) (sem 𝓛 (items_own R b o (xs ++ x ∷ [])))
+    one_more [] o at e = let same : at ≡ o = omega (arith, e, zero-mul (type_size R)) in qed 𝓛 (‵ (items_own R b o []) ∷ ‵ (part_at R full_share x b at) ∷ []) ∵ drop ! $
+        rewrite ! 0 (λ (k : ℕ). ‵ (part_at R full_share x b k)) same refl $ nothing ! $ move ! (1 ∷ 0 ∷ []) $ fjoin ! $ done !
+    one_more (y ∷ xs) o at e = let further : at ≡ length xs * type_size R + (o + type_size R) = omega (arith, e, suc-mul (length xs) (type_size R)) in
+        qed 𝓛 (‵ (items_own R b o (y ∷ xs)) ∷ ‵ (part_at R full_share x b at) ∷ []) ∵ fsplit ! $ move ! (1 ∷ 2 ∷ []) $
+        use2 𝓛 (‵ (items_own R b (o + type_size R) (xs ++ x ∷ []))) (one_more xs (o + type_size R) at further) $ move ! (1 ∷ 0 ∷ []) $ fjoin ! $ done !
+
+module _ {M : Type 1} {𝓤 : Ura M} (𝓛 : Logic 𝓤) (b : ℕ) where
+  -- one more place of room
+  pub longer : (τ : Ty) (m o at : ℕ) → at ≡ m * size τ + o → ent 𝓤 (sep 𝓤 (sem 𝓛 (froom (ty_array τ m) b o)) (sem 𝓛 (froom τ b at))) (sem 𝓛 (froom (ty_array τ (m + 1)) b o))
+  longer τ m o at e = qed 𝓛 (‵ (froom (ty_array τ m) b o) ∷ ‵ (froom τ b at) ∷ []) ∵
+      use0 𝓛 (‵ (froom (ty_array τ 0) b (at + size τ))) (𝓛.laws.room_nil τ b (at + size τ)) $ move ! (2 ∷ 0 ∷ []) $
+      use2 𝓛 (‵ (froom (ty_array τ 1) b at)) (𝓛.laws.room_cons τ 0 b at) $ move ! (1 ∷ 0 ∷ []) $ by ! (joined 𝓛 b τ m 1 o at e)
+
+-- a list of some items has a first one
+pub split_first : {X : Type 0} (xs : List X) → 0 < length xs → (x : X) × (xs ≡ x ∷ drop_n 1 xs)
+split_first [] filled = absurd (omega arith)
+split_first (x ∷ xs) filled = (x, refl)
+
+-- fewer places than all take fewer bytes
+pub within_all : (before n after s : ℕ) → (before + n + after) * s < 2 ^ 63 → (0 < before + n + after → s < 2 ^ 64) × ((i : ℕ) → i ≤ before + n + after → i * s < 2 ^ 64)
+within_all before n after s small =
+    let all = before + n + after in
+    let part : (i : ℕ) → i ≤ all → i * s < 2 ^ 64 = λ i le. let sum : i + (all - i) ≡ all = omega arith in omega (arith, add-mul i (all - i) s, ap (λ (k : ℕ). k * s) sum) in
+    (λ filled. omega (arith, part 1 (omega arith), one-mul s), part)
+
+-- a size in bytes is read as it is where so many of them are counted
+pub uncapped : (i s : ℕ) → i * s < 2 ^ 64 → i * capped s ≡ i * s
+uncapped zero s far = zero-mul (capped s) ∙ sym (zero-mul s)
+uncapped (suc i) s far = ap (λ (k : ℕ). suc i * k) (capped_is s (omega (arith, far, suc-mul i s)))
