@@ -22,7 +22,8 @@ use Rattle.otlp_span.specs.contracts.parts.Scope as Scope
 use Rattle.otlp_span.specs.contracts.parts.SpanLimits as SpanLimits
 use Rattle.otlp_span.specs.contracts.parts.Status as Status
 use Rattle.drop_ledger.specs.contracts.ledger.Ledger as Ledger
-use Rattle.span_ring.proofs.slot.Slot.TheSendSync as slot
+use Rattle.span_ring.proofs.places.Places.TheSendSync as places
+use Rattle.span_ring.proofs.room.RoomOwner.TheSendSync as owner
 use Rattle.span_ring.specs.contracts.run.Run as Run
 use Rattle.span_ring.specs.contracts.ring.SpanRing as SpanRing
 use Rattle.batch_desk.specs.contracts.batch.Batch as Batch
@@ -102,10 +103,10 @@ abbrev S : RattleType
 S = SpanData.the_row Heap.the_row ghosts
 
 run_send : IsSend (Run.the_row S Heap.the_row ghosts)
-run_send = search (sendable, data_send, slot.the_send, heap.crosses) depth 60 fits 20000
+run_send = search (sendable, data_send, places.the_send, owner.the_send, heap.crosses) depth 60 fits 20000
 
 ring_send : IsSend (SpanRing.the_row S Heap.the_row ghosts)
-ring_send = search (sendable, data_send, slot.the_send, heap.crosses) depth 60 fits 20000
+ring_send = search (sendable, data_send, places.the_send, owner.the_send, heap.crosses) depth 60 fits 20000
 
 pub batch_send : IsSend (Batch.the_row Heap.the_row ghosts)
 batch_send = search (sendable, run_send, heap.crosses) depth 60 fits 20000

@@ -58,7 +58,7 @@ view_spec 𝓤 𝓛 𝓜 𝓡 wired X L =
     let En' : Env 𝓤 H = env fn.locals l in
     -- [the `&`; the tokens]
     unhide ! $ fsplit ! $ drop ! $ in_a_block ! d.at (λ (r : Ptr). places_lent R r d.before d.items d.after κ) (id⊢ 𝓤 (never 𝓤)) (λ b o e. fsplit ! $ flt_l ! (λ small.
-    let sizes = within_all d.before (length d.items) d.after s small in let far : i * s < 2 ^ 64 = sizes.1 i (omega arith) in 
+    let sizes = within_all d.before (length d.items) d.after s small in let far : i * s < 2 ^ 64 = sizes.1 i (omega arith) in
     let few : length d.items * s < 2 ^ 63 = omega (arith, small, add-mul (d.before + length d.items) d.after s, add-mul d.before (length d.items) s) in
     take_at ! 2 $ rewrite ! 0 (λ (r : Ptr). ‵ (fat full_share ty_ptr (l 2) 0 (ptr_val r))) (at ∙ e) refl $ give_at ! 2 $ first ! $ blocks ! $
     sets ! (is_as ! (bin ! (get ! refl) (size_word !) (record { fits = subst (λ (k : ℕ). k < 2 ^ 64) (sym (uncapped i s far)) far })) (ap (vint w64) (uncapped i s far))) refl (tt, record { fits = far }) $

@@ -67,8 +67,8 @@ write_spec 𝓤 𝓛 𝓜 𝓡 wired X L =
     let moved : i * s ≡ (d.before + length d.items) * s = ap (λ (n : ℕ). n * s) index in
     let behind : i * s + o ≡ length d.items * s + (d.before * s + o) = omega (arith, moved, add-mul d.before (length d.items) s) in
     let further : i * s + o + s ≡ (d.before + length xs) * s + o =
-        let longer_by_one : d.before + length xs ≡ d.before + length d.items + 1 = omega (arith, length_push d.items x) in
-        omega (arith, moved, ap (λ (n : ℕ). n * s) longer_by_one, add-mul (d.before + length d.items) 1 s, one-mul s) in
+    let longer_by_one : d.before + length xs ≡ d.before + length d.items + 1 = omega (arith, length_push d.items x) in
+    omega (arith, moved, ap (λ (n : ℕ). n * s) longer_by_one, add-mul (d.before + length d.items) 1 s, one-mul s) in
     take_at ! 2 $ rewrite ! 0 (λ (r : Ptr). ‵ (fat full_share ty_ptr (l 2) 0 (ptr_val r))) (at ∙ e) refl $ give_at ! 2 $ first ! $ blocks ! $
     sets ! (bin ! (get ! refl) (size_lit ! (record { fits = tiny })) (record { fits = far })) refl (tt, record { fits = far }) $
     sets ! (bin ! (get ! refl) (get ! refl) tt) refl (tt, tt) $
