@@ -6,7 +6,8 @@ use crate::batch::fixture::{Left, close, config, make};
 use crate::equal::assert_equal;
 use crate::fixture::end;
 use batch_processor::{
-    BatchBlank, Flushed, ManualClock, Naming, Parts, Pass, WorkEnd, WorkerLeft, WorkerPass,
+    BatchBlank, BatchConfig, Clock as _, Flushed, ManualClock, Naming, Parts, Pass, SystemClock,
+    WorkEnd, WorkerLeft, WorkerPass,
 };
 use otlp_span::Reason;
 use span_exporter::Exporter;
@@ -44,13 +45,15 @@ pub(crate) fn is_reached(rt: &impl Clock, stage: &AtomicU64, wanted: u64, looks:
     false
 }
 
-/// A processor that is made with so many passes, sends batches of so many spans at most, and holds
-/// four times as many in its queue; what is done with its passes; and the turns of its worker, in
-/// which all is to be drained. One that finds nothing to do takes some milliseconds.
+/// A processor that is made with so many passes, sends batches of so many spans at most, whose
+/// bodies have at most so many bytes, and holds four times as many in its queue; what is done with
+/// its passes; and the turns of its worker, in which all is to be drained. One that finds nothing to
+/// do takes some milliseconds.
 #[derive(Clone, Copy)]
 pub(crate) struct Plan {
     pub(crate) passes: usize,
     pub(crate) batch: usize,
+    pub(crate) max_body: usize,
     pub(crate) task: Task,
     pub(crate) turns: u64,
 }
@@ -62,6 +65,8 @@ pub(crate) enum Task {
     EndMany(u64),
     /// The same, but the first pass shuts the processor down meanwhile, so that spans are late.
     EndLate(u64),
+    /// So many spans end on the first pass, each a millisecond or two after the one before is sent.
+    EndSpaced(u64),
     /// A span ends while another one is being sent.
     EndWhileSending,
     /// A flush on the first pass, which ended nothing, asks for a span that ended on the last one,
@@ -112,6 +117,35 @@ where
             }
         },
     );
+}
+
+/// Looks for some seconds whether an exporter has cleared a moment.
+fn is_cleared(rt: &impl Clock, moment: &AtomicU64) -> bool {
+    for _ in 0..5000u32 {
+        if moment.load(Ordering::SeqCst) == 0 {
+            return true;
+        }
+        thread::sleep(rt, Duration::from_millis(1));
+    }
+    false
+}
+
+/// Ends so many spans on a pass, each a while after the one before is sent, when the worker waits.
+/// The exporter is to clear the moment of each.
+fn end_spaced<J: Naming, R: Wait + Abort + Clock + Copy>(
+    rt: R,
+    alloc: Global,
+    pass: &mut Pass<J, R>,
+    spans: u64,
+    moment: &AtomicU64,
+) {
+    let clock = SystemClock::new(rt);
+    for ticket in 0..spans {
+        thread::sleep(&rt, Duration::from_millis(1));
+        moment.store(clock.now(), Ordering::SeqCst);
+        assert_equal(&rt, end(&rt, alloc, pass), Ended::Queued(ticket));
+        assert_equal(&rt, is_cleared(&rt, moment), true);
+    }
 }
 
 /// Does a task with the first pass.
@@ -165,6 +199,10 @@ where
     match task {
         Task::EndMany(spans) => end_on_each(rt, alloc, passes.as_mut_slice(), spans, false),
         Task::EndLate(spans) => end_on_each(rt, alloc, passes.as_mut_slice(), spans, true),
+        Task::EndSpaced(spans) => {
+            let first = passes.first_mut().expect(&rt, "a pass");
+            end_spaced(rt, alloc, first, spans, stage);
+        }
         _ => {
             if matches!(task, Task::Flush) {
                 end_on_last(&rt, alloc, passes.as_mut_slice());
@@ -215,10 +253,14 @@ where
     let Plan {
         passes,
         batch,
+        max_body,
         task,
         turns,
     } = plan;
-    let config = config(batch.saturating_mul(4), batch);
+    let config = BatchConfig {
+        max_body,
+        ..config(batch.saturating_mul(4), batch)
+    };
     let Parts {
         processor,
         passes,

@@ -8,6 +8,7 @@ use crate::fixture::exporter;
 use batch_desk::FateCounts;
 use batch_processor::{BatchBlank, Naming};
 use drop_ledger::DropCounts;
+use otlp_proto::DEFAULT_MAX_BODY;
 use otlp_span::Reason;
 use std::alloc::Global;
 use std::marker::Brand;
@@ -63,6 +64,7 @@ where
     let plan = Plan {
         passes,
         batch: 16,
+        max_body: DEFAULT_MAX_BODY,
         task,
         turns: ended.saturating_add(2000),
     };
