@@ -118,7 +118,7 @@ fn a_flush_of_a_batch_that_is_dropped_is_answered(rt: HostRuntime) {
 }
 
 /// An exporter that counts the batches that it is handed, and those of them that it is handed in two
-/// milliseconds from a moment, which it clears.
+/// milliseconds from a moment, which it sets then.
 #[derive(Drop)]
 struct Timing<'a, R: Clock> {
     clock: SystemClock<R>,
@@ -139,15 +139,13 @@ impl<'a, R: Clock> Exporter for Timing<'a, R> {
     }
 
     fn export(&mut self, _number: u64, _attempt: u32, _body: &[u8]) -> Outcome {
-        let took = self
-            .clock
-            .now()
-            .saturating_sub(self.moment.load(Ordering::SeqCst));
+        let now = self.clock.now();
+        let took = now.saturating_sub(self.moment.load(Ordering::SeqCst));
         self.sent = self.sent.saturating_add(1);
         if took < 2_000_000 {
             self.quick = self.quick.saturating_add(1);
         }
-        self.moment.store(0, Ordering::SeqCst);
+        self.moment.store(now, Ordering::SeqCst);
         Outcome::Delivered
     }
 }
@@ -179,4 +177,14 @@ fn a_batch_that_fills_wakes_the_worker(rt: HostRuntime) {
     let (sent, quick) = time_batches::<Brand, HostRuntime>(rt, rt.alloc(), BatchBlank::new(), plan);
     assert_equal(&rt, sent, 40);
     assert!(rt; quick >= 10, "{quick} of {sent} were sent soon");
+}
+
+/// The worker frees the spans of a batch that was sent once the hold is over by which it settles it:
+/// a flush ends before, and whoever wants the lock has it. A span of 20,000 texts takes many times
+/// as long to be freed as a batch takes to be settled.
+#[test]
+fn spans_that_were_sent_are_freed_after_the_hold(rt: HostRuntime) {
+    let plan = plan(1, 4, usize::MAX, Task::FlushLarge(5));
+    let (sent, _) = time_batches::<Brand, HostRuntime>(rt, rt.alloc(), BatchBlank::new(), plan);
+    assert_equal(&rt, sent, 5);
 }
