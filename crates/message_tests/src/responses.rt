@@ -5,7 +5,8 @@ use crate::equal::{assert_equal_at, assert_told};
 use failing_allocator::FailingAllocator;
 use linked_list_allocator::LocalHeap;
 use otlp_message::{
-    PartialSuccess, ReadFault, Response, read_rejected_spans, read_response, write_response,
+    PartialSuccess, ReadFault, Response, read_partial_bytes, read_rejected_spans, read_response,
+    read_status_message, write_response,
 };
 use otlp_wire::WireFault;
 use std::alloc::{Allocator, Global};
@@ -94,6 +95,40 @@ fn a_response_is_read(rt: HostRuntime) {
     for (body, want) in BODIES {
         assert_read(&rt, rt.alloc(), body, *want);
         assert_rejected(&rt, body, *want);
+    }
+}
+
+/// Checks how many spans are read to be rejected, and for which cause, as bytes.
+fn assert_partial(rt: &impl Abort, body: &[u8], want: Result<(i64, &[u8]), WireFault>) {
+    assert_equal_at(rt, read_partial_bytes(body), want, body);
+}
+
+#[test]
+fn a_rejection_is_read_whatever_its_message_is(rt: HostRuntime) {
+    assert_partial(&rt, b"", Ok((0, b"")));
+    assert_partial(&rt, b"\x0a\x05\x08\x02\x12\x01x", Ok((2, b"x")));
+    assert_partial(&rt, b"\x0a\x05\x08\x02\x12\x01\xff", Ok((2, b"\xff")));
+    let cut = b"\x0a\x05\x08\x02\x12\x01";
+    assert_partial(&rt, cut, Err(WireFault::Truncated));
+}
+
+/// Bodies, and the message that each has as a Status (google/rpc/status.proto).
+const STATUSES: &[(&[u8], Result<&str, ReadFault>)] = &[
+    (b"", Ok("")),
+    (b"\x08\x03", Ok("")),
+    (b"\x08\x03\x12\x03bad", Ok("bad")),
+    (b"\x12\x01a\x12\x01b", Ok("b")),
+    (b"\x1a\x04\x0a\x02/t\x12\x01x", Ok("x")),
+    (b"\x12\x01\xff", Err(ReadFault::BadUtf8)),
+    (b"\x0b", Err(ReadFault::Wire(WireFault::Group))),
+    // (the first byte is that of a field 12, the second its length)
+    (b"bad request", Err(ReadFault::Wire(WireFault::Truncated))),
+];
+
+#[test]
+fn the_message_of_a_status_is_read(rt: HostRuntime) {
+    for (body, want) in STATUSES {
+        assert_equal_at(&rt, read_status_message(body), *want, body);
     }
 }
 

@@ -10,16 +10,13 @@ use Rattle.message_model.specs.Wire.{row}
 use Rattle.message_model.specs.Tables
 use Rattle.message_model.specs.Tables.{◌▸◌, text}
 use Rattle.message_model.specs.Messages.{meaning, read, utf8, payloads, last_bytes}
-use Rattle.otlp_message.specs.Response.{Counts, partial_row}
+use Rattle.otlp_message.specs.Response.{Counts, partial_row, row_faults, status}
 use Rattle.otlp_message.specs.declared.response.PartialFields.{PartialFields}
 
-meaning-value : (body : List ℕ) (counted : PartialFields) → Counts counted (partial_row (row body).value).value →
+pub meaning-value : (body : List ℕ) (counted : PartialFields) → Counts counted (partial_row (row body).value).value →
     (meaning Tables.response body).value ≡ (cast_signed w64 counted.rejected_spans ▸ counted.error_message.now ▸ tt) ▸ tt
 unfolding meaning read
 meaning-value body counted h = rw (h.rejected_spans, h.error_message) refl
-
-abbrev pub row_faults : List ℕ → List Fault
-row_faults body = (row body).faults ++ (partial_row (row body).value).faults
 
 pub meaning-faults : (body : List ℕ) → (meaning Tables.response body).faults ≡ row_faults body ++ (utf8 (last_bytes (payloads 2 text (partial_row (row body).value).value))).faults
 unfolding meaning read
@@ -49,3 +46,33 @@ no-fault body counted c e h = meaning-faults body ∙ ap (λ l. l ++ (utf8 (last
 pub is-read : (body : List ℕ) (counted : PartialFields) (message : List ℕ) → Counts counted (partial_row (row body).value).value → row_faults body ≡ [] → IsUtf8 counted.error_message.now → message ≡ counted.error_message.now →
     Reads (meaning Tables.response body) ((cast_signed w64 counted.rejected_spans ▸ message ▸ tt) ▸ tt)
 is-read body counted message c e h same = (no-fault body counted c e h, meaning-value body counted c ∙ ap (λ t. (cast_signed w64 counted.rejected_spans ▸ t ▸ tt) ▸ tt) (sym same))
+
+-- ---- a Status
+
+-- where there are no fields
+pub counts-none : {counted : PartialFields} → counted.rejected_spans ≡ 0 → counted.error_message.now ≡ [] → Counts counted []
+unfolding payloads
+counts-none zero none = record { rejected_spans = zero; error_message = none }
+
+status-value : (body : List ℕ) (counted : PartialFields) → Counts counted (row body).value → (meaning status body).value ≡ counted.error_message.now ▸ tt
+unfolding meaning read
+status-value body counted h = rw (h.error_message) refl
+
+status-faults : (body : List ℕ) → (meaning status body).faults ≡ (row body).faults ++ (utf8 (last_bytes (payloads 2 text (row body).value))).faults
+unfolding meaning read
+status-faults body = simp append-nil refl
+
+pub status-row-fault : (body : List ℕ) (fault : Fault) → Contains (row body).faults fault → Contains (meaning status body).faults fault
+status-row-fault body fault h = subst (λ l. Contains l fault) (sym (status-faults body)) (Contains-append_left (row body).faults _ fault h)
+
+pub status-text-fault : (body : List ℕ) (counted : PartialFields) → Counts counted (row body).value → (IsUtf8 counted.error_message.now → ⊥) → Contains (meaning status body).faults bad_utf8
+status-text-fault body counted c h =
+    subst (λ l. Contains l bad_utf8) (sym (status-faults body)) (Contains-append_right (row body).faults _ bad_utf8
+    (subst (λ t. Contains (utf8 t).faults bad_utf8) c.error_message (not-utf8 counted.error_message.now h (is_utf8 counted.error_message.now) refl)))
+
+pub status-is-read : (body : List ℕ) (counted : PartialFields) (message : List ℕ) → Counts counted (row body).value → (row body).faults ≡ [] → IsUtf8 counted.error_message.now → message ≡ counted.error_message.now →
+    Reads (meaning status body) (message ▸ tt)
+status-is-read body counted message c e h same = (
+  status-faults body ∙ ap (λ l. l ++ (utf8 (last_bytes (payloads 2 text (row body).value))).faults) e ∙ ap (λ t. (utf8 t).faults) (sym c.error_message) ∙ rw (is_utf8-from_IsUtf8 counted.error_message.now h) refl,
+  status-value body counted c ∙ ap (λ t. t ▸ tt) (sym same),
+)

@@ -3,10 +3,10 @@
 use Rattle.std.specs.Prelude.{◌≡◌, ℕ, ℤ, List, [], ◌++◌}
 use Rattle.std.specs.List.{Contains}
 use Rattle.message_model.specs.Reading.{Reading, Fault, bad_utf8, too_deep}
-use Rattle.message_model.specs.Wire.{Field}
+use Rattle.message_model.specs.Wire.{Field, row}
 use Rattle.message_model.specs.Canon.{number_field, unless_empty}
 use Rattle.message_model.specs.Tables
-use Rattle.message_model.specs.Tables.{text, int64, message, Message, ◌▸◌}
+use Rattle.message_model.specs.Tables.{text, int64, message, Table, end, ◌⦂◌◂◌, Message, ◌▸◌}
 use Rattle.message_model.specs.Messages.{payloads, last_number, last_bytes, joined_rows}
 use Rattle.otlp_wire.specs.Fields.{fault_of}
 use Rattle.otlp_message.specs.declared.fault.ReadFault.{ReadFault}
@@ -24,6 +24,16 @@ NamesFault faults OutOfMemory = faults ≡ []
 -- Encoding: Last One Wins)
 abbrev pub partial_row : List Field → Reading (List Field)
 partial_row fields = joined_rows (payloads 1 (message Tables.partial_success) fields)
+
+-- the faults of the fields of a response and of its partial successes; those of texts are left out
+-- (Protocol Buffers, Encoding: Message Structure)
+abbrev pub row_faults : List ℕ → List Fault
+row_faults body = (row body).faults ++ (partial_row (row body).value).faults
+
+-- why a server refuses a request, for its developers; the code and the details aren't read
+-- (google/rpc/status.proto: Status; OTLP Specification, OTLP/HTTP Response: Failures)
+abbrev pub status : Table
+status = 2 ⦂ text ◂ end
 
 -- These are the payloads that count among the fields of a partial success. (Protocol Buffers,
 -- Encoding: Last One Wins)

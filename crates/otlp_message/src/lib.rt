@@ -1,6 +1,7 @@
 //! Messages of OTLP as Protocol Buffers have them on the wire ("Encoding"): the fields of any
 //! message, gathered by its table, and the answer of a collector to a trace export, read and
-//! written (opentelemetry-proto, trace_service.proto).
+//! written (opentelemetry-proto, trace_service.proto), with the message of one that refuses it
+//! (google/rpc/status.proto).
 //!
 //! Whoever reads a message of another table writes a type that keeps what counts of its fields, and
 //! implements [`GatherFields`] for it: its `take` keeps a number by [`last_varint`] or
@@ -20,5 +21,8 @@ pub use content::{copy_bytes, read_text};
 pub use fault::ReadFault;
 pub use gather::{GatherFields, gather_all, gather_in};
 pub use payloads::{bytes_in, last_bytes, last_fixed32, last_fixed64, last_varint, low_32_bits};
-pub use response::{PartialSuccess, Response, read_rejected_spans, read_response};
+pub use response::{
+    PartialSuccess, Response, read_partial_bytes, read_rejected_spans, read_response,
+    read_status_message,
+};
 pub use response_writer::write_response;

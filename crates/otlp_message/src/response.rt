@@ -1,7 +1,7 @@
 //! The answer of a collector to a trace export (opentelemetry-proto, trace_service.proto:
-//! ExportTraceServiceResponse).
+//! ExportTraceServiceResponse), and why one that refuses it does (google/rpc/status.proto).
 
-ghost use Rattle.std.specs.Prelude.{◌≡◌, ◌≢◌, ◌++◌, List, [], ◌∷◌, IfOk, IfErr, OnErr, IsErrOf};
+ghost use Rattle.std.specs.Prelude.{◌≡◌, ◌≢◌, ◌++◌, List, [], ◌∷◌, IfOk, IfErr, OnOk, OnErr, IsErrOf};
 ghost use Rattle.std.specs.Int.{cast_signed, w64};
 ghost use Rattle.std.specs.List.{Contains};
 ghost use Rattle.std.specs.String.{string_bytes};
@@ -12,7 +12,7 @@ ghost use Rattle.message_model.specs.Tables;
 ghost use Rattle.message_model.specs.Tables.{◌▸◌};
 ghost use Rattle.message_model.specs.Messages.{meaning};
 ghost use Rattle.otlp_wire.specs.Fields.{field_of, fault_of};
-ghost use Rattle.otlp_message.specs.Response.{Counts, partial_row, NamesFault, Rejects, message_text};
+ghost use Rattle.otlp_message.specs.Response.{Counts, partial_row, row_faults, status, NamesFault, Rejects, message_text};
 
 use crate::fault::ReadFault;
 use crate::payloads::{bytes_in, varint_in};
@@ -98,7 +98,8 @@ impl<A: Allocator> Response<A> {
     }
 }
 
-/// The payloads that count among some fields of a partial success: the last ones.
+/// The payloads that count among some fields of a partial success: the last ones. A Status has a
+/// number and a text at the same places.
 #[derive(Clone, Copy)]
 struct PartialFields<'a> {
     rejected_spans: u64,
@@ -185,6 +186,46 @@ pub fn read_rejected_spans(body: &[u8]) -> Result<i64, ReadFault>
 {
     let (rejected_spans, _) = read_partial(body)?;
     Ok(rejected_spans.cast_signed())
+}
+
+/// How many spans a response says were rejected, and its message as it came, which needn't be
+/// UTF-8: a message that can't be read leaves the number as it is. It takes no memory.
+///
+/// # Errors
+///
+/// A fault of the fields of the response, or of those of a partial success in it.
+pub fn read_partial_bytes(body: &[u8]) -> Result<(i64, &[u8]), WireFault>
+    ensures ok { IfOk result (λ partial. (meaning Tables.response body.now).value ≡
+        ((partial.0 ▸ partial.1.now ▸ tt) ▸ tt)) }
+    ensures whole { OnOk result (row_faults body.now ≡ []) }
+    ensures err { IfErr result (λ fault. Contains (row_faults body.now) (fault_of fault)) }
+    ensures faulty { OnErr result (row_faults body.now ≢ []) }
+{
+    let counted = partial_fields(body)?;
+    Ok((counted.rejected_spans.cast_signed(), counted.error_message))
+}
+
+/// The message of a Status, which is a part of it: why a server refuses a request
+/// (google/rpc/status.proto; OTLP Specification, "OTLP/HTTP Response", Failures). Of several the
+/// last counts, and where there is none it is empty. It takes no memory.
+///
+/// # Errors
+///
+/// A `ReadFault` that the bytes have: `Wire`, or `BadUtf8` of the message.
+pub fn read_status_message(body: &[u8]) -> Result<&str, ReadFault>
+    ensures ok { IfOk result (λ message. Reads (meaning status body.now) (message.now ▸ tt)) }
+    ensures err { IfErr result (λ fault. NamesFault (meaning status body.now).faults fault) }
+    ensures faulty { OnErr result ((meaning status body.now).faults ≢ []) }
+{
+    let none = PartialFields {
+        rejected_spans: 0,
+        error_message: b"",
+    };
+    let counted = none.with_fields(body)?;
+    match str::from_utf8(counted.error_message) {
+        Ok(text) => Ok(text),
+        Err(_) => Err(ReadFault::BadUtf8),
+    }
 }
 
 /// Reads a response (Protocol Buffers, "Encoding"). Several partial successes are joined, of
