@@ -10,6 +10,9 @@ use Rattle.http_wire.specs.Devices.{HasFailed, one_more}
 use Rattle.otlp_http.specs.Outcomes.{outcome_of, outcome_of_reply}
 use Rattle.otlp_http.specs.Replies.{HttpReply, IsReply, HasNoReply}
 use Rattle.otlp_http.specs.Request.{request_text}
+use Rattle.http_exporter.specs.declared.failure.Failure.{Failure}
+use Rattle.http_exporter.specs.declared.failure.Failure.TheVariants as failures
+use Rattle.http_exporter.specs.Failures.{failure_of, failure_after_a_stop, IsLast}
 
 -- what a link shows: the bytes that it took and those that it has yet to give, where it tells them,
 -- and how often a write and a read failed
@@ -29,13 +32,14 @@ shown contents remaining failed_writes failed_reads = record {
   failed_reads = failed_reads;
 }
 
--- an exporter over links: what dials, where requests go, how much of a reply is read, and whether
--- what came is read where a write failed
+-- an exporter over links: what dials, where requests go, how much of a reply is read, whether what
+-- came is read where a write failed, and what the last attempt met that failed
 pub record Exporting (Dial : Type 0) : Type 0 where
   pub dial : Dial
   pub target : Address
   pub limits : HeadLimits
   pub reads_after_a_stop : Bool
+  pub last_failure : Option Failure
 
 -- the whole text went out, and no write failed
 pub record IsSent {Link : Type 0} (shown : Shown Link) (text : List ℕ)
@@ -66,33 +70,37 @@ abbrev pub outcome_after_a_stop : Result HttpReply HttpFault → Outcome
 outcome_after_a_stop (Ok reply) = outcome_of_reply reply
 outcome_after_a_stop (Err fault) = no_reply
 
--- What came of a text that was posted over a link: what the reply says; that there is none, since
--- a write failed; or, where that is asked for, what a reply says that came all the same.
+-- What came of a text that was posted over a link, and what failed, if anything did: what the reply
+-- says; that there is none, since a write failed; or, where that is asked for, what a reply says
+-- that came all the same.
 pub data IsPosted {Link : Type 0} (shown : Shown Link) (limits : HeadLimits)
-    (reads_after_a_stop : Bool) (text : List ℕ) (old new : Link) (outcome : Outcome) : Type 0 where
+    (reads_after_a_stop : Bool) (text : List ℕ) (old new : Link)
+    (outcome : Outcome) (failure : Option Failure) : Type 0 where
   replied : (sent : Link) (answer : Result HttpReply HttpFault)
       → IsSent shown text old sent → IsAnswer shown limits sent new answer
-      → outcome ≡ outcome_of answer
-      → IsPosted shown limits reads_after_a_stop text old new outcome
+      → outcome ≡ outcome_of answer → failure ≡ failure_of answer
+      → IsPosted shown limits reads_after_a_stop text old new outcome failure
   stopped : reads_after_a_stop ≡ false → IsStopped shown text old new
-      → outcome ≡ no_reply
-      → IsPosted shown limits reads_after_a_stop text old new outcome
+      → outcome ≡ no_reply → failure ≡ Some failures.WriteStopped
+      → IsPosted shown limits reads_after_a_stop text old new outcome failure
   replied_after_a_stop : (stopped : Link) (answer : Result HttpReply HttpFault)
       → reads_after_a_stop ≡ true → IsStopped shown text old stopped
       → IsAnswer shown limits stopped new answer
-      → outcome ≡ outcome_after_a_stop answer
-      → IsPosted shown limits reads_after_a_stop text old new outcome
+      → outcome ≡ outcome_after_a_stop answer → failure ≡ failure_after_a_stop answer
+      → IsPosted shown limits reads_after_a_stop text old new outcome failure
 
 -- What came of an attempt: no link could be had, so there is no reply; or the request of this body
--- was posted over the link that the dial gave.
+-- was posted over the link that the dial gave. What failed is then the last failure.
 pub data IsAttempt {Dial Link : Type 0}
     (dials : Dial → List ℕ → ℕ → Option Link → Dial → Type 0) (shown : Shown Link)
-    (body : List ℕ) (old : Exporting Dial) (dial : Dial) (outcome : Outcome) : Type 0 where
-  unlinked : dials old.dial old.target.host old.target.port None dial
+    (body : List ℕ) (old new : Exporting Dial) (outcome : Outcome) : Type 0 where
+  unlinked : dials old.dial old.target.host old.target.port None new.dial
       → outcome ≡ no_reply
-      → IsAttempt dials shown body old dial outcome
-  linked : (fresh spent : Link)
-      → dials old.dial old.target.host old.target.port (Some fresh) dial
+      → IsLast (Some failures.NoConnection) old.last_failure new.last_failure
+      → IsAttempt dials shown body old new outcome
+  linked : (fresh spent : Link) (failure : Option Failure)
+      → dials old.dial old.target.host old.target.port (Some fresh) new.dial
       → IsPosted shown old.limits old.reads_after_a_stop (request_text old.target body)
-      fresh spent outcome
-      → IsAttempt dials shown body old dial outcome
+      fresh spent outcome failure
+      → IsLast failure old.last_failure new.last_failure
+      → IsAttempt dials shown body old new outcome

@@ -1,15 +1,20 @@
 //! An exporter that posts each body over a link of its own.
 
-ghost use Rattle.std.specs.Prelude.{◌≡◌, ◌≤◌, ◌^◌, ◌-◌, ℕ, true, false, IsOk, Result};
+ghost use Rattle.std.specs.Prelude.{◌≡◌, ◌≢◌, ◌≤◌, ◌^◌, ◌-◌, ℕ, true, false, IsOk, IsSome, Option, Some, None, Result};
+ghost use Rattle.std.specs.Option.{option_copied};
 ghost use Rattle.std.specs.Result.{result_map_both};
 ghost use Rattle.retry_core.specs.Retries.{outcome_view};
+ghost use Rattle.retry_model.specs.Retries.{delivered};
 ghost use Rattle.otlp_http.specs.Outcomes.{reply_view};
 ghost use Rattle.otlp_http.specs.Request.{request_text};
 ghost use Rattle.otlp_http.specs.Replies.{HttpReply};
 ghost use Rattle.http_wire.specs.declared.fault.HttpFault.{HttpFault};
+ghost use Rattle.http_exporter.specs.declared.failure.Failure.{Failure};
+ghost use Rattle.http_exporter.specs.Failures.{failure_after_a_stop, AreKept, IsLast};
 ghost use Rattle.http_exporter.specs.Attempts.{shown, IsAnswer, IsAttempt, IsPosted, outcome_after_a_stop};
 
 use crate::dial::Dial;
+use crate::failure::{Failure, failure_of};
 use crate::front::send;
 use otlp_http::{
     FaultRead, FaultWrite, HeadLimits, HttpFault, Reply, Target, outcome_of, read_reply,
@@ -32,6 +37,7 @@ pub struct LinkExporter<D, A: Allocator = Global> {
     target: Target<A>,
     limits: HeadLimits,
     reads_after_a_stop: bool,
+    last_failure: Option<Failure>,
 }
 
 impl<D, A: Allocator> Model for LinkExporter<D, A> {
@@ -45,6 +51,7 @@ impl<D, A: Allocator> Model for LinkExporter<D, A> {
       target = e.target;
       limits = e.limits;
       reads_after_a_stop = e.reads_after_a_stop;
+      last_failure = e.last_failure;
     } };
 
     ghost invariant = { λ e. e.limits.fields ≤ 64 };
@@ -71,6 +78,7 @@ impl<D, A: Allocator + Copy> LinkExporter<D, A> {
           target = target;
           limits = record { head = 16_384; fields = 64; body = 65_536 };
           reads_after_a_stop = false;
+          last_failure = None;
         } }
     {
         LinkExporter {
@@ -80,6 +88,7 @@ impl<D, A: Allocator + Copy> LinkExporter<D, A> {
             target,
             limits: HeadLimits::default(),
             reads_after_a_stop: false,
+            last_failure: None,
         }
     }
 
@@ -104,6 +113,19 @@ impl<D, A: Allocator + Copy> LinkExporter<D, A> {
         self
     }
 
+    /// What the last attempt met that didn't deliver its batch whole, so that a program can say why
+    /// a batch was lost or sent again. There is none before an attempt has failed. An attempt that
+    /// delivers leaves it as it is: it is that of an earlier attempt, perhaps of an earlier batch.
+    ///
+    /// Each attempt whose outcome isn't `Delivered` sets it. One that is `Delivered` does where the
+    /// collector says that spans were rejected by a message that isn't UTF-8, since such a response
+    /// has no reading, by which it could be `Partial`. [`LinkExporter::post`] leaves it as it is.
+    pub fn last_failure(&self) -> Option<&Failure>
+        ensures { option_copied result ≡ self.now.last_failure }
+    {
+        self.last_failure.as_ref()
+    }
+
     /// Posts a body over this link: writes its request, reads the reply, and answers what that
     /// means (see [`outcome_of`]). A link that takes all that it is given gets the head together
     /// with the beginning of the body, 1,024 bytes at most, and then the rest of the body, which is
@@ -116,30 +138,52 @@ impl<D, A: Allocator + Copy> LinkExporter<D, A> {
     /// Memory is taken while the reply is read: where it is refused for the head or its fields, the
     /// outcome is `NoReply`, and where for the body, it is by the status alone.
     pub fn post<L: FaultRead + FaultWrite>(&self, link: &mut L, body: &[u8]) -> Outcome
-        ensures { IsPosted
+        ensures { (failure : Option Failure) × IsPosted
             (shown L.contents L.remaining L.FaultWrite.failures L.FaultRead.failures)
             self.now.limits self.now.reads_after_a_stop (request_text self.now.target body.now)
-            link.old link.new (outcome_view result) }
+            link.old link.new (outcome_view result) failure }
+    {
+        let (outcome, _) = self.exchange(link, body);
+        outcome
+    }
+
+    /// What comes of a body that is posted over this link, and what failed, if anything did.
+    fn exchange<L: FaultRead + FaultWrite>(
+        &self,
+        link: &mut L,
+        body: &[u8],
+    ) -> (Outcome, Option<Failure>)
+        ensures { (failure : Option Failure) × IsPosted
+            (shown L.contents L.remaining L.FaultWrite.failures L.FaultRead.failures)
+            self.now.limits self.now.reads_after_a_stop (request_text self.now.target body.now)
+            link.old link.new (outcome_view result.0) failure × AreKept failure result.1 }
     {
         match send(link, &self.target, body) {
-            Ok(()) => outcome_of(&self.read(link)),
+            Ok(()) => {
+                let reply = self.read(link);
+                (outcome_of(&reply), failure_of(&reply))
+            }
             Err(_) if self.reads_after_a_stop => self.read_after_a_stop(link),
-            Err(_) => Outcome::NoReply,
+            Err(_) => (Outcome::NoReply, Some(Failure::WriteStopped)),
         }
     }
 
     /// What came where a write failed.
-    fn read_after_a_stop<L: FaultRead + FaultWrite>(&self, link: &mut L) -> Outcome
+    fn read_after_a_stop<L: FaultRead + FaultWrite>(
+        &self,
+        link: &mut L,
+    ) -> (Outcome, Option<Failure>)
         ensures { (answer : Result HttpReply HttpFault)
             × IsAnswer (shown L.contents L.remaining L.FaultWrite.failures L.FaultRead.failures)
             self.now.limits link.old link.new answer
-            × (outcome_view result ≡ outcome_after_a_stop answer) }
+            × (outcome_view result.0 ≡ outcome_after_a_stop answer)
+            × AreKept (failure_after_a_stop answer) result.1 }
     {
         let reply = self.read(link);
         if reply.is_err() {
-            return Outcome::NoReply;
+            return (Outcome::NoReply, Some(Failure::WriteStopped));
         }
-        outcome_of(&reply)
+        (outcome_of(&reply), failure_of(&reply))
     }
 
     /// Reads a reply.
@@ -154,19 +198,41 @@ impl<D, A: Allocator + Copy> LinkExporter<D, A> {
 }
 
 impl<D: Dial, A: Allocator + Copy> LinkExporter<D, A> {
+    /// Keeps what an attempt met, if it failed.
+    fn keep(&mut self, failure: Option<Failure>)
+        ensures last { (met : Option Failure) → AreKept met failure →
+            IsLast met self.old.last_failure self.new.last_failure }
+        ensures others { self.new ≡ record self.old { last_failure = self.new.last_failure } }
+    {
+        if failure.is_some() {
+            self.last_failure = failure;
+        }
+    }
+
     /// Attempts to send a body: dials the target's host and port, posts the body over the link, as
     /// [`LinkExporter::post`] does, and lets the link go. Where there is no link, the outcome is
-    /// `NoReply`.
+    /// `NoReply`. What failed is kept for [`LinkExporter::last_failure`].
     pub fn attempt(&mut self, body: &[u8]) -> Outcome
         ensures outcome { IsAttempt D.dials
             (shown D.Link.contents D.Link.remaining
             D.Link.FaultWrite.failures D.Link.FaultRead.failures)
-            body.now self.old self.new.dial (outcome_view result) }
-        ensures others { self.new ≡ record self.old { dial = self.new.dial } }
+            body.now self.old self.new (outcome_view result) }
+        ensures failed { outcome_view result ≢ delivered → IsSome self.new.last_failure }
+        ensures others { self.new ≡ record self.old {
+          dial = self.new.dial;
+          last_failure = self.new.last_failure;
+        } }
     {
         match self.dial.dial(self.target.host(), self.target.port()) {
-            Some(mut link) => self.post(&mut link, body),
-            None => Outcome::NoReply,
+            Some(mut link) => {
+                let (outcome, failure) = self.exchange(&mut link, body);
+                self.keep(failure);
+                outcome
+            }
+            None => {
+                self.last_failure = Some(Failure::NoConnection);
+                Outcome::NoReply
+            }
         }
     }
 }
@@ -193,8 +259,12 @@ impl<D: Dial, A: Allocator + Copy> Exporter for LinkExporter<D, A> {
         ensures outcome { IsAttempt D.dials
             (shown D.Link.contents D.Link.remaining
             D.Link.FaultWrite.failures D.Link.FaultRead.failures)
-            body.now self.old self.new.dial (outcome_view result) }
-        ensures others { self.new ≡ record self.old { dial = self.new.dial } }
+            body.now self.old self.new (outcome_view result) }
+        ensures failed { outcome_view result ≢ delivered → IsSome self.new.last_failure }
+        ensures others { self.new ≡ record self.old {
+          dial = self.new.dial;
+          last_failure = self.new.last_failure;
+        } }
     {
         self.attempt(body)
     }

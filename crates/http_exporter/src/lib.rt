@@ -1,13 +1,15 @@
 //! Batches that are sent over HTTP (OTLP Specification, "OTLP/HTTP"; RFC 9112): an exporter that
 //! posts each body over a link of its own, which a [`Dial`] gives. Over TCP it is the
-//! [`HttpExporter`].
+//! [`HttpExporter`]. What the last attempt met that failed, a [`Failure`] tells.
 #![tactic(auto)]
 
 mod dial;
 mod exporter;
+mod failure;
 mod front;
 mod tcp;
 
 pub use dial::Dial;
 pub use exporter::LinkExporter;
+pub use failure::{Failure, MESSAGE_ROOM, Message};
 pub use tcp::{DEFAULT_EXPORT_TIMEOUT_MS, HttpExporter, TcpDial};

@@ -1,6 +1,6 @@
 //! Links over TCP.
 
-ghost use Rattle.std.specs.Prelude.{◌≡◌, ◌≤◌, ℕ, false};
+ghost use Rattle.std.specs.Prelude.{◌≡◌, ◌≤◌, ℕ, false, None};
 
 use crate::dial::Dial;
 use crate::exporter::LinkExporter;
@@ -98,6 +98,7 @@ impl<R: Net> LinkExporter<TcpDial<R>> {
           target = target;
           limits = record { head = 16_384; fields = 64; body = 65_536 };
           reads_after_a_stop = false;
+          last_failure = None;
         } }
     {
         LinkExporter::over(alloc, alloc, TcpDial::new(rt, timeout_ms), target)

@@ -3,7 +3,7 @@
 use crate::equal::{assert_equal, assert_equal_at};
 use crate::fixture::{bytes_of, joined, target, wire};
 use failing_allocator::FailingAllocator;
-use http_exporter::{Dial, LinkExporter};
+use http_exporter::{Dial, Failure, LinkExporter};
 use otlp_http::{FailingCalls, FailingWire};
 use retry_core::{Outcome, RetryAfter};
 use span_exporter::Exporter;
@@ -199,6 +199,176 @@ fn each_attempt_has_a_link_of_its_own(rt: HostRuntime) {
     assert_attempt(&rt, &mut exporter, 4, later);
     assert_attempt(&rt, &mut exporter, 5, Outcome::Delivered);
     assert_attempt(&rt, &mut exporter, 6, Outcome::NoReply);
+}
+
+/// What an exporter tells of its last failure, and `none` where there is none.
+fn told_failure<A: Allocator + Copy>(
+    rt: &impl Abort,
+    alloc: Global,
+    exporter: &LinkExporter<ListedLinks, A>,
+) -> String {
+    let told = match exporter.last_failure() {
+        Some(failure) => format!(in alloc; "{failure}"),
+        None => format!(in alloc; "none"),
+    };
+    told.expect(rt, "memory")
+}
+
+/// Checks what comes of an attempt over this link, and what is then told of the last failure, also
+/// where memory is refused and a delivery follows.
+fn assert_failure(
+    rt: &impl Abort,
+    alloc: Global,
+    link: Option<FailingWire>,
+    wanted: Outcome,
+    text: &str,
+) {
+    let good = Some(wire(rt, alloc, GOOD.as_bytes(), 1_000_000, FailingCalls::Never));
+    let links = vec![in alloc; good, link].expect(rt, "memory");
+    let mut exporter = exporter(rt, alloc, alloc, links);
+    assert_equal_at(rt, exporter.attempt(b"abc"), wanted, text);
+    let told = told_failure(rt, alloc, &exporter);
+    assert_equal(rt, told.as_str(), text);
+    assert_equal_at(rt, exporter.attempt(b"abc"), Outcome::Delivered, text);
+    let told = told_failure(rt, alloc, &exporter);
+    assert_equal(rt, told.as_str(), text);
+}
+
+/// Replies whose status isn't one of success, from behind `HTTP/1.1 `, with what is told of each.
+const SAID: &[(&[u8], &str)] = &[
+    (b"503 Busy\r\n\r\n", "the collector answered 503"),
+    (
+        b"503 Busy\r\n\r\ntry later",
+        "the collector answered 503: try later",
+    ),
+    // A message of google.rpc.Status.
+    (
+        b"400 Bad\r\nContent-Length: 7\r\n\r\n\x08\x03\x12\x03bad",
+        "the collector answered 400: bad",
+    ),
+    (
+        b"400 Bad\r\nContent-Length: 11\r\n\r\nbad request",
+        "the collector answered 400: bad request",
+    ),
+    // A body that doesn't come, and bodies that are no text.
+    (
+        b"400 Bad\r\nContent-Length: 7\r\n\r\n",
+        "the collector answered 400",
+    ),
+    (b"400 Bad\r\n\r\n\x12\x01\xff", "the collector answered 400"),
+    (b"400 Bad\r\n\r\nbad\xff", "the collector answered 400"),
+    // What a terminal would take for a command is a space.
+    (
+        b"400 Bad\r\n\r\n\x1b[2Jbad\r\n\xc2\x9bend",
+        "the collector answered 400:  [2Jbad   end",
+    ),
+];
+
+/// Replies of success that say that two spans were rejected, from behind `HTTP/1.1 `, with what
+/// comes of each and what is told of it.
+const REJECTED: &[(&[u8], Outcome, &str)] = &[
+    (
+        b"200 OK\r\n\r\n\x0a\x05\x08\x02\x12\x01x",
+        Outcome::Partial(2),
+        "the collector rejected 2 of the spans: x",
+    ),
+    (
+        b"200 OK\r\n\r\n\x0a\x02\x08\x02",
+        Outcome::Partial(2),
+        "the collector rejected 2 of the spans",
+    ),
+    // A message that isn't UTF-8: the response has no reading, and counts as that of a delivery.
+    (
+        b"200 OK\r\n\r\n\x0a\x05\x08\x02\x12\x01\xff",
+        Outcome::Delivered,
+        "the collector rejected 2 of the spans",
+    ),
+    // No span was rejected, and a response that is cut.
+    (
+        b"200 OK\r\n\r\n\x0a\x03\x12\x01x",
+        Outcome::Delivered,
+        "none",
+    ),
+    (
+        b"200 OK\r\n\r\n\x0a\x05\x08\x02\x12\x01",
+        Outcome::Delivered,
+        "none",
+    ),
+];
+
+/// A link that gives `HTTP/1.1 ` and then these bytes.
+fn replies(rt: &impl Abort, alloc: Global, rest: &[u8]) -> Option<FailingWire> {
+    let reply = joined(rt, alloc, b"HTTP/1.1 ", rest);
+    Some(wire(rt, alloc, &reply, 1_000_000, FailingCalls::Never))
+}
+
+#[test]
+fn an_exporter_tells_what_a_collector_said(rt: HostRuntime) {
+    let alloc = rt.alloc();
+    for (rest, text) in SAID {
+        let link = replies(&rt, alloc, rest);
+        let wanted = if rest.starts_with(b"503") {
+            Outcome::Later {
+                status: 503,
+                after: None,
+            }
+        } else {
+            Outcome::Refused(400)
+        };
+        assert_failure(&rt, alloc, link, wanted, text);
+    }
+    for (rest, wanted, text) in REJECTED {
+        let link = replies(&rt, alloc, rest);
+        assert_failure(&rt, alloc, link, *wanted, text);
+    }
+}
+
+#[test]
+fn an_exporter_tells_why_it_got_no_reply(rt: HostRuntime) {
+    let alloc = rt.alloc();
+    let none = Outcome::NoReply;
+    assert_failure(&rt, alloc, None, none, "no connection to the collector");
+    let unsent = Some(link(&rt, alloc, GOOD, FailingCalls::Once(0)));
+    let text = "the request could not be sent whole";
+    assert_failure(&rt, alloc, unsent, none, text);
+    let unread = Some(link(&rt, alloc, GOOD, FailingCalls::Once(1)));
+    let text = "no reply came in time, or it could not be read";
+    assert_failure(&rt, alloc, unread, none, text);
+    let half = replies(&rt, alloc, b"200 OK\r\nContent-");
+    let text = "the connection ended before a reply";
+    assert_failure(&rt, alloc, half, none, text);
+    let other = replies(&rt, alloc, b"hello\r\n");
+    let text = "the reply has no head that can be read";
+    assert_failure(&rt, alloc, other, Outcome::Bad, text);
+}
+
+/// Checks how much is told of a message of `x` and then so many letters of two bytes.
+fn assert_cut(rt: &impl Abort, alloc: Global, front: &'static [u8], letters: usize, told: usize) {
+    let rest = bytes_of(rt, alloc, (b"400 Bad\r\n\r\n", b"", 0, front));
+    let rest = joined(
+        rt,
+        alloc,
+        &rest,
+        &bytes_of(rt, alloc, (b"", "é".as_bytes(), letters, b"")),
+    );
+    let links = vec![in alloc; replies(rt, alloc, &rest)].expect(rt, "memory");
+    let mut exporter = exporter(rt, alloc, alloc, links);
+    let _refused = exporter.attempt(b"abc");
+    let size = match exporter.last_failure() {
+        Some(Failure::Status { message, .. }) => message.as_str().len(),
+        _ => 0,
+    };
+    assert_equal_at(rt, size, told, letters);
+}
+
+#[test]
+fn a_message_is_cut_between_two_letters(rt: HostRuntime) {
+    let alloc = rt.alloc();
+    assert_cut(&rt, alloc, b"", 128, 256);
+    assert_cut(&rt, alloc, b"", 129, 256);
+    assert_cut(&rt, alloc, b"x", 127, 255);
+    assert_cut(&rt, alloc, b"x", 128, 255);
+    assert_cut(&rt, alloc, b"x", 30_000, 255);
 }
 
 #[test]

@@ -1,0 +1,200 @@
+//! What an attempt met that didn't deliver its batch.
+
+ghost use Rattle.std.specs.Prelude.{◌≡◌, ◌==◌, length};
+ghost use Rattle.std.specs.Result.{result_map_both};
+ghost use Rattle.otlp_http.specs.Outcomes.{reply_view};
+ghost use Rattle.http_exporter.specs.Failures as model;
+ghost use Rattle.http_exporter.specs.Failures.{AreKept, IsFront};
+
+use arrayvec::ArrayString;
+use otlp_http::{HttpFault, Reply};
+use otlp_message::{read_partial_bytes, read_status_message};
+use std::alloc::Allocator;
+use std::marker::Model;
+use std::{fmt, str};
+
+/// The most bytes that a [`Message`] keeps. (profile)
+pub const MESSAGE_ROOM: usize = 256;
+
+/// What a collector says of a batch that it didn't take: the beginning of its text, up to
+/// [`MESSAGE_ROOM`] bytes and to a whole character. It is empty where the collector says nothing,
+/// or nothing that is UTF-8. It takes no memory of its own. In contracts it is its bytes.
+#[derive(Drop)]
+pub struct Message {
+    text: ArrayString<MESSAGE_ROOM>,
+}
+
+impl Model for Message {
+    ghost use Rattle.std.specs.Prelude.{ℕ, List};
+
+    ghost Value = { List ℕ };
+
+    ghost view = { λ m. m.text.bytes };
+}
+
+impl Message {
+    /// The beginning of this text.
+    fn of(text: &str) -> Message
+        ensures { IsFront text.now result }
+    {
+        let size = text.floor_char_boundary(MESSAGE_ROOM);
+        let mut front = ArrayString::new();
+        front.push_str(&text[..size]);
+        Message { text: front }
+    }
+
+    /// The text, as the collector sent it: it may have control characters.
+    pub fn as_str(&self) -> &str
+        ensures { result.now ≡ self.now }
+    {
+        self.text.as_str()
+    }
+
+    /// Whether there is none.
+    pub fn is_empty(&self) -> bool
+        ensures { result ≡ (length self.now == 0) }
+    {
+        self.text.is_empty()
+    }
+}
+
+/// Writes the text with a space in place of each control character, so that a terminal shows it and
+/// does nothing else.
+impl fmt::Display for Message {
+    fn fmt<W: fmt::Write>(&self, f: &mut fmt::Formatter<W>) -> fmt::Result {
+        for letter in self.as_str().chars() {
+            f.write_char(if letter.is_control() { ' ' } else { letter })?;
+        }
+        Ok(())
+    }
+}
+
+/// Writes the text as a literal.
+impl fmt::Debug for Message {
+    fn fmt<W: fmt::Write>(&self, f: &mut fmt::Formatter<W>) -> fmt::Result {
+        fmt::Debug::fmt(self.as_str(), f)
+    }
+}
+
+/// What an attempt met that didn't deliver its batch whole. (OTLP Specification, "OTLP/HTTP
+/// Response")
+#[derive(Debug, Drop)]
+pub enum Failure {
+    /// No connection could be had: the host wasn't found, nobody listens there, or none was made in
+    /// time.
+    NoConnection,
+    /// A write failed, or waited too long, before the whole request had gone out.
+    WriteStopped,
+    /// The request went out, and no head of a reply came that can be used, for this cause: the bytes
+    /// ended before (`Ended`), a read failed or waited too long (`Device`), memory for it was
+    /// refused (`OutOfMemory`), or what came is no head or too large a one (`BadHead`, `TooLarge`).
+    NoReply(HttpFault),
+    /// The collector didn't take the batch.
+    Status {
+        /// The HTTP status.
+        status: u16,
+        /// What the body says: the message of a Status (google/rpc/status.proto), or a text.
+        message: Message,
+    },
+    /// The collector took the batch but for some spans ("Partial Success").
+    Partial {
+        /// How many spans it rejected.
+        rejected: i64,
+        /// Why it did.
+        message: Message,
+    },
+}
+
+/// Why there is no reply, for a person.
+fn no_reply(fault: HttpFault) -> &'static str {
+    match fault {
+        HttpFault::Ended => "the connection ended before a reply",
+        HttpFault::Device => "no reply came in time, or it could not be read",
+        HttpFault::OutOfMemory => "no memory for the head of the reply",
+        HttpFault::TooLarge => "the head of the reply is too large",
+        HttpFault::BadHead | HttpFault::BadLength | HttpFault::BadChunk =>
+            "the reply has no head that can be read",
+    }
+}
+
+/// Writes the failure for a person, on one line.
+impl fmt::Display for Failure {
+    fn fmt<W: fmt::Write>(&self, f: &mut fmt::Formatter<W>) -> fmt::Result {
+        let message = match self {
+            Failure::NoConnection => return f.write_str("no connection to the collector"),
+            Failure::WriteStopped => return f.write_str("the request could not be sent whole"),
+            Failure::NoReply(fault) => return f.write_str(no_reply(*fault)),
+            Failure::Status { status, message } => {
+                write!(f, "the collector answered {status}")?;
+                message
+            }
+            Failure::Partial { rejected, message } => {
+                write!(f, "the collector rejected {rejected} of the spans")?;
+                message
+            }
+        };
+        if message.is_empty() {
+            return Ok(());
+        }
+        write!(f, ": {message}")
+    }
+}
+
+/// The bytes, where they are UTF-8.
+fn text_in(bytes: &[u8]) -> &str
+    ensures { result.now ≡ model.text_in bytes.now }
+{
+    match str::from_utf8(bytes) {
+        Ok(text) => text,
+        Err(_) => "",
+    }
+}
+
+/// What the body of a reply says by which a batch wasn't taken.
+fn message_of<A: Allocator>(body: &Result<Vec<u8, A>, HttpFault>) -> &str
+    ensures { result.now ≡
+        model.message_of (result_map_both (λ v. v.items) (λ fault. fault) body.now) }
+{
+    let Ok(body) = body else {
+        return "";
+    };
+    match read_status_message(body) {
+        Ok(message) if !message.is_empty() => message,
+        _ => text_in(body),
+    }
+}
+
+/// How many spans the body of a reply says were rejected, and why, if any were.
+fn rejection_of<A: Allocator>(body: &Result<Vec<u8, A>, HttpFault>) -> Option<Failure>
+    ensures { AreKept
+        (model.rejection_of (result_map_both (λ v. v.items) (λ fault. fault) body.now)) result }
+{
+    let Ok(body) = body else {
+        return None;
+    };
+    match read_partial_bytes(body) {
+        Ok((rejected, message)) if rejected > 0 => Some(Failure::Partial {
+            rejected,
+            message: Message::of(text_in(message)),
+        }),
+        _ => None,
+    }
+}
+
+/// What a reply says that is no delivery of the whole batch, or why there is no reply. It takes no
+/// memory.
+pub(crate) fn failure_of<A: Allocator>(reply: &Result<Reply<A>, HttpFault>) -> Option<Failure>
+    ensures { AreKept
+        (model.failure_of (result_map_both reply_view (λ fault. fault) reply.now)) result }
+{
+    match reply {
+        Ok(reply) => match reply.status {
+            200..=299 => rejection_of(&reply.body),
+            status => Some(Failure::Status {
+                status,
+                message: Message::of(message_of(&reply.body)),
+            }),
+        },
+        Err(fault) => Some(Failure::NoReply(*fault)),
+    }
+}
