@@ -342,6 +342,38 @@ fn an_exporter_tells_why_it_got_no_reply(rt: HostRuntime) {
     assert_failure(&rt, alloc, other, Outcome::Bad, text);
 }
 
+/// What comes of an attempt that is refused with a text where this call for memory is refused, what
+/// is told of it, and whether it was.
+fn attempt_scarce(rt: &impl Abort, alloc: Global, fail_index: u64) -> (Outcome, String, bool) {
+    let scarce = FailingAllocator::new(alloc, fail_index);
+    let reply = "HTTP/1.1 400 Bad\r\nContent-Length: 3\r\n\r\nbad";
+    let links = vec![in alloc; Some(link(rt, alloc, reply, FailingCalls::Never))];
+    let mut exporter = exporter(rt, &scarce, alloc, links.expect(rt, "memory"));
+    let outcome = exporter.attempt(b"abc");
+    (
+        outcome,
+        told_failure(rt, alloc, &exporter),
+        scarce.has_failed(),
+    )
+}
+
+#[test]
+fn refused_memory_is_told_or_takes_the_message(rt: HostRuntime) {
+    let alloc = rt.alloc();
+    // The target takes the first two calls. Then the head takes some, and the body the last one.
+    for fail_index in 2..64u64 {
+        let (outcome, told, has_failed) = attempt_scarce(&rt, alloc, fail_index);
+        let wanted = if outcome == Outcome::NoReply {
+            "no memory for the head of the reply"
+        } else if has_failed {
+            "the collector answered 400"
+        } else {
+            "the collector answered 400: bad"
+        };
+        assert_equal_at(&rt, told.as_str(), wanted, fail_index);
+    }
+}
+
 /// Checks how much is told of a message of `x` and then so many letters of two bytes.
 fn assert_cut(rt: &impl Abort, alloc: Global, front: &'static [u8], letters: usize, told: usize) {
     let rest = bytes_of(rt, alloc, (b"400 Bad\r\n\r\n", b"", 0, front));
