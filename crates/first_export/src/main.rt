@@ -1,6 +1,6 @@
 //! Records two spans and exports them over TCP to the collector at a host and a port, which are the
-//! arguments. Prints what became of the spans, and of the batch that they went out in; the status
-//! is 0 where the collector took it.
+//! arguments. Prints what became of the spans, and of the batch that they went out in, and what the
+//! last attempt met that failed; the status is 0 where the collector took it.
 #![tactic(auto)]
 
 mod balance;
@@ -30,9 +30,13 @@ fn main(rt: HostRuntime) -> Result<ExitCode> {
     let timeout_ms = DEFAULT_EXPORT_TIMEOUT_MS;
     let exporter = HttpExporter::new(alloc, rt, target, timeout_ms).reading_after_a_stop();
     // `Brand` stands for the name of this one processor, which the types of its passes have.
-    let accounts = service::run::<Brand, HostRuntime>(rt, alloc, BatchBlank::new(), exporter)?;
+    let blank = BatchBlank::new();
+    let (accounts, exporter) = service::run::<Brand, HostRuntime>(rt, alloc, blank, exporter)?;
     let totals = accounts.desk.totals();
     balance::write_balance(&mut rt.stdout(), totals)?;
+    if let Some(failure) = exporter.last_failure() {
+        writeln!(rt.stdout(), "last failure: {failure}")?;
+    }
     Ok(if balance::is_delivered(totals.fates) {
         ExitCode::SUCCESS
     } else {

@@ -61,12 +61,13 @@ where
     trace_cart(alloc, &clock, &mut rng, &provider.tracer(scope), pass)
 }
 
-/// Starts the thread of the worker, which posts batches to the collector until all is drained.
+/// Starts the thread of the worker, which posts batches to the collector until all is drained, and
+/// gives the exporter back with the worker's pass.
 fn start_worker<J, R>(
     rt: R,
     mut exporter: HttpExporter<R>,
     mut worker: WorkerPass<J, R>,
-) -> Result<JoinHandle<Result<WorkerPass<J, R>>>>
+) -> Result<JoinHandle<Result<(WorkerPass<J, R>, HttpExporter<R>)>>>
 where
     J: Naming + Send + Sync + 'static,
     R: Net<Listener = TcpListener, Stream = TcpStream> + RandomSource + time::Clock,
@@ -75,25 +76,25 @@ where
 {
     let started = thread::spawn(
         &rt,
-        move || -> Result<WorkerPass<J, R>>
+        move || -> Result<(WorkerPass<J, R>, HttpExporter<R>)>
             requires { worker.encoded ≡ None }
         {
             let mut rng: StdRng = make_rng(&rt)?;
             worker.work(&mut exporter, &SystemClock::new(rt), &mut rng, u64::MAX);
-            Ok(worker)
+            Ok((worker, exporter))
         },
     );
     Ok(started?)
 }
 
-/// Traces the request, and answers what became of its spans. A batch is sent three times at most,
-/// with short waits.
+/// Traces the request, and answers what became of its spans, with the exporter. A batch is sent three
+/// times at most, with short waits.
 pub fn run<J, R>(
     rt: R,
     alloc: Global,
     blank: BatchBlank,
     exporter: HttpExporter<R>,
-) -> Result<Accounts>
+) -> Result<(Accounts, HttpExporter<R>)>
 where
     J: Naming + Send + Sync + 'static,
     R: Net<Listener = TcpListener, Stream = TcpStream> + RandomSource + time::Clock,
@@ -117,9 +118,7 @@ where
         trace(rt, alloc, pass)?;
         pass.shutdown()?;
     }
-    let worker = worker.join(&rt)?;
-    processor
-        .close_out(passes, worker)
-        .ok()
-        .context("a pass is missing")
+    let (worker, exporter) = worker.join(&rt)?;
+    let accounts = processor.close_out(passes, worker).ok();
+    Ok((accounts.context("a pass is missing")?, exporter))
 }

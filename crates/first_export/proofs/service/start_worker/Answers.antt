@@ -3,7 +3,7 @@ use denote.Param.{param, copied}
 use denote.Param.Send.{param_send, arg_send}
 use Rattle.batch_processor.proofs.Crosses.{worker_send}
 use Rattle.http_exporter.proofs.Crosses.{http_exporter_send}
-use Rattle.account_book.proofs.Crosses.{result_send, three_send}
+use Rattle.account_book.proofs.Crosses.{result_send, three_send, two_send}
 use Rattle.first_export.proofs.Sends.{error_send}
 use Rattle.first_export.proofs.service.start_worker.Goals as goal
 
@@ -16,9 +16,10 @@ spawn-started-requires-send-F g c κs within =
     let p = worker_send (param 0 g.row.J) g.J.Naming (copied 1 g.row.R) r in
     param_send 1 _ (arg_send _ no _ (three_send _ _ _ _ r p e))
 
--- and so may what it gives back
+-- and so may what it gives back: the worker's pass and the exporter
 pub spawn-started-requires-send-T : goal.spawn-started-requires-send-T
 spawn-started-requires-send-T g c κs within =
     let r = c.type_bounds.send-R in
     let p = worker_send (param 0 g.row.J) g.J.Naming (copied 1 g.row.R) r in
-    param_send 2 _ (arg_send _ no _ (result_send _ _ p error_send))
+    let e = http_exporter_send (copied 1 g.row.R) r in
+    param_send 2 _ (arg_send _ no _ (result_send _ _ (two_send _ _ _ p e) error_send))
