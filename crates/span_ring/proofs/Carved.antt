@@ -1,5 +1,5 @@
 -- A `Vec` without items is its room, and the rest of it.
-use Rattle.std.proofs.Common.{◌≡◌, ◌∙◌, ℕ, zero, ◌+◌, ◌-◌, ◌*◌, ◌^◌, ◌<◌, Bool, true, false, not, T, List, [], ◌∷◌, ◌++◌, length, arith, refl, sym, ap, subst}
+use Rattle.std.proofs.Common.{◌≡◌, ◌∙◌, ℕ, zero, ◌+◌, ◌-◌, ◌*◌, ◌^◌, ◌<◌, Bool, true, false, not, T, List, [], ◌∷◌, length, arith, refl, sym, ap, subst}
 use native.Mathlib.Nat.{zero-mul}
 use lib.Dec.{eqb, eqb→eq}
 use seplogic.Ra.Ura.{Ura}
@@ -8,19 +8,20 @@ use base.Logic.{ent, sep, emp, never, id⊢}
 use base.Fml.{Fml, froom}
 use mir.Syntax.{Ty, ty_array}
 use mir.Raw.{raw as bare}
-use mir.Val.{Val, vstruct, vcons, vnil, of_list}
+use mir.Val.{Val, vstruct, vcons, vnil}
 use prog.Memory.{size}
 use types.Logic.{Logic, sem}
-use types.Kit.{Item, Goal, Seq, ‵, ◌⊛◌, ◌$◌, ◌∵◌, !, qed, move, drop, use0, use1, use2, split, fsplit, fsplit3, fjoin, feq_i, feq_l, flt_i, flt_l, fpick, rewrite, done}
-use denote.RattleType.{RattleType}
+use types.Kit.{‵, ◌⊛◌, ◌$◌, ◌∵◌, !, qed, move, drop, use0, use1, use2, split, fsplit, fsplit3, fjoin, feq_i, flt_i, flt_l, fpack, rewrite, done}
+use denote.RattleType.{RattleType, Valss}
 use denote.Memory.{lone, part_at}
 use denote.ArrayMemory.{Array-whole}
 use denote.Array.{Array}
-use denote.RawPtr.{Ptr, block_ptr, in_block, in_a_block}
+use denote.RawPtr.{Ptr, RawPtr, block_ptr, in_block, in_a_block}
 use denote.Steps.{nothing}
-use denote.Struct.Struct.{Struct}
+use denote.Struct.Struct.{Struct, within}
+use denote.Struct.Declared as Declared
+use Rattle.std.specs.contracts.marker.PhantomData as marker
 use denote.Struct.Owning.{shape}
-use denote.Shadow.{makes_shadow}
 use Rattle.span_ring.specs.contracts.places.Places as places
 use Rattle.std.specs.declared.alloc.Allocator.{Ghosts}
 use Rattle.std.specs.Allocator.{block_with_items}
@@ -42,18 +43,17 @@ module _ (R : RattleType) (t : Ty → Ptr → Fml) {M : Type 1} {𝓤 : Ura M} (
   Right = t (bare (ty_array τ c)) (block_ptr b o)
 
   -- the room, and the right to free it
-  room_of : (y : Bool) → (y ≡ false → c ≡ 0) → ent 𝓤 (sem 𝓛 (owns_if y (block_with_items t R (block_ptr b o) zero c []))) (sep 𝓤 (sem 𝓛 (froom (ty_array τ c) b o)) (sem 𝓛 (owns_if y Right)))
+  room_of : (y : Bool) → (y ≡ false → c ≡ 0) → ent 𝓤 (sem 𝓛 (owns_if y (block_with_items t R (block_ptr b o) zero c []))) (sep 𝓤 (sem 𝓛 (froom (bare (ty_array τ c)) b o)) (sem 𝓛 (owns_if y Right)))
   room_of true none = let whole : c - 0 ≡ c = omega arith in let here : o + 0 * size τ ≡ o = omega (arith, zero-mul (size τ)) in qed 𝓛 (‵ (owns_if true (block_with_items t R (block_ptr b o) zero c [])) ∷ []) ∵ fsplit3 ! $ drop ! $
-      rewrite ! 0 (λ (n : ℕ). ‵ (froom (bare (ty_array τ n)) b (o + 0 * size τ))) whole refl $ rewrite ! 0 (λ (k : ℕ). ‵ (froom (bare (ty_array τ c)) b k)) here refl $
-      use1 𝓛 (‵ (froom (ty_array τ c) b o)) (𝓛.laws.raw-room (ty_array τ c) b o) $ done !
+      rewrite ! 0 (λ (n : ℕ). ‵ (froom (bare (ty_array τ n)) b (o + 0 * size τ))) whole refl $ rewrite ! 0 (λ (k : ℕ). ‵ (froom (bare (ty_array τ c)) b k)) here refl $ done !
   room_of false none = qed 𝓛 (‵ (owns_if false (block_with_items t R (block_ptr b o) zero c [])) ∷ []) ∵
-      use0 𝓛 (‵ (froom (ty_array τ 0) b o)) (𝓛.laws.room_nil τ b o) $ rewrite ! 0 (λ (k : ℕ). ‵ (froom (ty_array τ k) b o)) (sym (none refl)) refl $ done !
+      use0 𝓛 (‵ (froom (bare (ty_array τ 0)) b o)) (𝓛.laws.room_nil (bare τ) b o) $ rewrite ! 0 (λ (k : ℕ). ‵ (froom (bare (ty_array τ k)) b o)) (sym (none refl)) refl $ done !
 
-  room_back : (y : Bool) → ent 𝓤 (sep 𝓤 (sem 𝓛 (froom (ty_array τ c) b o)) (sem 𝓛 (owns_if y Right))) (sem 𝓛 (owns_if y (block_with_items t R (block_ptr b o) zero c [])))
-  room_back true = let whole : c ≡ c - 0 = omega arith in let here : o ≡ o + 0 * size τ = omega (arith, zero-mul (size τ)) in qed 𝓛 (‵ (froom (ty_array τ c) b o) ∷ ‵ Right ∷ []) ∵ use1 𝓛 (‵ (froom (bare (ty_array τ c)) b o)) (𝓛.laws.room-raw (ty_array τ c) b o) $
+  room_back : (y : Bool) → ent 𝓤 (sep 𝓤 (sem 𝓛 (froom (bare (ty_array τ c)) b o)) (sem 𝓛 (owns_if y Right))) (sem 𝓛 (owns_if y (block_with_items t R (block_ptr b o) zero c [])))
+  room_back true = let whole : c ≡ c - 0 = omega arith in let here : o ≡ o + 0 * size τ = omega (arith, zero-mul (size τ)) in qed 𝓛 (‵ (froom (bare (ty_array τ c)) b o) ∷ ‵ Right ∷ []) ∵
       rewrite ! 0 (λ (n : ℕ). ‵ (froom (bare (ty_array τ n)) b o)) whole refl $ rewrite ! 0 (λ (k : ℕ). ‵ (froom (bare (ty_array τ (c - 0))) b k)) here refl $ fjoin ! $
       nothing ! $ feq_i ! ℕ zero zero refl $ fjoin ! $ use1 𝓛 (‵ (part_at (Array R zero) full_share [] b o)) (Array-whole 𝓛 R full_share zero [] b o) $ fjoin ! $ done !
-  room_back false = qed 𝓛 (‵ (froom (ty_array τ c) b o) ∷ ‵ (owns_if false Right) ∷ []) ∵ drop ! $ done !
+  room_back false = qed 𝓛 (‵ (froom (bare (ty_array τ c)) b o) ∷ ‵ (owns_if false Right) ∷ []) ∵ drop ! $ done !
 
 not_false : (y : Bool) → not y ≡ false → T y
 not_false true e = tt
@@ -83,10 +83,10 @@ module _ (R P : RattleType) (g : Ghosts P.Denot) {M : Type 1} {𝓤 : Ura M} (�
   room_out us = let from_here = λ (o : ℕ). let same : o ≡ (0 + 0) * s + o = omega (arith, zero-mul s) in same in qed 𝓛 (‵ ((V.the_row R P g).own_val v us) ∷ []) ∵ fsplit ! $ move ! (1 ∷ []) $ fsplit ! $ flt_l ! (λ fits.
       in_a_block ! v.ptr (λ (p : Ptr). in_block p (Block p v.len v.items)) (id⊢ 𝓤 (never 𝓤)) (λ b o at.
       rewrite ! 0 (λ (xs : List R.Denot). ‵ (Block (block_ptr b o) v.len xs)) none refl $ rewrite ! 0 (λ (n : ℕ). ‵ (Block (block_ptr b o) n [])) (v.ok.0 ∙ ap length none) refl $
-      use1 𝓛 (‵ (froom (ty_array σ v.cap) b o) ⊛ ‵ (Frees (block_ptr b o))) (room_of R t' 𝓛 b o v.cap (has_block v.cap) (no_block v.cap)) $ split ! $
+      use1 𝓛 (‵ (froom (bare (ty_array σ v.cap)) b o) ⊛ ‵ (Frees (block_ptr b o))) (room_of R t' 𝓛 b o v.cap (has_block v.cap) (no_block v.cap)) $ split ! $
       -- [the room; the right to free it; the words]
-      rewrite ! 0 (λ (k : ℕ). ‵ (froom (ty_array σ v.cap) b k)) (from_here o) refl $ nothing ! $ fjoin ! $
-      use0 𝓛 (‵ (froom (ty_array σ 0) b o)) (𝓛.laws.room_nil σ b o) $ fjoin ! $
+      rewrite ! 0 (λ (k : ℕ). ‵ (froom (bare (ty_array σ v.cap)) b k)) (from_here o) refl $ nothing ! $ fjoin ! $
+      use0 𝓛 (‵ (froom (bare (ty_array σ 0)) b o)) (𝓛.laws.room_nil (bare σ) b o) $ fjoin ! $
       flt_i ! ((0 + 0 + v.cap) * s) (2 ^ 63) (subst (λ (n : ℕ). n * s < 2 ^ 63) {x = v.cap} (omega arith) fits) $ fjoin ! $
       rewrite ! 0 (λ (p : Ptr). ‵ (places_own R p 0 [] v.cap)) (sym at) refl $ move ! (1 ∷ []) $
       rewrite ! 0 (λ (p : Ptr). ‵ (in_block p (Frees p))) (sym at) refl $ flt_i ! (v.cap * s) (2 ^ 63) fits $ fjoin ! $ move ! (2 ∷ 0 ∷ []) $ fjoin ! $ move ! (1 ∷ 0 ∷ []) $ done !))
@@ -98,8 +98,8 @@ module _ (R P : RattleType) (g : Ghosts P.Denot) {M : Type 1} {𝓤 : Ura M} (�
       -- [the places; the right to free them; the words]
       in_a_block ! v.ptr (λ (p : Ptr). places_own R p before [] after) (id⊢ 𝓤 (never 𝓤)) (λ b o at.
       fsplit ! $ drop ! $ fsplit ! $ move ! (1 ∷ []) $ fsplit ! $ drop ! $ move ! (1 ∷ 0 ∷ []) $
-      use2 𝓛 (‵ (froom (ty_array σ (before + after)) b o)) (joined 𝓛 b σ before after o ((before + 0) * s + o) (let same : before + 0 ≡ before = omega arith in ap (λ (n : ℕ). n * s + o) same)) $
-      rewrite ! 0 (λ (n : ℕ). ‵ (froom (ty_array σ n) b o)) whole refl $ move ! (1 ∷ []) $ rewrite ! 0 (λ (p : Ptr). ‵ (in_block p (Frees p))) at refl $ move ! (1 ∷ 0 ∷ []) $
+      use2 𝓛 (‵ (froom (bare (ty_array σ (before + after))) b o)) (joined 𝓛 b σ before after o ((before + 0) * s + o) (let same : before + 0 ≡ before = omega arith in ap (λ (n : ℕ). n * s + o) same)) $
+      rewrite ! 0 (λ (n : ℕ). ‵ (froom (bare (ty_array σ n)) b o)) whole refl $ move ! (1 ∷ []) $ rewrite ! 0 (λ (p : Ptr). ‵ (in_block p (Frees p))) at refl $ move ! (1 ∷ 0 ∷ []) $
       use2 𝓛 (‵ (Block (block_ptr b o) 0 [])) (room_back R t' 𝓛 b o v.cap (has_block v.cap)) $
       rewrite ! 0 (λ (n : ℕ). ‵ (Block (block_ptr b o) n [])) (sym (v.ok.0 ∙ ap length none)) refl $ rewrite ! 0 (λ (xs : List R.Denot). ‵ (Block (block_ptr b o) v.len xs)) (sym none) refl $
       rewrite ! 0 (λ (p : Ptr). ‵ (in_block p (Block p v.len v.items))) (sym at) refl $ flt_i ! (v.cap * s) (2 ^ 63) fits $ fjoin ! $ move ! (1 ∷ 0 ∷ []) $ fjoin ! $ done !))
@@ -111,10 +111,9 @@ mark = one (vstruct vnil)
 abbrev pub two : Val → Val → Val
 two u w = vstruct (vcons u (vcons w vnil))
 
+-- a mark has no bytes, so that it is made of nothing
 pub mark_made : (R : RattleType) {M : Type 1} {𝓤 : Ura M} (𝓛 : Logic 𝓤) → ent 𝓤 (emp 𝓤) (sem 𝓛 ((Struct (shape (places.the_type R))).own_val (tt, tt) (mark ∷ [])))
-mark_made R 𝓛 = makes_shadow 𝓛 ((Struct (shape (places.the_type R))).own_val (tt, tt) (mark ∷ [])) (λ vss. (tt, ((λ uss. (tt, tt)), tt))) ((vstruct vnil ∷ [], tt), (refl, ((tt, (refl, tt)), tt)))
-
-module _ {M : Type 1} {𝓤 : Ura M} {𝓛 : Logic 𝓤} {K : Type 0} {Γ : List (Item 𝓤)} {G : Goal 𝓤 𝓛.H} where
-  pub mark_had : K → (R : RattleType) (vs : List Val) → (vs ≡ mark ∷ [] → Seq K 𝓛 Γ G) → Seq K 𝓛 (‵ ((Struct (shape (places.the_type R))).own_val (tt, tt) vs) ∷ Γ) G
-  mark_had t R vs k = fpick t (λ vss. fsplit t $ feq_l t (λ ev. fsplit t $ fpick t (λ uss. fsplit t $ feq_l t (λ e. drop t $ drop t $
-      k (ev ∙ (λ i. vstruct (of_list (e i ++ [])) ∷ []))))))
+mark_made R 𝓛 = let Mark : RattleType = marker.the_row RawPtr in let none : Val = vstruct vnil in
+    qed 𝓛 [] ∵ nothing ! $ feq_i ! (List Val) (none ∷ []) (none ∷ []) refl $ fjoin ! $ fpack ! (Valss []) (within (Declared.shape (marker.the_type RawPtr)) tt (none ∷ [])) tt $
+    nothing ! $ move ! (1 ∷ 0 ∷ []) $ fjoin ! $ feq_i ! (List Val) (mark ∷ []) (mark ∷ []) refl $ fjoin ! $
+    fpack ! (Valss (Mark ∷ [])) (within (shape (places.the_type R)) (tt, tt) (mark ∷ [])) (none ∷ [], tt) $ done !

@@ -6,6 +6,7 @@ use seplogic.Ra.Ura.{Ura}
 use base.Logic.{sep}
 use base.Fml.{Lft, Fml, Incl, fsep, ftrue, ffalse, fbor, froom}
 use mir.Syntax.{ty_array}
+use mir.Raw.{raw as bare}
 use types.Logic.{Logic, sem, lfts}
 use types.Kit.{‵, raw, later, await, ◌⊛◌, ◌$◌, !, qed, drop, use2, split, fsplit, updating, now, done}
 use denote.RattleType.{RattleType, RowLaws}
@@ -41,7 +42,7 @@ module _ {M : Type 1} {𝓤 : Ura M} (𝓛 : Logic 𝓤) (l : Lft) (R : RattleTy
     Items = items_own R b (before * type_size R + o) xs
 
     abbrev Rest : Fml
-    Rest = fsep Items (froom (ty_array (lone R.mir) after) b ((before + length xs) * type_size R + o))
+    Rest = fsep Items (froom (bare (ty_array (lone R.mir) after)) b ((before + length xs) * type_size R + o))
 
     abbrev Seen : Lft → Fml
     Seen = elements_shared R xs b (before * type_size R + o)
@@ -49,6 +50,6 @@ module _ {M : Type 1} {𝓤 : Ura M} (𝓛 : Logic 𝓤) (l : Lft) (R : RattleTy
   pub Lends-places : (p : Ptr) (before : ℕ) (xs : List R.Denot) (after : ℕ) → Lends 𝓛 (places_own R p before xs after) (places_lent R p before xs after) l
   Lends-places (block_ptr b o) before xs after =
       Lends-both 𝓛 (small R before xs after) _ (said (small R before xs after)) (Seen b o before xs after) l (Lends-said 𝓛 (small R before xs after) tt l)
-      (Lends-second 𝓛 (froom (ty_array (lone R.mir) before) b o) (Rest b o before xs after) (Seen b o before xs after) l
+      (Lends-second 𝓛 (froom (bare (ty_array (lone R.mir) before)) b o) (Rest b o before xs after) (Seen b o before xs after) l
       (Lends-first 𝓛 (Items b o before xs after) _ (Seen b o before xs after) l (Lends-items b (before * type_size R + o) xs)))
   Lends-places null_ptr before xs after = Lends-false 𝓛 (said ffalse) l

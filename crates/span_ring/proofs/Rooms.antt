@@ -9,9 +9,11 @@ use prog.Memory.{capped}
 use prog.Capped.{capped_is}
 use base.Fml.{froom}
 use mir.Syntax.{Ty, ty_array}
+use mir.Raw.{raw as bare}
 use prog.Memory.{size}
 use types.Logic.{Logic, sem}
-use types.Kit.{‵, use0, ◌$◌, ◌∵◌, !, qed, by, move, drop, use2, fsplit, fjoin, rewrite, done}
+use prog.RawLaws.{size-raw}
+use types.Kit.{‵, ◌⊛◌, split, use0, use1, ◌$◌, ◌∵◌, !, qed, by, move, drop, use2, fsplit, fjoin, rewrite, done}
 use denote.RattleType.{RattleType}
 use denote.Memory.{part_at}
 use denote.RawPtr.Room.{past, room_glue}
@@ -19,15 +21,16 @@ use denote.Steps.{nothing}
 use Rattle.std.specs.Mem.{type_size}
 use Rattle.span_ring.specs.Places.{items_own}
 
-past_is : (τ : Ty) (m o : ℕ) → past τ m o ≡ m * size τ + o
+past_is : (τ : Ty) (m o : ℕ) → past (bare τ) m o ≡ m * size τ + o
 past_is τ zero o = omega (arith, zero-mul (size τ))
-past_is τ (suc m) o = past_is τ m (o + size τ) ∙ omega (arith, suc-mul m (size τ))
+past_is τ (suc m) o = past_is τ m (o + size (bare τ)) ∙ omega (arith, suc-mul m (size τ), size-raw τ)
 
 module _ {M : Type 1} {𝓤 : Ura M} (𝓛 : Logic 𝓤) (b : ℕ) where
   -- room right behind other room
-  pub joined : (τ : Ty) (m n o at : ℕ) → at ≡ m * size τ + o → ent 𝓤 (sep 𝓤 (sem 𝓛 (froom (ty_array τ m) b o)) (sem 𝓛 (froom (ty_array τ n) b at))) (sem 𝓛 (froom (ty_array τ (m + n)) b o))
-  joined τ m n o at e = qed 𝓛 (‵ (froom (ty_array τ m) b o) ∷ ‵ (froom (ty_array τ n) b at) ∷ []) ∵ move ! (1 ∷ []) $
-      rewrite ! 0 (λ (k : ℕ). ‵ (froom (ty_array τ n) b k)) (e ∙ sym (past_is τ m o)) refl $ move ! (1 ∷ 0 ∷ []) $ by ! (room_glue 𝓛 τ m n b o)
+  pub joined : (τ : Ty) (m n o at : ℕ) → at ≡ m * size τ + o
+      → ent 𝓤 (sep 𝓤 (sem 𝓛 (froom (bare (ty_array τ m)) b o)) (sem 𝓛 (froom (bare (ty_array τ n)) b at))) (sem 𝓛 (froom (bare (ty_array τ (m + n))) b o))
+  joined τ m n o at e = qed 𝓛 (‵ (froom (bare (ty_array τ m)) b o) ∷ ‵ (froom (bare (ty_array τ n)) b at) ∷ []) ∵ move ! (1 ∷ []) $
+      rewrite ! 0 (λ (k : ℕ). ‵ (froom (bare (ty_array τ n)) b k)) (e ∙ sym (past_is τ m o)) refl $ move ! (1 ∷ 0 ∷ []) $ by ! (room_glue 𝓛 (bare τ) m n b o)
 
   module _ (R : RattleType) (x : R.Denot) where
     -- an item right behind others
@@ -39,12 +42,18 @@ module _ {M : Type 1} {𝓤 : Ura M} (𝓛 : Logic 𝓤) (b : ℕ) where
         qed 𝓛 (‵ (items_own R b o (y ∷ xs)) ∷ ‵ (part_at R full_share x b at) ∷ []) ∵ fsplit ! $ move ! (1 ∷ 2 ∷ []) $
         use2 𝓛 (‵ (items_own R b (o + type_size R) (xs ++ x ∷ []))) (one_more xs (o + type_size R) at further) $ move ! (1 ∷ 0 ∷ []) $ fjoin ! $ done !
 
-module _ {M : Type 1} {𝓤 : Ura M} (𝓛 : Logic 𝓤) (b : ℕ) where
+module _ {M : Type 1} {𝓤 : Ura M} (𝓛 : Logic 𝓤) (b : ℕ) (τ : Ty) where
   -- one more place of room
-  pub longer : (τ : Ty) (m o at : ℕ) → at ≡ m * size τ + o → ent 𝓤 (sep 𝓤 (sem 𝓛 (froom (ty_array τ m) b o)) (sem 𝓛 (froom τ b at))) (sem 𝓛 (froom (ty_array τ (m + 1)) b o))
-  longer τ m o at e = qed 𝓛 (‵ (froom (ty_array τ m) b o) ∷ ‵ (froom τ b at) ∷ []) ∵
-      use0 𝓛 (‵ (froom (ty_array τ 0) b (at + size τ))) (𝓛.laws.room_nil τ b (at + size τ)) $ move ! (2 ∷ 0 ∷ []) $
-      use2 𝓛 (‵ (froom (ty_array τ 1) b at)) (𝓛.laws.room_cons τ 0 b at) $ move ! (1 ∷ 0 ∷ []) $ by ! (joined 𝓛 b τ m 1 o at e)
+  pub longer : (m o at : ℕ) → at ≡ m * size τ + o → ent 𝓤 (sep 𝓤 (sem 𝓛 (froom (bare (ty_array τ m)) b o)) (sem 𝓛 (froom τ b at))) (sem 𝓛 (froom (bare (ty_array τ (m + 1))) b o))
+  longer m o at e = let after = at + size (bare τ) in qed 𝓛 (‵ (froom (bare (ty_array τ m)) b o) ∷ ‵ (froom τ b at) ∷ []) ∵ move ! (1 ∷ []) $
+      use1 𝓛 (‵ (froom (bare τ) b at)) (𝓛.laws.room-raw τ b at) $ use0 𝓛 (‵ (froom (bare (ty_array τ 0)) b after)) (𝓛.laws.room_nil (bare τ) b after) $ move ! (1 ∷ 0 ∷ []) $
+      use2 𝓛 (‵ (froom (bare (ty_array τ 1)) b at)) (𝓛.laws.room_cons (bare τ) 0 b at) $ move ! (1 ∷ 0 ∷ []) $ by ! (joined 𝓛 b τ m 1 o at e)
+
+  -- of some room the first place
+  pub shorter : (n at : ℕ) → ent 𝓤 (sem 𝓛 (froom (bare (ty_array τ (suc n))) b at)) (sep 𝓤 (sem 𝓛 (froom τ b at)) (sem 𝓛 (froom (bare (ty_array τ n)) b (at + size τ))))
+  shorter n at = qed 𝓛 (‵ (froom (bare (ty_array τ (suc n))) b at) ∷ []) ∵
+      use1 𝓛 (‵ (froom (bare τ) b at) ⊛ ‵ (froom (bare (ty_array τ n)) b (at + size (bare τ)))) (𝓛.laws.room_uncons (bare τ) n b at) $ split ! $
+      use1 𝓛 (‵ (froom τ b at)) (𝓛.laws.raw-room τ b at) $ rewrite ! 1 (λ (k : ℕ). ‵ (froom (bare (ty_array τ n)) b (at + k))) (size-raw τ) refl $ done !
 
 -- a list of some items has a first one
 pub split_first : {X : Type 0} (xs : List X) → 0 < length xs → (x : X) × (xs ≡ x ∷ drop_n 1 xs)

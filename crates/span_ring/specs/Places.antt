@@ -4,6 +4,7 @@ use Rattle.std.specs.Mem.{type_size}
 use base.Fraction.{full_share}
 use base.Fml.{Lft, Fml, ftrue, ffalse, fsep, flt, froom}
 use mir.Syntax.{ty_array}
+use mir.Raw.{raw}
 use denote.RattleType.{RattleType}
 use denote.Memory.{lone, part_at}
 use denote.Sharing.{said, beside}
@@ -23,8 +24,8 @@ module _ (R : RattleType) where
   -- room for `before` items, the items, and room for `after` more
   abbrev pub places_own : Ptr → ℕ → List R.Denot → ℕ → Fml
   places_own (block_ptr b o) before xs after =
-      fsep (small before xs after) (fsep (froom (ty_array (lone R.mir) before) b o)
-      (fsep (items_own b (before * type_size R + o) xs) (froom (ty_array (lone R.mir) after) b ((before + length xs) * type_size R + o))))
+      fsep (small before xs after) (fsep (froom (raw (ty_array (lone R.mir) before)) b o)
+      (fsep (items_own b (before * type_size R + o) xs) (froom (raw (ty_array (lone R.mir) after)) b ((before + length xs) * type_size R + o))))
   places_own null_ptr before xs after = ffalse
 
   -- what a `&` to them holds: what one to the items, as a slice, does

@@ -25,9 +25,10 @@ use types.Kit.{‵, raw, ◌⊛◌, ◌$◌, ◌∵◌, !, qed, by, move, keep, 
 use types.Part.{sub, whole}
 use types.Run.{enter, of_opd, fld, stop, returns}
 use Rattle.std_alloc.proofs.vec.Vec.TheLaws as vec_laws
+use Rattle.span_ring.proofs.places.Places.TheLaws as places_laws
 use Rattle.std_alloc.specs.contracts.vec.Vec as V
 use Rattle.span_ring.specs.Places.{places_own}
-use Rattle.span_ring.proofs.Carved.{one, mark, mark_had, room_in}
+use Rattle.span_ring.proofs.Carved.{one, room_in}
 use Rattle.span_ring.specs.contracts.room.RoomOwner as owner
 use Rattle.span_ring.specs.contracts.places.Places as places
 use Rattle.span_ring.specs.contracts.room.attach.{ended, clauses}
@@ -48,15 +49,17 @@ attach_spec 𝓤 𝓛 𝓜 𝓡 wired X Z L K g d dd allocator glue =
     let asked = raw (fact 𝓤 (o.at ≡ v.ptr)) ⊛ raw (fact 𝓤 (o.items ≡ [])) ⊛ raw (fact 𝓤 (o.before + o.after ≡ v.cap)) ⊛ raw (fact 𝓤 (v.items ≡ [])) in
     qed 𝓛 ((toks ⊛ ‵ (owns (types_at En.signature.params κs) z.0.3 z.0.4)) ∷ (raw (fact 𝓤 (κs.0 ⊑ X.lives)) ⊛ raw (fact 𝓤 (κs.1.0 ⊑ Z.lives)) ⊛ asked) ∷ []) ∵
     move ! (1 ∷ []) $ split ! $ drop ! $ split ! $ drop ! $ split ! $ heard ! (o.at ≡ v.ptr) (λ at. split ! $ heard ! (o.items ≡ []) (λ no_items. split ! $
-    heard ! (o.before + o.after ≡ v.cap) (λ fills. heard ! (v.items ≡ []) (λ none. split ! $ move ! (1 ∷ []) $ fsplit ! $ fsplit ! $ mark_had ! R z.0.4.0 (λ is₀.
+    heard ! (o.before + o.after ≡ v.cap) (λ fills. heard ! (v.items ≡ []) (λ none. split ! $ move ! (1 ∷ []) $ fsplit ! $
+    handle_tells (record { row = O; laws = places_laws.the_row_laws R (param_laws 0 X L); g = record { dealloc_token = λ _ _ _. ftrue }; d = d; drops = dd }) ! o z.0.4.0 (λ w is₀ fits.
+    fsplit ! $ drop ! $
     -- [the places; the owner; the tokens]
     move ! (1 ∷ []) $ fsplit ! $ fsplit ! $ fpick ! (λ typed. drop ! $ fpick ! (λ us. fsplit ! $ feq_l ! (λ e. fsplit ! $ move ! (3 ∷ []) $
     rewrite ! 0 (λ (p : Ptr). ‵ (places_own R p o.before o.items o.after)) at refl $ rewrite ! 0 (λ (xs : List R.Denot). ‵ (places_own R v.ptr o.before xs o.after)) no_items refl $
     use2 𝓛 (‵ (S.own_val v us.0)) (room_in R P g 𝓛 v none o.before o.after fills us.0) $
     handle_tells (record { row = S; laws = vec_laws.the_row_laws R P g (param_laws 0 X L) (param_laws 1 Z K); g = record { dealloc_token = λ _ _ _. ftrue }; d = d; drops = dd }) ! v us.0 (λ u is good.
     let inner = as_fields (layout S ∷ []) (u ∷ []) (good, tt) in let is₁ : z.0.4.1.0 ≡ one u ∷ [] = e ∙ (λ i. vstruct (of_list (is i ++ [])) ∷ []) in
-    suffices ! (Run (mark ∷ one u ∷ [])) (subst (λ (ws : List Val × List Val). ent 𝓤 (Run (mark ∷ one u ∷ [])) (Run (ws.0 ++ (ws.1 ++ [])))) (λ i. (sym is₀ i, sym is₁ i)) (id⊢ 𝓤 (Run (mark ∷ one u ∷ [])))) $
-    enter ! 𝓣.C 𝓣.Λ fn (mark ∷ one u ∷ []) Post $ alloc_all ! (λ l. pass_all ! refl ((tt, (tt, tt)), (inner, tt)) $
+    suffices ! (Run (w ∷ one u ∷ [])) (subst (λ (ws : List Val × List Val). ent 𝓤 (Run (w ∷ one u ∷ [])) (Run (ws.0 ++ (ws.1 ++ [])))) (λ i. (sym is₀ i, sym is₁ i)) (id⊢ 𝓤 (Run (w ∷ one u ∷ [])))) $
+    enter ! 𝓣.C 𝓣.Λ fn (w ∷ one u ∷ []) Post $ alloc_all ! (λ l. pass_all ! refl (fits, (inner, tt)) $
     sets ! (of_opd ! (get_in ! (fld ! refl (stop !)) (sub ! 0 refl (whole !)))) refl good $ sets ! (of_opd ! (get ! refl)) refl good $
     returns ! (look_at ! 0 refl) $ free_all ! refl $
     -- [the `Vec`; two nothings; the tokens]

@@ -23,6 +23,7 @@ use denote.Memory.{part_at}
 use native.Mathlib.Nat.{one-mul}
 use Rattle.std.proofs.Math.Nat.{add-mul}
 use mir.MapTy.{inst_fn}
+use mir.Raw.{raw as bare}
 use mir.Syntax.{a_type, w64, ty_ptr, ty_array}
 use mir.Val.{Val, vptr, vint}
 use prog.Memory.{size}
@@ -77,8 +78,8 @@ read_spec 𝓤 𝓛 𝓜 𝓡 wired X L =
     exec ! 𝓣.C 𝓣.Λ En' code.Mir.t-2 (at_ret En' Post) $ sets ! (of_opd ! (get ! refl)) refl good $
     -- [the item's cell; what it owns; the others; room behind, and before them; the mark; its cell; the open borrow]
     use1 𝓛 (‵ (froom τ b (i * s + o))) (𝓛.laws.at_room τ b (i * s + o) v) $ move ! (4 ∷ 0 ∷ []) $
-    use2 𝓛 (‵ (froom (ty_array τ (d.before + 1)) b o)) (longer 𝓛 b τ d.before o (i * s + o) (ap (λ (n : ℕ). n * s + o) index)) $ move ! (2 ∷ 3 ∷ []) $
-    rewrite ! 0 (λ (k : ℕ). ‵ (items_own R b k xs)) further refl $ rewrite ! 1 (λ (n : ℕ). ‵ (froom (ty_array τ d.after) b (n * s + o))) as_many refl $
+    use2 𝓛 (‵ (froom (bare (ty_array τ (d.before + 1))) b o)) (longer 𝓛 b τ d.before o (i * s + o) (ap (λ (n : ℕ). n * s + o) index)) $ move ! (2 ∷ 3 ∷ []) $
+    rewrite ! 0 (λ (k : ℕ). ‵ (items_own R b k xs)) further refl $ rewrite ! 1 (λ (n : ℕ). ‵ (froom (bare (ty_array τ d.after)) b (n * s + o))) as_many refl $
     fjoin ! $ move ! (1 ∷ 0 ∷ []) $ fjoin ! $ flt_i ! ((d.before + 1 + length xs + d.after) * s) (2 ^ 63) (subst (λ (n : ℕ). (n + d.after) * s < 2 ^ 63) as_many small) $ fjoin ! $
     rewrite ! 0 (λ (r : Ptr). ‵ (places_own R r (d.before + 1) xs d.after)) (sym e) refl $ move ! (2 ∷ 0 ∷ []) $ fjoin ! $ move ! (2 ∷ 0 ∷ 3 ∷ 4 ∷ 5 ∷ []) $ closes ! tt O new vs rb ro $
     returns ! (look_at ! 0 refl) $ free_all ! refl $

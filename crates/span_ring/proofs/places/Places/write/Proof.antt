@@ -22,6 +22,7 @@ use Rattle.std.proofs.lemmas.List.{length_push}
 use Rattle.std.proofs.Math.Nat.{add-mul}
 use borrow.Table.OneValue.{part_in}
 use mir.MapTy.{inst_fn}
+use mir.Raw.{raw as bare}
 use mir.Syntax.{given as given_at, a_type, w64, ty_ptr, ty_array}
 use mir.Val.{Val, vptr, vint, vunit}
 use prog.Memory.{size}
@@ -30,7 +31,7 @@ use types.ByLocal.{alloc_all, pass_all, free_all, look_at, get, through, sets, t
 use types.Kit.{‵, raw, ◌⊛◌, at_ret, ◌$◌, ◌∵◌, !, qed, by, move, keep, drop, use0, use1, use2, split, join, fsplit, fsplit3, fjoin, fjoin3, rewrite, feq_i, feq_l, flt_i, flt_l, suffices}
 use types.Run.{enter, of_opd, bin, size_lit, unit_lit, assigns_last, init, stop, first, blocks, exec, returns}
 use Rattle.span_ring.proofs.Owners.{ptr_good}
-use Rattle.span_ring.proofs.Rooms.{one_more, within_all}
+use Rattle.span_ring.proofs.Rooms.{one_more, shorter, within_all}
 use Rattle.span_ring.specs.Places.{items_own, places_own}
 use Rattle.span_ring.specs.contracts.places.Places as places
 use Rattle.span_ring.specs.contracts.places.Places.write.{ended, clauses}
@@ -73,15 +74,15 @@ write_spec 𝓤 𝓛 𝓜 𝓡 wired X L =
     sets ! (bin ! (get ! refl) (size_lit ! (record { fits = tiny })) (record { fits = far })) refl (tt, record { fits = far }) $
     sets ! (bin ! (get ! refl) (get ! refl) tt) refl (tt, tt) $
     -- [room; items and room; the mark; its cell; the open borrow, in three entries; the other token; what the item owns]
-    fsplit ! $ move ! (1 ∷ []) $ fsplit ! $ move ! (1 ∷ []) $ rewrite ! 0 (λ (n : ℕ). ‵ (froom (ty_array τ d.after) b (n * s + o))) (sym index) refl $
-    rewrite ! 0 (λ (n : ℕ). ‵ (froom (ty_array τ n) b (i * s + o))) one_place refl $
-    use1 𝓛 (‵ (froom τ b (i * s + o)) ⊛ ‵ (froom (ty_array τ left) b (i * s + o + s))) (𝓛.laws.room_uncons τ left b (i * s + o)) $ split ! $
+    fsplit ! $ move ! (1 ∷ []) $ fsplit ! $ move ! (1 ∷ []) $ rewrite ! 0 (λ (n : ℕ). ‵ (froom (bare (ty_array τ d.after)) b (n * s + o))) (sym index) refl $
+    rewrite ! 0 (λ (n : ℕ). ‵ (froom (bare (ty_array τ n)) b (i * s + o))) one_place refl $
+    use1 𝓛 (‵ (froom τ b (i * s + o)) ⊛ ‵ (froom (bare (ty_array τ left)) b (i * s + o + s))) (shorter 𝓛 b τ left (i * s + o)) $ split ! $
     sets ! (of_opd ! (get ! refl)) refl good $ assigns_last ! (of_opd ! (get ! refl)) (through ! refl (stop !)) (init ! 0 refl good) $
     exec ! 𝓣.C 𝓣.Λ En' code.Mir.t-2 (at_ret En' Post) $ sets ! (of_opd ! (unit_lit !)) refl (tt, tt) $
     -- [the item's cell; room behind it; the others; room before them; the mark; its cell; the open borrow; the other token; what the item owns]
     move ! (0 ∷ 10 ∷ []) $ use2 𝓛 (‵ (part_at R full_share x b (i * s + o))) (part_in 𝓛 R refl full_share x b (i * s + o) w) $ move ! (2 ∷ 0 ∷ []) $
     use2 𝓛 (‵ (items_own R b (d.before * s + o) xs)) (one_more 𝓛 b R x d.items (d.before * s + o) (i * s + o) behind) $
-    rewrite ! 1 (λ (k : ℕ). ‵ (froom (ty_array τ left) b k)) further refl $ fjoin ! $ move ! (1 ∷ 0 ∷ []) $ fjoin ! $
+    rewrite ! 1 (λ (k : ℕ). ‵ (froom (bare (ty_array τ left)) b k)) further refl $ fjoin ! $ move ! (1 ∷ 0 ∷ []) $ fjoin ! $
     flt_i ! ((d.before + length xs + left) * s) (2 ^ 63) (subst (λ (n : ℕ). n * s < 2 ^ 63) as_many small) $ fjoin ! $
     rewrite ! 0 (λ (r : Ptr). ‵ (places_own R r d.before xs left)) (sym e) refl $ move ! (1 ∷ 0 ∷ []) $ fjoin ! $ move ! (1 ∷ 0 ∷ 2 ∷ 3 ∷ 4 ∷ []) $ closes ! tt O new vs rb ro $
     returns ! (look_at ! 0 refl) $ free_all ! refl $
