@@ -1,6 +1,6 @@
 //! Batches that are sent over HTTP (OTLP Specification, "OTLP/HTTP"; RFC 9112): an exporter that
 //! posts each body over a link of its own, which a [`Dial`] gives. Over TCP it is the
-//! [`HttpExporter`]. What the last attempt met that failed, a [`Failure`] tells.
+//! [`HttpExporter`]. A [`Failure`] says what the last attempt met that failed.
 #![tactic(auto)]
 
 mod dial;

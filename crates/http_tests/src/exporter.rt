@@ -201,20 +201,20 @@ fn each_attempt_has_a_link_of_its_own(rt: HostRuntime) {
     assert_attempt(&rt, &mut exporter, 6, Outcome::NoReply);
 }
 
-/// What an exporter tells of its last failure, and `none` where there is none.
-fn told_failure<A: Allocator + Copy>(
+/// What an exporter says of its last failure, and `none` where there is none.
+fn failure_text<A: Allocator + Copy>(
     rt: &impl Abort,
     alloc: Global,
     exporter: &LinkExporter<ListedLinks, A>,
 ) -> String {
-    let told = match exporter.last_failure() {
+    let text = match exporter.last_failure() {
         Some(failure) => format!(in alloc; "{failure}"),
         None => format!(in alloc; "none"),
     };
-    told.expect(rt, "memory")
+    text.expect(rt, "memory")
 }
 
-/// Checks what comes of an attempt over this link, and what is then told of the last failure, also
+/// Checks what comes of an attempt over this link, and what the last failure then says, also
 /// where memory is refused and a delivery follows.
 fn assert_failure(
     rt: &impl Abort,
@@ -227,14 +227,14 @@ fn assert_failure(
     let links = vec![in alloc; good, link].expect(rt, "memory");
     let mut exporter = exporter(rt, alloc, alloc, links);
     assert_equal_at(rt, exporter.attempt(b"abc"), wanted, text);
-    let told = told_failure(rt, alloc, &exporter);
-    assert_equal(rt, told.as_str(), text);
+    let found = failure_text(rt, alloc, &exporter);
+    assert_equal(rt, found.as_str(), text);
     assert_equal_at(rt, exporter.attempt(b"abc"), Outcome::Delivered, text);
-    let told = told_failure(rt, alloc, &exporter);
-    assert_equal(rt, told.as_str(), text);
+    let found = failure_text(rt, alloc, &exporter);
+    assert_equal(rt, found.as_str(), text);
 }
 
-/// Replies whose status isn't one of success, from behind `HTTP/1.1 `, with what is told of each.
+/// Replies whose status isn't one of success, without their `HTTP/1.1 `, with what the failure says.
 const SAID: &[(&[u8], &str)] = &[
     (b"503 Busy\r\n\r\n", "the collector answered 503"),
     (
@@ -264,8 +264,8 @@ const SAID: &[(&[u8], &str)] = &[
     ),
 ];
 
-/// Replies of success that say that two spans were rejected, from behind `HTTP/1.1 `, with what
-/// comes of each and what is told of it.
+/// Replies of success that say that two spans were rejected, without their `HTTP/1.1 `, with what
+/// comes of each and what the failure says.
 const REJECTED: &[(&[u8], Outcome, &str)] = &[
     (
         b"200 OK\r\n\r\n\x0a\x05\x08\x02\x12\x01x",
@@ -303,7 +303,7 @@ fn replies(rt: &impl Abort, alloc: Global, rest: &[u8]) -> Option<FailingWire> {
 }
 
 #[test]
-fn an_exporter_tells_what_a_collector_said(rt: HostRuntime) {
+fn an_exporter_reports_what_a_collector_said(rt: HostRuntime) {
     let alloc = rt.alloc();
     for (rest, text) in SAID {
         let link = replies(&rt, alloc, rest);
@@ -324,7 +324,7 @@ fn an_exporter_tells_what_a_collector_said(rt: HostRuntime) {
 }
 
 #[test]
-fn an_exporter_tells_why_it_got_no_reply(rt: HostRuntime) {
+fn an_exporter_reports_why_it_got_no_reply(rt: HostRuntime) {
     let alloc = rt.alloc();
     let none = Outcome::NoReply;
     assert_failure(&rt, alloc, None, none, "no connection to the collector");
@@ -343,7 +343,7 @@ fn an_exporter_tells_why_it_got_no_reply(rt: HostRuntime) {
 }
 
 /// What comes of an attempt that is refused with a text where this call for memory is refused, what
-/// is told of it, and whether it was.
+/// the failure says, and whether the call was refused.
 fn attempt_scarce(rt: &impl Abort, alloc: Global, fail_index: u64) -> (Outcome, String, bool) {
     let scarce = FailingAllocator::new(alloc, fail_index);
     let reply = "HTTP/1.1 400 Bad\r\nContent-Length: 3\r\n\r\nbad";
@@ -352,17 +352,17 @@ fn attempt_scarce(rt: &impl Abort, alloc: Global, fail_index: u64) -> (Outcome, 
     let outcome = exporter.attempt(b"abc");
     (
         outcome,
-        told_failure(rt, alloc, &exporter),
+        failure_text(rt, alloc, &exporter),
         scarce.has_failed(),
     )
 }
 
 #[test]
-fn refused_memory_is_told_or_takes_the_message(rt: HostRuntime) {
+fn refused_memory_is_reported_or_takes_the_message(rt: HostRuntime) {
     let alloc = rt.alloc();
     // The target takes the first two calls. Then the head takes some, and the body the last one.
     for fail_index in 2..64u64 {
-        let (outcome, told, has_failed) = attempt_scarce(&rt, alloc, fail_index);
+        let (outcome, text, has_failed) = attempt_scarce(&rt, alloc, fail_index);
         let wanted = if outcome == Outcome::NoReply {
             "no memory for the head of the reply"
         } else if has_failed {
@@ -370,12 +370,12 @@ fn refused_memory_is_told_or_takes_the_message(rt: HostRuntime) {
         } else {
             "the collector answered 400: bad"
         };
-        assert_equal_at(&rt, told.as_str(), wanted, fail_index);
+        assert_equal_at(&rt, text.as_str(), wanted, fail_index);
     }
 }
 
-/// Checks how much is told of a message of `x` and then so many letters of two bytes.
-fn assert_cut(rt: &impl Abort, alloc: Global, front: &'static [u8], letters: usize, told: usize) {
+/// Checks how much is kept of a message of this front and then so many letters of two bytes.
+fn assert_cut(rt: &impl Abort, alloc: Global, front: &'static [u8], letters: usize, kept: usize) {
     let rest = bytes_of(rt, alloc, (b"400 Bad\r\n\r\n", b"", 0, front));
     let rest = joined(
         rt,
@@ -390,7 +390,7 @@ fn assert_cut(rt: &impl Abort, alloc: Global, front: &'static [u8], letters: usi
         Some(Failure::Status { message, .. }) => message.as_str().len(),
         _ => 0,
     };
-    assert_equal_at(rt, size, told, letters);
+    assert_equal_at(rt, size, kept, letters);
 }
 
 #[test]

@@ -1,6 +1,6 @@
 //! Batches over HTTP (OTLP Specification, "OTLP/HTTP"; RFC 9110, RFC 9112): the [`HttpExporter`],
 //! which posts each body to a [`Target`] over TCP, and [`LinkExporter`], which does the same over
-//! any [`Dial`], and the [`Failure`] that each tells; below them the requests and replies,
+//! any [`Dial`], and the [`Failure`] that each keeps; below them the requests and replies,
 //! [`write_request`], [`read_reply`], and [`outcome_of`] for what a reply means.
 pub use http_exporter::{
     DEFAULT_EXPORT_TIMEOUT_MS, Dial, Failure, HttpExporter, LinkExporter, MESSAGE_ROOM, Message,
