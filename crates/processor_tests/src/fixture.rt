@@ -3,7 +3,6 @@ use crate::equal::assert_equal;
 use otlp_ids::{SpanContext, SpanId, TraceId};
 use otlp_sampler::{AlwaysOn, Sampler};
 use otlp_span::{Entry, Kind, Reason, Resource, Scope, SpanData, SpanLimits};
-use otlp_value::Value;
 use retry_core::Outcome;
 use span_exporter::MemoryExporter;
 use std::alloc::{Allocator, Global};
@@ -58,23 +57,6 @@ pub(crate) fn root<S: Sampler + Drop, A: Allocator + Copy>(
 /// Starts a root that is sampled.
 pub(crate) fn sampled<A: Allocator + Copy>(rt: &impl Abort, alloc: A) -> Span<A> {
     root(rt, alloc, AlwaysOn, "")
-}
-
-/// How many texts are in the attribute of a large root.
-const TEXTS: usize = 20_000;
-
-/// Starts a root that is sampled, and has an attribute that takes a while to be freed.
-pub(crate) fn large<A: Allocator + Copy>(rt: &impl Abort, alloc: A) -> Span<A> {
-    let mut span = sampled(rt, alloc);
-    let mut texts = Vec::new(alloc);
-    for _ in 0..TEXTS {
-        let text = String::from_str(alloc, "text").expect(rt, "memory");
-        texts.push(text).expect(rt, "memory");
-    }
-    let key = String::from_str(alloc, "key").expect(rt, "memory");
-    let set = span.set_attribute(key, Value::Texts(texts));
-    set.expect(rt, "memory");
-    span
 }
 
 /// How a root is answered that ends on a pass, which this sampler decides on, of a resource with

@@ -4,7 +4,7 @@ ghost use Rattle.batch_processor.specs.Working.{IsPrepared};
 
 use crate::batch::fixture::{Left, close, config, make};
 use crate::equal::assert_equal;
-use crate::fixture::{END, end, large};
+use crate::fixture::end;
 use batch_processor::{
     BatchBlank, BatchConfig, Clock as _, Flushed, ManualClock, Naming, Parts, Pass, SystemClock,
     WorkEnd, WorkerLeft, WorkerPass,
@@ -67,8 +67,6 @@ pub(crate) enum Task {
     EndLate(u64),
     /// So many spans end on the first pass, each a millisecond or two after the one before is sent.
     EndSpaced(u64),
-    /// So many large spans end on the first pass, and each is flushed.
-    FlushLarge(u32),
     /// A span ends while another one is being sent.
     EndWhileSending,
     /// A flush on the first pass, which ended nothing, asks for a span that ended on the last one,
@@ -151,50 +149,6 @@ fn end_spaced<J: Naming, R: Wait + Abort + Clock + Copy>(
     }
 }
 
-/// Ends a large span on a pass, and flushes it. Answers how long it was until then from the moment
-/// that the exporter set when it was handed the span.
-fn flush_large<J: Naming, R: Wait + Abort + Clock + Copy>(
-    rt: R,
-    alloc: Global,
-    pass: &mut Pass<J, R>,
-    moment: &AtomicU64,
-) -> u64 {
-    let mut span = large(&rt, alloc);
-    let answer = span.end(pass, END);
-    assert_equal(&rt, matches!(answer, Ended::Queued(_)), true);
-    assert_equal(&rt, pass.force_flush(), Ok(Flushed));
-    let flushed = SystemClock::new(rt).now();
-    flushed.saturating_sub(moment.load(Ordering::SeqCst))
-}
-
-/// How long it takes to free a large span.
-fn free_large<R: Abort + Clock + Copy>(rt: R, alloc: Global) -> u64 {
-    let span = large(&rt, alloc);
-    let clock = SystemClock::new(rt);
-    let began = clock.now();
-    drop(span);
-    clock.now().saturating_sub(began)
-}
-
-/// Ends so many large spans on a pass, and flushes each. Most flushes end sooner behind the export
-/// than such a span is freed: they don't wait for that.
-fn flush_each<J: Naming, R: Wait + Abort + Clock + Copy>(
-    rt: R,
-    alloc: Global,
-    pass: &mut Pass<J, R>,
-    spans: u32,
-    moment: &AtomicU64,
-) {
-    let mut soon = 0u32;
-    for _ in 0..spans {
-        let took = flush_large(rt, alloc, pass, moment);
-        if took < free_large(rt, alloc) / 2 {
-            soon = soon.saturating_add(1);
-        }
-    }
-    assert!(rt; soon > spans / 2, "{soon} of {spans} flushes ended soon");
-}
-
 /// Does a task with the first pass.
 pub(crate) fn do_first<J: Naming, R: Wait + Abort + Clock + Copy>(
     rt: R,
@@ -249,10 +203,6 @@ where
         Task::EndSpaced(spans) => {
             let first = passes.first_mut().expect(&rt, "a pass");
             end_spaced(rt, alloc, first, spans, stage);
-        }
-        Task::FlushLarge(spans) => {
-            let first = passes.first_mut().expect(&rt, "a pass");
-            flush_each(rt, alloc, first, spans, stage);
         }
         _ => {
             if matches!(task, Task::Flush) {
