@@ -18,6 +18,7 @@ abbrev pub first : PassAccount
 first = record {
   ends = accepted (span_at 0) ∷ accepted (span_at 1) ∷ dropped drop_of_2 ∷ [];
   popped = [];
+  popped_lost = [];
   late = 1;
   shutdowns = 0;
   asked = record { ticket = 3; mark = 2 };
@@ -29,6 +30,7 @@ abbrev pub second : PassAccount
 second = record {
   ends = accepted (span_at 3) ∷ [];
   popped = named Reason.queue_full 2 ∷ [];
+  popped_lost = [];
   late = 0;
   shutdowns = 1;
   asked = record { ticket = 4; mark = 3 };

@@ -1,13 +1,13 @@
 //! What a worker knows (profile), and what its outcomes lead to (OTLP Specification, OTLP/HTTP
 //! Response).
 
-ghost use Rattle.std.specs.Prelude.{◌≡◌, [], ◌∷◌, Some, None};
+ghost use Rattle.std.specs.Prelude.{◌≡◌, [], ◌∷◌, pos, Some, None};
 ghost use Rattle.drop_model.specs.Dropped as names;
 ghost use Rattle.retry_model.specs.Retries.{Fate, Outcome, given_up, later, no_reply};
 ghost use Rattle.desk_examples.specs.Histories.{named};
-ghost use Rattle.batch_model.specs.Worker.{dropped_spans, fates, handed_spans, numbers, taken_spans, worker_entries};
+ghost use Rattle.batch_model.specs.Worker.{dropped_spans, fates, handed_spans, numbers, taken_spans, worker_entries, worker_losses};
 ghost use Rattle.batch_model.specs.Clauses.{EachLeadsOn, LeadsTo, abandon, tickets_of};
-ghost use Rattle.batch_model.specs.Holders.{after_drop, after_left};
+ghost use Rattle.batch_model.specs.Holders.{after_drop, after_left, after_settle};
 ghost use Rattle.batch_examples.specs.Accounts.{out_with, twice, worker_with};
 
 /// Two batches, of which one is out.
@@ -16,6 +16,8 @@ pub fn two()
     ensures taken { tickets_of (taken_spans (worker_with (out_with None []))) ≡ 0 ∷ 1 ∷ 3 ∷ [] }
     // A batch that is out has no fate yet.
     ensures fates { fates (worker_with (out_with None [])) ≡ Fate.delivered ∷ [] }
+    // The one that was delivered has no lost span.
+    ensures none_lost { worker_losses (worker_with (out_with None [])) ≡ [] }
 {}
 
 /// The batch that is out is abandoned, before it was handed and after that.
@@ -32,6 +34,10 @@ pub fn abandoned()
     ensures settled { fates
         (abandon (worker_with (out_with (Some (8 ∷ [])) (no_reply ∷ [])))) ≡
         Fate.delivered ∷ Fate.abandoned ∷ [] }
+    ensures lost { worker_losses
+        (abandon (worker_with (out_with (Some (8 ∷ [])) (no_reply ∷ [])))) ≡
+        named names.left_handed 3 ∷ [] }
+    ensures none_lost { worker_losses (abandon (worker_with (out_with None []))) ≡ [] }
     ensures still_numbered { numbers (abandon (worker_with (out_with None []))) ≡ 1 ∷ 2 ∷ [] }
 {}
 
@@ -56,6 +62,17 @@ pub fn left()
     ensures none_out { (after_left (abandon (worker_with (out_with None [])))).out ≡ None }
     ensures again { after_left (abandon (after_left (abandon (worker_with (out_with None [])))))
         ≡ after_left (abandon (worker_with (out_with None []))) }
+{}
+
+/// The batch that is out is settled as given up, as refused, or with a partial success.
+pub fn lost()
+    ensures given_up { worker_losses (after_settle (no_reply ∷ []) given_up
+        (worker_with (out_with (Some (8 ∷ [])) []))) ≡ named names.given_up 3 ∷ [] }
+    ensures refused { worker_losses (after_settle (Outcome.refused 400 ∷ []) (Fate.refused 400)
+        (worker_with (out_with (Some (8 ∷ [])) []))) ≡ named (names.refused 400) 3 ∷ [] }
+    // A partial success doesn't tell which spans were refused.
+    ensures partial { worker_losses (after_settle (Outcome.partial (pos 1) ∷ [])
+        (Fate.partial (pos 1)) (worker_with (out_with (Some (8 ∷ [])) []))) ≡ [] }
 {}
 
 /// What outcomes lead to, where there are two attempts.

@@ -1,14 +1,14 @@
 //! What passes know (profile).
 
-ghost use Rattle.std.specs.Prelude.{◌≡◌, ◌-◌, ◌^◌, [], ◌∷◌, None, true, false};
-ghost use Rattle.drop_model.specs.Dropped.{abandoned, queue_full};
+ghost use Rattle.std.specs.Prelude.{◌≡◌, ◌-◌, ◌^◌, [], ◌∷◌, Some, None, true, false};
+ghost use Rattle.drop_model.specs.Dropped.{abandoned, left_handed, queue_full};
 ghost use Rattle.desk_examples.specs.Histories.{named, span_at};
-ghost use Rattle.pass_model.specs.Passes.{all_dropped, all_popped, all_accepted, all_tickets, drops, late_count, shutdown_count, tickets};
-ghost use Rattle.pass_model.specs.Clauses.{CountsLate, NamesDrops, is_closed, numbers_below};
+ghost use Rattle.pass_model.specs.Passes.{after_pop_lost, all_dropped, all_popped, all_popped_lost, all_accepted, all_tickets, drops, late_count, shutdown_count, tickets};
+ghost use Rattle.pass_model.specs.Clauses.{CountsLate, NamesDrops, NamesLosses, is_closed, numbers_below};
 ghost use Rattle.batch_model.specs.Batches.{abandon};
 ghost use Rattle.batch_model.specs.Clauses.{FlushesAreKept, QueuedAreAccounted, TicketsAreGiven, ToldOnlyWhereLeft, all_entries, count_between, tickets_of};
 ghost use Rattle.batch_model.specs.Holders.{after_flush, after_flushed, after_left, after_told_left};
-ghost use Rattle.batch_model.specs.Worker.{new_worker};
+ghost use Rattle.batch_model.specs.Worker.{new_worker, worker_losses};
 ghost use Rattle.batch_examples.specs.Accounts.{both, drop_of_2, first, out_with, second, worker_with};
 
 /// What two passes know together.
@@ -61,4 +61,15 @@ pub fn accounts()
     ensures names { NamesDrops (named abandoned 3 ∷ [])
         (record { queue_full = 1; encode_memory = 0; too_large = 0; abandoned = 1 })
         (all_entries both (abandon (worker_with (out_with None [])))) (all_popped both) }
+{}
+
+/// The same where ticket 3's batch was handed: its name is in the ledger of lost spans, or popped
+/// from it.
+pub fn losses()
+    ensures names { NamesLosses (named left_handed 3 ∷ []) 1
+        (worker_losses (abandon (worker_with (out_with (Some (8 ∷ [])) []))))
+        (all_popped_lost both) }
+    ensures popped { NamesLosses [] 1
+        (worker_losses (abandon (worker_with (out_with (Some (8 ∷ [])) []))))
+        (all_popped_lost (after_pop_lost (named left_handed 3) first ∷ second ∷ [])) }
 {}

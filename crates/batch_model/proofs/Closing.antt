@@ -9,15 +9,15 @@ use Rattle.account_book.proofs.Facts.{each_closed, each_map, each_removed, each_
 use Rattle.span_model.specs.Spans.{EndedSpan}
 use Rattle.drop_model.specs.Dropped.{Entry}
 use Rattle.desk_model.specs.Desks.{Desk, DeskConfig, drop_counts, new_desk}
-use Rattle.pass_model.specs.Passes.{Drop, PassAccount, accepted_spans, all_accepted, all_dropped, all_popped, dropped_entries, drops, new_account}
-use Rattle.pass_model.proofs.Steps.{gives_closed, gives_new, late_closed, late_new, names_same}
-use Rattle.batch_model.specs.Worker.{BatchEnd, EndedBatch, OutBatch, WorkerAccount, dropped_spans, handed_out_spans, handed_spans, new_worker, out_spans, settled, dropped, spans_if_dropped, spans_if_settled, taken_spans, worker_entries}
+use Rattle.pass_model.specs.Passes.{Drop, PassAccount, accepted_spans, all_accepted, all_dropped, all_popped, all_popped_lost, dropped_entries, drops, new_account}
+use Rattle.pass_model.proofs.Steps.{gives_closed, gives_new, late_closed, late_new, losses_same, names_same}
+use Rattle.batch_model.specs.Worker.{BatchEnd, EndedBatch, OutBatch, WorkerAccount, dropped_spans, handed_out_spans, handed_spans, new_worker, out_spans, settled, dropped, spans_if_dropped, spans_if_settled, taken_spans, worker_entries, worker_losses}
 use Rattle.batch_model.specs.Batches.{EndByWork, Origin}
 use Rattle.batch_model.specs.Clauses.{AreFrom, DropsFoundItFull, FoundItFull, IsAccounted, QueuedAreAccounted}
 use Rattle.batch_model.specs.Holders.{Holder, new_origin, pass, pass_account, pass_accounts, processor, worker, worker_account, worker_accounts}
 use Rattle.batch_model.specs.Kept.{Agrees, IsAccountOf, IsOf, KeepsFloor, Kept, accepted}
 use Rattle.batch_model.proofs.Lists.{between-same}
-use Rattle.batch_model.proofs.Reasons.{none_full}
+use Rattle.batch_model.proofs.Reasons.{all_lost, none_full, none_lost}
 
 -- ---- the end
 
@@ -38,6 +38,8 @@ agrees_closed desk w old done k c =
       names =
           let ws = worker_entries w in
           names_same desk.ledger desk.dropped (all_dropped old ++ ws) (all_dropped done ++ ws) (all_popped old) (all_popped done) (IsPermutation-append_left ws (all_dropped done) (all_dropped old) names) pops k.names;
+      full = each_closed _ old done [] c k.full;
+      losses = losses_same desk.lost desk.lost_count (worker_losses w) (all_popped_lost old) (all_popped_lost done) (gathered_all (λ (a : PassAccount). a.popped_lost) old done c) k.losses;
       late = late_closed desk.late desk.next_ticket desk.closed old done c k.late;
       floors = each_closed _ old done [] c k.floors;
       batches = k.batches;
@@ -117,7 +119,8 @@ module _ (origin : Origin) (desk : Desk) (passes : List PassAccount) (w : Worker
   accounted e = record {
     spans = queued_are e.none_out;
     tickets = record { given = x.agrees.tickets; full = subst (λ (c : DeskConfig). DropsFoundItFull c.queue passes) x.config x.agrees.queues.full };
-    names = record { all = x.agrees.names; not_full = none_full origin w e };
+    names = record { all = x.agrees.names; not_full = none_full origin w e; not_lost = none_lost origin passes w x.agrees.full e };
+    losses = record { all = x.agrees.losses; are_lost = all_lost w.ended };
     late = x.agrees.late;
     batches = record { by_work = e; numbered = x.agrees.batches.numbered; rising = x.agrees.queues.rising; handed = handed_are e.none_out; settled = x.agrees.batches.fates_are };
     flushes = record {
@@ -141,6 +144,11 @@ agrees_new config made accounts all = record {
   names = record {
     named = rw (nothing_of new_account dropped_entries refl accounts all, nothing_of new_account (λ (a : PassAccount). a.popped) refl accounts all) (IsPermutation-refl []);
     counted = ap (λ (l : List Entry). drop_counts (l ++ [])) (sym (nothing_of new_account dropped_entries refl accounts all));
+  };
+  full = each_same new_account _ tt accounts all;
+  losses = record {
+    named = rw (nothing_of new_account (λ (a : PassAccount). a.popped_lost) refl accounts all) (IsPermutation-refl []);
+    counted = refl;
   };
   late = late_new accounts all;
   floors = each_same new_account _ (record { above = tt; floor_given = omega arith; asked_given = omega arith; mark_given = omega arith; behind = tt }) accounts all;

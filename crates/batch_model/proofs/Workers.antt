@@ -10,12 +10,13 @@ use Rattle.account_book.proofs.Facts.{each_map}
 use Rattle.span_model.specs.Spans.{EndedSpan}
 use Rattle.drop_model.specs.Dropped.{Entry, Reason, entry_of}
 use Rattle.retry_model.specs.Retries.{Outcome, Fate}
-use Rattle.desk_model.specs.Desks.{Desk, drop_counts, fate_counts, handed_out, out_size, with_drops, with_fate}
+use Rattle.desk_model.specs.Queue.{lost_names}
+use Rattle.desk_model.specs.Desks.{Desk, after_settled, drop_counts, fate_counts, handed_out, out_size, with_drops, with_fate}
 use Rattle.desk_model.proofs.Events.{counts-more, fates-more}
-use Rattle.pass_model.specs.Passes.{PassAccount, all_dropped, all_popped}
-use Rattle.pass_model.specs.Clauses.{NamesDrops}
+use Rattle.pass_model.specs.Passes.{PassAccount, all_dropped, all_popped, all_popped_lost}
+use Rattle.pass_model.specs.Clauses.{NamesDrops, NamesLosses}
 use Rattle.pass_model.proofs.Lists.{range-more}
-use Rattle.batch_model.specs.Worker.{BatchEnd, EndedBatch, OutBatch, WorkerAccount, entries_by, fate_in, fates, handed_out_spans, handed_spans, numbers, out_number, out_spans, spans_if_settled, spans_with, taken_spans, worker_entries}
+use Rattle.batch_model.specs.Worker.{BatchEnd, EndedBatch, OutBatch, WorkerAccount, entries_by, fate_in, fates, handed_out_spans, handed_spans, lost_entries_by, numbers, out_number, out_spans, spans_if_settled, spans_with, taken_spans, worker_entries, worker_losses}
 use Rattle.batch_model.specs.Worker as batches
 use Rattle.batch_model.specs.Clauses.{AreFrom, all_entries}
 use Rattle.batch_model.specs.Holders.{after_drained, after_drop, after_handed, after_left, after_settle, after_take, ended_with, handed_with, settled_with}
@@ -31,7 +32,7 @@ pub record Stays (desk desk' : Desk) : Type 0 where
   pub left : ℕ
   pub waiting : desk'.waiting ≡ drop left desk.waiting
 
-module _ (desk desk' : Desk) (u v : WorkerAccount) (passes : List PassAccount) (k : Agrees desk passes u) (same : Stays desk desk') (kept : accepted desk' v ≡ accepted desk u) (names : NamesDrops desk'.ledger desk'.dropped (all_entries passes v) (all_popped passes)) (batches : Batches desk' v) (leaves : u.left ≡ true → v.left ≡ true) where
+module _ (desk desk' : Desk) (u v : WorkerAccount) (passes : List PassAccount) (k : Agrees desk passes u) (same : Stays desk desk') (kept : accepted desk' v ≡ accepted desk u) (names : NamesDrops desk'.ledger desk'.dropped (all_entries passes v) (all_popped passes)) (losses : NamesLosses desk'.lost desk'.lost_count (worker_losses v) (all_popped_lost passes)) (batches : Batches desk' v) (leaves : u.left ≡ true → v.left ≡ true) where
   floor_stays : (a : PassAccount) → KeepsFloor desk.next_ticket desk.waiting (accepted desk u) a.floor a.asked → KeepsFloor desk'.next_ticket desk'.waiting (accepted desk u) a.floor a.asked
   floor_stays a f = record {
     above = subst (AreFrom a.floor) (sym same.waiting) (each_drop (λ (s : EndedSpan). a.floor ≤ s.ticket) same.left desk.waiting f.above);
@@ -46,6 +47,8 @@ module _ (desk desk' : Desk) (u v : WorkerAccount) (passes : List PassAccount) (
     queues = rw (same.config, same.next, kept) k.queues;
     tickets = rw (same.next) k.tickets;
     names = names;
+    full = k.full;
+    losses = losses;
     late = rw (same.late, same.next, same.closed) k.late;
     floors = subst (λ (ss : List EndedSpan). AllByRecursion (λ (a : PassAccount). KeepsFloor desk'.next_ticket desk'.waiting ss a.floor a.asked) passes) (sym kept)
         (each_map (λ (a : PassAccount). KeepsFloor desk.next_ticket desk.waiting (accepted desk u) a.floor a.asked) (λ (a : PassAccount). KeepsFloor desk'.next_ticket desk'.waiting (accepted desk u) a.floor a.asked) passes floor_stays k.floors);
@@ -57,7 +60,7 @@ one-mapped : {X Y : Type 0} (f : X → Option Y) (x : X) (o : Option Y) → f x 
 one-mapped f x None is = rw is refl
 one-mapped f x (Some y) is = rw is refl
 
--- more are dropped, and named
+-- more are named
 names_on : (ds ws ms ledger popped : List Entry) → IsPermutation (ds ++ ws) (ledger ++ popped) → IsPermutation (ds ++ (ws ++ ms)) ((reverse ms ++ ledger) ++ popped)
 names_on ds ws ms ledger popped same =
     let a : IsPermutation ((ds ++ ws) ++ ms) ((ledger ++ popped) ++ ms) = IsPermutation-append_left ms (ds ++ ws) (ledger ++ popped) same in
@@ -86,7 +89,7 @@ module _ (desk : Desk) (u : WorkerAccount) (passes : List PassAccount) (k : Agre
       let kept : accepted desk' v ≡ accepted desk u = append_assoc settled_spans spans desk'.waiting ∙ ap (λ (l : List EndedSpan). settled_spans ++ l) whole ∙ ap (λ (l : List EndedSpan). l ++ desk.waiting) (sym had) in
       agrees_worker desk desk' u v passes k
       (record { config = ap (λ (d : Desk). d.config) is; next = ap (λ (d : Desk). d.next_ticket) is; closed = ap (λ (d : Desk). d.closed) is; late = ap (λ (d : Desk). d.late) is; left = n; waiting = rest }) kept
-      (rw (ap (λ (d : Desk). d.ledger) is, ap (λ (d : Desk). d.dropped) is) k.names)
+      (rw (ap (λ (d : Desk). d.ledger) is, ap (λ (d : Desk). d.dropped) is) k.names) (rw (ap (λ (d : Desk). d.lost) is, ap (λ (d : Desk). d.lost_count) is) k.losses)
       (record {
         out = ap (λ (d : Desk). d.out) is;
         taken = ap (λ (d : Desk). d.taken) is ∙ ap (λ (m : ℕ). m + length spans) (k.batches.taken ∙ ap length had) ∙ sym (length-append settled_spans spans);
@@ -115,7 +118,7 @@ module _ (desk : Desk) (u : WorkerAccount) (passes : List PassAccount) (k : Agre
         let same_taken : taken_spans v ≡ taken_spans u = ap (λ (o : Option OutBatch). settled_spans ++ out_spans (handed_with body o)) out ∙ sym had in
         subst (λ (d : Desk). Agrees d passes v) (sym is)
         (agrees_worker desk (record desk { out = handed_out desk.out; handed = desk.handed + out_size desk.out }) u v passes k
-        (record { config = refl; next = refl; closed = refl; late = refl; left = 0; waiting = refl }) (ap (λ (l : List EndedSpan). l ++ desk.waiting) same_taken) k.names
+        (record { config = refl; next = refl; closed = refl; late = refl; left = 0; waiting = refl }) (ap (λ (l : List EndedSpan). l ++ desk.waiting) same_taken) k.names k.losses
         (record {
           out = ap handed_out (k.batches.out ∙ ap shown_out out) ∙ sym (ap (λ (o : Option OutBatch). shown_out (handed_with body o)) out);
           taken = k.batches.taken ∙ sym (ap length same_taken);
@@ -149,6 +152,9 @@ module _ (desk : Desk) (u : WorkerAccount) (passes : List PassAccount) (k : Agre
       entries_more : worker_entries v ≡ worker_entries u ++ entries_by e.ending e.spans
       entries_more = ap (flat_map (λ (x : EndedBatch). entries_by x.ending x.spans)) ended ∙ flat_map-append (λ (x : EndedBatch). entries_by x.ending x.spans) u.ended (e ∷ []) ∙ ap (λ (l : List Entry). worker_entries u ++ l) (append-nil (entries_by e.ending e.spans))
 
+      losses_more : worker_losses v ≡ worker_losses u ++ lost_entries_by e.ending e.spans
+      losses_more = ap (flat_map (λ (x : EndedBatch). lost_entries_by x.ending x.spans)) ended ∙ flat_map-append (λ (x : EndedBatch). lost_entries_by x.ending x.spans) u.ended (e ∷ []) ∙ ap (λ (l : List Entry). worker_losses u ++ l) (append-nil (lost_entries_by e.ending e.spans))
+
       fates_more : fates v ≡ fates u ++ option_to_list (fate_in e.ending)
       fates_more = ap (filter_map (λ (x : EndedBatch). fate_in x.ending)) ended ∙ filter_map-append (λ (x : EndedBatch). fate_in x.ending) u.ended (e ∷ []) ∙ ap (λ (l : List Fate). fates u ++ l) (one-mapped (λ (x : EndedBatch). fate_in x.ending) e (fate_in e.ending) refl)
 
@@ -167,6 +173,7 @@ module _ (desk : Desk) (u : WorkerAccount) (passes : List PassAccount) (k : Agre
         subst (λ (d : Desk). Agrees d passes v) (sym is)
         (agrees_worker desk desk2 u v passes k
         (record { config = refl; next = refl; closed = refl; late = refl; left = 0; waiting = refl }) (ap (λ (l : List EndedSpan). l ++ desk.waiting) taken) (record { named = names; counted = counted })
+        (subst (λ (l : List Entry). NamesLosses desk.lost desk.lost_count l (all_popped_lost passes)) (sym (losses_more v e ended refl refl refl ∙ append-nil (worker_losses u))) k.losses)
         (record {
           out = refl;
           taken = k.batches.taken ∙ sym (ap length taken);
@@ -179,17 +186,24 @@ module _ (desk : Desk) (u : WorkerAccount) (passes : List PassAccount) (k : Agre
         })
         (λ is. is))
 
-    pub settle_agrees : (desk' : Desk) (body : List ℕ) (outcomes : List Outcome) (fate : Fate) → b.body ≡ Some body → desk' ≡ record desk { out = None; fates = with_fate fate desk.fates } → Agrees desk' passes (after_settle outcomes fate u)
+    pub settle_agrees : (desk' : Desk) (body : List ℕ) (outcomes : List Outcome) (fate : Fate) → b.body ≡ Some body → desk' ≡ after_settled fate b.spans desk → Agrees desk' passes (after_settle outcomes fate u)
     settle_agrees desk' body outcomes fate sent is =
         let v = after_settle outcomes fate u in let e : EndedBatch = record { number = b.number; spans = b.spans; ending = batches.settled body outcomes fate } in
         let ended : v.ended ≡ u.ended ++ e ∷ [] = ap (λ (o : Option OutBatch). u.ended ++ ended_with (λ x. settled_with outcomes fate x.body) o) out ∙ ap (λ (o : Option (List ℕ)). u.ended ++ record { number = b.number; spans = b.spans; ending = settled_with outcomes fate o } ∷ []) sent in
         let taken = same_taken v e ended refl refl refl in
-        let desk2 = record desk { out = None; fates = with_fate fate desk.fates } in
+        let desk2 = after_settled fate b.spans desk in
         let names : NamesDrops desk.ledger desk.dropped (all_entries passes v) (all_popped passes) =
         subst (λ (l : List Entry). NamesDrops desk.ledger desk.dropped (all_dropped passes ++ l) (all_popped passes)) (sym (entries_more v e ended refl refl refl ∙ append-nil (worker_entries u))) k.names in
+        let ms = lost_names fate b.spans in let more = losses_more v e ended refl refl refl in
+        let losses : NamesLosses (reverse ms ++ desk.lost) (desk.lost_count + length ms) (worker_losses v) (all_popped_lost passes) =
+        subst (λ (l : List Entry). NamesLosses (reverse ms ++ desk.lost) (desk.lost_count + length ms) l (all_popped_lost passes)) (sym more)
+        (record {
+          named = names_on [] (worker_losses u) ms desk.lost (all_popped_lost passes) k.losses.named;
+          counted = ap (λ (n : ℕ). n + length ms) k.losses.counted ∙ sym (length-append (worker_losses u) ms);
+        }) in
         subst (λ (d : Desk). Agrees d passes v) (sym is)
         (agrees_worker desk desk2 u v passes k
-        (record { config = refl; next = refl; closed = refl; late = refl; left = 0; waiting = refl }) (ap (λ (l : List EndedSpan). l ++ desk.waiting) taken) names
+        (record { config = refl; next = refl; closed = refl; late = refl; left = 0; waiting = refl }) (ap (λ (l : List EndedSpan). l ++ desk.waiting) taken) names losses
         (record {
           out = refl;
           taken = k.batches.taken ∙ sym (ap length taken);
@@ -206,12 +220,12 @@ module _ (desk : Desk) (u : WorkerAccount) (passes : List PassAccount) (k : Agre
 
   pub drained_agrees : desk.closed ≡ true → desk.waiting ≡ [] → Agrees desk passes (after_drained u)
   drained_agrees closed none =
-      agrees_worker desk desk u (after_drained u) passes k (record { config = refl; next = refl; closed = refl; late = refl; left = 0; waiting = refl }) refl k.names
+      agrees_worker desk desk u (after_drained u) passes k (record { config = refl; next = refl; closed = refl; late = refl; left = 0; waiting = refl }) refl k.names k.losses
       (record { out = k.batches.out; taken = k.batches.taken; numbered = k.batches.numbered; handed = k.batches.handed; fates_are = k.batches.fates_are; drained = λ _. (closed, none) }) (λ is. is)
 
   -- ---- the worker leaves
 
   pub left_agrees : Agrees desk passes (after_left u)
   left_agrees =
-      agrees_worker desk desk u (after_left u) passes k (record { config = refl; next = refl; closed = refl; late = refl; left = 0; waiting = refl }) refl k.names
+      agrees_worker desk desk u (after_left u) passes k (record { config = refl; next = refl; closed = refl; late = refl; left = 0; waiting = refl }) refl k.names k.losses
       (record { out = k.batches.out; taken = k.batches.taken; numbered = k.batches.numbered; handed = k.batches.handed; fates_are = k.batches.fates_are; drained = k.batches.drained }) (λ is. refl)

@@ -1,14 +1,14 @@
 -- What a batch processor comes to: what the accounts of all its passes and the worker's final one
 -- say beside the queue that is left. (Trace SDK, Batching processor, ForceFlush, Shutdown; tickets,
--- floors and the ledger: profile)
-use Rattle.std.specs.Prelude.{◌≡◌, ◌≢◌, ℕ, ◌≤◌, ◌&&◌, nat_le, nat_lt, true, List, [], ◌++◌, length, map, count_by, IsPermutation}
+-- floors and the two ledgers: profile)
+use Rattle.std.specs.Prelude.{◌≡◌, ◌≢◌, ℕ, ◌≤◌, ◌&&◌, nat_le, nat_lt, true, false, List, [], ◌++◌, length, map, count_by, IsPermutation}
 use Rattle.std.specs.List.{range_with_len, AllByRecursion}
 use Rattle.span_model.specs.Spans.{EndedSpan}
-use Rattle.drop_model.specs.Dropped.{Reason, Entry}
+use Rattle.drop_model.specs.Dropped.{Reason, Entry, is_lost}
 use Rattle.desk_model.specs.Desks.{Desk, fate_counts}
-use Rattle.pass_model.specs.Passes.{PassAccount, Drop, Rises, drops, all_accepted, all_dropped, all_popped}
-use Rattle.pass_model.specs.Clauses.{CountsLate, GivesTickets, NamesDrops}
-use Rattle.batch_model.specs.Worker.{WorkerAccount, taken_spans, handed_spans, dropped_spans, worker_entries, fates, numbers}
+use Rattle.pass_model.specs.Passes.{PassAccount, Drop, Rises, drops, all_accepted, all_dropped, all_popped, all_popped_lost}
+use Rattle.pass_model.specs.Clauses.{CountsLate, GivesTickets, NamesDrops, NamesLosses}
+use Rattle.batch_model.specs.Worker.{WorkerAccount, taken_spans, handed_spans, dropped_spans, worker_entries, worker_losses, fates, numbers}
 pub use Rattle.batch_model.specs.Batches.{Origin, canonical_body, IsBodyOf, LeadsTo, EachLeadsOn, IsSent, IsSettled, IsEndByWork, IsByWork}
 pub use Rattle.batch_model.specs.Batches.{IsSentSoFar, IsOutByWork, end_of, abandoned_end, abandon_out, abandon, EndByWork, WorksUntilItLeaves}
 
@@ -51,14 +51,26 @@ pub record TicketsAreGiven (queue next : ℕ) (passes : List PassAccount) : Type
 abbrev pub all_entries : List PassAccount → WorkerAccount → List Entry
 all_entries passes worker = all_dropped passes ++ worker_entries worker
 
--- They are named, and counted. The worker drops none as if it had found the queue full.
+-- They are named, and counted. The worker drops none as if it had found the queue full, and no
+-- reason is that of a lost span.
 pub record DropsAreNamed (desk : Desk) (passes : List PassAccount) (worker : WorkerAccount)
     : Type 0 where
   pub all : NamesDrops desk.ledger desk.dropped (all_entries passes worker) (all_popped passes)
   pub not_full : AllByRecursion (λ (e : Entry). e.reason ≢ Reason.queue_full)
       (worker_entries worker)
+  pub not_lost : AllByRecursion (λ (e : Entry). is_lost e.reason ≡ false)
+      (all_entries passes worker)
 
--- ---- 5: batches
+-- ---- 4: names of lost spans
+
+-- The spans of the worker's batches that were handed and came to nothing are named, each with its
+-- fate's reason, and counted. No reason is that of a dropped span.
+pub record LossesAreNamed (desk : Desk) (passes : List PassAccount) (worker : WorkerAccount)
+    : Type 0 where
+  pub all : NamesLosses desk.lost desk.lost_count (worker_losses worker) (all_popped_lost passes)
+  pub are_lost : AllByRecursion (λ (e : Entry). is_lost e.reason ≡ true) (worker_losses worker)
+
+-- ---- 6: batches
 
 -- All batches ended by work, but for one that was abandoned. They are numbered from 1 on, in order.
 -- Through all of them, and on to the spans that are left, the tickets rise. The totals count the
@@ -71,7 +83,7 @@ pub record BatchesAreSent (origin : Origin) (desk : Desk) (worker : WorkerAccoun
   pub handed : desk.handed ≡ length (handed_spans worker)
   pub settled : desk.fates ≡ fate_counts (fates worker)
 
--- ---- 6: flushes
+-- ---- 7: flushes
 
 -- no ticket is below this floor
 abbrev pub AreFrom : ℕ → List EndedSpan → Type 0
@@ -90,7 +102,7 @@ pub record FlushesAreKept (left : List EndedSpan) (passes : List PassAccount)
   pub drained : worker.drained ≡ true → left ≡ []
   pub told : ToldOnlyWhereLeft passes worker
 
--- ---- all six
+-- ---- all seven
 
 -- What is so of a processor that began so, once its desk is taken out and all accounts are back.
 pub record IsAccounted (origin : Origin) (desk : Desk) (passes : List PassAccount)
@@ -98,6 +110,7 @@ pub record IsAccounted (origin : Origin) (desk : Desk) (passes : List PassAccoun
   pub spans : QueuedAreAccounted desk.waiting passes worker
   pub tickets : TicketsAreGiven origin.desk.queue desk.next_ticket passes
   pub names : DropsAreNamed desk passes worker
+  pub losses : LossesAreNamed desk passes worker
   pub late : CountsLate desk.late desk.next_ticket desk.closed passes
   pub batches : BatchesAreSent origin desk worker
   pub flushes : FlushesAreKept desk.waiting passes worker

@@ -2,11 +2,12 @@
 use Rattle.std.specs.Prelude.{◌≡◌, ℕ, ◌+◌, ◌<◌, ◌≤◌, Bool, true, List, [], ◌∷◌, ◌++◌, length, drop, IsPermutation, Option, Some, None, is_some}
 use Rattle.std.specs.List.{AllByRecursion, range_with_len}
 use Rattle.span_model.specs.Spans.{EndedSpan}
+use Rattle.drop_model.specs.Dropped.{Entry, queue_full}
 use Rattle.desk_model.specs.Desks as desks
 use Rattle.desk_model.specs.Desks.{Desk, fate_counts}
-use Rattle.pass_model.specs.Passes.{Asked, PassAccount, Rises, all_accepted, all_popped}
-use Rattle.pass_model.specs.Clauses.{CountsLate, GivesTickets, NamesDrops}
-use Rattle.batch_model.specs.Worker.{WorkerAccount, OutBatch, taken_spans, handed_spans, handed_out_spans, fates, numbers}
+use Rattle.pass_model.specs.Passes.{Asked, PassAccount, Rises, all_accepted, all_popped, all_popped_lost, dropped_entries}
+use Rattle.pass_model.specs.Clauses.{CountsLate, GivesTickets, NamesDrops, NamesLosses}
+use Rattle.batch_model.specs.Worker.{WorkerAccount, OutBatch, taken_spans, handed_spans, handed_out_spans, fates, numbers, worker_losses}
 use Rattle.batch_model.specs.Clauses.{Origin, AreFrom, DropsFoundItFull, ToldOnlyWhereLeft, all_entries, tickets_of}
 use Rattle.batch_model.specs.Holders.{Holder, processor, pass, worker, pass_accounts, worker_accounts}
 
@@ -56,11 +57,20 @@ pub record Batches (desk : Desk) (account : WorkerAccount) : Type 0 where
   pub fates_are : desk.fates ≡ fate_counts (fates account)
   pub drained : account.drained ≡ true → (desk.closed ≡ true) × (desk.waiting ≡ [])
 
+-- a pass drops spans for want of room alone
+abbrev pub DropAsFull : List PassAccount → Type 0
+DropAsFull passes =
+    AllByRecursion (λ (a : PassAccount).
+    AllByRecursion (λ (e : Entry). e.reason ≡ queue_full) (dropped_entries a)) passes
+
 -- what is so of all
 pub record Agrees (desk : Desk) (passes : List PassAccount) (account : WorkerAccount) : Type 0 where
   pub queues : Queues desk.config.queue desk.next_ticket passes (accepted desk account)
   pub tickets : GivesTickets desk.next_ticket passes
   pub names : NamesDrops desk.ledger desk.dropped (all_entries passes account) (all_popped passes)
+  pub full : DropAsFull passes
+  pub losses : NamesLosses desk.lost desk.lost_count (worker_losses account)
+      (all_popped_lost passes)
   pub late : CountsLate desk.late desk.next_ticket desk.closed passes
   pub floors : KeepsFloors desk.next_ticket desk.waiting (accepted desk account) passes
   pub batches : Batches desk account

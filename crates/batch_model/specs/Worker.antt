@@ -5,6 +5,7 @@ use Rattle.std.specs.List.{flat_map}
 use Rattle.span_model.specs.Spans.{EndedSpan}
 use Rattle.drop_model.specs.Dropped.{Reason, Entry, entry_of}
 use Rattle.retry_model.specs.Retries.{Outcome, Fate}
+use Rattle.desk_model.specs.Queue.{lost_names}
 
 -- How a batch ended: it was handed to the exporter, with this body, in attempts that came to this,
 -- and so it was settled; or it was dropped before.
@@ -95,6 +96,16 @@ entries_by (dropped reason) spans = map (entry_of reason) spans
 abbrev pub worker_entries : WorkerAccount → List Entry
 worker_entries worker =
     flat_map (λ (b : EndedBatch). entries_by b.ending b.spans) worker.ended
+
+abbrev pub lost_entries_by : BatchEnd → List EndedSpan → List Entry
+lost_entries_by (settled body outcomes fate) spans = lost_names fate spans
+lost_entries_by (dropped reason) spans = []
+
+-- the entries of the lost spans: those of the batches that were handed and came to nothing, each
+-- with its fate's reason
+abbrev pub worker_losses : WorkerAccount → List Entry
+worker_losses worker =
+    flat_map (λ (b : EndedBatch). lost_entries_by b.ending b.spans) worker.ended
 
 abbrev pub fate_in : BatchEnd → Option Fate
 fate_in (settled body outcomes fate) = Some fate

@@ -86,6 +86,10 @@ nine_ends = flushed_once ++ taken 20 1 ∷ ends (3 ∷ 4 ∷ 5 ∷ 6 ∷ 7 ∷ [
 abbrev pub nine_sent : List DeskEvent
 nine_sent = nine_ends ++ delivers ++ (taken 30 2 ∷ delivers) ++ (taken 40 2 ∷ delivers)
 
+-- two spans, in one batch, which was handed to the exporter
+abbrev pub two_handed : List DeskEvent
+two_handed = ends (0 ∷ 1 ∷ []) ++ taken 10 2 ∷ handed ∷ []
+
 -- ---- what is asked
 
 abbrev pub waiting_tickets : List DeskEvent → List ℕ

@@ -1,11 +1,12 @@
-//! What is kept of spans that are dropped, and all that a desk shows (profile).
+//! What is kept of spans that are dropped and of those that are lost, and all that a desk shows
+//! (profile).
 
 ghost use Rattle.std.specs.Prelude.{◌≡◌, [], ◌∷◌, ◌++◌, pos, None, true, false};
-ghost use Rattle.drop_model.specs.Dropped.{queue_full, too_large, encode_memory};
+ghost use Rattle.drop_model.specs.Dropped.{queue_full, too_large, encode_memory, refused, bad_reply, given_up, left_handed};
 ghost use Rattle.retry_model.specs.Retries.{Fate};
-ghost use Rattle.desk_model.specs.Queue.{flush, shutdown, late, taken, handed, dropped, settled, popped, drops, ledger_entries, popped_entries};
+ghost use Rattle.desk_model.specs.Queue.{flush, shutdown, late, taken, handed, dropped, settled, popped, popped_lost, drops, ledger_entries, popped_entries, losses, lost_entries, popped_lost_entries};
 ghost use Rattle.desk_model.specs.Desks.{no_drops, no_fates};
-ghost use Rattle.desk_examples.specs.Histories.{four, ends, ends_full, named, five_ends, ledger_tickets, popped_tickets, span_at, shown, AllAllowed};
+ghost use Rattle.desk_examples.specs.Histories.{four, ends, two_handed, ends_full, named, five_ends, ledger_tickets, popped_tickets, span_at, shown, AllAllowed};
 
 /// The ledger names the dropped spans, the newest first, and a pop takes the newest.
 pub fn ledgers()
@@ -23,9 +24,36 @@ pub fn ledgers()
     ensures above { ledger_tickets (five_ends ++ ends_full 5 ++ popped ∷ ends_full 6) ≡
         6 ∷ 4 ∷ [] }
     ensures none_to_pop { popped_entries (popped ∷ five_ends) ≡ [] }
-    // A settled batch is not named.
+    // A settled batch is not named there.
     ensures settled { ledger_tickets
         (ends (0 ∷ 1 ∷ []) ++ taken 10 2 ∷ handed ∷ settled Fate.given_up ∷ []) ≡ [] }
+{}
+
+/// The second ledger names the spans of a batch that was handed and came to nothing, the newest
+/// first, each with the reason.
+pub fn losses_of_batches()
+    ensures given_up { lost_entries (two_handed ++ settled Fate.given_up ∷ []) ≡
+        named given_up 1 ∷ named given_up 0 ∷ [] }
+    ensures refused { lost_entries (two_handed ++ settled (Fate.refused 400) ∷ []) ≡
+        named (refused 400) 1 ∷ named (refused 400) 0 ∷ [] }
+    ensures bad_reply { lost_entries (two_handed ++ settled Fate.bad_reply ∷ []) ≡
+        named bad_reply 1 ∷ named bad_reply 0 ∷ [] }
+    ensures left { lost_entries (two_handed ++ settled Fate.abandoned ∷ []) ≡
+        named left_handed 1 ∷ named left_handed 0 ∷ [] }
+    ensures delivered { lost_entries (two_handed ++ settled Fate.delivered ∷ []) ≡ [] }
+    // It isn't known which spans were refused.
+    ensures partial { lost_entries (two_handed ++ settled (Fate.partial (pos 1)) ∷ []) ≡ [] }
+    // All that were lost, in order, be it that one was popped.
+    ensures all { losses (two_handed ++ settled Fate.given_up ∷ popped_lost ∷ []) ≡
+        named given_up 0 ∷ named given_up 1 ∷ [] }
+    ensures pop { lost_entries (two_handed ++ settled Fate.given_up ∷ popped_lost ∷ []) ≡
+        named given_up 0 ∷ [] }
+    ensures popped { popped_lost_entries
+        (two_handed ++ settled Fate.given_up ∷ popped_lost ∷ popped_lost ∷ popped_lost ∷ []) ≡
+        named given_up 1 ∷ named given_up 0 ∷ [] }
+    // A pop takes from its own ledger.
+    ensures other { lost_entries (two_handed ++ settled Fate.given_up ∷ popped ∷ []) ≡
+        named given_up 1 ∷ named given_up 0 ∷ [] }
 {}
 
 /// All that a desk shows after some events.
@@ -39,6 +67,7 @@ pub fn desks()
           waiting = span_at 5 ∷ [];
           out = None;
           ledger = named encode_memory 3 ∷ named encode_memory 2 ∷ named queue_full 4 ∷ [];
+          lost = [];
           next_ticket = 6;
           taken = 4;
           batches = 2;
@@ -46,10 +75,15 @@ pub fn desks()
           closed = false;
           last_moment = 20;
           handed = 2;
+          lost_count = 0;
           late = 0;
           dropped = record no_drops { queue_full = 1; encode_memory = 2 };
           fates = record no_fates { partial = 1 };
         } }
+    // One batch is refused.
+    ensures lost { (shown four (two_handed ++ settled (Fate.refused 400) ∷ popped_lost ∷ [])).lost ≡
+        named (refused 400) 0 ∷ [] }
+    ensures lost_count { (shown four (two_handed ++ settled (Fate.refused 400) ∷ popped_lost ∷ [])).lost_count ≡ 2 }
     ensures allowed { AllAllowed four
         (five_ends ++ taken 10 2 ∷ handed ∷ settled (Fate.partial (pos 1)) ∷ taken 20 2 ∷
         dropped encode_memory ∷ ends (5 ∷ []) ++ flush ∷ []) }

@@ -6,7 +6,7 @@ use Rattle.std.proofs.lemmas.List.{append-nil, take-append-drop, take-take, drop
 use Rattle.std.proofs.lemmas.List.Elements.{filter_map-append}
 use Rattle.span_model.specs.Spans.{EndedSpan}
 use Rattle.span_model.specs.Attributes.{last_or}
-use Rattle.desk_model.specs.Queue.{DeskEvent, queued, full, late, flush, shutdown, taken, handed, dropped, settled, popped, queued_span, accepted_spans, size_of_take, batch_sizes, taken_count, waiting_spans, slices, batch_spans, last_spans, last_size}
+use Rattle.desk_model.specs.Queue.{DeskEvent, queued, full, late, flush, shutdown, taken, handed, dropped, settled, popped, popped_lost, queued_span, accepted_spans, size_of_take, batch_sizes, taken_count, waiting_spans, slices, batch_spans, last_spans, last_size}
 use Rattle.desk_model.specs.Desks.{DeskConfig, desk_of, Allowed, AreAllowedBehind, AreAllowed}
 use Rattle.desk_model.proofs.Lists.{sum-cons, slice-stays, length-slices, get-at, get-front}
 use Rattle.desk_model.proofs.Steps.{IsWithin, sizes-kept, accepted-kept, last-kept, accepted-queued, last-queued, length-last, count-taken, last-taken, number-taken, size-taken, by-steps, within-step, allowed-within}
@@ -117,6 +117,7 @@ last-step config made h x k a = record { within = within-step config made h x k.
     go (dropped r) e = last-same h (dropped r) refl refl e
     go (settled f) e = last-same h (settled f) refl refl e
     go popped e = last-same h popped refl refl e
+    go popped_lost e = last-same h popped_lost refl refl e
 
 pub last-is-last : LastBatchIsTakenLast
 last-is-last config made h w =

@@ -1,11 +1,11 @@
 -- The counts that a desk shows add up.
 use Rattle.std.proofs.Common.{◌≡◌, refl, sym, ap, ◌∙◌, subst, ℕ, ◌+◌, ◌<◌, ◌≤◌, arith, List, [], ◌∷◌, ◌++◌, length, true, false, true≢false, length-append, length-drop}
 use Rattle.span_model.specs.Spans.{EndedSpan}
-use Rattle.drop_model.specs.Dropped.{Reason, is_reason}
-use Rattle.desk_model.specs.Queue.{DeskEvent, queued, full, late, flush, shutdown, taken, handed, dropped, settled, popped, accepted_spans, taken_count, waiting_spans, last_batch, last_spans, last_size, handed_spans, stage, Stage, not_out, in_hand, with_exporter, drops}
+use Rattle.drop_model.specs.Dropped.{Reason, can_drop_batch}
+use Rattle.desk_model.specs.Queue.{DeskEvent, queued, full, late, flush, shutdown, taken, handed, dropped, settled, popped, popped_lost, accepted_spans, taken_count, waiting_spans, last_batch, last_spans, last_size, handed_spans, stage, Stage, not_out, in_hand, with_exporter, drops}
 use Rattle.desk_model.specs.Desks.{DeskConfig, DropCounts, Desk, with_drops, worker_drops, in_hand_size, out_as, is_in_hand, is_with_exporter, drop_counts, desk_of, Allowed}
 use Rattle.desk_model.proofs.Steps.{IsWithin, accepted-kept, waiting-kept, accepted-queued, waiting-queued, waiting-taken, accepted-adds, length-last, by-steps, within-step, allowed-within}
-use Rattle.desk_model.proofs.Events.{queued-makes, full-makes, late-makes, flush-makes, shutdown-makes, taken-makes, handed-makes, dropped-makes, settled-makes, popped-makes}
+use Rattle.desk_model.proofs.Events.{queued-makes, full-makes, late-makes, flush-makes, shutdown-makes, taken-makes, handed-makes, dropped-makes, settled-makes, popped-makes, popped-lost-makes}
 use Rattle.desk_laws.specs.Queues.{TicketsAddUp, AcceptedAddUp, TakenAddUp, QueueIsBounded}
 
 pub accepted-add-up : AcceptedAddUp
@@ -27,11 +27,11 @@ handed-none not_out number size e = absurd (true≢false (sym e))
 handed-none in_hand number size e = absurd (true≢false (sym e))
 handed-none with_exporter number size e = refl
 
-worker-more : (reason : Reason) (n : ℕ) (counts : DropCounts) → is_reason Reason.queue_full reason ≡ false → worker_drops (with_drops reason n counts) ≡ worker_drops counts + n
-worker-more Reason.queue_full n counts e = absurd (true≢false e)
+worker-more : (reason : Reason) (n : ℕ) (counts : DropCounts) → can_drop_batch reason ≡ true → worker_drops (with_drops reason n counts) ≡ worker_drops counts + n
 worker-more Reason.encode_memory n counts e = omega arith
 worker-more Reason.too_large n counts e = omega arith
 worker-more Reason.abandoned n counts e = omega arith
+worker-more reason n counts e = cc
 
 record Adds (config : DeskConfig) (made : ℕ) (h : List DeskEvent) : Type 0 where
   within : IsWithin h
@@ -62,6 +62,7 @@ adds-step config made h (settled fate) w k a =
     let sums : taken_count h ≡ length (handed_spans h) + worker_drops (drop_counts (drops h)) + 0 = omega (arith, none, k) in
     subst AddsUp (sym (settled-makes config made h fate w)) sums
 adds-step config made h popped w k a = subst AddsUp (sym (popped-makes config made h w)) k
+adds-step config made h popped_lost w k a = subst AddsUp (sym (popped-lost-makes config made h w)) k
 
 adds-none : (config : DeskConfig) (made : ℕ) → Adds config made []
 unfolding desk_of
@@ -84,11 +85,11 @@ record Gives (config : DeskConfig) (made : ℕ) (h : List DeskEvent) : Type 0 wh
 given-same : (config : DeskConfig) (made : ℕ) (h : List DeskEvent) (x : DeskEvent) (d : Desk) → accepted_spans (h ++ x ∷ []) ≡ accepted_spans h → desk_of config made (h ++ x ∷ []) ≡ d → Given (accepted_spans h) d → Given (accepted_spans (h ++ x ∷ [])) (desk_of config made (h ++ x ∷ []))
 given-same config made h x d e f k = subst (λ ss. Given ss (desk_of config made (h ++ x ∷ []))) (sym e) (subst (Given (accepted_spans h)) (sym f) k)
 
-queue-full-same : (reason : Reason) (n : ℕ) (counts : DropCounts) → is_reason Reason.queue_full reason ≡ false → (with_drops reason n counts).queue_full ≡ counts.queue_full
-queue-full-same Reason.queue_full n counts e = absurd (true≢false e)
+queue-full-same : (reason : Reason) (n : ℕ) (counts : DropCounts) → can_drop_batch reason ≡ true → (with_drops reason n counts).queue_full ≡ counts.queue_full
 queue-full-same Reason.encode_memory n counts e = refl
 queue-full-same Reason.too_large n counts e = refl
 queue-full-same Reason.abandoned n counts e = refl
+queue-full-same reason n counts e = cc
 
 given-step : (config : DeskConfig) (made : ℕ) (h : List DeskEvent) (x : DeskEvent) → IsWithin h → Given (accepted_spans h) (desk_of config made h) → Allowed (desk_of config made h) x → Given (accepted_spans (h ++ x ∷ [])) (desk_of config made (h ++ x ∷ []))
 unfolding desk_of
@@ -105,6 +106,7 @@ given-step config made h (dropped reason) w k a = given-same config made h (drop
     (k ∙ ap (λ (n : ℕ). length (accepted_spans h) + n) (sym (queue-full-same reason (length (last_spans h)) (drop_counts (drops h)) a.1)))
 given-step config made h (settled fate) w k a = given-same config made h (settled fate) _ (accepted-kept h (settled fate) refl) (settled-makes config made h fate w) k
 given-step config made h popped w k a = given-same config made h popped _ (accepted-kept h popped refl) (popped-makes config made h w) k
+given-step config made h popped_lost w k a = given-same config made h popped_lost _ (accepted-kept h popped_lost refl) (popped-lost-makes config made h w) k
 
 gives-none : (config : DeskConfig) (made : ℕ) → Gives config made []
 unfolding desk_of
@@ -136,6 +138,7 @@ bound-step config made h handed w k a = bounded-same config h (waiting_spans h) 
 bound-step config made h (dropped reason) w k a = bounded-same config h (waiting_spans h) (dropped reason) (waiting-kept h (dropped reason) refl refl) k
 bound-step config made h (settled fate) w k a = bounded-same config h (waiting_spans h) (settled fate) (waiting-kept h (settled fate) refl refl) k
 bound-step config made h popped w k a = bounded-same config h (waiting_spans h) popped (waiting-kept h popped refl refl) k
+bound-step config made h popped_lost w k a = bounded-same config h (waiting_spans h) popped_lost (waiting-kept h popped_lost refl refl) k
 
 pub queue-bounded : QueueIsBounded
 queue-bounded config made h w =

@@ -6,7 +6,7 @@ use Rattle.std.proofs.lemmas.List.{append-nil, take-take, take_at}
 use Rattle.std.proofs.lemmas.List.Concat.{flat_map-append}
 use Rattle.std.proofs.lemmas.Bool.{cases_lt, lt-ltb, le-ltb, le-leb, lt-leb}
 use Rattle.span_model.specs.Spans.{EndedSpan}
-use Rattle.desk_model.specs.Queue.{DeskEvent, queued, full, late, flush, shutdown, taken, handed, dropped, settled, popped, queued_span, accepted_spans, batch_sizes, taken_count, slices, batch_spans, last_batch, last_spans, last_size, Stage, not_out, in_hand, with_exporter, stage, asks, asked_count, is_shutdown}
+use Rattle.desk_model.specs.Queue.{DeskEvent, queued, full, late, flush, shutdown, taken, handed, dropped, settled, popped, popped_lost, queued_span, accepted_spans, batch_sizes, taken_count, slices, batch_spans, last_batch, last_spans, last_size, Stage, not_out, in_hand, with_exporter, stage, asks, asked_count, is_shutdown}
 use Rattle.desk_model.specs.Desks.{DeskConfig, is_out_before, out_as, desk_of, Allowed, AreAllowed}
 use Rattle.desk_model.proofs.Lists.{length-slices}
 use Rattle.desk_model.proofs.Steps.{IsWithin, accepted-kept, asked-kept, asked-told, shut-kept, accepted-adds, length-last, by-steps, allowed-within}
@@ -132,6 +132,7 @@ asks-step config made h handed k a = asks-kept h handed refl refl refl k
 asks-step config made h (dropped reason) k a = asks-kept h (dropped reason) refl refl refl k
 asks-step config made h (settled fate) k a = asks-kept h (settled fate) refl refl refl k
 asks-step config made h popped k a = asks-kept h popped refl refl refl k
+asks-step config made h popped_lost k a = asks-kept h popped_lost refl refl refl k
 
 pub shutdown-asks : ShutdownAsksForAll
 unfolding desk_of

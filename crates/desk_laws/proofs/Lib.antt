@@ -3,3 +3,4 @@ pub mod Batches
 pub mod Tickets
 pub mod Counts
 pub mod Flushes
+pub mod Losses

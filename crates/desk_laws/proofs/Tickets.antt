@@ -7,7 +7,7 @@ use Rattle.std.proofs.lemmas.List.Sums.{sum_by-append, sum_by-take-drop}
 use Rattle.std.proofs.lemmas.Bool.{cases_order, lt-ltb, le-ltb, eq-eqb, ne_eqb}
 use Rattle.span_model.specs.Spans.{EndedSpan}
 use Rattle.drop_model.specs.Dropped.{Reason, Entry, entry_of}
-use Rattle.desk_model.specs.Queue.{DeskEvent, queued, full, late, flush, shutdown, taken, handed, dropped, settled, popped, ticket_of, tickets, queued_span, size_of_take, waiting_spans, last_batch, last_spans, last_size, Stage, not_out, in_hand, with_exporter, stage_by, stage, spans_handed_by, handed_spans, in_hand_as, in_hand_spans, entries_by, drops}
+use Rattle.desk_model.specs.Queue.{DeskEvent, queued, full, late, flush, shutdown, taken, handed, dropped, settled, popped, popped_lost, ticket_of, tickets, queued_span, size_of_take, waiting_spans, last_batch, last_spans, last_size, Stage, not_out, in_hand, with_exporter, stage_by, stage, spans_handed_by, handed_spans, in_hand_as, in_hand_spans, entries_by, drops}
 use Rattle.desk_model.specs.Desks.{DeskConfig, out_as, is_in_hand, is_with_exporter, desk_of, Allowed}
 use Rattle.desk_model.proofs.Lists.{some-more, gather-more}
 use Rattle.desk_model.proofs.Steps.{IsWithin, waiting-kept, tickets-kept, stage-kept, stage-told, handed-kept, drops-kept, last-kept, waiting-queued, last-queued, waiting-taken, last-taken, by-steps, within-step}
@@ -43,6 +43,7 @@ order-step config made h handed o a = order-kept h handed refl o
 order-step config made h (dropped r) o a = order-kept h (dropped r) refl o
 order-step config made h (settled f) o a = order-kept h (settled f) refl o
 order-step config made h popped o a = order-kept h popped refl o
+order-step config made h popped_lost o a = order-kept h popped_lost refl o
 
 pub tickets-in-order : TicketsAreGivenInOrder
 tickets-in-order config made h w = by-steps config made (λ g. InOrder (tickets g)) (order-step config made) h refl w
@@ -167,6 +168,7 @@ module _ (p : ℕ → Bool) where
   step config made h flush v a k = still h flush refl refl refl refl refl refl k
   step config made h shutdown v a k = still h shutdown refl refl refl refl refl refl k
   step config made h popped v a k = still h popped refl refl refl refl refl refl k
+  step config made h popped_lost v a k = still h popped_lost refl refl refl refl refl refl k
 
   pub in-places : (h : List DeskEvent) → count (places h) ≡ total (waiting_spans h) (in_hand_spans h) (handed_spans h) (drops h)
   in-places h =

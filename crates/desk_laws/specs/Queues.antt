@@ -1,10 +1,10 @@
 -- What is proved of all that may be done at a batch processor's queue. (Trace SDK, Batching
 -- processor; tickets, batches and the ledger: profile)
 use Rattle.std.specs.Prelude.{◌≡◌, ℕ, ◌+◌, ◌-◌, ◌<◌, ◌≤◌, ◌==◌, nat_lt, nat_le, min, if◌then◌else◌, Bool, true, false, List, [], ◌∷◌, ◌++◌, length, map, take, drop, reverse, count_by, flat_map}
-use Rattle.std.specs.List.{list_any, range_with_len}
+use Rattle.std.specs.List.{list_any, range_with_len, AllByRecursion}
 use Rattle.span_model.specs.Spans.{EndedSpan}
-use Rattle.drop_model.specs.Dropped.{Entry}
-use Rattle.desk_model.specs.Queue.{DeskEvent, flush, taken, popped, Stage, not_out, in_hand, with_exporter, stage, is_shutdown, tickets, accepted_spans, taken_count, waiting_spans, batch_spans, last_batch, last_spans, handed_spans, in_hand_spans, drops, ledger_entries, popped_entries}
+use Rattle.drop_model.specs.Dropped.{Entry, is_lost}
+use Rattle.desk_model.specs.Queue.{DeskEvent, flush, taken, Stage, not_out, in_hand, with_exporter, stage, is_shutdown, tickets, accepted_spans, taken_count, waiting_spans, batch_spans, last_batch, last_spans, handed_spans, in_hand_spans, drops, ledger_entries, popped_entries, is_popped, losses, lost_entries, popped_lost_entries, is_popped_lost}
 use Rattle.desk_model.specs.Desks.{DeskConfig, worker_drops, in_hand_size, accepted_count, is_flushed, desk_of, AreAllowed}
 
 -- whatever the configuration, the moment at which the desk was made, and the events, each allowed
@@ -132,21 +132,48 @@ ShutdownAsksForAll =
     Always (λ config made events. list_any is_shutdown events ≡ true
     → desk_of config made (events ++ flush ∷ []) ≡ desk_of config made events)
 
--- ---- ledger
+-- ---- the ledgers
 
-abbrev pub is_popped : DeskEvent → Bool
-is_popped popped = true
-is_popped _ = false
+-- Where nothing was popped, a ledger has all that was put into it, the newest first.
+abbrev pub NamesAll : (DeskEvent → Bool) → (List DeskEvent → List Entry)
+    → (List DeskEvent → List Entry) → Type 0
+NamesAll pops ledger all =
+    (events : List DeskEvent) → list_any pops events ≡ false
+    → ledger events ≡ reverse (all events)
 
--- Where nothing was popped, the ledger has all that was dropped, the newest first.
-abbrev pub LedgerNamesTheDrops : Type 0
-LedgerNamesTheDrops =
-    (events : List DeskEvent) → list_any is_popped events ≡ false
-    → ledger_entries events ≡ reverse (drops events)
-
--- What is in the ledger and what was popped is, as often, what was dropped.
-abbrev pub LedgerAndPoppedAreTheDrops : Type 0
-LedgerAndPoppedAreTheDrops =
+-- What is in a ledger and what was popped is, as often, what was put into it.
+abbrev pub AddUp : (List DeskEvent → List Entry) → (List DeskEvent → List Entry)
+    → (List DeskEvent → List Entry) → Type 0
+AddUp ledger gone all =
     (events : List DeskEvent) (is_it : Entry → Bool)
-    → count_by is_it (ledger_entries events) + count_by is_it (popped_entries events) ≡
-    count_by is_it (drops events)
+    → count_by is_it (ledger events) + count_by is_it (gone events) ≡
+    count_by is_it (all events)
+
+-- The ledger is of what was dropped.
+abbrev pub LedgerNamesTheDrops : Type 0
+LedgerNamesTheDrops = NamesAll is_popped ledger_entries drops
+
+abbrev pub LedgerAndPoppedAreTheDrops : Type 0
+LedgerAndPoppedAreTheDrops = AddUp ledger_entries popped_entries drops
+
+-- The second one is of what was lost.
+abbrev pub LedgerNamesTheLosses : Type 0
+LedgerNamesTheLosses = NamesAll is_popped_lost lost_entries losses
+
+abbrev pub LedgerAndPoppedAreTheLosses : Type 0
+LedgerAndPoppedAreTheLosses = AddUp lost_entries popped_lost_entries losses
+
+-- Each lost span was handed to the exporter, and is lost once.
+abbrev pub LossesWereHanded : Type 0
+LossesWereHanded =
+    Always (λ config made events. (ticket : ℕ)
+    → times ticket (map (λ e. e.ticket) (losses events)) ≤
+    times ticket (map (λ s. s.ticket) (handed_spans events)))
+
+-- No dropped span has a reason of lost ones, and each lost one has.
+pub record AreApart (events : List DeskEvent) : Type 0 where
+  pub dropped : AllByRecursion (λ (e : Entry). is_lost e.reason ≡ false) (drops events)
+  pub lost : AllByRecursion (λ (e : Entry). is_lost e.reason ≡ true) (losses events)
+
+abbrev pub ReasonsAreApart : Type 0
+ReasonsAreApart = Always (λ config made events. AreApart events)

@@ -2,7 +2,7 @@
 //! what holds whatever is done at it.
 #![tactic(auto)]
 
-ghost use Rattle.desk_laws.specs.Queues.{TicketsAreGivenInOrder, EachTicketOnce, TicketsAddUp, AcceptedAddUp, TakenAddUp, QueueIsBounded, BatchesAreTheFirst, BatchesStay, BatchesAreTheTaken, LastBatchIsTakenLast, SettledAreTheFirst, FlushedAreSettled, ShutdownAsksForAll, LedgerNamesTheDrops, LedgerAndPoppedAreTheDrops};
+ghost use Rattle.desk_laws.specs.Queues.{TicketsAreGivenInOrder, EachTicketOnce, TicketsAddUp, AcceptedAddUp, TakenAddUp, QueueIsBounded, BatchesAreTheFirst, BatchesStay, BatchesAreTheTaken, LastBatchIsTakenLast, SettledAreTheFirst, FlushedAreSettled, ShutdownAsksForAll, LedgerNamesTheDrops, LedgerAndPoppedAreTheDrops, LedgerNamesTheLosses, LedgerAndPoppedAreTheLosses, LossesWereHanded, ReasonsAreApart};
 
 /// Tickets are given from 0 on, each once and in order. (profile)
 pub fn tickets_are_given_once()
@@ -48,4 +48,14 @@ pub fn flushes_are_settled()
 pub fn ledger_names_the_drops()
     ensures unpopped { LedgerNamesTheDrops }
     ensures popped { LedgerAndPoppedAreTheDrops }
+{}
+
+/// The second ledger names what was lost, the newest first, but for what was popped. A lost span
+/// was handed to the exporter, and is lost once. The reasons of lost spans are no reasons of dropped
+/// ones. (profile)
+pub fn ledger_names_the_losses()
+    ensures unpopped { LedgerNamesTheLosses }
+    ensures popped { LedgerAndPoppedAreTheLosses }
+    ensures handed { LossesWereHanded }
+    ensures apart { ReasonsAreApart }
 {}

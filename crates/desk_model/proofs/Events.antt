@@ -6,8 +6,8 @@ use Rattle.std.proofs.lemmas.List.Sums.{sum_by-append}
 use Rattle.span_model.specs.Spans.{EndedSpan}
 use Rattle.drop_model.specs.Dropped.{Reason, Entry, entry_of, is_reason, count_of_reason}
 use Rattle.retry_model.specs.Retries.{Fate}
-use Rattle.desk_model.specs.Queue.{is_late, DeskEvent, queued, full, late, flush, shutdown, taken, handed, dropped, settled, popped, asks, asked_count, accepted_spans, queued_span, size_of_take, ticket_of, tickets, taken_count, waiting_spans, last_batch, last_spans, last_size, Stage, not_out, in_hand, with_exporter, stage, stage_by, stack_on, moment_of_take, last_moment, spans_handed_by, handed_spans, fate_by, fates, entries_by, drops, ledger_entries, ledger_steps_by, late_count, is_shutdown, is_closed}
-use Rattle.desk_model.specs.Desks.{DeskConfig, Desk, DropCounts, FateCounts, drop_counts, with_drops, is_fate, fate_counts, with_fate, capped, out_as, desk_of, accepted_count, is_in_hand, is_with_exporter, handed_out, out_size, new_desk, Allowed, AreAllowed, IsDesk, Does, DropsSpans, TakesSpans}
+use Rattle.desk_model.specs.Queue.{is_late, DeskEvent, queued, full, late, flush, shutdown, taken, handed, dropped, settled, popped, popped_lost, asks, asked_count, accepted_spans, queued_span, size_of_take, ticket_of, tickets, taken_count, waiting_spans, last_batch, last_spans, last_size, Stage, not_out, in_hand, with_exporter, stage, stage_by, stack_on, moment_of_take, last_moment, spans_handed_by, handed_spans, fate_by, fates, entries_by, drops, ledger_entries, stack_steps, is_popped, is_popped_lost, losses_by, losses, lost_entries, lost_names, late_count, is_shutdown, is_closed}
+use Rattle.desk_model.specs.Desks.{DeskConfig, Desk, DropCounts, FateCounts, drop_counts, with_drops, is_fate, fate_counts, with_fate, capped, out_as, desk_of, accepted_count, is_in_hand, is_with_exporter, handed_out, out_size, new_desk, Allowed, AreAllowed, IsDesk, Does, DropsSpans, SettlesSpans, TakesSpans, is_loss, after_settled}
 use Rattle.desk_model.proofs.Lists.{count-more, gather-more, stack-pushes, push_as, drop_as, one_as, plus_as, length_as, behind_as, length-as-is, length-behind, behind-is, pushed-behind, one-behind, sum-behind, last-behind}
 use Rattle.desk_model.proofs.Steps.{IsWithin, waiting-more, ledger-more, asked-more, shut-more, length-last, accepted-adds, last-taken, allowed-more, allowed-within}
 
@@ -60,6 +60,10 @@ with-drops Reason.queue_full n counts = refl
 with-drops Reason.encode_memory n counts = refl
 with-drops Reason.too_large n counts = refl
 with-drops Reason.abandoned n counts = refl
+with-drops (Reason.refused status) n counts = refl
+with-drops Reason.bad_reply n counts = refl
+with-drops Reason.given_up n counts = refl
+with-drops Reason.left_handed n counts = refl
 
 pub counts-more : (reason : Reason) (xs : List Entry) (spans : List EndedSpan) → drop_counts (xs ++ map (entry_of reason) spans) ≡ with_drops reason (length spans) (drop_counts xs)
 counts-more reason xs spans = (λ i. record {
@@ -105,7 +109,8 @@ shown_behind config made h x = record {
   config = config;
   waiting = drop_as (size_of_take x) (push_as (queued_span x) (waiting_spans h));
   out = out_as (unwrap_or (stage_by x) (stage h)) (one_as (size_of_take x) (last_batch h)) (unwrap_or (size_of_take x) (last_size h));
-  ledger = stack_on (ledger_entries h) (ledger_steps_by h x);
+  ledger = stack_on (ledger_entries h) (stack_steps is_popped entries_by h x);
+  lost = stack_on (lost_entries h) (stack_steps is_popped_lost losses_by h x);
   next_ticket = one_as (ticket_of x) (length (tickets h));
   taken = plus_as (size_of_take x) (taken_count h);
   batches = one_as (size_of_take x) (last_batch h);
@@ -113,6 +118,7 @@ shown_behind config made h x = record {
   closed = (is_shutdown x || list_any is_shutdown h) || (one_as (ticket_of x) (length (tickets h)) == 2 ^ 64 - 1);
   last_moment = unwrap_or (moment_of_take x) (last_moment made h);
   handed = length_as (spans_handed_by h x) (length (handed_spans h));
+  lost_count = length_as (losses_by h x) (length (losses h));
   late = capped (raised (is_late x) 1 (late_count h));
   dropped = drop_counts (behind_as (entries_by h x) (drops h));
   fates = fate_counts (push_as (fate_by x) (fates h));
@@ -125,7 +131,8 @@ module _ (config : DeskConfig) (made : ℕ) (h : List DeskEvent) where
     config = config;
     waiting = (waiting-more h x w) i;
     out = out_as (last-behind stage_by h x not_out i) (one-behind size_of_take h x i) (last-behind size_of_take h x 0 i);
-    ledger = (ledger-more h x) i;
+    ledger = (ledger-more h x is_popped entries_by) i;
+    lost = (ledger-more h x is_popped_lost losses_by) i;
     next_ticket = (one-behind ticket_of h x) i;
     taken = (sum-behind size_of_take h x) i;
     batches = (one-behind size_of_take h x) i;
@@ -133,6 +140,7 @@ module _ (config : DeskConfig) (made : ℕ) (h : List DeskEvent) where
     closed = (shut-more h x) i || (one-behind ticket_of h x i == 2 ^ 64 - 1);
     last_moment = last-behind moment_of_take h x made i;
     handed = (ap length (gather-more spans_handed_by h x) ∙ length-behind (handed_spans h) (spans_handed_by h x)) i;
+    lost_count = (ap length (gather-more losses_by h x) ∙ length-behind (losses h) (losses_by h x)) i;
     late = capped ((count-more is_late h x ∙ raised-is (is_late x) 1 (late_count h)) i);
     dropped = drop_counts ((gather-more entries_by h x ∙ sym (behind-is (entries_by h x) (drops h))) i);
     fates = fate_counts (pushed-behind fate_by h x i);
@@ -178,13 +186,22 @@ module _ (config : DeskConfig) (made : ℕ) (h : List DeskEvent) where
     dropped = (ap drop_counts (behind-is (map (entry_of reason) (last_spans h)) (drops h)) ∙ counts-more reason (drops h) (last_spans h)) i;
   })
 
-  pub settled-makes : (fate : Fate) → IsWithin h → desk_of config made (h ++ settled fate ∷ []) ≡ record (desk_of config made h) { out = None; fates = with_fate fate (fate_counts (fates h)) }
+  pub settled-makes : (fate : Fate) → IsWithin h → desk_of config made (h ++ settled fate ∷ []) ≡ after_settled fate (last_spans h) (desk_of config made h)
   unfolding desk_of
-  settled-makes fate w = shows (settled fate) w ∙ (λ i. record (desk_of config made h) { out = None; fates = fates-more (fates h) fate i })
+  settled-makes fate w = let names : List Entry = lost_names fate (last_spans h) in shows (settled fate) w ∙ (λ i. record (desk_of config made h) {
+    out = None;
+    lost = stack-pushes (lost_entries h) names i;
+    lost_count = length-as-is names (length (losses h)) i;
+    fates = fates-more (fates h) fate i;
+  })
 
   pub popped-makes : IsWithin h → desk_of config made (h ++ popped ∷ []) ≡ record (desk_of config made h) { ledger = drop 1 (ledger_entries h) }
   unfolding desk_of
   popped-makes w = shows popped w
+
+  pub popped-lost-makes : IsWithin h → desk_of config made (h ++ popped_lost ∷ []) ≡ record (desk_of config made h) { lost = drop 1 (lost_entries h) }
+  unfolding desk_of
+  popped-lost-makes w = shows popped_lost w
 
 -- ---- the same of any desk that is the result of some events
 
@@ -237,13 +254,28 @@ dropped_does d reason spans a made h d_is e =
     follows (dropped reason) d (λ f. record f { out = None; ledger = reverse (map (entry_of reason) spans) ++ f.ledger; dropped = with_drops reason (length spans) f.dropped }) refl a made h d_is
     (λ w b. dropped-makes d.config made h reason w ∙ sym (ap (λ ss. record (desk_of d.config made h) { out = None; ledger = reverse (map (entry_of reason) ss) ++ ledger_entries h; dropped = with_drops reason (length ss) (drop_counts (drops h)) }) e))
 
-pub settled_does : (d : Desk) (fate : Fate) → is_with_exporter d.out ≡ true → Does (settled fate) d (record d { out = None; fates = with_fate fate d.fates })
+-- where no span is lost, it makes no difference which they are
+same-names : (fate : Fate) (xs ys : List EndedSpan) → (is_loss fate ≡ true → xs ≡ ys) → lost_names fate xs ≡ lost_names fate ys
+same-names Fate.delivered xs ys e = refl
+same-names (Fate.partial rejected) xs ys e = refl
+same-names (Fate.refused status) xs ys e = ap (lost_names (Fate.refused status)) (e refl)
+same-names Fate.bad_reply xs ys e = ap (lost_names Fate.bad_reply) (e refl)
+same-names Fate.given_up xs ys e = ap (lost_names Fate.given_up) (e refl)
+same-names Fate.abandoned xs ys e = ap (lost_names Fate.abandoned) (e refl)
+
+pub settled_does : (d : Desk) (fate : Fate) (spans : List EndedSpan) → is_with_exporter d.out ≡ true → SettlesSpans fate spans d (after_settled fate spans d)
 unfolding desk_of
-settled_does d fate a made h d_is = follows (settled fate) d (λ e. record e { out = None; fates = with_fate fate e.fates }) refl a made h d_is (λ w b. settled-makes d.config made h fate w)
+settled_does d fate spans a made h d_is e =
+    follows (settled fate) d (after_settled fate spans) refl a made h d_is
+    (λ w b. settled-makes d.config made h fate w ∙ sym (ap (λ (names : List Entry). record (desk_of d.config made h) { out = None; lost = reverse names ++ lost_entries h; lost_count = length (losses h) + length names; fates = with_fate fate (fate_counts (fates h)) }) (same-names fate spans (last_spans h) e)))
 
 pub popped_does : (d : Desk) → Does popped d (record d { ledger = drop 1 d.ledger })
 unfolding desk_of
 popped_does d made h d_is = follows popped d (λ e. record e { ledger = drop 1 e.ledger }) refl tt made h d_is (λ w b. popped-makes d.config made h w)
+
+pub popped_lost_does : (d : Desk) → Does popped_lost d (record d { lost = drop 1 d.lost })
+unfolding desk_of
+popped_lost_does d made h d_is = follows popped_lost d (λ e. record e { lost = drop 1 e.lost }) refl tt made h d_is (λ w b. popped-lost-makes d.config made h w)
 
 -- a batch that is taken, of so many spans
 abbrev after_take : ℕ → ℕ → Desk → Desk

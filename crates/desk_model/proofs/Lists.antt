@@ -1,7 +1,7 @@
 -- Lists with one more element at their end: what is gathered of them, counted in them and cut from them.
 use Rattle.std.proofs.Common.{◌≡◌, refl, sym, ap, ◌∙◌, ℕ, zero, suc, ◌+◌, ◌<◌, ◌≤◌, arith, List, [], ◌∷◌, ◌++◌, length, take, drop, append_assoc, Bool, true, false, cond, ◌||◌, Option, Some, None, slice_get, length-drop, length-append}
 use Rattle.std.specs.Prelude.{unwrap_or, sum, count_by, filter_map, map, reverse}
-use Rattle.std.specs.List.{cons_option, list_any}
+use Rattle.std.specs.List.{cons_option, list_any, AllByRecursion}
 use Rattle.std.proofs.lemmas.List.{append-nil, drop-append-le, take-append-le, drop-drop, length-take-le, reverse-append}
 use Rattle.std.proofs.lemmas.List.Elements.{filter_map-append}
 use Rattle.std.proofs.lemmas.List.Sums.{sum_by-cons, sum_by_push}
@@ -202,3 +202,9 @@ length-slice-at (n ∷ m ∷ ns) xs d (suc i) w e = length-slice-at (m ∷ ns) (
 pub length-last-slice : {A : Type 0} (ns : List ℕ) (xs : List A) → sum ns ≤ length xs → length (last_slice ns xs) ≡ last_or 0 ns
 length-last-slice [] xs w = refl
 length-last-slice (n ∷ ns) xs w = length-slice-at (n ∷ ns) xs 0 (length ns) w refl
+
+-- ---- lists of which all have a property
+
+pub all-append : {A : Type 0} (P : A → Type 0) (xs ys : List A) → AllByRecursion P xs → AllByRecursion P ys → AllByRecursion P (xs ++ ys)
+all-append P [] ys a b = b
+all-append P (x ∷ xs) ys a b = (a.0, all-append P xs ys a.1 b)

@@ -5,7 +5,8 @@ use Rattle.std.specs.List.{list_any, filter_map}
 use Rattle.std.proofs.lemmas.List.{append-nil, drop-append-le, drop-drop}
 use Rattle.span_model.specs.Attributes.{last_or}
 use Rattle.span_model.specs.Spans.{EndedSpan}
-use Rattle.desk_model.specs.Queue.{DeskEvent, queued, full, late, flush, shutdown, taken, handed, dropped, settled, popped, gather, ticket_of, tickets, queued_span, accepted_spans, size_of_take, batch_sizes, taken_count, waiting_spans, last_batch, last_spans, last_size, Stage, not_out, stage_by, stage, spans_handed_by, handed_spans, entries_by, drops, stack_on, ledger_steps_by, ledger_entries, asks, marks_by, asked_count, is_shutdown}
+use Rattle.drop_model.specs.Dropped.{Entry}
+use Rattle.desk_model.specs.Queue.{DeskEvent, queued, full, late, flush, shutdown, taken, handed, dropped, settled, popped, popped_lost, gather, ticket_of, tickets, queued_span, accepted_spans, size_of_take, batch_sizes, taken_count, waiting_spans, last_batch, last_spans, last_size, Stage, not_out, stage_by, stage, spans_handed_by, handed_spans, entries_by, drops, stack_on, stack_steps, stack_of, asks, marks_by, asked_count, is_shutdown}
 use Rattle.desk_model.specs.Desks.{DeskConfig, desk_of, Allowed, AreAllowedBehind, AreAllowed}
 use Rattle.desk_model.proofs.Lists.{none-more, some-more, last-more, any-more, sum-more, gather-more, stack-append, push_as, drop_as, pushed-behind, drop-behind, last_slice, last-slice-stays, last-slice-more, length-last-slice}
 
@@ -39,9 +40,9 @@ module _ (h : List DeskEvent) (x : DeskEvent) where
   pub drops-kept : entries_by h x ≡ [] → drops (h ++ x ∷ []) ≡ drops h
   drops-kept e = gather-more entries_by h x ∙ ap (λ l. drops h ++ l) e ∙ append-nil (drops h)
 
-  -- the ledger, by what is done to it
-  pub ledger-more : ledger_entries (h ++ x ∷ []) ≡ stack_on (ledger_entries h) (ledger_steps_by h x)
-  ledger-more = ap (stack_on []) (gather-more ledger_steps_by h x) ∙ stack-append [] (gather ledger_steps_by [] h) (ledger_steps_by h x)
+  -- a ledger, by what is done to it
+  pub ledger-more : (pops : DeskEvent → Bool) (adds : List DeskEvent → DeskEvent → List Entry) → stack_of pops adds (h ++ x ∷ []) ≡ stack_on (stack_of pops adds h) (stack_steps pops adds h x)
+  ledger-more pops adds = let steps = stack_steps pops adds in ap (stack_on []) (gather-more steps h x) ∙ stack-append [] (gather steps [] h) (steps h x)
 
   pub asked-kept : asks x ≡ false → asked_count (h ++ x ∷ []) ≡ asked_count h
   asked-kept e = ap (last_or 0) (gather-more marks_by h x ∙ ap (λ b. gather marks_by [] h ++ cond b (length (accepted_spans h) ∷ []) []) e ∙ append-nil (gather marks_by [] h))
@@ -152,6 +153,7 @@ within-step config made h handed w a = within-same h handed refl refl w
 within-step config made h (dropped r) w a = within-same h (dropped r) refl refl w
 within-step config made h (settled f) w a = within-same h (settled f) refl refl w
 within-step config made h popped w a = within-same h popped refl refl w
+within-step config made h popped_lost w a = within-same h popped_lost refl refl w
 
 pub allowed-within : (config : DeskConfig) (made : ℕ) (h : List DeskEvent) → AreAllowed config made h → IsWithin h
 allowed-within config made h w = by-steps config made IsWithin (within-step config made) h (omega arith) w

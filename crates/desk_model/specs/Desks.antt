@@ -1,10 +1,10 @@
 -- What a batch processor's queue and its ledger show, and what may be done at them. (Trace SDK,
 -- Batching processor; batches and ledger: profile)
-use Rattle.std.specs.Prelude.{◌≡◌, ℕ, pos, ◌+◌, ◌-◌, ◌*◌, ◌^◌, ◌<◌, min, nat_lt, nat_le, Bool, true, false, not, ◌&&◌, ◌||◌, if◌then◌else◌, List, [], ◌∷◌, ◌++◌, length, count_by, Option, Some, None}
+use Rattle.std.specs.Prelude.{◌≡◌, ℕ, pos, ◌+◌, ◌-◌, ◌*◌, ◌^◌, ◌<◌, min, nat_lt, nat_le, Bool, true, false, not, ◌&&◌, ◌||◌, if◌then◌else◌, List, [], ◌∷◌, ◌++◌, length, reverse, count_by, Option, Some, None, is_some}
 use Rattle.span_model.specs.Spans.{EndedSpan}
-use Rattle.drop_model.specs.Dropped.{Reason, Entry, is_reason, count_of_reason}
+use Rattle.drop_model.specs.Dropped.{Reason, Entry, can_drop_batch, count_of_reason}
 use Rattle.retry_model.specs.Retries.{Fate}
-use Rattle.desk_model.specs.Queue.{DeskEvent, queued, full, late, flush, shutdown, taken, handed, dropped, settled, popped, tickets, taken_count, waiting_spans, last_batch, last_spans, last_size, Stage, not_out, in_hand, with_exporter, stage, last_moment, handed_spans, fates, drops, ledger_entries, late_count, asked_count, is_closed}
+use Rattle.desk_model.specs.Queue.{DeskEvent, queued, full, late, flush, shutdown, taken, handed, dropped, settled, popped, popped_lost, tickets, taken_count, waiting_spans, last_batch, last_spans, last_size, Stage, not_out, in_hand, with_exporter, stage, last_moment, handed_spans, fates, drops, ledger_entries, lost_names, loss_reason, losses, lost_entries, late_count, asked_count, is_closed}
 
 -- How many spans may wait, how many a batch may have, and the delay in milliseconds. (Trace SDK,
 -- Batching processor: maxQueueSize, maxExportBatchSize, scheduledDelayMillis)
@@ -45,6 +45,8 @@ pub record Desk : Type 0 where
   pub out : Option OutBatch
   -- the dropped spans that weren't popped, the newest first
   pub ledger : List Entry
+  -- the lost spans that weren't popped, the newest first
+  pub lost : List Entry
   -- the ticket of the next span: as many were given
   pub next_ticket : ℕ
   -- how many spans were taken, and in how many batches
@@ -58,6 +60,8 @@ pub record Desk : Type 0 where
   pub last_moment : ℕ
   -- how many spans were handed to the exporter
   pub handed : ℕ
+  -- how many of them were lost, be it that they were popped
+  pub lost_count : ℕ
   -- how many ended where none was admitted; this stops at the greatest number of 64 bits
   pub late : ℕ
   pub dropped : DropCounts
@@ -88,13 +92,17 @@ drop_counts entries = record {
   abandoned = count_of_reason Reason.abandoned entries;
 }
 
--- with so many more of a reason
+-- with so many more of a reason; spans that are lost are counted elsewhere
 abbrev pub with_drops : Reason → ℕ → DropCounts → DropCounts
 with_drops Reason.queue_full n counts = record counts { queue_full = counts.queue_full + n }
 with_drops Reason.encode_memory n counts =
     record counts { encode_memory = counts.encode_memory + n }
 with_drops Reason.too_large n counts = record counts { too_large = counts.too_large + n }
 with_drops Reason.abandoned n counts = record counts { abandoned = counts.abandoned + n }
+with_drops (Reason.refused status) n counts = counts
+with_drops Reason.bad_reply n counts = counts
+with_drops Reason.given_up n counts = counts
+with_drops Reason.left_handed n counts = counts
 
 -- how many spans of batches were dropped
 abbrev pub worker_drops : DropCounts → ℕ
@@ -150,6 +158,7 @@ desk_of config made events = record {
   waiting = waiting_spans events;
   out = out_as (stage events) (last_batch events) (last_size events);
   ledger = ledger_entries events;
+  lost = lost_entries events;
   next_ticket = length (tickets events);
   taken = taken_count events;
   batches = last_batch events;
@@ -157,6 +166,7 @@ desk_of config made events = record {
   closed = is_closed events;
   last_moment = last_moment made events;
   handed = length (handed_spans events);
+  lost_count = length (losses events);
   late = capped (late_count events);
   dropped = drop_counts (drops events);
   fates = fate_counts (fates events);
@@ -169,6 +179,7 @@ new_desk config made = record {
   waiting = [];
   out = None;
   ledger = [];
+  lost = [];
   next_ticket = 0;
   taken = 0;
   batches = 0;
@@ -176,6 +187,7 @@ new_desk config made = record {
   closed = false;
   last_moment = made;
   handed = 0;
+  lost_count = 0;
   late = 0;
   dropped = no_drops;
   fates = no_fates;
@@ -223,6 +235,20 @@ abbrev pub handed_out : Option OutBatch → Option OutBatch
 handed_out None = None
 handed_out (Some batch) = Some (record batch { is_handed = true })
 
+-- Whether the spans of a batch with this fate are lost.
+abbrev pub is_loss : Fate → Bool
+is_loss fate = is_some (loss_reason fate)
+
+-- the desk after the batch that is out is settled, whose spans these are; where none is lost it
+-- makes no difference which they are
+abbrev pub after_settled : Fate → List EndedSpan → Desk → Desk
+after_settled fate spans desk = record desk {
+  out = None;
+  lost = reverse (lost_names fate spans) ++ desk.lost;
+  lost_count = desk.lost_count + length (lost_names fate spans);
+  fates = with_fate fate desk.fates;
+}
+
 -- ---- what may be done
 
 -- a batch is out, and not handed to the exporter
@@ -251,11 +277,11 @@ Allowed desk (taken now size) =
     (is_due desk now ≡ true) × (desk.out ≡ None)
     × (size ≡ min desk.config.batch (length desk.waiting))
 Allowed desk handed = is_in_hand desk.out ≡ true
--- Only spans that end where the queue is full are dropped for this reason.
 Allowed desk (dropped reason) =
-    (is_in_hand desk.out ≡ true) × (is_reason Reason.queue_full reason ≡ false)
+    (is_in_hand desk.out ≡ true) × (can_drop_batch reason ≡ true)
 Allowed desk (settled fate) = is_with_exporter desk.out ≡ true
 Allowed desk popped = Unit {0}
+Allowed desk popped_lost = Unit {0}
 
 abbrev pub AreAllowedBehind : DeskConfig → ℕ → List DeskEvent → List DeskEvent → Type 0
 AreAllowedBehind config made before [] = Unit {0}
@@ -284,6 +310,13 @@ abbrev pub DropsSpans : Reason → List EndedSpan → Desk → Desk → Type 0
 DropsSpans reason spans old new =
     (made : ℕ) (events : List DeskEvent) → IsDesk made events old → spans ≡ last_spans events
     → IsDesk made (events ++ dropped reason ∷ []) new
+
+-- The same of a batch that is settled, where these are its spans if they are lost.
+abbrev pub SettlesSpans : Fate → List EndedSpan → Desk → Desk → Type 0
+SettlesSpans fate spans old new =
+    (made : ℕ) (events : List DeskEvent) → IsDesk made events old
+    → (is_loss fate ≡ true → spans ≡ last_spans events)
+    → IsDesk made (events ++ settled fate ∷ []) new
 
 -- The same of a batch that is taken, and these are its spans.
 abbrev pub TakesSpans : ℕ → List EndedSpan → Desk → Desk → Type 0

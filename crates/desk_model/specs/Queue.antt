@@ -1,11 +1,12 @@
 -- What becomes of ended spans, by what was done at the queue of a batch processor and what it
--- answered: which of them wait, are in a batch, are handed to the exporter or are dropped. (Trace
--- SDK, Batching processor; tickets, numbers of batches and the ledger: profile)
+-- answered: which of them wait, are in a batch, are handed to the exporter, are dropped or are lost.
+-- (Trace SDK, Batching processor; tickets, numbers of batches and the two ledgers: profile)
 use Rattle.std.specs.Prelude.{ℕ, ◌-◌, ◌^◌, ◌==◌, Bool, true, false, ◌||◌, if◌then◌else◌, List, [], ◌∷◌, ◌++◌, length, map, take, drop, filter_map, sum, count_by, Option, Some, None, unwrap_or, slice_get}
 use Rattle.std.specs.List.{list_any}
 use Rattle.span_model.specs.Attributes.{last_or}
 use Rattle.span_model.specs.Spans.{EndedSpan}
-use Rattle.drop_model.specs.Dropped.{Reason, queue_full, Entry, entry_of}
+use Rattle.drop_model.specs.Dropped.{Reason, queue_full, bad_reply, given_up, left_handed, Entry, entry_of}
+use Rattle.drop_model.specs.Dropped as reasons
 use Rattle.retry_model.specs.Retries.{Fate}
 
 -- What was done, and what was answered. A list of these is a history, the first one first.
@@ -23,8 +24,9 @@ pub data DeskEvent : Type 0 where
   handed : DeskEvent
   dropped : Reason → DeskEvent
   settled : Fate → DeskEvent
-  -- the newest entry of the ledger was taken out, if there was one
-  popped : DeskEvent
+  -- the newest entry of the ledger of dropped spans was taken out, if there was one; the same of the
+  -- ledger of lost spans
+  popped popped_lost : DeskEvent
 
 -- what each event adds, behind those before it
 abbrev pub gather : {A : Type 0} → (List DeskEvent → DeskEvent → List A) → List DeskEvent
@@ -155,32 +157,90 @@ entries_by before _ = []
 abbrev pub drops : List DeskEvent → List Entry
 drops events = gather entries_by [] events
 
+-- ---- what was lost
+
+-- why the spans of a batch with this fate are lost, if they are; a partial success doesn't tell
+-- which spans were refused
+abbrev pub loss_reason : Fate → Option Reason
+loss_reason Fate.delivered = None
+loss_reason (Fate.partial rejected) = None
+loss_reason (Fate.refused status) = Some (reasons.refused status)
+loss_reason Fate.bad_reply = Some bad_reply
+loss_reason Fate.given_up = Some given_up
+loss_reason Fate.abandoned = Some left_handed
+
+abbrev pub named_as : Option Reason → List EndedSpan → List Entry
+named_as None spans = []
+named_as (Some reason) spans = map (entry_of reason) spans
+
+-- the names of the spans of a batch with this fate, where they are lost, else none
+abbrev pub lost_names : Fate → List EndedSpan → List Entry
+lost_names fate spans = named_as (loss_reason fate) spans
+
+-- the same of one that has a fate, if it has
+abbrev pub lost_as : Option Fate → List EndedSpan → List Entry
+lost_as None spans = []
+lost_as (Some fate) spans = lost_names fate spans
+
+abbrev pub losses_by : List DeskEvent → DeskEvent → List Entry
+losses_by before (settled fate) = lost_names fate (last_spans before)
+losses_by before _ = []
+
+-- the lost spans, in order: those of the batches that were handed and came to nothing
+abbrev pub losses : List DeskEvent → List Entry
+losses events = gather losses_by [] events
+
+-- ---- the ledgers
+
 -- what is done to a stack
 pub data StackStep (A : Type 0) : Type 0 where
   push : A → StackStep A
   pop : StackStep A
 
--- what stands on these after some steps, the newest first
+-- what is on it after some steps, the newest first
 abbrev pub stack_on : {A : Type 0} → List A → List (StackStep A) → List A
 stack_on below [] = below
 stack_on below (push x ∷ steps) = stack_on (x ∷ below) steps
 stack_on below (pop ∷ steps) = stack_on (drop 1 below) steps
 
-abbrev pub ledger_steps_by : List DeskEvent → DeskEvent → List (StackStep Entry)
-ledger_steps_by before popped = pop ∷ []
-ledger_steps_by before x = map push (entries_by before x)
+-- A stack of names, by which event takes the newest off, and which names each other one adds.
+module _ (pops : DeskEvent → Bool) (adds : List DeskEvent → DeskEvent → List Entry) where
+  abbrev pub stack_steps : List DeskEvent → DeskEvent → List (StackStep Entry)
+  stack_steps before x = if pops x then pop ∷ [] else map push (adds before x)
+
+  abbrev pub stack_of : List DeskEvent → List Entry
+  stack_of events = stack_on [] (gather stack_steps [] events)
+
+  abbrev pub popped_by : List DeskEvent → DeskEvent → List Entry
+  popped_by before x = if pops x then take 1 (stack_of before) else []
+
+  -- what was popped, in order: each time the newest
+  abbrev pub popped_of : List DeskEvent → List Entry
+  popped_of events = gather popped_by [] events
+
+abbrev pub is_popped : DeskEvent → Bool
+is_popped popped = true
+is_popped _ = false
+
+abbrev pub is_popped_lost : DeskEvent → Bool
+is_popped_lost popped_lost = true
+is_popped_lost _ = false
 
 -- the ledger: the dropped spans that weren't popped, the newest first
 abbrev pub ledger_entries : List DeskEvent → List Entry
-ledger_entries events = stack_on [] (gather ledger_steps_by [] events)
+ledger_entries events = stack_of is_popped entries_by events
 
-abbrev pub entries_popped_by : List DeskEvent → DeskEvent → List Entry
-entries_popped_by before popped = take 1 (ledger_entries before)
-entries_popped_by before _ = []
-
--- what was popped, in order: each time the newest entry of the ledger
+-- what was popped from it, in order
 abbrev pub popped_entries : List DeskEvent → List Entry
-popped_entries events = gather entries_popped_by [] events
+popped_entries events = popped_of is_popped entries_by events
+
+-- the second ledger: the lost spans that weren't popped, the newest first
+abbrev pub lost_entries : List DeskEvent → List Entry
+lost_entries events = stack_of is_popped_lost losses_by events
+
+-- what was popped from it, in order
+abbrev pub popped_lost_entries : List DeskEvent → List Entry
+popped_lost_entries events = popped_of is_popped_lost losses_by events
 
 abbrev pub is_late : DeskEvent → Bool
 is_late late = true

@@ -1,16 +1,16 @@
 -- What one more step of a pass does to what the lock keeps of tickets, of late spans and of names,
 -- with what that begins, and what it comes to.
-use Rattle.std.proofs.Common.{◌≡◌, ℕ, ◌+◌, ◌-◌, ◌^◌, ◌<◌, ◌≤◌, Bool, true, false, List, [], ◌∷◌, ◌++◌, sym, refl, ap, ◌∙◌, subst, arith}
+use Rattle.std.proofs.Common.{◌≡◌, ℕ, ◌+◌, ◌-◌, ◌^◌, ◌<◌, ◌≤◌, Bool, true, false, List, [], ◌∷◌, ◌++◌, length, sym, refl, ap, ◌∙◌, subst, arith}
 use Rattle.std.specs.Prelude.{IsPermutation, map, ◌==◌, ◌||◌, nat_lt}
 use Rattle.std.specs.List.{AllByRecursion}
-use Rattle.std.proofs.lemmas.List.{append-nil, map-append}
-use Rattle.std.proofs.lemmas.List.Sorted.{IsPermutation-refl, IsPermutation-sym, IsPermutation-trans, IsPermutation-append_right}
+use Rattle.std.proofs.lemmas.List.{append-nil, length-append, map-append}
+use Rattle.std.proofs.lemmas.List.Sorted.{IsPermutation-refl, IsPermutation-sym, IsPermutation-trans, IsPermutation-append_right, length_permutation}
 use Rattle.account_book.specs.Accounts.{Closes, Replaces}
 use Rattle.account_book.proofs.Facts.{each_append, each_at, each_closed, each_map, each_replaced, each_same, gathered_all, gathered_replaced, nothing_of, sum_all, sum_replaced, zero_of}
 use Rattle.drop_model.specs.Dropped.{Entry}
 use Rattle.desk_model.specs.Desks.{DropCounts, capped, drop_counts}
 use Rattle.pass_model.specs.Passes.{PassAccount, Rises, SpanEnd, all_tickets, late_count, new_account, shutdown_count, ticket_of, tickets}
-use Rattle.pass_model.specs.Clauses.{CountsLate, GivesTickets, NamesDrops, numbers_below}
+use Rattle.pass_model.specs.Clauses.{CountsLate, GivesTickets, NamesDrops, NamesLosses, numbers_below}
 use Rattle.pass_model.proofs.Lists.{below-more, counts_same, names_more, rises-append, same_more, still-below}
 
 -- ---- tickets
@@ -133,6 +133,21 @@ pub names_step : (ledger ledger' : List Entry) (counts counts' : DropCounts) (dr
 names_step ledger ledger' counts counts' dropped dropped' popped popped' ds ps more gone step counted k = record {
   named = names_more dropped dropped' ds ledger ledger' popped popped' ps more gone k.named step;
   counted = counted ∙ counts_same dropped' (dropped ++ ds) more;
+}
+
+-- some more are lost and named, and some are popped
+pub losses_step : (ledger ledger' : List Entry) (count count' : ℕ) (lost lost' popped popped' ds ps : List Entry) → IsPermutation lost' (lost ++ ds) → IsPermutation popped' (popped ++ ps) → IsPermutation (ds ++ ledger) (ledger' ++ ps)
+    → count' ≡ count + length ds → NamesLosses ledger count lost popped → NamesLosses ledger' count' lost' popped'
+losses_step ledger ledger' count count' lost lost' popped popped' ds ps more gone step counted k = record {
+  named = names_more lost lost' ds ledger ledger' popped popped' ps more gone k.named step;
+  counted = counted ∙ ap (λ (n : ℕ). n + length ds) k.counted ∙ sym (length-append lost ds) ∙ length_permutation lost' (lost ++ ds) more;
+}
+
+-- the same entries, those that were popped in another order
+pub losses_same : (ledger : List Entry) (count : ℕ) (lost popped popped' : List Entry) → IsPermutation popped' popped → NamesLosses ledger count lost popped → NamesLosses ledger count lost popped'
+losses_same ledger count lost popped popped' out k = record {
+  named = IsPermutation-trans lost (ledger ++ popped) (ledger ++ popped') k.named (IsPermutation-append_right ledger popped popped' (IsPermutation-sym popped' popped out));
+  counted = k.counted;
 }
 
 -- the same entries in another order

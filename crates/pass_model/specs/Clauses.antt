@@ -1,7 +1,7 @@
--- What the accounts of all passes of a processor say of tickets, of the names of dropped spans and
--- of late spans: a simple processor and a batch processor say it in the same words. (Trace SDK,
--- Shutdown; tickets, the ledger and late spans: profile)
-use Rattle.std.specs.Prelude.{◌≡◌, ℕ, ◌-◌, ◌^◌, ◌<◌, ◌++◌, ◌==◌, ◌||◌, nat_lt, Bool, true, List, IsPermutation}
+-- What the accounts of all passes of a processor say of tickets, of the names of dropped and lost
+-- spans, and of late spans: a simple processor and a batch processor say it in the same words.
+-- (Trace SDK, Shutdown; tickets, the two ledgers and late spans: profile)
+use Rattle.std.specs.Prelude.{◌≡◌, ℕ, ◌-◌, ◌^◌, ◌<◌, ◌++◌, ◌==◌, ◌||◌, nat_lt, Bool, true, List, length, IsPermutation}
 use Rattle.std.specs.List.{range_with_len, AllByRecursion}
 use Rattle.drop_model.specs.Dropped.{Entry}
 use Rattle.desk_model.specs.Desks.{DropCounts, capped, drop_counts}
@@ -29,6 +29,15 @@ pub record NamesDrops (ledger : List Entry) (counts : DropCounts) (dropped poppe
     : Type 0 where
   pub named : IsPermutation dropped (ledger ++ popped)
   pub counted : counts ≡ drop_counts dropped
+
+-- ---- names of lost spans
+
+-- The entries of the lost spans are, as often, those of the second ledger and those that were popped
+-- from it. The count is how many there are.
+pub record NamesLosses (ledger : List Entry) (count : ℕ) (lost popped : List Entry)
+    : Type 0 where
+  pub named : IsPermutation lost (ledger ++ popped)
+  pub counted : count ≡ length lost
 
 -- ---- late spans
 

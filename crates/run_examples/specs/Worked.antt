@@ -194,6 +194,11 @@ unfoldable pub named_by : List ℕ → RunConfig → List Step → List Entry
 unfolding history_behind
 named_by scarce run done = (desk_after run (history_behind run scarce [] [] done)).ledger
 
+-- the names of the spans that are lost, the newest first, with these outcomes
+unfoldable pub lost_by : List Outcome → RunConfig → List Step → List Entry
+unfolding history_behind
+lost_by outcomes run done = (desk_after run (history_behind run [] [] outcomes done)).lost
+
 -- the spans that a run ends, where memory is refused at these places
 unfoldable pub ended_without : List ℕ → RunConfig → List Step → List EndedSpan
 unfolding history_behind

@@ -2,12 +2,12 @@
 //! lengths stand here.
 
 ghost use Rattle.std.specs.Prelude.{◌≡◌, [], ◌∷◌, ◌++◌, pos, Some, None};
-ghost use Rattle.drop_model.specs.Dropped.{encode_memory, too_large};
+ghost use Rattle.drop_model.specs.Dropped.{encode_memory, too_large, refused, bad_reply, given_up};
 ghost use Rattle.span_model.specs.Sampling.{always_on};
 ghost use Rattle.retry_model.specs.Retries.{Outcome, later, no_reply, bad, seconds, Next, give_up, Cause, attempts};
 ghost use Rattle.history_model.specs.Steps.{Step};
 ghost use Rattle.run_model.specs.Runs.{Answer, taken, encoded, sent, replied, nothing};
-ghost use Rattle.run_examples.specs.Worked.{queue_of, once_of, bodies_of, run_with, first, child, family, ends, sends, answers_from, answers_without, answers_by, named_by, dropped_entry, queued, delivers};
+ghost use Rattle.run_examples.specs.Worked.{queue_of, once_of, bodies_of, run_with, first, child, family, ends, sends, answers_from, answers_without, answers_by, named_by, dropped_entry, queued, delivers, lost_by};
 
 /// A batch is encoded once, then sent once, and then that is judged once.
 #[tactic(auto, unfolding(crate::specs::Worked::answers_from))]
@@ -103,4 +103,22 @@ pub fn outcomes()
         (family 1 ++ ends 0 ∷ Step.flush ∷ Step.take 0 ∷ sends ++ ends 1 ∷ Step.flush ∷
         Step.take 0 ∷ sends) ≡
         replied 1 (give_up attempts) ∷ queued 1 ∷ Answer.flush ∷ taken 2 1 ∷ delivers 2 80 }
+{}
+
+/// The second ledger names the spans of a batch that came to nothing.
+#[tactic(auto, unfolding(crate::specs::Worked::lost_by))]
+pub fn losses()
+    ensures refused { lost_by (Outcome.refused 400 ∷ []) (once_of 4)
+        (first ∷ ends 0 ∷ Step.flush ∷ Step.take 0 ∷ sends) ≡
+        dropped_entry (refused 400) 0 3 ∷ [] }
+    ensures bad { lost_by (bad ∷ []) (once_of 4)
+        (first ∷ ends 0 ∷ Step.flush ∷ Step.take 0 ∷ sends) ≡ dropped_entry bad_reply 0 3 ∷ [] }
+    ensures no_reply { lost_by (no_reply ∷ []) (once_of 4)
+        (first ∷ ends 0 ∷ Step.flush ∷ Step.take 0 ∷ sends) ≡ dropped_entry given_up 0 3 ∷ [] }
+    // It isn't known which spans were refused.
+    ensures partial { lost_by (Outcome.partial (pos 1) ∷ []) (once_of 4)
+        (first ∷ ends 0 ∷ Step.flush ∷ Step.take 0 ∷ sends) ≡ [] }
+    // There is another attempt.
+    ensures again { lost_by (no_reply ∷ []) (bodies_of 70)
+        (first ∷ ends 0 ∷ Step.flush ∷ Step.take 0 ∷ sends) ≡ [] }
 {}

@@ -37,6 +37,7 @@ pub fn left()
       waiting = child_span 4 7 ∷ [];
       out = Some (record { number = 2; size = 1; is_handed = false });
       ledger = dropped_entry queue_full 2 5 ∷ [];
+      lost = [];
       next_ticket = 5;
       taken = 3;
       batches = 2;
@@ -44,6 +45,7 @@ pub fn left()
       closed = true;
       last_moment = 7;
       handed = 2;
+      lost_count = 0;
       late = 1;
       dropped = record { queue_full = 1; encode_memory = 0; too_large = 0; abandoned = 0 };
       fates = record {

@@ -10,3 +10,4 @@ pub mod Steps
 pub mod Batches
 pub mod Handed
 pub mod Encodings
+pub mod Losses

@@ -4,7 +4,7 @@ use Rattle.std.specs.Prelude.{is_none, if◌then◌else◌}
 use Rattle.std.specs.List.{list_any}
 use Rattle.std.proofs.lemmas.Bool.{eqb-true, eq-eqb, false_from_ne_true, cases_order}
 use Rattle.std.proofs.lemmas.List.Sorted.{sum_by-IsPermutation}
-use Rattle.drop_model.specs.Dropped.{Reason, queue_full, encode_memory, too_large, is_reason}
+use Rattle.drop_model.specs.Dropped.{Reason, queue_full, encode_memory, too_large, can_drop_batch}
 use Rattle.span_model.specs.Sampling.{is_sampled}
 use Rattle.span_model.specs.Spans.{EndedSpan, Kind, Call, is_end}
 use Rattle.span_model.specs.Starts.{StartedSpan}
@@ -24,7 +24,7 @@ use Rattle.run_model.specs.Runs.{Ended, queued, late, not_sampled, already_ended
 use Rattle.run_model.specs.Answers.{RunConfig, Given, Progress, not_out, to_encode, to_send, to_judge, to_retry, last_attempt, progress_by, progress, takes_memory, call_takes_memory, start_answer, end_answer, call_answer, take_answer, last_length, encode_answer, attempt_answer, reply_answer, desk_after, answer_to, IsAnswer, AreAnswers}
 use Rattle.run_model.proofs.More.{is_shut, ended-shut, ended-none, span-of-end, progress-none, progress-some}
 use Rattle.run_model.specs.Headline.{numbers_below, EachOnce}
-use Rattle.run_laws.specs.Laws.{OfHistories, OfRuns, HandedAreNotDropped, TakenBehindShutdown, was_shut, may_take, EventsAreAllowed, NoneUnaccountedFor, WaitingAreEnded, BatchesAreEnded, DropsNameEnded}
+use Rattle.run_laws.specs.Laws.{OfHistories, OfRuns, HandedAreNotDropped, TakenBehindShutdown, was_shut, may_take, EventsAreAllowed, NoneUnaccountedFor, WaitingAreEnded, BatchesAreEnded, DropsNameEnded, LossesNameEnded}
 use Rattle.run_laws.proofs.Histories.{by-steps, front}
 use Rattle.run_laws.proofs.Answered.{taken-where-due}
 use Rattle.run_laws.proofs.Ends.{told, start-ends-none, missing-ends-none, later-ends-none, unsampled-ends-none, exported_next, first-end-ends}
@@ -84,7 +84,7 @@ module _ (run : RunConfig) (h : List Answered) (a : Account run h) (tried : (mom
   unfolding desk_of
   in-hand e = ap (λ s. is_in_hand (out_as s (last_batch events) (last_size events))) e
 
-  after-dropped : (number : ℕ) (reason : Reason) → is_reason queue_full reason ≡ false → progress h ≡ to_encode → After Step.encode (Answer.dropped number reason)
+  after-dropped : (number : ℕ) (reason : Reason) → can_drop_batch reason ≡ true → progress h ≡ to_encode → After Step.encode (Answer.dropped number reason)
   after-dropped number reason r e =
       tells run h (told Step.encode (Answer.dropped number reason)) (desk.dropped reason) (ended-none run.setup h (told Step.encode (Answer.dropped number reason)) refl) refl refl
       (stage-told events (desk.dropped reason) desk.not_out refl ∙ ap stage_of (sym (progress-some h (told Step.encode (Answer.dropped number reason)) not_out refl))) refl
@@ -292,6 +292,9 @@ waiting-are-ended run h w = let a : Account run h = account run h w in values.wa
 
 pub batches-are-ended : OfRuns (λ run. BatchesAreEnded run.setup)
 batches-are-ended run h w = let a : Account run h = account run h w in values.batches-are-ended run.setup h a.are
+
+pub losses-name-ended : OfRuns (λ run. LossesNameEnded run.setup)
+losses-name-ended run h w = let a : Account run h = account run h w in values.losses-name-ended run.setup h a.are
 
 pub drops-name-ended : OfRuns (λ run. DropsNameEnded run.setup)
 drops-name-ended run h w = let a : Account run h = account run h w in values.drops-name-ended run.setup h a.are

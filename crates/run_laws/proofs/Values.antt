@@ -5,26 +5,22 @@ use Rattle.std.specs.List.{list_any, take_while, AllByRecursion, cons_option}
 use Rattle.std.proofs.lemmas.List.Sums.{take_while-cons}
 use Rattle.drop_model.specs.Dropped.{Reason, queue_full, Entry, entry_of}
 use Rattle.span_model.specs.Spans.{EndedSpan}
-use Rattle.desk_model.specs.Queue.{DeskEvent, popped, ticket_of, taken_count, accepted_spans, batch_sizes, slices, batch_spans, last_spans, last_batch, waiting_spans, gather, entries_by, drops}
+use Rattle.desk_model.specs.Queue.{DeskEvent, popped, popped_lost, is_popped, is_popped_lost, ticket_of, taken_count, accepted_spans, batch_sizes, slices, batch_spans, last_spans, last_batch, waiting_spans, gather, entries_by, drops, losses_by, losses, loss_reason, named_as}
 use Rattle.desk_model.specs.Queue as desk
 use Rattle.desk_model.specs.Desks.{desk_of}
-use Rattle.desk_laws.specs.Queues.{is_popped}
-use Rattle.desk_laws.proofs.Ledgers.{ledger-names}
+use Rattle.desk_model.proofs.Lists.{all-append}
+use Rattle.desk_laws.proofs.Ledgers.{ledger-names, lost-names-all}
 use Rattle.history_model.specs.Steps.{Step, is_shutdown}
 use Rattle.history_model.specs.History.{Setup, span_step, ended_spans, granted_steps}
 use Rattle.run_model.specs.Runs.{Answered, is_refused, span_steps, before_shutdown, ended_by, event_by, events_behind, desk_events}
 use Rattle.run_model.specs.Answers.{RunConfig, desk_after}
 use Rattle.retry_model.specs.Retries.{Fate, fate_of}
-use Rattle.run_laws.specs.Laws.{OfHistories, IsEndedSpan, NamesEndedSpan, WaitingAreEnded, BatchesAreEnded, DropsNameEnded, EndedByTheSteps, LedgerNamesTheDropped}
+use Rattle.run_laws.specs.Laws.{OfHistories, IsEndedSpan, NamesEndedSpan, WaitingAreEnded, BatchesAreEnded, DropsNameEnded, EndedByTheSteps, LossesNameEnded, LedgerNamesTheDropped, LedgerNamesTheLost}
 use Rattle.run_laws.proofs.Cases.{EventCases, by-event}
 
 -- ---- lists of which all have a property
 
 module _ {A : Type 0} (P : A → Type 0) where
-  all-append : (xs ys : List A) → AllByRecursion P xs → AllByRecursion P ys → AllByRecursion P (xs ++ ys)
-  all-append [] ys a b = b
-  all-append (x ∷ xs) ys a b = (a.0, all-append xs ys a.1 b)
-
   all-take : (n : ℕ) (xs : List A) → AllByRecursion P xs → AllByRecursion P (take n xs)
   all-take zero xs a = tt
   all-take (suc n) [] a = tt
@@ -60,6 +56,7 @@ module _ (P : EndedSpan → Type 0) where
   accepted-have (desk.dropped r ∷ es) a = accepted-have es a.1
   accepted-have (desk.settled f ∷ es) a = accepted-have es a.1
   accepted-have (popped ∷ es) a = accepted-have es a.1
+  accepted-have (popped_lost ∷ es) a = accepted-have es a.1
 
   waiting-have : (es : List DeskEvent) → AllByRecursion Has es → AllByRecursion P (waiting_spans es)
   waiting-have es a = all-drop P (taken_count es) (accepted_spans es) (accepted-have es a)
@@ -74,23 +71,42 @@ module _ (P : EndedSpan → Type 0) where
     entries-have r [] a = tt
     entries-have r (s ∷ ss) a = (names r s a.0, entries-have r ss a.1)
 
-    event-names : (before : List DeskEvent) (x : DeskEvent) → AllByRecursion Has before → Has x → AllByRecursion Q (entries_by before x)
-    event-names before (desk.full s) b h = (names queue_full s h, tt)
-    event-names before (desk.dropped r) b h = entries-have r (last_spans before) (batch-has before (last_batch before) b)
-    event-names before (desk.queued s) b h = tt
-    event-names before desk.late b h = tt
-    event-names before desk.flush b h = tt
-    event-names before desk.shutdown b h = tt
-    event-names before (desk.taken now size) b h = tt
-    event-names before desk.handed b h = tt
-    event-names before (desk.settled f) b h = tt
-    event-names before popped b h = tt
+    drop-names : (before : List DeskEvent) (x : DeskEvent) → AllByRecursion Has before → Has x → AllByRecursion Q (entries_by before x)
+    drop-names before (desk.full s) b h = (names queue_full s h, tt)
+    drop-names before (desk.dropped r) b h = entries-have r (last_spans before) (batch-has before (last_batch before) b)
+    drop-names before (desk.queued s) b h = tt
+    drop-names before desk.late b h = tt
+    drop-names before desk.flush b h = tt
+    drop-names before desk.shutdown b h = tt
+    drop-names before (desk.taken now size) b h = tt
+    drop-names before desk.handed b h = tt
+    drop-names before (desk.settled f) b h = tt
+    drop-names before popped b h = tt
+    drop-names before popped_lost b h = tt
 
-    gather-names : (before es : List DeskEvent) → AllByRecursion Has before → AllByRecursion Has es → AllByRecursion Q (gather entries_by before es)
-    gather-names before [] b a = tt
-    gather-names before (x ∷ es) b a =
-        all-append Q (entries_by before x) (gather entries_by (before ++ x ∷ []) es) (event-names before x b a.0)
-        (gather-names (before ++ x ∷ []) es (all-append Has before (x ∷ []) b (a.0, tt)) a.1)
+    lost-have : (o : Option Reason) (ss : List EndedSpan) → AllByRecursion P ss → AllByRecursion Q (named_as o ss)
+    lost-have None ss a = tt
+    lost-have (Some r) ss a = entries-have r ss a
+
+    loss-names : (before : List DeskEvent) (x : DeskEvent) → AllByRecursion Has before → Has x → AllByRecursion Q (losses_by before x)
+    loss-names before (desk.settled f) b h = lost-have (loss_reason f) (last_spans before) (batch-has before (last_batch before) b)
+    loss-names before (desk.queued s) b h = tt
+    loss-names before (desk.full s) b h = tt
+    loss-names before desk.late b h = tt
+    loss-names before desk.flush b h = tt
+    loss-names before desk.shutdown b h = tt
+    loss-names before (desk.taken now size) b h = tt
+    loss-names before desk.handed b h = tt
+    loss-names before (desk.dropped r) b h = tt
+    loss-names before popped b h = tt
+    loss-names before popped_lost b h = tt
+
+    -- so it is with all names, where it is with those that an event adds
+    gather-names : (adds : List DeskEvent → DeskEvent → List Entry) → ((before : List DeskEvent) (x : DeskEvent) → AllByRecursion Has before → Has x → AllByRecursion Q (adds before x)) → (before es : List DeskEvent) → AllByRecursion Has before → AllByRecursion Has es → AllByRecursion Q (gather adds before es)
+    gather-names adds each before [] b a = tt
+    gather-names adds each before (x ∷ es) b a =
+        all-append Q (adds before x) (gather adds (before ++ x ∷ []) es) (each before x b a.0)
+        (gather-names adds each (before ++ x ∷ []) es (all-append Has before (x ∷ []) b (a.0, tt)) a.1)
 
 -- ---- one more event, and more that is so
 
@@ -109,6 +125,7 @@ has-map P Q go desk.handed h = tt
 has-map P Q go (desk.dropped r) h = tt
 has-map P Q go (desk.settled f) h = tt
 has-map P Q go popped h = tt
+has-map P Q go popped_lost h = tt
 
 -- an event that gives no ticket
 pub has-no-ticket : (P : EndedSpan → Type 0) (y : DeskEvent) → ticket_of y ≡ None → Has P y
@@ -122,6 +139,7 @@ has-no-ticket P desk.handed e = tt
 has-no-ticket P (desk.dropped r) e = tt
 has-no-ticket P (desk.settled f) e = tt
 has-no-ticket P popped e = tt
+has-no-ticket P popped_lost e = tt
 
 -- the spans of the events are of these, each at its ticket
 abbrev pub AreOf : List EndedSpan → List DeskEvent → Type 0
@@ -143,6 +161,9 @@ are-more ended more es a =
 -- ---- what waits, is in batches, or was dropped
 
 module _ (setup : Setup) (h : List Answered) (a : AreOf (ended_by setup h) (desk_events setup h)) where
+  named : (r : Reason) (s : EndedSpan) → IsEndedSpan setup h s → NamesEndedSpan setup h (entry_of r s)
+  named r s e = (s, e, refl)
+
   pub waiting-are-ended : WaitingAreEnded setup h
   waiting-are-ended = waiting-have (IsEndedSpan setup h) (desk_events setup h) a
 
@@ -150,24 +171,29 @@ module _ (setup : Setup) (h : List Answered) (a : AreOf (ended_by setup h) (desk
   batches-are-ended number = batch-has (IsEndedSpan setup h) (desk_events setup h) number a
 
   pub drops-name-ended : DropsNameEnded setup h
-  drops-name-ended = gather-names (IsEndedSpan setup h) (NamesEndedSpan setup h) (λ r s e. (s, e, refl)) [] (desk_events setup h) tt a
+  drops-name-ended =
+      gather-names (IsEndedSpan setup h) (NamesEndedSpan setup h) named entries_by (drop-names (IsEndedSpan setup h) (NamesEndedSpan setup h) named) [] (desk_events setup h) tt a
 
--- ---- the ledger
+  pub losses-name-ended : LossesNameEnded setup h
+  losses-name-ended =
+      gather-names (IsEndedSpan setup h) (NamesEndedSpan setup h) named losses_by (loss-names (IsEndedSpan setup h) (NamesEndedSpan setup h) named) [] (desk_events setup h) tt a
+
+-- ---- the ledgers
 
 abbrev NotPopped : Option DeskEvent → Type 0
 NotPopped None = Unit {0}
-NotPopped (Some y) = is_popped y ≡ false
+NotPopped (Some y) = (is_popped y ≡ false) × (is_popped_lost y ≡ false)
 
 never-popped : (step : Step) → EventCases step (λ a o. NotPopped o)
 never-popped step = record {
   of_queued = λ n o. by-queued o;
   of_full = λ n o. by-full o;
-  of_late = refl;
-  of_flush = refl;
-  of_shutdown = refl;
-  of_taken = λ n s. refl;
+  of_late = (refl, refl);
+  of_flush = (refl, refl);
+  of_shutdown = (refl, refl);
+  of_taken = λ n s. (refl, refl);
   of_encoded = λ n s. tt;
-  of_dropped = λ n r. refl;
+  of_dropped = λ n r. (refl, refl);
   of_sent = λ n attempt outcome. by-handed (attempt == 1);
   of_replied = λ n next. by-settled (fate_of next);
   of_other = λ a s. tt;
@@ -175,31 +201,44 @@ never-popped step = record {
   where
     by-queued : (o : Option EndedSpan) → NotPopped (option_map desk.queued o)
     by-queued None = tt
-    by-queued (Some s) = refl
+    by-queued (Some s) = (refl, refl)
 
     by-full : (o : Option EndedSpan) → NotPopped (option_map desk.full o)
     by-full None = tt
-    by-full (Some s) = refl
+    by-full (Some s) = (refl, refl)
 
     by-handed : (b : Bool) → NotPopped (if b then Some desk.handed else None)
-    by-handed true = refl
+    by-handed true = (refl, refl)
     by-handed false = tt
 
     by-settled : (o : Option Fate) → NotPopped (option_map desk.settled o)
     by-settled None = tt
-    by-settled (Some f) = refl
+    by-settled (Some f) = (refl, refl)
 
-events-pop-none : (setup : Setup) (before h : List Answered) → list_any is_popped (events_behind setup before h) ≡ false
-events-pop-none setup before [] = refl
-events-pop-none setup before (x ∷ h) = by (event_by setup before x.answer x.step) (by-event setup before x.step (λ a o. NotPopped o) (never-popped x.step) x.answer) (events-pop-none setup (before ++ x ∷ []) h)
+-- no step takes a name off a ledger
+events-pop-none : (pops : DeskEvent → Bool) → ((o : Option DeskEvent) → NotPopped o → (y : DeskEvent) → o ≡ Some y → pops y ≡ false) → (setup : Setup) (before h : List Answered) → list_any pops (events_behind setup before h) ≡ false
+events-pop-none pops none setup before [] = refl
+events-pop-none pops none setup before (x ∷ h) = by (event_by setup before x.answer x.step) (by-event setup before x.step (λ a o. NotPopped o) (never-popped x.step) x.answer) (events-pop-none pops none setup (before ++ x ∷ []) h)
   where
-    by : (o : Option DeskEvent) → NotPopped o → list_any is_popped (events_behind setup (before ++ x ∷ []) h) ≡ false → list_any is_popped (cons_option o (events_behind setup (before ++ x ∷ []) h)) ≡ false
+    by : (o : Option DeskEvent) → NotPopped o → list_any pops (events_behind setup (before ++ x ∷ []) h) ≡ false → list_any pops (cons_option o (events_behind setup (before ++ x ∷ []) h)) ≡ false
     by None p rest = rest
-    by (Some y) p rest = rw (p, rest) refl
+    by (Some y) p rest = rw (none (Some y) p y refl, rest) refl
+
+not-popped : (o : Option DeskEvent) → NotPopped o → (y : DeskEvent) → o ≡ Some y → is_popped y ≡ false
+not-popped None p y e = cc
+not-popped (Some z) p y e = let same : z ≡ y = cc in ap is_popped (sym same) ∙ p.0
+
+not-popped-lost : (o : Option DeskEvent) → NotPopped o → (y : DeskEvent) → o ≡ Some y → is_popped_lost y ≡ false
+not-popped-lost None p y e = cc
+not-popped-lost (Some z) p y e = let same : z ≡ y = cc in ap is_popped_lost (sym same) ∙ p.1
 
 pub ledger-names-the-dropped : (run : RunConfig) (h : List Answered) → LedgerNamesTheDropped run h
 unfolding desk_after desk_of desk_events
-ledger-names-the-dropped run h = ledger-names (events_behind run.setup [] h) (events-pop-none run.setup [] h)
+ledger-names-the-dropped run h = ledger-names (events_behind run.setup [] h) (events-pop-none is_popped not-popped run.setup [] h)
+
+pub ledger-names-the-lost : (run : RunConfig) (h : List Answered) → LedgerNamesTheLost run h
+unfolding desk_after desk_of desk_events
+ledger-names-the-lost run h = lost-names-all (events_behind run.setup [] h) (events-pop-none is_popped_lost not-popped-lost run.setup [] h)
 
 -- ---- without refusals
 

@@ -7,10 +7,10 @@ use Rattle.span_model.specs.Attributes.{last_or}
 use Rattle.drop_model.specs.Dropped.{Reason, queue_full, encode_memory, too_large, Entry, entry_of}
 use Rattle.span_model.specs.Sampling.{is_sampled}
 use Rattle.span_model.specs.Spans.{EndedSpan, is_end}
-use Rattle.retry_model.specs.Retries.{Outcome, Next, again, give_up}
-use Rattle.desk_model.specs.Queue.{waiting_spans, batch_spans, last_spans, handed_spans, drops}
+use Rattle.retry_model.specs.Retries.{Outcome, Next, again, give_up, fate_of}
+use Rattle.desk_model.specs.Queue.{waiting_spans, batch_spans, last_spans, handed_spans, drops, lost_as, losses}
 use Rattle.desk_model.specs.Desks.{is_due, AreAllowed}
-use Rattle.desk_laws.specs.Queues.{times}
+use Rattle.desk_laws.specs.Queues.{times, AreApart}
 use Rattle.retry_model.specs.Waits.{IsRetryConfig, next_after}
 use Rattle.history_model.specs.Steps.{Step, is_shutdown}
 use Rattle.history_model.specs.History.{Setup, ended_spans, granted_steps}
@@ -275,6 +275,34 @@ abbrev pub LedgerNamesTheDropped : RunConfig → List Answered → Type 0
 LedgerNamesTheDropped run history =
     (desk_after run history).ledger ≡ reverse (drops (desk_events run.setup history))
 
+-- ---- what is lost
+
+-- the names of the spans of the batch that is out, where they are lost by this answer
+abbrev pub lost_by : Answer → List EndedSpan → List Entry
+lost_by (replied number next) spans = lost_as (fate_of next) spans
+lost_by _ spans = []
+
+-- Where a reply settles the batch that is out, and its fate is that it was refused or given up, or
+-- that its reply could not be read, its spans are lost for that reason, in their order. At no other
+-- step, and by no other fate, one is. (profile)
+abbrev pub BatchesAreLost : Setup → List Answered → Type 0
+BatchesAreLost setup = AtEachStep (λ before x.
+    let events = desk_events setup before in
+    losses (desk_events setup (before ++ x ∷ []))
+    ≡ losses events ++ lost_by x.answer (last_spans events))
+
+-- A span that is lost was handed to the exporter, and is lost once. (profile)
+abbrev pub LostWereHanded : Setup → List Answered → Type 0
+LostWereHanded setup history =
+    (ticket : ℕ) → let events = desk_events setup history in
+    let lost = times ticket (map (λ e. e.ticket) (losses events)) in
+    (lost ≤ times ticket (map (λ s. s.ticket) (handed_spans events))) × (lost ≤ 1)
+
+-- The second ledger names the spans that were lost, the newest first. (profile)
+abbrev pub LedgerNamesTheLost : RunConfig → List Answered → Type 0
+LedgerNamesTheLost run history =
+    (desk_after run history).lost ≡ reverse (losses (desk_events run.setup history))
+
 -- ---- values
 
 -- The span has the value and the ticket with which it ended.
@@ -301,6 +329,20 @@ BatchesAreEnded setup history =
 abbrev pub DropsNameEnded : Setup → List Answered → Type 0
 DropsNameEnded setup history =
     AllByRecursion (NamesEndedSpan setup history) (drops (desk_events setup history))
+
+abbrev pub LossesNameEnded : Setup → List Answered → Type 0
+LossesNameEnded setup history =
+    AllByRecursion (NamesEndedSpan setup history) (losses (desk_events setup history))
+
+-- All of it: a span is in the second ledger exactly where its batch was handed and came to nothing,
+-- once, with that reason, its ticket and its identifiers. No dropped span has a reason of lost ones,
+-- and each lost one has. (profile)
+pub record LossesAreNamed (run : RunConfig) (history : List Answered) : Type 0 where
+  pub batches : BatchesAreLost run.setup history
+  pub handed : LostWereHanded run.setup history
+  pub values : LossesNameEnded run.setup history
+  pub ledger : LedgerNamesTheLost run history
+  pub apart : AreApart (desk_events run.setup history)
 
 -- Where no memory was refused, the spans that end are those that the steps end. (Trace API, End)
 abbrev pub EndedByTheSteps : Setup → List Answered → Type 0

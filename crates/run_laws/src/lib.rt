@@ -6,7 +6,7 @@ ghost use Rattle.std.specs.Prelude.{List};
 ghost use Rattle.run_model.specs.Runs.{Answered};
 ghost use Rattle.run_model.specs.Answers.{RunConfig};
 ghost use Rattle.run_model.specs.Headline.{EachOnce, attempts, AreNumbered};
-ghost use Rattle.run_laws.specs.Laws.{OfHistories, OfRuns, LateBehindShutdown, DroppedWhereFull, QueuedWhereRoom, TakenWhereDue, TakesTheFirst, TakenBehindShutdown, OneBatchIsOut, EncodedWhereItFits, DroppedUnencoded, DroppedBatchIsNamed, AttemptsAreNumbered, AttemptsAreFew, AttemptsAreFiveAtMost, OfSettings, NoAttemptIsEarly, RepliesAreDecided, EndedSpansStay, EndedAreFew, EventsAreAllowed, NoneUnaccountedFor, IsAllowed, HandedAreTheBatches, HandedAreNotDropped, LedgerNamesTheDropped, WaitingAreEnded, BatchesAreEnded, DropsNameEnded, EndedByTheSteps};
+ghost use Rattle.run_laws.specs.Laws.{OfHistories, OfRuns, LateBehindShutdown, DroppedWhereFull, QueuedWhereRoom, TakenWhereDue, TakesTheFirst, TakenBehindShutdown, OneBatchIsOut, EncodedWhereItFits, DroppedUnencoded, DroppedBatchIsNamed, AttemptsAreNumbered, AttemptsAreFew, AttemptsAreFiveAtMost, OfSettings, NoAttemptIsEarly, RepliesAreDecided, EndedSpansStay, EndedAreFew, EventsAreAllowed, NoneUnaccountedFor, IsAllowed, HandedAreTheBatches, HandedAreNotDropped, LedgerNamesTheDropped, WaitingAreEnded, BatchesAreEnded, DropsNameEnded, EndedByTheSteps, LossesAreNamed};
 
 /// The first end of a sampled span: behind a shutdown it is late; else it is dropped where the
 /// queue is full, and waits where it isn't. Nothing else is late, dropped there or queued. (Trace
@@ -82,4 +82,10 @@ pub fn queued_spans_are_ended()
     ensures waiting { OfRuns (λ run. WaitingAreEnded run.setup) }
     ensures batches { OfRuns (λ run. BatchesAreEnded run.setup) }
     ensures drops { OfRuns (λ run. DropsNameEnded run.setup) }
+{}
+
+/// The second ledger names the spans of each batch that was handed to the exporter and came to
+/// nothing: each once, with the reason, and as it ended; and no others. (profile)
+pub fn losses_are_named()
+    ensures { OfRuns (λ run history. IsAllowed run history → LossesAreNamed run history) }
 {}

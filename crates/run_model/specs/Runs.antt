@@ -3,7 +3,7 @@
 use Rattle.std.specs.Prelude.{ℕ, ◌==◌, Bool, true, false, not, if◌then◌else◌, List, [], ◌∷◌, ◌++◌, filter_map, take_while, Option, Some, None, option_map, slice_get}
 use Rattle.std.specs.List.{cons_option}
 use Rattle.std.specs.Option.{option_and_then}
-use Rattle.drop_model.specs.Dropped.{Reason, queue_full, encode_memory, too_large, abandoned}
+use Rattle.drop_model.specs.Dropped.{Reason, queue_full, encode_memory, too_large, abandoned, refused, bad_reply, given_up, left_handed}
 use Rattle.span_model.specs.Spans.{Call, EndedSpan, with_ticket}
 use Rattle.span_model.specs.Starts.{Ids, StartedSpan}
 use Rattle.retry_model.specs.Retries.{Outcome, Next, fate_of}
@@ -121,6 +121,10 @@ event_by setup before (ended (handed ticket)) step = None
 event_by setup before (ended (Ended.dropped ticket encode_memory)) step = None
 event_by setup before (ended (Ended.dropped ticket too_large)) step = None
 event_by setup before (ended (Ended.dropped ticket abandoned)) step = None
+event_by setup before (ended (Ended.dropped ticket (refused status))) step = None
+event_by setup before (ended (Ended.dropped ticket bad_reply)) step = None
+event_by setup before (ended (Ended.dropped ticket given_up)) step = None
+event_by setup before (ended (Ended.dropped ticket left_handed)) step = None
 -- The others do nothing there.
 event_by setup before (ended not_sampled) step = None
 event_by setup before (ended already_ended) step = None
