@@ -1,14 +1,15 @@
 -- What each call of a desk makes of a history, by what it leaves of the desk.
-use Rattle.std.proofs.Common.{◌≡◌, refl, sym, ap, ◌∙◌, subst, ℕ, ◌+◌, ◌<◌, min, Bool, true, false, not, List, [], ◌∷◌, ◌++◌, length, take, drop, Option, Some, None}
-use Rattle.std.specs.Prelude.{map, option_map, reverse}
+use Rattle.std.proofs.Common.{◌≡◌, refl, sym, ap, ◌∙◌, subst, ℕ, ◌+◌, ◌<◌, ◌≤◌, arith, min, Bool, true, false, not, List, [], ◌∷◌, ◌++◌, length, take, drop, Option, Some, None}
+use Rattle.std.specs.Prelude.{map, option_map, reverse, if◌then◌else◌}
 use Rattle.std.proofs.lemmas.List.{take_min, drop_min, length-map}
 use Rattle.span_model.specs.Spans.{EndedSpan}
-use Rattle.drop_model.specs.Dropped.{Entry, Reason, queue_full, entry_of, is_reason}
+use Rattle.drop_model.specs.Dropped.{Entry, Reason, queue_full, entry_of, can_drop_batch}
 use Rattle.retry_model.specs.Retries.{Fate}
-use Rattle.desk_model.specs.Queue.{queued, full, late, flush, shutdown, handed, settled, popped}
-use Rattle.desk_model.specs.Desks.{DeskConfig, Desk, OutBatch, Does, DropsSpans, IsDesk, TakesSpans, accepted_count, capped, handed_out, is_due, is_in_hand, is_with_exporter, new_desk, out_size, with_drops, with_fate}
-use Rattle.desk_model.proofs.Events.{new_desk_is, queued_does, full_does, late_does, flush_does, shutdown_does, taken_does, handed_does, dropped_does, settled_does, popped_does}
-use Rattle.batch_desk.specs.Desk.{after_drop, after_names, after_take, with_next_ticket}
+use Rattle.desk_model.specs.Queue.{queued, full, late, flush, shutdown, handed, popped, popped_lost, lost_names}
+use Rattle.desk_model.specs.Desks.{DeskConfig, Desk, OutBatch, Does, DropsSpans, IsDesk, SettlesSpans, TakesSpans, accepted_count, capped, handed_out, is_due, is_in_hand, is_with_exporter, new_desk, out_size, with_drops}
+use Rattle.desk_model.proofs.Events.{new_desk_is, queued_does, full_does, late_does, flush_does, shutdown_does, taken_does, handed_does, dropped_does, settled_does, popped_does, popped_lost_does}
+use Rattle.batch_desk.specs.Counts.{handed_size}
+use Rattle.batch_desk.specs.Desk.{after_drop, after_loss, after_names, after_take, with_next_ticket}
 
 pub new_follows : (config : DeskConfig) (made : ℕ) (new : Desk) → new ≡ new_desk config made → IsDesk made [] new
 new_follows config made new e = subst (IsDesk made []) (sym e) (new_desk_is config made)
@@ -40,19 +41,22 @@ module _ (old new : Desk) where
   pub handed_follows : is_in_hand old.out ≡ true → new ≡ record old { out = handed_out old.out; handed = old.handed + out_size old.out } → Does handed old new
   handed_follows a e = subst (λ d. Does handed old d) (sym e) (handed_does old a)
 
-  pub dropped_follows : (reason : Reason) (spans : List EndedSpan) → is_in_hand old.out ≡ true → is_reason queue_full reason ≡ false → new ≡ after_drop reason spans old → DropsSpans reason spans old new
+  pub dropped_follows : (reason : Reason) (spans : List EndedSpan) → is_in_hand old.out ≡ true → can_drop_batch reason ≡ true → new ≡ after_drop reason spans old → DropsSpans reason spans old new
   dropped_follows reason spans a r e = subst (λ d. DropsSpans reason spans old d) (sym e) (dropped_does old reason spans (a, r))
 
-  pub named_follows : (reason : Reason) (entries : List Entry) (spans : List EndedSpan) → is_in_hand old.out ≡ true → is_reason queue_full reason ≡ false → map (entry_of reason) spans ≡ entries → new ≡ after_names reason entries old → DropsSpans reason spans old new
+  pub named_follows : (reason : Reason) (entries : List Entry) (spans : List EndedSpan) → is_in_hand old.out ≡ true → can_drop_batch reason ≡ true → map (entry_of reason) spans ≡ entries → new ≡ after_names reason entries old → DropsSpans reason spans old new
   named_follows reason entries spans a r same e =
       let count : length entries ≡ length spans = sym (ap length same) ∙ length-map spans (entry_of reason) in
       dropped_follows reason spans a r (e ∙ ap (λ names. record old { out = None; ledger = reverse names ++ old.ledger; dropped = with_drops reason (length entries) old.dropped }) (sym same) ∙ ap (λ n. record old { out = None; ledger = reverse (map (entry_of reason) spans) ++ old.ledger; dropped = with_drops reason n old.dropped }) count)
 
-  pub settled_follows : (fate : Fate) → is_with_exporter old.out ≡ true → new ≡ record old { out = None; fates = with_fate fate old.fates } → Does (settled fate) old new
-  settled_follows fate a e = subst (λ d. Does (settled fate) old d) (sym e) (settled_does old fate a)
+  pub settled_follows : (fate : Fate) (entries : List Entry) (spans : List EndedSpan) → is_with_exporter old.out ≡ true → lost_names fate spans ≡ entries → new ≡ after_loss fate entries old → SettlesSpans fate spans old new
+  settled_follows fate entries spans a same e = subst (λ d. SettlesSpans fate spans old d) (sym (e ∙ ap (λ names. after_loss fate names old) (sym same))) (settled_does old fate spans a)
 
   pub popped_follows : new ≡ record old { ledger = drop 1 old.ledger } → Does popped old new
   popped_follows e = subst (λ d. Does popped old d) (sym e) (popped_does old)
+
+  pub popped_lost_follows : new ≡ record old { lost = drop 1 old.lost } → Does popped_lost old new
+  popped_lost_follows e = subst (λ d. Does popped_lost old d) (sym e) (popped_lost_does old)
 
 -- ---- the batch that is out
 
@@ -70,3 +74,14 @@ handed_out-state (Some b) n e = let p : (n, false) ≡ (b.number, b.is_handed) =
 pub is_with_exporter-state : (o : Option OutBatch) (n : ℕ) → option_map {U = ℕ × Bool} (λ (b : OutBatch). (b.number, b.is_handed)) o ≡ Some (n, true) → is_with_exporter o ≡ true
 is_with_exporter-state None n e = cc
 is_with_exporter-state (Some b) n e = let p : (b.number, b.is_handed) ≡ (n, true) = cc in ap (λ (q : ℕ × Bool). q.1) p
+
+-- all its spans are with the exporter
+handed_size-state : (o : Option OutBatch) (n : ℕ) → option_map {U = ℕ × Bool} (λ (b : OutBatch). (b.number, b.is_handed)) o ≡ Some (n, true) → handed_size o ≡ out_size o
+handed_size-state None n e = cc
+handed_size-state (Some b) n e = let p : (b.number, b.is_handed) ≡ (n, true) = cc in ap (λ (q : ℕ × Bool). if q.1 then b.size else 0) p
+
+-- no more are lost than were handed, where all of a batch are lost, or none
+pub lost-fits : (o : Option OutBatch) (n count lost sent : ℕ) (loss : Bool) → option_map {U = ℕ × Bool} (λ (b : OutBatch). (b.number, b.is_handed)) o ≡ Some (n, true) → (loss ≡ true → count ≡ out_size o) → (loss ≡ false → count ≡ 0)
+    → lost + handed_size o ≤ sent → lost + count ≤ sent
+lost-fits o n count lost sent true e all none k = omega (arith, handed_size-state o n e, all refl, k)
+lost-fits o n count lost sent false e all none k = omega (arith, none refl, k)

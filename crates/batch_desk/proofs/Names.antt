@@ -2,10 +2,6 @@
 use Rattle.std.proofs.Common.{◌≡◌, ◌≢◌, refl, sym, ap, ◌∙◌, ℕ, zero, suc, ◌+◌, false, List, [], ◌∷◌, ◌++◌, drop, take, append_assoc, Some, add-one}
 use Rattle.std.proofs.lemmas.List.{reverse-append}
 use Rattle.std.specs.Prelude.{map, reverse, slice_get}
-use Rattle.drop_model.specs.Dropped.{queue_full, is_reason}
-use Rattle.otlp_span.specs.Dropped.{reason_view}
-use Rattle.otlp_span.specs.declared.reason.Reason.{Reason}
-use Rattle.otlp_span.specs.declared.reason.Reason.TheVariants.{QueueFull, EncodeMemory, TooLarge, Abandoned}
 
 -- one more is named
 pub names-first : {X Y : Type 0} (f : X → Y) (items rest : List X) (x : X) (below above : List Y) → items ≡ x ∷ rest → above ≡ f x ∷ below
@@ -28,10 +24,3 @@ pub one-moved : {X : Type 0} (before items : List X) (count : ℕ) (x : X) → s
 one-moved before items count x e =
     append_assoc before (take count items) (x ∷ [])
     ∙ ap (λ zs. before ++ zs) (sym (next-taken items count x e) ∙ ap (λ n. take n items) (sym (add-one count)))
-
--- any other reason
-pub not-queue_full : (reason : Reason) → reason ≢ QueueFull → is_reason queue_full (reason_view reason) ≡ false
-not-queue_full QueueFull h = absurd (h refl)
-not-queue_full EncodeMemory h = refl
-not-queue_full TooLarge h = refl
-not-queue_full Abandoned h = refl

@@ -1,7 +1,9 @@
--- What a contract sees of a `Batch` and of a `NamedBatch`.
+-- What a contract sees of a `Batch`, of a `NamedBatch` and of a `SettledBatch`.
 use Rattle.std.specs.Prelude.{ℕ, List, map}
 use Rattle.span_model.specs.Spans.{EndedSpan}
 use Rattle.drop_model.specs.Dropped.{Entry, Reason, entry_of}
+use Rattle.retry_model.specs.Retries.{Fate}
+use Rattle.desk_model.specs.Queue.{lost_names}
 
 -- its number, its spans in queue order, and how many it has room for
 pub record BatchView : Type 0 where
@@ -23,5 +25,22 @@ named_batch reason batch = record {
   number = batch.number;
   entries = map (entry_of reason) batch.spans;
   reason = reason;
+  room = batch.room;
+}
+
+-- its number, the names of its spans in queue order where they are lost, how it ended, and how many
+-- it had room for
+pub record SettledView : Type 0 where
+  pub number : ℕ
+  pub entries : List Entry
+  pub fate : Fate
+  pub room : ℕ
+
+-- this batch, its spans named where they are lost by this fate
+abbrev pub settled_batch : Fate → BatchView → SettledView
+settled_batch fate batch = record {
+  number = batch.number;
+  entries = lost_names fate batch.spans;
+  fate = fate;
   room = batch.room;
 }

@@ -1,5 +1,5 @@
 -- How the counts of a desk hang together.
-use Rattle.std.specs.Prelude.{◌≡◌, ℕ, ◌+◌, ◌-◌, ◌^◌, ◌<◌, ◌≤◌, true, false, length, Option, None, Some}
+use Rattle.std.specs.Prelude.{◌≡◌, ℕ, ◌+◌, ◌-◌, ◌^◌, ◌<◌, ◌≤◌, true, false, if◌then◌else◌, length, Option, None, Some}
 use Rattle.desk_model.specs.Desks.{Desk, FateCounts, OutBatch, accepted_count, in_hand_size, out_size, worker_drops}
 
 -- how many batches are out
@@ -7,11 +7,17 @@ abbrev pub out_count : Option OutBatch → ℕ
 out_count None = 0
 out_count (Some batch) = 1
 
+-- how many spans are with the exporter
+abbrev pub handed_size : Option OutBatch → ℕ
+handed_size None = 0
+handed_size (Some batch) = if batch.is_handed then batch.size else 0
+
 -- how many batches have ended that were handed
 abbrev pub fate_count : FateCounts → ℕ
 fate_count c = c.delivered + c.partial + c.refused + c.bad_reply + c.given_up + c.abandoned
 
--- What was accepted was taken or waits; what was taken was handed, dropped or is in hand.
+-- What was accepted was taken or waits; what was taken was handed, dropped or is in hand; what is
+-- lost was handed.
 pub record AreCounts (desk : Desk) : Type 0 where
   pub within : length desk.waiting ≤ desk.config.queue
   pub tickets : accepted_count desk + desk.dropped.queue_full ≡ desk.next_ticket
@@ -24,5 +30,7 @@ pub record AreCounts (desk : Desk) : Type 0 where
       ≡ desk.handed + worker_drops desk.dropped + in_hand_size desk.out
   pub out : out_size desk.out ≤ desk.taken
   pub ledger : length desk.ledger ≤ desk.dropped.queue_full + worker_drops desk.dropped
+  pub lost : length desk.lost ≤ desk.lost_count
+  pub lost_handed : desk.lost_count + handed_size desk.out ≤ desk.handed
   pub batches : desk.batches ≤ desk.taken
   pub fates : fate_count desk.fates + out_count desk.out ≤ desk.batches

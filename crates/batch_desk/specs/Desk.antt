@@ -2,8 +2,9 @@
 use Rattle.std.specs.Prelude.{◌≡◌, ℕ, ◌+◌, ◌-◌, ◌^◌, ◌==◌, Bool, true, false, if◌then◌else◌, List, [], ◌∷◌, ◌++◌, length, take, drop, map, reverse, min, Option, None, Some, option_map}
 use Rattle.span_model.specs.Spans.{EndedSpan, with_ticket}
 use Rattle.drop_model.specs.Dropped.{Entry, Reason, queue_full, entry_of}
+use Rattle.retry_model.specs.Retries.{Fate}
 use Rattle.desk_model.specs.Queue.{DeskEvent, queued, full, late}
-use Rattle.desk_model.specs.Desks.{DeskConfig, Desk, with_drops, capped}
+use Rattle.desk_model.specs.Desks.{DeskConfig, Desk, with_drops, with_fate, capped, is_loss, out_size}
 use Rattle.batch_desk.specs.Batch.{BatchView, NamedView}
 use Rattle.batch_desk.specs.declared.admitted.Admitted.{Admitted}
 use Rattle.batch_desk.specs.declared.admitted.Admitted.TheVariants as admitted
@@ -103,4 +104,21 @@ after_names reason entries desk = record desk {
   out = None;
   ledger = reverse entries ++ desk.ledger;
   dropped = with_drops reason (length entries) desk.dropped;
+}
+
+-- Whether the batch of this number, which has room for so many spans, and of which so many are
+-- there, can be settled with this fate: it is out and was handed, and where its spans are lost, none
+-- of them was let go.
+pub record CanSettle (desk : Desk) (fate : Fate) (number room count : ℕ) : Type 0 where
+  pub out : out_state desk ≡ Some (number, true)
+  pub fits : room ≡ desk.config.batch
+  pub whole : is_loss fate ≡ true → count ≡ out_size desk.out
+
+-- the desk after the batch that is out is settled, of whose lost spans these are the names
+abbrev pub after_loss : Fate → List Entry → Desk → Desk
+after_loss fate entries desk = record desk {
+  out = None;
+  lost = reverse entries ++ desk.lost;
+  lost_count = desk.lost_count + length entries;
+  fates = with_fate fate desk.fates;
 }

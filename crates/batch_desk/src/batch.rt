@@ -1,16 +1,21 @@
-ghost use Rattle.std.specs.Prelude.{◌≡◌, ◌≢◌, ◌≤◌, ◌+◌, ◌-◌, ◌++◌, [], length, take, vec_capacity, vec_len};
+ghost use Rattle.std.specs.Prelude.{◌≡◌, true, ◌≤◌, ◌+◌, ◌-◌, ◌++◌, [], length, take, vec_capacity, vec_len};
 ghost use Rattle.otlp_span.specs.Dropped.{reason_view};
-ghost use Rattle.batch_desk.specs.Batch.{named_batch};
+ghost use Rattle.drop_model.specs.Dropped.{can_drop_batch};
+ghost use Rattle.retry_core.specs.Retries.{fate_view};
+ghost use Rattle.batch_desk.specs.Batch.{named_batch, settled_batch};
 
 use crate::named::{NamedBatch, names_of};
+use crate::settled::{SettledBatch, loss_reason};
+use drop_ledger::Ledger;
 use otlp_span::{Reason, SpanData};
+use retry_core::Fate;
 use span_ring::Run;
 use std::alloc::{Allocator, Global};
 use std::marker::Model;
 
 /// Spans that were taken from the queue together, in its order (Trace SDK, "Batching processor").
-/// It isn't let go: it goes back to its desk, by `Desk::drop_batch`, `Desk::drop_named` or
-/// `Desk::settle`.
+/// It isn't let go: it goes back to its desk, by `Desk::drop_batch`, `Desk::drop_named`,
+/// `Desk::settle` or `Desk::settle_named`.
 #[derive_where(Debug)]
 pub struct Batch<A: Allocator = Global> {
     pub(crate) number: u64,
@@ -60,10 +65,10 @@ impl<A: Allocator> Batch<A> {
 
     /// Names its spans, in their order, each as dropped for this reason, and frees all else of
     /// them: so that the batch is dropped under a lock without that (`Desk::drop_named`). The
-    /// reason isn't `QueueFull`, which is that of spans that end where the queue is full. It takes
-    /// no memory (profile).
+    /// reason is one for which a batch may be dropped (`Reason::can_drop_batch`). It takes no
+    /// memory (profile).
     pub fn into_named(self, reason: Reason) -> NamedBatch<A>
-        requires { reason ≢ Reason.QueueFull }
+        requires { can_drop_batch (reason_view reason) ≡ true }
         ensures { result ≡ named_batch (reason_view reason) self }
     {
         let Batch { number, mut run } = self;
@@ -73,6 +78,28 @@ impl<A: Allocator> Batch<A> {
             run,
             names,
             reason,
+        }
+    }
+
+    /// Where this fate means that its spans are lost (`loss_reason`), names them, in their order,
+    /// and frees all else of them; else frees them: so that the batch is settled under a lock
+    /// without that (`Desk::settle_named`). It takes no memory (profile).
+    pub fn into_settled(self, fate: Fate) -> SettledBatch<A>
+        ensures { result ≡ settled_batch (fate_view fate) self }
+    {
+        let Batch { number, mut run } = self;
+        let names = match loss_reason(fate) {
+            Some(reason) => names_of(&mut run, reason),
+            None => {
+                run.clear();
+                Ledger::new()
+            }
+        };
+        SettledBatch {
+            number,
+            run,
+            names,
+            fate,
         }
     }
 

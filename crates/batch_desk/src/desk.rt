@@ -1,13 +1,13 @@
-ghost use Rattle.std.specs.Prelude.{List, ◌≡◌, ◌≢◌, ◌+◌, ◌-◌, ◌^◌, ◌<◌, ◌≤◌, ◌↔◌, ◌⊎◌, ◌&&◌, ◌++◌, ◌∷◌, [], length, drop, map, reverse, true, false, is_some, is_none, option_map, slice_get, if◌then◌else◌, nat_le, ◌*◌, Some, None, IfNone, IfOk, IfSome, IsErrOf, IsTrue};
+ghost use Rattle.std.specs.Prelude.{List, ◌≡◌, ◌+◌, ◌-◌, ◌^◌, ◌<◌, ◌≤◌, ◌↔◌, ◌⊎◌, ◌&&◌, ◌++◌, ◌∷◌, [], length, drop, map, reverse, true, false, is_some, is_none, option_map, slice_get, if◌then◌else◌, nat_le, ◌*◌, Some, None, IfNone, IfOk, IfSome, IsErrOf, IsTrue};
 ghost use Rattle.span_ring.specs.SpanRing.{IsRingSize};
 ghost use Rattle.span_ring.specs.declared.ring.TheConstants.{MAX_QUEUE};
 ghost use Rattle.span_model.specs.Spans.{EndedSpan};
-ghost use Rattle.drop_model.specs.Dropped.{entry_of};
+ghost use Rattle.drop_model.specs.Dropped.{can_drop_batch, entry_of};
 ghost use Rattle.desk_model.specs.Queue as events;
-ghost use Rattle.desk_model.specs.Desks.{Does, DropsSpans, IsDesk, TakesSpans, accepted_count, handed_out, in_hand_size, is_due, is_flushed, new_desk, out_size, with_fate, worker_drops};
+ghost use Rattle.desk_model.specs.Desks.{Does, DropsSpans, IsDesk, SettlesSpans, TakesSpans, accepted_count, after_settled, handed_out, in_hand_size, is_due, is_flushed, new_desk, out_size, worker_drops};
 ghost use Rattle.otlp_span.specs.Dropped.{entry_view, reason_view};
 ghost use Rattle.retry_core.specs.Retries.{fate_view};
-ghost use Rattle.batch_desk.specs.Desk.{IsNamedOut, IsOut, admission, admission_event, after_admission, after_drop, after_names, after_take, is_queued, next_batch, out_state};
+ghost use Rattle.batch_desk.specs.Desk.{CanSettle, IsNamedOut, IsOut, admission, admission_event, after_admission, after_drop, after_loss, after_names, after_take, is_queued, next_batch, out_state};
 ghost use Rattle.drop_ledger.specs.Counts.{drop_counts_view};
 ghost use Rattle.batch_desk.specs.Views.{config_view, fate_counts_view, out_view};
 
@@ -16,6 +16,7 @@ use crate::batch::Batch;
 use crate::config::DeskConfig;
 use crate::mark::Mark;
 use crate::named::{NamedBatch, name_span};
+use crate::settled::{SettledBatch, loss_reason};
 use crate::totals::{FateCounts, Totals};
 use drop_ledger::{DropCounts, Ledger};
 use otlp_span::{Entry, Reason, SpanData, SpanRemains};
@@ -34,12 +35,14 @@ struct TakenBatch {
 }
 
 /// The queue of a batch processor (Trace SDK, "Batching processor"), with the batch that is out,
-/// the ledger of dropped spans, and counts. After `new` no call takes memory.
+/// the ledgers of dropped and of lost spans, and counts. After `new` no call takes memory.
 #[derive(Drop)]
 #[derive_where(Debug)]
 pub struct Desk<A: Allocator = Global> {
     ring: SpanRing<SpanData<A>, A>,
+    // The names of dropped spans, and those of lost spans.
     ledger: Ledger<A>,
+    lost: Ledger<A>,
     delay_ms: u32,
     out: Option<TakenBatch>,
     next_ticket: u64,
@@ -49,6 +52,7 @@ pub struct Desk<A: Allocator = Global> {
     batches: u64,
     last_moment: u64,
     handed: u64,
+    lost_count: u64,
     late: u64,
     dropped: DropCounts,
     fates: FateCounts,
@@ -91,6 +95,7 @@ impl<A: Allocator + Copy> Desk<A> {
         Ok(Desk {
             ring,
             ledger: Ledger::new(),
+            lost: Ledger::new(),
             delay_ms: config.delay_ms,
             out: None,
             next_ticket: 0,
@@ -100,6 +105,7 @@ impl<A: Allocator + Copy> Desk<A> {
             batches: 0,
             last_moment: now,
             handed: 0,
+            lost_count: 0,
             late: 0,
             dropped: DropCounts::new(),
             fates: FateCounts::new(),
@@ -262,7 +268,8 @@ impl<A: Allocator> Desk<A> {
     }
 
     /// Counts the spans of the batch with this number as handed to an exporter: it is out, and was
-    /// not handed yet, as `out` tells. From here on they don't enter the ledger (profile).
+    /// not handed yet, as `out` tells. From here on they don't enter the ledger of dropped spans
+    /// (profile).
     pub fn handed(&mut self, number: u64)
         requires { out_state self.old ≡ Some (number, false) }
         ensures desk { self.new ≡ record self.old {
@@ -280,12 +287,44 @@ impl<A: Allocator> Desk<A> {
         });
     }
 
-    /// Whether this batch is out and was handed to an exporter, be it that it was cleared.
-    pub fn can_settle(&self, batch: &Batch<A>) -> bool
-        ensures { IsTrue result ↔ (out_state self.now ≡ Some (batch.now.number, true))
-            × (batch.now.room ≡ self.now.config.batch) }
+    /// Whether this batch can be settled with this fate: it is out and was handed to an exporter,
+    /// and where its spans are lost (`loss_reason`), it wasn't cleared.
+    pub fn can_settle(&self, batch: &Batch<A>, fate: Fate) -> bool
+        ensures { IsTrue result ↔ CanSettle self.now (fate_view fate) batch.now.number
+            batch.now.room (length batch.now.spans) }
     {
-        self.out() == Some((batch.number, true)) && batch.run.room() == self.ring.batch()
+        let there = batch.run.len() as u64;
+        self.is_settleable(fate, batch.number, batch.run.room(), there)
+    }
+
+    /// Whether this batch is out and was handed to an exporter, and where its spans are lost, each
+    /// is named.
+    pub fn can_settle_named(&self, batch: &SettledBatch<A>) -> bool
+        ensures { IsTrue result ↔ CanSettle self.now batch.now.fate batch.now.number
+            batch.now.room (length batch.now.entries) }
+    {
+        self.is_settleable(
+            batch.fate,
+            batch.number,
+            batch.run.room(),
+            batch.names.len(),
+        )
+    }
+
+    /// Whether the batch of this number and room, of whose spans so many are there, can be settled
+    /// with this fate.
+    fn is_settleable(&self, fate: Fate, number: u64, room: usize, there: u64) -> bool
+        ensures { IsTrue result ↔ CanSettle self.now (fate_view fate) number room there }
+    {
+        match &self.out {
+            Some(out) => {
+                out.number == number
+                    && out.is_handed
+                    && (loss_reason(fate).is_none() || out.size == there)
+                    && room == self.ring.batch()
+            }
+            None => false,
+        }
     }
 
     /// Whether this batch, whose spans are named, is out and was not handed to an exporter.
@@ -304,12 +343,13 @@ impl<A: Allocator> Desk<A> {
     }
 
     /// Drops this batch, which is out and was not handed, as `is_in_hand` tells: the ledger names
-    /// its spans, in their order, each as dropped for this reason. It isn't `QueueFull`, which is
-    /// that of spans that end where the queue is full (profile). Its spans are freed here; under a
-    /// lock take `drop_named`.
+    /// its spans, in their order, each as dropped for this reason. The reason is one for which a
+    /// batch may be dropped (`Reason::can_drop_batch`): not `QueueFull`, which is that of spans that
+    /// end where the queue is full, nor one of lost spans (profile). Its spans are freed here; under
+    /// a lock take `drop_named`.
     pub fn drop_batch(&mut self, batch: Batch<A>, reason: Reason)
         requires out { IsOut false self.old batch }
-        requires reason { reason ≢ Reason.QueueFull }
+        requires reason { can_drop_batch (reason_view reason) ≡ true }
         ensures desk { self.new ≡ after_drop (reason_view reason) batch.spans self.old }
         ensures history { DropsSpans (reason_view reason) batch.spans self.old self.new }
     {
@@ -338,18 +378,36 @@ impl<A: Allocator> Desk<A> {
         self.out = None;
     }
 
-    /// Ends this batch, which is out and was handed, as `can_settle` tells, and drops the spans
-    /// that it still has: none where it was cleared (`Batch::clear`).
+    /// Ends this batch, which is out and was handed, as `can_settle` tells. Where the fate means
+    /// that its spans are lost (`loss_reason`), the second ledger names them, in their order, each
+    /// with this reason. Its spans are freed here; under a lock take `settle_named`.
     pub fn settle(&mut self, batch: Batch<A>, fate: Fate)
-        requires out { out_state self.old ≡ Some (batch.number, true) }
-        requires room { batch.room ≡ self.old.config.batch }
-        ensures desk { self.new ≡ record self.old {
-          out = None;
-          fates = with_fate (fate_view fate) self.old.fates;
-        } }
-        ensures history { Does (events.settled (fate_view fate)) self.old self.new }
+        requires { CanSettle self.old (fate_view fate) batch.number batch.room
+            (length batch.spans) }
+        ensures desk { self.new ≡ after_settled (fate_view fate) batch.spans self.old }
+        ensures history { SettlesSpans (fate_view fate) batch.spans self.old self.new }
     {
-        let Batch { number: _, run } = batch;
+        self.settle_named(batch.into_settled(fate));
+    }
+
+    /// Ends this batch (`Batch::into_settled`), which is out and was handed, as `can_settle_named`
+    /// tells: the names of its lost spans go onto the second ledger, in their order. No span is
+    /// freed, and no memory is taken (profile).
+    pub fn settle_named(&mut self, batch: SettledBatch<A>)
+        requires { CanSettle self.old batch.fate batch.number batch.room (length batch.entries) }
+        ensures desk { self.new ≡ after_loss batch.fate batch.entries self.old }
+        ensures history { (spans : List EndedSpan)
+            → events.lost_names batch.fate spans ≡ batch.entries
+            → SettlesSpans batch.fate spans self.old self.new }
+    {
+        let SettledBatch {
+            number: _,
+            run,
+            names,
+            fate,
+        } = batch;
+        self.lost_count += names.len();
+        self.lost.append_reversed(names);
         self.ring.give_back(run);
         self.out = None;
         self.fates.add(fate);
@@ -379,6 +437,23 @@ impl<A: Allocator> Desk<A> {
         &self.ledger
     }
 
+    /// Takes the newest entry out of the ledger of lost spans. The totals still count its span.
+    pub fn pop_lost(&mut self) -> Option<Entry>
+        ensures newest { option_map entry_view result ≡ slice_get self.old.lost 0 }
+        ensures desk { self.new ≡ record self.old { lost = drop 1 self.old.lost } }
+        ensures history { Does events.popped_lost self.old self.new }
+    {
+        self.lost.pop()
+    }
+
+    /// The names of the lost spans, but for those that were popped: of each batch that was handed
+    /// and came to nothing (profile).
+    pub fn lost(&self) -> &Ledger<A>
+        ensures { result.now ≡ self.now.lost }
+    {
+        &self.lost
+    }
+
     /// How many spans wait.
     pub fn waiting(&self) -> usize
         ensures { result ≡ length self.now.waiting }
@@ -398,6 +473,7 @@ impl<A: Allocator> Desk<A> {
         ensures accepted { result.accepted ≡ accepted_count self.now }
         ensures taken { result.taken ≡ self.now.taken }
         ensures handed { result.handed ≡ self.now.handed }
+        ensures lost { result.lost ≡ self.now.lost_count }
         ensures left { result.left ≡ length self.now.waiting }
         ensures late { result.late ≡ self.now.late }
         ensures dropped { drop_counts_view result.dropped ≡ self.now.dropped }
@@ -405,16 +481,18 @@ impl<A: Allocator> Desk<A> {
         ensures closed { result.closed ≡ self.now.closed }
 
         // What was accepted was taken or is left, and what was taken was handed, was dropped with
-        // its batch, or is in hand.
+        // its batch, or is in hand. What is lost was handed.
         ensures accepted_sum { result.accepted ≡ result.taken + result.left }
         ensures taken_sum { result.taken ≡ result.handed + worker_drops self.now.dropped
             + in_hand_size self.now.out }
+        ensures lost_within { result.lost ≤ result.handed }
     {
         let left = self.ring.len() as u64;
         Totals {
             accepted: self.taken + left,
             taken: self.taken,
             handed: self.handed,
+            lost: self.lost_count,
             left,
             late: self.late,
             dropped: self.dropped,

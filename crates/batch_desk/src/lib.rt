@@ -12,6 +12,7 @@ mod config;
 mod desk;
 mod mark;
 mod named;
+mod settled;
 mod totals;
 
 pub use admitted::Admitted;
@@ -20,4 +21,5 @@ pub use config::DeskConfig;
 pub use desk::Desk;
 pub use mark::Mark;
 pub use named::NamedBatch;
+pub use settled::{SettledBatch, loss_reason};
 pub use totals::{FateCounts, Totals};

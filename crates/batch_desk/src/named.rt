@@ -20,8 +20,8 @@ pub struct NamedBatch<A: Allocator = Global> {
 }
 
 impl<A: Allocator> Model for NamedBatch<A> {
-    ghost use Rattle.std.specs.Prelude.{◌≡◌, [], false};
-    ghost use Rattle.drop_model.specs.Dropped.{is_reason, queue_full};
+    ghost use Rattle.std.specs.Prelude.{◌≡◌, [], true};
+    ghost use Rattle.drop_model.specs.Dropped.{can_drop_batch};
     ghost use Rattle.otlp_span.specs.Dropped.{reason_view};
     ghost use Rattle.batch_desk.specs.Batch.{NamedView};
 
@@ -35,7 +35,7 @@ impl<A: Allocator> Model for NamedBatch<A> {
     } };
 
     ghost invariant = { λ b. (b.run.items ≡ [])
-        × (is_reason queue_full (reason_view b.reason) ≡ false) };
+        × (can_drop_batch (reason_view b.reason) ≡ true) };
 }
 
 impl<A: Allocator> NamedBatch<A> {

@@ -65,6 +65,10 @@ pub struct Totals {
     pub taken: u64,
     /// Spans of batches that were handed to an exporter.
     pub handed: u64,
+    /// Spans of handed batches that are lost: these were refused or given up, their reply could not
+    /// be read, or who was to send them again has left. Those whose entry was popped from the
+    /// second ledger are counted too; spans that a partial success refused aren't.
+    pub lost: u64,
     /// Spans that wait.
     pub left: u64,
     /// Spans that came behind the shutdown. It stops at 2^64 - 1.

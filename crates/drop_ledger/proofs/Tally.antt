@@ -1,11 +1,11 @@
 -- Counts of the names of a list that grows by one, or shrinks by one.
-use Rattle.std.proofs.Common.{◌≡◌, refl, sym, ap, subst, ◌∙◌, Option, Some, IsTrue, ◌-◌, ℕ, suc, ◌+◌, ◌<◌, ◌≤◌, ◌^◌, List, [], ◌∷◌, ◌++◌, drop, length, cond, arith}
+use Rattle.std.proofs.Common.{◌≡◌, refl, sym, ap, subst, ◌∙◌, Option, Some, IsTrue, ◌-◌, ℕ, suc, ◌+◌, ◌<◌, ◌≤◌, ◌^◌, List, [], ◌∷◌, ◌++◌, drop, length, Bool, true, false, cond, arith}
 use Rattle.std.proofs.lemmas.Bool.{false≢true}
 use Rattle.std.specs.Prelude.{reverse}
 use Rattle.std.proofs.lemmas.List.Sums.{count_by-le-length, sum_by-append, sum_by-cons}
 use Rattle.std.proofs.lemmas.List.Sorted.{IsPermutation-reverse, sum_by-IsPermutation}
 use Rattle.std.proofs.lemmas.List.{length-append, length-reverse}
-use Rattle.drop_model.specs.Dropped.{Reason, Entry, queue_full, encode_memory, too_large, abandoned, count_of_reason, is_reason}
+use Rattle.drop_model.specs.Dropped.{Reason, Entry, queue_full, encode_memory, too_large, abandoned, count_of_reason, is_lost, is_reason}
 use Rattle.desk_model.specs.Desks as model
 use Rattle.desk_model.specs.Desks.{with_drops}
 use Rattle.drop_ledger.specs.declared.counts.DropCounts.{DropCounts}
@@ -13,37 +13,50 @@ use Rattle.otlp_span.specs.Slips.{entries_of, is_named}
 use Rattle.std.specs.Option.{ForSome}
 use Rattle.drop_ledger.specs.Counts.{FitTogether, IsLedger, IsTally, count_in, drop_counts_view, sum_of}
 
+-- one more, where this is so
+abbrev raised : Bool → ℕ → ℕ
+raised true n = n + 1
+raised false n = n
+
+raised-is : (b : Bool) (n : ℕ) → raised b n ≡ cond b 1 0 + n
+raised-is true n = omega arith
+raised-is false n = omega arith
+
+with-one : (added : Reason) (counts : model.DropCounts) → with_drops added 1 counts ≡ record {
+  queue_full = raised (is_reason queue_full added) counts.queue_full;
+  encode_memory = raised (is_reason encode_memory added) counts.encode_memory;
+  too_large = raised (is_reason too_large added) counts.too_large;
+  abandoned = raised (is_reason abandoned added) counts.abandoned;
+}
+with-one queue_full counts = refl
+with-one encode_memory counts = refl
+with-one too_large counts = refl
+with-one abandoned counts = refl
+with-one (Reason.refused status) counts = refl
+with-one Reason.bad_reply counts = refl
+with-one Reason.given_up counts = refl
+with-one Reason.left_handed counts = refl
+
 -- one more is counted for its own reason alone
-count-one_more : (counts : model.DropCounts) (added r : Reason) → count_in (with_drops added 1 counts) r ≡ cond (is_reason r added) 1 0 + count_in counts r
-count-one_more counts queue_full queue_full = omega arith
-count-one_more counts queue_full encode_memory = omega arith
-count-one_more counts queue_full too_large = omega arith
-count-one_more counts queue_full abandoned = omega arith
-count-one_more counts encode_memory queue_full = omega arith
-count-one_more counts encode_memory encode_memory = omega arith
-count-one_more counts encode_memory too_large = omega arith
-count-one_more counts encode_memory abandoned = omega arith
-count-one_more counts too_large queue_full = omega arith
-count-one_more counts too_large encode_memory = omega arith
-count-one_more counts too_large too_large = omega arith
-count-one_more counts too_large abandoned = omega arith
-count-one_more counts abandoned queue_full = omega arith
-count-one_more counts abandoned encode_memory = omega arith
-count-one_more counts abandoned too_large = omega arith
-count-one_more counts abandoned abandoned = omega arith
+count-one_more : (counts : model.DropCounts) (added r : Reason) → is_lost r ≡ false → count_in (with_drops added 1 counts) r ≡ cond (is_reason r added) 1 0 + count_in counts r
+count-one_more counts added queue_full drop = ap (λ c. c.queue_full) (with-one added counts) ∙ raised-is (is_reason queue_full added) counts.queue_full
+count-one_more counts added encode_memory drop = ap (λ c. c.encode_memory) (with-one added counts) ∙ raised-is (is_reason encode_memory added) counts.encode_memory
+count-one_more counts added too_large drop = ap (λ c. c.too_large) (with-one added counts) ∙ raised-is (is_reason too_large added) counts.too_large
+count-one_more counts added abandoned drop = ap (λ c. c.abandoned) (with-one added counts) ∙ raised-is (is_reason abandoned added) counts.abandoned
+count-one_more counts added r drop = cc
 
 count-cons : (r : Reason) (e : Entry) (es : List Entry) → count_of_reason r (e ∷ es) ≡ cond (is_reason r e.reason) 1 0 + count_of_reason r es
 count-cons r e es = sum_by-cons (λ (x : Entry). cond (is_reason r x.reason) 1 0) e es
 
 pub tally-more : (counts : model.DropCounts) (e : Entry) (es : List Entry) → IsTally counts es → IsTally (with_drops e.reason 1 counts) (e ∷ es)
 tally-more counts e es h = record {
-  exact = λ r. count-one_more counts e.reason r ∙ ap (λ n. cond (is_reason r e.reason) 1 0 + n) (h.exact r) ∙ sym (count-cons r e es);
+  exact = λ r drop. count-one_more counts e.reason r drop ∙ ap (λ n. cond (is_reason r e.reason) 1 0 + n) (h.exact r drop) ∙ sym (count-cons r e es);
 }
 
 pub tally-fewer : (counts : model.DropCounts) (e : Entry) (es : List Entry) → IsTally (with_drops e.reason 1 counts) (e ∷ es) → IsTally counts es
 tally-fewer counts e es h = record {
-  exact = λ r. let one = cond (is_reason r e.reason) 1 0 in
-      let more : one + count_in counts r ≡ one + count_of_reason r es = sym (count-one_more counts e.reason r) ∙ h.exact r ∙ count-cons r e es in
+  exact = λ r drop. let one = cond (is_reason r e.reason) 1 0 in
+      let more : one + count_in counts r ≡ one + count_of_reason r es = sym (count-one_more counts e.reason r drop) ∙ h.exact r drop ∙ count-cons r e es in
       omega (arith, more);
 }
 
@@ -75,6 +88,10 @@ count-sum b c queue_full = refl
 count-sum b c encode_memory = refl
 count-sum b c too_large = refl
 count-sum b c abandoned = refl
+count-sum b c (Reason.refused status) = refl
+count-sum b c Reason.bad_reply = refl
+count-sum b c Reason.given_up = refl
+count-sum b c Reason.left_handed = refl
 
 -- as often among the names of two lists, of which one is turned round
 count-turned : (r : Reason) (above below : List Entry) → count_of_reason r (reverse above ++ below) ≡ count_of_reason r below + count_of_reason r above
@@ -86,27 +103,27 @@ count-turned r above below =
 
 tally-turned : (b c : model.DropCounts) (below above : List Entry) → IsTally b below → IsTally c above → IsTally (sum_of b c) (reverse above ++ below)
 tally-turned b c below above h k = record {
-  exact = λ r. let each : count_in b r ≡ count_of_reason r below = h.exact r in
-      let more : count_in c r ≡ count_of_reason r above = k.exact r in
+  exact = λ r drop. let each : count_in b r ≡ count_of_reason r below = h.exact r drop in
+      let more : count_in c r ≡ count_of_reason r above = k.exact r drop in
       omega (arith, count-sum b c r, count-turned r above below, each, more);
 }
 
 -- each reason is counted no more often than there are names
-tally-fits : (b c : model.DropCounts) (below above : List Entry) (r : Reason) → IsTally b below → IsTally c above → length below + length above < 2 ^ 64 → count_in b r + count_in c r < 2 ^ 64
-tally-fits b c below above r h k fits =
+tally-fits : (b c : model.DropCounts) (below above : List Entry) (r : Reason) → is_lost r ≡ false → IsTally b below → IsTally c above → length below + length above < 2 ^ 64 → count_in b r + count_in c r < 2 ^ 64
+tally-fits b c below above r drop h k fits =
     let is_r = λ (x : Entry). is_reason r x.reason in
-    let each : count_in b r ≡ count_of_reason r below = h.exact r in
-    let more : count_in c r ≡ count_of_reason r above = k.exact r in
+    let each : count_in b r ≡ count_of_reason r below = h.exact r drop in
+    let more : count_in c r ≡ count_of_reason r above = k.exact r drop in
     let few : count_of_reason r below ≤ length below = count_by-le-length is_r below in
     let fewer : count_of_reason r above ≤ length above = count_by-le-length is_r above in
     omega (arith, each, more, few, fewer, fits)
 
 pub fit-together : (b c : model.DropCounts) (below above : List Entry) → IsTally b below → IsTally c above → length below + length above < 2 ^ 64 → FitTogether b c
 fit-together b c below above h k fits = record {
-  queue_full = tally-fits b c below above queue_full h k fits;
-  encode_memory = tally-fits b c below above encode_memory h k fits;
-  too_large = tally-fits b c below above too_large h k fits;
-  abandoned = tally-fits b c below above abandoned h k fits;
+  queue_full = tally-fits b c below above queue_full refl h k fits;
+  encode_memory = tally-fits b c below above encode_memory refl h k fits;
+  too_large = tally-fits b c below above too_large refl h k fits;
+  abandoned = tally-fits b c below above abandoned refl h k fits;
 }
 
 -- the ledger after another one was put onto it

@@ -1,11 +1,13 @@
-ghost use Rattle.std.specs.Prelude.{◌≡◌, ◌+◌, ◌^◌, ◌<◌};
+ghost use Rattle.std.specs.Prelude.{◌≡◌, ◌+◌, ◌^◌, ◌<◌, false};
+ghost use Rattle.drop_model.specs.Dropped.{is_lost};
 ghost use Rattle.desk_model.specs.Desks.{no_drops, with_drops};
 ghost use Rattle.otlp_span.specs.Dropped.{reason_view};
 ghost use Rattle.drop_ledger.specs.Counts.{FitTogether, count_in, drop_counts_view, sum_of};
 
 use otlp_span::Reason;
 
-/// How many spans were dropped for each reason (profile).
+/// How many spans were dropped for each reason (profile). Lost spans, whose batch was handed to an
+/// exporter, aren't counted here.
 #[derive(Debug, Clone, Copy, Default, PartialEq, Eq)]
 pub struct DropCounts {
     /// As many waited as the queue holds.
@@ -31,7 +33,7 @@ impl DropCounts {
         }
     }
 
-    /// How many were dropped for this reason.
+    /// How many were dropped for this reason: 0 where it is that of lost spans.
     pub fn of(&self, reason: Reason) -> u64
         ensures { result ≡ count_in (drop_counts_view self.now) (reason_view reason) }
     {
@@ -40,10 +42,11 @@ impl DropCounts {
             Reason::EncodeMemory => self.encode_memory,
             Reason::TooLarge => self.too_large,
             Reason::Abandoned => self.abandoned,
+            _ => 0,
         }
     }
 
-    /// Counts so many more for this reason.
+    /// Counts so many more for this reason: none where it is that of lost spans.
     pub fn add(&mut self, reason: Reason, count: u64)
         requires { count_in (drop_counts_view self.old) (reason_view reason) + count < 2 ^ 64 }
         ensures { drop_counts_view self.new
@@ -54,6 +57,7 @@ impl DropCounts {
             Reason::EncodeMemory => self.encode_memory += count,
             Reason::TooLarge => self.too_large += count,
             Reason::Abandoned => self.abandoned += count,
+            _ => {}
         }
     }
 
@@ -69,9 +73,10 @@ impl DropCounts {
         self.abandoned += others.abandoned;
     }
 
-    /// Counts one less for this reason.
+    /// Counts one less for this reason: for none where it is that of lost spans.
     pub(crate) fn remove(&mut self, reason: Reason)
-        requires { 0 < count_in (drop_counts_view self.old) (reason_view reason) }
+        requires { is_lost (reason_view reason) ≡ false
+            → 0 < count_in (drop_counts_view self.old) (reason_view reason) }
         ensures { drop_counts_view self.old
             ≡ with_drops (reason_view reason) 1 (drop_counts_view self.new) }
     {
@@ -80,6 +85,7 @@ impl DropCounts {
             Reason::EncodeMemory => self.encode_memory -= 1,
             Reason::TooLarge => self.too_large -= 1,
             Reason::Abandoned => self.abandoned -= 1,
+            _ => {}
         }
     }
 }

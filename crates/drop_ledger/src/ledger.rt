@@ -9,9 +9,9 @@ use otlp_span::{Entries, Entry, Reason, Slip};
 use std::alloc::{Allocator, Global};
 use std::marker::Model;
 
-/// The names of dropped spans, the newest first, each on its own span's slip. No call takes memory
-/// (profile). One that is let go is taken apart one name at a time, so that a long one doesn't use
-/// up the stack.
+/// The names of spans that aren't delivered, the newest first, each on its own span's slip. No call
+/// takes memory (profile). A ledger that is let go is taken apart one name at a time, so that a long
+/// one doesn't use up the stack.
 #[derive(Drop)]
 #[derive_where(Debug)]
 pub struct Ledger<A: Allocator = Global> {
@@ -70,11 +70,16 @@ impl<A: Allocator> Ledger<A> {
         self.len == 0
     }
 
-    /// How many spans were dropped for this reason. It walks over no names.
+    /// How many of the names have this reason. Where it is that of lost spans, this walks over all
+    /// names, else over none.
     pub fn count(&self, reason: Reason) -> u64
         ensures { result ≡ count_of_reason (reason_view reason) self.now }
     {
-        self.counts.of(reason)
+        if reason.is_lost() {
+            count_in(self.iter(), self.len, reason)
+        } else {
+            self.counts.of(reason)
+        }
     }
 
     /// The name that was pushed last, if there is one.
@@ -136,6 +141,20 @@ impl<A: Allocator> Ledger<A> {
         self.counts.remove(entry.reason);
         Some(entry)
     }
+}
+
+/// How many of these names, which are so many, have this reason.
+fn count_in<A: Allocator>(entries: Entries<'_, A>, len: u64, reason: Reason) -> u64
+    requires { len ≡ length entries }
+    ensures { result ≡ count_of_reason (reason_view reason) entries.entry }
+{
+    let mut count = 0;
+    for entry in entries {
+        if entry.reason.is(reason) {
+            count += 1;
+        }
+    }
+    count
 }
 
 /// Links the slips of a chain onto another one, the first of them first.

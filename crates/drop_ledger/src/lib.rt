@@ -1,5 +1,5 @@
-//! The names of dropped spans, the newest first. Each is kept on its own span's slip, so that no
-//! memory is taken to name one (profile).
+//! The names of spans that aren't delivered, the newest first. Each is kept on its own span's slip,
+//! so that no memory is taken to name one (profile).
 #![tactic(auto)]
 
 mod counts;

@@ -1,7 +1,9 @@
 //! The body of a trace export (opentelemetry-proto, trace service). One function for each message
 //! puts its fields, in rising number, into a sink: first into one that counts them, then into a
 //! buffer of just that length.
-ghost use Rattle.std.specs.Prelude.{◌≡◌, ◌≢◌, ◌≤◌, ◌<◌, [], IfOk, OnOk, IsErrOf, length};
+ghost use Rattle.std.specs.Prelude.{◌≡◌, ◌≢◌, ◌≤◌, ◌<◌, [], true, IfOk, OnOk, IsErrOf, length};
+ghost use Rattle.drop_model.specs.Dropped.{can_drop_batch};
+ghost use Rattle.otlp_span.specs.Dropped.{reason_view};
 ghost use Rattle.message_model.specs.Reading.{Reads};
 ghost use Rattle.message_model.specs.Tables;
 ghost use Rattle.message_model.specs.Messages.{meaning, body_meaning};
@@ -48,7 +50,7 @@ impl EncodeFault {
     /// Why spans are dropped whose encoding ends so (profile).
     pub fn reason(&self) -> Reason
         ensures is { result ≡ reason_of self.now }
-        ensures not_full { result ≢ Reason.QueueFull }
+        ensures of_batch { can_drop_batch (reason_view result) ≡ true }
     {
         match self {
             EncodeFault::OutOfMemory => Reason::EncodeMemory,

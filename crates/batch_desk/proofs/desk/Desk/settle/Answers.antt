@@ -1,6 +1,10 @@
-use Rattle.std.proofs.Common.{rules}
-use Rattle.batch_desk.proofs.Histories.{is_with_exporter-state, settled_follows}
+use Rattle.std.proofs.Common.{subst, sym, ap, refl, ◌∙◌}
+use Rattle.desk_model.specs.Desks.{SettlesSpans}
+use Rattle.desk_model.specs.Queue.{lost_names}
+use Rattle.retry_core.specs.Retries.{fate_view}
 use Rattle.batch_desk.proofs.desk.Desk.settle.Goals as goal
 
 pub returns-clause-history : goal.returns-clause-history
-returns-clause-history g c = settled_follows _ _ _ (is_with_exporter-state _ c.args.batch.number c.requires.out) (search rules)
+returns-clause-history g c =
+    subst (λ f. SettlesSpans f c.args.batch.spans c.args.self.now c.settle_named.new.self) (ap (λ b. b.fate) c.into_settled.ensures)
+    (c.settle_named.ensures.history c.args.batch.spans (ap (λ b. lost_names b.fate c.args.batch.spans) c.into_settled.ensures ∙ sym (ap (λ b. b.entries) c.into_settled.ensures)))

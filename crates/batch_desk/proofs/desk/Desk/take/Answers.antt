@@ -15,6 +15,8 @@ invariant_of-self g c = record {
     taken = grind (arith, common_steps);
     out = grind (arith, common_steps);
     ledger = grind (arith, common_steps);
+    lost = grind (arith, common_steps);
+    lost_handed = grind (arith, common_steps);
     batches = grind (arith, common_steps);
     fates = grind (arith, common_steps);
   };
