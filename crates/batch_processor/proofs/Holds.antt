@@ -1,14 +1,17 @@
 -- What the calls of the desk do to what the lock keeps.
 use Rattle.std.proofs.Common.{◌≡◌, ℕ, zero, suc, ◌+◌, ◌^◌, ◌<◌, ◌≤◌, Bool, true, false, List, [], ◌∷◌, ◌++◌, length, take, drop, min, sym, refl, ap, ◌∙◌, subst, arith}
-use Rattle.std.specs.Prelude.{Contains, Option, Some, None, Ok, Err, ◌==◌, ◌*◌, ◌&&◌, ◌||◌, nat_le, nat_lt, is_some, if◌then◌else◌, map, reverse, slice_get, option_map}
+use Rattle.std.specs.Prelude.{Contains, IsPermutation, Option, Some, None, Ok, Err, ◌==◌, ◌*◌, ◌&&◌, ◌||◌, nat_le, nat_lt, is_some, if◌then◌else◌, map, reverse, slice_get, option_map}
 use Rattle.std.proofs.lemmas.Bool.{eqb-true, ltb-true}
 use Rattle.std.proofs.lemmas.List.{length-map, length-take}
+use Rattle.std.proofs.lemmas.List.Sorted.{IsPermutation-append_comm}
 use Rattle.account_book.specs.Accounts.{Replaces}
 use Rattle.span_model.specs.Spans.{EndedSpan, with_ticket}
-use Rattle.drop_model.specs.Dropped.{Entry, queue_full, entry_of}
-use Rattle.desk_model.specs.Desks.{Desk, DeskConfig, OutBatch, accepted_count, is_due, is_flushed, with_drops}
-use Rattle.batch_desk.specs.Batch.{BatchView, NamedView}
-use Rattle.batch_desk.specs.Desk.{IsNamedOut, IsOut, admission, after_admission, after_drop, after_names, after_take, next_batch, out_state}
+use Rattle.drop_model.specs.Dropped.{Entry, Reason, queue_full, entry_of}
+use Rattle.retry_model.specs.Retries.{Fate}
+use Rattle.desk_model.specs.Queue.{loss_reason, lost_names, named_as}
+use Rattle.desk_model.specs.Desks.{Desk, DeskConfig, OutBatch, accepted_count, after_settled, is_due, is_flushed, is_loss, out_size, with_drops}
+use Rattle.batch_desk.specs.Batch.{BatchView, NamedView, SettledView}
+use Rattle.batch_desk.specs.Desk.{CanSettle, IsNamedOut, IsOut, admission, after_admission, after_drop, after_loss, after_names, after_take, next_batch, out_state}
 use Rattle.batch_desk.specs.declared.admitted.Admitted.{Admitted}
 use Rattle.batch_desk.specs.declared.admitted.Admitted.TheVariants as admitted
 use Rattle.pass_model.specs.Passes.{PassAccount}
@@ -20,7 +23,7 @@ use Rattle.batch_model.specs.Kept.{Agrees, Kept, shown_out}
 use Rattle.batch_model.proofs.Holding.{agrees_there, origin_there}
 use Rattle.batch_model.proofs.Passes.{full_agrees, late_agrees, queued_agrees}
 use Rattle.batch_model.proofs.Workers.{take_agrees}
-use Rattle.batch_processor.specs.Holds.{Asks, Guarded, InHold, IsBatchSize, IsHandedBatchOf, IsNamedBatchOf, IsTold, Shuts, desk_of}
+use Rattle.batch_processor.specs.Holds.{Asks, Guarded, InHold, IsBatchSize, IsNamedBatchOf, IsSettledBatchOf, IsTold, Shuts, desk_of}
 use Rattle.batch_processor.specs.declared.fault.WorkerLeft.{WorkerLeft}
 use Rattle.batch_processor.specs.declared.pass.Flushed.{Flushed}
 use Rattle.batch_processor.specs.Views.{after_end, ended_of}
@@ -97,34 +100,49 @@ is_out_handed desk passes u batch body k out room = record { out = k.batches.out
 
 -- ---- an entry is popped
 
+first_of : (ledger : List Entry) (entry : Entry) → Some entry ≡ slice_get ledger 0 → ledger ≡ entry ∷ drop 1 ledger
+first_of [] entry e = cc
+first_of (x ∷ ledger) entry e = ap (λ (y : Entry). y ∷ ledger) (let s : x ≡ entry = cc in s)
+
 pub popped_first : (desk desk' : Desk) (entry : Entry) → Some entry ≡ slice_get desk.ledger 0 → desk' ≡ record desk { ledger = drop 1 desk.ledger } → desk.ledger ≡ entry ∷ desk'.ledger
-popped_first desk desk' entry first is = by_list desk.ledger first ∙ ap (λ (l : List Entry). entry ∷ l) (sym (ap (λ (d : Desk). d.ledger) is))
-  where
-    by_list : (ledger : List Entry) → Some entry ≡ slice_get ledger 0 → ledger ≡ entry ∷ drop 1 ledger
-    by_list [] e = cc
-    by_list (x ∷ ledger) e = ap (λ (y : Entry). y ∷ ledger) (let s : x ≡ entry = cc in s)
+popped_first desk desk' entry first is = first_of desk.ledger entry first ∙ ap (λ (l : List Entry). entry ∷ l) (sym (ap (λ (d : Desk). d.ledger) is))
 
 pub popped_is : (desk desk' : Desk) → desk' ≡ record desk { ledger = drop 1 desk.ledger } → desk' ≡ record desk { ledger = desk'.ledger }
 popped_is desk desk' is = is ∙ ap (λ (l : List Entry). record desk { ledger = l }) (sym (ap (λ (d : Desk). d.ledger) is))
 
+-- the same of an entry of the ledger of lost spans
+pub lost_first : (desk desk' : Desk) (entry : Entry) → Some entry ≡ slice_get desk.lost 0 → desk' ≡ record desk { lost = drop 1 desk.lost } → desk.lost ≡ entry ∷ desk'.lost
+lost_first desk desk' entry first is = first_of desk.lost entry first ∙ ap (λ (l : List Entry). entry ∷ l) (sym (ap (λ (d : Desk). d.lost) is))
+
+pub lost_is : (desk desk' : Desk) → desk' ≡ record desk { lost = drop 1 desk.lost } → desk' ≡ record desk { lost = desk'.lost }
+lost_is desk desk' is = is ∙ ap (λ (l : List Entry). record desk { lost = l }) (sym (ap (λ (d : Desk). d.lost) is))
+
 -- ---- what is guarded
 
-pub guarded_some : (o : Option Desk) (left : Bool) (desk : Desk) (g : Guarded) → record { desk = desk_of o; left = left } ≡ g → o ≡ Some desk → g ≡ record { desk = desk; left = left }
-guarded_some o left desk g view is = sym view ∙ ap (λ (x : Option Desk). record { desk = desk_of x; left = left }) is
+pub guarded_some : {spent : List EndedSpan} (o : Option Desk) (left : Bool) (desk : Desk) (g : Guarded) → record { desk = desk_of o; left = left; spent = spent } ≡ g → o ≡ Some desk → g ≡ record { desk = desk; left = left; spent = spent }
+guarded_some {spent} o left desk g view is = sym view ∙ ap (λ (x : Option Desk). record { desk = desk_of x; left = left; spent = spent }) is
 
 -- the desk was changed, and nothing else
-pub desk_changed : (f : Desk → Desk) (o : Option Desk) (left : Bool) (desk desk' : Desk) (g : Guarded) → record { desk = desk_of o; left = left } ≡ g → o ≡ Some desk → desk' ≡ f desk → record { desk = desk'; left = left } ≡ record g { desk = f g.desk }
-desk_changed f o left desk desk' g view is came =
+pub desk_changed : {spent : List EndedSpan} (f : Desk → Desk) (o : Option Desk) (left : Bool) (desk desk' : Desk) (g : Guarded) → record { desk = desk_of o; left = left; spent = spent } ≡ g → o ≡ Some desk → desk' ≡ f desk → record { desk = desk'; left = left; spent = spent } ≡ record g { desk = f g.desk }
+desk_changed {spent} f o left desk desk' g view is came =
     let now = guarded_some o left desk g view is in
-    ap (λ (d : Desk). record { desk = d; left = left }) came ∙ sym (ap (λ (x : Guarded). record x { desk = f x.desk }) now)
+    ap (λ (d : Desk). record { desk = d; left = left; spent = spent }) came ∙ sym (ap (λ (x : Guarded). record x { desk = f x.desk }) now)
 
-pub in_hold : (origin : Origin) (left : Bool) (o : Option Desk) (desk : Desk) (holders : List Holder) (h : Holder) (g : Guarded) → Kept origin left desk holders → Contains holders h → h ≡ pass (account_in h) → record { desk = desk_of o; left = left } ≡ g → o ≡ Some desk → InHold g (account_in h)
+pub in_hold : {spent : List EndedSpan} (origin : Origin) (left : Bool) (o : Option Desk) (desk : Desk) (holders : List Holder) (h : Holder) (g : Guarded) → Kept origin left desk holders → Contains holders h → h ≡ pass (account_in h) → record { desk = desk_of o; left = left; spent = spent } ≡ g → o ≡ Some desk → InHold g (account_in h)
 in_hold origin left o desk holders h g k there is view some = record {
   origin = origin;
   holders = holders;
   kept = subst (λ (x : Guarded). Kept origin x.left x.desk holders) (sym (guarded_some o left desk g view some)) k;
   there = subst (Contains holders) is there;
 }
+
+-- ---- spans that were sent
+
+-- those that lay there and those that are left there are exchanged
+pub exchanged : (sent there sent' there' : List EndedSpan) → sent' ≡ there → there' ≡ sent → IsPermutation (sent ++ there) (sent' ++ there')
+exchanged sent there sent' there' is is' =
+    subst (λ (xs : List EndedSpan). IsPermutation (sent ++ there) (xs ++ there')) (sym is)
+    (subst (λ (xs : List EndedSpan). IsPermutation (sent ++ there) (there ++ xs)) (sym is') (IsPermutation-append_comm sent there))
 
 -- ---- who is woken
 
@@ -137,7 +155,7 @@ out_is_some desk = by_out desk.out
 
 -- ---- what a pass asked for, and what it was answered
 
-pub asks_of : (g : Guarded) (seen desk : Desk) (left : Bool) (h known h' : Holder) (mark : ℕ) → g ≡ record { desk = desk; left = left } → InHold g (account_in h) → known ≡ h → seen ≡ desk → mark ≡ accepted_count desk → h' ≡ on_pass (after_flush seen.next_ticket (accepted_count seen)) known → Asks g mark h h'
+pub asks_of : {spent : List EndedSpan} (g : Guarded) (seen desk : Desk) (left : Bool) (h known h' : Holder) (mark : ℕ) → g ≡ record { desk = desk; left = left; spent = spent } → InHold g (account_in h) → known ≡ h → seen ≡ desk → mark ≡ accepted_count desk → h' ≡ on_pass (after_flush seen.next_ticket (accepted_count seen)) known → Asks g mark h h'
 asks_of g seen desk left h known h' mark is hold same seen_is mark_is told =
     let at : seen ≡ g.desk = seen_is ∙ sym (ap (λ (x : Guarded). x.desk) is) in
     let count : mark ≡ accepted_count g.desk = mark_is ∙ sym (ap (λ (x : Guarded). accepted_count x.desk) is) in record {
@@ -146,7 +164,7 @@ asks_of g seen desk left h known h' mark is hold same seen_is mark_is told =
       account = told ∙ ap (on_pass (after_flush seen.next_ticket (accepted_count seen))) same ∙ ap (λ (d : Desk). on_pass (after_flush d.next_ticket (accepted_count d)) h) at ∙ ap (λ (n : ℕ). on_pass (after_flush g.desk.next_ticket n) h) (sym count);
     }
 
-pub shuts_of : (g : Guarded) (seen desk : Desk) (left : Bool) (h known h' : Holder) (mark : ℕ) → g ≡ record { desk = desk; left = left } → InHold g (account_in h) → known ≡ h → seen ≡ desk → mark ≡ accepted_count desk → h' ≡ on_pass (after_shutdown seen.next_ticket (accepted_count seen)) known → Shuts g mark h h'
+pub shuts_of : {spent : List EndedSpan} (g : Guarded) (seen desk : Desk) (left : Bool) (h known h' : Holder) (mark : ℕ) → g ≡ record { desk = desk; left = left; spent = spent } → InHold g (account_in h) → known ≡ h → seen ≡ desk → mark ≡ accepted_count desk → h' ≡ on_pass (after_shutdown seen.next_ticket (accepted_count seen)) known → Shuts g mark h h'
 shuts_of g seen desk left h known h' mark is hold same seen_is mark_is told =
     let at : seen ≡ g.desk = seen_is ∙ sym (ap (λ (x : Guarded). x.desk) is) in
     let count : mark ≡ accepted_count g.desk = mark_is ∙ sym (ap (λ (x : Guarded). accepted_count x.desk) is) in record {
@@ -190,12 +208,35 @@ module _ (origin : Origin) (left : Bool) (desk : Desk) (holders : List Holder) (
   pub named_drop : (desk' : Desk) → desk' ≡ after_names batch.reason batch.entries desk → desk' ≡ after_drop batch.reason x.spans desk
   named_drop desk' came = came ∙ ap (λ (es : List Entry). after_names batch.reason es desk) x.entries ∙ ap (λ (n : ℕ). record desk { out = None; ledger = reverse (map (entry_of batch.reason) x.spans) ++ desk.ledger; dropped = with_drops batch.reason n desk.dropped }) (length-map x.spans (entry_of batch.reason))
 
-module _ (origin : Origin) (left : Bool) (desk : Desk) (holders : List Holder) (h : Holder) (batch : BatchView) (k : Kept origin left desk holders) (there : Contains holders h) (is : h ≡ worker (origin_in h) (worker_in h)) (x : IsHandedBatchOf h batch) where
-  pub handed_state : out_state desk ≡ Some (batch.number, true)
-  handed_state = state_of origin left desk holders h (record batch { spans = x.spans }) (Some x.body) k there is x.out x.room
+-- a batch whose spans are lost has a name for each
+lost-long : (fate : Fate) (spans : List EndedSpan) → is_loss fate ≡ true → length (lost_names fate spans) ≡ length spans
+lost-long fate spans = by_reason (loss_reason fate)
+  where
+    by_reason : (reason : Option Reason) → is_some reason ≡ true → length (named_as reason spans) ≡ length spans
+    by_reason None is = cc
+    by_reason (Some reason) is = length-map spans (entry_of reason)
 
-  pub handed_room : batch.room ≡ desk.config.batch
-  handed_room = (out_of origin left desk holders h (record batch { spans = x.spans }) (Some x.body) k there is x.out x.room).room
+module _ (origin : Origin) (left : Bool) (desk : Desk) (holders : List Holder) (h : Holder) (batch : SettledView) (k : Kept origin left desk holders) (there : Contains holders h) (is : h ≡ worker (origin_in h) (worker_in h)) (x : IsSettledBatchOf h batch) where
+  abbrev sent_batch : BatchView
+  sent_batch = record { number = batch.number; spans = x.spans; room = batch.room }
+
+  sent_out : IsOut true desk sent_batch
+  sent_out = out_of origin left desk holders h sent_batch (Some x.body) k there is x.out x.room
+
+  pub can_settle : CanSettle desk batch.fate batch.number batch.room (length batch.entries)
+  can_settle = record {
+    out = state_of origin left desk holders h sent_batch (Some x.body) k there is x.out x.room;
+    fits = sent_out.room;
+    whole = λ loss. ap length x.entries ∙ lost-long batch.fate x.spans loss ∙ sym (ap out_size sent_out.out);
+  }
+
+  -- the desk after it is settled, by the spans
+  pub settled_by : (desk' : Desk) → desk' ≡ after_loss batch.fate batch.entries desk → desk' ≡ after_settled batch.fate x.spans desk
+  settled_by desk' came = came ∙ ap (λ (es : List Entry). after_loss batch.fate es desk) x.entries
+
+-- a batch whose spans are not lost has no names, be it that they are freed
+pub none-lost : (fate : Fate) (spans : List EndedSpan) → None ≡ loss_reason fate → lost_names fate spans ≡ []
+none-lost fate spans none = ap (λ (r : Option Reason). named_as r spans) (sym none)
 
 pub some_of : (n : ℕ) → (n ≡ 0 → ⊥) → 1 ≤ n
 some_of zero never = absurd (never refl)

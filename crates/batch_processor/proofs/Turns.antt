@@ -18,7 +18,7 @@ use Rattle.batch_desk.specs.Batch.{BatchView}
 use Rattle.batch_model.specs.Worker.{EndedBatch, OutBatch, WorkerAccount, settled, dropped}
 use Rattle.batch_model.specs.Clauses.{EachLeadsOn, EndByWork, IsByWork, IsOutByWork, IsSent, IsSentSoFar, LeadsTo, Origin, WorksUntilItLeaves, abandon, abandon_out}
 use Rattle.batch_model.specs.Holders.{Holder, after_drained, after_drop, after_handed, after_left, after_settle, after_take, ended_with, handed_with, on_worker, origin_in, settled_with, worker, worker_in}
-use Rattle.batch_processor.specs.Holds.{IsBatchOf, IsBatchSize, IsHandedBatchOf}
+use Rattle.batch_processor.specs.Holds.{IsBatchOf, IsBatchSize, IsSentBatchOf}
 use Rattle.batch_processor.specs.Working.{GoesOn, Hand, HandStage, HasLeft, HasRoom, IsExported, IsPassWith, IsPrepared, IsReady, IsStage, IsWorking, MayBeSent, IsWorkingWith, StepsAside, TakesStep, Work, WorkerState, attempts_by, attempts_from, attempts_of, attempts_out, attempts_with, encoded_at, hand_at, handed_at, in_hand, outcomes_out, pending_at, to_encode, to_judge, to_retry, to_send, with_outcomes, work_in, work_of}
 
 -- ---- attempts
@@ -530,9 +530,8 @@ module _ (state : WorkerState) (batch : BatchView) (body : List ℕ) (o : Outcom
       })
 
 -- the batch in hand is the one that is out
-pub handed_out : (state : WorkerState) (batch : BatchView) (stage : HandStage) (body : List ℕ) → IsWorkingWith state (hand_at batch stage) → handed_at stage ≡ Some body → IsHandedBatchOf (worker state.origin state.account) batch
+pub handed_out : (state : WorkerState) (batch : BatchView) (stage : HandStage) (body : List ℕ) → IsWorkingWith state (hand_at batch stage) → handed_at stage ≡ Some body → IsSentBatchOf (worker state.origin state.account) batch
 handed_out state batch stage body k handed = record {
-  spans = batch.spans;
   body = body;
   out = k.tied.out ∙ ap (λ (b : Option (List ℕ)). Some (record { number = batch.number; spans = batch.spans; body = b; outcomes = [] })) handed;
   room = k.tied.room;

@@ -4,7 +4,8 @@ use Rattle.std.specs.Prelude.{◌≡◌, ℕ, ◌≤◌, ◌==◌, ◌&&◌, ◌
 use Rattle.span_model.specs.Spans.{EndedSpan}
 use Rattle.drop_model.specs.Dropped.{entry_of}
 use Rattle.desk_model.specs.Desks.{Desk, accepted_count, is_due, is_flushed, new_desk}
-use Rattle.batch_desk.specs.Batch.{BatchView, NamedView}
+use Rattle.desk_model.specs.Queue.{lost_names}
+use Rattle.batch_desk.specs.Batch.{BatchView, NamedView, SettledView}
 use Rattle.pass_model.specs.Passes.{PassAccount}
 use Rattle.batch_model.specs.Clauses.{Origin}
 use Rattle.batch_model.specs.Holders.{Holder, account_in, after_flush, after_shutdown, new_origin, on_pass, origin_in, pass, worker_in}
@@ -15,11 +16,12 @@ use Rattle.batch_processor.specs.declared.pass.Flushed.{Flushed}
 
 -- ---- what the lock guards
 
--- The queue, and whether the worker has left. Once the queue was taken out, it is one at which
--- nothing was ever done.
+-- The queue, whether the worker has left, and the spans that were sent and aren't freed yet. Once
+-- the queue was taken out, it is one at which nothing was ever done.
 pub record Guarded : Type 0 where
   pub desk : Desk
   pub left : Bool
+  pub spent : List EndedSpan
 
 abbrev pub no_desk : Desk
 no_desk = new_desk new_origin.desk 0
@@ -96,12 +98,25 @@ pub record IsNamedBatchOf (holder : Holder) (batch : NamedView) : Type 0 where
   pub entries : batch.entries ≡ map (entry_of batch.reason) spans
   pub room : batch.room ≡ (origin_in holder).desk.batch
 
--- The batch is the one that the worker's account has out, which was handed. Its spans may be freed.
-pub record IsHandedBatchOf (holder : Holder) (batch : BatchView) : Type 0 where
+-- The batch is the one that the worker's account has out, which was handed.
+pub record IsSentBatchOf (holder : Holder) (batch : BatchView) : Type 0 where
+  pub body : List ℕ
+  pub out : (worker_in holder).out
+      ≡ Some (record {
+        number = batch.number;
+        spans = batch.spans;
+        body = Some body;
+        outcomes = [];
+      })
+  pub room : batch.room ≡ (origin_in holder).desk.batch
+
+-- The same with its fate, of which all but the names of its lost spans was freed.
+pub record IsSettledBatchOf (holder : Holder) (batch : SettledView) : Type 0 where
   pub spans : List EndedSpan
   pub body : List ℕ
   pub out : (worker_in holder).out
       ≡ Some (record { number = batch.number; spans = spans; body = Some body; outcomes = [] })
+  pub entries : batch.entries ≡ lost_names batch.fate spans
   pub room : batch.room ≡ (origin_in holder).desk.batch
 
 -- A batch has at least one span, and as many as are configured at most.

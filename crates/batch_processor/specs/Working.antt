@@ -1,14 +1,14 @@
 -- What the worker's pass of a batch processor has between two turns, and what a turn does. (Trace
 -- SDK, Batching processor, Span Exporter; OpenTelemetry Protocol Exporter, Retry)
-use Rattle.std.specs.Prelude.{◌≡◌, ℕ, ◌+◌, ◌<◌, ◌≤◌, Bool, true, false, List, [], ◌∷◌, ◌++◌, length, Option, Some, None}
-use Rattle.std.specs.List.{AllByRecursion, flat_map}
+use Rattle.std.specs.Prelude.{◌≡◌, ℕ, ◌<◌, ◌≤◌, Bool, true, false, List, [], ◌∷◌, ◌++◌, length, Option, Some, None}
+use Rattle.std.specs.List.{AllByRecursion}
 use Rattle.span_model.specs.Spans.{EndedSpan}
 use Rattle.retry_model.specs.Retries.{Outcome}
-use Rattle.retry_model.specs.Waits.{RetryConfig, IsRetryConfig}
+use Rattle.retry_model.specs.Waits.{IsRetryConfig}
 use Rattle.retry_core.specs.Retries.{outcome_view}
 use Rattle.span_exporter.specs.Handed.{Handed, Gains, handing}
 use Rattle.batch_desk.specs.Batch.{BatchView}
-use Rattle.batch_model.specs.Worker.{BatchEnd, settled, dropped, EndedBatch, OutBatch, WorkerAccount}
+use Rattle.batch_model.specs.Worker.{OutBatch, WorkerAccount}
 use Rattle.batch_model.specs.Clauses.{EachLeadsOn, EndByWork, IsBodyOf, IsByWork, Origin}
 pub use Rattle.batch_processor.specs.Attempts.{attempts_from, attempts_by, attempts_with, attempts_out, attempts_of, Work, outcomes_out, HasRoom, IsPrepared, GoesOn}
 use Rattle.batch_processor.specs.declared.steps.Stage.{Stage}

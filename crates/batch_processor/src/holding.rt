@@ -139,6 +139,17 @@ impl Change<Holding, Entry> for Pops {
     ghost after = { λ holder entry. on_pass (after_pop (entry_view entry)) holder };
 }
 
+/// A pass pops an entry of the ledger of lost spans.
+pub(crate) struct PopsLost;
+
+impl Change<Holding, Entry> for PopsLost {
+    ghost use Rattle.otlp_span.specs.Dropped.{entry_view};
+    ghost use Rattle.pass_model.specs.Passes.{after_pop_lost};
+    ghost use Rattle.batch_model.specs.Holders.{on_pass};
+
+    ghost after = { λ holder entry. on_pass (after_pop_lost (entry_view entry)) holder };
+}
+
 /// The worker takes a batch.
 pub(crate) struct Takes;
 

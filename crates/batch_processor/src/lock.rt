@@ -1,8 +1,10 @@
 //! The lock of a processor, and who waits for what is done under it.
-ghost use Rattle.std.specs.Prelude.{◌≡◌, ◌≢◌, ℕ, List, true, false, IfNone, IfSome, IsTrue, None};
+ghost use Rattle.std.specs.Prelude.{◌≡◌, ℕ, List, true, false, IfNone, IfSome, IsTrue, None};
 ghost use Rattle.retry_core.specs.Retries.{fate_view};
 ghost use Rattle.otlp_span.specs.Dropped.{reason_view};
-ghost use Rattle.batch_processor.specs.Holds.{IsBatchOf, IsBatchSize, IsHandedBatchOf, WasTold};
+ghost use Rattle.drop_model.specs.Dropped.{can_drop_batch};
+ghost use Rattle.batch_desk.specs.Batch.{settled_batch};
+ghost use Rattle.batch_processor.specs.Holds.{IsBatchOf, IsBatchSize, IsSentBatchOf, WasTold};
 ghost use Rattle.batch_model.specs.Holders.{account_in, after_drained, after_drop, after_left, after_settle, after_take, left_if, on_pass, on_worker, origin_in, pass, worker, worker_in};
 ghost use Rattle.batch_processor.specs.Views.{after_answer, outcomes_view};
 ghost use Rattle.batch_processor.specs.Answers.{AdmitsSpan, IsFlushed, IsShutDown};
@@ -13,7 +15,7 @@ use crate::holding::Holding;
 use crate::pass::Flushed;
 use crate::shared::Shared;
 use account_book::{Account, Naming};
-use batch_desk::{Batch, Mark};
+use batch_desk::{Batch, Mark, SettledBatch, loss_reason};
 use otlp_span::{Reason, SpanData};
 use retry_core::{Fate, Outcome};
 use std::alloc::Allocator;
@@ -187,7 +189,7 @@ impl<J: Naming, A: Allocator + Copy> Lock<J, A> {
     )
         requires worker { account.old ≡ worker (origin_in account.old) (worker_in account.old) }
         requires out { IsBatchOf account.old batch }
-        requires reason { reason ≢ Reason.QueueFull }
+        requires reason { can_drop_batch (reason_view reason) ≡ true }
         ensures { account.new ≡ on_worker (left_if leaves)
             (on_worker (after_drop (reason_view reason)) account.old) }
     {
@@ -198,26 +200,27 @@ impl<J: Naming, A: Allocator + Copy> Lock<J, A> {
     }
 
     /// The worker settles its batch, and leaves by the same hold or doesn't; those who wait are
-    /// called. None of its spans is freed in the hold: they are left to those who end others, or
-    /// freed once it is over. `spent` has none, and neither has what is given back.
+    /// called. In the hold none of its spans is freed or named: lost ones are before it, and others
+    /// are left to those who end spans, or freed once it is over. `spent` has none, and neither has
+    /// what is given back.
     pub(crate) fn settle<R: Wait>(
         &self,
         rt: &R,
         account: &mut Account<J, Holding>,
-        mut batch: Batch<A>,
+        batch: Batch<A>,
         outcomes: &Vec<Outcome, A>,
         fate: Fate,
         leaves: bool,
         mut spent: Vec<SpanData<A>, A>,
     ) -> Vec<SpanData<A>, A>
         requires worker { account.old ≡ worker (origin_in account.old) (worker_in account.old) }
-        requires out { IsHandedBatchOf account.old batch }
+        requires out { IsSentBatchOf account.old batch }
         ensures { account.new ≡ on_worker (left_if leaves) (on_worker
             (after_settle (outcomes_view outcomes.now.items) (fate_view fate)) account.old) }
     {
-        batch.clear_into(&mut spent);
+        let batch = settled_of(batch, fate, &mut spent);
         let mut shared = self.shared.lock(rt);
-        let after = shared.settle(account, batch, outcomes, fate, leaves, spent);
+        let after = shared.settle(account, batch, outcomes, leaves, spent);
         let mut spent = self.end(shared, after);
         spent.clear();
         spent
@@ -231,6 +234,25 @@ impl<J: Naming, A: Allocator + Copy> Lock<J, A> {
         let mut shared = self.shared.lock(rt);
         let after = shared.leave(account);
         self.end(shared, after);
+    }
+}
+
+/// A batch with its fate: where its spans are lost, they are named, and all else of them is freed.
+/// Where they aren't, they are moved to `spent`, or freed where that has no room. It takes no
+/// memory.
+fn settled_of<A: Allocator>(
+    mut batch: Batch<A>,
+    fate: Fate,
+    spent: &mut Vec<SpanData<A>, A>,
+) -> SettledBatch<A>
+    ensures { result ≡ settled_batch (fate_view fate) batch }
+{
+    match loss_reason(fate) {
+        Some(_) => batch.into_settled(fate),
+        None => {
+            batch.clear_into(spent);
+            batch.into_settled(fate)
+        }
     }
 }
 

@@ -1,7 +1,7 @@
 //! The passes of a batch processor.
 ghost use Rattle.std.specs.Prelude.{◌≡◌, IfNone, IfSome};
 ghost use Rattle.otlp_span.specs.Dropped.{entry_view};
-ghost use Rattle.pass_model.specs.Passes.{after_pop};
+ghost use Rattle.pass_model.specs.Passes.{after_pop, after_pop_lost};
 ghost use Rattle.batch_processor.specs.Answers.{IsFlushed, IsShutDown};
 
 use crate::fault::WorkerLeft;
@@ -85,6 +85,17 @@ impl<J: Naming, R: Wait, A: Allocator + Copy> Pass<J, R, A> {
     {
         let Pass { lock, account, rt } = self;
         lock.shared.lock(rt).pop_entry(account)
+    }
+
+    /// Takes the newest entry out of the ledger of lost spans, if there is one: of a batch that was
+    /// handed and came to nothing (profile).
+    pub fn pop_lost(&mut self) -> Option<Entry>
+        ensures some { IfSome result
+            (λ entry. self.new ≡ after_pop_lost (entry_view entry) self.old) }
+        ensures none { IfNone result (self.new ≡ self.old) }
+    {
+        let Pass { lock, account, rt } = self;
+        lock.shared.lock(rt).pop_lost(account)
     }
 }
 

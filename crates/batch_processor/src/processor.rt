@@ -57,7 +57,7 @@ impl<J: Naming, R, A: Allocator> fmt::Debug for BatchProcessor<J, R, A> {
     }
 }
 
-/// What a processor comes to: the desk, with its totals and its ledger.
+/// What a processor comes to: the desk, with its totals and its ledgers of dropped and of lost spans.
 #[derive(Drop)]
 #[derive_where(Debug)]
 pub struct Accounts<A: Allocator = Global> {

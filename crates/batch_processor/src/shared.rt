@@ -1,27 +1,26 @@
 //! What threads share, with the accounts of those who share it. Each call is one hold of the lock.
-ghost use Rattle.std.specs.Prelude.{◌≡◌, ℕ, List, ◌≤◌, ◌&&◌, ◌||◌, not, vec_len, true, false, option_map, drop, IfSome, IfNone, IsTrue, Some, None, [], IfErr, is_some};
-ghost use Rattle.desk_model.specs.Desks.{accepted_count, is_due, with_fate};
-ghost use Rattle.batch_desk.specs.Desk.{admission, after_admission, after_names};
+ghost use Rattle.std.specs.Prelude.{◌≡◌, ℕ, List, ◌≤◌, ◌&&◌, ◌||◌, not, vec_len, true, false, option_map, drop, IfSome, IfNone, IsPermutation, IsTrue, Some, None, [], ◌++◌, IfErr, is_none, is_some, option_to_list};
+ghost use Rattle.desk_model.specs.Desks.{accepted_count, is_due};
+ghost use Rattle.batch_desk.specs.Desk.{admission, after_admission, after_loss, after_names, is_queued};
 ghost use Rattle.otlp_span.specs.Dropped.{entry_view};
-ghost use Rattle.retry_core.specs.Retries.{fate_view};
-ghost use Rattle.pass_model.specs.Passes.{after_pop};
+ghost use Rattle.pass_model.specs.Passes.{after_pop, after_pop_lost};
 ghost use Rattle.batch_model.specs.Holders.{account_in, after_drained, after_drop, after_handed, after_left, after_settle, after_take, left_if, on_pass, on_worker, origin_in, pass, processor, worker, worker_in};
 ghost use Rattle.batch_processor.specs.Views.{after_answer, after_end, ended_of, outcomes_view};
-ghost use Rattle.batch_processor.specs.Holds.{Asks, InHold, IsBatchOf, IsBatchSize, IsHandedBatchOf, IsNamedBatchOf, IsTold, Shuts, has_work, wake_of};
+ghost use Rattle.batch_processor.specs.Holds.{Asks, InHold, IsBatchOf, IsBatchSize, IsNamedBatchOf, IsSettledBatchOf, IsTold, Shuts, has_work, wake_of};
 ghost use Rattle.batch_model.specs.Kept.{IsAccountOf};
 
 use crate::config::Setup;
 use crate::fault::WorkerLeft;
 use crate::hold::{After, Wake};
 use crate::holding::{
-    Drains, Drops, Ends, Flushes, Hands, Holding, Leaves, Pops, Settled, Settles, ShutsDown,
-    SpanEnded, Takes, ToldFlushed, ToldLeft,
+    Drains, Drops, Ends, Flushes, Hands, Holding, Leaves, Pops, PopsLost, Settled, Settles,
+    ShutsDown, SpanEnded, Takes, ToldFlushed, ToldLeft,
 };
 use crate::pass::{Flushed, Pass};
 use account_book::{Account, Book, Naming};
-use batch_desk::{Admitted, Batch, Desk, Mark, NamedBatch};
+use batch_desk::{Admitted, Batch, Desk, Mark, NamedBatch, SettledBatch};
 use otlp_span::{Entry, Reason, SpanData, SpanRemains};
-use retry_core::{Fate, Outcome};
+use retry_core::Outcome;
 use std::alloc::Allocator;
 use std::marker::Model;
 use std::mem;
@@ -38,7 +37,8 @@ struct Awaited {
 }
 
 /// What lies under the lock of a processor, until it is closed out, with the book of its accounts.
-/// In contracts it is the queue, and whether the worker has left.
+/// In contracts it is the queue, whether the worker has left, and the spans that were sent and
+/// aren't freed yet.
 #[derive(Drop)]
 pub(crate) struct Shared<J: Naming, A: Allocator> {
     pub(crate) desk: Option<Desk<A>>,
@@ -57,7 +57,11 @@ impl<J: Naming, A: Allocator> Model for Shared<J, A> {
 
     ghost Value = { Guarded };
 
-    ghost view = { λ s. record { desk = desk_of s.desk; left = s.left } };
+    ghost view = { λ s. record {
+      desk = desk_of s.desk;
+      left = s.left;
+      spent = s.spent.items;
+    } };
 
     ghost invariant = { λ s. IsShared (setup_view s.setup) s.left s.desk s.book };
 }
@@ -109,7 +113,10 @@ impl<J: Naming, A: Allocator + Copy> Shared<J, A> {
         ensures account { account.new ≡ on_pass (after_end result.value.0 span) account.old }
         ensures desk { self.new ≡ record self.old {
           desk = after_admission (admission self.old.desk) span self.old.desk;
+          spent = self.new.spent;
         } }
+        ensures remains { is_none result.value.1 ≡ is_queued (admission self.old.desk) }
+        ensures spent { self.old.spent ≡ self.new.spent ++ option_to_list result.value.2 }
         ensures wake { result.wake ≡ wake_of self.old self.new }
     {
         let was = self.awaited();
@@ -138,6 +145,7 @@ impl<J: Naming, A: Allocator + Copy> Shared<J, A> {
         ensures desk { self.new ≡ record self.old {
           desk = after_admission (admission self.old.desk) span self.old.desk;
         } }
+        ensures remains { is_none result.1 ≡ is_queued (admission self.old.desk) }
     {
         self.book.recognize(account);
         let Some(desk) = &mut self.desk else {
@@ -155,7 +163,9 @@ impl<J: Naming, A: Allocator + Copy> Shared<J, A> {
     /// already: they end spans about as fast as these are sent. What they haven't freed of the batch
     /// before is handed back.
     fn leave_spent(&mut self, spent: &mut Vec<SpanData<A>, A>)
-        ensures { self.new ≡ self.old }
+        ensures guarded { self.new ≡ record self.old { spent = self.new.spent } }
+        ensures spent { IsPermutation
+            (spent.old.items ++ self.old.spent) (spent.new.items ++ self.new.spent) }
     {
         let waiting = match &self.desk {
             Some(desk) => desk.waiting(),
@@ -284,6 +294,25 @@ impl<J: Naming, A: Allocator + Copy> Shared<J, A> {
         Some(entry)
     }
 
+    /// A pass pops an entry of the ledger of lost spans.
+    pub(crate) fn pop_lost(&mut self, account: &mut Account<J, Holding>) -> Option<Entry>
+        requires { account.old ≡ pass (account_in account.old) }
+        ensures some { IfSome result
+            (λ entry. account.new ≡ on_pass (after_pop_lost (entry_view entry)) account.old) }
+        ensures none { IfNone result (account.new ≡ account.old) }
+        ensures desk { self.new ≡ record self.old {
+          desk = record self.old.desk { lost = drop 1 self.old.desk.lost };
+        } }
+    {
+        self.book.recognize(account);
+        let Some(desk) = &mut self.desk else {
+            unreachable!()
+        };
+        let entry = desk.pop_lost()?;
+        self.book.record::<Entry, PopsLost>(account, &entry);
+        Some(entry)
+    }
+
     /// The worker, which has none out, takes the next batch, if it is due.
     pub(crate) fn take(&mut self, account: &mut Account<J, Holding>, now: u64) -> Option<Batch<A>>
         requires worker { account.old ≡ worker (origin_in account.old) (worker_in account.old) }
@@ -293,6 +322,7 @@ impl<J: Naming, A: Allocator + Copy> Shared<J, A> {
         ensures batch { IfSome result (λ batch. IsBatchOf account.new batch) }
         ensures size { IfSome result (λ batch. IsBatchSize (origin_in account.old) batch.spans) }
         ensures none { IfNone result (account.new ≡ account.old) }
+        ensures spent { self.new.spent ≡ self.old.spent }
     {
         self.book.recognize(account);
         let Some(desk) = &mut self.desk else {
@@ -320,7 +350,8 @@ impl<J: Naming, A: Allocator + Copy> Shared<J, A> {
     )
         requires worker { account.old ≡ worker (origin_in account.old) (worker_in account.old) }
         requires out { IsBatchOf account.old batch.now }
-        ensures { account.new ≡ on_worker (after_handed body.now.items) account.old }
+        ensures account { account.new ≡ on_worker (after_handed body.now.items) account.old }
+        ensures spent { self.new.spent ≡ self.old.spent }
     {
         self.book.recognize(account);
         let Some(desk) = &mut self.desk else {
@@ -342,7 +373,10 @@ impl<J: Naming, A: Allocator + Copy> Shared<J, A> {
         requires out { IsNamedBatchOf account.old batch }
         ensures account { account.new ≡ on_worker (left_if leaves)
             (on_worker (after_drop batch.reason) account.old) }
-        ensures desk { self.new.desk ≡ after_names batch.reason batch.entries self.old.desk }
+        ensures desk { self.new ≡ record self.old {
+          desk = after_names batch.reason batch.entries self.old.desk;
+          left = leaves || self.old.left;
+        } }
         ensures wake { result.wake ≡ wake_of self.old self.new }
     {
         let was = self.awaited();
@@ -369,30 +403,33 @@ impl<J: Naming, A: Allocator + Copy> Shared<J, A> {
         desk.drop_named(batch);
     }
 
-    /// The worker settles its batch, which was handed, after these outcomes of its attempts. It
-    /// leaves by the same hold, or it doesn't. Spans that were sent are left to those who end
-    /// others; those that aren't are handed out, to be freed once the hold is over.
+    /// The worker settles its batch, which was handed, and whose lost spans are named, after these
+    /// outcomes of its attempts. It leaves by the same hold, or it doesn't. Spans that were sent are
+    /// left to those who end others; those that aren't are handed out, to be freed once the hold is
+    /// over.
     pub(crate) fn settle(
         &mut self,
         account: &mut Account<J, Holding>,
-        batch: Batch<A>,
+        batch: SettledBatch<A>,
         outcomes: &Vec<Outcome, A>,
-        fate: Fate,
         leaves: bool,
         mut spent: Vec<SpanData<A>, A>,
     ) -> After<Vec<SpanData<A>, A>>
         requires worker { account.old ≡ worker (origin_in account.old) (worker_in account.old) }
-        requires out { IsHandedBatchOf account.old batch }
+        requires out { IsSettledBatchOf account.old batch }
         ensures account { account.new ≡ on_worker (left_if leaves) (on_worker
-            (after_settle (outcomes_view outcomes.now.items) (fate_view fate)) account.old) }
-        ensures desk { self.new.desk ≡ record self.old.desk {
-          out = None;
-          fates = with_fate (fate_view fate) self.old.desk.fates;
+            (after_settle (outcomes_view outcomes.now.items) batch.fate) account.old) }
+        ensures desk { self.new ≡ record self.old {
+          desk = after_loss batch.fate batch.entries self.old.desk;
+          left = leaves || self.old.left;
+          spent = self.new.spent;
         } }
+        ensures spent { IsPermutation
+            (spent.items ++ self.old.spent) (result.value.items ++ self.new.spent) }
         ensures wake { result.wake ≡ wake_of self.old self.new }
     {
         let was = self.awaited();
-        self.settle_batch(account, batch, outcomes, fate);
+        self.settle_batch(account, batch, outcomes);
         self.leave_if(account, leaves);
         self.leave_spent(&mut spent);
         let wake = self.wake(was);
@@ -403,19 +440,15 @@ impl<J: Naming, A: Allocator + Copy> Shared<J, A> {
     fn settle_batch(
         &mut self,
         account: &mut Account<J, Holding>,
-        batch: Batch<A>,
+        batch: SettledBatch<A>,
         outcomes: &Vec<Outcome, A>,
-        fate: Fate,
     )
         requires worker { account.old ≡ worker (origin_in account.old) (worker_in account.old) }
-        requires out { IsHandedBatchOf account.old batch }
+        requires out { IsSettledBatchOf account.old batch }
         ensures account { account.new ≡ on_worker
-            (after_settle (outcomes_view outcomes.now.items) (fate_view fate)) account.old }
+            (after_settle (outcomes_view outcomes.now.items) batch.fate) account.old }
         ensures desk { self.new ≡ record self.old {
-          desk = record self.old.desk {
-            out = None;
-            fates = with_fate (fate_view fate) self.old.desk.fates;
-          };
+          desk = after_loss batch.fate batch.entries self.old.desk;
         } }
     {
         self.book.recognize(account);
@@ -423,12 +456,12 @@ impl<J: Naming, A: Allocator + Copy> Shared<J, A> {
             unreachable!()
         };
         let seen = Snapshot::of(outcomes);
-        desk.settle(batch, fate);
         let settled = Settled {
             outcomes: seen,
-            fate,
+            fate: batch.fate(),
         };
         self.book.record::<Settled<A>, Settles>(account, &settled);
+        desk.settle_named(batch);
     }
 
     /// The worker leaves, which has none out.
@@ -491,6 +524,7 @@ impl<J: Naming, A: Allocator + Copy> Shared<J, A> {
         requires all { (origin_in account).passes ≤ vec_len passes }
         ensures origin { origin_in his ≡ origin_in account }
         ensures accounts { IsAccountOf (origin_in account) result passes.items (worker_in his) }
+        ensures spent { self.new.spent ≡ self.old.spent }
     {
         self.book.recognize(&mut account);
         let Some(desk) = self.desk.take() else {

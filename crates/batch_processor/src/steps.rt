@@ -1,13 +1,14 @@
 //! The steps of a worker's work: a batch is taken, encoded once, handed to an exporter, judged by
 //! what came of it, sent again or settled.
-ghost use Rattle.std.specs.Prelude.{◌≡◌, ◌≢◌, ◌<◌, ◌≤◌, ◌+◌, ℕ, [], IfErr, IfOk, IsTrue, Some, None, length, false};
+ghost use Rattle.std.specs.Prelude.{◌≡◌, ◌<◌, ◌≤◌, ◌+◌, ℕ, [], IfErr, IfOk, IsTrue, Some, None, length, true, false};
 ghost use Rattle.export_model.specs.Export.{LacksBody};
 ghost use Rattle.otlp_proto.specs.Bodies.{reason_of};
 ghost use Rattle.retry_core.specs.Retries.{fate_view, outcome_view};
 ghost use Rattle.batch_model.specs.Clauses.{IsBodyOf, abandon};
 ghost use Rattle.otlp_span.specs.Dropped.{reason_view};
+ghost use Rattle.drop_model.specs.Dropped.{can_drop_batch};
 ghost use Rattle.batch_model.specs.Holders.{after_drained, after_drop, after_left, after_settle, left_if, worker};
-ghost use Rattle.batch_processor.specs.Holds.{IsBatchOf, IsHandedBatchOf};
+ghost use Rattle.batch_processor.specs.Holds.{IsBatchOf, IsSentBatchOf};
 ghost use Rattle.batch_processor.specs.Working.{IsExported, IsReady, IsWorkingWith, StepsAside, TakesStep, hand_at, to_encode, to_judge, to_retry, to_send, work_in};
 
 use crate::clock::Clock;
@@ -221,7 +222,7 @@ impl<J: Naming, R: Wait + Drop, A: Allocator + Copy> Worker<J, R, A> {
     /// Settles a batch that was handed, behind the outcomes that were judged. The worker leaves by
     /// the same hold, or it doesn't.
     fn settle(&mut self, batch: Batch<A>, fate: Fate, leaves: bool)
-        requires { IsHandedBatchOf (worker self.old.origin self.old.account) batch }
+        requires { IsSentBatchOf (worker self.old.origin self.old.account) batch }
         ensures { self.new ≡ record self.old {
           account = left_if leaves
               (after_settle self.old.outcomes (fate_view fate) self.old.account);
@@ -245,7 +246,7 @@ impl<J: Naming, R: Wait + Drop, A: Allocator + Copy> Worker<J, R, A> {
     /// it doesn't.
     fn drop_batch(&mut self, batch: Batch<A>, reason: Reason, leaves: bool)
         requires batch { IsBatchOf (worker self.old.origin self.old.account) batch }
-        requires reason { reason ≢ Reason.QueueFull }
+        requires reason { can_drop_batch (reason_view reason) ≡ true }
         ensures { self.new ≡ record self.old {
           account = left_if leaves (after_drop (reason_view reason) self.old.account);
         } }

@@ -2,17 +2,19 @@
 use Rattle.std.proofs.Common.{◌≡◌, ℕ, ◌+◌, ◌<◌, true, List, ◌++◌, length, sym, refl, ap, ◌∙◌, subst, arith}
 use Rattle.std.specs.List.{AllByRecursion}
 use Rattle.std.specs.Prelude.{IsPermutation, Option, Some, None, map, filter_map, option_map}
-use Rattle.std.proofs.lemmas.List.{append_assoc, length-append}
+use Rattle.std.proofs.lemmas.List.{append_assoc, length-append, map-append}
+use Rattle.std.proofs.lemmas.Grind.{flat_map-append}
 use Rattle.std.proofs.lemmas.List.Elements.{filter_map-append}
-use Rattle.std.proofs.lemmas.List.Sorted.{length_permutation}
+use Rattle.std.proofs.lemmas.List.Sorted.{IsPermutation-append_left, IsPermutation-refl, IsPermutation-trans, length_permutation}
+use Rattle.span_model.specs.Spans.{EndedSpan}
 use Rattle.drop_model.specs.Dropped.{Entry}
 use Rattle.desk_model.specs.Desks.{capped, drop_counts, fate_counts}
 use Rattle.span_exporter.specs.Handed.{Handed, Gains}
 use Rattle.account_book.specs.Accounts.{Replaces}
 use Rattle.account_book.proofs.Facts.{length_replaced, gathered_replaced, each_append, each_at, each_replaced, part_replaced, replaces_told}
-use Rattle.pass_model.specs.Passes.{SpanEnd, PassAccount, accepted_span, accepted_spans, all_accepted, all_dropped, all_popped, drop_in, dropped_entries, dropped_entry, drops}
-use Rattle.pass_model.proofs.Steps.{News, closed_by, gives_step, late_step, names_step}
-use Rattle.simple_processor.specs.Bodies.{Fits, LacksItsBody, attempt_in, attempt_of_span, fates_of}
+use Rattle.pass_model.specs.Passes.{SpanEnd, PassAccount, accepted_span, accepted_spans, all_accepted, all_dropped, all_popped, all_popped_lost, drop_in, dropped_entries, dropped_entry, drops}
+use Rattle.pass_model.proofs.Steps.{News, closed_by, gives_step, late_step, losses_step, names_step}
+use Rattle.simple_processor.specs.Bodies.{AreTold, Fits, Handing, LacksItsBody, LossesAreTold, attempt_in, attempt_of_span, fates_of, lost_by_attempt, losses_of}
 use Rattle.simple_processor.specs.Desk.{State, drops_in, ticket_count}
 use Rattle.simple_processor.specs.Holders.{Origin, Holder, account_in, on_pass, pass, pass_account, pass_accounts}
 use Rattle.simple_processor.specs.Kept.{Agrees, IsOf, IsShared, Kept}
@@ -23,15 +25,22 @@ use Rattle.simple_processor.proofs.Lists.{images_more}
 pub record Step (told told' : Option (List Handed)) (s s' : State) (a b : PassAccount) : Type 0 where
   pub es : List SpanEnd
   pub ps : List Entry
+  pub ls : List Entry
+  pub handings : List Handing
   pub bodies : List Handed
   pub lates : ℕ
   pub shuts : ℕ
   pub ends : b.ends ≡ a.ends ++ es
   pub popped : b.popped ≡ a.popped ++ ps
+  pub popped_lost : b.popped_lost ≡ a.popped_lost ++ ls
   pub late : b.late ≡ a.late + lates
   pub shutdowns : b.shutdowns ≡ a.shutdowns + shuts
   pub gains : Gains bodies told told'
   pub sent : map attempt_of_span (filter_map accepted_span es) ≡ map attempt_in bodies
+  pub handed_spans : filter_map accepted_span es ≡ map (λ (x : Handing). x.span) handings
+  pub as_told : AreTold handings bodies
+  pub lost : IsPermutation (losses_of handings ++ s.lost) (s'.lost ++ ls)
+  pub lost_counted : s'.lost_count ≡ s.lost_count + length (losses_of handings)
   pub fates : (had : List Handed) → s.fates ≡ fate_counts (fates_of had) → s'.fates ≡ fate_counts (fates_of (had ++ bodies))
   pub handed : s'.handed ≡ s.handed + length (filter_map accepted_span es)
   pub news : News (ticket_count s) (ticket_count s') es
@@ -49,6 +58,25 @@ gains_more xs ys None b d first then = then ∙ ap (option_map (λ (had : List H
 gains_more xs ys (Some had) b d first then =
     then ∙ ap (option_map (λ (all : List Handed). all ++ ys)) first ∙ ap Some (append_assoc had xs ys)
 
+-- more spans were handed, some of them are lost, and some names were popped
+losses_more : (bodies new_bodies : List Handed) (accepted accepted' more : List EndedSpan) (lost lost' : List Entry) (count count' : ℕ) (popped popped' ls : List Entry) (handings : List Handing)
+    → IsPermutation accepted' (accepted ++ more) → more ≡ map (λ (x : Handing). x.span) handings → AreTold handings new_bodies → IsPermutation (losses_of handings ++ lost) (lost' ++ ls) → count' ≡ count + length (losses_of handings)
+    → IsPermutation popped' (popped ++ ls) → LossesAreTold bodies accepted lost count popped → LossesAreTold (bodies ++ new_bodies) accepted' lost' count' popped'
+losses_more bodies new_bodies accepted accepted' more lost lost' count count' popped popped' ls handings grown spans told step counted gone k =
+    let span : Handing → EndedSpan = λ (x : Handing). x.span in
+    let both : IsPermutation (accepted ++ more) (map span k.handings ++ more) = IsPermutation-append_left more accepted (map span k.handings) k.spans in
+    record {
+      handings = k.handings ++ handings;
+      spans = subst (λ (ss : List EndedSpan). IsPermutation accepted' ss) (ap (λ (ss : List EndedSpan). map span k.handings ++ ss) spans ∙ sym (map-append span k.handings handings))
+          (IsPermutation-trans accepted' (accepted ++ more) (map span k.handings ++ more) grown both);
+      told = record {
+        attempts = map-append (λ (x : Handing). attempt_of_span x.span) k.handings handings ∙ (λ i. k.told.attempts i ++ told.attempts i) ∙ sym (map-append attempt_in bodies new_bodies);
+        outcomes = map-append (λ (x : Handing). x.outcome) k.handings handings ∙ (λ i. k.told.outcomes i ++ told.outcomes i) ∙ sym (map-append (λ (h : Handed). h.outcome) bodies new_bodies);
+      };
+      names = losses_step lost lost' count count' (losses_of k.handings) (losses_of (k.handings ++ handings)) popped popped' (losses_of handings) ls
+          (subst (λ (es : List Entry). IsPermutation es (losses_of k.handings ++ losses_of handings)) (sym (flat_map-append lost_by_attempt k.handings handings)) (IsPermutation-refl (losses_of k.handings ++ losses_of handings))) gone step counted k.names;
+    }
+
 module _ (had told told' : Option (List Handed)) (s s' : State) (old new : List PassAccount) (a b : PassAccount) (r : Replaces old a b new) (k : Agrees had told s old) (st : Step told told' s s' a b) where
   accepted_is : accepted_spans b ≡ accepted_spans a ++ filter_map accepted_span st.es
   accepted_is = ap (filter_map accepted_span) st.ends ∙ filter_map-append accepted_span a.ends st.es
@@ -64,6 +92,13 @@ module _ (had told told' : Option (List Handed)) (s s' : State) (old new : List 
 
   all_popped_is : IsPermutation (all_popped new) (all_popped old ++ st.ps)
   all_popped_is = gathered_replaced (λ (x : PassAccount). x.popped) old a b new st.ps r st.popped
+
+  all_popped_lost_is : IsPermutation (all_popped_lost new) (all_popped_lost old ++ st.ls)
+  all_popped_lost_is = gathered_replaced (λ (x : PassAccount). x.popped_lost) old a b new st.ls r st.popped_lost
+
+  losses_is : LossesAreTold (k.bodies ++ st.bodies) (all_accepted new) s'.lost s'.lost_count (all_popped_lost new)
+  losses_is = losses_more k.bodies st.bodies (all_accepted old) (all_accepted new) (filter_map accepted_span st.es) s.lost s'.lost s.lost_count s'.lost_count (all_popped_lost old) (all_popped_lost new) st.ls st.handings
+      all_accepted_is st.handed_spans st.as_told st.lost st.lost_counted all_popped_lost_is k.losses
 
   count_is : length (all_accepted new) ≡ length (all_accepted old) + length (filter_map accepted_span st.es)
   count_is = sym (length_permutation (all_accepted new) (all_accepted old ++ filter_map accepted_span st.es) all_accepted_is) ∙ length-append (all_accepted old) (filter_map accepted_span st.es)
@@ -91,6 +126,7 @@ module _ (had told told' : Option (List Handed)) (s s' : State) (old new : List 
     tickets = gives_step (ticket_count s) (ticket_count s') st.es st.news old new a b r st.ends k.tickets;
     names = names_step s.ledger s'.ledger (drops_in s) (drops_in s') (all_dropped old) (all_dropped new) (all_popped old) (all_popped new) (filter_map dropped_entry st.es) st.ps all_dropped_is all_popped_is st.names
         (sym (st.dropped (all_dropped old) (sym k.names.counted))) k.names;
+    losses = losses_is;
     lacking = subst (λ (most : ℕ). AllByRecursion (Lack most) new) (sym st.max_body) lacking_is;
     late = late_step (ticket_count s) (ticket_count s') s.late s'.late s.closed s'.closed old new a b r k.late st.lates st.shuts st.late st.shutdowns st.counted st.late_if_closed st.closed;
   }

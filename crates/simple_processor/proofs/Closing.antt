@@ -12,10 +12,10 @@ use Rattle.batch_desk.specs.declared.totals.Totals.{Totals}
 use Rattle.span_exporter.specs.Handed.{Handed, Gains}
 use Rattle.account_book.specs.Accounts.{Replaces, Removes, Closes}
 use Rattle.account_book.proofs.Facts.{each_closed, each_removed, each_same, gathered_all, length_removed, nothing_of, one_replaced, part_kept}
-use Rattle.pass_model.specs.Passes.{PassAccount, accepted_spans, all_accepted, all_dropped, all_popped, dropped_entries, drops, new_account}
+use Rattle.pass_model.specs.Passes.{PassAccount, accepted_spans, all_accepted, all_dropped, all_popped, all_popped_lost, dropped_entries, drops, new_account}
 use Rattle.pass_model.specs.Clauses.{CountsLate, GivesTickets, NamesDrops}
-use Rattle.pass_model.proofs.Steps.{gives_closed, gives_new, late_closed, late_new, names_same}
-use Rattle.simple_processor.specs.Bodies.{Fits, LacksItsBody, attempt_in, attempt_of_span, fates_of, told_since}
+use Rattle.pass_model.proofs.Steps.{gives_closed, gives_new, late_closed, late_new, losses_same, names_same}
+use Rattle.simple_processor.specs.Bodies.{Fits, Handing, LacksItsBody, LossesAreTold, attempt_in, attempt_of_span, fates_of, losses_of, told_since}
 use Rattle.simple_processor.specs.Desk.{State, drops_in, new_state, ticket_count}
 use Rattle.simple_processor.specs.Holders.{Origin, Holder, new_origin, pass, pass_account, pass_accounts, processor}
 use Rattle.simple_processor.specs.Kept.{Agrees, IsAccountOf, IsOf, Kept, given_tickets}
@@ -35,6 +35,12 @@ agrees_new had max_body accounts all = record {
   names = record {
     named = rw (nothing_of new_account dropped_entries refl accounts all, nothing_of new_account (λ (a : PassAccount). a.popped) refl accounts all) (IsPermutation-refl []);
     counted = ap drop_counts (sym (nothing_of new_account dropped_entries refl accounts all));
+  };
+  losses = record {
+    handings = [];
+    spans = subst (λ (spans : List _). IsPermutation spans []) (sym (nothing_of new_account accepted_spans refl accounts all)) (IsPermutation-refl []);
+    told = record { attempts = refl; outcomes = refl };
+    names = record { named = rw (nothing_of new_account (λ (a : PassAccount). a.popped_lost) refl accounts all) (IsPermutation-refl []); counted = refl };
   };
   lacking = each_same new_account _ tt accounts all;
   late = late_new accounts all;
@@ -83,6 +89,12 @@ agrees_closed had told s old done k c =
       handed = k.handed ∙ length_permutation (all_accepted done) (all_accepted old) spans;
       tickets = gives_closed (ticket_count s) old done c k.tickets;
       names = names_same s.ledger (drops_in s) (all_dropped old) (all_dropped done) (all_popped old) (all_popped done) names (gathered_all (λ (a : PassAccount). a.popped) old done c) k.names;
+      losses = record {
+        handings = k.losses.handings;
+        spans = IsPermutation-trans (all_accepted done) (all_accepted old) (map (λ (x : Handing). x.span) k.losses.handings) spans k.losses.spans;
+        told = k.losses.told;
+        names = losses_same s.lost s.lost_count (losses_of k.losses.handings) (all_popped_lost old) (all_popped_lost done) (gathered_all (λ (a : PassAccount). a.popped_lost) old done c) k.losses.names;
+      };
       lacking = each_closed _ old done [] c k.lacking;
       late = late_closed s.late (ticket_count s) s.closed old done c k.late;
     }
@@ -121,7 +133,7 @@ pub on_told : (P : List Handed → Type 0) (had told : Option (List Handed)) (bo
 on_told P None told bodies g p = subst (λ o. OnSome o (P (told_since None o))) (sym g) tt
 on_told P (Some h) told bodies g p = subst (λ o. OnSome o (P (told_since (Some h) o))) (sym g) (subst P (sym (since_is h bodies)) p)
 
-module _ (origin : Origin) (told : Option (List Handed)) (t : Totals) (ledger : List Entry) (accounts : List PassAccount) (x : IsAccountOf origin told t ledger accounts) where
+module _ (origin : Origin) (told : Option (List Handed)) (t : Totals) (ledger lost : List Entry) (accounts : List PassAccount) (x : IsAccountOf origin told t ledger lost accounts) where
   abbrev had : Option (List Handed)
   had = origin.had
 
@@ -145,6 +157,9 @@ module _ (origin : Origin) (told : Option (List Handed)) (t : Totals) (ledger : 
 
   pub names_are : NamesDrops ledger (drop_counts_view t.dropped) (all_dropped accounts) (all_popped accounts)
   names_are = rw (x.ledger_is, x.totals.dropped) x.agrees.names
+
+  pub losses_are : OnSome told (LossesAreTold (told_since had told) (all_accepted accounts) lost t.lost (all_popped_lost accounts))
+  losses_are = on_told (λ bodies. LossesAreTold bodies (all_accepted accounts) lost t.lost (all_popped_lost accounts)) had told x.agrees.bodies x.agrees.gains (rw (x.lost_is, x.totals.lost) x.agrees.losses)
 
   pub late_are : CountsLate t.late (given_tickets t) t.closed accounts
   late_are = subst (λ (n : ℕ). CountsLate t.late n t.closed accounts) count_is (rw (x.totals.late, x.totals.closed) x.agrees.late)

@@ -1,5 +1,5 @@
 -- The steps of a pass, one by one.
-use Rattle.std.proofs.Common.{◌≡◌, ℕ, ◌+◌, ◌<◌, true, false, List, [], ◌∷◌, ◌++◌, sym, refl, ap, ◌∙◌, subst, arith}
+use Rattle.std.proofs.Common.{◌≡◌, ℕ, ◌+◌, ◌<◌, true, false, List, [], ◌∷◌, ◌++◌, length, sym, refl, ap, ◌∙◌, subst, arith}
 use Rattle.std.specs.Prelude.{IsPermutation, Option, Some, None}
 use Rattle.std.proofs.lemmas.List.{append-nil}
 use Rattle.std.proofs.lemmas.List.Sorted.{IsPermutation-refl, IsPermutation-sym, IsPermutation-to_front}
@@ -7,6 +7,7 @@ use Rattle.span_model.specs.Spans.{EndedSpan, with_ticket}
 use Rattle.drop_model.specs.Dropped.{Reason, queue_full, encode_memory, too_large, abandoned, Entry, entry_of}
 use Rattle.export_model.specs.Export.{LacksBody}
 use Rattle.retry_model.specs.Retries.{fate_of, next_of}
+use Rattle.desk_model.specs.Queue.{lost_as, lost_names}
 use Rattle.desk_model.specs.Desks.{DropCounts, capped, drop_counts, fate_counts, with_drops, with_fate}
 use Rattle.desk_model.proofs.Lists.{some-more}
 use Rattle.desk_model.proofs.Events.{counts-more, fates-more}
@@ -16,11 +17,11 @@ use Rattle.otlp_span.specs.declared.reason.Reason.TheVariants as codes
 use Rattle.trace_api.specs.declared.pass.Ended.{Ended}
 use Rattle.trace_api.specs.declared.pass.Ended.TheVariants as answers
 use Rattle.span_exporter.specs.Handed.{Handed, Gains}
-use Rattle.pass_model.specs.Passes.{SpanEnd, accepted, dropped, PassAccount, after_pop}
+use Rattle.pass_model.specs.Passes.{SpanEnd, accepted, dropped, PassAccount, after_pop, after_pop_lost}
 use Rattle.pass_model.proofs.Steps.{News, closed_by, closes-last, no_news, none_more, one_news, shut-closes}
 use Rattle.simple_processor.specs.Accounts.{after_end, after_shutdown, is_simple_answer}
-use Rattle.simple_processor.specs.Bodies.{fates_of}
-use Rattle.simple_processor.specs.Desk.{State, Answers, IsDropped, IsHanded, IsLate, Pops, drop_count, drops_in, is_last_ticket, ticket_count, with_drop}
+use Rattle.simple_processor.specs.Bodies.{Handing, fates_of, lost_by_attempt, losses_of}
+use Rattle.simple_processor.specs.Desk.{State, Answers, IsDropped, IsHanded, IsLate, Pops, PopsLost, drop_count, drops_in, is_last_ticket, ticket_count, with_drop}
 use Rattle.simple_processor.proofs.Agree.{Step}
 
 pub gains_nothing : (told told' : Option (List Handed)) → told' ≡ told → Gains [] told told'
@@ -29,7 +30,7 @@ gains_nothing (Some had) told' same = same ∙ ap Some (sym (append-nil had))
 
 -- a step at which no span is answered a ticket
 module _ (told told' : Option (List Handed)) (s s' : State) (a b : PassAccount) (unsent : told' ≡ told) (handed_same : s'.handed ≡ s.handed) (drops_same : drops_in s' ≡ drops_in s) (max_same : s'.max_body ≡ s.max_body) (fates_same : s'.fates ≡ s.fates) (ends_same : b.ends ≡ a.ends)
-    (ps : List Entry) (lates shuts : ℕ) (popped : b.popped ≡ a.popped ++ ps) (late : b.late ≡ a.late + lates) (shutdowns : b.shutdowns ≡ a.shutdowns + shuts)
+    (ps ls : List Entry) (lates shuts : ℕ) (popped : b.popped ≡ a.popped ++ ps) (popped_lost : b.popped_lost ≡ a.popped_lost ++ ls) (lost : IsPermutation s.lost (s'.lost ++ ls)) (count_kept : s'.lost_count ≡ s.lost_count) (late : b.late ≡ a.late + lates) (shutdowns : b.shutdowns ≡ a.shutdowns + shuts)
     (names : IsPermutation s.ledger (s'.ledger ++ ps)) (counted : (n : ℕ) → s.late ≡ capped n → s'.late ≡ capped (n + lates))
     (late_if_closed : (n : ℕ) → (0 < n → s.closed ≡ true) → 0 < n + lates → s'.closed ≡ true)
     (closed : (n : ℕ) → s.closed ≡ closed_by (ticket_count s) n → s'.closed ≡ closed_by (ticket_count s) (n + shuts)) where
@@ -40,15 +41,22 @@ module _ (told told' : Option (List Handed)) (s s' : State) (a b : PassAccount) 
   quiet = record {
     es = [];
     ps = ps;
+    ls = ls;
+    handings = [];
     bodies = [];
     lates = lates;
     shuts = shuts;
     ends = ends_same ∙ sym (append-nil a.ends);
     popped = popped;
+    popped_lost = popped_lost;
     late = late;
     shutdowns = shutdowns;
     gains = gains_nothing told told' unsent;
     sent = refl;
+    handed_spans = refl;
+    as_told = record { attempts = refl; outcomes = refl };
+    lost = lost;
+    lost_counted = count_kept ∙ none_more s.lost_count;
     fates = λ had is. fates_same ∙ is ∙ ap (λ (hs : List Handed). fate_counts (fates_of hs)) (sym (append-nil had));
     handed = let e = handed_same in omega arith;
     news = subst (λ (n : ℕ). News (ticket_count s) n []) (sym count_same) (no_news (ticket_count s));
@@ -62,6 +70,10 @@ module _ (told told' : Option (List Handed)) (s s' : State) (a b : PassAccount) 
     closed = λ n is. closed n is ∙ ap (λ (m : ℕ). closed_by m (n + shuts)) (sym count_same);
   }
 
+-- the ledger of lost spans stays
+same_lost : (s s' : State) → s'.lost ≡ s.lost → IsPermutation s.lost (s'.lost ++ [])
+same_lost s s' e = subst (λ (es : List Entry). IsPermutation s.lost es) (sym (append-nil s'.lost ∙ e)) (IsPermutation-refl s.lost)
+
 late-more : (m n : ℕ) → m ≡ capped n → capped (m + 1) ≡ capped (n + 1)
 late-more m n is = omega arith
 
@@ -72,7 +84,7 @@ closes-now s count n admits is = closes-last count n (sym admits ∙ is) ∙ ap 
 late_end : (told told' : Option (List Handed)) (s s' : State) (span : EndedSpan) (a : PassAccount) → IsLate told told' s s' → Step told told' s s' a (after_end answers.Late span a)
 late_end told told' s s' span a l =
     quiet told told' s s' a (after_end answers.Late span a) l.nothing_is_sent (ap (λ (x : State). x.handed) l.state) (ap drops_in l.state) (ap (λ (x : State). x.max_body) l.state) (ap (λ (x : State). x.fates) l.state) refl
-    [] 1 0 (sym (append-nil a.popped)) refl (none_more a.shutdowns)
+    [] [] 1 0 (sym (append-nil a.popped)) (sym (append-nil a.popped_lost)) (same_lost s s' (ap (λ (x : State). x.lost) l.state)) (ap (λ (x : State). x.lost_count) l.state) refl (none_more a.shutdowns)
     (subst (λ (es : List Entry). IsPermutation s.ledger es) (sym (append-nil s'.ledger) ∙ refl) (subst (λ (es : List Entry). IsPermutation s.ledger es) (sym (ap (λ (x : State). x.ledger) l.state)) (IsPermutation-refl s.ledger)))
     (λ n is. ap (λ (x : State). x.late) l.state ∙ late-more s.late n is)
     (λ n was some. ap (λ (x : State). x.closed) l.state ∙ l.closed)
@@ -81,7 +93,7 @@ late_end told told' s s' span a l =
 pub shutdown_step : (told told' : Option (List Handed)) (s s' : State) (a : PassAccount) → told' ≡ told → s' ≡ record s { closed = true } → Step told told' s s' a (after_shutdown a)
 shutdown_step told told' s s' a unsent is =
     quiet told told' s s' a (after_shutdown a) unsent (ap (λ (x : State). x.handed) is) (ap drops_in is) (ap (λ (x : State). x.max_body) is) (ap (λ (x : State). x.fates) is) refl
-    [] 0 1 (sym (append-nil a.popped)) (none_more a.late) refl
+    [] [] 0 1 (sym (append-nil a.popped)) (sym (append-nil a.popped_lost)) (same_lost s s' (ap (λ (x : State). x.lost) is)) (ap (λ (x : State). x.lost_count) is) (none_more a.late) refl
     (subst (λ (es : List Entry). IsPermutation s.ledger es) (sym (append-nil s'.ledger)) (subst (λ (es : List Entry). IsPermutation s.ledger es) (sym (ap (λ (x : State). x.ledger) is)) (IsPermutation-refl s.ledger)))
     (λ n l. ap (λ (x : State). x.late) is ∙ l ∙ ap capped (none_more n))
     (λ n was some. ap (λ (x : State). x.closed) is)
@@ -90,8 +102,19 @@ shutdown_step told told' s s' a unsent is =
 pub pop_step : (told told' : Option (List Handed)) (s s' : State) (a : PassAccount) (entry : Entry) → told' ≡ told → Pops s (Some entry) s' → Step told told' s s' a (after_pop entry a)
 pop_step told told' s s' a entry unsent p =
     quiet told told' s s' a (after_pop entry a) unsent (ap (λ (x : State). x.handed) p.1) (ap drops_in p.1) (ap (λ (x : State). x.max_body) p.1) (ap (λ (x : State). x.fates) p.1) refl
-    (entry ∷ []) 0 0 refl (none_more a.late) (none_more a.shutdowns)
+    (entry ∷ []) [] 0 0 refl (sym (append-nil a.popped_lost)) (same_lost s s' (ap (λ (x : State). x.lost) p.1)) (ap (λ (x : State). x.lost_count) p.1) (none_more a.late) (none_more a.shutdowns)
     (subst (λ (es : List Entry). IsPermutation es (s'.ledger ++ entry ∷ [])) (sym p.0) (IsPermutation-sym (s'.ledger ++ entry ∷ []) (entry ∷ s'.ledger) (IsPermutation-to_front s'.ledger entry)))
+    (λ n l. ap (λ (x : State). x.late) p.1 ∙ l ∙ ap capped (none_more n))
+    (λ n was some. ap (λ (x : State). x.closed) p.1 ∙ was (omega arith))
+    (λ n was. ap (λ (x : State). x.closed) p.1 ∙ was ∙ ap (closed_by (ticket_count s)) (none_more n))
+
+pub pop_lost_step : (told told' : Option (List Handed)) (s s' : State) (a : PassAccount) (entry : Entry) → told' ≡ told → PopsLost s (Some entry) s' → Step told told' s s' a (after_pop_lost entry a)
+pop_lost_step told told' s s' a entry unsent p =
+    quiet told told' s s' a (after_pop_lost entry a) unsent (ap (λ (x : State). x.handed) p.1) (ap drops_in p.1) (ap (λ (x : State). x.max_body) p.1) (ap (λ (x : State). x.fates) p.1) refl
+    [] (entry ∷ []) 0 0 (sym (append-nil a.popped)) refl
+    (subst (λ (es : List Entry). IsPermutation es (s'.lost ++ entry ∷ [])) (sym p.0) (IsPermutation-sym (s'.lost ++ entry ∷ []) (entry ∷ s'.lost) (IsPermutation-to_front s'.lost entry)))
+    (ap (λ (x : State). x.lost_count) p.1) (none_more a.late) (none_more a.shutdowns)
+    (subst (λ (es : List Entry). IsPermutation s.ledger es) (sym (append-nil s'.ledger)) (subst (λ (es : List Entry). IsPermutation s.ledger es) (sym (ap (λ (x : State). x.ledger) p.1)) (IsPermutation-refl s.ledger)))
     (λ n l. ap (λ (x : State). x.late) p.1 ∙ l ∙ ap capped (none_more n))
     (λ n was some. ap (λ (x : State). x.closed) p.1 ∙ was (omega arith))
     (λ n was. ap (λ (x : State). x.closed) p.1 ∙ was ∙ ap (closed_by (ticket_count s)) (none_more n))
@@ -104,18 +127,28 @@ handed_step : (told told' : Option (List Handed)) (s s' : State) (span : EndedSp
 handed_step told told' s s' span ticket a h =
     let count : ticket_count s' ≡ ticket_count s + 1 = let e = ap (λ (x : State). x.handed) h.state in let f : drop_count s' ≡ drop_count s = ap drop_count h.state in omega arith in
     let end : SpanEnd = accepted (with_ticket ticket span) in
+    let handing : Handing = record { span = with_ticket ticket span; outcome = h.outcome } in
+    let names : List Entry = lost_names h.fate (with_ticket ticket span ∷ []) in
+    let named : losses_of (handing ∷ []) ≡ names = append-nil (lost_by_attempt handing) ∙ ap (λ o. lost_as o (with_ticket ticket span ∷ [])) h.ended in
     record {
       es = end ∷ [];
       ps = [];
+      ls = [];
+      handings = handing ∷ [];
       bodies = h.sent.body ∷ [];
       lates = 0;
       shuts = 0;
       ends = refl;
       popped = sym (append-nil a.popped);
+      popped_lost = sym (append-nil a.popped_lost);
       late = none_more a.late;
       shutdowns = none_more a.shutdowns;
       gains = h.sent.gains;
       sent = ap (λ x. x ∷ []) (sym h.sent.means);
+      handed_spans = refl;
+      as_told = record { attempts = ap (λ x. x ∷ []) (sym h.sent.means); outcomes = ap (λ x. x ∷ []) (sym h.sent.answered) };
+      lost = subst (λ (es : List Entry). IsPermutation (losses_of (handing ∷ []) ++ s.lost) es) (ap (λ (es : List Entry). es ++ s.lost) named ∙ sym (append-nil s'.lost ∙ ap (λ (x : State). x.lost) h.state)) (IsPermutation-refl (losses_of (handing ∷ []) ++ s.lost));
+      lost_counted = ap (λ (x : State). x.lost_count) h.state ∙ ap (λ (es : List Entry). s.lost_count + length es) (sym named);
       fates = λ had is.
           ap (λ (x : State). x.fates) h.state ∙ ap (with_fate h.fate) is ∙ sym (fates-more (fates_of had) h.fate)
           ∙ ap fate_counts (sym (some-more (λ (x : Handed). fate_of (next_of x.outcome)) had h.sent.body h.fate (ap (λ o. fate_of (next_of o)) h.sent.answered ∙ h.ended)));
@@ -134,6 +167,8 @@ handed_step told told' s s' span ticket a h =
 -- what one more that is dropped changes
 record Adds (reason : Reason) (s : State) : Type 0 where
   handed : (with_drop reason s).handed ≡ s.handed
+  lost : (with_drop reason s).lost ≡ s.lost
+  lost_count : (with_drop reason s).lost_count ≡ s.lost_count
   late : (with_drop reason s).late ≡ s.late
   fates : (with_drop reason s).fates ≡ s.fates
   max_body : (with_drop reason s).max_body ≡ s.max_body
@@ -141,10 +176,14 @@ record Adds (reason : Reason) (s : State) : Type 0 where
   counts : drops_in (with_drop reason s) ≡ with_drops reason 1 (drops_in s)
 
 adds : (max_body : ℕ) (spans : List EndedSpan) (reason : Reason) (s : State) → LacksBody max_body spans reason → Adds reason s
-adds max_body spans encode_memory s lacks = record { handed = refl; late = refl; fates = refl; max_body = refl; count = omega arith; counts = refl }
-adds max_body spans too_large s lacks = record { handed = refl; late = refl; fates = refl; max_body = refl; count = omega arith; counts = refl }
+adds max_body spans encode_memory s lacks = record { handed = refl; lost = refl; lost_count = refl; late = refl; fates = refl; max_body = refl; count = omega arith; counts = refl }
+adds max_body spans too_large s lacks = record { handed = refl; lost = refl; lost_count = refl; late = refl; fates = refl; max_body = refl; count = omega arith; counts = refl }
 adds max_body spans queue_full s lacks = absurd lacks
 adds max_body spans abandoned s lacks = absurd lacks
+adds max_body spans (Reason.refused status) s lacks = absurd lacks
+adds max_body spans Reason.bad_reply s lacks = absurd lacks
+adds max_body spans Reason.given_up s lacks = absurd lacks
+adds max_body spans Reason.left_handed s lacks = absurd lacks
 
 dropped_step : (told told' : Option (List Handed)) (s s' : State) (span : EndedSpan) (why : reasons.Reason) (ticket : ℕ) (a : PassAccount) → IsDropped told told' s span (reason_view why) ticket s' → Step told told' s s' a (after_end (answers.Dropped ticket why) span a)
 dropped_step told told' s s' span why ticket a d =
@@ -156,15 +195,22 @@ dropped_step told told' s s' span why ticket a d =
     record {
       es = end ∷ [];
       ps = [];
+      ls = [];
+      handings = [];
       bodies = [];
       lates = 0;
       shuts = 0;
       ends = refl;
       popped = sym (append-nil a.popped);
+      popped_lost = sym (append-nil a.popped_lost);
       late = none_more a.late;
       shutdowns = none_more a.shutdowns;
       gains = gains_nothing told told' d.nothing_is_sent;
       sent = refl;
+      handed_spans = refl;
+      as_told = record { attempts = refl; outcomes = refl };
+      lost = same_lost s s' (ap (λ (x : State). x.lost) d.state ∙ more.lost);
+      lost_counted = ap (λ (x : State). x.lost_count) d.state ∙ more.lost_count ∙ none_more s.lost_count;
       fates = λ had is. ap (λ (x : State). x.fates) d.state ∙ more.fates ∙ is ∙ ap (λ (hs : List Handed). fate_counts (fates_of hs)) (sym (append-nil had));
       handed = handed_same ∙ none_more s.handed;
       news = subst (λ (n : ℕ). News (ticket_count s) n (end ∷ [])) (sym count) (one_news (ticket_count s) end d.is_next);
@@ -194,6 +240,10 @@ end_answer told told' s s' span (answers.Dropped ticket codes.EncodeMemory) x = 
 end_answer told told' s s' span (answers.Dropped ticket codes.TooLarge) x = refl
 end_answer told told' s s' span (answers.Dropped ticket codes.QueueFull) x = absurd x.lacks
 end_answer told told' s s' span (answers.Dropped ticket codes.Abandoned) x = absurd x.lacks
+end_answer told told' s s' span (answers.Dropped ticket (codes.Refused status)) x = absurd x.lacks
+end_answer told told' s s' span (answers.Dropped ticket codes.BadReply) x = absurd x.lacks
+end_answer told told' s s' span (answers.Dropped ticket codes.GivenUp) x = absurd x.lacks
+end_answer told told' s s' span (answers.Dropped ticket codes.LeftHanded) x = absurd x.lacks
 end_answer told told' s s' span answers.Late x = refl
 end_answer told told' s s' span (answers.Queued ticket) x = absurd x
 end_answer told told' s s' span answers.NotSampled x = absurd x

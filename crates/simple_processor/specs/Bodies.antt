@@ -1,13 +1,16 @@
 -- What a simple processor hands to its exporter: each span alone, once. (Trace SDK, Simple
 -- processor; number and attempt: profile)
-use Rattle.std.specs.Prelude.{ℕ, ◌+◌, ◌≤◌, List, [], ◌∷◌, drop, length, filter_map, Option, Some}
+use Rattle.std.specs.Prelude.{ℕ, ◌+◌, ◌≤◌, ◌≡◌, List, [], ◌∷◌, drop, length, map, filter_map, flat_map, IsPermutation, Option, Some}
 use Rattle.message_model.specs.Reading.{Reading, done}
 use Rattle.message_model.specs.Messages.{Triple, body_meaning}
 use Rattle.span_model.specs.Spans.{EndedSpan}
 use Rattle.export_model.specs.Export.{LacksBody, grouped_triples}
-use Rattle.retry_model.specs.Retries.{Fate, fate_of, next_of}
+use Rattle.drop_model.specs.Dropped.{Entry}
+use Rattle.retry_model.specs.Retries.{Fate, Outcome, fate_of, next_of}
+use Rattle.desk_model.specs.Queue.{lost_as}
 use Rattle.span_exporter.specs.Handed.{Handed}
 use Rattle.pass_model.specs.Passes.{Drop}
+use Rattle.pass_model.specs.Clauses.{NamesLosses}
 
 -- An attempt, as OTLP reads it: its number, which attempt it is, and the meaning of its body.
 pub record Attempt : Type 0 where
@@ -38,6 +41,34 @@ LacksItsBody max_body d = LacksBody max_body (d.span ∷ []) d.reason
 -- How the attempts ended, each the only one of its body. (OTLP Specification, OTLP/HTTP Response)
 abbrev pub fates_of : List Handed → List Fate
 fates_of bodies = filter_map (λ (h : Handed). fate_of (next_of h.outcome)) bodies
+
+-- A span that was handed, and what its one attempt came to.
+pub record Handing : Type 0 where
+  pub span : EndedSpan
+  pub outcome : Outcome
+
+-- its entry, with its fate's reason, if it is lost
+abbrev pub lost_by_attempt : Handing → List Entry
+lost_by_attempt x = lost_as (fate_of (next_of x.outcome)) (x.span ∷ [])
+
+-- the entries of those that are lost
+abbrev pub losses_of : List Handing → List Entry
+losses_of handings = flat_map lost_by_attempt handings
+
+-- These were handed one by one: the bodies mean their spans, and came to their outcomes.
+pub record AreTold (handings : List Handing) (bodies : List Handed) : Type 0 where
+  pub attempts : map (λ (x : Handing). attempt_of_span x.span) handings ≡ map attempt_in bodies
+  pub outcomes : map (λ (x : Handing). x.outcome) handings
+      ≡ map (λ (h : Handed). h.outcome) bodies
+
+-- Each accepted span was handed, in a body of its own. Those whose attempt came to nothing are
+-- named, each for its fate's reason, and counted.
+pub record LossesAreTold (bodies : List Handed) (accepted : List EndedSpan) (lost : List Entry)
+    (count : ℕ) (popped : List Entry) : Type 0 where
+  pub handings : List Handing
+  pub spans : IsPermutation accepted (map (λ (x : Handing). x.span) handings)
+  pub told : AreTold handings bodies
+  pub names : NamesLosses lost count (losses_of handings) popped
 
 -- what an exporter tells that it was handed behind what it had told; one that doesn't tell, nothing
 abbrev pub told_since : Option (List Handed) → Option (List Handed) → List Handed

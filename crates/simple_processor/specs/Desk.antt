@@ -1,10 +1,11 @@
 -- What lies under the lock of a simple processor, and what a step makes of it. (Trace SDK, Simple
 -- processor; tickets, the ledger and counts: profile)
-use Rattle.std.specs.Prelude.{◌≡◌, ℕ, ◌+◌, ◌-◌, ◌^◌, ◌<◌, ◌≤◌, ◌==◌, Bool, true, false, List, [], ◌∷◌, length, Option, Some, None}
+use Rattle.std.specs.Prelude.{◌≡◌, ℕ, ◌+◌, ◌-◌, ◌^◌, ◌<◌, ◌≤◌, ◌==◌, Bool, true, false, List, [], ◌∷◌, ◌++◌, length, Option, Some, None}
 use Rattle.span_model.specs.Spans.{EndedSpan, with_ticket}
 use Rattle.drop_model.specs.Dropped.{Reason, encode_memory, too_large, Entry, entry_of}
 use Rattle.export_model.specs.Export.{LacksBody}
 use Rattle.retry_model.specs.Retries.{Fate, Outcome, fate_of, next_of}
+use Rattle.desk_model.specs.Queue.{lost_names}
 use Rattle.desk_model.specs.Desks.{DropCounts, FateCounts, capped, no_drops, no_fates, with_fate}
 use Rattle.otlp_span.specs.Dropped.{reason_view}
 use Rattle.trace_api.specs.declared.pass.Ended.{Ended}
@@ -17,13 +18,16 @@ use Rattle.batch_desk.specs.declared.totals.Totals.{Totals}
 use Rattle.span_exporter.specs.Handed.{Handed, Gains}
 use Rattle.simple_processor.specs.Bodies.{Fits, attempt_in, attempt_of_span}
 
--- How many bytes a body may have; the ledger, the newest entry first; how many spans were handed to
--- the exporter, were dropped for want of memory or as too large, and were late; whether none is
--- admitted any more; and how the attempts ended.
+-- How many bytes a body may have; the ledgers of dropped and of lost spans, the newest entry first;
+-- how many spans were handed to the exporter, how many of these were lost, how many were dropped for
+-- want of memory or as too large, and how many were late; whether none is admitted any more; and how
+-- the attempts ended.
 pub record State : Type 0 where
   pub max_body : ℕ
   pub ledger : List Entry
+  pub lost : List Entry
   pub handed : ℕ
+  pub lost_count : ℕ
   pub encode_memory : ℕ
   pub too_large : ℕ
   pub late : ℕ
@@ -39,7 +43,9 @@ abbrev pub new_state : ℕ → State
 new_state max_body = record {
   max_body = max_body;
   ledger = [];
+  lost = [];
   handed = 0;
+  lost_count = 0;
   encode_memory = 0;
   too_large = 0;
   late = 0;
@@ -72,6 +78,8 @@ pub record AreCounts (s : State) : Type 0 where
   pub tickets : ticket_count s < 2 ^ 64
   pub admits : s.closed ≡ false → ticket_count s < 2 ^ 64 - 1
   pub ledger : length s.ledger ≤ drop_count s
+  pub lost : length s.lost ≤ s.lost_count
+  pub lost_handed : s.lost_count ≤ s.handed
   pub fates : fate_count s.fates ≡ s.handed
 
 -- with one more that was dropped for this reason
@@ -100,7 +108,8 @@ pub record IsSent (max_body : ℕ) (told told' : Option (List Handed)) (span : E
   pub means : attempt_in body ≡ attempt_of_span span
   pub answered : body.outcome ≡ outcome
 
--- The span was handed to the exporter under the next ticket, and its attempt ended so.
+-- The span was handed to the exporter under the next ticket, and its attempt ended so. It is named
+-- as lost where its fate says that.
 pub record IsHanded (told told' : Option (List Handed)) (s : State) (span : EndedSpan) (ticket : ℕ)
     (s' : State) : Type 0 where
   pub admits : s.closed ≡ false
@@ -110,7 +119,9 @@ pub record IsHanded (told told' : Option (List Handed)) (s : State) (span : Ende
   pub fate : Fate
   pub ended : fate_of (next_of outcome) ≡ Some fate
   pub state : s' ≡ record s {
+    lost = lost_names fate (with_ticket ticket span ∷ []) ++ s.lost;
     handed = s.handed + 1;
+    lost_count = s.lost_count + length (lost_names fate (with_ticket ticket span ∷ []));
     closed = is_last_ticket ticket;
     fates = with_fate fate s.fates;
   }
@@ -148,12 +159,19 @@ Pops s (Some entry) s' =
     (s.ledger ≡ entry ∷ s'.ledger) × (s' ≡ record s { ledger = s'.ledger })
 Pops s None s' = s' ≡ s
 
+-- The same of the ledger of lost spans.
+abbrev pub PopsLost : State → Option Entry → State → Type 0
+PopsLost s (Some entry) s' =
+    (s.lost ≡ entry ∷ s'.lost) × (s' ≡ record s { lost = s'.lost })
+PopsLost s None s' = s' ≡ s
+
 -- The totals count what lies here: a handed span as accepted, taken and handed, a dropped one under
 -- its reason alone.
 pub record AreTotals (t : Totals) (s : State) : Type 0 where
   pub accepted : t.accepted ≡ s.handed
   pub taken : t.taken ≡ s.handed
   pub handed : t.handed ≡ s.handed
+  pub lost : t.lost ≡ s.lost_count
   pub left : t.left ≡ 0
   pub late : t.late ≡ s.late
   pub dropped : drop_counts_view t.dropped ≡ drops_in s

@@ -4,9 +4,9 @@ use Rattle.std.specs.List.{AllByRecursion}
 use Rattle.drop_model.specs.Dropped.{Entry}
 use Rattle.desk_model.specs.Desks.{fate_counts}
 use Rattle.span_exporter.specs.Handed.{Handed, Gains}
-use Rattle.pass_model.specs.Passes.{PassAccount, drops, all_accepted, all_dropped, all_popped}
+use Rattle.pass_model.specs.Passes.{PassAccount, drops, all_accepted, all_dropped, all_popped, all_popped_lost}
 use Rattle.pass_model.specs.Clauses.{CountsLate, GivesTickets, NamesDrops}
-use Rattle.simple_processor.specs.Bodies.{Fits, LacksItsBody, attempt_in, attempt_of_span, fates_of}
+use Rattle.simple_processor.specs.Bodies.{Fits, LacksItsBody, LossesAreTold, attempt_in, attempt_of_span, fates_of}
 use Rattle.simple_processor.specs.Desk.{State, AreTotals, drops_in, ticket_count}
 use Rattle.batch_desk.specs.declared.totals.Totals.{Totals}
 use Rattle.simple_processor.specs.Holders.{Origin, Holder, processor, pass, pass_accounts}
@@ -27,6 +27,8 @@ pub record Agrees (had told : Option (List Handed)) (s : State) (accounts : List
   pub handed : s.handed ≡ length (all_accepted accounts)
   pub tickets : GivesTickets (ticket_count s) accounts
   pub names : NamesDrops s.ledger (drops_in s) (all_dropped accounts) (all_popped accounts)
+  pub losses : LossesAreTold bodies (all_accepted accounts) s.lost s.lost_count
+      (all_popped_lost accounts)
   pub lacking : AllByRecursion
       (λ (a : PassAccount). AllByRecursion (LacksItsBody s.max_body) (drops a)) accounts
   pub late : CountsLate s.late (ticket_count s) s.closed accounts
@@ -50,10 +52,11 @@ IsShared told state origin (Some desk) holders = Kept origin (told desk) (state 
 -- What an exporter that tells was handed since the processor began, one attempt for each span that
 -- the passes know as handed.
 pub record IsAccountOf (origin : Origin) (told : Option (List Handed)) (t : Totals)
-    (ledger : List Entry) (accounts : List PassAccount) : Type 0 where
+    (ledger lost : List Entry) (accounts : List PassAccount) : Type 0 where
   pub state : State
   pub totals : AreTotals t state
   pub ledger_is : ledger ≡ state.ledger
+  pub lost_is : lost ≡ state.lost
   pub max_body : state.max_body ≡ origin.max_body
   pub agrees : Agrees origin.had told state accounts
 

@@ -1,19 +1,20 @@
-//! What lies under the lock: the exporter, the ledger and counts.
-ghost use Rattle.std.specs.Prelude.{◌≡◌, ◌+◌, ◌-◌, ◌^◌, ◌<◌, [], ◌∷◌, Some, IfErr, IfOk, OnErr, option_map, true};
+//! What lies under the lock: the exporter, the ledgers and counts.
+ghost use Rattle.std.specs.Prelude.{◌≡◌, ◌+◌, ◌-◌, ◌^◌, ◌<◌, [], ◌∷◌, length, Some, IfErr, IfOk, OnErr, option_map, true};
+ghost use Rattle.drop_model.specs.Dropped.{entry_of};
 ghost use Rattle.export_model.specs.Export.{LacksBody};
 ghost use Rattle.retry_model.specs.Retries as retries;
 ghost use Rattle.retry_model.specs.Retries.{next_of};
 ghost use Rattle.retry_core.specs.Retries.{fate_view, outcome_view};
 ghost use Rattle.otlp_span.specs.Dropped.{entry_view, reason_view};
 ghost use Rattle.otlp_proto.specs.Bodies.{reason_of};
-ghost use Rattle.simple_processor.specs.Desk.{Answers, AreTotals, CountsOne, IsSent, Pops, new_state};
+ghost use Rattle.simple_processor.specs.Desk.{Answers, AreTotals, CountsOne, IsSent, Pops, PopsLost, new_state};
 
 use crate::encoder::Encoder;
 use crate::processor::SimpleAccounts;
-use batch_desk::{FateCounts, Totals};
+use batch_desk::{FateCounts, Totals, loss_reason};
 use drop_ledger::{DropCounts, Ledger};
 use otlp_proto::EncodeFault;
-use otlp_span::{Entry, SpanData};
+use otlp_span::{Entry, Reason, SpanData};
 use retry_core::{Fate, Outcome, RetryConfig, decide};
 use span_exporter::Exporter;
 use std::alloc::Allocator;
@@ -25,8 +26,11 @@ use trace_api::Ended;
 pub(crate) struct Desk<E, A: Allocator> {
     exporter: E,
     encoder: Encoder<A>,
+    // The names of dropped spans, and those of lost spans.
     ledger: Ledger<A>,
+    lost: Ledger<A>,
     handed: u64,
+    lost_count: u64,
     dropped: DropCounts,
     late: u64,
     closed: bool,
@@ -44,7 +48,9 @@ impl<E, A: Allocator> Model for Desk<E, A> {
       state = record {
         max_body = d.encoder;
         ledger = d.ledger;
+        lost = d.lost;
         handed = d.handed;
+        lost_count = d.lost_count;
         encode_memory = d.dropped.encode_memory;
         too_large = d.dropped.too_large;
         late = d.late;
@@ -56,7 +62,9 @@ impl<E, A: Allocator> Model for Desk<E, A> {
     ghost invariant = { λ d. AreCounts (record {
       max_body = d.encoder;
       ledger = d.ledger;
+      lost = d.lost;
       handed = d.handed;
+      lost_count = d.lost_count;
       encode_memory = d.dropped.encode_memory;
       too_large = d.dropped.too_large;
       late = d.late;
@@ -74,7 +82,9 @@ impl<E: Exporter, A: Allocator + Copy> Desk<E, A> {
             exporter,
             encoder,
             ledger: Ledger::new(),
+            lost: Ledger::new(),
             handed: 0,
+            lost_count: 0,
             dropped: DropCounts::new(),
             late: 0,
             closed: false,
@@ -83,8 +93,9 @@ impl<E: Exporter, A: Allocator + Copy> Desk<E, A> {
     }
 
     /// Takes a span that has ended, under the next ticket, and hands it to the exporter alone.
-    /// Where it has no body, the ledger names it. Behind a shutdown it is only counted. Where the
-    /// next ticket would be 2^64 - 1, the desk closes as by a shutdown.
+    /// Where it has no body, the ledger names it, and where its attempt came to nothing, the second
+    /// one does. Behind a shutdown it is only counted. Where the next ticket would be 2^64 - 1, the
+    /// desk closes as by a shutdown.
     pub(crate) fn admit(&mut self, mut span: SpanData<A>) -> Ended
         ensures { Answers (E.handed self.old.exporter) (E.handed self.new.exporter)
             self.old.state span result self.new.state }
@@ -99,14 +110,18 @@ impl<E: Exporter, A: Allocator + Copy> Desk<E, A> {
         let (span, sent) = send(&mut self.exporter, &mut self.encoder, span);
         match sent {
             Ok(outcome) => {
-                self.fates.add(fate_of(outcome));
+                let fate = fate_of(outcome);
+                self.fates.add(fate);
                 self.handed += 1;
+                if let Some(reason) = loss_reason(fate) {
+                    name(&mut self.lost, span, reason);
+                    self.lost_count += 1;
+                }
                 Ended::Handed(ticket)
             }
             Err(fault) => {
                 let reason = fault.reason();
-                let entry = span.entry(reason);
-                self.ledger.push(span.into_slip(), entry);
+                name(&mut self.ledger, span, reason);
                 count_one(&mut self.dropped, &fault);
                 Ended::Dropped(ticket, reason)
             }
@@ -129,17 +144,28 @@ impl<E: Exporter, A: Allocator + Copy> Desk<E, A> {
         self.ledger.pop()
     }
 
-    /// The exporter, the counts and the ledger.
+    /// Takes the newest entry out of the ledger of lost spans, if there is one.
+    pub(crate) fn pop_lost(&mut self) -> Option<Entry>
+        ensures exporter { self.new.exporter ≡ self.old.exporter }
+        ensures state { PopsLost self.old.state (option_map entry_view result) self.new.state }
+    {
+        self.lost.pop()
+    }
+
+    /// The exporter, the counts and the ledgers.
     pub(crate) fn into_accounts(self) -> SimpleAccounts<E, A>
         ensures exporter { result.exporter ≡ self.exporter }
         ensures ledger { result.ledger ≡ self.state.ledger }
+        ensures lost { result.lost ≡ self.state.lost }
         ensures totals { AreTotals result.totals self.state }
     {
         let Desk {
             exporter,
             encoder: _,
             ledger,
+            lost,
             handed,
+            lost_count,
             dropped,
             late,
             closed,
@@ -149,6 +175,7 @@ impl<E: Exporter, A: Allocator + Copy> Desk<E, A> {
             accepted: handed,
             taken: handed,
             handed,
+            lost: lost_count,
             left: 0,
             late,
             dropped,
@@ -159,8 +186,18 @@ impl<E: Exporter, A: Allocator + Copy> Desk<E, A> {
             exporter,
             totals,
             ledger,
+            lost,
         }
     }
+}
+
+/// Names a span on a ledger, and frees all else of it.
+fn name<A: Allocator>(ledger: &mut Ledger<A>, span: SpanData<A>, reason: Reason)
+    requires { length ledger.old < 2 ^ 64 - 1 }
+    ensures { ledger.new ≡ entry_of (reason_view reason) span ∷ ledger.old }
+{
+    let entry = span.entry(reason);
+    ledger.push(span.into_slip(), entry);
 }
 
 /// Counts a span more that has no body.

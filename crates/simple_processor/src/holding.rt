@@ -86,6 +86,17 @@ impl Change<Holding, ()> for ShutsDown {
     ghost after = { λ holder _. on_pass after_shutdown holder };
 }
 
+/// A pass pops an entry of the ledger of lost spans.
+pub(crate) struct PopsLost;
+
+impl Change<Holding, Entry> for PopsLost {
+    ghost use Rattle.otlp_span.specs.Dropped.{entry_view};
+    ghost use Rattle.pass_model.specs.Passes.{after_pop_lost};
+    ghost use Rattle.simple_processor.specs.Holders.{on_pass};
+
+    ghost after = { λ holder entry. on_pass (after_pop_lost (entry_view entry)) holder };
+}
+
 /// A pass pops an entry of the ledger.
 pub(crate) struct Pops;
 

@@ -1,7 +1,7 @@
 //! The passes of a simple processor.
 ghost use Rattle.std.specs.Prelude.{◌≡◌, IfNone, IfSome};
 ghost use Rattle.otlp_span.specs.Dropped.{entry_view};
-ghost use Rattle.pass_model.specs.Passes.{after_pop};
+ghost use Rattle.pass_model.specs.Passes.{after_pop, after_pop_lost};
 ghost use Rattle.simple_processor.specs.Accounts.{after_shutdown};
 
 use crate::holding::Holding;
@@ -85,6 +85,21 @@ impl<J: Naming, E: Exporter, R: Wait, A: Allocator + Copy> SimplePass<J, E, R, A
             rt,
         } = self;
         shared.lock(rt).pop_entry(account)
+    }
+
+    /// Takes the newest entry out of the ledger of lost spans, if there is one: of a span that was
+    /// handed to the exporter, and whose attempt came to nothing (profile).
+    pub fn pop_lost(&mut self) -> Option<Entry>
+        ensures some { IfSome result
+            (λ entry. self.new ≡ after_pop_lost (entry_view entry) self.old) }
+        ensures none { IfNone result (self.new ≡ self.old) }
+    {
+        let SimplePass {
+            shared,
+            account,
+            rt,
+        } = self;
+        shared.lock(rt).pop_lost(account)
     }
 }
 

@@ -5,9 +5,9 @@ ghost use Rattle.span_exporter.specs.Handed.{Gains};
 ghost use Rattle.desk_model.specs.Desks.{fate_counts};
 ghost use Rattle.drop_ledger.specs.Counts.{drop_counts_view};
 ghost use Rattle.batch_desk.specs.Views.{fate_counts_view};
-ghost use Rattle.pass_model.specs.Passes.{PassAccount, drops, all_accepted, all_dropped, all_popped, new_account};
+ghost use Rattle.pass_model.specs.Passes.{PassAccount, drops, all_accepted, all_dropped, all_popped, all_popped_lost, new_account};
 ghost use Rattle.pass_model.specs.Clauses.{CountsLate, GivesTickets, NamesDrops};
-ghost use Rattle.simple_processor.specs.Bodies.{Fits, LacksItsBody, attempt_in, attempt_of_span, fates_of, told_since};
+ghost use Rattle.simple_processor.specs.Bodies.{Fits, LacksItsBody, LossesAreTold, attempt_in, attempt_of_span, fates_of, told_since};
 ghost use Rattle.simple_processor.specs.Holders.{pass};
 ghost use Rattle.simple_processor.specs.Kept.{given_tickets};
 ghost use Rattle.simple_processor.specs.declared.processor.TheConstants.{MAX_PASSES};
@@ -87,6 +87,8 @@ pub struct SimpleAccounts<E, A: Allocator = Global> {
     pub totals: Totals,
     /// The names of the dropped spans that were not popped.
     pub ledger: Ledger<A>,
+    /// The names of the lost spans: each was handed to the exporter, and its attempt came to nothing.
+    pub lost: Ledger<A>,
 }
 
 /// A pass is missing: all that was to be closed out.
@@ -204,6 +206,12 @@ impl<J: Naming, E: Exporter, R: Wait + Copy, A: Allocator + Copy> SimpleProcesso
             passes.items) }
         ensures only_without_body { IfOk result (λ a. (a.totals.dropped.queue_full ≡ 0)
             × (a.totals.dropped.abandoned ≡ 0)) }
+
+        // A span whose attempt came to nothing is named in the second ledger, until its entry is
+        // popped: refused, given up since no more attempt is made, or with a reply that can't be read.
+        ensures losses { IfOk result (λ a. OnSome (E.handed a.exporter)
+            (LossesAreTold (told_since self.had (E.handed a.exporter))
+            (all_accepted passes.items) a.lost a.totals.lost (all_popped_lost passes.items))) }
 
         // Spans are late where none is admitted any more: after a shutdown, or without tickets.
         ensures late { IfOk result (λ a. CountsLate a.totals.late (given_tickets a.totals)

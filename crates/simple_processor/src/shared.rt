@@ -1,13 +1,13 @@
 //! What threads share, with the accounts of those who share it.
 ghost use Rattle.std.specs.Prelude.{◌≡◌, ◌≤◌, vec_len, true, option_map, IfSome, IfNone};
 ghost use Rattle.otlp_span.specs.Dropped.{entry_view};
-ghost use Rattle.pass_model.specs.Passes.{after_pop};
+ghost use Rattle.pass_model.specs.Passes.{after_pop, after_pop_lost};
 ghost use Rattle.simple_processor.specs.Accounts.{after_end, after_shutdown, is_simple_answer};
 ghost use Rattle.simple_processor.specs.Holders.{account_in, on_pass, origin_in, pass, processor};
 ghost use Rattle.simple_processor.specs.Kept.{IsAccountOf};
 
 use crate::desk::Desk;
-use crate::holding::{Ends, Holding, Pops, ShutsDown, SpanEnded};
+use crate::holding::{Ends, Holding, Pops, PopsLost, ShutsDown, SpanEnded};
 use crate::pass::SimplePass;
 use crate::processor::SimpleAccounts;
 use account_book::{Account, Book, Naming};
@@ -87,6 +87,22 @@ impl<J: Naming, E: Exporter, A: Allocator + Copy> Shared<J, E, A> {
         Some(entry)
     }
 
+    /// A pass pops an entry of the ledger of lost spans.
+    pub(crate) fn pop_lost(&mut self, account: &mut Account<J, Holding>) -> Option<Entry>
+        requires { account.old ≡ pass (account_in account.old) }
+        ensures some { IfSome result
+            (λ entry. account.new ≡ on_pass (after_pop_lost (entry_view entry)) account.old) }
+        ensures none { IfNone result (account.new ≡ account.old) }
+    {
+        self.book.recognize(account);
+        let Some(desk) = &mut self.desk else {
+            unreachable!()
+        };
+        let entry = desk.pop_lost()?;
+        self.book.record::<Entry, PopsLost>(account, &entry);
+        Some(entry)
+    }
+
     /// Takes all out, once the processor and all passes are back.
     pub(crate) fn close<R>(
         &mut self,
@@ -99,7 +115,7 @@ impl<J: Naming, E: Exporter, A: Allocator + Copy> Shared<J, E, A> {
         requires processor { account ≡ processor (origin_in account) }
         requires all { (origin_in account).passes ≤ vec_len passes }
         ensures { IsAccountOf (origin_in account) (E.handed result.exporter) result.totals
-            result.ledger passes.items }
+            result.ledger result.lost passes.items }
     {
         self.book.recognize(&mut account);
         let Some(desk) = self.desk.take() else {

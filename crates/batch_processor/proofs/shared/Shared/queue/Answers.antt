@@ -5,7 +5,7 @@ use Rattle.batch_model.specs.Holders.{account_in}
 use Rattle.batch_processor.specs.Views.{after_end, ended_of}
 use Rattle.batch_processor.proofs.Holds.{admit_agrees, admit_config, desk_changed, guarded_some, in_hold}
 use Rattle.desk_model.specs.Desks.{Desk}
-use Rattle.batch_desk.specs.Desk.{admission, after_admission}
+use Rattle.batch_desk.specs.Desk.{admission, after_admission, is_queued}
 use Rattle.batch_processor.specs.Holds.{Guarded}
 use Rattle.batch_processor.proofs.shared.Shared.queue.Goals as goal
 
@@ -34,3 +34,8 @@ returns-clause-desk g c =
     let span = c.of-seen.result.value in let answer = c.offer-admitted.result.0 in
     desk_changed (λ (d : Desk). after_admission (admission d) c.args.span d) c.self.inside.desk c.self.inside.left c.in-Some.desk c.offer-admitted.new.self c.args.self.now c.self.view_is c.in-Some.is
     (rw (sym c.offer-admitted.ensures.answer) c.offer-admitted.ensures.desk)
+
+pub returns-clause-remains : goal.returns-clause-remains
+returns-clause-remains g c =
+    let now = guarded_some c.self.inside.desk c.self.inside.left c.in-Some.desk c.args.self.now c.self.view_is c.in-Some.is in
+    c.offer-admitted.ensures.remains ∙ ap is_queued (c.offer-admitted.ensures.answer ∙ sym (ap (λ (x : Guarded). admission x.desk) now))

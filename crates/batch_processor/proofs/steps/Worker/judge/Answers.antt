@@ -8,14 +8,14 @@ use Rattle.retry_model.specs.Retries.{again, fate_of}
 use Rattle.retry_model.specs.Retries as model
 use Rattle.retry_model.specs.Waits.{next_after}
 use Rattle.retry_core.specs.Retries.{fate_view, next_view, outcome_view}
-use Rattle.batch_processor.specs.Holds.{IsHandedBatchOf}
+use Rattle.batch_processor.specs.Holds.{IsSentBatchOf}
 use Rattle.batch_processor.proofs.Turns.{again_step, handed_out, settle_step, state_of}
 use Rattle.batch_processor.proofs.steps.Worker.judge.Goals as goal
 
 pub settle-requires : goal.settle-requires
 settle-requires g c =
     let o = outcome_view c.args.outcome in let body = c.args.body.items in
-    subst (λ (s : WorkerState). IsHandedBatchOf (worker s.origin s.account) c.args.batch) (sym c.self.view_is) (handed_out c.args.self.now c.args.batch (to_judge body o) body c.requires refl)
+    subst (λ (s : WorkerState). IsSentBatchOf (worker s.origin s.account) c.args.batch) (sym c.self.view_is) (handed_out c.args.self.now c.args.batch (to_judge body o) body c.requires refl)
 
 pub returns-in-Again : goal.returns-in-Again
 returns-in-Again g c =

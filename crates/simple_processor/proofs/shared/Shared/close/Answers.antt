@@ -32,6 +32,7 @@ returns g c =
       state = desk.state;
       totals = c.into_accounts.ensures.totals;
       ledger_is = c.into_accounts.ensures.ledger;
+      lost_is = c.into_accounts.ensures.lost;
       max_body = max_end origin said (handed desk.exporter) desk.state c.self.inside.book c.close.new.self c.loop-pass.self-inside.book c.loop-pass.yielded kept gone i.0 i.1 enough;
       agrees = subst (λ o. Agrees said.had o desk.state c.args.passes.items) (ap handed (sym c.into_accounts.ensures.exporter)) (subst (λ (ps : List PassAccount). Agrees said.had (handed desk.exporter) desk.state ps) whole agrees);
     }
