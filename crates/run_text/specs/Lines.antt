@@ -3,7 +3,7 @@ use Rattle.std.specs.Prelude.{ℕ, Bool, true, false, if◌then◌else◌, List,
 use Rattle.std.specs.Fmt.{signed_decimal}
 use Rattle.std.specs.List.{flat_map}
 use Rattle.hex.specs.Hex.{encode_lower}
-use Rattle.drop_model.specs.Dropped.{Reason, Entry}
+use Rattle.drop_model.specs.Dropped.{Entry, reason_word}
 use Rattle.span_model.specs.Spans.{is_end}
 use Rattle.retry_model.specs.Retries.{Next, Cause}
 use Rattle.history_model.specs.Steps.{Step}
@@ -16,12 +16,6 @@ abbrev pub line : List (List ℕ) → List ℕ
 line [] = 10 ∷ []
 line (word ∷ []) = word ++ 10 ∷ []
 line (word ∷ words) = word ++ 32 ∷ line words
-
-abbrev pub reason_word : Reason → List ℕ
-reason_word Reason.queue_full = codes "queue-full"
-reason_word Reason.encode_memory = codes "encode-memory"
-reason_word Reason.too_large = codes "too-large"
-reason_word Reason.abandoned = codes "abandoned"
 
 -- ---- what is told of an answer, behind the word of its step; `none` where it is no answer to such
 -- a step, or says that there was nothing to do
@@ -140,15 +134,22 @@ answers_text handed history = lines_behind handed [] history
 
 -- ---- the report
 
--- the ticket, the identifiers of the trace and of the span, and why it was dropped
-abbrev pub named_line : Entry → List ℕ
-named_line entry =
-    line (codes "named" ∷ decimal entry.ticket ∷ encode_lower entry.trace
+-- of a span that isn't delivered: the ticket, the identifiers of the trace and of the span, and why
+abbrev pub name_line : List ℕ → Entry → List ℕ
+name_line word entry =
+    line (word ∷ decimal entry.ticket ∷ encode_lower entry.trace
     ∷ encode_lower entry.span ∷ reason_word entry.reason ∷ [])
 
--- how many spans wait, or are taken and were not handed over; the names of dropped spans, the
--- newest first; how many spans ended behind the shutdown
-abbrev pub report_text : ℕ → List Entry → ℕ → List ℕ
-report_text queued entries late =
+-- of a dropped one, and of a lost one
+abbrev pub named_line : Entry → List ℕ
+named_line entry = name_line (codes "named") entry
+
+abbrev pub lost_line : Entry → List ℕ
+lost_line entry = name_line (codes "lost") entry
+
+-- how many spans wait, or are taken and were not handed over; the names of dropped spans and those
+-- of lost ones, the newest first; how many spans ended after the shutdown
+abbrev pub report_text : ℕ → List Entry → List Entry → ℕ → List ℕ
+report_text queued entries lost late =
     line (codes "queued" ∷ decimal queued ∷ []) ++ flat_map named_line entries
-    ++ line (codes "late" ∷ decimal late ∷ [])
+    ++ flat_map lost_line lost ++ line (codes "late" ∷ decimal late ∷ [])

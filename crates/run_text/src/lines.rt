@@ -1,13 +1,11 @@
 //! The lines of the answers.
 ghost use Rattle.std.specs.Prelude.{◌≡◌, ◌∷◌, ◌++◌, OnOk, decimal, codes, string_bytes};
-ghost use Rattle.otlp_span.specs.Dropped.{reason_view};
 ghost use Rattle.otlp_span.specs.Parts.{call_view};
 ghost use Rattle.retry_core.specs.Retries.{next_view};
 ghost use Rattle.trace_history.specs.Answers.{answer_view, ended_view};
-ghost use Rattle.run_text.specs.Lines.{line, reason_word, start_words, call_words, ended_words, end_words, take_words, encode_words, attempt_words, next_words, reply_words};
+ghost use Rattle.run_text.specs.Lines.{line, start_words, call_words, ended_words, end_words, take_words, encode_words, attempt_words, next_words, reply_words};
 
 use otlp_ids::OutOfMemory;
-use otlp_span::Reason;
 use retry_core::{Cause, Next};
 use std::alloc::Allocator;
 use trace_api::Ended;
@@ -79,27 +77,12 @@ fn write_ended<A: Allocator>(
     match ended {
         Ended::Queued(ticket) => writeln!(out, "end {span} queued {ticket}")?,
         Ended::Handed(ticket) => writeln!(out, "end {span} handed {ticket}")?,
-        Ended::Dropped(ticket, reason) => {
-            let reason = word_of(reason);
-            writeln!(out, "end {span} dropped {ticket} {reason}")?
-        }
+        Ended::Dropped(ticket, reason) => { writeln!(out, "end {span} dropped {ticket} {reason}")? }
         Ended::Late => writeln!(out, "end {span} late")?,
         Ended::NotSampled => writeln!(out, "end {span} not-sampled")?,
         Ended::AlreadyEnded => writeln!(out, "end {span} already-ended")?,
     }
     Ok(())
-}
-
-/// The word for why a span was dropped.
-pub(crate) fn word_of(reason: Reason) -> &'static str
-    ensures { result.now ≡ reason_word (reason_view reason) }
-{
-    match reason {
-        Reason::QueueFull => "queue-full",
-        Reason::EncodeMemory => "encode-memory",
-        Reason::TooLarge => "too-large",
-        Reason::Abandoned => "abandoned",
-    }
 }
 
 /// Appends the line of a take.
@@ -127,10 +110,7 @@ pub(crate) fn write_encode<A: Allocator>(
 {
     match answer {
         Answer::Encoded { batch, length } => writeln!(out, "encode {batch} {length}")?,
-        Answer::Dropped { batch, reason } => {
-            let reason = word_of(*reason);
-            writeln!(out, "encode {batch} dropped {reason}")?
-        }
+        Answer::Dropped { batch, reason } => { writeln!(out, "encode {batch} dropped {reason}")? }
         _ => writeln!(out, "encode none")?,
     }
     Ok(())

@@ -1,9 +1,8 @@
 //! The report behind the lines of a run.
-ghost use Rattle.std.specs.Prelude.{◌≡◌, ◌++◌, OnOk, string_bytes};
+ghost use Rattle.std.specs.Prelude.{◌≡◌, ◌++◌, OnOk, flat_map, string_bytes};
 ghost use Rattle.otlp_span.specs.Dropped.{entry_view};
-ghost use Rattle.run_text.specs.Lines.{named_line, report_text};
+ghost use Rattle.run_text.specs.Lines.{name_line, report_text};
 
-use crate::lines::word_of;
 use drop_ledger::Ledger;
 use otlp_ids::OutOfMemory;
 use otlp_span::Entry;
@@ -11,7 +10,9 @@ use std::alloc::Allocator;
 
 /// Appends the report of a run (profile): `queued COUNT`, with how many spans wait or are in a
 /// batch that was not handed over; `named TICKET TRACE SPAN REASON` for each dropped span that the
-/// ledger names, the newest first; `late COUNT`, with how many spans ended behind the shutdown.
+/// ledger names, the newest first; `lost TICKET TRACE SPAN REASON` for each span that the ledger of
+/// lost spans names, the newest first; `late COUNT`, with how many spans ended after the shutdown.
+/// The words of a REASON are those of `Reason`'s `Display`.
 ///
 /// # Errors
 ///
@@ -20,23 +21,42 @@ pub fn write_report<A: Allocator>(
     out: &mut String<A>,
     queued: u64,
     ledger: &Ledger<A>,
+    lost: &Ledger<A>,
     late: u64,
 ) -> Result<(), OutOfMemory>
     ensures { OnOk result (string_bytes out.new
-        ≡ string_bytes out.old ++ report_text queued ledger.now late) }
+        ≡ string_bytes out.old ++ report_text queued ledger.now lost.now late) }
 {
     writeln!(out, "queued {queued}")?;
-    for entry in ledger.iter() {
-        write_named(out, entry)?;
-    }
+    write_names(out, "named", ledger)?;
+    write_names(out, "lost", lost)?;
     writeln!(out, "late {late}")?;
     Ok(())
 }
 
-/// Appends the line of a dropped span.
-fn write_named<A: Allocator>(out: &mut String<A>, entry: &Entry) -> Result<(), OutOfMemory>
+/// Appends a line for each name of a ledger, the newest first, each after this word.
+fn write_names<A: Allocator>(
+    out: &mut String<A>,
+    word: &str,
+    ledger: &Ledger<A>,
+) -> Result<(), OutOfMemory>
     ensures { OnOk result (string_bytes out.new
-        ≡ string_bytes out.old ++ named_line (entry_view entry.now)) }
+        ≡ string_bytes out.old ++ flat_map (name_line word.now) ledger.now) }
+{
+    for entry in ledger.iter() {
+        write_name(out, word, entry)?;
+    }
+    Ok(())
+}
+
+/// Appends the line of a name, after this word.
+fn write_name<A: Allocator>(
+    out: &mut String<A>,
+    word: &str,
+    entry: &Entry,
+) -> Result<(), OutOfMemory>
+    ensures { OnOk result (string_bytes out.new
+        ≡ string_bytes out.old ++ name_line word.now (entry_view entry.now)) }
 {
     let Entry {
         trace,
@@ -44,7 +64,6 @@ fn write_named<A: Allocator>(out: &mut String<A>, entry: &Entry) -> Result<(), O
         ticket,
         reason,
     } = *entry;
-    let reason = word_of(reason);
-    writeln!(out, "named {ticket} {trace} {span} {reason}")?;
+    writeln!(out, "{word} {ticket} {trace} {span} {reason}")?;
     Ok(())
 }

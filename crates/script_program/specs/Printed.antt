@@ -37,7 +37,7 @@ queued_count desk = length desk.waiting + in_hand_size desk.out
 -- the lines of the answers, and the report, where the exporter was handed these
 abbrev pub run_text : List Handed → List Answered → Desk → List ℕ
 run_text handed history desk =
-    answers_text handed history ++ report_text (queued_count desk) desk.ledger desk.late
+    answers_text handed history ++ report_text (queued_count desk) desk.ledger desk.lost desk.late
 
 -- The text is that of a run over an exporter that was handed nothing before: each step of the
 -- script has its answer, no span is unaccounted for, the lines are of the attempts that the

@@ -76,6 +76,7 @@ fn text_of_run<A: Allocator + Copy>(
         &mut text,
         queued_spans(desk),
         desk.ledger(),
+        desk.lost(),
         desk.totals().late,
     )?;
     Ok(text)

@@ -25,7 +25,7 @@ use Rattle.run_model.specs.Headline.{pending_as}
 use Rattle.run_model.proofs.More.{is_shut, steps-none, ended-none, events-more, progress-some, last_attempt-none, last_attempt-some}
 use Rattle.otlp_span.specs.Dropped.{reason_view}
 use Rattle.otlp_span.specs.declared.reason.Reason.{Reason}
-use Rattle.otlp_span.specs.declared.reason.Reason.TheVariants.{QueueFull, EncodeMemory, TooLarge, Abandoned}
+use Rattle.otlp_span.specs.declared.reason.Reason.TheVariants.{QueueFull, EncodeMemory, TooLarge, Abandoned, Refused, BadReply, GivenUp, LeftHanded}
 use Rattle.batch_desk.specs.Batch.{BatchView}
 use Rattle.batch_desk.specs.Desk.{IsOut}
 use Rattle.retry_core.specs.Retries.{outcome_view, next_view}
@@ -244,6 +244,10 @@ module _ {S R : Type 0} (meaning : S → SamplerMeaning) (stream : R → Stream)
       }
   lacks-answer o e s QueueFull l = absurd l
   lacks-answer o e s Abandoned l = absurd l
+  lacks-answer o e s (Refused status) l = absurd l
+  lacks-answer o e s BadReply l = absurd l
+  lacks-answer o e s GivenUp l = absurd l
+  lacks-answer o e s LeftHanded l = absurd l
 
   -- its spans are named, and it is out no more
   dropped-on : (o : Out) → out ≡ Some o → o.stage ≡ to_encode → (number : ℕ) (reason : Reason) (desk2 : Desk) (out2 : Option Out) → DropsBatch run.max_body o.batch number reason desk desk2 out2
@@ -406,9 +410,10 @@ module _ {S R : Type 0} (meaning : S → SamplerMeaning) (stream : R → Stream)
         let event : DeskEvent = queue.settled t.fate in
         let same = ended-none run.setup h x refl in
         let is_event : event_by run.setup h x.answer x.step ≡ Some event = ap (Rattle.std.specs.Prelude.option_map queue.settled) (ap fate_of t.is ∙ t.ends) in
+        let sh = out-shows o e in
         let over : progress_by x.answer ≡ Some model.not_out = ends-batch o.batch.number (next_view t.next) t.fate (ap fate_of t.is ∙ t.ends) in
         subst (λ a. Stands meaning stream run (h ++ record { step = reply now word; answer = answer_view a } ∷ []) table desk2 out2) (sym t.answered)
-        (stands-on meaning stream run h table desk out at x table desk2 out2 (Some event) (same-spans x refl) same is_event (t.does 0 events at.history)
+        (stands-on meaning stream run h table desk out at x table desk2 out2 (Some event) (same-spans x refl) same is_event (t.does 0 events at.history (λ loss. sh.spans))
         t.keeps.config t.keeps.next_ticket (t.keeps.closed ∙ at.closed ∙ sym (or-false (is_shut h))) no-more (subst (IsTied desk2) (sym t.out) t.gone)
         (ap shown t.out ∙ ap (λ p. pending_as p (last_spans (desk_events run.setup (h ++ x ∷ []))) (last_batch (desk_events run.setup (h ++ x ∷ []))) (last_attempt (h ++ x ∷ []))) (sym (progress-some h x model.not_out over)))
         (is-decided (next_view t.next) t.is))

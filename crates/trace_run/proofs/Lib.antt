@@ -2,6 +2,7 @@ pub mod Standing
 pub mod Ending
 pub mod Batches
 pub mod Runs
+mod Settling
 pub mod Telling
 pub mod Calling
 pub mod Bodies

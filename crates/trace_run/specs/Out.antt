@@ -7,7 +7,7 @@ use Rattle.export_model.specs.Export.{LacksBody, groups, body_length, grouped_tr
 use Rattle.retry_model.specs.Retries as retries
 use Rattle.retry_model.specs.Retries.{Fate, fate_of}
 use Rattle.desk_model.specs.Queue as desk
-use Rattle.desk_model.specs.Desks.{Desk, Does, DropsSpans, TakesSpans}
+use Rattle.desk_model.specs.Desks.{Desk, Does, DropsSpans, SettlesSpans, TakesSpans}
 use Rattle.retry_model.specs.Waits.{RetryConfig, IsRetryConfig, next_after}
 use Rattle.otlp_proto.specs.Bodies.{body_bytes}
 use Rattle.otlp_span.specs.Dropped.{reason_view}
@@ -267,7 +267,7 @@ pub record Settles (decided : retries.Next) (batch : BatchView) (answer : Answer
   pub is : next_view next ≡ decided
   pub fate : Fate
   pub ends : fate_of decided ≡ Some fate
-  pub does : Does (desk.settled fate) old new
+  pub does : SettlesSpans fate batch.spans old new
   pub out : later ≡ None
   pub gone : new.out ≡ None
   pub keeps : Keeps old new

@@ -2,7 +2,7 @@
 use Rattle.std.specs.Prelude.{List, Option, Some, None, if◌then◌else◌}
 use Rattle.drop_model.specs.Dropped as dropped
 use Rattle.retry_model.specs.Retries as retries
-use Rattle.desk_model.specs.Desks.{Desk, with_fate}
+use Rattle.desk_model.specs.Desks.{Desk, after_settled}
 use Rattle.batch_desk.specs.Desk.{after_drop}
 use Rattle.rand_core.specs.Stream.{Stream}
 use Rattle.span_model.specs.Sampling.{SamplerMeaning}
@@ -26,11 +26,12 @@ abbrev pub OfRun : {S R A : Type 0} → (S → SamplerMeaning) → (R → Stream
 OfRun meaning stream config steps holds report =
     holds (run_config meaning stream config) (history_view steps report.answers)
 
--- A batch that was handed to the exporter is settled, and another one is dropped.
+-- A batch that was handed to the exporter is settled, by which its spans are lost, and another one
+-- is dropped.
 abbrev pub closed_with : Out → Desk → Desk
 closed_with o desk =
     if is_sent o.stage
-    then record desk { out = None; fates = with_fate retries.Fate.abandoned desk.fates }
+    then after_settled retries.Fate.abandoned o.batch.spans desk
     else after_drop dropped.abandoned o.batch.spans desk
 
 abbrev pub closed_as : Option Out → Desk → Desk

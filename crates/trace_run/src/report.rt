@@ -39,7 +39,7 @@ impl<A: Allocator> RunReport<A> {
         self.answers.as_slice()
     }
 
-    /// The queue, with the ledger of dropped spans and the counts.
+    /// The queue, with the ledgers of dropped and of lost spans, and the counts.
     pub fn desk(&self) -> &Desk<A>
         ensures { result.now ≡ self.now.desk }
     {
@@ -54,8 +54,9 @@ impl<A: Allocator> RunReport<A> {
     }
 
     /// Ends the batch that is out, if one is, since nobody hands it on any more: it is settled as
-    /// `Abandoned` where it was handed to the exporter, and else dropped, and the ledger names its
-    /// spans as `Abandoned`. Nothing else changes. (profile)
+    /// `Abandoned` where it was handed to the exporter, and the second ledger names its spans as
+    /// `LeftHanded`; else it is dropped, and the ledger names its spans as `Abandoned`. Nothing else
+    /// changes. (profile)
     pub fn close(self) -> Desk<A>
         ensures { result ≡ after_close self }
     {

@@ -6,7 +6,7 @@ ghost use Rattle.run_model.specs.Answers.{AreAnswers, desk_after};
 ghost use Rattle.run_model.specs.Headline.{pending_after};
 ghost use Rattle.trace_history.specs.Answers.{history_view};
 ghost use Rattle.trace_run.specs.Out.{shown};
-ghost use Rattle.run_laws.specs.Laws.{LateBehindShutdown, DroppedWhereFull, QueuedWhereRoom, TakenWhereDue, TakesTheFirst, TakenBehindShutdown, OneBatchIsOut, EncodedWhereItFits, DroppedUnencoded, DroppedBatchIsNamed, AttemptsAreNumbered, AttemptsAreFew, AttemptsAreFiveAtMost, NoAttemptIsEarly, RepliesAreDecided, HandedAreNotDropped, LedgerNamesTheDropped};
+ghost use Rattle.run_laws.specs.Laws.{LateBehindShutdown, DroppedWhereFull, QueuedWhereRoom, TakenWhereDue, TakesTheFirst, TakenBehindShutdown, OneBatchIsOut, EncodedWhereItFits, DroppedUnencoded, DroppedBatchIsNamed, AttemptsAreNumbered, AttemptsAreFew, AttemptsAreFiveAtMost, NoAttemptIsEarly, RepliesAreDecided, HandedAreNotDropped, LedgerNamesTheDropped, LossesAreNamed};
 ghost use Rattle.trace_run.specs.Report.{OfRun};
 ghost use Rattle.trace_run.specs.Run.{run_config};
 ghost use Rattle.trace_run.specs.Headline.{AreCanonical, Headline};
@@ -22,8 +22,8 @@ use otlp_ids::OutOfMemory;
 use otlp_sampler::Sampler;
 use rand_core::Rng;
 use run_laws::{
-    attempts_are_answered, encodings_are_answered, ends_are_answered, none_is_unaccounted_for,
-    one_batch_is_out, queued_spans_are_ended, takes_are_answered,
+    attempts_are_answered, encodings_are_answered, ends_are_answered, losses_are_named,
+    none_is_unaccounted_for, one_batch_is_out, queued_spans_are_ended, takes_are_answered,
 };
 use span_exporter::Exporter;
 use span_table::SpanTable;
@@ -37,7 +37,8 @@ use trace_history::Step;
 /// Each sampled span that ends before the shutdown is waiting, or in the batch that is out and was
 /// not handed over yet, or was handed to the exporter, or is named by the ledger as dropped: once,
 /// and as its calls made it. A batch is sent again, with the same bytes, where its reply asks for
-/// that (OTLP Specification, "Retryable Response Codes").
+/// that (OTLP Specification, "Retryable Response Codes"). Where a batch that was handed over comes
+/// to nothing, the second ledger names its spans.
 ///
 /// The desk of `config` is of sizes that `Desk::new` takes.
 ///
@@ -95,6 +96,10 @@ pub fn run<S: Sampler + Drop, R: Rng + Drop, E: Exporter, A: Allocator + Copy>(
         (λ run. HandedAreNotDropped run.setup)) }
     ensures ledger { IfOk result
         (OfRun S.meaning R.stream config steps.now LedgerNamesTheDropped) }
+    // The second ledger names the spans of each batch that was handed and came to nothing: once,
+    // with the reason, and no others.
+    ensures losses { IfOk result
+        (OfRun S.meaning R.stream config steps.now LossesAreNamed) }
 
     // The queue, its ledger and the batch that is out have the spans that the steps mean.
     ensures desk { let run = run_config S.meaning R.stream config in
@@ -159,6 +164,7 @@ pub fn run<S: Sampler + Drop, R: Rng + Drop, E: Exporter, A: Allocator + Copy>(
     attempts_are_answered();
     one_batch_is_out();
     none_is_unaccounted_for();
+    losses_are_named();
     queued_spans_are_ended();
     let Running { queue, .. } = running;
     let SpanQueue { desk } = queue;

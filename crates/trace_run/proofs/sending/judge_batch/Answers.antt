@@ -3,7 +3,11 @@ use Rattle.std.specs.Prelude.{option_map}
 use Rattle.retry_model.specs.Retries.{fate_of}
 use Rattle.retry_core.specs.Retries.{fate_view, next_view}
 use Rattle.trace_history.specs.declared.answer.Answer.TheVariants.{Replied}
+use Rattle.trace_run.proofs.Settling.{can-settle}
 use Rattle.trace_run.proofs.sending.judge_batch.Goals as goal
+
+pub settle-requires : goal.settle-requires
+settle-requires g c = can-settle _ _ _ (rw (c.in-Some.is, ← c.out.view_is, c.in-ToJudge.is) at c.requires.tied)
 
 pub returns-in-Again-clause-replies : goal.returns-in-Again-clause-replies
 returns-in-Again-clause-replies g c =

@@ -64,6 +64,13 @@ returns-clause-headline g c =
     (record { waiting = values.waiting run _ right; batches = values.batches run _ right; named = values.drops run _ right })
     (law.named run _) (law.batches run _ right allowed) (c.attempts_are_answered.ensures.in_order run _ right))
 
+pub returns-clause-losses : goal.returns-clause-losses
+returns-clause-losses g c =
+    let i = c.loop-step.invariant in
+    let run = run_config g.S.Sampler.meaning g.R.Rng.stream c.args.config in
+    let allowed = is-allowed g.S.Sampler.meaning g.R.Rng.stream run _ _ _ _ i.stands in
+    rw (take_all c.loop-step.step-index c.args.steps.now c.loop-step-test.false) at (c.losses_are_named.ensures run _ i.stands.answers allowed)
+
 pub returns-clause-canon : goal.returns-clause-canon
 returns-clause-canon g c =
     let i = c.loop-step.invariant in
