@@ -16,10 +16,12 @@ fn write_count<W: Write>(output: &mut W, name: &str, count: u64) -> io::Result<(
     writeln!(output, "{name} {count}")
 }
 
-/// Writes how many spans were handed to the exporter, dropped or left, and how the batches ended.
+/// Writes how many spans were handed to the exporter, and how many of them are lost, how many were
+/// dropped or are left, and how the batches ended.
 pub fn write_balance<W: Write>(output: &mut W, totals: Totals) -> io::Result<()> {
     let fates = totals.fates;
     write_count(output, "spans handed", totals.handed)?;
+    write_count(output, "spans lost", totals.lost)?;
     write_count(output, "spans dropped", all_drops(totals.dropped))?;
     write_count(output, "spans left", totals.left)?;
     write_count(output, "batches delivered", fates.delivered)?;

@@ -1,9 +1,11 @@
 //! Records two spans and exports them over TCP to the collector at a host and a port, which are the
 //! arguments. Prints what became of the spans, and of the batch that they went out in, and what the
-//! last attempt met that failed; the status is 0 where the collector took it.
+//! last attempt met that failed; the status is 0 where the collector took it. The names of spans
+//! that were dropped or lost go to the standard error, since their identifiers are random.
 #![tactic(auto)]
 
 mod balance;
+mod names;
 mod service;
 
 use anyhow::Result;
@@ -31,7 +33,14 @@ fn main(rt: HostRuntime) -> Result<ExitCode> {
     let exporter = HttpExporter::new(alloc, rt, target, timeout_ms).reading_after_a_stop();
     // `Brand` stands for the name of this one processor, which the types of its passes have.
     let blank = BatchBlank::new();
-    let (accounts, exporter) = service::run::<Brand, HostRuntime>(rt, alloc, blank, exporter)?;
+    let mut faults = rt.stderr();
+    let (accounts, exporter) = service::run::<Brand, HostRuntime, _>(
+        rt,
+        alloc,
+        blank,
+        exporter,
+        &mut faults,
+    )?;
     let totals = accounts.desk.totals();
     balance::write_balance(&mut rt.stdout(), totals)?;
     if let Some(failure) = exporter.last_failure() {

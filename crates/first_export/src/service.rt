@@ -1,10 +1,12 @@
 //! Two spans that go to a collector by way of a batch processor.
 ghost use Rattle.std.specs.Prelude.{◌≡◌, None};
 
+use crate::names::write_names;
 use anyhow::{Context, Result};
 use rand::rngs::StdRng;
 use rand::{Rng, make_rng};
 use std::alloc::Global;
+use std::io::Write;
 use std::net::{Net, TcpListener, TcpStream};
 use std::random::RandomSource;
 use std::sync::{Arc, Wait};
@@ -19,6 +21,9 @@ use trace_kit::processor::{
 use trace_kit::trace::{
     AlwaysOn, EndPass, Kind, Provider, Resource, Scope, SpanData, SpanLimits, Tracer, Value,
 };
+
+/// How many spans end.
+const SPANS: u64 = 2;
 
 /// Traces a request for a cart and the query that it makes.
 fn trace_cart<P: EndPass<SpanData>>(
@@ -87,13 +92,14 @@ where
     Ok(started?)
 }
 
-/// Traces the request, and answers what became of its spans, with the exporter. A batch is sent three
-/// times at most, with short waits.
-pub fn run<J, R>(
+/// Traces the request, and answers what became of its spans, with the exporter. A batch is sent five
+/// times at most, with short waits. The names of spans that aren't delivered go to the output.
+pub fn run<J, R, W: Write>(
     rt: R,
     alloc: Global,
     blank: BatchBlank,
     exporter: HttpExporter<R>,
+    output: &mut W,
 ) -> Result<(Accounts, HttpExporter<R>)>
 where
     J: Naming + Send + Sync + 'static,
@@ -101,7 +107,7 @@ where
     R: Threads + Wait + Copy + Send + Sync + 'static,
     requires { blank ≡ J.name }
 {
-    let retry = RetryConfig::new(3, 200, 1000)?;
+    let retry = RetryConfig::new(5, 200, 1000)?;
     let config = BatchConfig {
         retry,
         ..BatchConfig::default()
@@ -117,6 +123,7 @@ where
     if let Some(pass) = passes.first_mut() {
         trace(rt, alloc, pass)?;
         pass.shutdown()?;
+        write_names(pass, SPANS, output)?;
     }
     let (worker, exporter) = worker.join(&rt)?;
     let accounts = processor.close_out(passes, worker).ok();

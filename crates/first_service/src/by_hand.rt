@@ -3,7 +3,7 @@ use anyhow::{Context, Result};
 use std::alloc::Global;
 use std::io::{self, Write};
 use std::sync::Arc;
-use trace_kit::queue::{Desk, DeskConfig, Fate};
+use trace_kit::queue::{Desk, DeskConfig, Entry, Fate};
 use trace_kit::trace::{
     Kind, Open, OutOfMemory, Resource, Scope, SpanContext, SpanData, SpanId, SpanLimits,
     SpanRecord, TraceFlags, TraceId,
@@ -57,25 +57,44 @@ fn ended_spans(alloc: Global, count: u8) -> Result<Vec<SpanData>, OutOfMemory> {
     Ok(spans)
 }
 
-/// Queues the spans, takes all batches and hands them on, and writes what came of each span.
+/// Writes the name of a span that isn't delivered, and why.
+fn write_name<W: Write>(output: &mut W, what: &str, entry: Entry) -> io::Result<()> {
+    let (ticket, trace, span, reason) = (entry.ticket, entry.trace, entry.span, entry.reason);
+    writeln!(output, "{what} {ticket} {trace} {span} {reason}")
+}
+
+/// Takes all names out of the ledgers of dropped and of lost spans, and writes them.
+fn write_names<W: Write>(desk: &mut Desk, output: &mut W) -> io::Result<()> {
+    for _ in 0..desk.ledger().len() {
+        if let Some(entry) = desk.pop_entry() {
+            write_name(output, "named", entry)?;
+        }
+    }
+    for _ in 0..desk.lost().len() {
+        if let Some(entry) = desk.pop_lost() {
+            write_name(output, "lost", entry)?;
+        }
+    }
+    Ok(())
+}
+
+/// Queues the spans, takes all batches and hands them on, and writes what came of each span: a batch
+/// is delivered, and the reply to the other can't be read.
 fn drive<W: Write>(mut desk: Desk, spans: Vec<SpanData>, output: &mut W) -> io::Result<()> {
     for span in spans {
         writeln!(output, "{:?}", desk.admit(span))?;
     }
     let mark = desk.flush();
-    for now in [3, 4] {
+    for (now, fate) in [(3, Fate::Delivered), (4, Fate::BadReply)] {
         if let Some(batch) = desk.take(now) {
             let (number, count) = (batch.number(), batch.spans().len());
             desk.handed(number);
-            desk.settle(batch, Fate::Delivered);
+            desk.settle(batch, fate);
             writeln!(output, "batch {number} of {count}")?;
         }
     }
     writeln!(output, "flushed: {}", desk.flushed(mark))?;
-    for entry in desk.ledger().iter() {
-        writeln!(output, "{} {:?}", entry.span, entry.reason)?;
-    }
-    Ok(())
+    write_names(&mut desk, output)
 }
 
 /// Writes what becomes of three spans in a queue for two, with one to a batch.

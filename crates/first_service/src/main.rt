@@ -1,11 +1,13 @@
 //! Serves requests on four threads, which end their spans on passes of one processor, and prints
 //! what became of the spans: first a simple processor, which hands over each span at its end, then a
 //! batch processor, whose worker hands them over in batches on a thread of its own. Last, spans
-//! through the queue of such a processor, driven by hand.
+//! through the queue of such a processor, driven by hand. Spans that are dropped (`named`) or lost
+//! are printed one by one, each with its ticket, which is its number, and the reason.
 #![tactic(auto)]
 
 mod balance;
 mod by_hand;
+mod names;
 mod requests;
 mod service;
 mod simple;
@@ -25,8 +27,10 @@ fn main(rt: HostRuntime) -> Result<()> {
     simple::write_accounts::<Brand, HostRuntime, _>(rt, alloc, SimpleBlank::new(), &mut output)?;
 
     writeln!(output, "batch processor")?;
-    let accounts = service::run::<Brand, HostRuntime>(rt, alloc, BatchBlank::new())?;
-    balance::write_balance(&mut output, service::SPANS, accounts.desk.totals())?;
+    let blank = BatchBlank::new();
+    let accounts = service::run::<Brand, HostRuntime, _>(rt, alloc, blank, &mut output)?;
+    let batch = service::BATCH as u64;
+    balance::write_balance(&mut output, service::SPANS, batch, accounts.desk.totals())?;
 
     writeln!(output, "queue by hand")?;
     by_hand::write_batches(alloc, &mut output)

@@ -1,6 +1,11 @@
 //! The queue of a batch processor (OpenTelemetry Trace SDK, "Batching processor"): a [`Desk`]
-//! admits ended spans and gives them in batches, and its [`Ledger`] names those that were dropped.
-pub use batch_desk::{Admitted, Batch, Desk, DeskConfig, FateCounts, Mark, Totals};
+//! admits ended spans and gives them in batches. One [`Ledger`] names the spans that were dropped,
+//! and another those that are lost: their batch was handed to an exporter and came to nothing, for
+//! the [`Reason`] that [`loss_reason`] gives.
+pub use batch_desk::{
+    Admitted, Batch, Desk, DeskConfig, FateCounts, Mark, NamedBatch, SettledBatch, Totals,
+    loss_reason,
+};
 pub use drop_ledger::{DropCounts, Ledger};
 pub use otlp_span::{Entries, Entry, Reason, Slip};
 pub use retry_core::Fate;
