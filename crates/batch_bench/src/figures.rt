@@ -117,8 +117,10 @@ impl Rounds {
 pub struct HoldTimes {
     /// A batch is taken.
     pub takes: Vec<u64>,
-    /// A batch is settled.
+    /// A batch is settled as delivered.
     pub settles: Vec<u64>,
+    /// A batch is settled as lost.
+    pub losses: Vec<u64>,
     /// A batch is dropped.
     pub drops: Vec<u64>,
 }
@@ -129,6 +131,7 @@ impl HoldTimes {
         HoldTimes {
             takes: Vec::new(alloc),
             settles: Vec::new(alloc),
+            losses: Vec::new(alloc),
             drops: Vec::new(alloc),
         }
     }
@@ -137,6 +140,7 @@ impl HoldTimes {
     pub fn add(&mut self, holds: Holds) -> Result<()> {
         self.takes.push(holds.take)?;
         self.settles.push(holds.settle)?;
+        self.losses.push(holds.lose)?;
         self.drops.push(holds.drop)?;
         Ok(())
     }

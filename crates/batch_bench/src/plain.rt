@@ -16,23 +16,25 @@ const MAX_BATCHES: u32 = 4;
 pub struct Holds {
     /// A batch is taken.
     pub take: u64,
-    /// It is settled: its spans are gone by then.
+    /// It is settled as delivered: its spans are gone by then.
     pub settle: u64,
-    /// Another one is dropped: its spans are named by then.
+    /// Another one is settled as lost: its spans are named by then.
+    pub lose: u64,
+    /// A third one is dropped: its spans are named by then.
     pub drop: u64,
 }
 
-/// Takes a batch, and settles it. How long it took to take it, and to settle it.
-fn time_settled(desk: &mut Desk, clock: &impl Clock) -> Option<(u64, u64)> {
+/// Takes a batch, and settles it with this fate. How long it took to take it, and to settle it.
+fn time_settled(desk: &mut Desk, clock: &impl Clock, fate: Fate) -> Option<(u64, u64)> {
     let began = clock.now();
-    let mut batch = desk.take(0)?;
+    let batch = desk.take(0)?;
     let taken = clock.now();
     desk.handed(batch.number());
-    batch.clear();
-    let cleared = clock.now();
-    desk.settle(batch, Fate::Delivered);
-    let settled = clock.now();
-    Some((taken.saturating_sub(began), settled.saturating_sub(cleared)))
+    let settled = batch.into_settled(fate);
+    let emptied = clock.now();
+    desk.settle_named(settled);
+    let done = clock.now();
+    Some((taken.saturating_sub(began), done.saturating_sub(emptied)))
 }
 
 /// Takes a batch, and drops it. How long it took to drop it.
@@ -76,14 +78,21 @@ impl<R: Wait> PlainPass<R> {
         }
     }
 
-    /// Takes two batches of the spans that wait, settles the first, and drops the second, each as a
-    /// worker does. How long each of these took; nothing where fewer batches wait.
+    /// Takes three batches of the spans that wait, settles the first as delivered and the second as
+    /// lost, and drops the third, each as a worker does. How long each of these took; nothing where
+    /// fewer batches wait.
     pub fn time_holds(&mut self, clock: &impl Clock) -> Option<Holds> {
         let mut desk = self.desk.lock(&self.rt);
         desk.flush();
-        let (take, settle) = time_settled(&mut desk, clock)?;
+        let (take, settle) = time_settled(&mut desk, clock, Fate::Delivered)?;
+        let (_, lose) = time_settled(&mut desk, clock, Fate::GivenUp)?;
         let drop = time_dropped(&mut desk, clock)?;
-        Some(Holds { take, settle, drop })
+        Some(Holds {
+            take,
+            settle,
+            lose,
+            drop,
+        })
     }
 }
 

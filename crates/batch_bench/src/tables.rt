@@ -36,7 +36,7 @@ const FEW: u64 = 100;
 /// How many spans a batch has.
 const BATCH: u64 = 512;
 
-/// How many times two batches are taken from such a desk to time how long it is held.
+/// How many times three batches are taken from such a desk to time how long it is held.
 const BURSTS: u32 = 200;
 
 /// How many spans at a time find the queue of a desk full: as many as fill it.
@@ -180,7 +180,7 @@ fn time_holds<R>(rt: R, alloc: Global, attributes: usize) -> Result<HoldTimes>
 where
     R: Wait + RandomSource + Clock + Copy + Drop,
 {
-    let load = Load::at_once(2 * BATCH, attributes);
+    let load = Load::at_once(3 * BATCH, attributes);
     let mut pass = PlainPass::new(rt, alloc)?;
     let mut times = HoldTimes::new(alloc);
     for _burst in 0..BURSTS {
@@ -209,6 +209,7 @@ where
     )?;
     write_hold(output, "take", Spread::new(times.takes)?)?;
     write_hold(output, ", settle", Spread::new(times.settles)?)?;
+    write_hold(output, ", settle as lost", Spread::new(times.losses)?)?;
     write_hold(output, ", drop", Spread::new(times.drops)?)?;
     writeln!(output)?;
     Ok(())

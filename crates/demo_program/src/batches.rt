@@ -51,7 +51,7 @@ fn first_span(request: &Request) -> Option<&Span> {
 }
 
 /// How many spans a request has.
-fn count_spans(request: &Request) -> u64 {
+pub(crate) fn count_spans(request: &Request) -> u64 {
     let mut count = 0u64;
     for resource in &request.resource_spans {
         count = count.saturating_add(count_of_resource(resource));

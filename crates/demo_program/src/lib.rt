@@ -10,6 +10,7 @@ mod fault;
 mod lanes;
 mod program;
 mod sums;
+mod tally;
 mod words;
 
 pub use args::DemoArgs;

@@ -7,6 +7,7 @@ use crate::args::DemoArgs;
 use crate::collector::Collector;
 use crate::lanes::{end_on_all, make_lanes, passes_of, shut_down};
 use crate::sums::Sums;
+use crate::tally::{Taken, Tally};
 use batch_desk::DeskConfig;
 use batch_processor::{
     Accounts, BatchBlank, BatchConfig, BatchProcessor, Clock, Naming, Parts, SystemClock,
@@ -55,13 +56,17 @@ where
 /// collector on loopback, whose replies to good bodies are 200, 502, 429 and 200 over and over;
 /// behind 502 and 429 it may be tried again at once. Then the processor is shut down and closed
 /// out, and the collector is ended. Prints a line for each, with its number: `ended` (the ends that
-/// were answered `Queued` or `Dropped`), `handed`, `dropped`, `left`, `sum` (of the last three),
-/// `balanced` with `yes` or `no` (whether the sum is what ended), and `collected` (the spans of the
-/// distinct bodies that the collector could read). (profile)
+/// were answered `Queued` or `Dropped`), `delivered` (spans of batches that the exporter was told
+/// to be taken whole), `lost` (spans that the processor names as lost), `partial` (spans of batches
+/// of which the collector rejected some), `dropped`, `left`, `sum` (of the last five), `balanced`
+/// with `yes` or `no` (whether the sum is what ended), and `collected` (the spans of the distinct
+/// bodies that the collector could read, whatever it replied). (profile)
 ///
 /// The answer is the program's status: 0 where they are balanced and as many are collected as were
-/// handed, and else 1. It is 1 too where a write fails, and where a port, a thread or memory can't
-/// be had; then nothing is printed.
+/// handed, which are the delivered, the lost and the partial ones, and else 1. As many are collected
+/// where each body came, also where its batch is lost, since no reply said that it was taken. The
+/// status is 1 too where a write fails, and where a port, a thread or memory can't be had; then
+/// nothing is printed.
 pub fn demo<R, W>(rt: R, alloc: Global, output: &mut W, args: &DemoArgs) -> u8
 where
     R: Net<Listener = TcpListener, Stream = TcpStream> + time::Clock,
@@ -92,14 +97,20 @@ where
     let collector = Collector::start(&rt, alloc)?;
     let traced = trace::<J, R>(rt, alloc, blank, collector.port(), args);
     let collected = collector.stop(&rt)?;
-    let Traced { ended, accounts } = traced?;
-    Some(Sums::new(ended, &accounts, collected))
+    let Traced {
+        ended,
+        taken,
+        accounts,
+    } = traced?;
+    Some(Sums::new(ended, taken, &accounts, collected))
 }
 
-/// How many spans were queued or dropped, and what the processor came to.
+/// How many spans were queued or dropped, how many the collector took as it said, and what the
+/// processor came to.
 #[derive(Drop)]
 struct Traced {
     ended: u64,
+    taken: Taken,
     accounts: Accounts,
 }
 
@@ -128,13 +139,14 @@ where
         worker,
     } = parts;
     let mut lanes = make_lanes(alloc, passes, args.seed)?;
-    let worker = start_worker(rt, exporter, worker)?;
+    let worker = start_worker(rt, Tally::new(alloc, exporter), worker)?;
     end_on_all(rt, alloc, lanes.as_mut_slice(), args.spans);
     let ended = shut_down(lanes.as_mut_slice());
-    let worker = worker.join(&rt);
+    let (worker, taken) = worker.join(&rt);
     let accounts = processor.close_out(passes_of(alloc, lanes)?, worker).ok()?;
     Some(Traced {
         ended: ended?,
+        taken: taken?,
         accounts,
     })
 }
@@ -152,12 +164,15 @@ fn config_of(args: &DemoArgs) -> BatchConfig {
     }
 }
 
+/// The thread of a worker, which gives its pass back, and how many spans the collector took.
+type WorkerThread<J, R> = JoinHandle<(WorkerPass<J, R>, Option<Taken>)>;
+
 /// Starts the thread of the worker, which posts batches to the collector until all is drained.
 fn start_worker<J, R>(
     rt: R,
-    mut exporter: HttpExporter<R>,
+    mut exporter: Tally<R>,
     mut worker: WorkerPass<J, R>,
-) -> Option<JoinHandle<WorkerPass<J, R>>>
+) -> Option<WorkerThread<J, R>>
 where
     J: Naming + Send + Sync + 'static,
     R: Net<Listener = TcpListener, Stream = TcpStream> + time::Clock,
@@ -166,13 +181,13 @@ where
 {
     let started = thread::spawn(
         &rt,
-        move || -> WorkerPass<J, R>
+        move || -> (WorkerPass<J, R>, Option<Taken>)
             requires { worker.encoded ≡ None }
         {
             // The collector says how long to wait, so that no wait is drawn by chance.
             let mut rng = Pcg64::seed_from_u64(0);
             worker.work(&mut exporter, &SystemClock::new(rt), &mut rng, u64::MAX);
-            worker
+            (worker, exporter.taken())
         },
     );
     started.ok()

@@ -1,4 +1,5 @@
 pub mod Args
 pub mod Balance
+pub mod Losses
 pub mod Memory
 pub mod Verdicts

@@ -5,6 +5,7 @@ use Rattle.trace_soak.specs.declared.verdict.Verdict.{Verdict}
 -- All of it holds.
 pub record IsSound (verdict : Verdict) : Type 0 where
   pub balanced : IsTrue verdict.is_balanced
+  pub named : IsTrue verdict.are_lost_named
   pub counted : IsTrue verdict.are_counted
   pub equal : IsTrue verdict.are_equal
   pub kept : IsTrue verdict.are_delivered_kept

@@ -1,5 +1,6 @@
 //! What both sides of the links noted in a round.
 use crate::course::{COURSES, Course};
+use crate::told::{Told, loss_reason};
 use otlp_read::{Request, ResourceSpans, ScopeSpans, Span, read_request};
 use retry_core::Outcome;
 use std::alloc::{AllocError, Global};
@@ -17,6 +18,7 @@ struct Kept {
 struct Batch {
     number: u64,
     spans: Vec<u64>,
+    attempts: u32,
     is_kept: bool,
     last: Outcome,
 }
@@ -97,6 +99,7 @@ impl Book {
         }
         if let Some(batch) = self.batches.last_mut() {
             if batch.number == attempt.number {
+                batch.attempts = batch.attempts.saturating_add(1);
                 batch.is_kept = batch.is_kept || attempt.is_kept;
                 batch.last = attempt.outcome;
                 return Ok(());
@@ -105,30 +108,46 @@ impl Book {
         self.batches.push(Batch {
             number: attempt.number,
             spans: read_numbers(self.alloc, attempt.body)?,
+            attempts: 1,
             is_kept: attempt.is_kept,
             last: attempt.outcome,
         })?;
         Ok(())
     }
 
-    /// The spans of all bodies that the collector kept.
-    pub(crate) fn kept_spans(&self) -> Result<Vec<u64>, AllocError> {
-        let mut spans = Vec::new(self.alloc);
-        for kept in &self.kept {
-            spans.extend_from_slice(kept.spans.as_slice())?;
+    /// What has to become of the spans of all batches.
+    pub(crate) fn told(&self) -> Result<Told, AllocError> {
+        let mut told = Told::new(self.alloc);
+        for batch in &self.batches {
+            self.tell(batch, &mut told)?;
         }
-        Ok(spans)
+        Ok(told)
     }
 
-    /// The spans of all batches whose body the collector kept at no attempt.
-    pub(crate) fn unkept_spans(&self) -> Result<Vec<u64>, AllocError> {
-        let mut spans = Vec::new(self.alloc);
-        for batch in &self.batches {
-            if !batch.is_kept {
-                spans.extend_from_slice(batch.spans.as_slice())?;
-            }
+    /// Adds the spans of a batch. Where it was taken, they are those that the collector read in the
+    /// body which it kept; else they are lost, whether it kept the body or not.
+    fn tell(&self, batch: &Batch, told: &mut Told) -> Result<(), AllocError> {
+        let Some(spans) = self.spans_of(batch) else {
+            return Ok(());
+        };
+        match batch.last {
+            Outcome::Delivered if batch.is_kept => told.delivered.extend_from_slice(spans),
+            Outcome::Partial(_) if batch.is_kept => told.partial.extend_from_slice(spans),
+            last => match loss_reason(last, batch.attempts) {
+                Some(reason) => told.lose(spans, reason, batch.is_kept),
+                None => Ok(()),
+            },
         }
-        Ok(spans)
+    }
+
+    /// The spans of a batch: those that the collector read, where it kept the body, and else those
+    /// that were to be sent. `None` where what it kept doesn't begin with the span that was sent.
+    fn spans_of<'a>(&'a self, batch: &'a Batch) -> Option<&'a [u64]> {
+        if !batch.is_kept {
+            return Some(batch.spans.as_slice());
+        }
+        let kept = find(self.kept.as_slice(), batch.spans.first())?;
+        Some(kept.spans.as_slice())
     }
 
     /// Whether each batch whose last attempt was told to be taken was kept.

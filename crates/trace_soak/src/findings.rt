@@ -4,6 +4,7 @@ ghost use Rattle.std.specs.Prelude.{◌≡◌};
 use crate::balance::Found;
 use crate::book::Book;
 use crate::course::COURSES;
+use crate::losses::{Loss, are_named};
 use crate::memory::{WARM_ROUNDS, is_flat};
 use crate::verdict::Verdict;
 use batch_processor::Accounts;
@@ -16,12 +17,16 @@ use std::io::Write;
 pub(crate) struct Counts {
     /// How many spans ended, on all threads.
     pub(crate) ended: u64,
-    /// How many of them the collector kept, by its own reading of bodies.
-    pub(crate) kept: u64,
-    /// How many the ledger named.
+    /// How many of them were in batches that were taken whole, by the collector's own reading.
+    pub(crate) delivered: u64,
+    /// How many were in batches that were taken but for some of their spans, by the same.
+    pub(crate) partial: u64,
+    /// How many were named as lost.
+    pub(crate) lost: u64,
+    /// Of how many of these the collector has the body all the same.
+    pub(crate) lost_kept: u64,
+    /// How many were named as dropped.
     pub(crate) dropped: u64,
-    /// How many were in batches whose body the collector kept at no attempt.
-    pub(crate) unkept: u64,
     /// How many bodies came that had been kept before.
     pub(crate) repeats: u64,
     /// How many attempts were of each kind of course.
@@ -45,14 +50,17 @@ impl Findings {
         Findings {
             counts: Counts {
                 ended: 0,
-                kept: 0,
+                delivered: 0,
+                partial: 0,
+                lost: 0,
+                lost_kept: 0,
                 dropped: 0,
-                unkept: 0,
                 repeats: 0,
                 courses: [0; COURSES],
             },
             verdict: Verdict {
                 is_balanced: true,
+                are_lost_named: true,
                 are_equal: true,
                 are_delivered_kept: true,
                 are_counted: false,
@@ -79,13 +87,32 @@ impl Findings {
         verdict.are_delivered_kept = verdict.are_delivered_kept && book.are_delivered_kept();
         let counts = &mut self.counts;
         counts.ended = counts.ended.saturating_add(ended.len() as u64);
-        counts.kept = counts.kept.saturating_add(found.kept.len() as u64);
+        counts.delivered = counts
+            .delivered
+            .saturating_add(found.delivered.len() as u64);
+        counts.partial = counts.partial.saturating_add(found.partial.len() as u64);
         counts.dropped = counts.dropped.saturating_add(found.dropped.len() as u64);
-        counts.unkept = counts.unkept.saturating_add(found.unkept.len() as u64);
         counts.repeats = counts.repeats.saturating_add(book.repeats);
         for (count, more) in counts.courses.iter_mut().zip(book.courses.iter()) {
             *count = count.saturating_add(*more);
         }
+        Some(())
+    }
+
+    /// Adds the spans that were named as lost in a round, those that had to be, and of how many of
+    /// these the collector has the body. `None` where memory was refused.
+    pub(crate) fn add_losses(
+        &mut self,
+        alloc: Global,
+        named: &[Loss],
+        wanted: &[Loss],
+        kept: u64,
+    ) -> Option<()> {
+        let are_named = are_named(alloc, named, wanted).ok()?;
+        self.verdict.are_lost_named = self.verdict.are_lost_named && are_named;
+        let counts = &mut self.counts;
+        counts.lost = counts.lost.saturating_add(named.len() as u64);
+        counts.lost_kept = counts.lost_kept.saturating_add(kept);
         Some(())
     }
 
@@ -105,11 +132,13 @@ impl Findings {
         let by_worker = drops.encode_memory.saturating_add(drops.too_large);
         let by_worker = by_worker.saturating_add(drops.abandoned);
         let dropped = drops.queue_full.saturating_add(by_worker);
-        let handed = self.counts.kept.saturating_add(self.counts.unkept);
+        let counts = self.counts;
+        let taken = counts.delivered.saturating_add(counts.partial);
         let is_empty = totals.left == 0 && totals.late == 0;
         self.verdict.are_counted = is_empty
-            && totals.handed == handed
-            && dropped == self.counts.dropped;
+            && totals.handed == taken.saturating_add(counts.lost)
+            && totals.lost == counts.lost
+            && dropped == counts.dropped;
         self.verdict.is_flat = is_flat(self.first.as_slice(), self.later.as_slice(), slack);
     }
 
@@ -130,6 +159,7 @@ impl Findings {
         let verdict = self.verdict;
         writeln!(output, "ended {}", self.counts.ended)?;
         writeln!(output, "balanced {}", word(verdict.is_balanced))?;
+        writeln!(output, "lost names match {}", word(verdict.are_lost_named))?;
         writeln!(output, "counts agree {}", word(verdict.are_counted))?;
         writeln!(output, "repeats equal {}", word(verdict.are_equal))?;
         let delivered = word(verdict.are_delivered_kept);
@@ -142,9 +172,11 @@ impl Findings {
     /// Writes what was counted, a line each, and flushes.
     pub(crate) fn print_counts<W: Write>(&self, output: &mut W) -> io::Result<()> {
         let counts = self.counts;
-        writeln!(output, "kept {}", counts.kept)?;
+        writeln!(output, "delivered {}", counts.delivered)?;
+        writeln!(output, "partial {}", counts.partial)?;
+        let (lost, kept) = (counts.lost, counts.lost_kept);
+        writeln!(output, "lost {lost}, of which the collector kept {kept}")?;
         writeln!(output, "dropped {}", counts.dropped)?;
-        writeln!(output, "unkept {}", counts.unkept)?;
         writeln!(output, "repeats {}", counts.repeats)?;
         let [none, cut, unread, refused, partial, busy, slow, good] = counts.courses;
         writeln!(

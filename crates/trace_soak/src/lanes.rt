@@ -1,4 +1,5 @@
 //! Threads that end spans, each on a pass of its own.
+use crate::losses::Loss;
 use batch_processor::{Clock, MAX_PASSES, Naming, Pass, SystemClock};
 use otlp_sampler::AlwaysOn;
 use otlp_span::{Kind, Resource, Scope, SpanData, SpanLimits};
@@ -98,7 +99,8 @@ pub(crate) fn shut_down<J: Naming, R: Wait>(lanes: &mut [Lane<J, R>]) -> Option<
     Some(())
 }
 
-/// The numbers of the spans that the ledger names, taken out of it, so many at most.
+/// The numbers of the spans that the ledger of dropped spans names, taken out of it, so many at
+/// most. `None` where memory was refused.
 pub(crate) fn pop_dropped<J: Naming, R: Wait>(
     alloc: Global,
     lanes: &mut [Lane<J, R>],
@@ -113,6 +115,26 @@ pub(crate) fn pop_dropped<J: Naming, R: Wait>(
         dropped.push(u64::from_be_bytes(entry.span.0)).ok()?;
     }
     Some(dropped)
+}
+
+/// The spans that the ledger of lost spans names, taken out of it, so many at most. `None` where
+/// memory was refused.
+pub(crate) fn pop_lost<J: Naming, R: Wait>(
+    alloc: Global,
+    lanes: &mut [Lane<J, R>],
+    most: u64,
+) -> Option<Vec<Loss>> {
+    let pass = &mut lanes.first_mut()?.pass;
+    let mut lost = Vec::new(alloc);
+    for _ in 0..most {
+        let Some(entry) = pass.pop_lost() else {
+            return Some(lost);
+        };
+        let number = u64::from_be_bytes(entry.span.0);
+        let reason = entry.reason;
+        lost.push(Loss { number, reason }).ok()?;
+    }
+    Some(lost)
 }
 
 /// The passes of all lanes.

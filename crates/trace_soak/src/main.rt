@@ -11,8 +11,10 @@ mod exporter;
 mod findings;
 mod lanes;
 mod link;
+mod losses;
 mod memory;
 mod soak;
+mod told;
 mod verdict;
 mod worker;
 

@@ -8,9 +8,11 @@ use crate::book::Book;
 use crate::exporter::{NoDial, RandomLinks};
 use crate::findings::Findings;
 use crate::lanes::{
-    Lane, deal, end_on_all, flush, make_lanes, passes_of, pop_dropped, shut_down, take_ended,
+    Lane, deal, end_on_all, flush, make_lanes, passes_of, pop_dropped, pop_lost, shut_down,
+    take_ended,
 };
 use crate::memory::resident;
+use crate::told::Told;
 use crate::worker::{config, start_worker};
 use batch_processor::{BatchBlank, BatchConfig, BatchProcessor, Clock, Naming, Parts, SystemClock};
 use http_exporter::LinkExporter;
@@ -173,10 +175,18 @@ fn balance<J: Naming, R: Wait>(
         return None;
     }
     let ended = take_ended(alloc, lanes)?;
+    let Told {
+        delivered,
+        partial,
+        lost,
+        lost_kept,
+    } = book.told().ok()?;
     let found = Found {
-        kept: book.kept_spans().ok()?,
+        delivered,
+        partial,
+        lost: pop_lost(alloc, lanes, u64::MAX)?,
         dropped: pop_dropped(alloc, lanes, u64::MAX)?,
-        unkept: book.unkept_spans().ok()?,
     };
+    findings.add_losses(alloc, found.lost.as_slice(), lost.as_slice(), lost_kept)?;
     findings.add(alloc, ended.as_slice(), &found, &book)
 }

@@ -7,9 +7,12 @@ ghost use Rattle.trace_soak.specs.Verdicts.{IsSound};
 pub(crate) struct Verdict {
     /// Whether in each round each span was found in exactly one place.
     pub(crate) is_balanced: bool,
+    /// Whether the spans that were named as lost were just those of the batches that came to
+    /// nothing, each with the reason of its batch.
+    pub(crate) are_lost_named: bool,
     /// Whether each body that came again was the same.
     pub(crate) are_equal: bool,
-    /// Whether each batch that was told to be delivered was kept.
+    /// Whether each batch that was told to be taken was kept.
     pub(crate) are_delivered_kept: bool,
     /// Whether the processor's own counts are those of what was found.
     pub(crate) are_counted: bool,
@@ -23,7 +26,7 @@ impl Verdict {
         ensures least { result ≤ 1 }
         ensures sound { (result ≡ 0) ↔ IsSound self.now }
     {
-        let is_balanced = self.is_balanced && self.are_counted;
+        let is_balanced = self.is_balanced && self.are_lost_named && self.are_counted;
         let is_told = self.are_equal && self.are_delivered_kept;
         if is_balanced && is_told && self.is_flat {
             0

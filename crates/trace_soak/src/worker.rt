@@ -15,7 +15,7 @@ use std::time;
 const BATCH: usize = 256;
 
 /// How often a batch is sent at most.
-const ATTEMPTS: u32 = 4;
+pub(crate) const ATTEMPTS: u32 = 4;
 
 /// The most milliseconds between two attempts.
 const WAIT_MS: u32 = 1;
