@@ -6,6 +6,7 @@ mod driver;
 mod freed;
 mod growths;
 mod ledger;
+mod lost;
 mod plain;
 mod random;
 mod retries;

@@ -13,6 +13,8 @@ mod fixture;
 #[cfg(test)]
 mod leaves;
 #[cfg(test)]
+mod lost;
+#[cfg(test)]
 mod memory;
 mod neighbors;
 #[cfg(test)]

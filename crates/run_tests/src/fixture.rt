@@ -270,6 +270,8 @@ pub(crate) struct Told<A: Allocator> {
     pub(crate) totals: Totals,
     /// Whom the ledger names when the report is closed, the newest first.
     pub(crate) names: Vec<Entry, A>,
+    /// The same of the ledger of lost spans.
+    pub(crate) lost: Vec<Entry, A>,
     /// The identifiers of the spans that wait then.
     pub(crate) waiting: Vec<u64, A>,
     /// Whom the ledger names once these are dropped too.
@@ -326,12 +328,22 @@ fn close<A: Allocator + Copy>(rt: &impl Abort, alloc: A, report: RunReport<A>) -
         left: before(&report, totals),
         totals,
         names: Vec::new(alloc),
+        lost: Vec::new(alloc),
         waiting: Vec::new(alloc),
         all_names: Vec::new(alloc),
     };
     let mut desk = report.close();
     tell_closed(rt, alloc, &mut told, &mut desk);
     told
+}
+
+/// How many spans are lost when a report is closed that leaves this: those of the batch that is out,
+/// where it was handed.
+fn lost_with(left: &Left) -> u64 {
+    match (left.batch, left.out) {
+        (Some((_, spans)), Some((_, true))) => spans as u64,
+        _ => 0,
+    }
 }
 
 /// Tells of the desk of a report that is closed.
@@ -346,10 +358,15 @@ fn tell_closed<A: Allocator + Copy>(
     told.left.abandoned = (totals.dropped.abandoned, totals.fates.abandoned);
     totals.dropped.abandoned = told.totals.dropped.abandoned;
     totals.fates.abandoned = told.totals.fates.abandoned;
+    let lost = told.totals.lost.saturating_add(lost_with(&told.left));
+    assert_equal(rt, (totals.lost, desk.lost().len()), (lost, lost));
+    totals.lost = told.totals.lost;
     assert_equal(rt, totals, told.totals);
     told.names = names(rt, alloc, desk.ledger());
+    told.lost = names(rt, alloc, desk.lost());
     told.waiting = drop_waiting(rt, alloc, desk);
     told.all_names = names(rt, alloc, desk.ledger());
+    assert_equal(rt, desk.lost().len(), lost);
 }
 
 /// Runs these steps on scarce memory, and answers on ample memory what is told.

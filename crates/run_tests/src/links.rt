@@ -3,13 +3,14 @@
 use crate::equal::{assert_equal, assert_equal_at};
 use crate::far_side::{FarSide, target};
 use crate::fixture::{
-    BODY, Do, Gives, Left, Row, SECOND, assert_answers, assert_left, config, desk, roots,
-    run_steps, steps,
+    BODY, Do, Gives, Left, Row, SECOND, TRACE, assert_answers, assert_left, config, desk, roots,
+    run_steps, span_id, steps,
 };
 use http_exporter::{Dial, LinkExporter};
 use otlp_http::{FailingCalls, FailingWire};
 use otlp_sampler::AlwaysOn;
-use retry_core::{Next, Outcome};
+use otlp_span::{Entry, Reason};
+use retry_core::{Cause, Next, Outcome};
 use span_exporter::Exporter;
 use std::alloc::Global;
 use std::process::Abort;
@@ -111,33 +112,50 @@ const NOTHING_LEFT: Left = Left {
     abandoned: (0, 0),
 };
 
-/// Runs such a program over this exporter, and asserts its answers, and that nothing is left.
-fn assert_run<E: Exporter>(rt: &impl Abort, alloc: Global, exporter: &mut E, program: &[Row]) {
+/// Runs such a program over this exporter, and asserts its answers, that nothing is left, and why its
+/// span is lost, if it is.
+fn assert_run<E: Exporter>(
+    rt: &impl Abort,
+    alloc: Global,
+    exporter: &mut E,
+    program: &[Row],
+    lost: Option<Reason>,
+) {
     let config = config(rt, alloc, AlwaysOn, desk(1, 1), roots(rt, alloc));
     let steps = steps(rt, alloc, program);
     let told = run_steps(rt, (alloc, alloc), config, steps.as_slice(), exporter);
     let told = told.expect(rt, "memory");
     assert_answers(rt, told.answers.as_slice(), program);
     assert_left(rt, &told.left, &NOTHING_LEFT);
-    assert_equal(rt, told.names.len(), 0);
+    let lost = lost.map(|reason| Entry {
+        trace: TRACE,
+        span: span_id(0),
+        ticket: 0,
+        reason,
+    });
+    assert_equal(rt, told.lost.first(), lost.as_ref());
+    let counts = (told.names.len(), told.lost.len(), told.totals.lost);
+    let count = u64::from(lost.is_some());
+    assert_equal(rt, counts, (0, count as usize, count));
 }
 
 /// Asserts what comes of these links, the last one first, which are handed out anew for each
-/// attempt: the outcomes of these attempts. Each link took the beginning of the request that has
-/// so many bytes; there is none where it took `None`.
+/// attempt: the outcomes of these attempts, and why the span is lost, if it is. Each link took the
+/// beginning of the request that has so many bytes; there is none where it took `None`.
 fn assert_posts(
     rt: &impl Abort,
     alloc: Global,
     links: &[Link],
     attempts: &[Attempted],
     sizes: &[Option<usize>],
+    lost: Option<Reason>,
 ) {
     let program = program(rt, alloc, attempts);
     let dial = listed(rt, alloc, links);
     let mut exporter = LinkExporter::over(alloc, alloc, dial, target(rt, alloc));
-    assert_run(rt, alloc, &mut exporter, program.as_slice());
+    assert_run(rt, alloc, &mut exporter, program.as_slice(), lost);
     let mut far_side = FarSide::new(rt, alloc, listed(rt, alloc, links));
-    assert_run(rt, alloc, &mut far_side, program.as_slice());
+    assert_run(rt, alloc, &mut far_side, program.as_slice(), lost);
     let kept = (far_side.attempts.len(), far_side.lost);
     assert_equal(rt, kept, (sizes.len(), 0));
     for (attempt, size) in far_side.attempts.iter().zip(sizes) {
@@ -174,7 +192,21 @@ fn each_failure_of_a_link_asks_for_another(rt: HostRuntime) {
         REJECTED,
     ];
     let sizes = [None, Some(100), Some(SIZE), Some(SIZE)];
-    assert_posts(&rt, rt.alloc(), &links, &attempts, &sizes);
+    assert_posts(&rt, rt.alloc(), &links, &attempts, &sizes, None);
+}
+
+#[test]
+fn a_span_is_lost_where_no_attempt_has_a_link(rt: HostRuntime) {
+    let none = Outcome::NoReply;
+    let attempts = [
+        (none, Next::Again(SECOND)),
+        (none, Next::Again(3 * SECOND)),
+        (none, Next::Again(7 * SECOND)),
+        (none, Next::Again(15 * SECOND)),
+        (none, Next::GiveUp(Cause::Attempts)),
+    ];
+    let lost = Some(Reason::GivenUp);
+    assert_posts(&rt, rt.alloc(), &[None; 5], &attempts, &[None; 5], lost);
 }
 
 /// Asserts what comes of a link whose call of this number fails, and behind it a good one, where
@@ -190,13 +222,13 @@ fn assert_fails(rt: &impl Abort, alloc: Global, most: usize, calls: (u64, u64), 
         let attempts = [(Outcome::NoReply, Next::Again(SECOND)), REJECTED];
         let written = SIZE.min((call as usize).saturating_mul(most));
         let sizes = [Some(written), Some(SIZE)];
-        assert_posts(rt, alloc, &links, &attempts, &sizes);
+        assert_posts(rt, alloc, &links, &attempts, &sizes, None);
     } else {
         // Where the body fails, the head said that all was taken, and what it says isn't known.
         let is_whole = call >= writes.saturating_add(reads);
         let delivered = (Outcome::Delivered, Next::Done);
         let last = if is_whole { REJECTED } else { delivered };
-        assert_posts(rt, alloc, &links, &[last], &[Some(SIZE)]);
+        assert_posts(rt, alloc, &links, &[last], &[Some(SIZE)], None);
     }
 }
 

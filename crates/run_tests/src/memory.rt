@@ -136,7 +136,7 @@ fn count_named(names: &[Entry], ticket: u64) -> usize {
 }
 
 /// Asserts that each ticket is accounted for: it was accepted or dropped, and waits, or is in the
-/// batch that is out, or is named in the ledger, or was handed; once.
+/// batch that is out, or is named in the ledger, or was handed; once. None is lost.
 fn assert_accounted<A: Allocator + Copy>(
     rt: &impl Abort,
     ample: A,
@@ -147,6 +147,7 @@ fn assert_accounted<A: Allocator + Copy>(
     let dropped = told.totals.dropped.queue_full;
     let ended = told.totals.accepted.saturating_add(dropped);
     assert_equal(rt, ended, tickets.len() as u64);
+    assert_equal(rt, (told.lost.len(), told.totals.lost), (0, 0));
     for (ticket, span) in &tickets {
         let named = count_named(told.all_names.as_slice(), *ticket);
         let handed = count_handed(handed, *span);

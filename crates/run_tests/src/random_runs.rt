@@ -44,13 +44,15 @@ enum Event {
     Early,
     Again,
     Attempts,
+    LostRefused,
+    LostBadReply,
     FailedWire,
     LostReply,
     Unreceived,
 }
 
 /// How many kinds of events there are.
-const EVENTS: usize = 24;
+const EVENTS: usize = 26;
 
 /// The seed of the run that is under way, and how often each event came in all of them.
 #[derive(Drop)]
@@ -99,6 +101,8 @@ fn event_of<A: Allocator>(step: &Step<A>, answer: &Answer) -> Option<Event> {
         Answer::Replied { next, .. } => match next {
             Next::Again(_) => Some(Event::Again),
             Next::GiveUp(Cause::Attempts) => Some(Event::Attempts),
+            Next::GiveUp(Cause::Refused(_)) => Some(Event::LostRefused),
+            Next::GiveUp(Cause::BadReply) => Some(Event::LostBadReply),
             _ => None,
         },
         _ => None,
@@ -274,8 +278,70 @@ fn add_left<A: Allocator>(rt: &impl Abort, told: &Told<A>, found: &mut Vec<u64>,
         .expect(rt, "memory");
 }
 
+/// Why the spans of a batch are lost behind whose last reply this follows, if they are.
+fn lost_by(next: Next) -> Option<Reason> {
+    match next {
+        Next::Done | Next::Partial(_) | Next::Again(_) => None,
+        Next::GiveUp(Cause::Refused(status)) => Some(Reason::Refused(status)),
+        Next::GiveUp(Cause::BadReply) => Some(Reason::BadReply),
+        Next::GiveUp(Cause::Attempts) => Some(Reason::GivenUp),
+    }
+}
+
+/// Adds the spans in the body of a batch, each as lost for this reason.
+fn add_lost(
+    rt: &impl Abort,
+    alloc: Global,
+    attempts: &[Attempt],
+    number: u64,
+    reason: Reason,
+    lost: &mut Vec<(u64, Reason)>,
+) {
+    let mut spans = Vec::new(alloc);
+    let (_, body) = first_of(attempts, number).expect(rt, "an attempt");
+    add_spans(rt, alloc, body, &mut spans);
+    for span in &spans {
+        lost.push((*span, reason)).expect(rt, "memory");
+    }
+}
+
+/// The lost spans, the oldest first, as the answers and the bodies that were handed tell: those of
+/// each batch that was given up, and then those of one that is left.
+fn lost_spans<A: Allocator>(
+    rt: &impl Abort,
+    alloc: Global,
+    told: &Told<A>,
+    attempts: &[Attempt],
+) -> Vec<(u64, Reason)> {
+    let mut lost = Vec::new(alloc);
+    for answer in &told.answers {
+        if let Answer::Replied { batch, next } = answer {
+            if let Some(reason) = lost_by(*next) {
+                add_lost(rt, alloc, attempts, *batch, reason, &mut lost);
+            }
+        }
+    }
+    if let Some((batch, true)) = told.left.out {
+        add_lost(rt, alloc, attempts, batch, Reason::LeftHanded, &mut lost);
+    }
+    lost
+}
+
+/// Asserts that the second ledger names these spans, the oldest last, and that the first one has
+/// no such reason.
+fn assert_lost<A: Allocator>(rt: &impl Abort, told: &Told<A>, lost: &[(u64, Reason)], seed: u64) {
+    assert_equal_at(rt, told.lost.len(), lost.len(), seed);
+    for (entry, wanted) in told.lost.iter().rev().zip(lost) {
+        let found = (u64::from_be_bytes(entry.span.0), entry.reason);
+        assert_equal_at(rt, found, *wanted, seed);
+    }
+    for entry in &told.all_names {
+        assert_equal_at(rt, entry.reason.is_lost(), false, seed);
+    }
+}
+
 /// Asserts that each sampled span that ended before the shutdown was handed, or waits, or is named:
-/// once.
+/// once; and which of those that were handed are lost.
 fn assert_accounted<A: Allocator>(
     rt: &impl Abort,
     alloc: Global,
@@ -293,6 +359,8 @@ fn assert_accounted<A: Allocator>(
     let mut found = Vec::new(alloc);
     add_handed(rt, alloc, attempts, &mut found);
     add_left(rt, told, &mut found, runs);
+    let lost = lost_spans(rt, alloc, told, attempts);
+    assert_lost(rt, told, lost.as_slice(), runs.seed);
     found.sort().expect(rt, "memory");
     book.ended.sort().expect(rt, "memory");
     assert_equal_at(rt, found.as_slice(), book.ended.as_slice(), runs.seed);

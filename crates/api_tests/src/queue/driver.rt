@@ -2,7 +2,8 @@
 //! is so at each such call.
 use crate::equal::assert_equal;
 use crate::queue::spans::{Spans, name};
-use batch_desk::{Admitted, Batch, Desk, DeskConfig, Mark, NamedBatch, Totals};
+use batch_desk::{Admitted, Batch, Desk, DeskConfig, Mark, NamedBatch, SettledBatch, Totals};
+use drop_ledger::Ledger;
 use otlp_span::{Entry, Reason};
 use retry_core::Fate;
 use span_ring::RingFault;
@@ -90,13 +91,19 @@ impl<A: Allocator + Copy> Driver<A> {
 
     /// Ends the batch that is out, which was handed, and maybe cleared since.
     pub(crate) fn settle(&mut self, rt: &impl Abort, batch: Batch<A>, fate: Fate) {
-        assert!(rt; self.desk.can_settle(&batch));
+        assert!(rt; self.desk.can_settle(&batch, fate));
         self.desk.settle(batch, fate);
+    }
+
+    /// Ends the batch that is out, which was handed, and whose lost spans are named.
+    pub(crate) fn settle_named(&mut self, rt: &impl Abort, settled: SettledBatch<A>) {
+        assert!(rt; self.desk.can_settle_named(&settled));
+        self.desk.settle_named(settled);
     }
 
     /// Drops the batch that is in hand.
     pub(crate) fn drop_batch(&mut self, rt: &impl Abort, batch: Batch<A>, reason: Reason) {
-        assert!(rt; reason != Reason::QueueFull && self.desk.is_in_hand(&batch));
+        assert!(rt; reason.can_drop_batch() && self.desk.is_in_hand(&batch));
         self.desk.drop_batch(batch, reason);
     }
 
@@ -111,6 +118,11 @@ impl<A: Allocator + Copy> Driver<A> {
         assert_equal(rt, self.desk.pop_entry(), want);
     }
 
+    /// The same of the ledger of lost spans.
+    pub(crate) fn pop_lost(&mut self, rt: &impl Abort, want: Option<Entry>) {
+        assert_equal(rt, self.desk.pop_lost(), want);
+    }
+
     /// Asserts how many spans wait, and whether the desk is closed.
     pub(crate) fn assert_waiting(&self, rt: &impl Abort, waiting: usize, is_closed: bool) {
         assert_equal(rt, self.desk.waiting(), waiting);
@@ -119,10 +131,24 @@ impl<A: Allocator + Copy> Driver<A> {
 
     /// Asserts how many names the ledger has, and which is the newest.
     pub(crate) fn assert_ledger(&self, rt: &impl Abort, len: u64, newest: Option<&Entry>) {
-        assert_equal(rt, self.desk.ledger().len(), len);
-        assert_equal(rt, self.desk.ledger().is_empty(), len == 0);
-        assert_equal(rt, self.desk.ledger().newest(), newest);
+        assert_names(rt, self.desk.ledger(), len, newest);
     }
+
+    /// The same of the ledger of lost spans.
+    pub(crate) fn assert_lost(&self, rt: &impl Abort, len: u64, newest: Option<&Entry>) {
+        assert_names(rt, self.desk.lost(), len, newest);
+    }
+}
+
+fn assert_names<A: Allocator>(
+    rt: &impl Abort,
+    ledger: &Ledger<A>,
+    len: u64,
+    newest: Option<&Entry>,
+) {
+    assert_equal(rt, ledger.len(), len);
+    assert_equal(rt, ledger.is_empty(), len == 0);
+    assert_equal(rt, ledger.newest(), newest);
 }
 
 /// Names the spans of a batch.
@@ -131,10 +157,24 @@ pub(crate) fn into_named<A: Allocator>(
     batch: Batch<A>,
     reason: Reason,
 ) -> NamedBatch<A> {
-    assert!(rt; reason != Reason::QueueFull);
+    assert!(rt; reason.can_drop_batch());
     let (number, count) = (batch.number(), batch.spans().len());
     let named = batch.into_named(reason);
     assert_equal(rt, (named.number(), named.reason()), (number, reason));
     assert_equal(rt, named.names().count(), count);
     named
+}
+
+/// Names the spans of a batch with this fate, by which so many of them are lost.
+pub(crate) fn into_settled<A: Allocator>(
+    rt: &impl Abort,
+    batch: Batch<A>,
+    fate: Fate,
+    lost: usize,
+) -> SettledBatch<A> {
+    let number = batch.number();
+    let settled = batch.into_settled(fate);
+    assert_equal(rt, (settled.number(), settled.fate()), (number, fate));
+    assert_equal(rt, settled.names().count(), lost);
+    settled
 }

@@ -1,8 +1,9 @@
 //! What the calls of a desk free, and what they leave to be freed by who calls them.
 use crate::equal::assert_equal;
-use crate::queue::driver::{Driver, into_named};
-use crate::queue::spans::name;
+use crate::queue::driver::{Driver, into_named, into_settled};
+use crate::queue::spans::{Spans, name};
 use batch_desk::{Admitted, Batch};
+use failing_allocator::FailingAllocator;
 use linked_list_allocator::LocalHeap;
 use otlp_span::Reason;
 use retry_core::Fate;
@@ -111,4 +112,61 @@ fn no_call_under_a_lock_takes_or_frees_memory(rt: HostRuntime) {
         hold_nothing_up(&rt, &heap, &heap, batch, waiting, newest);
         assert_equal(&rt, heap.used(), 0);
     }
+}
+
+/// How many spans are in a batch that is lost: as many as by the standard's numbers.
+const LOST: u64 = 512;
+
+/// How much of a heap the slip of a span takes.
+fn slip_size<A: Allocator + Copy>(rt: &impl Abort, heap: &LocalHeap, spans: &Spans<A>) -> usize {
+    let used = heap.used();
+    let slip = spans.ended(rt, 0).into_slip();
+    let size = heap.used().saturating_sub(used);
+    drop(slip);
+    assert_equal(rt, (heap.used(), size > 0), (used, true));
+    size
+}
+
+/// Hands a batch over that is lost, on this heap, of which each call is counted. Once its spans are
+/// named, they have nothing but their slips, and then the desk neither takes nor frees memory until
+/// it gives the names out, each of which frees its slip. Answers how many calls for memory there were
+/// before the batch was lost: there are none after that.
+fn lose_all<A: Allocator + Copy, B: Allocator>(
+    rt: &impl Abort,
+    heap: &LocalHeap,
+    alloc: A,
+    counting: &FailingAllocator<B>,
+) -> u64 {
+    let mut desk = Driver::of_sizes(rt, alloc, LOST as usize, LOST as usize);
+    let slip = slip_size(rt, heap, &desk.spans);
+    let empty = heap.used();
+    desk.queue(rt, 0..LOST);
+    let batch = take_next(rt, heap, &mut desk);
+    desk.hand(rt, &batch);
+    let calls = counting.calls();
+    let settled = into_settled(rt, batch, Fate::GivenUp, LOST as usize);
+    let named = empty.saturating_add(slip.saturating_mul(LOST as usize));
+    assert_equal(rt, (counting.calls(), heap.used()), (calls, named));
+    desk.settle_named(rt, settled);
+    assert_equal(rt, (counting.calls(), heap.used()), (calls, named));
+    desk.assert_lost(rt, LOST, Some(&name(LOST - 1, Reason::GivenUp)));
+    for number in (0..LOST).rev() {
+        desk.pop_lost(rt, Some(name(number, Reason::GivenUp)));
+        let left = empty.saturating_add(slip.saturating_mul(number as usize));
+        assert_equal(rt, (counting.calls(), heap.used()), (calls, left));
+    }
+    desk.pop_lost(rt, None);
+    calls
+}
+
+#[test]
+fn a_batch_of_512_is_lost_without_memory(rt: HostRuntime) {
+    let heap = LocalHeap::new(rt.alloc(), 524_288).expect(&rt, "memory");
+    let ample = FailingAllocator::new(&heap, u64::MAX);
+    let calls = lose_all(&rt, &heap, &ample, &ample);
+    assert_equal(&rt, heap.used(), 0);
+    // The same where the next call for memory would be refused.
+    let scarce = FailingAllocator::new(&heap, calls);
+    assert_equal(&rt, lose_all(&rt, &heap, &scarce, &scarce), calls);
+    assert_equal(&rt, (scarce.has_failed(), heap.used()), (false, 0));
 }

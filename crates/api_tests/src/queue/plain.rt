@@ -25,6 +25,7 @@ pub(crate) struct Plain {
     pub(crate) is_handed: bool,
     pub(crate) number: u64,
     pub(crate) ledger: Vec<Entry>,
+    pub(crate) lost: Vec<Entry>,
     next_ticket: u64,
     asked: u64,
     last_take: u64,
@@ -40,6 +41,7 @@ impl Plain {
             is_handed: false,
             number: 0,
             ledger: Vec::new(alloc),
+            lost: Vec::new(alloc),
             next_ticket: 0,
             asked: 0,
             last_take: 0,
@@ -55,7 +57,7 @@ impl Plain {
         let ticket = self.next_ticket;
         add(&mut self.next_ticket, 1);
         if self.waiting.len() == self.config.queue {
-            self.name(rt, ticket, Reason::QueueFull);
+            self.drop_span(rt, ticket, Reason::QueueFull);
             return Admitted::Full(ticket);
         }
         let place = self.totals.accepted;
@@ -67,18 +69,14 @@ impl Plain {
         Admitted::Queued(ticket)
     }
 
-    fn name(&mut self, rt: &impl Abort, ticket: u64, reason: Reason) {
-        let entry = Entry {
-            ticket,
-            ..name(NUMBER, reason)
-        };
-        self.ledger.push(entry).expect(rt, "memory");
+    fn drop_span(&mut self, rt: &impl Abort, ticket: u64, reason: Reason) {
+        self.ledger.push(entry(ticket, reason)).expect(rt, "memory");
         let dropped = &mut self.totals.dropped;
         match reason {
             Reason::QueueFull => add(&mut dropped.queue_full, 1),
             Reason::EncodeMemory => add(&mut dropped.encode_memory, 1),
             Reason::TooLarge => add(&mut dropped.too_large, 1),
-            Reason::Abandoned => add(&mut dropped.abandoned, 1),
+            _ => add(&mut dropped.abandoned, 1),
         }
     }
 
@@ -129,12 +127,20 @@ impl Plain {
         for _ in 0..self.config.batch {
             if !self.out.is_empty() {
                 let span = self.out.remove(0);
-                self.name(rt, span.ticket, reason);
+                self.drop_span(rt, span.ticket, reason);
             }
         }
     }
 
-    pub(crate) fn settle(&mut self, fate: Fate) {
+    pub(crate) fn settle(&mut self, rt: &impl Abort, fate: Fate) {
+        if let Some(reason) = lost_by(fate) {
+            for span in self.out.iter() {
+                self.lost
+                    .push(entry(span.ticket, reason))
+                    .expect(rt, "memory");
+            }
+            add(&mut self.totals.lost, self.out.len() as u64);
+        }
         self.out.clear();
         let fates = &mut self.totals.fates;
         match fate {
@@ -162,6 +168,26 @@ impl Plain {
         let waits = !is_behind(self.waiting.first(), mark);
         let is_out = !is_behind(self.out.first(), mark);
         usize::from(waits) | usize::from(is_out) << 1
+    }
+}
+
+/// The name of a span with this ticket.
+fn entry(ticket: u64, reason: Reason) -> Entry {
+    Entry {
+        ticket,
+        ..name(NUMBER, reason)
+    }
+}
+
+/// Why the spans of a batch with this fate are lost, if they are.
+pub(crate) fn lost_by(fate: Fate) -> Option<Reason> {
+    match fate {
+        Fate::Delivered => None,
+        Fate::Partial(_) => None,
+        Fate::Refused(status) => Some(Reason::Refused(status)),
+        Fate::BadReply => Some(Reason::BadReply),
+        Fate::GivenUp => Some(Reason::GivenUp),
+        Fate::Abandoned => Some(Reason::LeftHanded),
     }
 }
 

@@ -2,8 +2,8 @@
 ghost use Rattle.std.specs.Prelude.{◌<◌};
 
 use crate::equal::{assert_equal, assert_equal_at};
-use crate::queue::driver::{Driver, into_named};
-use crate::queue::plain::{Accepted, NUMBER, Plain};
+use crate::queue::driver::{Driver, into_named, into_settled};
+use crate::queue::plain::{Accepted, NUMBER, Plain, lost_by};
 use batch_desk::{Admitted, Batch, DeskConfig, Mark};
 use otlp_span::{Reason, SpanData};
 use retry_core::Fate;
@@ -19,14 +19,17 @@ struct Met {
     causes: [u32; 8],
     /// Where the spans are that a mark asked for, by `Plain::places`.
     places: [u32; 4],
-    /// There was no name, or one.
+    /// There was no name, or one: of dropped spans, and of lost ones.
     pops: [u32; 2],
+    lost_pops: [u32; 2],
     /// By its spans, or by their names.
     drops: [u32; 2],
     reasons: [u32; 3],
     /// With its spans, cleared, or cleared into the room for none, for some, or for all of them.
     clears: [u32; 5],
     fates: [u32; 6],
+    /// A batch was settled with its spans or without them, or by the names of those that are lost.
+    settles: [u32; 2],
 }
 
 fn count(counts: &mut [u32], place: usize) {
@@ -147,6 +150,12 @@ impl Pair {
         self.desk.pop(rt, name);
     }
 
+    fn pop_lost(&mut self, rt: &impl Abort, draws: &mut Draws) {
+        let name = self.plain.lost.pop();
+        count(&mut draws.met.lost_pops, usize::from(name.is_some()));
+        self.desk.pop_lost(rt, name);
+    }
+
     fn take(&mut self, rt: &impl Abort) -> Option<Batch> {
         let is_due = self.plain.is_due(self.now);
         let taken = self.desk.take_due(rt, self.now);
@@ -237,13 +246,31 @@ impl Pair {
 
     fn end(&mut self, rt: &impl Abort, draws: &mut Draws, mut batch: Batch) {
         if self.plain.is_handed {
-            self.clear(rt, draws, &mut batch);
             let fate = draws.fate();
-            self.desk.settle(rt, batch, fate);
-            self.plain.settle(fate);
+            if lost_by(fate).is_none() {
+                self.clear(rt, draws, &mut batch);
+            }
+            self.settle(rt, draws, batch, fate);
         } else {
             self.drop_batch(rt, draws, batch);
         }
+    }
+
+    /// Settles a batch, by its spans or by their names.
+    fn settle(&mut self, rt: &impl Abort, draws: &mut Draws, batch: Batch, fate: Fate) {
+        let way = draws.below(2) as usize;
+        count(&mut draws.met.settles, way);
+        if way == 0 {
+            self.desk.settle(rt, batch, fate);
+        } else {
+            let lost = match lost_by(fate) {
+                Some(_) => batch.spans().len(),
+                None => 0,
+            };
+            let settled = into_settled(rt, batch, fate, lost);
+            self.desk.settle_named(rt, settled);
+        }
+        self.plain.settle(rt, fate);
     }
 
     /// Takes a batch, or ends the one that is out.
@@ -267,7 +294,8 @@ impl Pair {
         match draws.below(200) {
             0 => self.shutdown(),
             1..20 => self.flush(),
-            20..50 => self.pop(rt, draws),
+            20..35 => self.pop(rt, draws),
+            35..50 => self.pop_lost(rt, draws),
             50..80 => {
                 if let Some(batch) = &held {
                     self.hand(rt, batch);
@@ -302,15 +330,20 @@ impl Pair {
         let names = &self.plain.ledger;
         self.desk
             .assert_ledger(rt, names.len() as u64, names.last());
+        let lost = &self.plain.lost;
+        self.desk.assert_lost(rt, lost.len() as u64, lost.last());
         let is_closed = self.plain.totals.closed;
         self.desk
             .assert_waiting(rt, self.plain.waiting.len(), is_closed);
     }
 
-    /// The whole ledger.
+    /// All names of both ledgers.
     fn pop_all(&mut self, rt: &impl Abort, draws: &mut Draws) {
         for _ in 0..self.plain.ledger.len() {
             self.pop(rt, draws);
+        }
+        for _ in 0..self.plain.lost.len() {
+            self.pop_lost(rt, draws);
         }
         self.compare(rt, draws);
     }
@@ -345,10 +378,12 @@ fn assert_met(rt: &impl Abort, met: &Met) {
         met.causes.as_slice(),
         met.places.as_slice(),
         met.pops.as_slice(),
+        met.lost_pops.as_slice(),
         met.drops.as_slice(),
         met.reasons.as_slice(),
         met.clears.as_slice(),
         met.fates.as_slice(),
+        met.settles.as_slice(),
     ];
     for counts in counts {
         assert_equal_at(rt, are_met(counts), true, counts);
@@ -364,10 +399,12 @@ fn desks_are_as_plain_lists(rt: HostRuntime) {
             causes: [0; 8],
             places: [0; 4],
             pops: [0; 2],
+            lost_pops: [0; 2],
             drops: [0; 2],
             reasons: [0; 3],
             clears: [0; 5],
             fates: [0; 6],
+            settles: [0; 2],
         },
     };
     for _ in 0..200 {

@@ -4,7 +4,7 @@ ghost use Rattle.batch_processor.specs.Working.{IsPrepared};
 
 use crate::batch::fixture::{Left, close, config, make};
 use crate::equal::assert_equal;
-use crate::fixture::end;
+use crate::fixture::{end, entry};
 use batch_processor::{
     BatchBlank, BatchConfig, Clock as _, Flushed, ManualClock, Naming, Parts, Pass, SystemClock,
     WorkEnd, WorkerLeft, WorkerPass,
@@ -45,13 +45,14 @@ pub(crate) fn is_reached(rt: &impl Clock, stage: &AtomicU64, wanted: u64, looks:
     false
 }
 
-/// A processor that is made with so many passes, sends batches of so many spans at most, whose
-/// bodies have at most so many bytes, and holds four times as many in its queue; what is done with
-/// its passes; and the turns of its worker, in which all is to be drained. One that finds nothing to
-/// do takes some milliseconds.
+/// A processor that is made with so many passes, holds so many spans in its queue at most, and sends
+/// batches of so many, whose bodies have at most so many bytes; what is done with its passes; and the
+/// turns of its worker, in which all is to be drained. One that finds nothing to do takes some
+/// milliseconds.
 #[derive(Clone, Copy)]
 pub(crate) struct Plan {
     pub(crate) passes: usize,
+    pub(crate) queue: usize,
     pub(crate) batch: usize,
     pub(crate) max_body: usize,
     pub(crate) task: Task,
@@ -65,6 +66,9 @@ pub(crate) enum Task {
     EndMany(u64),
     /// The same, but the first pass shuts the processor down meanwhile, so that spans are late.
     EndLate(u64),
+    /// A thread for each pass but the first ends so many spans. Meanwhile the first one pops their
+    /// names: each of them is refused. All have room in the queue, and fill their batches.
+    LoseMany(u64),
     /// So many spans end on the first pass, each a millisecond or two after the one before is sent.
     EndSpaced(u64),
     /// A span ends while another one is being sent.
@@ -96,6 +100,52 @@ fn end_spans<J: Naming, R: Wait + Abort + Copy>(
             assert_equal(&rt, (may_be_late, answer), (true, Ended::Late));
         }
     }
+}
+
+/// Pops the names of so many lost spans on a pass, as they come: each ticket once.
+fn pop_each<J: Naming, R: Wait + Abort + Clock>(
+    rt: &R,
+    alloc: Global,
+    pass: &mut Pass<J, R>,
+    spans: u64,
+) {
+    let mut tickets = Vec::new(alloc);
+    for _ in 0..spans.saturating_add(20_000) {
+        if let Some(lost) = pass.pop_lost() {
+            assert_equal(rt, lost, entry(lost.ticket, Reason::Refused(400)));
+            tickets.push(lost.ticket).expect(rt, "memory");
+        } else if (tickets.len() as u64) < spans {
+            thread::sleep(rt, Duration::from_millis(1));
+        }
+    }
+    assert_equal(rt, tickets.len() as u64, spans);
+    tickets.sort().expect(rt, "memory");
+    for (ticket, place) in tickets.iter().zip(0..spans) {
+        assert_equal(rt, *ticket, place);
+    }
+}
+
+/// The first pass pops the names of lost spans, while each other one has a thread of its own, which
+/// ends so many.
+fn lose_on_each<J, R>(rt: R, alloc: Global, passes: &mut [Pass<J, R>], spans: u64)
+where
+    J: Naming + Send + Sync + 'static,
+    R: Threads + Wait + Abort + Clock + Copy + Send + Sync + 'static,
+{
+    let others = passes.len().saturating_sub(1) as u64;
+    let lost = spans.saturating_mul(others);
+    thread::for_each_mut(
+        &rt,
+        passes,
+        64,
+        &|index, pass: &mut Pass<J, R>| {
+            if index == 0 {
+                pop_each(&rt, alloc, pass, lost);
+            } else {
+                end_spans(rt, alloc, pass, spans, false);
+            }
+        },
+    );
 }
 
 /// Each pass has a thread of its own, which ends so many spans, but for the first one, where that
@@ -200,6 +250,7 @@ where
     match task {
         Task::EndMany(spans) => end_on_each(rt, alloc, passes.as_mut_slice(), spans, false),
         Task::EndLate(spans) => end_on_each(rt, alloc, passes.as_mut_slice(), spans, true),
+        Task::LoseMany(spans) => lose_on_each(rt, alloc, passes.as_mut_slice(), spans),
         Task::EndSpaced(spans) => {
             let first = passes.first_mut().expect(&rt, "a pass");
             end_spaced(rt, alloc, first, spans, stage);
@@ -253,6 +304,7 @@ where
 {
     let Plan {
         passes,
+        queue,
         batch,
         max_body,
         task,
@@ -260,7 +312,7 @@ where
     } = plan;
     let config = BatchConfig {
         max_body,
-        ..config(batch.saturating_mul(4), batch)
+        ..config(queue, batch)
     };
     let Parts {
         processor,

@@ -10,10 +10,12 @@ use batch_desk::{DeskConfig, Totals};
 use batch_processor::{
     BatchBlank, BatchConfig, BatchProcessor, ManualClock, Naming, Parts, Pass, WorkEnd, WorkerPass,
 };
+use drop_ledger::Ledger;
 use otlp_span::{Entry, Reason};
 use otlp_wire::{Field, Fields, Payload};
 use span_exporter::{Exporter, Handed};
 use std::alloc::{Allocator, Global};
+use std::cell::Cell;
 use std::process::Abort;
 use std::sync::Wait;
 use std::time::Clock;
@@ -156,11 +158,31 @@ where
     assert_equal(&rt, end, WorkEnd::TurnsSpent);
 }
 
-/// What a processor comes to: its totals, and the names in its ledger, the newest one first.
+/// Goes on by a minute at each look.
+#[derive(Drop)]
+pub(crate) struct Minutes(Cell<u64>);
+
+impl Minutes {
+    pub(crate) fn new() -> Minutes {
+        Minutes(Cell::new(0))
+    }
+}
+
+impl batch_processor::Clock for Minutes {
+    fn now(&self) -> u64 {
+        let moment = self.0.get().saturating_add(60 * SECOND);
+        self.0.set(moment);
+        moment
+    }
+}
+
+/// What a processor comes to: its totals, and the names of dropped and of lost spans, the newest one
+/// first.
 #[derive(Drop)]
 pub(crate) struct Left<A: Allocator = Global> {
     pub(crate) totals: Totals,
     pub(crate) names: Vec<Entry, A>,
+    pub(crate) lost: Vec<Entry, A>,
 }
 
 /// What a processor comes to whose passes are all back.
@@ -173,12 +195,16 @@ pub(crate) fn close<J: Naming, R: Wait + Abort + Copy, A: Allocator + Copy>(
 ) -> Left<A> {
     let accounts = neighbors::close_out(processor, passes, worker).ok();
     let desk = accounts.expect(&rt, "all passes are there").desk;
-    let mut names = Vec::new(alloc);
-    names
-        .extend(desk.ledger().iter().copied())
-        .expect(&rt, "memory");
     Left {
         totals: desk.totals(),
-        names,
+        names: names_in(&rt, alloc, desk.ledger()),
+        lost: names_in(&rt, alloc, desk.lost()),
     }
+}
+
+/// The names of a ledger, the newest one first.
+fn names_in<A: Allocator + Copy>(rt: &impl Abort, alloc: A, ledger: &Ledger<A>) -> Vec<Entry, A> {
+    let mut names = Vec::new(alloc);
+    names.extend(ledger.iter().copied()).expect(rt, "memory");
+    names
 }

@@ -4,10 +4,10 @@ ghost use Rattle.std.specs.Prelude.{◌≡◌};
 use crate::batch::carry::{ASKING, LOOKS, Task, do_first, is_reached};
 use crate::batch::fixture::{Left, SECOND, assert_named, close, config, make, queue, work};
 use crate::equal::{assert_equal, assert_equal_at};
-use crate::fixture::{end, exporter};
+use crate::fixture::{end, entry, exporter};
 use batch_desk::Totals;
 use batch_processor::{BatchBlank, Flushed, Naming, Parts, Pass, WorkerLeft, WorkerPass};
-use otlp_span::Reason;
+use otlp_span::{Entry, Reason};
 use retry_core::Outcome;
 use std::alloc::Global;
 use std::marker::Brand;
@@ -19,9 +19,15 @@ use std::time::{Clock, Duration};
 use trace_api::Ended;
 
 /// Two spans are taken, and the worker leaves behind so many turns, twice. From then on it takes no
-/// step: a span that ends waits, though a batch would be due. Answers what is left, and how many
-/// attempts there were.
-fn leave_behind<J, R>(rt: R, alloc: Global, blank: BatchBlank, turns: u64) -> (Left, usize)
+/// step: a span that ends waits, though a batch would be due. So many times a lost span's name is
+/// popped. Answers what is left, the names that were popped, and how many attempts there were.
+fn leave_behind<J, R>(
+    rt: R,
+    alloc: Global,
+    blank: BatchBlank,
+    turns: u64,
+    pops: u32,
+) -> (Left, Vec<Option<Entry>>, usize)
 where
     J: Naming,
     R: Wait + Abort + Clock + Copy,
@@ -40,14 +46,20 @@ where
     queue(&rt, alloc, passes.as_mut_slice(), 2, 2);
     work(rt, alloc, &mut worker, &mut exporter, 60 * SECOND, 10);
     let attempts = exporter.handed().len();
-    (close(rt, alloc, processor, passes, worker), attempts)
+    let pass = passes.first_mut().expect(&rt, "a pass");
+    let mut popped = Vec::new(alloc);
+    for _ in 0..pops {
+        popped.push(pass.pop_lost()).expect(&rt, "memory");
+    }
+    let left = close(rt, alloc, processor, passes, worker);
+    (left, popped, attempts)
 }
 
 #[test]
 fn the_batch_in_hand_is_abandoned(rt: HostRuntime) {
     for (turns, attempts, abandoned) in [(1, 0, 2), (2, 0, 2), (3, 1, 0), (4, 1, 0)] {
         let blank = BatchBlank::new();
-        let (left, sent) = leave_behind::<Brand, HostRuntime>(rt, rt.alloc(), blank, turns);
+        let (left, _, sent) = leave_behind::<Brand, HostRuntime>(rt, rt.alloc(), blank, turns, 0);
         let totals = left.totals;
         assert_equal_at(&rt, sent, attempts, turns);
         assert_equal_at(&rt, (totals.taken, totals.left), (2, 2), turns);
@@ -55,6 +67,23 @@ fn the_batch_in_hand_is_abandoned(rt: HostRuntime) {
         assert_equal_at(&rt, totals.handed.saturating_add(abandoned), 2, turns);
         assert_equal_at(&rt, totals.fates.abandoned, attempts as u64, turns);
         assert_named(&rt, left.names.as_slice(), abandoned, 1, Reason::Abandoned);
+        assert_equal_at(&rt, totals.lost, totals.handed, turns);
+        let lost = left.lost.as_slice();
+        assert_named(&rt, lost, totals.handed, 1, Reason::LeftHanded);
+    }
+}
+
+/// A batch of two spans was handed, and its reply is or isn't judged yet.
+#[test]
+fn the_batch_that_was_handed_is_popped_as_left(rt: HostRuntime) {
+    for turns in [3, 4] {
+        let blank = BatchBlank::new();
+        let (left, popped, _) = leave_behind::<Brand, HostRuntime>(rt, rt.alloc(), blank, turns, 3);
+        let newest = Some(entry(1, Reason::LeftHanded));
+        let want = [newest, Some(entry(0, Reason::LeftHanded)), None];
+        assert_equal_at(&rt, popped.as_slice(), want.as_slice(), turns);
+        let names = (left.names.len(), left.lost.len(), left.totals.lost);
+        assert_equal_at(&rt, names, (0, 0, 2), turns);
     }
 }
 

@@ -4,11 +4,13 @@ ghost use Rattle.std.specs.Prelude.{◌≡◌};
 use crate::batch::fixture::{Left, assert_named, close, config, count_spans, make, queue, work};
 use crate::batch::neighbors;
 use crate::equal::{assert_equal, assert_equal_at};
+use crate::fixture::entry;
 use batch_desk::FateCounts;
 use batch_processor::{BatchBlank, Naming, NewFault, Parts};
 use failing_allocator::FailingAllocator;
 use linked_list_allocator::LocalHeap;
 use otlp_span::Reason;
+use retry_core::Outcome;
 use span_exporter::MemoryExporter;
 use std::alloc::Allocator;
 use std::marker::Brand;
@@ -133,6 +135,69 @@ fn spans_that_were_sent_while_none_waits_are_freed_at_once(rt: HostRuntime) {
     let blank = BatchBlank::new();
     send_while_none_waits::<Brand, HostRuntime, _>(rt, &heap, &ample, blank);
     assert_equal(&rt, heap.used(), 0);
+}
+
+/// A batch of two spans is handed over and refused, on memory whose calls are counted: to judge that,
+/// to name the spans, to free all else of them and to pop their names takes none. Answers how many
+/// calls there were before.
+fn lose<J, R, A, B>(
+    rt: R,
+    heap: &LocalHeap,
+    alloc: A,
+    counting: &FailingAllocator<B>,
+    blank: BatchBlank,
+) -> u64
+where
+    J: Naming,
+    R: Wait + Abort + Clock + Copy,
+    A: Allocator + Copy,
+    B: Allocator,
+    requires { blank ≡ J.name }
+{
+    let Parts {
+        processor,
+        mut passes,
+        mut worker,
+    } = make::<J, R, A>(rt, alloc, blank, config(4, 2), 1, 0);
+    let outcomes = Vec::from_slice(alloc, &[Outcome::Refused(400)]).expect(&rt, "memory");
+    let mut exporter = MemoryExporter::new(alloc, outcomes);
+    queue(&rt, alloc, passes.as_mut_slice(), 0, 2);
+    work(rt, alloc, &mut worker, &mut exporter, 0, TURNS - 1);
+    let (calls, used) = (counting.calls(), heap.used());
+    work(rt, alloc, &mut worker, &mut exporter, 0, 1);
+    let settled = heap.used();
+    let pass = passes.first_mut().expect(&rt, "a pass");
+    for lost in [Some(1), Some(0), None] {
+        let want = lost.map(|ticket| entry(ticket, Reason::Refused(400)));
+        assert_equal(&rt, pass.pop_lost(), want);
+    }
+    assert_equal(&rt, counting.calls(), calls);
+    assert_equal(&rt, (settled < used, heap.used() < settled), (true, true));
+    close(rt, alloc, processor, passes, worker);
+    calls
+}
+
+/// Does that with a processor of its own, of which nothing is left.
+fn lose_once<R, A, B>(rt: R, heap: &LocalHeap, alloc: A, counting: &FailingAllocator<B>) -> u64
+where
+    R: Wait + Abort + Clock + Copy,
+    A: Allocator + Copy,
+    B: Allocator,
+{
+    let calls = lose::<Brand, R, A, B>(rt, heap, alloc, counting, BatchBlank::new());
+    assert_equal(&rt, heap.used(), 0);
+    calls
+}
+
+#[test]
+fn a_batch_is_lost_without_memory(rt: HostRuntime) {
+    let heap = LocalHeap::new(rt.alloc(), 65_536).expect(&rt, "memory");
+    let ample = FailingAllocator::new(&heap, u64::MAX);
+    let calls = lose_once(rt, &heap, &ample, &ample);
+    // The same where the next call for memory would be refused.
+    let scarce = FailingAllocator::new(&heap, calls);
+    assert_equal(&rt, lose_once(rt, &heap, &scarce, &scarce), calls);
+    assert_equal(&rt, scarce.has_failed(), false);
 }
 
 /// More calls for memory than there are.

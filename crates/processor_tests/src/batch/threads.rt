@@ -5,11 +5,12 @@ use crate::batch::carry::{Plan, Task, carry};
 use crate::batch::fixture::{Left, count_spans};
 use crate::equal::assert_equal;
 use crate::fixture::exporter;
-use batch_desk::FateCounts;
+use batch_desk::{FateCounts, Totals};
 use batch_processor::{BatchBlank, Naming};
 use drop_ledger::DropCounts;
 use otlp_proto::DEFAULT_MAX_BODY;
 use otlp_span::Reason;
+use retry_core::Outcome;
 use std::alloc::Global;
 use std::marker::Brand;
 use std::process::Abort;
@@ -63,6 +64,7 @@ where
     let stage = AtomicU64::new(0);
     let plan = Plan {
         passes,
+        queue: 64,
         batch: 16,
         max_body: DEFAULT_MAX_BODY,
         task,
@@ -103,4 +105,46 @@ fn late_only_after(rt: HostRuntime) {
     let (blank, task) = (BatchBlank::new(), Task::EndThree);
     let counts = balance::<Brand, HostRuntime>(rt, rt.alloc(), blank, 2, task, 3);
     assert_equal(&rt, counts, (3, 1));
+}
+
+/// Two threads end 10,000 spans each, and another one pops their names, while the worker sends their
+/// batches, each of which is refused: none of the names is left.
+fn lose<J, R>(rt: R, alloc: Global, blank: BatchBlank)
+where
+    J: Naming + Send + Sync + 'static,
+    R: Threads + Wait + Abort + Clock + Copy + Send + Sync + 'static,
+    requires { blank ≡ J.name }
+{
+    let mut exporter = exporter(&rt, alloc, &[Outcome::Refused(400); 40]);
+    let stage = AtomicU64::new(0);
+    let plan = Plan {
+        passes: 3,
+        queue: 20_000,
+        batch: 500,
+        max_body: DEFAULT_MAX_BODY,
+        task: Task::LoseMany(10_000),
+        turns: 20_000,
+    };
+    let left = carry::<J, R, _>(rt, alloc, blank, plan, &stage, &mut exporter);
+    let want = Totals {
+        accepted: 20_000,
+        taken: 20_000,
+        handed: 20_000,
+        lost: 20_000,
+        late: 1,
+        fates: FateCounts {
+            refused: 40,
+            ..FateCounts::default()
+        },
+        closed: true,
+        ..Totals::default()
+    };
+    assert_equal(&rt, left.totals, want);
+    assert_equal(&rt, (left.names.len(), left.lost.len()), (0, 0));
+    assert_equal(&rt, count_spans(&rt, alloc, exporter.handed()), 20_000);
+}
+
+#[test]
+fn each_of_20_000_lost_spans_is_popped_while_others_end(rt: HostRuntime) {
+    lose::<Brand, HostRuntime>(rt, rt.alloc(), BatchBlank::new());
 }

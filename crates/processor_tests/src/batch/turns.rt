@@ -3,7 +3,7 @@ ghost use Rattle.std.specs.Prelude.{◌≡◌};
 ghost use Rattle.batch_processor.specs.Working.{IsPrepared};
 
 use crate::batch::fixture::{
-    Left, SECOND, assert_named, close, config, count_body, count_spans, make, queue, work,
+    Left, Minutes, SECOND, assert_named, close, config, count_body, count_spans, make, queue, work,
 };
 use crate::batch::neighbors::close_out;
 use crate::equal::{assert_equal, assert_equal_at};
@@ -13,12 +13,11 @@ use batch_processor::{
     WorkerPass,
 };
 use otlp_sampler::AlwaysOn;
-use otlp_span::Reason;
+use otlp_span::{Entry, Reason};
 use rand_core::Rng;
 use retry_core::{Outcome, RetryAfter};
 use span_exporter::{Exporter, Handed, MemoryExporter};
 use std::alloc::Global;
-use std::cell::Cell;
 use std::marker::Brand;
 use std::process::Abort;
 use std::sync::Wait;
@@ -115,7 +114,7 @@ where
     queue(&rt, alloc, passes.as_mut_slice(), 0, 1);
     let words = Vec::from_slice(alloc, &[11, 22, 33]).expect(&rt, "memory");
     let mut rng = WordsRng::new(words);
-    let clock = Minutes(Cell::new(0));
+    let clock = Minutes::new();
     let end = worker.work(&mut exporter, &clock, &mut rng, 10);
     assert_equal(&rt, end, WorkEnd::TurnsSpent);
     assert_equal(&rt, (exporter.handed().len(), rng.next_u64()), (2, 33));
@@ -169,9 +168,14 @@ fn assert_shown<J: Naming, R: Wait + Abort + Copy>(
     assert_equal(&rt, told.as_str(), want);
 }
 
-/// A batch is in hand while a pass is missing. What was to be closed out is let go, and the missing
-/// pass finds the span's name in the ledger.
-fn let_go<J, R>(rt: R, alloc: Global, blank: BatchBlank)
+/// A batch of one span is in hand behind so many turns, while a pass is missing. What was to be closed
+/// out is let go. Answers the names that the missing pass finds: of dropped spans, and of lost ones.
+fn let_go<J, R>(
+    rt: R,
+    alloc: Global,
+    blank: BatchBlank,
+    turns: u64,
+) -> ([Option<Entry>; 2], [Option<Entry>; 2])
 where
     J: Naming,
     R: Wait + Abort + time::Clock + Copy,
@@ -185,17 +189,28 @@ where
     let mut exporter = exporter(&rt, alloc, &[]);
     let mut last = passes.pop().expect(&rt, "a pass");
     assert_equal(&rt, end(&rt, alloc, &mut last), Ended::Queued(0));
-    work(rt, alloc, &mut worker, &mut exporter, 0, 1);
+    work(rt, alloc, &mut worker, &mut exporter, 0, turns);
     assert_shown(rt, alloc, &processor, &last, &worker);
     let missing = close_out(processor, passes, worker).err();
     missing.expect(&rt, "a pass is missing").discard();
-    assert_equal(&rt, last.pop_entry(), Some(entry(0, Reason::Abandoned)));
-    assert_equal(&rt, last.pop_entry(), None);
+    let dropped = [last.pop_entry(), last.pop_entry()];
+    (dropped, [last.pop_lost(), last.pop_lost()])
 }
 
 #[test]
 fn what_is_discarded_is_named(rt: HostRuntime) {
-    let_go::<Brand, HostRuntime>(rt, rt.alloc(), BatchBlank::new());
+    let blank = BatchBlank::new();
+    let names = let_go::<Brand, HostRuntime>(rt, rt.alloc(), blank, 1);
+    let dropped = [Some(entry(0, Reason::Abandoned)), None];
+    assert_equal(&rt, names, (dropped, [None, None]));
+}
+
+#[test]
+fn what_was_handed_and_is_discarded_is_named_as_lost(rt: HostRuntime) {
+    let blank = BatchBlank::new();
+    let names = let_go::<Brand, HostRuntime>(rt, rt.alloc(), blank, 3);
+    let lost = [Some(entry(0, Reason::LeftHanded)), None];
+    assert_equal(&rt, names, ([None, None], lost));
 }
 
 /// What is done: so many spans end in each of these schemas, and then the worker is called so
@@ -208,18 +223,6 @@ struct Job<'a> {
     calls: u32,
     turns: u64,
     outcomes: &'a [Outcome],
-}
-
-/// Goes on by a minute at each look.
-#[derive(Drop)]
-struct Minutes(Cell<u64>);
-
-impl Clock for Minutes {
-    fn now(&self) -> u64 {
-        let moment = self.0.get().saturating_add(60 * SECOND);
-        self.0.set(moment);
-        moment
-    }
 }
 
 /// Ends the spans of a job on the first pass. Each is queued.
@@ -254,7 +257,7 @@ where
     E: Exporter,
     requires { IsPrepared (E.room exporter.old) worker.old }
 {
-    let clock = Minutes(Cell::new(0));
+    let clock = Minutes::new();
     let mut rng = WordsRng::new(Vec::new(alloc));
     for _ in 0..job.calls {
         let end = worker.work(exporter, &clock, &mut rng, job.turns);
@@ -358,6 +361,9 @@ fn a_batch_in_hand_is_abandoned(rt: HostRuntime) {
         assert_equal_at(&rt, totals.handed.saturating_add(abandoned), 2, turns);
         assert_equal_at(&rt, totals.fates.abandoned, attempts as u64, turns);
         assert_named(&rt, left.names.as_slice(), abandoned, 1, Reason::Abandoned);
+        let lost = totals.handed;
+        assert_named(&rt, left.lost.as_slice(), lost, 1, Reason::LeftHanded);
+        assert_equal_at(&rt, totals.lost, lost, turns);
     }
 }
 

@@ -49,10 +49,11 @@ impl<'a, R: Clock> Exporter for Watching<'a, R> {
     }
 }
 
-/// A plan whose worker has turns enough.
+/// A plan whose worker has turns enough, and whose queue has room for four batches.
 fn plan(passes: usize, batch: usize, max_body: usize, task: Task) -> Plan {
     Plan {
         passes,
+        queue: batch.saturating_mul(4),
         batch,
         max_body,
         task,

@@ -33,6 +33,13 @@ const OUTCOMES: [Outcome; 6] = [
     Outcome::Bad,
 ];
 
+/// The names of the spans that are lost by these outcomes, the newest first, but for the oldest one.
+const LOST: [(u64, Reason); 3] = [
+    (5, Reason::BadReply),
+    (4, Reason::GivenUp),
+    (3, Reason::Refused(400)),
+];
+
 const PARTS: &str = concat!(
     "SimpleParts { processor: SimpleProcessor { passes: 1, .. }, ",
     "passes: [SimplePass { .. }] }",
@@ -56,13 +63,21 @@ fn count_outcomes<J: Naming, R: Wait + Abort + Copy>(rt: R, alloc: Global, blank
         assert_equal(&rt, end(&rt, alloc, &mut pass), Ended::Handed(ticket));
         assert_equal(&rt, pass.force_flush(), Flushed);
     }
+    for (ticket, reason) in LOST {
+        assert_equal(&rt, pass.pop_lost(), Some(entry(ticket, reason)));
+    }
+    assert_equal(&rt, pass.pop_entry(), None);
     passes.push(pass).expect(&rt, "memory");
     let accounts = close(rt, processor, passes);
     assert_handed(&rt, alloc, accounts.exporter.handed(), &OUTCOMES);
+    let oldest = entry(2, Reason::GivenUp);
+    assert_equal(&rt, accounts.lost.newest(), Some(&oldest));
+    assert_equal(&rt, (accounts.lost.len(), accounts.ledger.len()), (1, 0));
     let want = Totals {
         accepted: 6,
         taken: 6,
         handed: 6,
+        lost: 4,
         fates: FateCounts {
             delivered: 1,
             partial: 1,
@@ -79,6 +94,33 @@ fn count_outcomes<J: Naming, R: Wait + Abort + Copy>(rt: R, alloc: Global, blank
 #[test]
 fn each_outcome_is_counted(rt: HostRuntime) {
     count_outcomes::<Brand, HostRuntime>(rt, rt.alloc(), SimpleBlank::new());
+}
+
+/// The first span is refused: its name is popped by the other pass, and no other one.
+fn pop_refused<J: Naming, R: Wait + Abort + Copy>(rt: R, alloc: Global, blank: SimpleBlank)
+    requires { blank ≡ J.name }
+{
+    let exporter = exporter(&rt, alloc, &[Outcome::Refused(400)]);
+    let SimpleParts {
+        processor,
+        mut passes,
+    } = make::<J, _, R, Global>(rt, alloc, blank, exporter, 2, DEFAULT_MAX_BODY);
+    let mut other = passes.pop().expect(&rt, "a pass");
+    let mut pass = passes.pop().expect(&rt, "another pass");
+    assert_equal(&rt, other.pop_lost(), None);
+    assert_equal(&rt, end(&rt, alloc, &mut pass), Ended::Handed(0));
+    let refused = entry(0, Reason::Refused(400));
+    assert_equal(&rt, other.pop_lost(), Some(refused));
+    assert_equal(&rt, (other.pop_lost(), other.pop_entry()), (None, None));
+    passes.push(pass).expect(&rt, "memory");
+    passes.push(other).expect(&rt, "memory");
+    let accounts = close(rt, processor, passes);
+    assert_equal(&rt, (accounts.lost.len(), accounts.totals.lost), (0, 1));
+}
+
+#[test]
+fn a_span_that_is_refused_is_popped(rt: HostRuntime) {
+    pop_refused::<Brand, HostRuntime>(rt, rt.alloc(), SimpleBlank::new());
 }
 
 /// Asserts how what a value writes of itself begins.

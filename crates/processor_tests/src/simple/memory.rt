@@ -3,12 +3,13 @@ ghost use Rattle.std.specs.Prelude.{◌≡◌};
 
 use crate::equal::{assert_equal, assert_equal_at};
 use crate::fixture::{end, entry};
-use crate::simple::fixture::close;
+use crate::simple::fixture::{close, make};
 use crate::simple::neighbors;
 use failing_allocator::FailingAllocator;
 use linked_list_allocator::LocalHeap;
 use otlp_proto::DEFAULT_MAX_BODY;
 use otlp_span::Reason;
+use retry_core::Outcome;
 use simple_processor::{Naming, SimpleBlank, SimpleFault, SimpleParts, SimplePass};
 use span_exporter::MemoryExporter;
 use std::alloc::Allocator;
@@ -87,6 +88,63 @@ fn end_scarce<J: Naming, R: Wait + Abort + Copy, A: Allocator + Copy>(
     let left = if pops { None } else { named };
     assert_equal(&rt, accounts.ledger.newest().copied(), left);
     refused
+}
+
+/// A span is refused, on memory whose calls are counted: to pop its name takes none, and frees some.
+/// Answers how many calls there were before.
+fn pop_refused<J, R, A, B>(
+    rt: R,
+    heap: &LocalHeap,
+    alloc: A,
+    counting: &FailingAllocator<B>,
+    blank: SimpleBlank,
+) -> u64
+where
+    J: Naming,
+    R: Wait + Abort + Copy,
+    A: Allocator + Copy,
+    B: Allocator,
+    requires { blank ≡ J.name }
+{
+    let outcomes = Vec::from_slice(alloc, &[Outcome::Refused(400)]).expect(&rt, "memory");
+    let exporter = MemoryExporter::new(alloc, outcomes);
+    let SimpleParts {
+        processor,
+        mut passes,
+    } = make::<J, _, R, A>(rt, alloc, blank, exporter, 1, DEFAULT_MAX_BODY);
+    let mut pass = passes.pop().expect(&rt, "a pass");
+    assert_equal(&rt, end(&rt, alloc, &mut pass), Ended::Handed(0));
+    let (calls, used) = (counting.calls(), heap.used());
+    let refused = entry(0, Reason::Refused(400));
+    assert_equal(&rt, pass.pop_lost(), Some(refused));
+    assert_equal(&rt, (counting.calls(), heap.used() < used), (calls, true));
+    assert_equal(&rt, (pass.pop_lost(), counting.calls()), (None, calls));
+    passes.push(pass).expect(&rt, "room for a pass");
+    close(rt, processor, passes);
+    calls
+}
+
+/// Does that with a processor of its own, of which nothing is left.
+fn pop_once<R, A, B>(rt: R, heap: &LocalHeap, alloc: A, counting: &FailingAllocator<B>) -> u64
+where
+    R: Wait + Abort + Copy,
+    A: Allocator + Copy,
+    B: Allocator,
+{
+    let calls = pop_refused::<Brand, R, A, B>(rt, heap, alloc, counting, SimpleBlank::new());
+    assert_equal(&rt, heap.used(), 0);
+    calls
+}
+
+#[test]
+fn a_refused_span_is_popped_without_memory(rt: HostRuntime) {
+    let heap = LocalHeap::new(rt.alloc(), 65_536).expect(&rt, "memory");
+    let ample = FailingAllocator::new(&heap, u64::MAX);
+    let calls = pop_once(rt, &heap, &ample, &ample);
+    // The same where the next call for memory would be refused.
+    let scarce = FailingAllocator::new(&heap, calls);
+    assert_equal(&rt, pop_once(rt, &heap, &scarce, &scarce), calls);
+    assert_equal(&rt, scarce.has_failed(), false);
 }
 
 /// More calls for memory than there are.
