@@ -26,17 +26,8 @@ docs: ## Compare the documents with the sources
 times: ## The gate, and what each crate took of the processors
 	tools/times $(MAKE) test
 
-install: ## Prove and build the programs, and put them into PREFIX/bin
-	cd crates/trace_script && rt run -- --body < stdin
-	cd crates/trace_collector && rt run -- --port 0 --count 0
-	cd crates/trace_demo && rt run -- --threads 2 --spans 10
-	cd crates/trace_soak && rt run -- --spans 5000
-	cd crates/first_export && rt run -- || true
-	install -D -m 755 crates/trace_script/out/trace_script '$(PREFIX)/bin/trace-script'
-	install -D -m 755 crates/trace_collector/out/trace_collector '$(PREFIX)/bin/otlp-collector'
-	install -D -m 755 crates/trace_demo/out/trace_demo '$(PREFIX)/bin/trace-demo'
-	install -D -m 755 crates/trace_soak/out/trace_soak '$(PREFIX)/bin/trace-soak'
-	install -D -m 755 crates/first_export/out/first_export '$(PREFIX)/bin/first-export'
+install: ## Put the programs that make test left built into PREFIX/bin
+	tools/install '$(PREFIX)/bin'
 
 check: ## Prove every crate over what earlier checks kept
 	rt all check
@@ -45,4 +36,4 @@ format: ## Lay out the sources
 	for crate in crates/*/; do (cd $$crate && rt fmt) || exit 1; done
 
 clean: ## Remove what checks and builds made
-	rm -rf crates/*/out out
+	rm -rf crates/*/out out tools/lib/__pycache__

@@ -1,0 +1,100 @@
+"""The functions of a source text, by their paths and places."""
+import collections
+import pathlib
+import re
+
+LITERAL = re.compile(r"//[^\n]*|/\*.*?\*/|\bb?\"(?:[^\"\\]|\\.)*\"|\"(?:[^\"\\]|\\.)*\"|b?'(?:[^'\\\n]|\\[^\n]+?)'", re.S)
+CLAUSE = re.compile(r"(\b(requires|ensures)\s*\*?\s*\w*|\bghost\s+\w+\s*:)\s*$")
+
+
+def blanked(text):
+    """The text with blanks in place of comments and literals, each as long as it was."""
+    return LITERAL.sub(lambda it: re.sub(r"[^\n]", " ", it[0]), text)
+
+
+def without_brackets(text):
+    """A type or a trait without what is in angle brackets."""
+    before = ""
+    while text != before:
+        before, text = text, re.sub(r"<[^<>]*>", "", text)
+    return text
+
+
+def first_brackets(text):
+    """What is in the first angle brackets of a text."""
+    depth, start = 0, text.find("<")
+    for at in range(max(start, 0), len(text)):
+        depth += {"<": 1, ">": -1}.get(text[at], 0)
+        if start >= 0 and not depth:
+            return text[start + 1 : at]
+    return ""
+
+
+def last_name(path):
+    return re.sub(r"\W+$", "", without_brackets(path).strip()).rpartition("::")[2].strip("&' ")
+
+
+def name_of_impl(head):
+    """The name under which a check reports the functions of an impl: its type, then the trait's name, and then
+    the names of the types that the trait is given; and whether it is an impl of a trait."""
+    head = head.partition("impl")[2].replace("->", "").strip()
+    generics = first_brackets(head) if head.startswith("<") else ""
+    trait, has_trait, type_ = head[len(generics) + 2 if generics else 0 :].partition(" where ")[0].partition(" for ")
+    if not has_trait:
+        return last_name(trait), False
+    given = without_brackets(first_brackets(trait)).split(",")
+    own = re.findall(r"\w+", without_brackets(generics))
+    words = [it.strip() for it in given if re.fullmatch(r"\s*[A-Z]\w*\s*", it) and it.strip() not in own]
+    name, type_ = last_name(trait), last_name(type_)
+    return type_[:1].upper() + type_[1:] + ("" if name == "Drop" else name) + "".join(words), True
+
+
+def block_of(head):
+    """What a brace after this text opens: its kind, its name, and whether it is of a trait."""
+    found = re.search(r"\bfn\s+(\w+)|\bmod\s+(\w+)\s*$|\btrait\s+(\w+)", head)
+    if found and found[1]:
+        return "fn", found[1], False
+    if re.search(r"(^|\s)impl\b", head):
+        return "impl", *name_of_impl(head)
+    return ("scope", found[2] or found[3], bool(found[3])) if found else ("block", "", False)
+
+
+class Function(collections.namedtuple("Function", "path start body end has_twins")):
+    """A function in a text: its path, where its head begins, its body, where that ends, and whether a twin can be beside it."""
+
+    def lines(self, text):
+        """Its first and last line."""
+        return text.count("\n", 0, self.start) + 1, text.count("\n", 0, self.end) + 1
+
+
+def functions(text, module):
+    """The functions of a source text, each with its path below the crate."""
+    blank, found, stack, depth, start = blanked(text), [], [], 0, 0
+    for mark in re.finditer(r"[{}()\[\];]", blank):
+        is_clause = stack and stack[-1][0] == "clause"
+        if mark[0] in "([":
+            depth += not is_clause
+        elif mark[0] in ")]":
+            depth -= not is_clause
+        elif mark[0] == "{":
+            head = blank[start : mark.start()]
+            kind = ("clause", "", False) if is_clause or CLAUSE.search(head) else block_of(head)
+            stack.append((*kind, start, mark.end(), depth))
+            start, depth = (start, depth) if kind[0] == "clause" else (mark.end(), 0)
+        elif mark[0] == "}" and stack:
+            kind, name, _, begins, body, depth = stack.pop()
+            if kind == "fn":
+                outer = [it[1] for it in stack if it[0] in ("fn", "impl", "scope")]
+                begins += len(blank[begins:]) - len(blank[begins:].lstrip())
+                has_twins = not any(it[2] for it in stack)
+                found.append(Function("::".join([*module, *outer, name]), begins, body, mark.start(), has_twins))
+            start = begins if kind == "clause" else mark.end()
+        elif mark[0] == ";" and not depth and not is_clause:
+            start = mark.end()
+    return found
+
+
+def module_of(path):
+    """The module that a source file is, as its path below the crate."""
+    parts = list(pathlib.PurePosixPath(path).with_suffix("").parts[1:])
+    return [] if parts in (["lib"], ["main"]) else parts
