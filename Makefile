@@ -20,7 +20,7 @@ test: docs ## The gate: documents, every proof from nothing, wrong bodies, tests
 	tools/hostile-bodies
 	tools/wont-compile
 
-docs: ## Compare the documents with the sources
+docs: ## Compare the documents and the wrong bodies with the sources
 	tools/check-docs
 
 times: ## The gate, and what each crate took of the processors
