@@ -1,15 +1,22 @@
 .DEFAULT_GOAL := help
-.PHONY: help run test docs times install check format clean
+.PHONY: help run tour quick test docs times install check format clean
 
 PREFIX ?= $(HOME)/.local
 
 help: ## List the targets
 	@grep -E '^[a-z]+:.*##' Makefile | sed -E 's/:.*## /: /'
 
-run: ## Build programs without their proofs and run them: a service, threads and a collector, the examples, and spans that a collector prints
-	tools/run-programs
+run: tour ## The same as make tour
 
-test: docs ## The gate: documents, every proof from nothing, wrong bodies, tests, programs, stored runs, hostile bodies and what must not compile (tens of minutes)
+tour: ## Build programs without their proofs and run them, each with a word on what it shows
+	tools/tour
+
+quick: docs ## The documents, and tests and programs before their proofs (some minutes)
+	tools/quick
+
+# The documents, every proof from nothing, wrong bodies, tests, programs, stored runs, hostile
+# bodies, and what must not compile.
+test: docs ## The gate: every proof from nothing, wrong bodies, tests and runs (tens of minutes)
 	rt ci
 	tools/wrong-bodies
 	tools/wrong-bodies-test

@@ -11,13 +11,14 @@ from lib.http import PATIENCE
 
 
 class Collector:
-    """A run of the program with these words, under a limit if one is given. Unless outputs are given, what it prints goes to a file,
-    and what it reports to a pipe."""
+    """A run of the program with these words, under a limit if one is given. Unless outputs are
+    given, what it prints goes to a file, and what it reports to a pipe."""
 
     def __init__(self, words, limit=None, output=None, faults=None):
         self.output = open(output, "wb") if output else tempfile.TemporaryFile()
         with open(faults or os.devnull, "wb") as device:
-            how = {"stdin": subprocess.DEVNULL, "stdout": self.output, "stderr": device if faults else subprocess.PIPE}
+            how = {"stdin": subprocess.DEVNULL, "stdout": self.output}
+            how["stderr"] = device if faults else subprocess.PIPE
             self.process = subprocess.Popen(limited(words, limit), **how)
 
     def __enter__(self):
@@ -29,9 +30,11 @@ class Collector:
         self.output.close()
 
     def printed(self):
-        """What it has printed so far; nothing of a device. (It writes at a place that both have, which a read here may not move.)"""
+        """What it has printed so far; nothing of a device. (It writes at a place that both have,
+        which a read here may not move.)"""
         found = os.fstat(self.output.fileno())
-        return os.pread(self.output.fileno(), found.st_size, 0) if stat.S_ISREG(found.st_mode) else b""
+        is_file = stat.S_ISREG(found.st_mode)
+        return os.pread(self.output.fileno(), found.st_size, 0) if is_file else b""
 
     def wait_for(self, pattern):
         """What a pattern finds in what is printed."""

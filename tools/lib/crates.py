@@ -1,4 +1,5 @@
 """The crates of a repository, their sources, and the edits that make wrong ones of these."""
+import re
 
 
 def uses_of(top):
@@ -9,6 +10,17 @@ def uses_of(top):
         if colon:
             uses[head.split()[0]] = names.split()
     return uses
+
+
+def groups_of(top):
+    """The crates of crates.txt, each with the heading above it."""
+    group, groups = "", {}
+    for line in (top / "crates.txt").read_text(encoding="utf-8").splitlines():
+        if line.startswith("# "):
+            group = re.match(r"# ([^:,.]*)", line)[1]
+        elif line.partition("#")[0].strip():
+            groups[re.match(r"\w+", line)[0]] = group
+    return groups
 
 
 def below(uses, crate):
@@ -22,7 +34,8 @@ def below(uses, crate):
 
 def sources_in(folder):
     """The files from which a crate is proved and built."""
-    return [it for part in ("src", "specs", "proofs") for it in (folder / part).rglob("*") if it.is_file()]
+    parts = [folder / it for it in ("src", "specs", "proofs")]
+    return [it for part in parts for it in part.rglob("*") if it.is_file()]
 
 
 def newest(files):
@@ -31,7 +44,8 @@ def newest(files):
 
 
 def lines_of(edit):
-    """The lines of an edit: the word in front of the colon, and the text after it. Blank lines count for nothing."""
+    """The lines of an edit: the word in front of the colon, and the text after it. Blank lines
+    count for nothing."""
     for line in edit.read_text(encoding="utf-8").split("\n"):
         word, _, text = line.partition(":")
         if line.strip():

@@ -3,7 +3,10 @@ import collections
 import pathlib
 import re
 
-LITERAL = re.compile(r"//[^\n]*|/\*.*?\*/|\bb?\"(?:[^\"\\]|\\.)*\"|\"(?:[^\"\\]|\\.)*\"|b?'(?:[^'\\\n]|\\[^\n]+?)'", re.S)
+TEXT = r"\"(?:[^\"\\]|\\.)*\""
+LITERAL = re.compile(
+    rf"//[^\n]*|/\*.*?\*/|\bb?{TEXT}|{TEXT}|b?'(?:[^'\\\n]|\\[^\n]+?)'", re.S
+)
 CLAUSE = re.compile(r"(\b(requires|ensures)\s*\*?\s*\w*|\bghost\s+\w+\s*:)\s*$")
 
 
@@ -35,16 +38,19 @@ def last_name(path):
 
 
 def name_of_impl(head):
-    """The name under which a check reports the functions of an impl: its type, then the trait's name, and then
-    the names of the types that the trait is given; and whether it is an impl of a trait."""
+    """The name under which a check reports the functions of an impl: its type, then the trait's
+    name, and then the names of the types that the trait is given; and whether it is an impl of a
+    trait."""
     head = head.partition("impl")[2].replace("->", "").strip()
     generics = first_brackets(head) if head.startswith("<") else ""
-    trait, has_trait, type_ = head[len(generics) + 2 if generics else 0 :].partition(" where ")[0].partition(" for ")
+    rest = head[len(generics) + 2 if generics else 0 :].partition(" where ")[0]
+    trait, has_trait, type_ = rest.partition(" for ")
     if not has_trait:
         return last_name(trait), False
     given = without_brackets(first_brackets(trait)).split(",")
     own = re.findall(r"\w+", without_brackets(generics))
-    words = [it.strip() for it in given if re.fullmatch(r"\s*[A-Z]\w*\s*", it) and it.strip() not in own]
+    types = [it.strip() for it in given if re.fullmatch(r"\s*[A-Z]\w*\s*", it)]
+    words = [it for it in types if it not in own]
     name, type_ = last_name(trait), last_name(type_)
     return type_[:1].upper() + type_[1:] + ("" if name == "Drop" else name) + "".join(words), True
 
@@ -60,7 +66,8 @@ def block_of(head):
 
 
 class Function(collections.namedtuple("Function", "path start body end has_twins")):
-    """A function in a text: its path, where its head begins, its body, where that ends, and whether a twin can be beside it."""
+    """A function in a text: its path, where its head begins, its body, where that ends, and whether
+    a twin can be beside it."""
 
     def lines(self, text):
         """Its first and last line."""
@@ -87,7 +94,8 @@ def functions(text, module):
                 outer = [it[1] for it in stack if it[0] in ("fn", "impl", "scope")]
                 begins += len(blank[begins:]) - len(blank[begins:].lstrip())
                 has_twins = not any(it[2] for it in stack)
-                found.append(Function("::".join([*module, *outer, name]), begins, body, mark.start(), has_twins))
+                path = "::".join([*module, *outer, name])
+                found.append(Function(path, begins, body, mark.start(), has_twins))
             start = begins if kind == "clause" else mark.end()
         elif mark[0] == ";" and not depth and not is_clause:
             start = mark.end()

@@ -11,10 +11,14 @@ PATIENCE = 300  # seconds after which a run is given up
 MOST_SHOWN = 40  # rows whose faults are printed
 LANES = 24  # runs side by side, most of which wait
 FULL = "/dev/full"
-# Sets a limit of its own, and then becomes the program that the next words name. To write past a limit is an error there, no signal.
+# Sets a limit of its own, and then becomes the program that the next words name. To write past a
+# limit is an error there, no signal.
 LIMITED = (
-    "import os, resource, signal, sys; signal.signal(signal.SIGXFSZ, signal.SIG_IGN); limit = getattr(resource, sys.argv[1]); "
-    "resource.setrlimit(limit, (int(sys.argv[2]), resource.getrlimit(limit)[1])); os.execv(sys.argv[3], sys.argv[3:])"
+    "import os, resource, signal, sys; "
+    "signal.signal(signal.SIGXFSZ, signal.SIG_IGN); "
+    "limit = getattr(resource, sys.argv[1]); "
+    "resource.setrlimit(limit, (int(sys.argv[2]), resource.getrlimit(limit)[1])); "
+    "os.execv(sys.argv[3], sys.argv[3:])"
 )
 
 
@@ -23,21 +27,24 @@ class Wrong(Exception):
 
 
 def program_of(words, crate, arguments=""):
-    """The path of a built program: the first word, or the crate's own. If it is not there, the tool ends, and says how to build it."""
+    """The path of a built program: the first word, or the crate's own. If it is not there, the tool
+    ends, and says how to build it."""
     path = os.path.abspath(words[0] if words else TOP / "crates" / crate / "out" / crate)
     if not os.access(path, os.X_OK):
-        sys.exit(f"{TOOL}: {path} is not built: cd crates/{crate} && rt run{arguments and ' -- '}{arguments}")
+        command = f"cd crates/{crate} && rt run{arguments and ' -- '}{arguments}"
+        sys.exit(f"{TOOL}: {path} is not built: {command}")
     return path
 
 
 def limited(words, limit):
-    """The words that start a program under a limit, such as ("RLIMIT_FSIZE", 9), if one is given."""
+    """The words that start a program under a limit, such as ("RLIMIT_FSIZE", 9), if one is
+    given."""
     return [sys.executable, "-c", LIMITED, *map(str, limit), *words] if limit else words
 
 
 def run(words, stdin=subprocess.DEVNULL, limit=None, **outputs):
-    """The status of a run, or that it has no end, and what it prints and reports, unless an output is given. The input is bytes or a
-    file."""
+    """The status of a run, or that it has no end, and what it prints and reports, unless an output
+    is given. The input is bytes or a file."""
     pipes = {"stdout": subprocess.PIPE, "stderr": subprocess.PIPE, **outputs}
     pipes["input" if isinstance(stdin, bytes) else "stdin"] = stdin
     try:
@@ -56,7 +63,8 @@ def side_by_side(work, jobs):
 def difference(found, wanted):
     """What is found instead of what is wanted, from shortly before the first difference."""
     if isinstance(found, tuple) and isinstance(wanted, tuple):
-        return ", and ".join(difference(one, other) for one, other in zip(found, wanted) if one != other)
+        pairs = [pair for pair in zip(found, wanted) if pair[0] != pair[1]]
+        return ", and ".join(difference(*pair) for pair in pairs)
     if isinstance(found, bytes) and isinstance(wanted, bytes):
         start = max(len(os.path.commonprefix([found, wanted])) - 20, 0)
         found, wanted = found[start : start + 200], wanted[start : start + 200]
@@ -70,7 +78,8 @@ def compared(rows):
 
 
 def report(rows, good="passed", bad="failed"):
-    """Prints the faults of rows of a name and its faults, and the last line. Answers the tool's status."""
+    """Prints the faults of rows of a name and its faults, and the last line. Answers the tool's
+    status."""
     passed = failed = 0
     try:
         for name, faults in rows:

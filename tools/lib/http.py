@@ -1,4 +1,5 @@
-"""HTTP/1.1 as bytes (RFC 9112, sections 3 to 7): requests, replies, and the ends of connections that bring them."""
+"""HTTP/1.1 as bytes (RFC 9112, sections 3 to 7): requests, replies, and the ends of connections
+that bring them."""
 import contextlib
 import re
 import socket
@@ -85,10 +86,12 @@ def request_from(link):
 
 
 class Server:
-    """Takes connections one after another, and answers each by the next of the replies, and later ones by none.
+    """Takes connections one after another, and answers each by the next of the replies, and later
+    ones by none.
 
-    A reply is bytes, a function that makes them, `SILENCE`, or None: the connection breaks off. By the way, it goes out "whole", "byte
-    by byte", and then either the connection ends, or it is "breaking off", or "staying" until the other end closes it.
+    A reply is bytes, a function that makes them, `SILENCE`, or None: the connection breaks off. By
+    the way, it goes out "whole", "byte by byte", and then either the connection ends, or it is
+    "breaking off", or "staying" until the other end closes it.
     """
 
     def __init__(self, replies, way):
@@ -115,7 +118,8 @@ class Server:
                 except OSError as error:
                     self.requests.append(repr(error).encode())
                 self.moments.append((came, time.monotonic()))
-                with contextlib.suppress(OSError):  # (what the other end doesn't read of a reply breaks the connection off)
+                # (What the other end doesn't read of a reply breaks the connection off.)
+                with contextlib.suppress(OSError):
                     self.answer(link, len(self.requests))
 
     def answer(self, link, turn):

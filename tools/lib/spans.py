@@ -2,12 +2,14 @@
 
 # The lines of a span without fields, and the order of all lines.
 EMPTY = ("span % % % % 0 0 0 %", "resource 0 %", "scope % % % 0", "dropped 0 0 0", "status 0 %")
-ORDER = ["span", "flags", "resource", "rattr", "scope", "sattr", "attr", "event eattr", "link lflags lattr", "dropped", "status"]
+ORDER = ["span", "flags", "resource", "rattr", "scope", "sattr", "attr"]
+ORDER += ["event eattr", "link lflags lattr", "dropped", "status"]
 RANKS = {word: rank for rank, words in enumerate(ORDER) for word in words.split()}
 
 
 def printed_of(*spans):
-    """What is printed of these spans. Each is given by the lines that a span without fields has not, joined by '; '."""
+    """What is printed of these spans. Each is given by the lines that a span without fields has
+    not, joined by '; '."""
     lines = []
     for given in spans:
         own = given.split("; ") if given else []

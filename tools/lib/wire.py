@@ -30,5 +30,6 @@ def piece(field, content):
 
 
 def request_of(span):
-    """The body of a request that has a span of these fields, without a resource or a scope (opentelemetry-proto)."""
+    """The body of a request that has a span of these fields, without a resource or a scope
+    (opentelemetry-proto)."""
     return piece(1, piece(2, piece(2, span)))

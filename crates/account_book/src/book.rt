@@ -1,5 +1,6 @@
 //! Accounts under a name, as what they say.
-ghost use Rattle.std.specs.Prelude.{◌≡◌, ℕ, List, [], ◌∷◌, ◌++◌, Contains, IfOk, OnErr, true, vec_len};
+ghost use Rattle.std.specs.Prelude.{◌≡◌, ℕ, List, [], ◌∷◌, ◌++◌, Contains, IfOk, OnErr, true};
+ghost use Rattle.std.specs.Prelude.{vec_len};
 ghost use Rattle.std.specs.List.{AllByRecursion};
 ghost use Rattle.account_book.specs.Accounts.{open_of, Removes, Replaces};
 
@@ -168,7 +169,7 @@ impl<J: Naming, V> Book<J, V> {
         Ok(opened)
     }
 
-    /// Changes what an account says, by what it is told. The account is one of the open ones.
+    /// Changes what an account says, by what it hears. The account is one of the open ones.
     pub fn record<T, C: Change<V, T>>(&mut self, account: &mut Account<J, V>, told: &T)
         ensures book { Replaces self.old account.old account.new self.new }
         ensures account { account.new ≡ C.after account.old told.now }

@@ -13,7 +13,7 @@ pub trait Opening<V> {
     ghost first: { V };
 }
 
-/// What an account says after a change that is told a value.
+/// What an account says after a change that hears a value.
 pub trait Change<V, T> {
     ghost after: { V → T → V };
 }

@@ -1,5 +1,5 @@
--- With all memory on the heap, spans that have ended may go to another thread, and so may a ledger, a
--- batch and a desk: each part that they hold names no thread.
+-- With all memory on the heap, spans that have ended may go to another thread, and so may a ledger,
+-- a batch and a desk: each part that they hold names no thread.
 use denote.RattleType.{RattleType}
 use denote.Param.Send.{IsSend, IsSync, sendable}
 use denote.Param.SendFields.{declared_send, variants_send, as_row_send}

@@ -2,12 +2,12 @@
 use Rattle.std.proofs.Common.{◌≡◌, refl, sym, ap, ◌∙◌, subst, ℕ, ◌+◌, ◌<◌, ◌≤◌, arith, min, Bool, true, false, not, List, [], ◌∷◌, ◌++◌, length, take, drop, Option, Some, None}
 use Rattle.std.specs.Prelude.{map, option_map, reverse, if◌then◌else◌}
 use Rattle.std.proofs.lemmas.List.{take_min, drop_min, length-map}
-use Rattle.span_model.specs.Spans.{EndedSpan}
-use Rattle.drop_model.specs.Dropped.{Entry, Reason, queue_full, entry_of, can_drop_batch}
-use Rattle.retry_model.specs.Retries.{Fate}
-use Rattle.desk_model.specs.Queue.{queued, full, late, flush, shutdown, handed, popped, popped_lost, lost_names}
-use Rattle.desk_model.specs.Desks.{DeskConfig, Desk, OutBatch, Does, DropsSpans, IsDesk, SettlesSpans, TakesSpans, accepted_count, capped, handed_out, is_due, is_in_hand, is_with_exporter, new_desk, out_size, with_drops}
-use Rattle.desk_model.proofs.Events.{new_desk_is, queued_does, full_does, late_does, flush_does, shutdown_does, taken_does, handed_does, dropped_does, settled_does, popped_does, popped_lost_does}
+use Rattle.model_span.specs.Spans.{SpanData}
+use Rattle.model_drop.specs.Dropped.{Entry, Reason, queue_full, entry_of, can_drop_batch}
+use Rattle.model_retry.specs.Retries.{Fate}
+use Rattle.model_desk.specs.Queue.{queued, full, late, flush, shutdown, handed, popped, popped_lost, lost_names}
+use Rattle.model_desk.specs.Desks.{DeskConfig, Desk, OutBatch, Does, DropsSpans, IsDesk, SettlesSpans, TakesSpans, accepted_count, capped, handed_out, is_due, is_in_hand, is_with_exporter, new_desk, out_size, with_drops}
+use Rattle.model_desk.proofs.Events.{new_desk_is, queued_does, full_does, late_does, flush_does, shutdown_does, taken_does, handed_does, dropped_does, settled_does, popped_does, popped_lost_does}
 use Rattle.batch_desk.specs.Counts.{handed_size}
 use Rattle.batch_desk.specs.Desk.{after_drop, after_loss, after_names, after_take, with_next_ticket}
 
@@ -15,10 +15,10 @@ pub new_follows : (config : DeskConfig) (made : ℕ) (new : Desk) → new ≡ ne
 new_follows config made new e = subst (IsDesk made []) (sym e) (new_desk_is config made)
 
 module _ (old new : Desk) where
-  pub queued_follows : (s : EndedSpan) → old.closed ≡ false → length old.waiting < old.config.queue → s.ticket ≡ old.next_ticket → new ≡ record (with_next_ticket old) { waiting = old.waiting ++ s ∷ [] } → Does (queued s) old new
+  pub queued_follows : (s : SpanData) → old.closed ≡ false → length old.waiting < old.config.queue → s.ticket ≡ old.next_ticket → new ≡ record (with_next_ticket old) { waiting = old.waiting ++ s ∷ [] } → Does (queued s) old new
   queued_follows s a b t e = subst (λ d. Does (queued s) old d) (sym e) (queued_does old s (a, b, t))
 
-  pub full_follows : (s : EndedSpan) → old.closed ≡ false → length old.waiting ≡ old.config.queue → s.ticket ≡ old.next_ticket → new ≡ record (with_next_ticket old) { ledger = entry_of queue_full s ∷ old.ledger; dropped = with_drops queue_full 1 old.dropped } → Does (full s) old new
+  pub full_follows : (s : SpanData) → old.closed ≡ false → length old.waiting ≡ old.config.queue → s.ticket ≡ old.next_ticket → new ≡ record (with_next_ticket old) { ledger = entry_of queue_full s ∷ old.ledger; dropped = with_drops queue_full 1 old.dropped } → Does (full s) old new
   full_follows s a b t e = subst (λ d. Does (full s) old d) (sym e) (full_does old s (a, b, t))
 
   pub late_follows : old.closed ≡ true → new ≡ record old { late = capped (old.late + 1) } → Does late old new
@@ -30,7 +30,7 @@ module _ (old new : Desk) where
   pub shutdown_follows : new ≡ record old { asked = accepted_count old; closed = true } → Does shutdown old new
   shutdown_follows e = subst (λ d. Does shutdown old d) (sym e) (shutdown_does old)
 
-  pub taken_follows : (now : ℕ) (spans : List EndedSpan) → is_due old now ≡ true → old.out ≡ None → spans ≡ take old.config.batch old.waiting → new ≡ after_take now old → TakesSpans now spans old new
+  pub taken_follows : (now : ℕ) (spans : List SpanData) → is_due old now ≡ true → old.out ≡ None → spans ≡ take old.config.batch old.waiting → new ≡ after_take now old → TakesSpans now spans old new
   taken_follows now spans due out s e =
       let size = min old.config.batch (length old.waiting) in
       let same : spans ≡ take size old.waiting = s ∙ sym (take_min old.config.batch old.waiting) in
@@ -41,15 +41,15 @@ module _ (old new : Desk) where
   pub handed_follows : is_in_hand old.out ≡ true → new ≡ record old { out = handed_out old.out; handed = old.handed + out_size old.out } → Does handed old new
   handed_follows a e = subst (λ d. Does handed old d) (sym e) (handed_does old a)
 
-  pub dropped_follows : (reason : Reason) (spans : List EndedSpan) → is_in_hand old.out ≡ true → can_drop_batch reason ≡ true → new ≡ after_drop reason spans old → DropsSpans reason spans old new
+  pub dropped_follows : (reason : Reason) (spans : List SpanData) → is_in_hand old.out ≡ true → can_drop_batch reason ≡ true → new ≡ after_drop reason spans old → DropsSpans reason spans old new
   dropped_follows reason spans a r e = subst (λ d. DropsSpans reason spans old d) (sym e) (dropped_does old reason spans (a, r))
 
-  pub named_follows : (reason : Reason) (entries : List Entry) (spans : List EndedSpan) → is_in_hand old.out ≡ true → can_drop_batch reason ≡ true → map (entry_of reason) spans ≡ entries → new ≡ after_names reason entries old → DropsSpans reason spans old new
+  pub named_follows : (reason : Reason) (entries : List Entry) (spans : List SpanData) → is_in_hand old.out ≡ true → can_drop_batch reason ≡ true → map (entry_of reason) spans ≡ entries → new ≡ after_names reason entries old → DropsSpans reason spans old new
   named_follows reason entries spans a r same e =
       let count : length entries ≡ length spans = sym (ap length same) ∙ length-map spans (entry_of reason) in
       dropped_follows reason spans a r (e ∙ ap (λ names. record old { out = None; ledger = reverse names ++ old.ledger; dropped = with_drops reason (length entries) old.dropped }) (sym same) ∙ ap (λ n. record old { out = None; ledger = reverse (map (entry_of reason) spans) ++ old.ledger; dropped = with_drops reason n old.dropped }) count)
 
-  pub settled_follows : (fate : Fate) (entries : List Entry) (spans : List EndedSpan) → is_with_exporter old.out ≡ true → lost_names fate spans ≡ entries → new ≡ after_loss fate entries old → SettlesSpans fate spans old new
+  pub settled_follows : (fate : Fate) (entries : List Entry) (spans : List SpanData) → is_with_exporter old.out ≡ true → lost_names fate spans ≡ entries → new ≡ after_loss fate entries old → SettlesSpans fate spans old new
   settled_follows fate entries spans a same e = subst (λ d. SettlesSpans fate spans old d) (sym (e ∙ ap (λ names. after_loss fate names old) (sym same))) (settled_does old fate spans a)
 
   pub popped_follows : new ≡ record old { ledger = drop 1 old.ledger } → Does popped old new

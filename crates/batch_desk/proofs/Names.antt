@@ -12,7 +12,7 @@ names-first f items rest x below above e a =
     ∙ append_assoc (reverse below) (f x ∷ []) (map f rest)
     ∙ ap (λ zs. reverse below ++ map f zs) (sym e)
 
--- the first one of those that are left behind the first ones
+-- the first one of those that are left after the first ones
 next-taken : {X : Type 0} (items : List X) (count : ℕ) (x : X) → slice_get (drop count items) 0 ≡ Some x → take (suc count) items ≡ take count items ++ x ∷ []
 next-taken [] zero x e = cc
 next-taken [] (suc count) x e = cc

@@ -1,14 +1,14 @@
 -- What a contract sees of a `Batch`, of a `NamedBatch` and of a `SettledBatch`.
 use Rattle.std.specs.Prelude.{ℕ, List, map}
-use Rattle.span_model.specs.Spans.{EndedSpan}
-use Rattle.drop_model.specs.Dropped.{Entry, Reason, entry_of}
-use Rattle.retry_model.specs.Retries.{Fate}
-use Rattle.desk_model.specs.Queue.{lost_names}
+use Rattle.model_span.specs.Spans.{SpanData}
+use Rattle.model_drop.specs.Dropped.{Entry, Reason, entry_of}
+use Rattle.model_retry.specs.Retries.{Fate}
+use Rattle.model_desk.specs.Queue.{lost_names}
 
 -- its number, its spans in queue order, and how many it has room for
 pub record BatchView : Type 0 where
   pub number : ℕ
-  pub spans : List EndedSpan
+  pub spans : List SpanData
   pub room : ℕ
 
 -- its number, the names of its spans in queue order, why they are dropped, and how many it had

@@ -1,6 +1,8 @@
 -- How the counts of a desk hang together.
-use Rattle.std.specs.Prelude.{◌≡◌, ℕ, ◌+◌, ◌-◌, ◌^◌, ◌<◌, ◌≤◌, true, false, if◌then◌else◌, length, Option, None, Some}
-use Rattle.desk_model.specs.Desks.{Desk, FateCounts, OutBatch, accepted_count, in_hand_size, out_size, worker_drops}
+use Rattle.std.specs.Prelude.{◌≡◌, ℕ, ◌+◌, ◌-◌, ◌^◌, ◌<◌, ◌≤◌, true, false, if◌then◌else◌, length}
+use Rattle.std.specs.Prelude.{Option, None, Some}
+use Rattle.model_desk.specs.Desks.{Desk, FateCounts, OutBatch, accepted_count, in_hand_size}
+use Rattle.model_desk.specs.Desks.{out_size, worker_drops}
 
 -- how many batches are out
 abbrev pub out_count : Option OutBatch → ℕ
@@ -23,7 +25,7 @@ pub record AreCounts (desk : Desk) : Type 0 where
   pub tickets : accepted_count desk + desk.dropped.queue_full ≡ desk.next_ticket
   pub last_ticket : desk.next_ticket < 2 ^ 64
   pub admits : desk.closed ≡ false → desk.next_ticket < 2 ^ 64 - 1
-  -- behind a shutdown all were asked for
+  -- after a shutdown all were asked for
   pub asked : desk.closed ≡ true → desk.next_ticket < 2 ^ 64 - 1
       → desk.asked ≡ accepted_count desk
   pub taken : desk.taken

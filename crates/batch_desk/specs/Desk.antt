@@ -1,10 +1,13 @@
 -- What the calls of a desk answer, and what they leave of it.
-use Rattle.std.specs.Prelude.{◌≡◌, ℕ, ◌+◌, ◌-◌, ◌^◌, ◌==◌, Bool, true, false, if◌then◌else◌, List, [], ◌∷◌, ◌++◌, length, take, drop, map, reverse, min, Option, None, Some, option_map}
-use Rattle.span_model.specs.Spans.{EndedSpan, with_ticket}
-use Rattle.drop_model.specs.Dropped.{Entry, Reason, queue_full, entry_of}
-use Rattle.retry_model.specs.Retries.{Fate}
-use Rattle.desk_model.specs.Queue.{DeskEvent, queued, full, late}
-use Rattle.desk_model.specs.Desks.{DeskConfig, Desk, with_drops, with_fate, capped, is_loss, out_size}
+use Rattle.std.specs.Prelude.{◌≡◌, ℕ, ◌+◌, ◌-◌, ◌^◌, ◌==◌, Bool, true, false, if◌then◌else◌, List}
+use Rattle.std.specs.Prelude.{[], ◌∷◌, ◌++◌, length, take, drop, map, reverse, min, Option, None}
+use Rattle.std.specs.Prelude.{Some, option_map}
+use Rattle.model_span.specs.Spans.{SpanData, with_ticket}
+use Rattle.model_drop.specs.Dropped.{Entry, Reason, queue_full, entry_of}
+use Rattle.model_retry.specs.Retries.{Fate}
+use Rattle.model_desk.specs.Queue.{DeskEvent, queued, full, late}
+use Rattle.model_desk.specs.Desks.{DeskConfig, Desk, with_drops, with_fate, capped, is_loss}
+use Rattle.model_desk.specs.Desks.{out_size}
 use Rattle.batch_desk.specs.Batch.{BatchView, NamedView}
 use Rattle.batch_desk.specs.declared.admitted.Admitted.{Admitted}
 use Rattle.batch_desk.specs.declared.admitted.Admitted.TheVariants as admitted
@@ -28,7 +31,7 @@ is_queued (admitted.Queued ticket) = true
 is_queued _ = false
 
 -- a span that came, and what came of it
-abbrev pub admission_event : Admitted → EndedSpan → DeskEvent
+abbrev pub admission_event : Admitted → SpanData → DeskEvent
 admission_event (admitted.Queued ticket) span = queued (with_ticket ticket span)
 admission_event (admitted.Full ticket) span = full (with_ticket ticket span)
 admission_event admitted.Late span = late
@@ -41,8 +44,8 @@ with_next_ticket desk = record desk {
   closed = desk.next_ticket + 1 == 2 ^ 64 - 1;
 }
 
--- the desk behind a span to which this came
-abbrev pub after_admission : Admitted → EndedSpan → Desk → Desk
+-- the desk after a span to which this came
+abbrev pub after_admission : Admitted → SpanData → Desk → Desk
 after_admission (admitted.Queued ticket) span desk = record (with_next_ticket desk) {
   waiting = desk.waiting ++ with_ticket ticket span ∷ [];
 }
@@ -78,7 +81,7 @@ pub record IsNamedOut (desk : Desk) (batch : NamedView) : Type 0 where
       ≡ Some (record { number = batch.number; size = length batch.entries; is_handed = false })
   pub room : batch.room ≡ desk.config.batch
 
--- the desk behind this take
+-- the desk after this take
 abbrev pub after_take : ℕ → Desk → Desk
 after_take now desk =
     let size = min desk.config.batch (length desk.waiting) in
@@ -90,15 +93,15 @@ after_take now desk =
       last_moment = now;
     }
 
--- the desk behind the drop of the batch that is out, of these spans
-abbrev pub after_drop : Reason → List EndedSpan → Desk → Desk
+-- the desk after the drop of the batch that is out, of these spans
+abbrev pub after_drop : Reason → List SpanData → Desk → Desk
 after_drop reason spans desk = record desk {
   out = None;
   ledger = reverse (map (entry_of reason) spans) ++ desk.ledger;
   dropped = with_drops reason (length spans) desk.dropped;
 }
 
--- the desk behind the drop of the batch that is out, whose spans have these names in queue order
+-- the desk after the drop of the batch that is out, whose spans have these names in queue order
 abbrev pub after_names : Reason → List Entry → Desk → Desk
 after_names reason entries desk = record desk {
   out = None;
@@ -107,8 +110,8 @@ after_names reason entries desk = record desk {
 }
 
 -- Whether the batch of this number, which has room for so many spans, and of which so many are
--- there, can be settled with this fate: it is out and was handed, and where its spans are lost, none
--- of them was let go.
+-- there, can be settled with this fate: it is out and was handed, and where its spans are lost,
+-- none of them was let go.
 pub record CanSettle (desk : Desk) (fate : Fate) (number room count : ℕ) : Type 0 where
   pub out : out_state desk ≡ Some (number, true)
   pub fits : room ≡ desk.config.batch

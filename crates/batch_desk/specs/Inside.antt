@@ -1,6 +1,6 @@
 -- What the fields of a desk show, and what is true of them.
 use Rattle.std.specs.Prelude.{◌≡◌, option_map, is_some}
-use Rattle.desk_model.specs.Desks as model
+use Rattle.model_desk.specs.Desks as model
 use Rattle.batch_desk.specs.Counts.{AreCounts}
 use Rattle.drop_ledger.specs.Counts.{drop_counts_view}
 use Rattle.batch_desk.specs.Views.{out_view, fate_counts_view}

@@ -1,5 +1,5 @@
 -- What sizes and counts are in the model.
-use Rattle.desk_model.specs.Desks as desks
+use Rattle.model_desk.specs.Desks as desks
 use Rattle.batch_desk.specs.declared.config.DeskConfig.{DeskConfig}
 use Rattle.batch_desk.specs.declared.desk.TakenBatch.{TakenBatch}
 use Rattle.batch_desk.specs.declared.totals.FateCounts.{FateCounts}

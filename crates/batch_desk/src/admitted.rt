@@ -1,3 +1,5 @@
+//! What becomes of a span that is handed to the queue.
+
 /// What became of a span that was handed in. A ticket is its number among the spans that were
 /// admitted, from 0 on (profile).
 #[derive(Debug, Clone, Copy, PartialEq, Eq)]

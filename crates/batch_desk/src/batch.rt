@@ -1,6 +1,8 @@
-ghost use Rattle.std.specs.Prelude.{◌≡◌, true, ◌≤◌, ◌+◌, ◌-◌, ◌++◌, [], length, take, vec_capacity, vec_len};
+//! A batch of spans that was taken from the queue.
+ghost use Rattle.std.specs.Prelude.{◌≡◌, true, ◌≤◌, ◌+◌, ◌-◌, ◌++◌, [], length, take, vec_capacity};
+ghost use Rattle.std.specs.Prelude.{vec_len};
 ghost use Rattle.otlp_span.specs.Dropped.{reason_view};
-ghost use Rattle.drop_model.specs.Dropped.{can_drop_batch};
+ghost use Rattle.model_drop.specs.Dropped.{can_drop_batch};
 ghost use Rattle.retry_core.specs.Retries.{fate_view};
 ghost use Rattle.batch_desk.specs.Batch.{named_batch, settled_batch};
 
@@ -111,7 +113,7 @@ impl<A: Allocator> Batch<A> {
     }
 }
 
-/// Moves the first `count` spans of a run behind those of `into`, where there is room for them.
+/// Moves the first `count` spans of a run after those of `into`, where there is room for them.
 fn move_first<A: Allocator>(
     run: &mut Run<SpanData<A>, A>,
     count: usize,

@@ -1,3 +1,5 @@
+//! The settings of a queue.
+
 /// How much a queue holds, and when a batch is taken from it (Trace SDK, "Batching processor").
 #[derive(Debug, Clone, Copy, PartialEq, Eq)]
 pub struct DeskConfig {

@@ -1,13 +1,21 @@
-ghost use Rattle.std.specs.Prelude.{List, ◌≡◌, ◌+◌, ◌-◌, ◌^◌, ◌<◌, ◌≤◌, ◌↔◌, ◌⊎◌, ◌&&◌, ◌++◌, ◌∷◌, [], length, drop, map, reverse, true, false, is_some, is_none, option_map, slice_get, if◌then◌else◌, nat_le, ◌*◌, Some, None, IfNone, IfOk, IfSome, IsErrOf, IsTrue};
+//! The queue of a batch processor.
+ghost use Rattle.std.specs.Prelude.{List, ◌≡◌, ◌+◌, ◌-◌, ◌^◌, ◌<◌, ◌≤◌, ◌↔◌, ◌⊎◌, ◌&&◌, ◌++◌, ◌∷◌};
+ghost use Rattle.std.specs.Prelude.{[], length, drop, map, reverse, true, false, is_some, is_none};
+ghost use Rattle.std.specs.Prelude.{option_map, slice_get, if◌then◌else◌, nat_le, ◌*◌, Some, None};
+ghost use Rattle.std.specs.Prelude.{IfNone, IfOk, IfSome, IsErrOf, IsTrue};
 ghost use Rattle.span_ring.specs.SpanRing.{IsRingSize};
 ghost use Rattle.span_ring.specs.declared.ring.TheConstants.{MAX_QUEUE};
-ghost use Rattle.span_model.specs.Spans.{EndedSpan};
-ghost use Rattle.drop_model.specs.Dropped.{can_drop_batch, entry_of};
-ghost use Rattle.desk_model.specs.Queue as events;
-ghost use Rattle.desk_model.specs.Desks.{Does, DropsSpans, IsDesk, SettlesSpans, TakesSpans, accepted_count, after_settled, handed_out, in_hand_size, is_due, is_flushed, new_desk, out_size, worker_drops};
+ghost use Rattle.model_span.specs.Spans as spans;
+ghost use Rattle.model_drop.specs.Dropped.{can_drop_batch, entry_of};
+ghost use Rattle.model_desk.specs.Queue as events;
+ghost use Rattle.model_desk.specs.Desks.{Does, DropsSpans, IsDesk, SettlesSpans, TakesSpans};
+ghost use Rattle.model_desk.specs.Desks.{accepted_count, after_settled, handed_out, in_hand_size};
+ghost use Rattle.model_desk.specs.Desks.{is_due, is_flushed, new_desk, out_size, worker_drops};
 ghost use Rattle.otlp_span.specs.Dropped.{entry_view, reason_view};
 ghost use Rattle.retry_core.specs.Retries.{fate_view};
-ghost use Rattle.batch_desk.specs.Desk.{CanSettle, IsNamedOut, IsOut, admission, admission_event, after_admission, after_drop, after_loss, after_names, after_take, is_queued, next_batch, out_state};
+ghost use Rattle.batch_desk.specs.Desk.{CanSettle, IsNamedOut, IsOut, admission, admission_event};
+ghost use Rattle.batch_desk.specs.Desk.{after_admission, after_drop, after_loss, after_names};
+ghost use Rattle.batch_desk.specs.Desk.{after_take, is_queued, next_batch, out_state};
 ghost use Rattle.drop_ledger.specs.Counts.{drop_counts_view};
 ghost use Rattle.batch_desk.specs.Views.{config_view, fate_counts_view, out_view};
 
@@ -59,7 +67,7 @@ pub struct Desk<A: Allocator = Global> {
 }
 
 impl<A: Allocator> Model for Desk<A> {
-    ghost use Rattle.desk_model.specs.Desks.{Desk};
+    ghost use Rattle.model_desk.specs.Desks.{Desk};
 
     ghost Value = { Desk };
 
@@ -115,7 +123,7 @@ impl<A: Allocator + Copy> Desk<A> {
 
 impl<A: Allocator> Desk<A> {
     /// Queues a span that has ended, under the next ticket (Trace SDK, "OnEnd"). Where as many wait
-    /// as the queue holds, it is dropped itself: the ledger names it, as `QueueFull`. Behind a
+    /// as the queue holds, it is dropped itself: the ledger names it, as `QueueFull`. After a
     /// shutdown it is only counted, up to 2^64 - 1. Where the next ticket would be 2^64 - 1, the
     /// desk closes as by a shutdown (profile: tickets, the ledger, late spans).
     pub fn admit(&mut self, span: SpanData<A>) -> Admitted
@@ -128,7 +136,7 @@ impl<A: Allocator> Desk<A> {
     }
 
     /// Queues a span that has ended, as `admit` does, and frees no memory: what is left of a span
-    /// that doesn't wait is handed back, so that who calls under a lock lets it go behind that
+    /// that doesn't wait is handed back, so that who calls under a lock lets it go after that
     /// (profile).
     pub fn offer(&mut self, mut span: SpanData<A>) -> (Admitted, Option<SpanRemains<A>>)
         ensures answer { result.0 ≡ admission self.old }
@@ -156,7 +164,7 @@ impl<A: Allocator> Desk<A> {
 
     /// Asks for the spans that wait (Trace SDK, "ForceFlush"): batches are due until they are
     /// taken. The mark is that of all spans that were accepted so far, which `flushed` takes.
-    /// Behind a shutdown nothing changes (profile).
+    /// After a shutdown nothing changes (profile).
     pub fn flush(&mut self) -> Mark
         ensures mark { result ≡ accepted_count self.old }
         ensures desk { self.new ≡ record self.old { asked = accepted_count self.old } }
@@ -344,9 +352,9 @@ impl<A: Allocator> Desk<A> {
 
     /// Drops this batch, which is out and was not handed, as `is_in_hand` tells: the ledger names
     /// its spans, in their order, each as dropped for this reason. The reason is one for which a
-    /// batch may be dropped (`Reason::can_drop_batch`): not `QueueFull`, which is that of spans that
-    /// end where the queue is full, nor one of lost spans (profile). Its spans are freed here; under
-    /// a lock take `drop_named`.
+    /// batch may be dropped (`Reason::can_drop_batch`): not `QueueFull`, which is that of spans
+    /// that end where the queue is full, nor one of lost spans (profile). Its spans are freed here;
+    /// under a lock take `drop_named`.
     pub fn drop_batch(&mut self, batch: Batch<A>, reason: Reason)
         requires out { IsOut false self.old batch }
         requires reason { can_drop_batch (reason_view reason) ≡ true }
@@ -362,7 +370,7 @@ impl<A: Allocator> Desk<A> {
     pub fn drop_named(&mut self, batch: NamedBatch<A>)
         requires { IsNamedOut self.old batch }
         ensures desk { self.new ≡ after_names batch.reason batch.entries self.old }
-        ensures history { (spans : List EndedSpan)
+        ensures history { (spans : List spans.SpanData)
             → map (entry_of batch.reason) spans ≡ batch.entries
             → DropsSpans batch.reason spans self.old self.new }
     {
@@ -396,7 +404,7 @@ impl<A: Allocator> Desk<A> {
     pub fn settle_named(&mut self, batch: SettledBatch<A>)
         requires { CanSettle self.old batch.fate batch.number batch.room (length batch.entries) }
         ensures desk { self.new ≡ after_loss batch.fate batch.entries self.old }
-        ensures history { (spans : List EndedSpan)
+        ensures history { (spans : List spans.SpanData)
             → events.lost_names batch.fate spans ≡ batch.entries
             → SettlesSpans batch.fate spans self.old self.new }
     {

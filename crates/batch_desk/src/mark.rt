@@ -1,3 +1,5 @@
+//! What a flush waits for.
+
 use std::marker::Model;
 
 /// Up to which span the queue was asked to be emptied (Trace SDK, "ForceFlush"). In contracts it

@@ -1,7 +1,8 @@
+//! A batch that was handed to an exporter, with its fate.
 ghost use Rattle.std.specs.Prelude.{◌≡◌, option_map};
 ghost use Rattle.otlp_span.specs.Dropped.{reason_view};
 ghost use Rattle.retry_core.specs.Retries.{fate_view};
-ghost use Rattle.desk_model.specs.Queue as events;
+ghost use Rattle.model_desk.specs.Queue as events;
 
 use drop_ledger::Ledger;
 use otlp_span::{Entries, Reason, SpanData};
@@ -38,7 +39,7 @@ pub struct SettledBatch<A: Allocator = Global> {
 
 impl<A: Allocator> Model for SettledBatch<A> {
     ghost use Rattle.std.specs.Prelude.{◌≡◌, [], false};
-    ghost use Rattle.desk_model.specs.Desks.{is_loss};
+    ghost use Rattle.model_desk.specs.Desks.{is_loss};
     ghost use Rattle.retry_core.specs.Retries.{fate_view};
     ghost use Rattle.batch_desk.specs.Batch.{SettledView};
 

@@ -1,5 +1,6 @@
+//! Counts of what became of spans and batches.
 ghost use Rattle.std.specs.Prelude.{◌≡◌, ◌+◌, ◌-◌, ◌^◌, ◌<◌};
-ghost use Rattle.desk_model.specs.Desks.{no_fates, with_fate};
+ghost use Rattle.model_desk.specs.Desks.{no_fates, with_fate};
 ghost use Rattle.retry_core.specs.Retries.{fate_view};
 ghost use Rattle.batch_desk.specs.Counts.{fate_count};
 ghost use Rattle.batch_desk.specs.Views.{fate_counts_view};
@@ -71,7 +72,7 @@ pub struct Totals {
     pub lost: u64,
     /// Spans that wait.
     pub left: u64,
-    /// Spans that came behind the shutdown. It stops at 2^64 - 1.
+    /// Spans that came after the shutdown. It stops at 2^64 - 1.
     pub late: u64,
     /// Spans that were dropped, by reason, those whose entry was popped from the ledger too.
     pub dropped: DropCounts,

@@ -1,5 +1,5 @@
--- A pass may go to another thread where its runtime may, with all memory on the heap, and so may the
--- worker's pass: each part that they hold names no thread.
+-- A pass may go to another thread where its runtime may, with all memory on the heap, and so may
+-- the worker's pass: each part that they hold names no thread.
 use denote.RattleType.{RattleType}
 use denote.Struct.Field.{row_field}
 use denote.Param.Send.{IsSend, IsSync, sendable, view_send}
@@ -11,7 +11,7 @@ use Rattle.batch_desk.proofs.Crosses.{batch_send, data_send, desk_send}
 use Rattle.account_book.specs.declared.book.Naming as naming
 use Rattle.account_book.proofs.book.Account.TheSendSync as account
 use Rattle.account_book.proofs.book.Book.TheSendSync as book
-use Rattle.batch_processor.specs.contracts.holding.Holding as Holding
+use Rattle.batch_processor.specs.contracts.account.AccountState as AccountState
 use Rattle.batch_processor.specs.contracts.lock.Lock as Lock
 use Rattle.batch_processor.specs.contracts.pass.Pass as Pass
 use Rattle.batch_processor.specs.contracts.pass.Pass.TheInside as pass
@@ -58,7 +58,7 @@ module _ (J : RattleType) (g : naming.Ghosts J.Denot) where
   pub pass_send : (R : RattleType) → IsSend R → IsSend (Pass.the_row J R Heap.the_row g ghosts)
   pass_send R r = view_send _ _ _ _ _ (
       declared_send (pass.the_type J R Heap.the_row g ghosts)
-      (heap.Arc-send (Lock.the_row J Heap.the_row g ghosts) lock_send lock_sync, (account.the_send J Holding.the_row g, (as_row_send (row_field R) r, tt)))
+      (heap.Arc-send (Lock.the_row J Heap.the_row g ghosts) lock_send lock_sync, (account.the_send J AccountState.the_row g, (as_row_send (row_field R) r, tt)))
       )
 
   worker_part_send : (R : RattleType) → IsSend R → IsSend (Worker.the_row J R Heap.the_row g ghosts)
@@ -67,7 +67,7 @@ module _ (J : RattleType) (g : naming.Ghosts J.Denot) where
       let spent = heap.Vec-send (SpanData.the_row Heap.the_row ghosts) data_send in
       view_send _ _ _ _ _ (
       declared_send (worker.the_type J R Heap.the_row g ghosts)
-      (heap.Arc-send (Lock.the_row J Heap.the_row g ghosts) lock_send lock_sync, (account.the_send J Holding.the_row g, (outcomes, (spent, (setup_send, (as_row_send (row_field Heap.the_row) heap.send, (as_row_send (row_field R) r, tt)))))))
+      (heap.Arc-send (Lock.the_row J Heap.the_row g ghosts) lock_send lock_sync, (account.the_send J AccountState.the_row g, (outcomes, (spent, (setup_send, (as_row_send (row_field Heap.the_row) heap.send, (as_row_send (row_field R) r, tt)))))))
       )
 
   pub worker_send : (R : RattleType) → IsSend R → IsSend (WorkerPass.the_row J R Heap.the_row g ghosts)

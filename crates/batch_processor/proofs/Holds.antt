@@ -5,24 +5,24 @@ use Rattle.std.proofs.lemmas.Bool.{eqb-true, ltb-true}
 use Rattle.std.proofs.lemmas.List.{length-map, length-take}
 use Rattle.std.proofs.lemmas.List.Sorted.{IsPermutation-append_comm}
 use Rattle.account_book.specs.Accounts.{Replaces}
-use Rattle.span_model.specs.Spans.{EndedSpan, with_ticket}
-use Rattle.drop_model.specs.Dropped.{Entry, Reason, queue_full, entry_of}
-use Rattle.retry_model.specs.Retries.{Fate}
-use Rattle.desk_model.specs.Queue.{loss_reason, lost_names, named_as}
-use Rattle.desk_model.specs.Desks.{Desk, DeskConfig, OutBatch, accepted_count, after_settled, is_due, is_flushed, is_loss, out_size, with_drops}
+use Rattle.model_span.specs.Spans.{SpanData, with_ticket}
+use Rattle.model_drop.specs.Dropped.{Entry, Reason, queue_full, entry_of}
+use Rattle.model_retry.specs.Retries.{Fate}
+use Rattle.model_desk.specs.Queue.{loss_reason, lost_names, named_as}
+use Rattle.model_desk.specs.Desks.{Desk, DeskConfig, OutBatch, accepted_count, after_settled, is_due, is_flushed, is_loss, out_size, with_drops}
 use Rattle.batch_desk.specs.Batch.{BatchView, NamedView, SettledView}
 use Rattle.batch_desk.specs.Desk.{CanSettle, IsNamedOut, IsOut, admission, after_admission, after_drop, after_loss, after_names, after_take, next_batch, out_state}
 use Rattle.batch_desk.specs.declared.admitted.Admitted.{Admitted}
 use Rattle.batch_desk.specs.declared.admitted.Admitted.TheVariants as admitted
-use Rattle.pass_model.specs.Passes.{PassAccount}
-use Rattle.batch_model.specs.Worker.{WorkerAccount}
-use Rattle.batch_model.specs.Clauses.{Origin}
-use Rattle.batch_model.specs.Holders as holders
-use Rattle.batch_model.specs.Holders.{Holder, account_in, after_flush, after_shutdown, on_pass, origin_in, pass, pass_accounts, processor, worker, worker_in}
-use Rattle.batch_model.specs.Kept.{Agrees, Kept, shown_out}
-use Rattle.batch_model.proofs.Holding.{agrees_there, origin_there}
-use Rattle.batch_model.proofs.Passes.{full_agrees, late_agrees, queued_agrees}
-use Rattle.batch_model.proofs.Workers.{take_agrees}
+use Rattle.model_processor.specs.Passes.{PassAccount}
+use Rattle.model_processor.specs.Worker.{WorkerAccount}
+use Rattle.model_processor.specs.WorkerClauses.{Origin}
+use Rattle.model_processor.specs.AnyAccounts as holders
+use Rattle.model_processor.specs.AnyAccounts.{AnyAccount, account_in, after_flush, after_shutdown, on_pass, origin_in, pass, pass_accounts, processor, worker, worker_in}
+use Rattle.model_processor.specs.Kept.{Agrees, Kept, shown_out}
+use Rattle.model_processor.proofs.AccountState.{agrees_there, origin_there}
+use Rattle.model_processor.proofs.Passes.{full_agrees, late_agrees, queued_agrees}
+use Rattle.model_processor.proofs.Workers.{take_agrees}
 use Rattle.batch_processor.specs.Holds.{Asks, Guarded, InHold, IsBatchSize, IsNamedBatchOf, IsSettledBatchOf, IsTold, Shuts, desk_of}
 use Rattle.batch_processor.specs.declared.fault.WorkerLeft.{WorkerLeft}
 use Rattle.batch_processor.specs.declared.pass.Flushed.{Flushed}
@@ -48,7 +48,7 @@ late_where true whole next is = refl
 late_where false true next is = cc
 late_where false false next is = cc
 
-module _ (desk desk' : Desk) (w : WorkerAccount) (old new : List PassAccount) (a : PassAccount) (span : EndedSpan) (k : Agrees desk old w) where
+module _ (desk desk' : Desk) (w : WorkerAccount) (old new : List PassAccount) (a : PassAccount) (span : SpanData) (k : Agrees desk old w) where
   pub admit_agrees : (answer : Admitted) → answer ≡ admission desk → desk' ≡ after_admission answer span desk → Replaces old a (after_end (ended_of answer) span a) new → Agrees desk' new w
   admit_agrees (admitted.Queued ticket) is came r =
       let at = queued_where desk.closed (length desk.waiting == desk.config.queue) desk.next_ticket ticket is in
@@ -60,7 +60,7 @@ module _ (desk desk' : Desk) (w : WorkerAccount) (old new : List PassAccount) (a
       let at = late_where desk.closed (length desk.waiting == desk.config.queue) desk.next_ticket is in
       late_agrees desk w old new a (after_end (ended_of admitted.Late) span a) r k desk' at came refl
 
-pub admit_config : (desk desk' : Desk) (answer : Admitted) (span : EndedSpan) → desk' ≡ after_admission answer span desk → desk'.config ≡ desk.config
+pub admit_config : (desk desk' : Desk) (answer : Admitted) (span : SpanData) → desk' ≡ after_admission answer span desk → desk'.config ≡ desk.config
 admit_config desk desk' (admitted.Queued ticket) span is = ap (λ (d : Desk). d.config) is
 admit_config desk desk' (admitted.Full ticket) span is = ap (λ (d : Desk). d.config) is
 admit_config desk desk' admitted.Late span is = ap (λ (d : Desk). d.config) is
@@ -77,7 +77,7 @@ some-wait desk now due = ltb-true 0 (length desk.waiting) (both-first (nat_lt 0 
 pub due_where : (desk : Desk) (now : ℕ) (free : Bool) → true ≡ (is_due desk now && free) → is_due desk now ≡ true
 due_where desk now free is = both-first (is_due desk now) free (sym is)
 
-pub batch_size : (desk : Desk) (now : ℕ) (origin : Origin) (spans : List EndedSpan) → is_due desk now ≡ true → desk.config ≡ origin.desk → 1 ≤ origin.desk.batch → spans ≡ take desk.config.batch desk.waiting → IsBatchSize origin spans
+pub batch_size : (desk : Desk) (now : ℕ) (origin : Origin) (spans : List SpanData) → is_due desk now ≡ true → desk.config ≡ origin.desk → 1 ≤ origin.desk.batch → spans ≡ take desk.config.batch desk.waiting → IsBatchSize origin spans
 batch_size desk now origin spans due config sizes is =
     let wait = some-wait desk now due in let b = ap (λ (x : DeskConfig). x.batch) config in
     let l : length spans ≡ min desk.config.batch (length desk.waiting) = ap length is ∙ length-take desk.config.batch desk.waiting in
@@ -90,7 +90,7 @@ module _ (desk desk' : Desk) (u : WorkerAccount) (passes : List PassAccount) (k 
       let l : min n (length desk.waiting) ≡ length spans = sym (length-take n desk.waiting) in
       let said : desk' ≡ record desk { waiting = desk'.waiting; out = Some (record { number = desk.batches + 1; size = length spans; is_handed = false }); taken = desk.taken + length spans; batches = desk.batches + 1; last_moment = now } =
       came ∙ ap (λ (m : ℕ). record desk { waiting = drop n desk.waiting; out = Some (record { number = desk.batches + 1; size = m; is_handed = false }); taken = desk.taken + m; batches = desk.batches + 1; last_moment = now }) l
-      ∙ ap (λ (w : List EndedSpan). record desk { waiting = w; out = Some (record { number = desk.batches + 1; size = length spans; is_handed = false }); taken = desk.taken + length spans; batches = desk.batches + 1; last_moment = now }) (sym (ap (λ (d : Desk). d.waiting) came)) in
+      ∙ ap (λ (w : List SpanData). record desk { waiting = w; out = Some (record { number = desk.batches + 1; size = length spans; is_handed = false }); taken = desk.taken + length spans; batches = desk.batches + 1; last_moment = now }) (sym (ap (λ (d : Desk). d.waiting) came)) in
       subst (λ (b : BatchView). Agrees desk' passes (holders.after_take b.number b.spans u)) (sym is)
       (take_agrees desk u passes k desk' now n spans none refl (ap (λ (d : Desk). d.waiting) came) said)
 
@@ -119,16 +119,16 @@ lost_is desk desk' is = is ∙ ap (λ (l : List Entry). record desk { lost = l }
 
 -- ---- what is guarded
 
-pub guarded_some : {spent : List EndedSpan} (o : Option Desk) (left : Bool) (desk : Desk) (g : Guarded) → record { desk = desk_of o; left = left; spent = spent } ≡ g → o ≡ Some desk → g ≡ record { desk = desk; left = left; spent = spent }
+pub guarded_some : {spent : List SpanData} (o : Option Desk) (left : Bool) (desk : Desk) (g : Guarded) → record { desk = desk_of o; left = left; spent = spent } ≡ g → o ≡ Some desk → g ≡ record { desk = desk; left = left; spent = spent }
 guarded_some {spent} o left desk g view is = sym view ∙ ap (λ (x : Option Desk). record { desk = desk_of x; left = left; spent = spent }) is
 
 -- the desk was changed, and nothing else
-pub desk_changed : {spent : List EndedSpan} (f : Desk → Desk) (o : Option Desk) (left : Bool) (desk desk' : Desk) (g : Guarded) → record { desk = desk_of o; left = left; spent = spent } ≡ g → o ≡ Some desk → desk' ≡ f desk → record { desk = desk'; left = left; spent = spent } ≡ record g { desk = f g.desk }
+pub desk_changed : {spent : List SpanData} (f : Desk → Desk) (o : Option Desk) (left : Bool) (desk desk' : Desk) (g : Guarded) → record { desk = desk_of o; left = left; spent = spent } ≡ g → o ≡ Some desk → desk' ≡ f desk → record { desk = desk'; left = left; spent = spent } ≡ record g { desk = f g.desk }
 desk_changed {spent} f o left desk desk' g view is came =
     let now = guarded_some o left desk g view is in
     ap (λ (d : Desk). record { desk = d; left = left; spent = spent }) came ∙ sym (ap (λ (x : Guarded). record x { desk = f x.desk }) now)
 
-pub in_hold : {spent : List EndedSpan} (origin : Origin) (left : Bool) (o : Option Desk) (desk : Desk) (holders : List Holder) (h : Holder) (g : Guarded) → Kept origin left desk holders → Contains holders h → h ≡ pass (account_in h) → record { desk = desk_of o; left = left; spent = spent } ≡ g → o ≡ Some desk → InHold g (account_in h)
+pub in_hold : {spent : List SpanData} (origin : Origin) (left : Bool) (o : Option Desk) (desk : Desk) (holders : List AnyAccount) (h : AnyAccount) (g : Guarded) → Kept origin left desk holders → Contains holders h → h ≡ pass (account_in h) → record { desk = desk_of o; left = left; spent = spent } ≡ g → o ≡ Some desk → InHold g (account_in h)
 in_hold origin left o desk holders h g k there is view some = record {
   origin = origin;
   holders = holders;
@@ -139,10 +139,10 @@ in_hold origin left o desk holders h g k there is view some = record {
 -- ---- spans that were sent
 
 -- those that lay there and those that are left there are exchanged
-pub exchanged : (sent there sent' there' : List EndedSpan) → sent' ≡ there → there' ≡ sent → IsPermutation (sent ++ there) (sent' ++ there')
+pub exchanged : (sent there sent' there' : List SpanData) → sent' ≡ there → there' ≡ sent → IsPermutation (sent ++ there) (sent' ++ there')
 exchanged sent there sent' there' is is' =
-    subst (λ (xs : List EndedSpan). IsPermutation (sent ++ there) (xs ++ there')) (sym is)
-    (subst (λ (xs : List EndedSpan). IsPermutation (sent ++ there) (there ++ xs)) (sym is') (IsPermutation-append_comm sent there))
+    subst (λ (xs : List SpanData). IsPermutation (sent ++ there) (xs ++ there')) (sym is)
+    (subst (λ (xs : List SpanData). IsPermutation (sent ++ there) (there ++ xs)) (sym is') (IsPermutation-append_comm sent there))
 
 -- ---- who is woken
 
@@ -155,7 +155,7 @@ out_is_some desk = by_out desk.out
 
 -- ---- what a pass asked for, and what it was answered
 
-pub asks_of : {spent : List EndedSpan} (g : Guarded) (seen desk : Desk) (left : Bool) (h known h' : Holder) (mark : ℕ) → g ≡ record { desk = desk; left = left; spent = spent } → InHold g (account_in h) → known ≡ h → seen ≡ desk → mark ≡ accepted_count desk → h' ≡ on_pass (after_flush seen.next_ticket (accepted_count seen)) known → Asks g mark h h'
+pub asks_of : {spent : List SpanData} (g : Guarded) (seen desk : Desk) (left : Bool) (h known h' : AnyAccount) (mark : ℕ) → g ≡ record { desk = desk; left = left; spent = spent } → InHold g (account_in h) → known ≡ h → seen ≡ desk → mark ≡ accepted_count desk → h' ≡ on_pass (after_flush seen.next_ticket (accepted_count seen)) known → Asks g mark h h'
 asks_of g seen desk left h known h' mark is hold same seen_is mark_is told =
     let at : seen ≡ g.desk = seen_is ∙ sym (ap (λ (x : Guarded). x.desk) is) in
     let count : mark ≡ accepted_count g.desk = mark_is ∙ sym (ap (λ (x : Guarded). accepted_count x.desk) is) in record {
@@ -164,7 +164,7 @@ asks_of g seen desk left h known h' mark is hold same seen_is mark_is told =
       account = told ∙ ap (on_pass (after_flush seen.next_ticket (accepted_count seen))) same ∙ ap (λ (d : Desk). on_pass (after_flush d.next_ticket (accepted_count d)) h) at ∙ ap (λ (n : ℕ). on_pass (after_flush g.desk.next_ticket n) h) (sym count);
     }
 
-pub shuts_of : {spent : List EndedSpan} (g : Guarded) (seen desk : Desk) (left : Bool) (h known h' : Holder) (mark : ℕ) → g ≡ record { desk = desk; left = left; spent = spent } → InHold g (account_in h) → known ≡ h → seen ≡ desk → mark ≡ accepted_count desk → h' ≡ on_pass (after_shutdown seen.next_ticket (accepted_count seen)) known → Shuts g mark h h'
+pub shuts_of : {spent : List SpanData} (g : Guarded) (seen desk : Desk) (left : Bool) (h known h' : AnyAccount) (mark : ℕ) → g ≡ record { desk = desk; left = left; spent = spent } → InHold g (account_in h) → known ≡ h → seen ≡ desk → mark ≡ accepted_count desk → h' ≡ on_pass (after_shutdown seen.next_ticket (accepted_count seen)) known → Shuts g mark h h'
 shuts_of g seen desk left h known h' mark is hold same seen_is mark_is told =
     let at : seen ≡ g.desk = seen_is ∙ sym (ap (λ (x : Guarded). x.desk) is) in
     let count : mark ≡ accepted_count g.desk = mark_is ∙ sym (ap (λ (x : Guarded). accepted_count x.desk) is) in record {
@@ -181,7 +181,7 @@ told_left g mark x a hold is left = record { hold = hold; flushed = tt; left = (
 
 -- ---- the batch that is out
 
-module _ (origin : Origin) (left : Bool) (desk : Desk) (holders : List Holder) (h : Holder) (batch : BatchView) (body : Option (List ℕ)) (k : Kept origin left desk holders) (there : Contains holders h) (is : h ≡ worker (origin_in h) (worker_in h))
+module _ (origin : Origin) (left : Bool) (desk : Desk) (holders : List AnyAccount) (h : AnyAccount) (batch : BatchView) (body : Option (List ℕ)) (k : Kept origin left desk holders) (there : Contains holders h) (is : h ≡ worker (origin_in h) (worker_in h))
     (out : (worker_in h).out ≡ Some (record { number = batch.number; spans = batch.spans; body = body; outcomes = [] })) (room : batch.room ≡ (origin_in h).desk.batch) where
   pub out_of : IsOut (is_some body) desk batch
   out_of =
@@ -191,7 +191,7 @@ module _ (origin : Origin) (left : Bool) (desk : Desk) (holders : List Holder) (
   pub state_of : out_state desk ≡ Some (batch.number, is_some body)
   state_of = ap (option_map {U = ℕ × Bool} (λ b. (b.number, b.is_handed))) out_of.out
 
-module _ (origin : Origin) (left : Bool) (desk : Desk) (holders : List Holder) (h : Holder) (batch : NamedView) (k : Kept origin left desk holders) (there : Contains holders h) (is : h ≡ worker (origin_in h) (worker_in h)) (x : IsNamedBatchOf h batch) where
+module _ (origin : Origin) (left : Bool) (desk : Desk) (holders : List AnyAccount) (h : AnyAccount) (batch : NamedView) (k : Kept origin left desk holders) (there : Contains holders h) (is : h ≡ worker (origin_in h) (worker_in h)) (x : IsNamedBatchOf h batch) where
   named_out : IsOut false desk (record { number = batch.number; spans = x.spans; room = batch.room })
   named_out = out_of origin left desk holders h (record { number = batch.number; spans = x.spans; room = batch.room }) None k there is x.out x.room
 
@@ -204,19 +204,19 @@ module _ (origin : Origin) (left : Bool) (desk : Desk) (holders : List Holder) (
     room = named_out.room;
   }
 
-  -- the desk behind the drop, by the spans
+  -- the desk after the drop, by the spans
   pub named_drop : (desk' : Desk) → desk' ≡ after_names batch.reason batch.entries desk → desk' ≡ after_drop batch.reason x.spans desk
   named_drop desk' came = came ∙ ap (λ (es : List Entry). after_names batch.reason es desk) x.entries ∙ ap (λ (n : ℕ). record desk { out = None; ledger = reverse (map (entry_of batch.reason) x.spans) ++ desk.ledger; dropped = with_drops batch.reason n desk.dropped }) (length-map x.spans (entry_of batch.reason))
 
 -- a batch whose spans are lost has a name for each
-lost-long : (fate : Fate) (spans : List EndedSpan) → is_loss fate ≡ true → length (lost_names fate spans) ≡ length spans
+lost-long : (fate : Fate) (spans : List SpanData) → is_loss fate ≡ true → length (lost_names fate spans) ≡ length spans
 lost-long fate spans = by_reason (loss_reason fate)
   where
     by_reason : (reason : Option Reason) → is_some reason ≡ true → length (named_as reason spans) ≡ length spans
     by_reason None is = cc
     by_reason (Some reason) is = length-map spans (entry_of reason)
 
-module _ (origin : Origin) (left : Bool) (desk : Desk) (holders : List Holder) (h : Holder) (batch : SettledView) (k : Kept origin left desk holders) (there : Contains holders h) (is : h ≡ worker (origin_in h) (worker_in h)) (x : IsSettledBatchOf h batch) where
+module _ (origin : Origin) (left : Bool) (desk : Desk) (holders : List AnyAccount) (h : AnyAccount) (batch : SettledView) (k : Kept origin left desk holders) (there : Contains holders h) (is : h ≡ worker (origin_in h) (worker_in h)) (x : IsSettledBatchOf h batch) where
   abbrev sent_batch : BatchView
   sent_batch = record { number = batch.number; spans = x.spans; room = batch.room }
 
@@ -235,7 +235,7 @@ module _ (origin : Origin) (left : Bool) (desk : Desk) (holders : List Holder) (
   settled_by desk' came = came ∙ ap (λ (es : List Entry). after_loss batch.fate es desk) x.entries
 
 -- a batch whose spans are not lost has no names, be it that they are freed
-pub none-lost : (fate : Fate) (spans : List EndedSpan) → None ≡ loss_reason fate → lost_names fate spans ≡ []
+pub none-lost : (fate : Fate) (spans : List SpanData) → None ≡ loss_reason fate → lost_names fate spans ≡ []
 none-lost fate spans none = ap (λ (r : Option Reason). named_as r spans) (sym none)
 
 pub some_of : (n : ℕ) → (n ≡ 0 → ⊥) → 1 ≤ n

@@ -6,18 +6,18 @@ use Rattle.std.specs.Option.{option_map_or}
 use Rattle.std.proofs.lemmas.List.{append-nil, append_assoc, length-append}
 use Rattle.std.proofs.lemmas.Grind.{flat_map-append}
 use Rattle.account_book.proofs.Facts.{each_append}
-use Rattle.span_model.specs.Spans.{EndedSpan}
-use Rattle.drop_model.specs.Dropped.{Reason}
-use Rattle.export_model.specs.Export.{LacksBody}
-use Rattle.retry_model.specs.Retries.{Outcome, Fate, again, fate_of, next_of}
-use Rattle.retry_model.specs.Retries as retries
-use Rattle.retry_model.specs.Waits.{RetryConfig, next_after, retried, wait_ns, greatest_moment}
-use Rattle.retry_model.proofs.Again.{again-few}
+use Rattle.model_span.specs.Spans.{SpanData}
+use Rattle.model_drop.specs.Dropped.{Reason}
+use Rattle.model_export.specs.Export.{LacksBody}
+use Rattle.model_retry.specs.Retries.{Outcome, Fate, again, fate_of, next_of}
+use Rattle.model_retry.specs.Retries as retries
+use Rattle.model_retry.specs.Waits.{RetryConfig, next_after, retried, wait_ns, greatest_moment}
+use Rattle.model_retry.proofs.Again.{again-few}
 use Rattle.span_exporter.specs.Handed.{Handed, Gains, handing}
 use Rattle.batch_desk.specs.Batch.{BatchView}
-use Rattle.batch_model.specs.Worker.{EndedBatch, OutBatch, WorkerAccount, settled, dropped}
-use Rattle.batch_model.specs.Clauses.{EachLeadsOn, EndByWork, IsByWork, IsOutByWork, IsSent, IsSentSoFar, LeadsTo, Origin, WorksUntilItLeaves, abandon, abandon_out}
-use Rattle.batch_model.specs.Holders.{Holder, after_drained, after_drop, after_handed, after_left, after_settle, after_take, ended_with, handed_with, on_worker, origin_in, settled_with, worker, worker_in}
+use Rattle.model_processor.specs.Worker.{EndedBatch, OutBatch, WorkerAccount, settled, dropped}
+use Rattle.model_processor.specs.WorkerClauses.{EachLeadsOn, EndByWork, IsByWork, IsOutByWork, IsSent, IsSentSoFar, LeadsTo, Origin, WorksUntilItLeaves, abandon, abandon_out}
+use Rattle.model_processor.specs.AnyAccounts.{AnyAccount, after_drained, after_drop, after_handed, after_left, after_settle, after_take, ended_with, handed_with, on_worker, origin_in, settled_with, worker, worker_in}
 use Rattle.batch_processor.specs.Holds.{IsBatchOf, IsBatchSize, IsSentBatchOf}
 use Rattle.batch_processor.specs.Working.{GoesOn, Hand, HandStage, HasLeft, HasRoom, IsExported, IsPassWith, IsPrepared, IsReady, IsStage, IsWorking, MayBeSent, IsWorkingWith, StepsAside, TakesStep, Work, WorkerState, attempts_by, attempts_from, attempts_of, attempts_out, attempts_with, encoded_at, hand_at, handed_at, in_hand, outcomes_out, pending_at, to_encode, to_judge, to_retry, to_send, with_outcomes, work_in, work_of}
 
@@ -307,7 +307,7 @@ last_of : (o : Outcome) (outcomes : List Outcome) → (earlier : List Outcome) �
 last_of o [] = ([], o, refl)
 last_of o (p ∷ outcomes) = let rest = last_of p outcomes in (o ∷ rest.0, rest.1, ap (λ (l : List Outcome). o ∷ l) rest.2)
 
-sent_all : (origin : Origin) (spans : List EndedSpan) (body : List ℕ) (outcomes : List Outcome) → MayBeSent origin.max_body spans body → 1 ≤ length outcomes → length outcomes ≤ origin.retry.attempts → EachLeadsOn origin.retry 1 outcomes → IsSent origin spans body outcomes
+sent_all : (origin : Origin) (spans : List SpanData) (body : List ℕ) (outcomes : List Outcome) → MayBeSent origin.max_body spans body → 1 ≤ length outcomes → length outcomes ≤ origin.retry.attempts → EachLeadsOn origin.retry 1 outcomes → IsSent origin spans body outcomes
 sent_all origin spans body [] sendable some few leads = absurd (omega arith)
 sent_all origin spans body (o ∷ outcomes) sendable some few leads =
     let parts = last_of o outcomes in record {
@@ -401,22 +401,22 @@ leaves_with state hand k = pass_left (record state { account = after_left (aband
 
 -- ---- what is told to the worker's account
 
-pub told_worker : (f : WorkerAccount → WorkerAccount) (origin : Origin) (a a' : Holder) → a' ≡ on_worker f a → a ≡ worker origin (worker_in a) → worker_in a' ≡ f (worker_in a)
+pub told_worker : (f : WorkerAccount → WorkerAccount) (origin : Origin) (a a' : AnyAccount) → a' ≡ on_worker f a → a ≡ worker origin (worker_in a) → worker_in a' ≡ f (worker_in a)
 told_worker f origin a a' told is = ap worker_in (told ∙ ap (on_worker f) is)
 
-pub told_account : (f : WorkerAccount → WorkerAccount) (origin : Origin) (a a' : Holder) → a' ≡ on_worker f a → a ≡ worker origin (worker_in a) → a' ≡ worker origin (worker_in a')
+pub told_account : (f : WorkerAccount → WorkerAccount) (origin : Origin) (a a' : AnyAccount) → a' ≡ on_worker f a → a ≡ worker origin (worker_in a) → a' ≡ worker origin (worker_in a')
 told_account f origin a a' told is = told ∙ ap (on_worker f) is ∙ ap (worker origin) (sym (told_worker f origin a a' told is))
 
 abbrev pub state_of : Origin → WorkerAccount → List Outcome → WorkerState
 state_of origin w os = record { origin = origin; account = w; outcomes = os }
 
-module _ (origin : Origin) (a : Holder) (os : List Outcome) (old : WorkerState) (is : a ≡ worker origin (worker_in a)) (view : state_of origin (worker_in a) os ≡ old) where
-  -- what is told changes the account alone
-  pub told_state : (a' : Holder) (f : WorkerAccount → WorkerAccount) → a' ≡ on_worker f a → state_of origin (worker_in a') os ≡ record old { account = f old.account }
+module _ (origin : Origin) (a : AnyAccount) (os : List Outcome) (old : WorkerState) (is : a ≡ worker origin (worker_in a)) (view : state_of origin (worker_in a) os ≡ old) where
+  -- what it hears changes the account alone
+  pub told_state : (a' : AnyAccount) (f : WorkerAccount → WorkerAccount) → a' ≡ on_worker f a → state_of origin (worker_in a') os ≡ record old { account = f old.account }
   told_state a' f told = ap (λ (w : WorkerAccount). state_of origin w os) (told_worker f origin a a' told is) ∙ ap (λ (s : WorkerState). record s { account = f s.account }) view
 
-  pub same_state : (a' : Holder) → a' ≡ a → state_of origin (worker_in a') os ≡ old
-  same_state a' same = ap (λ (h : Holder). state_of origin (worker_in h) os) same ∙ view
+  pub same_state : (a' : AnyAccount) → a' ≡ a → state_of origin (worker_in a') os ≡ old
+  same_state a' same = ap (λ (h : AnyAccount). state_of origin (worker_in h) os) same ∙ view
 
 -- ---- the room that the exporter has
 
@@ -460,7 +460,7 @@ drained_step old mid new true s yes' no' = subst (λ (x : WorkerState). StepsAsi
 pub no_hand_out : (state : WorkerState) (hand : Option Hand) → hand ≡ None → IsWorkingWith state None → (work_in state hand).account.out ≡ None
 no_hand_out state hand is k = subst (λ (h : Option Hand). (work_in state h).account.out ≡ None) (sym is) (ap (with_outcomes (state.outcomes ++ [])) k.tied.0)
 
-pub take_told : (origin : Origin) (a a' : Holder) (os : List Outcome) (old : WorkerState) (batch : BatchView) → IsWorkingWith old None → a ≡ worker origin (worker_in a) → state_of origin (worker_in a) os ≡ old
+pub take_told : (origin : Origin) (a a' : AnyAccount) (os : List Outcome) (old : WorkerState) (batch : BatchView) → IsWorkingWith old None → a ≡ worker origin (worker_in a) → state_of origin (worker_in a) os ≡ old
     → a' ≡ on_worker (after_take batch.number batch.spans) a → IsBatchOf a' batch → IsBatchSize (origin_in a) batch.spans → StepsAside old None (state_of origin (worker_in a') os) (hand_at batch to_encode)
 take_told origin a a' os old batch k is view told of size =
     let f = after_take batch.number batch.spans in

@@ -1,12 +1,14 @@
 -- What a call of `work` does, and what a worker's pass is in contracts. (Trace SDK, Batching
 -- processor, Span Exporter; OpenTelemetry Protocol Exporter, Retry)
-use Rattle.std.specs.Prelude.{◌≡◌, ℕ, ◌+◌, ◌≤◌, true, List, [], ◌∷◌, ◌++◌, length, Option, Some, None}
+use Rattle.std.specs.Prelude.{◌≡◌, ℕ, ◌+◌, ◌≤◌, true, List, [], ◌∷◌, ◌++◌, length, Option, Some}
+use Rattle.std.specs.Prelude.{None}
 use Rattle.std.specs.List.{AllByRecursion, flat_map}
-use Rattle.retry_model.specs.Retries.{Outcome}
-use Rattle.retry_model.specs.Waits.{RetryConfig}
+use Rattle.model_retry.specs.Retries.{Outcome}
+use Rattle.model_retry.specs.Waits.{RetryConfig}
 use Rattle.span_exporter.specs.Handed.{Handed, Gains}
-use Rattle.batch_model.specs.Worker.{BatchEnd, settled, dropped, EndedBatch, OutBatch, WorkerAccount}
-use Rattle.batch_model.specs.Clauses.{IsByWork, Origin}
+use Rattle.model_processor.specs.Worker.{BatchEnd, settled, dropped, EndedBatch, OutBatch}
+use Rattle.model_processor.specs.Worker.{WorkerAccount}
+use Rattle.model_processor.specs.WorkerClauses.{IsByWork, Origin}
 
 -- ---- attempts
 

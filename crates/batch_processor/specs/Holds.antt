@@ -1,15 +1,18 @@
 -- What the lock of a batch processor guards, what holds of it ask for, whom they wake, and what
 -- they do to an account. (Trace SDK, ForceFlush, Shutdown; profile)
-use Rattle.std.specs.Prelude.{◌≡◌, ℕ, ◌≤◌, ◌==◌, ◌&&◌, ◌||◌, not, Bool, true, false, List, [], Contains, length, map, Option, Some, None, is_some, Result, OnOk, OnErr}
-use Rattle.span_model.specs.Spans.{EndedSpan}
-use Rattle.drop_model.specs.Dropped.{entry_of}
-use Rattle.desk_model.specs.Desks.{Desk, accepted_count, is_due, is_flushed, new_desk}
-use Rattle.desk_model.specs.Queue.{lost_names}
+use Rattle.std.specs.Prelude.{◌≡◌, ℕ, ◌≤◌, ◌==◌, ◌&&◌, ◌||◌, not, Bool, true, false, List, []}
+use Rattle.std.specs.Prelude.{Contains, length, map, Option, Some, None, is_some, Result, OnOk}
+use Rattle.std.specs.Prelude.{OnErr}
+use Rattle.model_span.specs.Spans.{SpanData}
+use Rattle.model_drop.specs.Dropped.{entry_of}
+use Rattle.model_desk.specs.Desks.{Desk, accepted_count, is_due, is_flushed, new_desk}
+use Rattle.model_desk.specs.Queue.{lost_names}
 use Rattle.batch_desk.specs.Batch.{BatchView, NamedView, SettledView}
-use Rattle.pass_model.specs.Passes.{PassAccount}
-use Rattle.batch_model.specs.Clauses.{Origin}
-use Rattle.batch_model.specs.Holders.{Holder, account_in, after_flush, after_shutdown, new_origin, on_pass, origin_in, pass, worker_in}
-use Rattle.batch_model.specs.Kept.{Kept}
+use Rattle.model_processor.specs.Passes.{PassAccount}
+use Rattle.model_processor.specs.WorkerClauses.{Origin}
+use Rattle.model_processor.specs.AnyAccounts.{AnyAccount, account_in, after_flush, after_shutdown}
+use Rattle.model_processor.specs.AnyAccounts.{new_origin, on_pass, origin_in, pass, worker_in}
+use Rattle.model_processor.specs.Kept.{Kept}
 use Rattle.batch_processor.specs.declared.fault.WorkerLeft.{WorkerLeft}
 use Rattle.batch_processor.specs.declared.hold.Wake.{Wake}
 use Rattle.batch_processor.specs.declared.pass.Flushed.{Flushed}
@@ -21,7 +24,7 @@ use Rattle.batch_processor.specs.declared.pass.Flushed.{Flushed}
 pub record Guarded : Type 0 where
   pub desk : Desk
   pub left : Bool
-  pub spent : List EndedSpan
+  pub spent : List SpanData
 
 abbrev pub no_desk : Desk
 no_desk = new_desk new_origin.desk 0
@@ -34,7 +37,7 @@ desk_of (Some desk) = desk
 -- all was so, and the pass's account was one of them.
 pub record InHold (guarded : Guarded) (account : PassAccount) : Type 0 where
   pub origin : Origin
-  pub holders : List Holder
+  pub holders : List AnyAccount
   pub kept : Kept origin guarded.left guarded.desk holders
   pub there : Contains holders (pass account)
 
@@ -58,13 +61,13 @@ wake_of old new = record {
 
 -- A pass asked for all that was accepted so far: the mark is the number of these, and the account
 -- says which ticket was the next one.
-pub record Asks (guarded : Guarded) (mark : ℕ) (old new : Holder) : Type 0 where
+pub record Asks (guarded : Guarded) (mark : ℕ) (old new : AnyAccount) : Type 0 where
   pub hold : InHold guarded (account_in old)
   pub mark_is : mark ≡ accepted_count guarded.desk
   pub account : new ≡ on_pass (after_flush guarded.desk.next_ticket mark) old
 
 -- The same by a shutdown.
-pub record Shuts (guarded : Guarded) (mark : ℕ) (old new : Holder) : Type 0 where
+pub record Shuts (guarded : Guarded) (mark : ℕ) (old new : AnyAccount) : Type 0 where
   pub hold : InHold guarded (account_in old)
   pub mark_is : mark ≡ accepted_count guarded.desk
   pub account : new ≡ on_pass (after_shutdown guarded.desk.next_ticket mark) old
@@ -85,21 +88,21 @@ pub record WasTold (mark : ℕ) (answer : Result Flushed WorkerLeft) (account : 
 -- ---- batches
 
 -- The batch is the one that the worker's account has out, not handed yet.
-pub record IsBatchOf (holder : Holder) (batch : BatchView) : Type 0 where
+pub record IsBatchOf (holder : AnyAccount) (batch : BatchView) : Type 0 where
   pub out : (worker_in holder).out
       ≡ Some (record { number = batch.number; spans = batch.spans; body = None; outcomes = [] })
   pub room : batch.room ≡ (origin_in holder).desk.batch
 
 -- The same, of which all but the names of its spans was freed.
-pub record IsNamedBatchOf (holder : Holder) (batch : NamedView) : Type 0 where
-  pub spans : List EndedSpan
+pub record IsNamedBatchOf (holder : AnyAccount) (batch : NamedView) : Type 0 where
+  pub spans : List SpanData
   pub out : (worker_in holder).out
       ≡ Some (record { number = batch.number; spans = spans; body = None; outcomes = [] })
   pub entries : batch.entries ≡ map (entry_of batch.reason) spans
   pub room : batch.room ≡ (origin_in holder).desk.batch
 
 -- The batch is the one that the worker's account has out, which was handed.
-pub record IsSentBatchOf (holder : Holder) (batch : BatchView) : Type 0 where
+pub record IsSentBatchOf (holder : AnyAccount) (batch : BatchView) : Type 0 where
   pub body : List ℕ
   pub out : (worker_in holder).out
       ≡ Some (record {
@@ -111,8 +114,8 @@ pub record IsSentBatchOf (holder : Holder) (batch : BatchView) : Type 0 where
   pub room : batch.room ≡ (origin_in holder).desk.batch
 
 -- The same with its fate, of which all but the names of its lost spans was freed.
-pub record IsSettledBatchOf (holder : Holder) (batch : SettledView) : Type 0 where
-  pub spans : List EndedSpan
+pub record IsSettledBatchOf (holder : AnyAccount) (batch : SettledView) : Type 0 where
+  pub spans : List SpanData
   pub body : List ℕ
   pub out : (worker_in holder).out
       ≡ Some (record { number = batch.number; spans = spans; body = Some body; outcomes = [] })
@@ -120,5 +123,5 @@ pub record IsSettledBatchOf (holder : Holder) (batch : SettledView) : Type 0 whe
   pub room : batch.room ≡ (origin_in holder).desk.batch
 
 -- A batch has at least one span, and as many as are configured at most.
-abbrev pub IsBatchSize : Origin → List EndedSpan → Type 0
+abbrev pub IsBatchSize : Origin → List SpanData → Type 0
 IsBatchSize origin spans = (1 ≤ length spans) × (length spans ≤ origin.desk.batch)

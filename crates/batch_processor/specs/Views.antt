@@ -1,7 +1,7 @@
 -- What a processor's settings and answers are in the model.
 use Rattle.std.specs.Prelude.{ℕ, ◌≤◌, List, map, Result, Ok, Err}
-use Rattle.span_model.specs.Spans.{EndedSpan}
-use Rattle.retry_model.specs.Retries as retries
+use Rattle.model_span.specs.Spans.{SpanData}
+use Rattle.model_retry.specs.Retries as retries
 use Rattle.otlp_span.specs.Dropped.{reason_view}
 use Rattle.otlp_span.specs.declared.reason.Reason.TheVariants as reasons
 use Rattle.trace_api.specs.declared.pass.Ended.{Ended}
@@ -19,9 +19,9 @@ use Rattle.batch_processor.specs.declared.fault.WorkerLeft.{WorkerLeft}
 use Rattle.batch_processor.specs.declared.pass.Flushed.{Flushed}
 use Rattle.batch_processor.specs.declared.fault.NewFault.{NewFault}
 use Rattle.batch_processor.specs.declared.fault.NewFault.TheVariants as faults
-use Rattle.pass_model.specs.Passes.{PassAccount, after_accepted, after_dropped, after_late}
-use Rattle.batch_model.specs.Clauses.{Origin}
-use Rattle.batch_model.specs.Holders.{after_flushed, after_told_left}
+use Rattle.model_processor.specs.Passes.{PassAccount, after_accepted, after_dropped, after_late}
+use Rattle.model_processor.specs.WorkerClauses.{Origin}
+use Rattle.model_processor.specs.AnyAccounts.{after_flushed, after_told_left}
 
 abbrev pub setup_view : Setup → Origin
 setup_view s = record {
@@ -41,7 +41,7 @@ ended_of (admitted.Full ticket) = answers.Dropped ticket reasons.QueueFull
 ended_of admitted.Late = answers.Late
 
 -- a span that ended, and what was answered
-abbrev pub after_end : Ended → EndedSpan → PassAccount → PassAccount
+abbrev pub after_end : Ended → SpanData → PassAccount → PassAccount
 after_end (answers.Queued ticket) span account = after_accepted ticket span account
 after_end (answers.Dropped ticket reason) span account =
     after_dropped (reason_view reason) ticket span account

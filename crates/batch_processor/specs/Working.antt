@@ -1,16 +1,19 @@
 -- What the worker's pass of a batch processor has between two turns, and what a turn does. (Trace
 -- SDK, Batching processor, Span Exporter; OpenTelemetry Protocol Exporter, Retry)
-use Rattle.std.specs.Prelude.{◌≡◌, ℕ, ◌<◌, ◌≤◌, Bool, true, false, List, [], ◌∷◌, ◌++◌, length, Option, Some, None}
+use Rattle.std.specs.Prelude.{◌≡◌, ℕ, ◌<◌, ◌≤◌, Bool, true, false, List, [], ◌∷◌, ◌++◌, length}
+use Rattle.std.specs.Prelude.{Option, Some, None}
 use Rattle.std.specs.List.{AllByRecursion}
-use Rattle.span_model.specs.Spans.{EndedSpan}
-use Rattle.retry_model.specs.Retries.{Outcome}
-use Rattle.retry_model.specs.Waits.{IsRetryConfig}
+use Rattle.model_span.specs.Spans.{SpanData}
+use Rattle.model_retry.specs.Retries.{Outcome}
+use Rattle.model_retry.specs.Waits.{IsRetryConfig}
 use Rattle.retry_core.specs.Retries.{outcome_view}
 use Rattle.span_exporter.specs.Handed.{Handed, Gains, handing}
 use Rattle.batch_desk.specs.Batch.{BatchView}
-use Rattle.batch_model.specs.Worker.{OutBatch, WorkerAccount}
-use Rattle.batch_model.specs.Clauses.{EachLeadsOn, EndByWork, IsBodyOf, IsByWork, Origin}
-pub use Rattle.batch_processor.specs.Attempts.{attempts_from, attempts_by, attempts_with, attempts_out, attempts_of, Work, outcomes_out, HasRoom, IsPrepared, GoesOn}
+use Rattle.model_processor.specs.Worker.{OutBatch, WorkerAccount}
+use Rattle.model_processor.specs.WorkerClauses.{EachLeadsOn, EndByWork, IsBodyOf, IsByWork, Origin}
+pub use Rattle.batch_processor.specs.Attempts.{attempts_from, attempts_by, attempts_with}
+pub use Rattle.batch_processor.specs.Attempts.{attempts_out, attempts_of, Work, outcomes_out}
+pub use Rattle.batch_processor.specs.Attempts.{HasRoom, IsPrepared, GoesOn}
 use Rattle.batch_processor.specs.declared.steps.Stage.{Stage}
 use Rattle.batch_processor.specs.declared.steps.Stage.TheVariants as stages
 
@@ -70,12 +73,12 @@ work_of origin account outcomes hand = record {
 }
 
 -- The body of these spans, which is no longer than it may be.
-pub record MayBeSent (max_body : ℕ) (spans : List EndedSpan) (body : List ℕ) : Type 0 where
+pub record MayBeSent (max_body : ℕ) (spans : List SpanData) (body : List ℕ) : Type 0 where
   pub means : IsBodyOf spans body
   pub fits : length body ≤ max_body
 
 -- what is so at each stage
-abbrev pub IsStage : Origin → List EndedSpan → List Outcome → HandStage → Type 0
+abbrev pub IsStage : Origin → List SpanData → List Outcome → HandStage → Type 0
 IsStage origin spans outcomes to_encode = outcomes ≡ []
 IsStage origin spans outcomes (to_send body) =
     (outcomes ≡ []) × MayBeSent origin.max_body spans body

@@ -12,7 +12,7 @@ pub trait Clock {
 const STEP_NS: u64 = 1_000_000;
 
 /// The system's clock, over the runtime's value. It never goes back, and whoever reads it again and
-/// again comes to any moment: where the system's clock can't be read, stands before 1970, is past
+/// again comes to any moment: where the system's clock can't be read, is before 1970, is past
 /// 2^64 - 1 nanoseconds or was set back, it goes on from its last answer, or from 1970, by a
 /// millisecond with each reading (profile).
 #[derive(Debug, Drop)]
@@ -57,7 +57,7 @@ pub struct ManualClock {
 }
 
 impl ManualClock {
-    /// A clock that stands at this moment, in nanoseconds since 1970.
+    /// A clock that is at this moment, in nanoseconds since 1970.
     pub fn new(now: u64) -> ManualClock {
         ManualClock {
             now: AtomicU64::new(now),

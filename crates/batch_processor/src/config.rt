@@ -1,3 +1,5 @@
+//! The settings of a batch processor.
+
 use batch_desk::DeskConfig;
 use otlp_proto::DEFAULT_MAX_BODY;
 use retry_core::RetryConfig;

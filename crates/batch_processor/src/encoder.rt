@@ -1,9 +1,9 @@
 //! Encodes batches.
 ghost use Rattle.std.specs.Prelude.{◌≤◌, IfErr, IfOk, length};
-ghost use Rattle.export_model.specs.Export.{LacksBody};
+ghost use Rattle.model_export.specs.Export.{LacksBody};
 ghost use Rattle.otlp_span.specs.Dropped.{reason_view};
 ghost use Rattle.otlp_proto.specs.Bodies.{reason_of};
-ghost use Rattle.batch_model.specs.Clauses.{IsBodyOf};
+ghost use Rattle.model_processor.specs.WorkerClauses.{IsBodyOf};
 
 use otlp_proto::EncodeFault;
 use otlp_span::SpanData;

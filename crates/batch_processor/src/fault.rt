@@ -1,8 +1,10 @@
+//! Why a batch processor was not made, or did not flush.
+
 use span_ring::RingFault;
 use std::alloc::{AllocError, AllocFailed};
 use thiserror::Error;
 
-/// Why a processor was not made. The first that holds is told.
+/// Why a processor was not made. The first that holds is reported.
 #[derive(Debug, Clone, Copy, PartialEq, Eq, Error)]
 pub enum NewFault {
     /// It would have no pass, or more than [`MAX_PASSES`](crate::MAX_PASSES).

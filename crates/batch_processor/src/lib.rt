@@ -3,12 +3,12 @@
 //! each once, and hands it to an exporter, again as the replies ask.
 #![tactic(auto)]
 
+mod account;
 mod clock;
 mod config;
 mod encoder;
 mod fault;
 mod hold;
-mod holding;
 mod lock;
 mod pass;
 mod processor;
@@ -16,11 +16,11 @@ mod shared;
 mod steps;
 mod worker;
 
+pub use account::BatchBlank;
 pub use account_book::Naming;
 pub use clock::{Clock, ManualClock, SystemClock};
 pub use config::BatchConfig;
 pub use fault::{NewFault, WorkerLeft};
-pub use holding::BatchBlank;
 pub use pass::{Flushed, Pass};
 pub use processor::{Accounts, BatchProcessor, MAX_PASSES, Missing, Parts};
 pub use worker::{WorkEnd, WorkerPass};

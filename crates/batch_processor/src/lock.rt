@@ -2,16 +2,19 @@
 ghost use Rattle.std.specs.Prelude.{◌≡◌, ℕ, List, true, false, IfNone, IfSome, IsTrue, None};
 ghost use Rattle.retry_core.specs.Retries.{fate_view};
 ghost use Rattle.otlp_span.specs.Dropped.{reason_view};
-ghost use Rattle.drop_model.specs.Dropped.{can_drop_batch};
+ghost use Rattle.model_drop.specs.Dropped.{can_drop_batch};
 ghost use Rattle.batch_desk.specs.Batch.{settled_batch};
 ghost use Rattle.batch_processor.specs.Holds.{IsBatchOf, IsBatchSize, IsSentBatchOf, WasTold};
-ghost use Rattle.batch_model.specs.Holders.{account_in, after_drained, after_drop, after_left, after_settle, after_take, left_if, on_pass, on_worker, origin_in, pass, worker, worker_in};
+ghost use Rattle.model_processor.specs.AnyAccounts.{account_in, after_drained, after_drop};
+ghost use Rattle.model_processor.specs.AnyAccounts.{after_left};
+ghost use Rattle.model_processor.specs.AnyAccounts.{after_settle, after_take, left_if, on_pass};
+ghost use Rattle.model_processor.specs.AnyAccounts.{on_worker, origin_in, pass, worker, worker_in};
 ghost use Rattle.batch_processor.specs.Views.{after_answer, outcomes_view};
 ghost use Rattle.batch_processor.specs.Answers.{AdmitsSpan, IsFlushed, IsShutDown};
 
+use crate::account::AccountState;
 use crate::fault::WorkerLeft;
 use crate::hold::{After, Wake};
-use crate::holding::Holding;
 use crate::pass::Flushed;
 use crate::shared::Shared;
 use account_book::{Account, Naming};
@@ -63,7 +66,7 @@ impl<J: Naming, A: Allocator + Copy> Lock<J, A> {
     pub(crate) fn admit<R: Wait>(
         &self,
         rt: &R,
-        account: &mut Account<J, Holding>,
+        account: &mut Account<J, AccountState>,
         span: SpanData<A>,
     ) -> Ended
         requires { account.old ≡ pass (account_in account.old) }
@@ -85,7 +88,7 @@ impl<J: Naming, A: Allocator + Copy> Lock<J, A> {
     pub(crate) fn flush<R: Wait>(
         &self,
         rt: &R,
-        account: &mut Account<J, Holding>,
+        account: &mut Account<J, AccountState>,
     ) -> Result<Flushed, WorkerLeft>
         requires { account.old ≡ pass (account_in account.old) }
         ensures pass { account.new ≡ pass (account_in account.new) }
@@ -101,7 +104,7 @@ impl<J: Naming, A: Allocator + Copy> Lock<J, A> {
     pub(crate) fn shutdown<R: Wait>(
         &self,
         rt: &R,
-        account: &mut Account<J, Holding>,
+        account: &mut Account<J, AccountState>,
     ) -> Result<Flushed, WorkerLeft>
         requires { account.old ≡ pass (account_in account.old) }
         ensures pass { account.new ≡ pass (account_in account.new) }
@@ -117,7 +120,7 @@ impl<J: Naming, A: Allocator + Copy> Lock<J, A> {
     fn wait<R: Wait>(
         &self,
         rt: &R,
-        account: &mut Account<J, Holding>,
+        account: &mut Account<J, AccountState>,
         mark: Mark,
     ) -> Result<Flushed, WorkerLeft>
         requires pass { account.old ≡ pass (account_in account.old) }
@@ -139,7 +142,7 @@ impl<J: Naming, A: Allocator + Copy> Lock<J, A> {
     pub(crate) fn take<R: Wait>(
         &self,
         rt: &R,
-        account: &mut Account<J, Holding>,
+        account: &mut Account<J, AccountState>,
         now: u64,
     ) -> Option<Batch<A>>
         requires worker { account.old ≡ worker (origin_in account.old) (worker_in account.old) }
@@ -159,7 +162,7 @@ impl<J: Naming, A: Allocator + Copy> Lock<J, A> {
     pub(crate) fn drained<R: Wait + Clock>(
         &self,
         rt: &R,
-        account: &mut Account<J, Holding>,
+        account: &mut Account<J, AccountState>,
         now: u64,
     ) -> bool
         requires worker { account.old ≡ worker (origin_in account.old) (worker_in account.old) }
@@ -182,7 +185,7 @@ impl<J: Naming, A: Allocator + Copy> Lock<J, A> {
     pub(crate) fn drop_batch<R: Wait>(
         &self,
         rt: &R,
-        account: &mut Account<J, Holding>,
+        account: &mut Account<J, AccountState>,
         batch: Batch<A>,
         reason: Reason,
         leaves: bool,
@@ -206,7 +209,7 @@ impl<J: Naming, A: Allocator + Copy> Lock<J, A> {
     pub(crate) fn settle<R: Wait>(
         &self,
         rt: &R,
-        account: &mut Account<J, Holding>,
+        account: &mut Account<J, AccountState>,
         batch: Batch<A>,
         outcomes: &Vec<Outcome, A>,
         fate: Fate,
@@ -227,7 +230,7 @@ impl<J: Naming, A: Allocator + Copy> Lock<J, A> {
     }
 
     /// The worker, which has none out, leaves, and those who wait are called.
-    pub(crate) fn leave<R: Wait>(&self, rt: &R, account: &mut Account<J, Holding>)
+    pub(crate) fn leave<R: Wait>(&self, rt: &R, account: &mut Account<J, AccountState>)
         requires { account.old ≡ worker (origin_in account.old) (worker_in account.old) }
         ensures { account.new ≡ on_worker after_left account.old }
     {

@@ -1,11 +1,11 @@
 //! The passes of a batch processor.
 ghost use Rattle.std.specs.Prelude.{◌≡◌, IfNone, IfSome};
 ghost use Rattle.otlp_span.specs.Dropped.{entry_view};
-ghost use Rattle.pass_model.specs.Passes.{after_pop, after_pop_lost};
+ghost use Rattle.model_processor.specs.Passes.{after_pop, after_pop_lost};
 ghost use Rattle.batch_processor.specs.Answers.{IsFlushed, IsShutDown};
 
+use crate::account::AccountState;
 use crate::fault::WorkerLeft;
-use crate::holding::Holding;
 use crate::lock::Lock;
 use account_book::{Account, Naming};
 use otlp_span::{Entry, SpanData};
@@ -28,14 +28,14 @@ pub struct Flushed;
 #[derive(Drop)]
 pub struct Pass<J: Naming, R, A: Allocator = Global> {
     pub(crate) lock: Arc<Lock<J, A>, A>,
-    pub(crate) account: Account<J, Holding>,
+    pub(crate) account: Account<J, AccountState>,
     pub(crate) rt: R,
 }
 
 impl<J: Naming, R, A: Allocator> Model for Pass<J, R, A> {
     ghost use Rattle.std.specs.Prelude.{◌≡◌};
-    ghost use Rattle.pass_model.specs.Passes.{PassAccount};
-    ghost use Rattle.batch_model.specs.Holders.{account_in, pass};
+    ghost use Rattle.model_processor.specs.Passes.{PassAccount};
+    ghost use Rattle.model_processor.specs.AnyAccounts.{account_in, pass};
 
     ghost Value = { PassAccount };
 
@@ -105,7 +105,7 @@ impl<J: Naming, R: Wait, A: Allocator + Copy> EndPass<SpanData<A>> for Pass<J, R
     ghost admits = { AdmitsSpan };
 
     /// Queues the span under the next ticket: `Queued`. Where as many wait as may, the ledger names
-    /// it on its own slip: `Dropped`, as `QueueFull`. Behind a shutdown it is only counted: `Late`.
+    /// it on its own slip: `Dropped`, as `QueueFull`. After a shutdown it is only counted: `Late`.
     /// No memory is taken. (profile: tickets, the ledger, late spans)
     fn admit(&mut self, span: SpanData<A>) -> Ended {
         let Pass { lock, account, rt } = self;

@@ -1,20 +1,21 @@
 //! The batch processor.
-ghost use Rattle.std.specs.Prelude.{◌≡◌, ◌<◌, ◌≤◌, ◌↔◌, ◌⊎◌, IfErr, IfOk, IsErrOf, MatchResult, OnOk, vec_len, None};
+ghost use Rattle.std.specs.Prelude.{◌≡◌, ◌<◌, ◌≤◌, ◌↔◌, ◌⊎◌, IfErr, IfOk, IsErrOf, MatchResult};
+ghost use Rattle.std.specs.Prelude.{OnOk, vec_len, None};
 ghost use Rattle.std.specs.List.{AllByRecursion};
-ghost use Rattle.pass_model.specs.Passes.{new_account};
-ghost use Rattle.batch_model.specs.Worker.{new_worker};
-ghost use Rattle.batch_model.specs.Holders.{pass};
+ghost use Rattle.model_processor.specs.Passes.{new_account};
+ghost use Rattle.model_processor.specs.Worker.{new_worker};
+ghost use Rattle.model_processor.specs.AnyAccounts.{pass};
 ghost use Rattle.span_ring.specs.SpanRing.{IsRingSize};
 ghost use Rattle.span_ring.specs.declared.ring.TheConstants.{MAX_QUEUE};
-ghost use Rattle.desk_model.specs.Desks.{new_desk};
+ghost use Rattle.model_desk.specs.Desks.{new_desk};
 ghost use Rattle.batch_desk.specs.Views.{config_view};
 ghost use Rattle.batch_processor.specs.Views.{IsPassCount, setup_view};
 ghost use Rattle.batch_processor.specs.declared.processor.TheConstants.{MAX_PASSES};
-ghost use Rattle.batch_model.specs.Clauses.{IsAccounted, WorksUntilItLeaves, abandon};
+ghost use Rattle.model_processor.specs.WorkerClauses.{IsAccounted, WorksUntilItLeaves, abandon};
 
+use crate::account::{AccountState, BatchBlank, Begins, NewProcessor, NewWorker, WorkerBegins};
 use crate::config::{BatchConfig, Setup};
 use crate::fault::NewFault;
-use crate::holding::{BatchBlank, Begins, Holding, NewProcessor, NewWorker, WorkerBegins};
 use crate::lock::Lock;
 use crate::pass::Pass;
 use crate::shared::Shared;
@@ -30,15 +31,15 @@ use std::sync::{Arc, Wait};
 #[derive(Drop)]
 pub struct BatchProcessor<J: Naming, R, A: Allocator = Global> {
     lock: Arc<Lock<J, A>, A>,
-    account: Account<J, Holding>,
+    account: Account<J, AccountState>,
     setup: Setup,
     rt: R,
 }
 
 impl<J: Naming, R, A: Allocator> Model for BatchProcessor<J, R, A> {
     ghost use Rattle.std.specs.Prelude.{◌≡◌};
-    ghost use Rattle.batch_model.specs.Clauses.{Origin};
-    ghost use Rattle.batch_model.specs.Holders.{processor};
+    ghost use Rattle.model_processor.specs.WorkerClauses.{Origin};
+    ghost use Rattle.model_processor.specs.AnyAccounts.{processor};
     ghost use Rattle.batch_processor.specs.Views.{setup_view};
 
     ghost Value = { Origin };
@@ -57,7 +58,8 @@ impl<J: Naming, R, A: Allocator> fmt::Debug for BatchProcessor<J, R, A> {
     }
 }
 
-/// What a processor comes to: the desk, with its totals and its ledgers of dropped and of lost spans.
+/// What a processor comes to: the desk, with its totals and its ledgers of dropped and of lost
+/// spans.
 #[derive(Drop)]
 #[derive_where(Debug)]
 pub struct Accounts<A: Allocator = Global> {
@@ -111,15 +113,15 @@ impl<J: Naming, R: Wait + Drop, A: Allocator + Copy> BatchProcessor<J, R, A> {
             setup: _,
             rt,
         } = self;
-        let his = worker.abandon();
-        let desk = lock.shared.lock(&rt).close(account, his, passes);
+        let of_worker = worker.abandon();
+        let desk = lock.shared.lock(&rt).close(account, of_worker, passes);
         Ok(Accounts { desk })
     }
 }
 
 impl<J: Naming, R: Wait + Drop, A: Allocator + Copy> Missing<J, R, A> {
     /// Lets all go. The worker leaves first: a batch in hand is dropped where it was not handed to
-    /// an exporter, and else settled, and a flush on a pass that is missing is told.
+    /// an exporter, and else settled, and a flush on a pass that is missing is reported.
     pub fn discard(self) {
         drop(self);
     }
@@ -218,9 +220,9 @@ impl<J: Naming, R: Wait + Copy, A: Allocator + Copy> BatchProcessor<J, R, A> {
         let mut book = blank.named::<J>();
         let mut account = book.open::<NewProcessor>();
         book.record::<Setup, Begins>(&mut account, &setup);
-        let mut his = book.open::<NewWorker>();
-        book.record::<Setup, WorkerBegins>(&mut his, &setup);
-        let accounts = book.open_all::<Holding, A>(alloc, setup.passes)?;
+        let mut of_worker = book.open::<NewWorker>();
+        book.record::<Setup, WorkerBegins>(&mut of_worker, &setup);
+        let accounts = book.open_all::<AccountState, A>(alloc, setup.passes)?;
         let shared = Shared {
             desk: Some(desk),
             left: false,
@@ -230,7 +232,7 @@ impl<J: Naming, R: Wait + Copy, A: Allocator + Copy> BatchProcessor<J, R, A> {
         };
         let lock = Arc::new(alloc, Lock::new(shared))?;
         let passes = give_passes(alloc, rt, &lock, accounts)?;
-        let worker = WorkerPass::new(alloc, rt, &lock, his, &setup)?;
+        let worker = WorkerPass::new(alloc, rt, &lock, of_worker, &setup)?;
         let processor = BatchProcessor {
             lock,
             account,
@@ -250,7 +252,7 @@ fn give_passes<J: Naming, R: Copy, A: Allocator>(
     alloc: A,
     rt: R,
     lock: &Arc<Lock<J, A>, A>,
-    accounts: Vec<Account<J, Holding>, A>,
+    accounts: Vec<Account<J, AccountState>, A>,
 ) -> Result<Vec<Pass<J, R, A>, A>, AllocError>
     requires { AllByRecursion (λ h. h ≡ pass new_account) accounts.items }
     ensures count { IfOk result (λ passes. vec_len passes ≡ vec_len accounts) }

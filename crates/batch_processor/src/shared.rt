@@ -1,21 +1,29 @@
 //! What threads share, with the accounts of those who share it. Each call is one hold of the lock.
-ghost use Rattle.std.specs.Prelude.{◌≡◌, ℕ, List, ◌≤◌, ◌&&◌, ◌||◌, not, vec_len, true, false, option_map, drop, IfSome, IfNone, IsPermutation, IsTrue, Some, None, [], ◌++◌, IfErr, is_none, is_some, option_to_list};
-ghost use Rattle.desk_model.specs.Desks.{accepted_count, is_due};
-ghost use Rattle.batch_desk.specs.Desk.{admission, after_admission, after_loss, after_names, is_queued};
+ghost use Rattle.std.specs.Prelude.{◌≡◌, ℕ, List, ◌≤◌, ◌&&◌, ◌||◌, not, vec_len, true, false};
+ghost use Rattle.std.specs.Prelude.{option_map, drop, IfSome, IfNone, IsPermutation, IsTrue, Some};
+ghost use Rattle.std.specs.Prelude.{None, [], ◌++◌, IfErr, is_none, is_some, option_to_list};
+ghost use Rattle.model_desk.specs.Desks.{accepted_count, is_due};
+ghost use Rattle.batch_desk.specs.Desk.{admission, after_admission, after_loss, after_names};
+ghost use Rattle.batch_desk.specs.Desk.{is_queued};
 ghost use Rattle.otlp_span.specs.Dropped.{entry_view};
-ghost use Rattle.pass_model.specs.Passes.{after_pop, after_pop_lost};
-ghost use Rattle.batch_model.specs.Holders.{account_in, after_drained, after_drop, after_handed, after_left, after_settle, after_take, left_if, on_pass, on_worker, origin_in, pass, processor, worker, worker_in};
+ghost use Rattle.model_processor.specs.Passes.{after_pop, after_pop_lost};
+ghost use Rattle.model_processor.specs.AnyAccounts.{account_in, after_drained, after_drop};
+ghost use Rattle.model_processor.specs.AnyAccounts.{after_handed, after_left, after_settle};
+ghost use Rattle.model_processor.specs.AnyAccounts.{after_take};
+ghost use Rattle.model_processor.specs.AnyAccounts.{left_if, on_pass, on_worker, origin_in, pass};
+ghost use Rattle.model_processor.specs.AnyAccounts.{processor, worker, worker_in};
 ghost use Rattle.batch_processor.specs.Views.{after_answer, after_end, ended_of, outcomes_view};
-ghost use Rattle.batch_processor.specs.Holds.{Asks, InHold, IsBatchOf, IsBatchSize, IsNamedBatchOf, IsSettledBatchOf, IsTold, Shuts, has_work, wake_of};
-ghost use Rattle.batch_model.specs.Kept.{IsAccountOf};
+ghost use Rattle.batch_processor.specs.Holds.{Asks, InHold, IsBatchOf, IsBatchSize, IsNamedBatchOf};
+ghost use Rattle.batch_processor.specs.Holds.{IsSettledBatchOf, IsTold, Shuts, has_work, wake_of};
+ghost use Rattle.model_processor.specs.Kept.{IsAccountOf};
 
+use crate::account::{
+    AccountState, Drains, Drops, Ends, Flushes, Hands, Leaves, Pops, PopsLost, Settled, Settles,
+    ShutsDown, SpanEnded, Takes, ToldFlushed, ToldLeft,
+};
 use crate::config::Setup;
 use crate::fault::WorkerLeft;
 use crate::hold::{After, Wake};
-use crate::holding::{
-    Drains, Drops, Ends, Flushes, Hands, Holding, Leaves, Pops, PopsLost, Settled, Settles,
-    ShutsDown, SpanEnded, Takes, ToldFlushed, ToldLeft,
-};
 use crate::pass::{Flushed, Pass};
 use account_book::{Account, Book, Naming};
 use batch_desk::{Admitted, Batch, Desk, Mark, NamedBatch, SettledBatch};
@@ -46,12 +54,12 @@ pub(crate) struct Shared<J: Naming, A: Allocator> {
     pub(crate) left: bool,
     // Spans that were sent, which the threads free that end others.
     pub(crate) spent: Vec<SpanData<A>, A>,
-    pub(crate) book: Book<J, Holding>,
+    pub(crate) book: Book<J, AccountState>,
     pub(crate) setup: Setup,
 }
 
 impl<J: Naming, A: Allocator> Model for Shared<J, A> {
-    ghost use Rattle.batch_model.specs.Kept.{IsShared};
+    ghost use Rattle.model_processor.specs.Kept.{IsShared};
     ghost use Rattle.batch_processor.specs.Holds.{Guarded, desk_of};
     ghost use Rattle.batch_processor.specs.Views.{setup_view};
 
@@ -104,7 +112,7 @@ impl<J: Naming, A: Allocator + Copy> Shared<J, A> {
     /// span that was sent, if one is left: both are to be freed once the hold is over.
     pub(crate) fn admit(
         &mut self,
-        account: &mut Account<J, Holding>,
+        account: &mut Account<J, AccountState>,
         span: SpanData<A>,
     ) -> After<(Ended, Option<SpanRemains<A>>, Option<SpanData<A>>)>
         requires { account.old ≡ pass (account_in account.old) }
@@ -135,7 +143,7 @@ impl<J: Naming, A: Allocator + Copy> Shared<J, A> {
     /// Queues a span that ends on a pass. What is left of it where it doesn't wait is handed out.
     fn queue(
         &mut self,
-        account: &mut Account<J, Holding>,
+        account: &mut Account<J, AccountState>,
         span: SpanData<A>,
     ) -> (Ended, Option<SpanRemains<A>>)
         requires { account.old ≡ pass (account_in account.old) }
@@ -160,8 +168,8 @@ impl<J: Naming, A: Allocator + Copy> Shared<J, A> {
     }
 
     /// Leaves the spans of a batch that was sent to those who end others, where half a batch waits
-    /// already: they end spans about as fast as these are sent. What they haven't freed of the batch
-    /// before is handed back.
+    /// already: they end spans about as fast as these are sent. What they haven't freed of the
+    /// batch before is handed back.
     fn leave_spent(&mut self, spent: &mut Vec<SpanData<A>, A>)
         ensures guarded { self.new ≡ record self.old { spent = self.new.spent } }
         ensures spent { IsPermutation
@@ -177,7 +185,7 @@ impl<J: Naming, A: Allocator + Copy> Shared<J, A> {
     }
 
     /// A pass asks for all that was accepted so far.
-    pub(crate) fn flush(&mut self, account: &mut Account<J, Holding>) -> After<Mark>
+    pub(crate) fn flush(&mut self, account: &mut Account<J, AccountState>) -> After<Mark>
         requires { account.old ≡ pass (account_in account.old) }
         ensures asks { Asks self.old result.value account.old account.new }
         ensures desk { self.new ≡ record self.old {
@@ -192,7 +200,7 @@ impl<J: Naming, A: Allocator + Copy> Shared<J, A> {
     }
 
     /// Asks the queue for all, and tells the pass's account.
-    fn ask(&mut self, account: &mut Account<J, Holding>) -> Mark
+    fn ask(&mut self, account: &mut Account<J, AccountState>) -> Mark
         requires { account.old ≡ pass (account_in account.old) }
         ensures asks { Asks self.old result account.old account.new }
         ensures desk { self.new ≡ record self.old {
@@ -211,7 +219,7 @@ impl<J: Naming, A: Allocator + Copy> Shared<J, A> {
     }
 
     /// A pass shuts the processor down.
-    pub(crate) fn shutdown(&mut self, account: &mut Account<J, Holding>) -> After<Mark>
+    pub(crate) fn shutdown(&mut self, account: &mut Account<J, AccountState>) -> After<Mark>
         requires { account.old ≡ pass (account_in account.old) }
         ensures asks { Shuts self.old result.value account.old account.new }
         ensures desk { self.new ≡ record self.old {
@@ -226,7 +234,7 @@ impl<J: Naming, A: Allocator + Copy> Shared<J, A> {
     }
 
     /// Closes the queue, asks it for all, and tells the pass's account.
-    fn close_queue(&mut self, account: &mut Account<J, Holding>) -> Mark
+    fn close_queue(&mut self, account: &mut Account<J, AccountState>) -> Mark
         requires { account.old ≡ pass (account_in account.old) }
         ensures asks { Shuts self.old result account.old account.new }
         ensures desk { self.new ≡ record self.old {
@@ -248,7 +256,7 @@ impl<J: Naming, A: Allocator + Copy> Shared<J, A> {
     /// that the worker has left. None where neither is so yet.
     pub(crate) fn flushed(
         &mut self,
-        account: &mut Account<J, Holding>,
+        account: &mut Account<J, AccountState>,
         mark: Mark,
     ) -> Option<Result<Flushed, WorkerLeft>>
         requires pass { account.old ≡ pass (account_in account.old) }
@@ -276,7 +284,7 @@ impl<J: Naming, A: Allocator + Copy> Shared<J, A> {
     }
 
     /// A pass pops an entry of the ledger.
-    pub(crate) fn pop_entry(&mut self, account: &mut Account<J, Holding>) -> Option<Entry>
+    pub(crate) fn pop_entry(&mut self, account: &mut Account<J, AccountState>) -> Option<Entry>
         requires { account.old ≡ pass (account_in account.old) }
         ensures some { IfSome result
             (λ entry. account.new ≡ on_pass (after_pop (entry_view entry)) account.old) }
@@ -295,7 +303,7 @@ impl<J: Naming, A: Allocator + Copy> Shared<J, A> {
     }
 
     /// A pass pops an entry of the ledger of lost spans.
-    pub(crate) fn pop_lost(&mut self, account: &mut Account<J, Holding>) -> Option<Entry>
+    pub(crate) fn pop_lost(&mut self, account: &mut Account<J, AccountState>) -> Option<Entry>
         requires { account.old ≡ pass (account_in account.old) }
         ensures some { IfSome result
             (λ entry. account.new ≡ on_pass (after_pop_lost (entry_view entry)) account.old) }
@@ -314,7 +322,11 @@ impl<J: Naming, A: Allocator + Copy> Shared<J, A> {
     }
 
     /// The worker, which has none out, takes the next batch, if it is due.
-    pub(crate) fn take(&mut self, account: &mut Account<J, Holding>, now: u64) -> Option<Batch<A>>
+    pub(crate) fn take(
+        &mut self,
+        account: &mut Account<J, AccountState>,
+        now: u64,
+    ) -> Option<Batch<A>>
         requires worker { account.old ≡ worker (origin_in account.old) (worker_in account.old) }
         requires none_out { (worker_in account.old).out ≡ None }
         ensures some { IfSome result
@@ -344,7 +356,7 @@ impl<J: Naming, A: Allocator + Copy> Shared<J, A> {
     /// The worker hands its batch to an exporter, with this body.
     pub(crate) fn handed(
         &mut self,
-        account: &mut Account<J, Holding>,
+        account: &mut Account<J, AccountState>,
         batch: &Batch<A>,
         body: &Vec<u8, A>,
     )
@@ -365,7 +377,7 @@ impl<J: Naming, A: Allocator + Copy> Shared<J, A> {
     /// the same hold, or it doesn't.
     pub(crate) fn drop_batch(
         &mut self,
-        account: &mut Account<J, Holding>,
+        account: &mut Account<J, AccountState>,
         batch: NamedBatch<A>,
         leaves: bool,
     ) -> After<()>
@@ -387,7 +399,7 @@ impl<J: Naming, A: Allocator + Copy> Shared<J, A> {
     }
 
     /// Drops the worker's batch.
-    fn drop_named(&mut self, account: &mut Account<J, Holding>, batch: NamedBatch<A>)
+    fn drop_named(&mut self, account: &mut Account<J, AccountState>, batch: NamedBatch<A>)
         requires worker { account.old ≡ worker (origin_in account.old) (worker_in account.old) }
         requires out { IsNamedBatchOf account.old batch }
         ensures account { account.new ≡ on_worker (after_drop batch.reason) account.old }
@@ -404,12 +416,12 @@ impl<J: Naming, A: Allocator + Copy> Shared<J, A> {
     }
 
     /// The worker settles its batch, which was handed, and whose lost spans are named, after these
-    /// outcomes of its attempts. It leaves by the same hold, or it doesn't. Spans that were sent are
-    /// left to those who end others; those that aren't are handed out, to be freed once the hold is
-    /// over.
+    /// outcomes of its attempts. It leaves by the same hold, or it doesn't. Spans that were sent
+    /// are left to those who end others; those that aren't are handed out, to be freed once the
+    /// hold is over.
     pub(crate) fn settle(
         &mut self,
-        account: &mut Account<J, Holding>,
+        account: &mut Account<J, AccountState>,
         batch: SettledBatch<A>,
         outcomes: &Vec<Outcome, A>,
         leaves: bool,
@@ -439,7 +451,7 @@ impl<J: Naming, A: Allocator + Copy> Shared<J, A> {
     /// Settles the worker's batch.
     fn settle_batch(
         &mut self,
-        account: &mut Account<J, Holding>,
+        account: &mut Account<J, AccountState>,
         batch: SettledBatch<A>,
         outcomes: &Vec<Outcome, A>,
     )
@@ -465,7 +477,7 @@ impl<J: Naming, A: Allocator + Copy> Shared<J, A> {
     }
 
     /// The worker leaves, which has none out.
-    pub(crate) fn leave(&mut self, account: &mut Account<J, Holding>) -> After<()>
+    pub(crate) fn leave(&mut self, account: &mut Account<J, AccountState>) -> After<()>
         requires { account.old ≡ worker (origin_in account.old) (worker_in account.old) }
         ensures account { account.new ≡ on_worker after_left account.old }
         ensures left { self.new ≡ record self.old { left = true } }
@@ -478,7 +490,7 @@ impl<J: Naming, A: Allocator + Copy> Shared<J, A> {
     }
 
     /// Whether the processor is shut down, and no span waits: for the worker, which has none out.
-    pub(crate) fn drained(&mut self, account: &mut Account<J, Holding>) -> bool
+    pub(crate) fn drained(&mut self, account: &mut Account<J, AccountState>) -> bool
         requires worker { account.old ≡ worker (origin_in account.old) (worker_in account.old) }
         ensures yes { IsTrue result → account.new ≡ on_worker after_drained account.old }
         ensures no { result ≡ false → account.new ≡ account.old }
@@ -496,7 +508,7 @@ impl<J: Naming, A: Allocator + Copy> Shared<J, A> {
     }
 
     /// The worker leaves by this hold, or it doesn't.
-    fn leave_if(&mut self, account: &mut Account<J, Holding>, leaves: bool)
+    fn leave_if(&mut self, account: &mut Account<J, AccountState>, leaves: bool)
         requires { account.old ≡ worker (origin_in account.old) (worker_in account.old) }
         ensures account { account.new ≡ on_worker (left_if leaves) account.old }
         ensures left { self.new ≡ record self.old { left = leaves || self.old.left } }
@@ -515,15 +527,15 @@ impl<J: Naming, A: Allocator + Copy> Shared<J, A> {
     /// Takes the desk out, once the processor, the worker and all passes are back.
     pub(crate) fn close<R: Drop>(
         &mut self,
-        mut account: Account<J, Holding>,
-        his: Account<J, Holding>,
+        mut account: Account<J, AccountState>,
+        of_worker: Account<J, AccountState>,
         passes: Vec<Pass<J, R, A>, A>,
     ) -> Desk<A>
         requires processor { account ≡ processor (origin_in account) }
-        requires worker { his ≡ worker (origin_in his) (worker_in his) }
+        requires worker { of_worker ≡ worker (origin_in of_worker) (worker_in of_worker) }
         requires all { (origin_in account).passes ≤ vec_len passes }
-        ensures origin { origin_in his ≡ origin_in account }
-        ensures accounts { IsAccountOf (origin_in account) result passes.items (worker_in his) }
+        ensures origin { origin_in of_worker ≡ origin_in account }
+        ensures accounts { IsAccountOf (origin_in account) result passes.items (worker_in of_worker) }
         ensures spent { self.new.spent ≡ self.old.spent }
     {
         self.book.recognize(&mut account);
@@ -531,7 +543,7 @@ impl<J: Naming, A: Allocator + Copy> Shared<J, A> {
             unreachable!()
         };
         self.book.close(account);
-        self.book.close(his);
+        self.book.close(of_worker);
         for pass in passes {
             let Pass {
                 lock: _,

@@ -1,20 +1,24 @@
 //! The steps of a worker's work: a batch is taken, encoded once, handed to an exporter, judged by
 //! what came of it, sent again or settled.
-ghost use Rattle.std.specs.Prelude.{◌≡◌, ◌<◌, ◌≤◌, ◌+◌, ℕ, [], IfErr, IfOk, IsTrue, Some, None, length, true, false};
-ghost use Rattle.export_model.specs.Export.{LacksBody};
+ghost use Rattle.std.specs.Prelude.{◌≡◌, ◌<◌, ◌≤◌, ◌+◌, ℕ, [], IfErr, IfOk, IsTrue, Some, None};
+ghost use Rattle.std.specs.Prelude.{length, true, false};
+ghost use Rattle.model_export.specs.Export.{LacksBody};
 ghost use Rattle.otlp_proto.specs.Bodies.{reason_of};
 ghost use Rattle.retry_core.specs.Retries.{fate_view, outcome_view};
-ghost use Rattle.batch_model.specs.Clauses.{IsBodyOf, abandon};
+ghost use Rattle.model_processor.specs.WorkerClauses.{IsBodyOf, abandon};
 ghost use Rattle.otlp_span.specs.Dropped.{reason_view};
-ghost use Rattle.drop_model.specs.Dropped.{can_drop_batch};
-ghost use Rattle.batch_model.specs.Holders.{after_drained, after_drop, after_left, after_settle, left_if, worker};
+ghost use Rattle.model_drop.specs.Dropped.{can_drop_batch};
+ghost use Rattle.model_processor.specs.AnyAccounts.{after_drained, after_drop, after_left};
+ghost use Rattle.model_processor.specs.AnyAccounts.{after_settle, left_if, worker};
 ghost use Rattle.batch_processor.specs.Holds.{IsBatchOf, IsSentBatchOf};
-ghost use Rattle.batch_processor.specs.Working.{IsExported, IsReady, IsWorkingWith, StepsAside, TakesStep, hand_at, to_encode, to_judge, to_retry, to_send, work_in};
+ghost use Rattle.batch_processor.specs.Working.{IsExported, IsReady, IsWorkingWith, StepsAside};
+ghost use Rattle.batch_processor.specs.Working.{TakesStep, hand_at, to_encode, to_judge, to_retry};
+ghost use Rattle.batch_processor.specs.Working.{to_send, work_in};
 
+use crate::account::AccountState;
 use crate::clock::Clock;
 use crate::config::Setup;
 use crate::encoder::body_of;
-use crate::holding::Holding;
 use crate::lock::{Lock, PAUSE_MS};
 use account_book::{Account, Naming};
 use batch_desk::Batch;
@@ -59,7 +63,7 @@ impl<A: Allocator> Model for InHand<A> {
 /// All that a worker's pass has but the batch in hand.
 pub(crate) struct Worker<J: Naming, R, A: Allocator> {
     pub(crate) lock: Arc<Lock<J, A>, A>,
-    pub(crate) account: Account<J, Holding>,
+    pub(crate) account: Account<J, AccountState>,
     // What the attempts of the batch in hand came to that were judged.
     pub(crate) outcomes: Vec<Outcome, A>,
     // Where the spans of a batch go that is settled.
@@ -71,7 +75,7 @@ pub(crate) struct Worker<J: Naming, R, A: Allocator> {
 
 impl<J: Naming, R, A: Allocator> Model for Worker<J, R, A> {
     ghost use Rattle.std.specs.Prelude.{◌≡◌, ◌≤◌, vec_capacity};
-    ghost use Rattle.batch_model.specs.Holders.{worker, worker_in};
+    ghost use Rattle.model_processor.specs.AnyAccounts.{worker, worker_in};
     ghost use Rattle.batch_processor.specs.Views.{outcomes_view, setup_view};
     ghost use Rattle.batch_processor.specs.Working.{WorkerState};
 
@@ -219,7 +223,7 @@ impl<J: Naming, R: Wait + time::Clock + Drop, A: Allocator + Copy> Worker<J, R, 
 }
 
 impl<J: Naming, R: Wait + Drop, A: Allocator + Copy> Worker<J, R, A> {
-    /// Settles a batch that was handed, behind the outcomes that were judged. The worker leaves by
+    /// Settles a batch that was handed, after the outcomes that were judged. The worker leaves by
     /// the same hold, or it doesn't.
     fn settle(&mut self, batch: Batch<A>, fate: Fate, leaves: bool)
         requires { IsSentBatchOf (worker self.old.origin self.old.account) batch }
@@ -289,7 +293,7 @@ impl<J: Naming, R: Wait + Drop, A: Allocator + Copy> Worker<J, R, A> {
 
 impl<J: Naming, R: Drop, A: Allocator + Copy> Worker<J, R, A> {
     /// What the worker knows, where no batch is in hand.
-    pub(crate) fn into_account(self) -> Account<J, Holding>
+    pub(crate) fn into_account(self) -> Account<J, AccountState>
         ensures { result ≡ worker self.origin self.account }
     {
         let Worker {

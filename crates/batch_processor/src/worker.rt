@@ -1,15 +1,15 @@
 //! The worker's pass: turns of work, and what becomes of a batch in hand where it is let go.
 ghost use Rattle.std.specs.Prelude.{◌≡◌, IfOk, IsTrue, None, true, false};
-ghost use Rattle.retry_model.specs.Waits.{IsRetryConfig};
-ghost use Rattle.batch_model.specs.Worker.{new_worker};
-ghost use Rattle.batch_model.specs.Clauses.{EndByWork, WorksUntilItLeaves, abandon};
-ghost use Rattle.batch_model.specs.Holders.{after_left, worker};
+ghost use Rattle.model_retry.specs.Waits.{IsRetryConfig};
+ghost use Rattle.model_processor.specs.Worker.{new_worker};
+ghost use Rattle.model_processor.specs.WorkerClauses.{EndByWork, WorksUntilItLeaves, abandon};
+ghost use Rattle.model_processor.specs.AnyAccounts.{after_left, worker};
 ghost use Rattle.batch_processor.specs.Views.{setup_view};
 ghost use Rattle.batch_processor.specs.Working.{GoesOn, IsPrepared};
 
+use crate::account::AccountState;
 use crate::clock::Clock;
 use crate::config::Setup;
-use crate::holding::Holding;
 use crate::lock::Lock;
 use crate::steps::{InHand, Worker};
 use account_book::{Account, Naming};
@@ -67,7 +67,7 @@ impl<J: Naming, R: Wait + Drop, A: Allocator + Copy> WorkerPass<J, R, A> {
         alloc: A,
         rt: R,
         lock: &Arc<Lock<J, A>, A>,
-        account: Account<J, Holding>,
+        account: Account<J, AccountState>,
         setup: &Setup,
     ) -> Result<WorkerPass<J, R, A>, AllocError>
         requires account { account ≡ worker (setup_view setup.now) new_worker }
@@ -202,7 +202,7 @@ impl<J: Naming, R: Wait + Drop, A: Allocator + Copy> WorkerPass<J, R, A> {
     }
 
     /// Abandons the batch in hand, if there is one, as `leave` does.
-    pub(crate) fn abandon(self) -> Account<J, Holding>
+    pub(crate) fn abandon(self) -> Account<J, AccountState>
         ensures account { result ≡ worker self.origin (abandon self.account) }
         ensures by_work { EndByWork self.origin (abandon self.account) }
         ensures works { WorksUntilItLeaves self.origin self.account }

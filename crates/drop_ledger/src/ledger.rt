@@ -1,6 +1,8 @@
-ghost use Rattle.std.specs.Prelude.{◌≡◌, ◌+◌, ◌-◌, ◌^◌, ◌<◌, ◌∷◌, ◌++◌, ◌==◌, [], IfNone, IfSome, IsTrue, length, option_map, reverse, slice_get};
+//! The names of spans that aren't delivered.
+ghost use Rattle.std.specs.Prelude.{◌≡◌, ◌+◌, ◌-◌, ◌^◌, ◌<◌, ◌∷◌, ◌++◌, ◌==◌, [], IfNone, IfSome};
+ghost use Rattle.std.specs.Prelude.{IsTrue, length, option_map, reverse, slice_get};
 ghost use Rattle.std.specs.Option.{ForSome};
-ghost use Rattle.drop_model.specs.Dropped.{count_of_reason};
+ghost use Rattle.model_drop.specs.Dropped.{count_of_reason};
 ghost use Rattle.otlp_span.specs.Dropped.{entry_view, reason_view};
 ghost use Rattle.otlp_span.specs.Slips.{entries_of, is_named};
 
@@ -10,8 +12,8 @@ use std::alloc::{Allocator, Global};
 use std::marker::Model;
 
 /// The names of spans that aren't delivered, the newest first, each on its own span's slip. No call
-/// takes memory (profile). A ledger that is let go is taken apart one name at a time, so that a long
-/// one doesn't use up the stack.
+/// takes memory (profile). A ledger that is let go is taken apart one name at a time, so that a
+/// long one doesn't use up the stack.
 #[derive(Drop)]
 #[derive_where(Debug)]
 pub struct Ledger<A: Allocator = Global> {
@@ -22,7 +24,7 @@ pub struct Ledger<A: Allocator = Global> {
 
 impl<A: Allocator> Model for Ledger<A> {
     ghost use Rattle.std.specs.Prelude.{List};
-    ghost use Rattle.drop_model.specs.Dropped.{Entry};
+    ghost use Rattle.model_drop.specs.Dropped.{Entry};
     ghost use Rattle.otlp_span.specs.Slips.{entries_of};
     ghost use Rattle.drop_ledger.specs.Counts.{IsLedger};
 
@@ -111,7 +113,7 @@ impl<A: Allocator> Ledger<A> {
         self.newest = Some(slip.link(entry, below));
     }
 
-    /// Moves the names of another ledger onto this one, its newest first: so they stand here the
+    /// Moves the names of another ledger onto this one, its newest first: so they are here the
     /// other way round. Each slip is linked anew; no memory is taken or freed.
     pub fn append_reversed(&mut self, other: Ledger<A>)
         requires { length self.old + length other < 2 ^ 64 }

@@ -11,7 +11,7 @@ fn all_drops(drops: DropCounts) -> u64 {
         .saturating_add(drops.abandoned)
 }
 
-/// Writes a count behind its name.
+/// Writes a count after its name.
 fn write_count<W: Write>(output: &mut W, name: &str, count: u64) -> io::Result<()> {
     writeln!(output, "{name} {count}")
 }

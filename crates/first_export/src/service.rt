@@ -92,8 +92,8 @@ where
     Ok(started?)
 }
 
-/// Traces the request, and answers what became of its spans, with the exporter. A batch is sent five
-/// times at most, with short waits. The names of spans that aren't delivered go to the output.
+/// Traces the request, and answers what became of its spans, with the exporter. A batch is sent
+/// five times at most, with short waits. The names of spans that aren't delivered go to the output.
 pub fn run<J, R, W: Write>(
     rt: R,
     alloc: Global,

@@ -11,7 +11,7 @@ fn all_drops(drops: DropCounts) -> u64 {
         .saturating_add(drops.abandoned)
 }
 
-/// Writes a count behind its name.
+/// Writes a count after its name.
 fn write_count<W: Write>(output: &mut W, name: &str, count: u64) -> io::Result<()> {
     writeln!(output, "{name} {count}")
 }
@@ -19,8 +19,8 @@ fn write_count<W: Write>(output: &mut W, name: &str, count: u64) -> io::Result<(
 /// Writes how many spans ended, and how many of them were delivered, lost, in batches that were
 /// partly rejected, dropped or left, and whether these make up those that ended.
 ///
-/// A reply that rejects a part of a batch says of how many spans, but not of which: all of the batch
-/// are counted. The totals count such batches, and each of them has so many spans here.
+/// A reply that rejects a part of a batch says of how many spans, but not of which: all of the
+/// batch are counted. The totals count such batches, and each of them has so many spans here.
 pub fn write_balance<W: Write>(
     output: &mut W,
     ended: u64,

@@ -78,8 +78,8 @@ fn write_names<W: Write>(desk: &mut Desk, output: &mut W) -> io::Result<()> {
     Ok(())
 }
 
-/// Queues the spans, takes all batches and hands them on, and writes what came of each span: a batch
-/// is delivered, and the reply to the other can't be read.
+/// Queues the spans, takes all batches and hands them on, and writes what came of each span: a
+/// batch is delivered, and the reply to the other can't be read.
 fn drive<W: Write>(mut desk: Desk, spans: Vec<SpanData>, output: &mut W) -> io::Result<()> {
     for span in spans {
         writeln!(output, "{:?}", desk.admit(span))?;

@@ -1,6 +1,6 @@
 //! Serves requests on four threads, which end their spans on passes of one processor, and prints
-//! what became of the spans: first a simple processor, which hands over each span at its end, then a
-//! batch processor, whose worker hands them over in batches on a thread of its own. Last, spans
+//! what became of the spans: first a simple processor, which hands over each span at its end, then
+//! a batch processor, whose worker hands them over in batches on a thread of its own. Last, spans
 //! through the queue of such a processor, driven by hand. Spans that are dropped (`named`) or lost
 //! are printed one by one, each with its ticket, which is its number, and the reason.
 #![tactic(auto)]

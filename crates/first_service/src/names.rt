@@ -1,11 +1,12 @@
-//! The names of spans that aren't delivered, which a service takes out of the ledgers while it runs.
+//! The names of spans that aren't delivered, which a service takes out of the ledgers while it
+//! runs.
 use std::io::{self, Write};
 use std::sync::Wait;
 use trace_kit::processor::{Naming, Pass};
 use trace_kit::queue::Entry;
 
-/// Writes a span's ticket, and why it isn't delivered. Its identifiers, which the entry has too, are
-/// other ones in each run.
+/// Writes a span's ticket, and why it isn't delivered. Its identifiers, which the entry has too,
+/// are other ones in each run.
 pub fn write_name<W: Write>(output: &mut W, what: &str, entry: Entry) -> io::Result<()> {
     writeln!(output, "{what} {} {}", entry.ticket, entry.reason)
 }

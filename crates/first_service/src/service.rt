@@ -1,5 +1,5 @@
-//! A service of four threads over a batch processor, whose worker has a thread of its own. The names
-//! of spans that aren't delivered are taken out of the ledgers while it runs.
+//! A service of four threads over a batch processor, whose worker has a thread of its own. The
+//! names of spans that aren't delivered are taken out of the ledgers while it runs.
 ghost use Rattle.std.specs.Prelude.{◌≡◌, None};
 
 use crate::names::write_names;

@@ -49,7 +49,7 @@ where
 }
 
 /// What becomes of the spans: those of the threads, of which the first is refused and the second
-/// has no reply, and one of each pass that ends behind a shutdown. It writes the names of those that
+/// has no reply, and one of each pass that ends after a shutdown. It writes the names of those that
 /// are lost.
 fn accounts_of<J, R, W: Write>(
     rt: R,

@@ -1,4 +1,5 @@
--- An exporter over TCP, with all memory on the heap, may go to another thread where its runtime may.
+-- An exporter over TCP, with all memory on the heap, may go to another thread where its runtime
+-- may.
 use denote.RattleType.{RattleType}
 use denote.Param.Send.{IsSend, sendable, view_send}
 use denote.Param.SendFields.{FieldsHave, declared_send, variants_send, as_row_send}

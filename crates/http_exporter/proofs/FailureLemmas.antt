@@ -2,11 +2,11 @@
 use Rattle.std.proofs.Common.{◌≡◌, ◌≢◌, refl, ap, arith, length, ℕ, ℤ, pos, int_lt, List, [], ◌∷◌, ◌++◌, Bool, true, false, if◌then◌else◌, Option, Some, None, IsSome, Result, Ok, Err}
 use Rattle.std.specs.Str.{IsUtf8, is_utf8}
 use Rattle.std.proofs.lemmas.Str.{IsUtf8-from_is_utf8}
-use Rattle.message_model.specs.Reading.{Fault}
-use Rattle.message_model.specs.Tables
-use Rattle.message_model.specs.Messages.{meaning, read}
-use Rattle.message_model.specs.Wire.{row}
-use Rattle.retry_model.specs.Retries.{Outcome, delivered}
+use Rattle.model_message.specs.Reading.{Fault}
+use Rattle.model_message.specs.Tables
+use Rattle.model_message.specs.Messages.{meaning, read}
+use Rattle.model_message.specs.Wire.{row}
+use Rattle.model_retry.specs.Retries.{Outcome, delivered}
 use Rattle.otlp_message.specs.Response.{row_faults, rejected_in, partial_row}
 use Rattle.http_wire.specs.declared.fault.HttpFault.{HttpFault}
 use Rattle.otlp_http.specs.Outcomes.{is_success, taken_by, outcome_of, outcome_of_body, outcome_of_reply}

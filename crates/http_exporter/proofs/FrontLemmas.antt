@@ -24,7 +24,7 @@ take_behind text front rest n is =
     ∙ ap (λ l. l ++ take n (drop (length front) (front ++ rest))) (take_at front rest (length front) refl)
     ∙ ap (λ l. front ++ take n l) (drop_at front rest (length front) refl)
 
--- the second piece, where the first one reaches behind the head
+-- the second piece, where the first one reaches after the head
 pub rest_of_body : (head body front : List ℕ) → front ≡ take (length front) (head ++ body) → length head ≤ length front
     → head ++ body ≡ front ++ drop (length front - length head) body
 rest_of_body head body front is reaches =
@@ -74,7 +74,7 @@ write_more old mid new at n piece first second =
     let both = Appends-trans old mid new (take at piece) (take n (drop at piece)) first (subst (λ l. Appends mid new (take n l)) tail second) in
     subst (Appends old new) (sym (take-add at n piece)) both
 
--- a front that has all of the text, or is full, reaches behind a head that there is room for
+-- a front that has all of the text, or is full, reaches after a head that there is room for
 pub reaches : (head body front : List ℕ) (size failures : ℕ) → size ≡ length head → size ≤ 1024
     → (front ≡ head ++ body) ⊎ (0 < failures) → (failures ≡ 0) ⊎ (length front ≡ 1024) → length head ≤ length front
 reaches head body front size failures is room (inl whole) full =
@@ -87,7 +87,7 @@ pub on_err : {T E : Type 0} (r : Result T E) {P : Type 0} → P → OnErr r P
 on_err (Ok _) p = tt
 on_err (Err _) p = p
 
--- a text is its front, and the slice of the body behind what the front has of it
+-- a text is its front, and the slice of the body after what the front has of it
 pub front_and_rest : (head body taken front : List ℕ) (size failures : ℕ) → size ≡ length head → size ≤ 1024
     → taken ≡ take (length taken) (head ++ body) → (taken ≡ head ++ body) ⊎ (0 < failures) → front ≡ taken
     → (failures ≡ 0) ⊎ (length front ≡ 1024)

@@ -1,8 +1,9 @@
 -- An attempt to send a body over a link. (OTLP Specification, OTLP/HTTP; a link an attempt, and
 -- what a stopped request comes to: profile)
-use Rattle.std.specs.Prelude.{◌≡◌, ℕ, ◌<◌, Bool, true, false, List, length, take, Option, Some, None, Result, Ok, Err}
+use Rattle.std.specs.Prelude.{◌≡◌, ℕ, ◌<◌, Bool, true, false, List, length, take, Option, Some}
+use Rattle.std.specs.Prelude.{None, Result, Ok, Err}
 use Rattle.std.specs.Io.KnownBytes.{Appends}
-use Rattle.retry_model.specs.Retries.{Outcome, no_reply}
+use Rattle.model_retry.specs.Retries.{Outcome, no_reply}
 use Rattle.http_wire.specs.declared.fault.HttpFault.{HttpFault}
 use Rattle.http_wire.specs.declared.limits.HeadLimits.{HeadLimits}
 use Rattle.otlp_http.specs.Address.{Address}

@@ -1,11 +1,12 @@
 -- What an attempt met that didn't deliver its batch, as a person may ask for it. (OTLP
 -- Specification, OTLP/HTTP Response; what is kept of it: profile)
-use Rattle.std.specs.Prelude.{◌≡◌, ℕ, ◌<◌, ◌≤◌, pos, int_lt, if◌then◌else◌, List, [], ◌∷◌, take, Option, Some, None, Result, Ok, Err, IsCharBoundary}
+use Rattle.std.specs.Prelude.{◌≡◌, ℕ, ◌<◌, ◌≤◌, pos, int_lt, if◌then◌else◌, List, [], ◌∷◌, take}
+use Rattle.std.specs.Prelude.{Option, Some, None, Result, Ok, Err, IsCharBoundary}
 use Rattle.std.specs.Str.{is_utf8}
-use Rattle.message_model.specs.Reading.{Fault, Reading}
-use Rattle.message_model.specs.Tables
-use Rattle.message_model.specs.Tables.{Message}
-use Rattle.message_model.specs.Messages.{meaning}
+use Rattle.model_message.specs.Reading.{Fault, Reading}
+use Rattle.model_message.specs.Tables
+use Rattle.model_message.specs.Tables.{Message}
+use Rattle.model_message.specs.Messages.{meaning}
 use Rattle.otlp_message.specs.Response.{message_text, rejected_in, row_faults, status}
 use Rattle.http_wire.specs.declared.fault.HttpFault.{HttpFault}
 use Rattle.otlp_http.specs.Outcomes.{is_success}

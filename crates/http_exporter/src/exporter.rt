@@ -1,17 +1,19 @@
 //! An exporter that posts each body over a link of its own.
 
-ghost use Rattle.std.specs.Prelude.{◌≡◌, ◌≢◌, ◌≤◌, ◌^◌, ◌-◌, ℕ, true, false, IsOk, IsSome, Option, Some, None, Result};
+ghost use Rattle.std.specs.Prelude.{◌≡◌, ◌≢◌, ◌≤◌, ◌^◌, ◌-◌, ℕ, true, false, IsOk, IsSome, Option};
+ghost use Rattle.std.specs.Prelude.{Some, None, Result};
 ghost use Rattle.std.specs.Option.{option_copied};
 ghost use Rattle.std.specs.Result.{result_map_both};
 ghost use Rattle.retry_core.specs.Retries.{outcome_view};
-ghost use Rattle.retry_model.specs.Retries.{delivered};
+ghost use Rattle.model_retry.specs.Retries.{delivered};
 ghost use Rattle.otlp_http.specs.Outcomes.{reply_view};
 ghost use Rattle.otlp_http.specs.Request.{request_text};
 ghost use Rattle.otlp_http.specs.Replies.{HttpReply};
 ghost use Rattle.http_wire.specs.declared.fault.HttpFault.{HttpFault};
 ghost use Rattle.http_exporter.specs.declared.failure.Failure.{Failure};
 ghost use Rattle.http_exporter.specs.Failures.{failure_after_a_stop, AreKept, IsLast};
-ghost use Rattle.http_exporter.specs.Attempts.{shown, IsAnswer, IsAttempt, IsPosted, outcome_after_a_stop};
+ghost use Rattle.http_exporter.specs.Attempts.{shown, IsAnswer, IsAttempt, IsPosted};
+ghost use Rattle.http_exporter.specs.Attempts.{outcome_after_a_stop};
 
 use crate::dial::Dial;
 use crate::failure::{Failure, failure_of};

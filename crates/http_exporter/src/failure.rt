@@ -85,8 +85,8 @@ pub enum Failure {
     NoConnection,
     /// A write failed, or waited too long, before the whole request had gone out.
     WriteStopped,
-    /// The request went out, and no head of a reply came that can be used, for this cause: the bytes
-    /// ended before (`Ended`), a read failed or waited too long (`Device`), memory for it was
+    /// The request went out, and no head of a reply came that can be used, for this cause: the
+    /// bytes ended before (`Ended`), a read failed or waited too long (`Device`), memory for it was
     /// refused (`OutOfMemory`), or what came is no head or too large a one (`BadHead`, `TooLarge`).
     NoReply(HttpFault),
     /// The collector didn't take the batch.

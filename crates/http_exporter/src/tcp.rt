@@ -86,7 +86,7 @@ pub type HttpExporter<R> = LinkExporter<TcpDial<R>>;
 
 impl<R: Net> LinkExporter<TcpDial<R>> {
     /// An exporter that posts to this target over TCP: one connection an attempt, which is closed
-    /// behind it. A connection that isn't made in `timeout_ms` milliseconds, which are at least 1,
+    /// after it. A connection that isn't made in `timeout_ms` milliseconds, which are at least 1,
     /// is given up, for each address of the host, and so is each read and each write that waits
     /// longer; an attempt as a whole may take longer, where bytes keep coming.
     ///

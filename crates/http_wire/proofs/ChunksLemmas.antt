@@ -59,7 +59,7 @@ data_grown {size} {taken} {before} {after} takes =
     let whole = ap length takes.put in
     omega (arith, long, whole, takes.size_of)
 
--- a body that a text behind them ends
+-- a body that a text after them ends
 abbrev pub Ended : HeadLimits → Option (List ℕ) → Option (List ℕ) → Type 0 → Result (List ℕ) HttpFault → Type 0
 Ended limits old new failed answer = (taken : List ℕ) × Consumes old new taken × IsChunkedBody limits taken new failed answer
 

@@ -1,4 +1,4 @@
--- The data of a chunk, and the CR LF behind it.
+-- The data of a chunk, and the CR LF after it.
 use Rattle.std.proofs.Common.{◌≡◌, ℕ, ◌-◌, ◌≤◌, List, [], ◌∷◌, ◌++◌, length, replicate, refl, sym, ap, subst, ◌∙◌, arith, append_assoc, length-append, Option, Err}
 use Rattle.std.proofs.lemmas.List.{length-replicate}
 use Rattle.std.specs.Io.KnownBytes.{Consumes}
@@ -29,7 +29,7 @@ becomes_data size text short =
     let count : length fill ≡ size - length text = length-replicate (size - length text) 0 in
     (fill ++ crlf_bytes, text ++ fill, omega (arith, long, count, short), sym (append_assoc text fill crlf_bytes))
 
--- what stands behind the data can become CR LF
+-- what comes after the data can become CR LF
 pub becomes_end : (size : ℕ) (front end : List ℕ) → length front ≡ size → (more : List ℕ) × (end ++ more ≡ crlf_bytes) → MayBecomeData size (front ++ end)
 becomes_end size front end long may = (may.0, front, long, append_assoc front end may.0 ∙ ap (λ t. front ++ t) may.1)
 
@@ -51,7 +51,7 @@ data_lacks size taken left failed faults.BadHead x = absurd x
 data_lacks size taken left failed faults.BadLength x = absurd x
 data_lacks size taken left failed faults.TooLarge x = absurd x
 
--- no CR behind the data
+-- no CR after the data
 pub return_lacks : (size : ℕ) (front taken : List ℕ) (left : Option (List ℕ)) (failed : Type 0) (fault : HttpFault)
     → length front ≡ size → IsExpected 13 taken left failed (Err fault) → LacksData size (front ++ taken) left failed fault
 return_lacks size front taken left failed faults.Ended long x =
@@ -76,7 +76,7 @@ return_lacks size front taken left failed faults.BadHead long x = absurd x
 return_lacks size front taken left failed faults.BadLength long x = absurd x
 return_lacks size front taken left failed faults.TooLarge long x = absurd x
 
--- no line feed behind that
+-- no line feed after that
 pub feed_lacks : (size : ℕ) (front taken : List ℕ) (left : Option (List ℕ)) (failed : Type 0) (fault : HttpFault)
     → length front ≡ size → IsExpected 10 taken left failed (Err fault) → LacksData size (front ++ (13 ∷ taken)) left failed fault
 feed_lacks size front taken left failed faults.Ended long x =

@@ -1,4 +1,5 @@
--- Heads that grow by a byte, be they of requests or of replies: what is valid, and how it is printed.
+-- Heads that grow by a byte, be they of requests or of replies: what is valid, and how it is
+-- printed.
 use Rattle.std.proofs.Common.{◌≡◌, ℕ, ◌≤◌, List, [], ◌∷◌, ◌++◌, length, refl, sym, ap, ◌∙◌, arith, length-append, inl, inr, ◌⊎◌, take, length-take}
 use Rattle.std.proofs.lemmas.List.{length-map}
 use Rattle.httparse.specs.Ascii.{line_feed, carriage_return}

@@ -69,7 +69,7 @@ last_end (end ∷ ends) = elim (last_end ends) [
   | inr some ↦ inr (end ∷ some.0, some.1, ap (λ t. end ∷ t) some.2)
 ]
 
--- what stands in front of the line feed of a line's end
+-- what is in front of the line feed of a line's end
 abbrev end_line : LineEnd → List ℕ
 end_line crlf = carriage_return ∷ []
 end_line lf = []
@@ -195,7 +195,8 @@ place_ended text old begun at same =
       part = refl;
     }
 
--- behind a line feed a parse is due where a line that isn't empty is the first, or an empty one isn't
+-- after a line feed a parse is due where a line that isn't empty is the first, or an empty one
+-- isn't
 due_parts : (begun : Bool) (part : LinePart) (lines line : List ℕ) → HasBegun begun lines → IsPart part line → is_text part ≡ not begun
     → (AreBlank lines × ¬ (IsEmptyLine line)) ⊎ (¬ (AreBlank lines) × IsEmptyLine line)
 due_parts false parts.Text lines line has is e = inl (has, is)
@@ -246,7 +247,7 @@ is_other false true e = refl
 is_other true true e = absurd cc
 is_other false false e = absurd cc
 
--- behind any other byte none is due
+-- after any other byte none is due
 pub not_due : (text : List ℕ) (byte : ℕ) → (byte ≡ 10 → ⊥) → ¬ (IsDue (text ++ byte ∷ []))
 not_due text byte other due = other (grown.push_last text (due.lines ++ due.line) byte 10 (due.whole ∙ sym (append_assoc due.lines due.line (10 ∷ []))))
 
@@ -312,7 +313,7 @@ place_further text byte old at feed further = place_on text byte old parts.Text 
 
 -- ---- heads
 
--- a line that has another byte than CR and LF, fields, and an empty line: a parse is due behind them
+-- a line that has another byte than CR and LF, fields, and an empty line: a parse is due after them
 pub section_due : (front rest : List ℕ) (byte : ℕ) (line_end : LineEnd) (fields : List Field) (last : LineEnd)
     → (byte ≡ 10 → ⊥) → (byte ≡ 13 → ⊥)
     → IsDue ((front ++ byte ∷ rest ++ print_end line_end) ++ (flat_map print_field fields ++ print_end last))
@@ -350,11 +351,11 @@ section_due front rest byte line_end fields last feed cr =
       | inr is ↦ cr is
     ]
 
--- a parse is due behind each such head
+-- a parse is due after each such head
 abbrev pub EndsDue : {H : Type 0} → (H → Type 0) → (H → List ℕ) → Type 0
 EndsDue {H} Valid print = (head : H) → Valid head → IsDue (print head)
 
--- a byte behind which none is due makes no head
+-- a byte after which none is due makes no head
 pub none_before_due : {H : Type 0} (Valid : H → Type 0) (print : H → List ℕ) → EndsDue Valid print
     → (text : List ℕ) (byte : ℕ) → grown.HasNone Valid print text → ¬ (IsDue (text ++ byte ∷ [])) → grown.HasNone Valid print (text ++ byte ∷ [])
 none_before_due Valid print ends text byte none not_yet head rest reads = elim (grown.push_split text byte (print head) rest reads.1) [

@@ -1,5 +1,6 @@
 -- A body in chunks (RFC 9112, section 7.1): its lines and its trailers are what `httparse` takes.
-use Rattle.std.specs.Prelude.{◌≡◌, ℕ, ◌+◌, ◌<◌, ◌≤◌, ◌⊎◌, ◌==◌, if◌then◌else◌, List, [], ◌∷◌, ◌++◌, length}
+use Rattle.std.specs.Prelude.{◌≡◌, ℕ, ◌+◌, ◌<◌, ◌≤◌, ◌⊎◌, ◌==◌, if◌then◌else◌, List, [], ◌∷◌, ◌++◌}
+use Rattle.std.specs.Prelude.{length}
 use Rattle.std.specs.Prelude.{All, Option, Result, Ok, Err}
 use Rattle.std.specs.List.{flat_map}
 use Rattle.std.specs.Io.KnownBytes.{IsAtEnd}
@@ -17,7 +18,7 @@ pub record Chunk : Type 0 where
   pub line : ChunkLine
   pub bytes : List ℕ
 
--- a chunk's bytes: its data stands between its line and CR LF
+-- a chunk's bytes: its data is between its line and CR LF
 abbrev pub print_chunk : Chunk → List ℕ
 print_chunk chunk = print_chunk_line chunk.line ++ (chunk.bytes ++ crlf_bytes)
 
@@ -36,7 +37,7 @@ pub record IsChunk (most : ℕ) (chunk : Chunk) : Type 0 where
 abbrev pub data_of : List Chunk → List ℕ
 data_of chunks = flat_map (λ (chunk : Chunk). chunk.bytes) chunks
 
--- the fields behind the last chunk, and the empty line that ends them
+-- the fields after the last chunk, and the empty line that ends them
 pub record Trailers : Type 0 where
   pub fields : List Field
   pub last : LineEnd
@@ -112,7 +113,7 @@ LacksTrailers limits text left failed faults.BadHead = ⊥
 LacksTrailers limits text left failed faults.BadLength = ⊥
 LacksTrailers limits text left failed faults.TooLarge = ⊥
 
--- The text came behind the chunks that have those bytes of data, then these were left, and the
+-- The text came after the chunks that have those bytes of data, then these were left, and the
 -- answer is for this cause: the last chunk's line and trailers came; a line came that passes the
 -- limit of the body; no line came; a line came and not its data; or the last line came and no
 -- trailers.

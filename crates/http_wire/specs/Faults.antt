@@ -9,8 +9,8 @@ abbrev pub CountsFailedRead : {T : Type 0} → Result T HttpFault → ℕ → �
 CountsFailedRead (Err faults.Device) old new = new ≡ one_more old
 CountsFailedRead _ old new = new ≡ old
 
--- The same of a head that is lacking: a text that can't begin one is told as that also where a read
--- failed behind it. (profile)
+-- The same of a head that is lacking: a text that can't begin one is reported as that also where a
+-- read failed after it. (profile)
 abbrev pub CountsAtHead : HttpFault → ℕ → ℕ → Type 0
 CountsAtHead faults.Device old new = new ≡ one_more old
 CountsAtHead faults.Ended old new = new ≡ old

@@ -1,5 +1,6 @@
 -- The fields of a head, and what they say (RFC 9110, sections 5, 8.6 and 10.2.3).
-use Rattle.std.specs.Prelude.{ℕ, ◌-◌, ◌^◌, Bool, ◌&&◌, ◌≡◌, ◌≤◌, ⊤, List, [], ◌∷◌, length, map, min, All}
+use Rattle.std.specs.Prelude.{ℕ, ◌-◌, ◌^◌, Bool, ◌&&◌, ◌≡◌, ◌≤◌, ⊤, List, [], ◌∷◌, length, map, min}
+use Rattle.std.specs.Prelude.{All}
 use Rattle.std.specs.Prelude.{nat_lt, bytes_eq, if◌then◌else◌, Option, Some, None, option_map}
 use Rattle.std.specs.Prelude.{Result, Ok, Err}
 use Rattle.std.specs.List.{list_all}

@@ -1,5 +1,6 @@
 -- What the parts of a body in chunks are, as they are read.
-use Rattle.std.specs.Prelude.{◌≡◌, ◌≢◌, ℕ, ◌<◌, ◌≤◌, ◌⊎◌, ⊤, Bool, true, false, List, [], ◌∷◌, ◌++◌, length}
+use Rattle.std.specs.Prelude.{◌≡◌, ◌≢◌, ℕ, ◌<◌, ◌≤◌, ◌⊎◌, ⊤, Bool, true, false, List, [], ◌∷◌, ◌++◌}
+use Rattle.std.specs.Prelude.{length}
 use Rattle.std.specs.Prelude.{Option, Some, None, Result, Ok, Err}
 use Rattle.std.specs.Io.KnownBytes.{IsAtEnd}
 use Rattle.httparse.specs.Ascii.{crlf_bytes}
@@ -32,7 +33,7 @@ ParsesLine text (Err faults.BadLength) = ⊥
 ParsesLine text (Err faults.TooLarge) = ⊥
 ParsesLine text (Err faults.OutOfMemory) = ⊥
 
--- the bytes ended behind the text of a line, which can begin one or not
+-- the bytes ended after the text of a line, which can begin one or not
 pub data IsStoppedLine (text : List ℕ) (answer : HttpFault) : Type 0 where
   unfinished : MayBecomeChunkLine text → answer ≡ faults.Ended → IsStoppedLine text answer
   bad : NeverHasChunkLine text → answer ≡ faults.BadChunk → IsStoppedLine text answer
@@ -64,13 +65,13 @@ ParsesTrailers text room (Err faults.BadLength) = ⊥
 ParsesTrailers text room (Err faults.TooLarge) = ⊥
 ParsesTrailers text room (Err faults.OutOfMemory) = ⊥
 
--- the bytes ended behind the text of trailers, which can begin some or not
+-- the bytes ended after the text of trailers, which can begin some or not
 pub data IsStoppedTrailers (text : List ℕ) (room : ℕ) (answer : HttpFault) : Type 0 where
   unfinished : MayBecomeSection text → answer ≡ faults.Ended → IsStoppedTrailers text room answer
   bad : NeverHasSection text → answer ≡ faults.BadChunk → IsStoppedTrailers text room answer
   over : room < ended_lines text → answer ≡ faults.BadChunk → IsStoppedTrailers text room answer
 
--- data of that size and CR LF were taken, and the data was put behind the bytes
+-- data of that size and CR LF were taken, and the data was put after the bytes
 pub record TakesData (size : ℕ) (taken before after : List ℕ) : Type 0 where
   pub added : List ℕ
   pub size_of : length added ≡ size

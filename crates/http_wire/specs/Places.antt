@@ -11,7 +11,7 @@ use Rattle.http_wire.specs.declared.place.LinePart.TheVariants as parts
 abbrev pub AreLines : List ℕ → Type 0
 AreLines text = (text ≡ []) ⊎ ((front : List ℕ) × (text ≡ front ++ line_feed ∷ []))
 
--- empty lines alone, which may stand in front of a head
+-- empty lines alone, which may be in front of a head
 abbrev pub AreBlank : List ℕ → Type 0
 AreBlank lines = (ends : List LineEnd) × (lines ≡ print_blank ends)
 
@@ -23,8 +23,8 @@ IsUnended line = (front rest : List ℕ) → line ≢ front ++ line_feed ∷ res
 abbrev pub IsEmptyLine : List ℕ → Type 0
 IsEmptyLine line = (line ≡ []) ⊎ (line ≡ carriage_return ∷ [])
 
--- behind the last byte of the text a parse is due: it ends the first line that isn't empty, or an
--- empty line behind that
+-- after the last byte of the text a parse is due: it ends the first line that isn't empty, or an
+-- empty line after that
 pub record IsDue (text : List ℕ) : Type 0 where
   pub lines : List ℕ
   pub line : List ℕ
@@ -50,7 +50,7 @@ is_text parts.Nothing = false
 is_text parts.Return = false
 is_text parts.Text = true
 
--- the place is that behind this text: whole lines, and a line that has no end yet
+-- the place is that after this text: whole lines, and a line that has no end yet
 pub record IsPlace (text : List ℕ) (place : HeadPlace) : Type 0 where
   pub lines : List ℕ
   pub line : List ℕ

@@ -5,7 +5,9 @@ ghost use Rattle.std.specs.Io.KnownBytes.{Consumes};
 ghost use Rattle.std.specs.Result.{result_map_both};
 ghost use Rattle.http_header.specs.HeaderMap.{get_all};
 ghost use Rattle.http_wire.specs.Faults.{CountsFailedRead};
-ghost use Rattle.http_wire.specs.Bodies.{framing_by_coding, framing_by_fields, framing_view, is_chunked, request_framing, IsBody, IsBodyToEnd, IsSizedBody};
+ghost use Rattle.http_wire.specs.Bodies.{framing_by_coding, framing_by_fields, framing_view};
+ghost use Rattle.http_wire.specs.Bodies.{is_chunked, request_framing, IsBody, IsBodyToEnd};
+ghost use Rattle.http_wire.specs.Bodies.{IsSizedBody};
 ghost use Rattle.http_wire.specs.Chunks.{IsChunkedBody};
 ghost use Rattle.http_wire.specs.Devices.{HasFailed};
 ghost use Rattle.http_wire.specs.Fields.{NameAndValue, KeepsFields};
@@ -131,7 +133,7 @@ fn read_sized<R: FaultRead, A: Allocator>(
 }
 
 /// Reads a body in chunks, and no further than the end of its trailers. A chunk by which the sum of
-/// all would pass the limit is refused behind its line.
+/// all would pass the limit is refused after its line.
 fn read_chunks<R: FaultRead, A: Allocator + Copy>(
     alloc: A,
     reader: &mut R,
@@ -206,10 +208,10 @@ fn read_to_end<R: FaultRead, A: Allocator>(
 /// # Errors
 ///
 /// `BadLength` where it isn't known how far it goes, and `TooLarge` where it has more bytes than
-/// the limit: of one that has a size, no byte was read then, and of one in chunks, none behind the
+/// the limit: of one that has a size, no byte was read then, and of one in chunks, none after the
 /// line by which the sum of the sizes passes the limit. `BadChunk` where no chunk's line or no
-/// trailers stand where they are due, or are longer than a head may be, where the trailers have
-/// more fields than a head may have, or where no CR LF stands behind a chunk's data. `Ended` where
+/// trailers are where they are due, or are longer than a head may be, where the trailers have
+/// more fields than a head may have, or where no CR LF comes after a chunk's data. `Ended` where
 /// the bytes ended before its size, or within its chunks; `Device` where a read failed;
 /// `OutOfMemory` where memory for it, or for a line of it, was refused.
 pub fn read_body<R: FaultRead, A: Allocator + Copy>(

@@ -3,10 +3,12 @@
 ghost use Rattle.std.specs.Prelude.{◌≡◌, ◌<◌, ◌≤◌, ◌++◌, ℕ, List, length, IfErr, IfOk, OnOk};
 ghost use Rattle.std.specs.Io.KnownBytes.{Consumes};
 ghost use Rattle.httparse.specs.Grammar.{HasNoChunkLine};
-ghost use Rattle.http_wire.specs.Chunks.{HasNoTrailers, IsTrailers, LacksData, LacksLine, LacksTrailers, print_trailers, Trailers};
+ghost use Rattle.http_wire.specs.Chunks.{HasNoTrailers, IsTrailers, LacksData, LacksLine};
+ghost use Rattle.http_wire.specs.Chunks.{LacksTrailers, print_trailers, Trailers};
 ghost use Rattle.http_wire.specs.Devices.{HasFailed};
 ghost use Rattle.http_wire.specs.Faults.{CountsFailedRead};
-ghost use Rattle.http_wire.specs.Parses.{FindsLine, IsExactly, IsExpected, IsStoppedLine, IsStoppedTrailers, ParsesLine, ParsesTrailers, TakesData};
+ghost use Rattle.http_wire.specs.Parses.{FindsLine, IsExactly, IsExpected, IsStoppedLine};
+ghost use Rattle.http_wire.specs.Parses.{IsStoppedTrailers, ParsesLine, ParsesTrailers, TakesData};
 
 use crate::device::FaultRead;
 use crate::fault::HttpFault;
@@ -39,7 +41,7 @@ fn stopped_line(text: &[u8]) -> HttpFault
     }
 }
 
-/// Reads a chunk's line of at most so many bytes, byte by byte so that none behind it is taken, and
+/// Reads a chunk's line of at most so many bytes, byte by byte so that none after it is taken, and
 /// answers the size that it says. A line ends by a line feed, so only there it is parsed.
 pub(crate) fn read_line<R: FaultRead, A: Allocator>(
     reader: &mut R,
@@ -72,7 +74,7 @@ pub(crate) fn read_line<R: FaultRead, A: Allocator>(
     Err(HttpFault::BadChunk)
 }
 
-/// Reads `size` bytes, puts them behind those of `body`, and reads no further.
+/// Reads `size` bytes, puts them after those of `body`, and reads no further.
 pub(crate) fn read_exactly<R: FaultRead, A: Allocator>(
     reader: &mut R,
     size: u64,
@@ -118,7 +120,7 @@ fn read_expected<R: FaultRead>(reader: &mut R, expected: u8) -> Result<(), HttpF
     }
 }
 
-/// Reads a chunk's data of that size and the CR LF behind it, and puts the data behind the bytes of
+/// Reads a chunk's data of that size and the CR LF after it, and puts the data after the bytes of
 /// `body`.
 pub(crate) fn read_data<R: FaultRead, A: Allocator>(
     reader: &mut R,
@@ -173,7 +175,7 @@ fn stopped_trailers(text: &[u8], limits: &HeadLimits, spans: &mut [HeaderSpan]) 
     }
 }
 
-/// Reads the trailers, byte by byte so that none behind them is taken, and lets them go. They end
+/// Reads the trailers, byte by byte so that none after them is taken, and lets them go. They end
 /// by a line feed, so only there they are parsed.
 pub(crate) fn read_trailers<R: FaultRead, A: Allocator>(
     reader: &mut R,

@@ -17,7 +17,7 @@ pub struct DeviceFailed;
 /// A reader that counts its failures. The count stops at `u64::MAX` (profile).
 ///
 /// Heads of messages, and the lines and trailers of chunks, are read from it byte by byte, so that
-/// nothing behind a message is taken. A reader whose calls are dear, as those of a socket are, is
+/// nothing after a message is taken. A reader whose calls are dear, as those of a socket are, is
 /// given a buffer below: [`Counted`] over a `BufReader`. Without one each byte costs a call of the
 /// system.
 pub trait FaultRead {

@@ -21,7 +21,7 @@ pub enum HttpFault {
     #[error("bad length")]
     BadLength,
     /// Of a body in chunks, a line or the trailers are none or pass the limits of a head, or no CR
-    /// LF stands behind a chunk's data (RFC 9112, section 7.1; the limits: profile).
+    /// LF comes after a chunk's data (RFC 9112, section 7.1; the limits: profile).
     #[error("bad chunk")]
     BadChunk,
     /// The head or the body passes its limit: of a body in chunks, the sum of the sizes does.

@@ -1,6 +1,7 @@
 //! The fields of a head.
 
-ghost use Rattle.std.specs.Prelude.{◌≡◌, ◌<◌, ◌≤◌, ◌⊎◌, length, map, codes, bytes_eq, All, IfOk, IfErr, IsErrOf, OnOk, Some, None, if◌then◌else◌};
+ghost use Rattle.std.specs.Prelude.{◌≡◌, ◌<◌, ◌≤◌, ◌⊎◌, length, map, codes, bytes_eq, All, IfOk};
+ghost use Rattle.std.specs.Prelude.{IfErr, IsErrOf, OnOk, Some, None, if◌then◌else◌};
 ghost use Rattle.std.specs.List.{list_all};
 ghost use Rattle.std.specs.Char.{is_ascii_digit};
 ghost use Rattle.std.specs.Str.Parse.{digits_value};
@@ -8,7 +9,8 @@ ghost use Rattle.http_header.specs.FieldValue.{plain_value};
 ghost use Rattle.http_header.specs.HeaderMap.{append, get_all, RefusesAppend};
 ghost use Rattle.http_header.specs.Token.{lowercase};
 ghost use Rattle.httparse.specs.Spans.{header_bytes, IsHeaderWithin};
-ghost use Rattle.http_wire.specs.Fields.{content_length, is_digits, is_length, retry_after, asked_wait, IsTaken, KeepsFields, RefusesFields};
+ghost use Rattle.http_wire.specs.Fields.{content_length, is_digits, is_length, retry_after};
+ghost use Rattle.http_wire.specs.Fields.{asked_wait, IsTaken, KeepsFields, RefusesFields};
 
 use crate::fault::HttpFault;
 use http_header::{

@@ -38,9 +38,9 @@ impl LinePart {
     }
 }
 
-/// Where in a head one is, by the bytes so far. It tells behind which of them they are to be
-/// parsed, so that the time for a head goes by its length and not by its lines: behind the first
-/// line that isn't empty, and behind an empty line after it, which ends a head (RFC 9112, sections
+/// Where in a head one is, by the bytes so far. It tells after which of them they are to be
+/// parsed, so that the time for a head goes by its length and not by its lines: after the first
+/// line that isn't empty, and after an empty line after it, which ends a head (RFC 9112, sections
 /// 2.1 and 2.2). It keeps no bytes.
 #[derive(Clone, Copy, Debug)]
 pub struct HeadPlace {
@@ -67,7 +67,7 @@ impl HeadPlace {
         }
     }
 
-    /// Takes a line feed, and answers whether a parse is due behind it.
+    /// Takes a line feed, and answers whether a parse is due after it.
     fn end_line(&mut self) -> bool
         ensures due { (text : List ℕ) → IsPlace text self.old
             → (IsTrue result ↔ IsDue (text ++ 10 ∷ [])) }
@@ -81,7 +81,7 @@ impl HeadPlace {
         due
     }
 
-    /// Takes the next byte, and answers whether a parse is due behind it: elsewhere no front of the
+    /// Takes the next byte, and answers whether a parse is due after it: elsewhere no front of the
     /// bytes becomes a head.
     pub fn pass(&mut self, byte: u8) -> bool
         ensures due { (text : List ℕ) → IsPlace text self.old

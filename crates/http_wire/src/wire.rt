@@ -67,7 +67,7 @@ impl<A: Allocator> Model for FailingWire<A> {
 }
 
 impl<A: Allocator> FailingWire<A> {
-    /// A wire that gives `input`, and takes bytes behind those of `output`, at most `most` a call.
+    /// A wire that gives `input`, and takes bytes after those of `output`, at most `most` a call.
     /// A write takes memory only where `output` hasn't room for it. (profile)
     pub fn new(
         input: Vec<u8, A>,
@@ -103,7 +103,7 @@ impl<A: Allocator> FailingWire<A> {
         &self.input[self.given..]
     }
 
-    /// The bytes that it took, behind those of the output that it was made with.
+    /// The bytes that it took, after those of the output that it was made with.
     pub fn taken(&self) -> &[u8]
         ensures { result.now ≡ self.now.taken }
     {

@@ -1,7 +1,7 @@
 -- A reply that is known to be another.
 use Rattle.std.proofs.Common.{◌≡◌, ℕ, List, Option, subst}
-use Rattle.message_model.specs.Tables
-use Rattle.message_model.specs.Tables.{Message}
+use Rattle.model_message.specs.Tables
+use Rattle.model_message.specs.Tables.{Message}
 use Rattle.http_wire.specs.declared.limits.HeadLimits.{HeadLimits}
 use Rattle.otlp_serve.specs.declared.reply.PostReply.{PostReply}
 use Rattle.otlp_collector.specs.declared.canned.Canned.{Canned}

@@ -3,15 +3,16 @@
 use Rattle.std.specs.Prelude.{◌≡◌, ℕ, ◌<◌, List, [], length, take, Option, Some, None, option_map}
 use Rattle.std.specs.Option.{option_map_or}
 use Rattle.std.specs.Io.KnownBytes.{Appends}
-use Rattle.message_model.specs.Reading.{Reads}
-use Rattle.message_model.specs.Messages.{meaning}
-use Rattle.message_model.specs.Tables
-use Rattle.message_model.specs.Tables.{Message}
+use Rattle.model_message.specs.Reading.{Reads}
+use Rattle.model_message.specs.Messages.{meaning}
+use Rattle.model_message.specs.Tables
+use Rattle.model_message.specs.Tables.{Message}
 use Rattle.http_wire.specs.Devices.{HasFailed}
 use Rattle.http_wire.specs.declared.limits.HeadLimits.{HeadLimits}
 use Rattle.otlp_message.specs.Faults.{NamesOne}
 use Rattle.otlp_message.specs.declared.fault.ReadFault.{ReadFault}
-use Rattle.otlp_message.specs.declared.fault.ReadFault.TheVariants.{Wire, BadUtf8, TooDeep, OutOfMemory}
+use Rattle.otlp_message.specs.declared.fault.ReadFault.TheVariants.{Wire, BadUtf8, TooDeep}
+use Rattle.otlp_message.specs.declared.fault.ReadFault.TheVariants.{OutOfMemory}
 use Rattle.otlp_serve.specs.Answers.{plain_reply, refusal_of, reply_to_fault}
 use Rattle.otlp_serve.specs.Posts.{HttpPost, IsPost, HasNoPost, CountsAtPost}
 use Rattle.otlp_serve.specs.Replies.{code_of, reply_text}
@@ -80,7 +81,7 @@ pub record Serves (limits : HeadLimits) (canned : Option Canned) (old new : Opti
   pub status_is : status ≡ option_map (λ r. code_of r.status) reply
   pub writes_it : Appends written writes (option_map_or reply_text reply [])
 
--- the reply broke off behind so many bytes
+-- the reply broke off after so many bytes
 pub record Breaks (limits : HeadLimits) (canned : Option Canned) (old new : Option (List ℕ))
     (before after : ℕ) (written writes : Option (List ℕ)) (sent : ℕ) : Type 0 where
   pub reply : PostReply

@@ -1,1 +1,4 @@
 pub mod Answering
+pub mod Lines
+pub mod Printed
+pub mod Words

@@ -1,4 +1,4 @@
-//! Replies that stand in place of a 200.
+//! Replies that are in place of a 200.
 
 ghost use Rattle.std.specs.Prelude.{◌≡◌};
 ghost use Rattle.otlp_collector.specs.Answering.{canned_reply, canned_status};
@@ -6,7 +6,7 @@ ghost use Rattle.otlp_collector.specs.Answering.{canned_reply, canned_status};
 use otlp_serve::{PostReply, ReplyStatus};
 
 /// A status of a reply that is canned: that of a collector that takes a request, or of one that
-/// takes it and fails behind it (OTLP Specification, "Retryable Response Codes").
+/// takes it and fails after it (OTLP Specification, "Retryable Response Codes").
 #[derive(Clone, Copy, Debug, PartialEq, Eq)]
 pub enum CannedStatus {
     /// 200.
@@ -21,8 +21,8 @@ pub enum CannedStatus {
     GatewayTimeout,
 }
 
-/// What stands in place of a 200, so that clients can be tried: a status, and after how many
-/// seconds they may try again, if that is told. The request is taken all the same. (profile)
+/// What is in place of a 200, so that clients can be tried: a status, and after how many
+/// seconds they may try again, if the reply says so. The request is taken all the same. (profile)
 #[derive(Clone, Copy, Debug, PartialEq, Eq)]
 pub struct Canned {
     /// The status.

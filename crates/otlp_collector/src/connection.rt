@@ -6,7 +6,7 @@ ghost use Rattle.otlp_read.specs.Requests.{request_view};
 ghost use Rattle.otlp_collector.specs.Answering.{Breaks, Serves};
 
 use crate::canned::Canned;
-use crate::judge::{Judged, judge};
+use crate::judge::{Verdict, judge};
 use otlp_read::Request;
 use otlp_serve::{FaultRead, FaultWrite, HeadLimits, Stopped, write_reply};
 use std::alloc::{Allocator, Global};
@@ -22,14 +22,14 @@ pub struct Answered<A: Allocator = Global> {
     pub request: Option<Request<A>>,
 }
 
-/// Serves a connection: reads one request, and no byte behind it, and writes one reply (OTLP
+/// Serves a connection: reads one request, and no byte after it, and writes one reply (OTLP
 /// Specification, "OTLP/HTTP Request", "OTLP/HTTP Response").
 ///
 /// The reply is the first of these that holds (the order: profile): none where the connection ended
 /// or failed before the request was there; 503, and to try again in a second, where memory was
 /// refused; 400 where what came is no request, its body's chunks too; 431 where its head is above
 /// the limits, 413 where its body is, before a byte of it is read, or of one in chunks, before a
-/// byte behind the line by which they pass the limit; 404 where its target up to a `?` isn't
+/// byte after the line by which they pass the limit; 404 where its target up to a `?` isn't
 /// `/v1/traces`; 405 where its method isn't POST; 415 where it has no Content-Type, the first one
 /// isn't `application/x-protobuf`, or a Content-Encoding isn't `identity`; 400 where its body can't
 /// be read as a request of traces, or 503 as before where memory was refused; what is canned; 200.
@@ -67,7 +67,7 @@ pub fn answer<R: FaultRead, W: FaultWrite, A: Allocator + Copy>(
         (W.contents writer.old) (W.contents writer.new) stopped.sent) }
     ensures counted { CountsFailure result (W.failures writer.old) (W.failures writer.new) }
 {
-    let Judged { reply, request } = judge(alloc, global, reader, limits, canned);
+    let Verdict { reply, request } = judge(alloc, global, reader, limits, canned);
     let Some(reply) = reply else {
         return Ok(Answered {
             status: None,

@@ -11,7 +11,7 @@ use std::alloc::{Allocator, Global};
 
 /// What a connection is answered, if anything, and the request that was taken, if any.
 #[derive(Drop)]
-pub(crate) struct Judged<A: Allocator> {
+pub(crate) struct Verdict<A: Allocator> {
     pub(crate) reply: Option<PostReply>,
     pub(crate) request: Option<Request<A>>,
 }
@@ -39,7 +39,7 @@ pub(crate) fn judge<R: FaultRead, A: Allocator + Copy>(
     reader: &mut R,
     limits: &HeadLimits,
     canned: Option<Canned>,
-) -> Judged<A>
+) -> Verdict<A>
     requires { limits.now.fields ≤ 64 }
     ensures { Judges limits.now canned (R.remaining reader.old) (R.remaining reader.new)
         (R.failures reader.old) (R.failures reader.new)
@@ -48,24 +48,24 @@ pub(crate) fn judge<R: FaultRead, A: Allocator + Copy>(
     let post = match read_post(alloc, global, reader, limits) {
         Ok(post) => post,
         Err(fault) => {
-            return Judged {
+            return Verdict {
                 reply: fault.reply(),
                 request: None,
             };
         }
     };
     if let Some(reply) = post.refusal() {
-        return Judged {
+        return Verdict {
             reply: Some(reply),
             request: None,
         };
     }
     match read_request(alloc, &post.body) {
-        Ok(request) => Judged {
+        Ok(request) => Verdict {
             reply: Some(canned_reply(canned)),
             request: Some(request),
         },
-        Err(fault) => Judged {
+        Err(fault) => Verdict {
             reply: Some(reply_to_unread(fault)),
             request: None,
         },

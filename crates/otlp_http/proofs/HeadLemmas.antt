@@ -33,7 +33,7 @@ head_ends head =
 pub none_of_nothing : HasNoResponse []
 none_of_nothing = grown.none_of_nothing IsResponseHead print_response head_ends
 
--- a parse is due behind a head
+-- a parse is due after a head
 head_due : (head : ResponseHead) → IsResponseHead head → IsDue (print_response head)
 unfolding print_response
 head_due head valid =
@@ -47,7 +47,7 @@ head_due head valid =
     regroup : (a b c d e f : List ℕ) → a ++ (72 ∷ b) ++ 32 ∷ c ++ d ++ e ++ f ≡ (a ++ 72 ∷ (b ++ 32 ∷ c ++ d) ++ e) ++ f
     regroup a b c d e f = simp (append_assoc, cons-append)
 
--- a byte behind which none is due makes no head
+-- a byte after which none is due makes no head
 pub none_yet : (text : List ℕ) (b : ℕ) → HasNoResponse text → ¬ (IsDue (text ++ b ∷ [])) → HasNoResponse (text ++ b ∷ [])
 none_yet = none_before_due IsResponseHead print_response head_due
 

@@ -1,12 +1,13 @@
 -- What a reply, or the lack of one, means for the batch that was sent. (OTLP Specification,
 -- OTLP/HTTP Response; which faults are no reply: profile)
-use Rattle.std.specs.Prelude.{ℕ, ℤ, pos, int_lt, nat_le, Bool, ◌&&◌, ◌||◌, ◌==◌, if◌then◌else◌, List, [], ◌∷◌, option_map, Result, Ok, Err}
+use Rattle.std.specs.Prelude.{ℕ, ℤ, pos, int_lt, nat_le, Bool, ◌&&◌, ◌||◌, ◌==◌, if◌then◌else◌}
+use Rattle.std.specs.Prelude.{List, [], ◌∷◌, option_map, Result, Ok, Err}
 use Rattle.std.specs.Result.{result_map_both}
-use Rattle.message_model.specs.Reading.{Reading, Fault}
-use Rattle.message_model.specs.Tables
-use Rattle.message_model.specs.Tables.{Message}
-use Rattle.message_model.specs.Messages.{meaning}
-use Rattle.retry_model.specs.Retries.{Outcome, delivered, later, no_reply, bad}
+use Rattle.model_message.specs.Reading.{Reading, Fault}
+use Rattle.model_message.specs.Tables
+use Rattle.model_message.specs.Tables.{Message}
+use Rattle.model_message.specs.Messages.{meaning}
+use Rattle.model_retry.specs.Retries.{Outcome, delivered, later, no_reply, bad}
 use Rattle.retry_core.specs.Retries.{retry_after_view}
 use Rattle.otlp_message.specs.Response.{rejected_in}
 use Rattle.http_wire.specs.declared.fault.HttpFault.{HttpFault}

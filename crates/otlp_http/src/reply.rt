@@ -26,7 +26,7 @@ pub struct Reply<A: Allocator = Global> {
     /// Its status, from 200 to 999 or below 100.
     pub status: u16,
     /// When it asks to be tried again, if it does: what its first Retry-After says (RFC 9110,
-    /// section 10.2.3). A number of seconds above `u64::MAX` counts as that, a date is told in
+    /// section 10.2.3). A number of seconds above `u64::MAX` counts as that, a date is reported in
     /// seconds since 1970, and any other value counts as none. (profile)
     pub retry_after: Option<RetryAfter>,
     /// Its body, or why that can't be had.
@@ -79,7 +79,7 @@ fn framing_of(status: u16, kept: &HeaderMap) -> Framing
     framing_by_fields(kept, Framing::ToEnd)
 }
 
-/// Reads a reply, and no byte behind it (RFC 9112, sections 2.2, 4, 5 and 6.3). Heads are what
+/// Reads a reply, and no byte after it (RFC 9112, sections 2.2, 4, 5 and 6.3). Heads are what
 /// `httparse` reads by default. Heads with a status from 100 to 199 are skipped, 16 at most
 /// (profile). A reply with status 204 or 304 has no body. Where Transfer-Encoding stands, the body
 /// comes in chunks if that is one field, `chunked` in any case of letters, and else its length
@@ -88,7 +88,7 @@ fn framing_of(status: u16, kept: &HeaderMap) -> Framing
 /// go (RFC 9112, section 7.1). A read that failed is not tried again.
 ///
 /// Heads, lines of chunks and trailers are read byte by byte: from a socket without a buffer below,
-/// each of their bytes costs a call of the system. A head is parsed behind its first line, at its
+/// each of their bytes costs a call of the system. A head is parsed after its first line, at its
 /// end and where the reading stops, so its time goes by its length. (profile)
 ///
 /// The text of the heads, while the call lasts, and the body are kept by `alloc`, and the fields,
@@ -103,12 +103,12 @@ fn framing_of(status: u16, kept: &HeaderMap) -> Framing
 /// allow; `OutOfMemory` where memory for it was refused. The reader is left where it was read up
 /// to, at most at the end of a head: of one whose first line is bad, at the end of that.
 ///
-/// Behind the head, the body's error stands in [`Reply::body`]: `Ended` where the bytes ended
+/// After the head, the body's error is in [`Reply::body`]: `Ended` where the bytes ended
 /// before so many had come as Content-Length says, or within chunks; `Device` where a read failed;
 /// `BadLength` where Transfer-Encoding is anything but `chunked`, or where Content-Length isn't one
 /// number of digits that fits 64 bits, in one field or in several of equal text; `BadChunk` where a
 /// chunk's line or the trailers are bad or longer than a head may be, the trailers have more fields
-/// than a head may have, or no CR LF stands behind a chunk's data; `TooLarge` where the body has
+/// than a head may have, or no CR LF comes after a chunk's data; `TooLarge` where the body has
 /// more bytes than the limit, told by Content-Length before any of them is read, and by a chunk's
 /// line before any of its data; `OutOfMemory` where memory for it was refused.
 pub fn read_reply<R: FaultRead, A: Allocator + Copy>(

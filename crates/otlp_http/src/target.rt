@@ -71,14 +71,14 @@ impl<A: Allocator> Model for Target<A> {
     }) };
 }
 
-/// Whether each byte may stand in a host.
+/// Whether each byte may be in a host.
 fn are_host_bytes(bytes: &[u8]) -> bool
     ensures { result ≡ list_all is_host_byte bytes.now }
 {
     bytes.iter().all(|b| b.is_ascii_alphanumeric() || (*b == b'.' || *b == b'-'))
 }
 
-/// Whether each byte may stand in a path.
+/// Whether each byte may be in a path.
 fn are_path_bytes(bytes: &[u8]) -> bool
     ensures { result ≡ list_all is_path_byte bytes.now }
 {

@@ -6,8 +6,8 @@ use Rattle.std.specs.List.{find, flat_map, range_with_len}
 use Rattle.rand_core.specs.Stream.{Stream, next_u64}
 use Rattle.rand_core.specs.Steps.{word_bytes}
 use Rattle.std.specs.Int.{to_be_bytes}
-use Rattle.span_model.specs.Identifiers.{Words, bytes_at, draw, first_valid, identifier, words_after, words_spent}
-use Rattle.span_model.specs.Spans.{is_id}
+use Rattle.model_span.specs.Identifiers.{Words, bytes_at, draw, first_valid, identifier, words_after, words_spent}
+use Rattle.model_span.specs.Spans.{is_id}
 use Rattle.otlp_ids.specs.WordStream.{after_words, words_of}
 
 -- the last of the places
@@ -18,7 +18,7 @@ flat_map-range_suc f place (suc n) =
     let same : place + suc n ≡ place + 1 + n = omega arith in
     rw same (ap (λ (bs : List ℕ). f place ++ bs) (flat_map-range_suc f (place + 1) n) ∙ sym (append_assoc (f place) (flat_map f (range_with_len (place + 1) n)) (f (place + 1 + n))))
 
--- the bytes of the words that come behind others are those at their places
+-- the bytes of the words that come after others are those at their places
 pub word_bytes-at : (bytes : ℕ → List ℕ) (s : Stream) (place n : ℕ)
     → word_bytes bytes next_u64 n (after_words place s)
     ≡ (flat_map (λ k. bytes (words_of s k)) (range_with_len place n), after_words (place + n) s)
@@ -51,7 +51,7 @@ find-none p a (suc n) fails =
     let shifted : a + 1 + k ≡ a + suc k = omega arith in rw shifted (fails (suc k) (omega arith))) in
     rw not_here rest
 
--- the words behind a place are those of the stream that is left there
+-- the words after a place are those of the stream that is left there
 pub words-shifted : (bytes : ℕ → List ℕ) (s : Stream) (place n : ℕ)
     → ◌≡◌ {A = List ℕ × Stream} (flat_map (λ k. bytes (words_of (after_words place s) k)) (range_with_len 0 n), after_words n (after_words place s))
     (flat_map (λ k. bytes (words_of s k)) (range_with_len place n), after_words (place + n) s)
@@ -71,7 +71,7 @@ filled bytes s t k m n xs wrote whole same =
     let run : (xs, t) ≡ word_bytes bytes next_u64 k s = rw (take_all n xs whole) at wrote in
     rw (← same) (run ∙ rw zero-add at (word_bytes-at bytes s 0 k))
 
--- what a draw of n words gives, behind i others
+-- what a draw of n words gives, after i others
 pub drawn : (n i m : ℕ) (s t u : Stream) (bs : List ℕ) → t ≡ after_words (n * i) s → u ≡ after_words m t
     → bs ≡ bytes_at (words_of t) 0 m → m ≡ n → (bs ≡ draw n (words_of s) i) × (u ≡ after_words (n * (i + 1)) s)
 drawn n i m s t u bs before rest read same =
@@ -105,7 +105,7 @@ unfolding after_words
 after_words-after_words n zero s = rw add-zero refl
 after_words-after_words n (suc k) s = rw (add-suc n k) (ap (λ (t : Stream). (next_u64 t).1) (after_words-after_words n k s))
 
--- the words that are left are those behind the ones that are spent
+-- the words that are left are those after the ones that are spent
 pub words_of-after_words : (n : ℕ) (s : Stream) → words_of (after_words n s) ≡ words_after n (words_of s)
 unfolding words_of
 words_of-after_words n s = fun_ext (λ k. ap (λ (t : Stream). (next_u64 t).0) (after_words-after_words n k s))

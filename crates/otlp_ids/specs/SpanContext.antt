@@ -2,7 +2,7 @@
 use Rattle.std.specs.Prelude.{Option, option_map, string_bytes}
 use Rattle.std.specs.Borrow.{Bor}
 use Rattle.std.specs.Option.{option_copied}
-use Rattle.span_model.specs.Spans.{Context}
+use Rattle.model_span.specs.Spans.{Context}
 use Rattle.otlp_ids.specs.declared.SpanContext.{SpanContext}
 
 abbrev pub context_view : {A : Type 0} → SpanContext A → Context

@@ -1,7 +1,7 @@
 -- The 64-bit words that a generator of random numbers gives.
 use Rattle.std.specs.Prelude.{◌≡◌, ℕ, zero, suc}
 use Rattle.rand_core.specs.Stream.{Stream, next_u64}
-use Rattle.span_model.specs.Identifiers.{Words, words_after}
+use Rattle.model_span.specs.Identifiers.{Words, words_after}
 
 -- what the generator will answer after so many words
 unfoldable pub after_words : ℕ → Stream → Stream

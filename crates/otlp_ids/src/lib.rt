@@ -2,13 +2,16 @@
 //! and what is answered where memory is refused.
 #![tactic(auto)]
 
-ghost use Rattle.std.specs.Prelude.{◌≡◌, ◌≢◌, ◌*◌, ◌/◌, ◌%◌, ◌^◌, ◌<◌, ◌↔◌, ◌∷◌, [], false, IfOk, IfSome, IsErrOf, IsOk, IsOkUnless, IsTrue, OnErr, Some, length, string_bytes};
+ghost use Rattle.std.specs.Prelude.{◌≡◌, ◌≢◌, ◌*◌, ◌/◌, ◌%◌, ◌^◌, ◌<◌, ◌↔◌, ◌∷◌, [], false, IfOk};
+ghost use Rattle.std.specs.Prelude.{IfSome, IsErrOf, IsOk, IsOkUnless, IsTrue, OnErr, Some, length};
+ghost use Rattle.std.specs.Prelude.{string_bytes};
 ghost use Rattle.std.specs.Fmt.{DisplaysOnOk};
 ghost use Rattle.std.specs.List.{AllPass};
 ghost use Rattle.hex.specs.Hex.{decode_of, decode_sized, encode_lower, is_hex_digit};
-ghost use Rattle.span_model.specs.Attributes.{is_empty};
-ghost use Rattle.span_model.specs.Identifiers.{bytes_at, identifier, has_sampled_flag, with_sampled_flag, span_id, trace_id, words_spent};
-ghost use Rattle.span_model.specs.Spans.{is_id, is_valid as is_valid_context};
+ghost use Rattle.model_span.specs.Attributes.{is_empty};
+ghost use Rattle.model_span.specs.Identifiers.{bytes_at, identifier, has_sampled_flag};
+ghost use Rattle.model_span.specs.Identifiers.{with_sampled_flag, span_id, trace_id, words_spent};
+ghost use Rattle.model_span.specs.Spans.{is_id, is_valid as is_valid_context};
 ghost use Rattle.otlp_ids.specs.SpanContext.{context_view};
 ghost use Rattle.otlp_ids.specs.WordStream.{Spends, after_words, words_of};
 

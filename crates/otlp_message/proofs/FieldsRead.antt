@@ -2,8 +2,8 @@
 use Rattle.std.proofs.Common.{◌≡◌, sym, ap, subst, ◌∙◌, List, [], ◌∷◌, ◌++◌, append_assoc, append-nil}
 use Rattle.std.specs.List.{Contains}
 use Rattle.std.proofs.lemmas.List.Elements.{Contains-push}
-use Rattle.message_model.specs.Reading.{Reading, Fault, done}
-use Rattle.message_model.specs.Wire.{Field, put}
+use Rattle.model_message.specs.Reading.{Reading, Fault, done}
+use Rattle.model_message.specs.Wire.{Field, put}
 
 -- some fields of a row were read, and the others are left
 pub record WereRead (whole left : Reading (List Field)) (fields : List Field) : Type 0 where

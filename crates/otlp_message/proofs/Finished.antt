@@ -2,11 +2,11 @@
 use Rattle.std.proofs.Common.{◌≡◌, refl, sym, ap, ap₂, subst, ◌∙◌, ℕ, zero, suc, List, [], ◌∷◌, ◌++◌, ◌==◌, ◌%◌, ◌^◌, not, Result, Ok, Err, IfOk, IfErr, OnOk}
 use Rattle.std.specs.Int.{w32, w64, cast_signed}
 use Rattle.std.specs.List.{Contains}
-use Rattle.message_model.specs.AnyValue.{AnyValue}
-use Rattle.message_model.specs.Reading.{Reading, Reads, done, ◌>>=◌}
-use Rattle.message_model.specs.Wire.{Field, Payload, len, row}
-use Rattle.message_model.specs.Tables.{Shape, text, bytes, bool, uint32, int64, enum, fixed64, fixed32, any, message, repeated, Table, end, ◌⦂◌◂◌, ◌▸◌}
-use Rattle.message_model.specs.Messages.{PayloadReading, payloads, joined_rows, read, read_table, utf8, value, max_depth, meaning}
+use Rattle.model_message.specs.AnyValue.{AnyValue}
+use Rattle.model_message.specs.Reading.{Reading, Reads, done, ◌>>=◌}
+use Rattle.model_message.specs.Wire.{Field, Payload, len, row}
+use Rattle.model_message.specs.Tables.{Shape, text, bytes, bool, uint32, int64, enum, fixed64, fixed32, any, message, repeated, Table, end, ◌⦂◌◂◌, ◌▸◌}
+use Rattle.model_message.specs.Messages.{PayloadReading, payloads, joined_rows, read, read_table, utf8, value, max_depth, meaning}
 use Rattle.otlp_message.specs.declared.fault.ReadFault.{ReadFault}
 use Rattle.otlp_message.specs.Faults.{NamesOne}
 use Rattle.otlp_message.specs.Gathering.{Kept, Gathered, IsKept, IsGathered, GathersRow, KeepsField, field_faults, part_faults, no_payload, nothing, finished, finished_table}

@@ -3,11 +3,11 @@ use Rattle.std.proofs.Common.{◌≡◌, ◌≢◌, ◌+◌, arith, length, refl
 use Rattle.std.specs.List.{Contains}
 use Rattle.std.proofs.lemmas.List.{length-append}
 use Rattle.std.proofs.lemmas.List.Elements.{Contains-append_cases}
-use Rattle.message_model.specs.AnyValue.{AnyValue}
-use Rattle.message_model.specs.Reading.{Reading, Fault, Reads, each}
-use Rattle.message_model.specs.Wire.{Field, Payload, put, len, row, row_after}
-use Rattle.message_model.specs.Tables.{Shape, message, repeated, Table, ValueOf}
-use Rattle.message_model.specs.Messages.{PayloadReading, payloads, joined_rows, read, read_table}
+use Rattle.model_message.specs.AnyValue.{AnyValue}
+use Rattle.model_message.specs.Reading.{Reading, Fault, Reads, each}
+use Rattle.model_message.specs.Wire.{Field, Payload, put, len, row, row_after}
+use Rattle.model_message.specs.Tables.{Shape, message, repeated, Table, ValueOf}
+use Rattle.model_message.specs.Messages.{PayloadReading, payloads, joined_rows, read, read_table}
 use Rattle.otlp_message.specs.declared.fault.ReadFault.{ReadFault}
 use Rattle.otlp_message.specs.Faults.{NamesOne}
 use Rattle.otlp_message.specs.Gathering.{Gathered, IsKept, IsGathered, GathersRow, part_faults}
@@ -16,7 +16,7 @@ use Rattle.otlp_message.proofs.LastPayloads.{same-payloads, one-payload, payload
 use Rattle.otlp_message.proofs.FieldsRead.{FieldsRead, read-fault, read-split}
 use Rattle.otlp_message.proofs.Named.{Within, names-within, within-left, within-right, within-joined, message-row, message-fields}
 
--- what was gathered behind other fields
+-- what was gathered after other fields
 abbrev pub Behind : {X : Type 0} → (X → List Field → Type 0) → X → X → List Field → Type 0
 Behind Q old new fields = (others : List Field) → Q old others → Q new (others ++ fields)
 

@@ -1,8 +1,8 @@
--- The joined rows of payloads, one behind the other.
+-- The joined rows of payloads, one after the other.
 use Rattle.std.proofs.Common.{◌≡◌, refl, sym, ap, ◌∙◌, List, [], ◌∷◌, ◌++◌, append-nil, append_assoc}
-use Rattle.message_model.specs.Reading.{done}
-use Rattle.message_model.specs.Wire.{Payload, row}
-use Rattle.message_model.specs.Messages.{bytes_in, joined_rows}
+use Rattle.model_message.specs.Reading.{done}
+use Rattle.model_message.specs.Wire.{Payload, row}
+use Rattle.model_message.specs.Messages.{bytes_in, joined_rows}
 
 pub joined-none : joined_rows [] ≡ done []
 unfolding joined_rows

@@ -3,9 +3,9 @@ use Rattle.std.proofs.Common.{◌≡◌, refl, sym, ap, ◌∙◌, ℕ, List, []
 use Rattle.std.specs.Borrow.{Bor}
 use Rattle.std.specs.Option.{option_map, option_to_list, unwrap_or}
 use Rattle.std.specs.List.{last_or}
-use Rattle.message_model.specs.Wire.{Field, Payload, varint, i64, i32, len}
-use Rattle.message_model.specs.Tables.{Shape, text, int64}
-use Rattle.message_model.specs.Messages.{payloads, number_in, bytes_in, last_number, last_bytes}
+use Rattle.model_message.specs.Wire.{Field, Payload, varint, i64, i32, len}
+use Rattle.model_message.specs.Tables.{Shape, text, int64}
+use Rattle.model_message.specs.Messages.{payloads, number_in, bytes_in, last_number, last_bytes}
 use Rattle.otlp_message.proofs.OnePayload.{payloads-append}
 use Rattle.otlp_message.specs.Response.{Counts}
 use Rattle.otlp_message.specs.declared.response.PartialFields.{PartialFields}

@@ -2,11 +2,11 @@
 use Rattle.std.proofs.Common.{sym, ap, subst, ◌∙◌, ℕ, List, [], ◌∷◌, ◌++◌}
 use Rattle.std.specs.List.{Contains}
 use Rattle.std.proofs.lemmas.List.Elements.{Contains-append_left, Contains-append_right}
-use Rattle.message_model.specs.Reading.{Fault, bad_utf8, too_deep}
-use Rattle.message_model.specs.Wire.{Field, Payload, len, row}
-use Rattle.message_model.specs.Tables.{Shape, message, Table, ◌⦂◌◂◌}
-use Rattle.message_model.specs.Messages.{PayloadReading, read, read_table, payloads, joined_rows}
-use Rattle.message_model.specs.AnyValue.{AnyValue}
+use Rattle.model_message.specs.Reading.{Fault, bad_utf8, too_deep}
+use Rattle.model_message.specs.Wire.{Field, Payload, len, row}
+use Rattle.model_message.specs.Tables.{Shape, message, Table, ◌⦂◌◂◌}
+use Rattle.model_message.specs.Messages.{PayloadReading, read, read_table, payloads, joined_rows}
+use Rattle.model_message.specs.AnyValue.{AnyValue}
 use Rattle.otlp_wire.specs.Fields.{fault_of}
 use Rattle.otlp_message.specs.declared.fault.ReadFault.{ReadFault}
 use Rattle.otlp_message.specs.declared.fault.ReadFault.TheVariants.{Wire, BadUtf8, TooDeep, OutOfMemory}

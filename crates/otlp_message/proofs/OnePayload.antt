@@ -1,15 +1,15 @@
--- The payloads of one field, and of fields one behind the other.
+-- The payloads of one field, and of fields one after the other.
 use Rattle.std.proofs.Common.{◌≡◌, refl, sym, ap, ap₂, ◌∙◌, arith, ℕ, List, [], ◌∷◌, ◌++◌, Bool, true, false, cond, filter, map, ◌&&◌, ◌==◌}
 use Rattle.std.proofs.lemmas.Bool.{ne_eqb}
 use Rattle.std.specs.Borrow.{Bor}
-use Rattle.message_model.specs.Wire.{Field, varint, i64, i32, len}
-use Rattle.message_model.proofs.ReadBack.{payloads-own}
+use Rattle.model_message.specs.Wire.{Field, varint, i64, i32, len}
+use Rattle.model_message.proofs.ReadBack.{payloads-own}
 use Rattle.otlp_wire.specs.Fields.{payload_of, field_of}
 use Rattle.otlp_wire.specs.declared.reader.Field.{Field as Found}
 use Rattle.otlp_wire.specs.declared.reader.Payload.{Payload}
 use Rattle.otlp_wire.specs.declared.reader.Payload.TheVariants.{Varint, I64, Len, I32}
-use Rattle.message_model.specs.Tables.{Shape}
-use Rattle.message_model.specs.Messages.{wire, wire_type, is_field, payloads}
+use Rattle.model_message.specs.Tables.{Shape}
+use Rattle.model_message.specs.Messages.{wire, wire_type, is_field, payloads}
 
 pub payloads-append : (n : ℕ) (s : Shape) (a b : List Field) → payloads n s (a ++ b) ≡ payloads n s a ++ payloads n s b
 unfolding payloads

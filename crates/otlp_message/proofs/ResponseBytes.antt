@@ -2,15 +2,15 @@
 use Rattle.std.proofs.Common.{◌≡◌, ◌≢◌, refl, sym, ap, ◌∙◌, ℕ, ℤ, ◌+◌, ◌*◌, ◌<◌, ◌^◌, ◌==◌, ◌&&◌, Bool, arith, List, [], ◌∷◌, ◌++◌, append_assoc, append-nil, length, true, false, cond, Result, Ok, Err, OnOk}
 use Rattle.std.proofs.lemmas.Bool.{eqb-true, ne_eqb}
 use Rattle.std.specs.Int.{w64, cast_unsigned}
-use Rattle.message_model.specs.Reading.{Reading, Reads, done}
-use Rattle.message_model.specs.Wire.{Field, varint}
-use Rattle.message_model.specs.Tables
-use Rattle.message_model.specs.Tables.{Message, text, int64, message, ◌▸◌}
-use Rattle.message_model.specs.Messages.{meaning, wire_type}
-use Rattle.message_model.specs.Canon.{shortest, payload_bytes, field_bytes, bytes_field, number_field, unless_empty, unless_no_fields, row_bytes, shape_fields, table_fields, canon}
-use Rattle.message_model.specs.Whole.{IsMessage}
-use Rattle.message_model.proofs.Composed.{row_bytes-append}
-use Rattle.message_model.proofs.Lengths.{canon-reads}
+use Rattle.model_message.specs.Reading.{Reading, Reads, done}
+use Rattle.model_message.specs.Wire.{Field, varint}
+use Rattle.model_message.specs.Tables
+use Rattle.model_message.specs.Tables.{Message, text, int64, message, ◌▸◌}
+use Rattle.model_message.specs.Messages.{meaning, wire_type}
+use Rattle.model_message.specs.Canon.{shortest, payload_bytes, field_bytes, bytes_field, number_field, unless_empty, unless_no_fields, row_bytes, shape_fields, table_fields, canon}
+use Rattle.model_message.specs.Whole.{IsMessage}
+use Rattle.model_message.proofs.Composed.{row_bytes-append}
+use Rattle.model_message.proofs.Lengths.{canon-reads}
 use Rattle.otlp_message.specs.Response.{partial_fields}
 
 pub of-ok : {T E P Q : Type 0} (r : Result T E) → (P → Q) → OnOk r P → OnOk r Q

@@ -5,11 +5,11 @@ use Rattle.std.specs.Str.{IsUtf8, is_utf8}
 use Rattle.std.specs.List.{Contains}
 use Rattle.std.proofs.lemmas.List.Elements.{Contains-append_left, Contains-append_right, Contains-push}
 use Rattle.std.proofs.lemmas.Str.{IsUtf8-from_is_utf8, is_utf8-from_IsUtf8}
-use Rattle.message_model.specs.Reading.{Fault, bad_utf8, Reads}
-use Rattle.message_model.specs.Wire.{row}
-use Rattle.message_model.specs.Tables
-use Rattle.message_model.specs.Tables.{◌▸◌, text}
-use Rattle.message_model.specs.Messages.{meaning, read, utf8, payloads, last_bytes}
+use Rattle.model_message.specs.Reading.{Fault, bad_utf8, Reads}
+use Rattle.model_message.specs.Wire.{row}
+use Rattle.model_message.specs.Tables
+use Rattle.model_message.specs.Tables.{◌▸◌, text}
+use Rattle.model_message.specs.Messages.{meaning, read, utf8, payloads, last_bytes}
 use Rattle.otlp_message.specs.Response.{Counts, partial_row, row_faults, status}
 use Rattle.otlp_message.specs.declared.response.PartialFields.{PartialFields}
 

@@ -2,18 +2,18 @@
 use Rattle.std.proofs.Common.{◌≡◌, refl, sym, ap, subst, ◌∙◌, ℕ, List, [], ◌∷◌, ◌++◌, append_assoc, append-nil}
 use Rattle.std.specs.List.{Contains}
 use Rattle.std.proofs.lemmas.List.Elements.{Contains-append_left, Contains-append_right}
-use Rattle.message_model.specs.Reading.{Reading, Fault}
-use Rattle.message_model.specs.Wire.{Field, put, len, row}
-use Rattle.message_model.specs.Tables
-use Rattle.message_model.specs.Tables.{message, int64, text}
-use Rattle.message_model.specs.Messages.{payloads, joined_rows}
+use Rattle.model_message.specs.Reading.{Reading, Fault}
+use Rattle.model_message.specs.Wire.{Field, put, len, row}
+use Rattle.model_message.specs.Tables
+use Rattle.model_message.specs.Tables.{message, int64, text}
+use Rattle.model_message.specs.Messages.{payloads, joined_rows}
 use Rattle.otlp_message.specs.Response.{Counts, partial_row}
 use Rattle.otlp_message.specs.declared.response.PartialFields.{PartialFields}
 use Rattle.otlp_message.proofs.FieldsRead.{WereRead, were-read-more}
 use Rattle.otlp_message.proofs.OnePayload.{payloads-append}
 use Rattle.otlp_message.proofs.JoinedRows.{joined-none, joined-faults, joined-value, one-faults, one-value}
 
--- some fields of a partial success were read behind others
+-- some fields of a partial success were read after others
 pub record PartRead (old counted : PartialFields) (whole left : Reading (List Field)) : Type 0 where
   pub fields : List Field
   pub were_read : WereRead whole left fields

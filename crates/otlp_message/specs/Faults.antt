@@ -1,10 +1,11 @@
--- What a fault that was told says of the faults that some bytes have.
+-- What a fault that was reported says of the faults that some bytes have.
 use Rattle.std.specs.Prelude.{List}
 use Rattle.std.specs.List.{Contains}
-use Rattle.message_model.specs.Reading.{Fault, bad_utf8, too_deep}
+use Rattle.model_message.specs.Reading.{Fault, bad_utf8, too_deep}
 use Rattle.otlp_wire.specs.Fields.{fault_of}
 use Rattle.otlp_message.specs.declared.fault.ReadFault.{ReadFault}
-use Rattle.otlp_message.specs.declared.fault.ReadFault.TheVariants.{Wire, BadUtf8, TooDeep, OutOfMemory}
+use Rattle.otlp_message.specs.declared.fault.ReadFault.TheVariants.{Wire, BadUtf8, TooDeep}
+use Rattle.otlp_message.specs.declared.fault.ReadFault.TheVariants.{OutOfMemory}
 
 -- It is one of these faults, or want of memory.
 abbrev pub NamesOne : List Fault → ReadFault → Type 0

@@ -2,11 +2,14 @@
 -- Wins, Repeated Elements)
 use Rattle.std.specs.Prelude.{◌≡◌, ℕ, ◌%◌, ◌^◌, List, [], ◌∷◌, ◌++◌, ◌==◌, not}
 use Rattle.std.specs.Int.{w32, w64, cast_signed}
-use Rattle.message_model.specs.Reading.{Reading, Reads, Fault, done, ◌>>=◌}
-use Rattle.message_model.specs.Wire.{Field, Payload, row}
-use Rattle.message_model.specs.AnyValue.{AnyValue}
-use Rattle.message_model.specs.Tables.{Shape, text, bytes, bool, uint32, int64, enum, fixed64, fixed32, any, message, repeated, Table, end, ◌⦂◌◂◌, ◌▸◌, ValueOf, Message}
-use Rattle.message_model.specs.Messages.{PayloadReading, payloads, last_number, last_bytes, joined_rows, read, read_table, utf8, value, max_depth}
+use Rattle.model_message.specs.Reading.{Reading, Reads, Fault, done, ◌>>=◌}
+use Rattle.model_message.specs.Wire.{Field, Payload, row}
+use Rattle.model_message.specs.AnyValue.{AnyValue}
+use Rattle.model_message.specs.Tables.{Shape, text, bytes, bool, uint32, int64, enum, fixed64}
+use Rattle.model_message.specs.Tables.{fixed32, any, message, repeated, Table, end, ◌⦂◌◂◌, ◌▸◌}
+use Rattle.model_message.specs.Tables.{ValueOf, Message}
+use Rattle.model_message.specs.Messages.{PayloadReading, payloads, last_number, last_bytes}
+use Rattle.model_message.specs.Messages.{joined_rows, read, read_table, utf8, value, max_depth}
 
 abbrev mutual
   -- What is kept of the payloads of a field: the last one of a scalar, a text or bytes, as it came;

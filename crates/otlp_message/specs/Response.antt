@@ -2,15 +2,16 @@
 -- trace_service.proto).
 use Rattle.std.specs.Prelude.{◌≡◌, ℕ, ℤ, List, [], ◌++◌}
 use Rattle.std.specs.List.{Contains}
-use Rattle.message_model.specs.Reading.{Reading, Fault, bad_utf8, too_deep}
-use Rattle.message_model.specs.Wire.{Field, row}
-use Rattle.message_model.specs.Canon.{number_field, unless_empty}
-use Rattle.message_model.specs.Tables
-use Rattle.message_model.specs.Tables.{text, int64, message, Table, end, ◌⦂◌◂◌, Message, ◌▸◌}
-use Rattle.message_model.specs.Messages.{payloads, last_number, last_bytes, joined_rows}
+use Rattle.model_message.specs.Reading.{Reading, Fault, bad_utf8, too_deep}
+use Rattle.model_message.specs.Wire.{Field, row}
+use Rattle.model_message.specs.Canon.{number_field, unless_empty}
+use Rattle.model_message.specs.Tables
+use Rattle.model_message.specs.Tables.{text, int64, message, Table, end, ◌⦂◌◂◌, Message, ◌▸◌}
+use Rattle.model_message.specs.Messages.{payloads, last_number, last_bytes, joined_rows}
 use Rattle.otlp_wire.specs.Fields.{fault_of}
 use Rattle.otlp_message.specs.declared.fault.ReadFault.{ReadFault}
-use Rattle.otlp_message.specs.declared.fault.ReadFault.TheVariants.{Wire, BadUtf8, TooDeep, OutOfMemory}
+use Rattle.otlp_message.specs.declared.fault.ReadFault.TheVariants.{Wire, BadUtf8, TooDeep}
+use Rattle.otlp_message.specs.declared.fault.ReadFault.TheVariants.{OutOfMemory}
 use Rattle.otlp_message.specs.declared.response.PartialFields.{PartialFields}
 
 -- It names one of these faults. Memory is wanting only where there is none of them.

@@ -1,8 +1,8 @@
 //! What is kept of a payload, on memory of its own.
 
 ghost use Rattle.std.specs.Prelude.{◌≡◌, ◌≢◌, IfOk, IfErr, OnErr, string_bytes};
-ghost use Rattle.message_model.specs.Reading.{Reads};
-ghost use Rattle.message_model.specs.Messages.{utf8};
+ghost use Rattle.model_message.specs.Reading.{Reads};
+ghost use Rattle.model_message.specs.Messages.{utf8};
 ghost use Rattle.otlp_message.specs.Faults.{NamesOne};
 
 use crate::fault::ReadFault;

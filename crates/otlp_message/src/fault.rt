@@ -5,7 +5,7 @@ use otlp_wire::WireFault;
 use std::alloc::AllocFailed;
 use thiserror::Error;
 
-/// Why a message could not be read. Bytes can have several faults, of which any one is told.
+/// Why a message could not be read. Bytes can have several faults, of which any one is reported.
 #[derive(Error, Debug, Clone, Copy, PartialEq, Eq)]
 pub enum ReadFault {
     /// A field that doesn't stand, in the message or in one within it that counts.

@@ -1,13 +1,14 @@
 //! The fields of a message, gathered one after another, whatever its table.
 
 ghost use Rattle.std.specs.Prelude.{◌≡◌, ◌≢◌, ◌++◌, List, [], ◌∷◌, IfOk, IfErr, IsErrOf, OnOk};
-ghost use Rattle.message_model.specs.Wire;
-ghost use Rattle.message_model.specs.Wire.{row};
-ghost use Rattle.message_model.specs.Tables.{Table, message};
-ghost use Rattle.message_model.specs.Messages.{max_depth, read, read_table, value};
+ghost use Rattle.model_message.specs.Wire;
+ghost use Rattle.model_message.specs.Wire.{row};
+ghost use Rattle.model_message.specs.Tables.{Table, message};
+ghost use Rattle.model_message.specs.Messages.{max_depth, read, read_table, value};
 ghost use Rattle.otlp_wire.specs.Fields.{field_of};
 ghost use Rattle.otlp_message.specs.Faults.{NamesOne};
-ghost use Rattle.otlp_message.specs.Gathering.{Gathered, IsGathered, GathersRow, KeepsField, field_faults, finished, nothing, part_faults};
+ghost use Rattle.otlp_message.specs.Gathering.{Gathered, IsGathered, GathersRow, KeepsField};
+ghost use Rattle.otlp_message.specs.Gathering.{field_faults, finished, nothing, part_faults};
 
 use crate::fault::ReadFault;
 use crate::payloads::bytes_in;

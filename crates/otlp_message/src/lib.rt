@@ -5,9 +5,10 @@
 //!
 //! Whoever reads a message of another table writes a type that keeps what counts of its fields, and
 //! implements [`GatherFields`] for it: its `take` keeps a number by [`last_varint`] or
-//! [`last_fixed64`] or [`last_fixed32`], a text or bytes by [`last_bytes`], a message by [`gather_in`], and a member of
-//! a repeated field by [`bytes_in`] with [`gather_all`]. What doesn't count is not looked into:
-//! fields that are unknown or of another wire type, and the texts that a later one replaces.
+//! [`last_fixed64`] or [`last_fixed32`], a text or bytes by [`last_bytes`], a message by
+//! [`gather_in`], and a member of a repeated field by [`bytes_in`] with [`gather_all`]. What
+//! doesn't count is not looked into: fields that are unknown or of another wire type, and the texts
+//! that a later one replaces.
 #![tactic(auto)]
 
 mod content;

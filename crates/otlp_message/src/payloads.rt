@@ -2,10 +2,10 @@
 
 ghost use Rattle.std.specs.Prelude.{◌≡◌, ◌%◌, ◌^◌, ◌++◌, List, [], ◌∷◌};
 ghost use Rattle.std.specs.Option.{option_map, option_to_list};
-ghost use Rattle.message_model.specs.Wire;
-ghost use Rattle.message_model.specs.Tables.{Shape};
-ghost use Rattle.message_model.specs.Messages as messages;
-ghost use Rattle.message_model.specs.Messages.{wire, payloads};
+ghost use Rattle.model_message.specs.Wire;
+ghost use Rattle.model_message.specs.Tables.{Shape};
+ghost use Rattle.model_message.specs.Messages as messages;
+ghost use Rattle.model_message.specs.Messages.{wire, payloads};
 ghost use Rattle.otlp_wire.specs.Fields.{field_of};
 
 use otlp_wire::{Field, Payload};

@@ -1,18 +1,20 @@
 //! The answer of a collector to a trace export (opentelemetry-proto, trace_service.proto:
 //! ExportTraceServiceResponse), and why one that refuses it does (google/rpc/status.proto).
 
-ghost use Rattle.std.specs.Prelude.{◌≡◌, ◌≢◌, ◌++◌, List, [], ◌∷◌, IfOk, IfErr, OnOk, OnErr, IsErrOf};
+ghost use Rattle.std.specs.Prelude.{◌≡◌, ◌≢◌, ◌++◌, List, [], ◌∷◌, IfOk, IfErr, OnOk, OnErr};
+ghost use Rattle.std.specs.Prelude.{IsErrOf};
 ghost use Rattle.std.specs.Int.{cast_signed, w64};
 ghost use Rattle.std.specs.List.{Contains};
 ghost use Rattle.std.specs.String.{string_bytes};
-ghost use Rattle.message_model.specs.Reading.{Reads};
-ghost use Rattle.message_model.specs.Wire;
-ghost use Rattle.message_model.specs.Wire.{row};
-ghost use Rattle.message_model.specs.Tables;
-ghost use Rattle.message_model.specs.Tables.{◌▸◌};
-ghost use Rattle.message_model.specs.Messages.{meaning};
+ghost use Rattle.model_message.specs.Reading.{Reads};
+ghost use Rattle.model_message.specs.Wire;
+ghost use Rattle.model_message.specs.Wire.{row};
+ghost use Rattle.model_message.specs.Tables;
+ghost use Rattle.model_message.specs.Tables.{◌▸◌};
+ghost use Rattle.model_message.specs.Messages.{meaning};
 ghost use Rattle.otlp_wire.specs.Fields.{field_of, fault_of};
-ghost use Rattle.otlp_message.specs.Response.{Counts, partial_row, row_faults, status, NamesFault, Rejects, message_text};
+ghost use Rattle.otlp_message.specs.Response.{Counts, partial_row, row_faults, status, NamesFault};
+ghost use Rattle.otlp_message.specs.Response.{Rejects, message_text};
 
 use crate::fault::ReadFault;
 use crate::payloads::{bytes_in, varint_in};
@@ -32,8 +34,8 @@ pub struct PartialSuccess<A: Allocator = Global> {
 
 impl<A: Allocator> Model for PartialSuccess<A> {
     ghost use Rattle.std.specs.String.{string_bytes};
-    ghost use Rattle.message_model.specs.Tables;
-    ghost use Rattle.message_model.specs.Tables.{Message, ◌▸◌};
+    ghost use Rattle.model_message.specs.Tables;
+    ghost use Rattle.model_message.specs.Tables.{Message, ◌▸◌};
 
     ghost Value = { Message Tables.partial_success };
 
@@ -74,8 +76,8 @@ pub struct Response<A: Allocator = Global> {
 }
 
 impl<A: Allocator> Model for Response<A> {
-    ghost use Rattle.message_model.specs.Tables;
-    ghost use Rattle.message_model.specs.Tables.{Message, ◌▸◌};
+    ghost use Rattle.model_message.specs.Tables;
+    ghost use Rattle.model_message.specs.Tables.{Message, ◌▸◌};
 
     ghost Value = { Message Tables.response };
 

@@ -1,11 +1,12 @@
 //! The answer of a collector to a trace export, as bytes.
 
 ghost use Rattle.std.specs.Prelude.{◌≡◌, ◌≢◌, ◌==◌, ◌&&◌, ◌++◌, [], length, pos, IfOk, OnErr, OnOk};
-ghost use Rattle.message_model.specs.Reading.{Reads};
-ghost use Rattle.message_model.specs.Tables;
-ghost use Rattle.message_model.specs.Tables.{◌▸◌};
-ghost use Rattle.message_model.specs.Messages.{meaning};
-ghost use Rattle.message_model.specs.Canon.{bytes_field, canon, field_bytes, number_field, row_bytes, unless_empty};
+ghost use Rattle.model_message.specs.Reading.{Reads};
+ghost use Rattle.model_message.specs.Tables;
+ghost use Rattle.model_message.specs.Tables.{◌▸◌};
+ghost use Rattle.model_message.specs.Messages.{meaning};
+ghost use Rattle.model_message.specs.Canon.{bytes_field, canon, field_bytes, number_field};
+ghost use Rattle.model_message.specs.Canon.{row_bytes, unless_empty};
 ghost use Rattle.otlp_message.specs.Response.{partial_fields};
 
 use crate::response::{PartialSuccess, Response};

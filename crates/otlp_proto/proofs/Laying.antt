@@ -1,11 +1,11 @@
--- Bytes that are laid behind what a sink has taken: none, some behind others, and those of a message
+-- Bytes that are laid after what a sink has taken: none, some after others, and those of a message
 -- whose length is known.
 use Rattle.std.proofs.Common.{◌≡◌, sym, ap, ◌∙◌, subst, ℕ, ◌+◌, ◌-◌, ◌*◌, ◌≤◌, ◌<◌, ◌^◌, List, [], ◌++◌, append_assoc, append-nil, take, length, min, inl, inr, arith}
 use Rattle.std.proofs.lemmas.List.{length-append, length-drop}
 use Rattle.std.proofs.lemmas.Bool.{cases_lt}
-use Rattle.message_model.specs.Wire.{Field, varint}
-use Rattle.message_model.specs.Messages.{wire_type}
-use Rattle.message_model.specs.Canon.{shortest, payload_bytes, field_bytes, bytes_field}
+use Rattle.model_message.specs.Wire.{Field, varint}
+use Rattle.model_message.specs.Messages.{wire_type}
+use Rattle.model_message.specs.Canon.{shortest, payload_bytes, field_bytes, bytes_field}
 use Rattle.otlp_wire.specs.Writing.{PutsAt}
 use Rattle.otlp_proto.specs.Encode.{Cursor, counted, filled, saturated, Lays}
 
@@ -30,12 +30,12 @@ lays-both a b (filled front room) d e p q = λ l small.
 pub lays-as : {a b : List ℕ} (c d : Cursor) → a ≡ b → Lays a c d → Lays b c d
 lays-as c d e h = subst (λ bs. Lays bs c d) e h
 
--- a tag, and the payload behind it
+-- a tag, and the payload after it
 pub tagged : (f : Field) (c d e : Cursor) → Lays (shortest (f.number * 8 + wire_type f.payload)) c d → Lays (payload_bytes f.payload) d e → Lays (field_bytes f) c e
 unfolding field_bytes
 tagged f c d e p q = lays-both (shortest (f.number * 8 + wire_type f.payload)) (payload_bytes f.payload) c d e p q
 
--- bytes behind their length, which a count may not tell
+-- bytes after their length, which a count may not tell
 counted-sized : (n x y size : ℕ) (bs : List ℕ) → size ≡ min (length bs) (2 ^ 64 - 1) → (length bs < 2 ^ 64 → x ≡ y) → (k : ℕ) → min k (2 ^ 64 - 1) ≡ min (n + (x + length bs)) (2 ^ 64 - 1) →
     min k (2 ^ 64 - 1) ≡ min (n + (y + length bs)) (2 ^ 64 - 1)
 counted-sized n x y size bs s same k e = elim (cases_lt (length bs) (2 ^ 64)) [ inl l ↦ omega (arith, e, same l) | inr l ↦ omega (arith, e, l) ]

@@ -1,4 +1,4 @@
--- The lengths of the spans of groups, one group behind the other.
+-- The lengths of the spans of groups, one group after the other.
 use Rattle.std.proofs.Common.{◌≡◌, refl, sym, ap, subst, ◌∙◌, ℕ, zero, suc, ◌+◌, ◌<◌, ◌==◌, true, List, [], ◌∷◌, ◌++◌, map, flat_map, take, drop, get_or, length, ◌≤◌, append_assoc, append-nil, add-one, drop-cons, arith}
 use Rattle.std.proofs.lemmas.List.{length-append, length-map, map-append, get_or-map, drop-drop, take-append-drop}
 use Rattle.std.proofs.Math.ListN.{get_or-append}
@@ -6,7 +6,7 @@ use Rattle.std.proofs.lemmas.Grind.{flat_map-append}
 use Rattle.std.proofs.lemmas.Bool.{eqb-true}
 use Rattle.std.proofs.Math.Seq.{take-suc, drop-append_seam}
 use Rattle.std.specs.List.{AllByRecursion}
-use Rattle.span_model.specs.Spans.{EndedSpan}
+use Rattle.model_span.specs.Spans.{SpanData}
 use Rattle.otlp_proto.specs.Encode.{span_len, span_bytes, IsWholeSpan, Measures, AddsLens, BeginLens}
 
 pub all-both : {A : Type 0} (P : A → Type 0) (xs ys : List A) → AllByRecursion P xs → AllByRecursion P ys → AllByRecursion P (xs ++ ys)
@@ -26,25 +26,25 @@ all-last P (x ∷ xs) ys h = all-last P xs ys h.1
 pub adds-none : (lens : List ℕ) → AddsLens [] lens lens
 adds-none lens = record { lens = sym (append-nil lens); whole = tt }
 
-pub adds-both : (xs ys : List EndedSpan) {a b c : List ℕ} → AddsLens xs a b → AddsLens ys b c → AddsLens (xs ++ ys) a c
+pub adds-both : (xs ys : List SpanData) {a b c : List ℕ} → AddsLens xs a b → AddsLens ys b c → AddsLens (xs ++ ys) a c
 adds-both xs ys {a} p q = record {
   lens = q.lens ∙ ap (λ ls. ls ++ map span_len ys) p.lens ∙ append_assoc a (map span_len xs) (map span_len ys) ∙ ap (λ ls. a ++ ls) (sym (map-append span_len xs ys));
   whole = all-both IsWholeSpan xs ys p.whole q.whole;
 }
 
-pub adds-one : (x : EndedSpan) (len : ℕ) {a b : List ℕ} → Measures (span_bytes x) (IsWholeSpan x) len → b ≡ a ++ len ∷ [] → AddsLens (x ∷ []) a b
+pub adds-one : (x : SpanData) (len : ℕ) {a b : List ℕ} → Measures (span_bytes x) (IsWholeSpan x) len → b ≡ a ++ len ∷ [] → AddsLens (x ∷ []) a b
 adds-one x len {a} m e = record { lens = e ∙ ap (λ l. a ++ l ∷ []) m.size; whole = (m.whole, tt) }
 
--- what is made of one item more, behind what is made of those before it
+-- what is made of one item more, after what is made of those before it
 pub flat-more : {X Y Z : Type 0} (f : Y → List Z) (g : X → Y) (xs : List X) (i : ℕ) (x : X) → i < length xs → x ≡ get_or xs i x → flat_map f (map g (take (i + 1) xs)) ≡ flat_map f (map g (take i xs)) ++ f (g x)
 flat-more f g xs i x l e = rw (add-one, take-suc xs i x l) (ap (flat_map f) (map-append g (take i xs) (get_or xs i x ∷ [])) ∙ flat_map-append f (map g (take i xs)) (g (get_or xs i x) ∷ []) ∙ ap (λ zs. flat_map f (map g (take i xs)) ++ zs) (append-nil (f (g (get_or xs i x)))) ∙ ap (λ y. flat_map f (map g (take i xs)) ++ f (g y)) (sym e))
 
 -- ---- lengths that come first
 
-pub begin-all : (xs : List EndedSpan) (lens : List ℕ) → AddsLens xs [] lens → BeginLens xs lens
+pub begin-all : (xs : List SpanData) (lens : List ℕ) → AddsLens xs [] lens → BeginLens xs lens
 begin-all xs lens h = record { behind = []; lens = h.lens ∙ sym (append-nil (map span_len xs)); whole = h.whole }
 
-pub begin-first : (xs ys : List EndedSpan) (lens : List ℕ) → BeginLens (xs ++ ys) lens → BeginLens xs lens
+pub begin-first : (xs ys : List SpanData) (lens : List ℕ) → BeginLens (xs ++ ys) lens → BeginLens xs lens
 begin-first xs ys lens h = record {
   behind = map span_len ys ++ h.behind;
   lens = h.lens ∙ ap (λ ls. ls ++ h.behind) (map-append span_len xs ys) ∙ append_assoc (map span_len xs) (map span_len ys) h.behind;
@@ -54,7 +54,7 @@ begin-first xs ys lens h = record {
 drop-front : {A : Type 0} (xs ys : List A) (n : ℕ) → n ≡ length xs → drop n (xs ++ ys) ≡ ys
 drop-front xs ys n e = rw e (drop-append_seam xs ys)
 
-pub begin-last : (xs ys : List EndedSpan) (lens : List ℕ) → BeginLens (xs ++ ys) lens → BeginLens ys (drop (length xs) lens)
+pub begin-last : (xs ys : List SpanData) (lens : List ℕ) → BeginLens (xs ++ ys) lens → BeginLens ys (drop (length xs) lens)
 begin-last xs ys lens h = record {
   behind = h.behind;
   lens = ap (drop (length xs)) (h.lens ∙ ap (λ ls. ls ++ h.behind) (map-append span_len xs ys) ∙ append_assoc (map span_len xs) (map span_len ys) h.behind) ∙ drop-front (map span_len xs) (map span_len ys ++ h.behind) (length xs) (sym (length-map xs span_len));
@@ -62,7 +62,7 @@ begin-last xs ys lens h = record {
 }
 
 -- there are as many at least
-pub enough-lens : (xs : List EndedSpan) (lens : List ℕ) → BeginLens xs lens → length xs ≤ length lens
+pub enough-lens : (xs : List SpanData) (lens : List ℕ) → BeginLens xs lens → length xs ≤ length lens
 enough-lens xs lens h =
     let long = length-append (map span_len xs) h.behind in
     omega (arith, ap length h.lens, long, length-map xs span_len)
@@ -74,7 +74,7 @@ all-at P [] i d l h = absurd (omega (arith, l))
 all-at P (x ∷ xs) zero d l h = h.0
 all-at P (x ∷ xs) (suc i) d l h = all-at P xs i d (omega (arith, l)) h.1
 
-pub begin-at : (xs : List EndedSpan) (lens : List ℕ) (i n : ℕ) (x : EndedSpan) → BeginLens xs lens → i < length xs → x ≡ get_or xs i x → n ≡ get_or lens i 0 → Measures (span_bytes x) (IsWholeSpan x) n
+pub begin-at : (xs : List SpanData) (lens : List ℕ) (i n : ℕ) (x : SpanData) → BeginLens xs lens → i < length xs → x ≡ get_or xs i x → n ≡ get_or lens i 0 → Measures (span_bytes x) (IsWholeSpan x) n
 begin-at xs lens i n x h l is e = record {
   size = e ∙ ap (λ ls. get_or ls i 0) h.lens ∙ get_or-append (map span_len xs) h.behind 0 i (rw length-map l) ∙ get_or-map span_len xs i x 0 l ∙ ap span_len (sym is);
   whole = rw is (all-at IsWholeSpan xs i x l h.whole);
@@ -89,19 +89,19 @@ split-next f g xs i x l e =
     ∙ ap (λ ys. flat_map f (map g (take i xs)) ++ flat_map f (map g ys)) (drop-cons xs i x l) ∙ ap (λ y. flat_map f (map g (take i xs)) ++ (f (g y) ++ flat_map f (map g (drop (suc i) xs)))) (sym e)
 
 -- the lengths of the next item's spans come first among those that are left
-pub begin-next : {X Y : Type 0} (f : Y → List EndedSpan) (g : X → Y) (xs : List X) (lens rest : List ℕ) (i : ℕ) (x : X) → i < length xs → x ≡ get_or xs i x →
+pub begin-next : {X Y : Type 0} (f : Y → List SpanData) (g : X → Y) (xs : List X) (lens rest : List ℕ) (i : ℕ) (x : X) → i < length xs → x ≡ get_or xs i x →
     BeginLens (flat_map f (map g xs)) lens → rest ≡ drop (length (flat_map f (map g (take i xs)))) lens → BeginLens (f (g x)) rest
 begin-next f g xs lens rest i x l e h r =
-    let before : List EndedSpan = flat_map f (map g (take i xs)) in
-    let after : List EndedSpan = flat_map f (map g (drop (suc i) xs)) in
+    let before : List SpanData = flat_map f (map g (take i xs)) in
+    let after : List SpanData = flat_map f (map g (drop (suc i) xs)) in
     let all = subst (λ spans. BeginLens spans lens) (split-next f g xs i x l e) h in
     subst (BeginLens (f (g x))) (sym r) (begin-first (f (g x)) after (drop (length before) lens) (begin-last before (f (g x) ++ after) lens all))
 
--- and those behind them are left then
-pub drop-next : {X Y : Type 0} (f : Y → List EndedSpan) (g : X → Y) (xs : List X) (lens rest : List ℕ) {next : List ℕ} (i : ℕ) (x : X) → i < length xs → x ≡ get_or xs i x →
+-- and those after them are left then
+pub drop-next : {X Y : Type 0} (f : Y → List SpanData) (g : X → Y) (xs : List X) (lens rest : List ℕ) {next : List ℕ} (i : ℕ) (x : X) → i < length xs → x ≡ get_or xs i x →
     rest ≡ drop (length (flat_map f (map g (take i xs)))) lens → next ≡ drop (length (f (g x))) rest → next ≡ drop (length (flat_map f (map g (take (i + 1) xs)))) lens
 drop-next f g xs lens rest i x l e r n =
-    let before : List EndedSpan = flat_map f (map g (take i xs)) in
+    let before : List SpanData = flat_map f (map g (take i xs)) in
     n ∙ ap (drop (length (f (g x)))) r ∙ drop-drop (length (f (g x))) (length before) lens
     ∙ ap (λ k. drop k lens) (sym (ap length (flat-more f g xs i x l e) ∙ length-append before (f (g x))))
 

@@ -1,14 +1,14 @@
 -- What is written is read: a body means the spans of the groups that it carries.
 use Rattle.std.proofs.Common.{◌≡◌, refl, ap, ◌∙◌, ℕ, List, [], ◌<◌, ◌^◌, length, arith}
-use Rattle.message_model.specs.Reading.{Reading, Reads, done}
-use Rattle.message_model.specs.Tables
-use Rattle.message_model.specs.Tables.{Table, Message}
-use Rattle.message_model.specs.Canon.{canon}
-use Rattle.message_model.specs.Whole.{IsMessage}
-use Rattle.message_model.specs.Messages.{meaning, body_meaning, triples}
-use Rattle.export_model.specs.Export.{ResourceGroup, request_message, triples_of, body_length}
-use Rattle.message_model.proofs.Lengths.{canon-reads}
-use Rattle.export_model.proofs.Grouped.{carried-triples}
+use Rattle.model_message.specs.Reading.{Reading, Reads, done}
+use Rattle.model_message.specs.Tables
+use Rattle.model_message.specs.Tables.{Table, Message}
+use Rattle.model_message.specs.Canon.{canon}
+use Rattle.model_message.specs.Whole.{IsMessage}
+use Rattle.model_message.specs.Messages.{meaning, body_meaning, triples}
+use Rattle.model_export.specs.Export.{ResourceGroup, request_message, triples_of, body_length}
+use Rattle.model_message.proofs.Lengths.{canon-reads}
+use Rattle.model_export.proofs.Grouped.{carried-triples}
 use Rattle.otlp_proto.specs.Encode.{Cursor, counted, filled, saturated, PutsAll}
 
 -- ---- a message that is counted, and then written into a buffer of that length

@@ -1,14 +1,14 @@
--- A value is written by its one member, and an array by its values, one behind the other.
+-- A value is written by its one member, and an array by its values, one after the other.
 use Rattle.std.proofs.Common.{◌≡◌, map, refl, sym, ap, ◌∙◌, ℕ, ℤ, zero, suc, ◌≤◌, List, [], ◌∷◌, Bool, true, false, arith}
 use Rattle.std.specs.Int.{w64, cast_unsigned}
 use Rattle.std.specs.List.{AllByRecursion}
 use mir.Val.{SFits, bool_byte}
-use Rattle.message_model.specs.Wire.{Field, varint}
-use Rattle.message_model.specs.AnyValue.{AnyValue, AnyValues, no_values, value, KeyValues, no_pairs, pair, as_values}
-use Rattle.message_model.specs.Tables.{any}
-use Rattle.message_model.specs.Messages.{max_depth}
-use Rattle.message_model.specs.Canon.{field_bytes, bytes_field, row_bytes, shape_fields, value_fields, values_fields}
-use Rattle.message_model.specs.Whole.{IsText, EachValue, EachPair, IsMember, IsValue}
+use Rattle.model_message.specs.Wire.{Field, varint}
+use Rattle.model_message.specs.AnyValue.{AnyValue, AnyValues, no_values, value, KeyValues, no_pairs, pair, as_values}
+use Rattle.model_message.specs.Tables.{any}
+use Rattle.model_message.specs.Messages.{max_depth}
+use Rattle.model_message.specs.Canon.{field_bytes, bytes_field, row_bytes, shape_fields, value_fields, values_fields}
+use Rattle.model_message.specs.Whole.{IsText, EachValue, EachPair, IsMember, IsValue}
 use Rattle.otlp_proto.specs.Encode.{Cursor, Lays, Carries, Puts}
 use Rattle.otlp_proto.proofs.Laying.{lays-as}
 use Rattle.otlp_proto.proofs.Writing.{one-field}

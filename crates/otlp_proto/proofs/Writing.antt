@@ -1,18 +1,18 @@
--- A message is written when its fields are, one behind the other.
+-- A message is written when its fields are, one after the other.
 use Rattle.std.proofs.Common.{◌≡◌, ◌≢◌, map, take, get_or, refl, sym, ap, ◌∙◌, ℕ, zero, suc, ◌+◌, ◌*◌, ◌/◌, ◌%◌, ◌<◌, ◌^◌, ◌==◌, pos, List, [], ◌∷◌, ◌++◌, length, true, false, cond, nat_lt, arith, add-one}
 use Rattle.std.proofs.lemmas.List.{append-nil, length-append, map-append}
 use Rattle.std.proofs.Math.Seq.{take-suc}
 use Rattle.std.proofs.lemmas.Bool.{eqb-true, ne_eqb}
 use Rattle.std.specs.List.{AllByRecursion}
 use Rattle.std.specs.Prelude.{Option, None, Some, option_map, unwrap_or}
-use Rattle.span_model.specs.Spans.{Parent}
-use Rattle.export_model.specs.Export.{parent_id}
-use Rattle.message_model.specs.Wire.{Field, varint, i64, i32}
-use Rattle.message_model.specs.Tables.{Shape, text, bytes, uint32, enum, fixed64, fixed32, message, repeated, Table, end, ◌⦂◌◂◌, ValueOf, Message}
-use Rattle.message_model.specs.Messages.{wire_type}
-use Rattle.message_model.specs.Canon.{septets_of, shortest, payload_bytes, field_bytes, bytes_field, unless_empty, unless_no_fields, is_flat, row_bytes, shape_fields, shape_bytes, table_fields, canon}
-use Rattle.message_model.specs.Whole.{IsText, IsWhole, IsMessage}
-use Rattle.message_model.proofs.Composed.{canon-field, canon-end, row_bytes-append}
+use Rattle.model_span.specs.Spans.{Parent}
+use Rattle.model_export.specs.Export.{parent_id}
+use Rattle.model_message.specs.Wire.{Field, varint, i64, i32}
+use Rattle.model_message.specs.Tables.{Shape, text, bytes, uint32, enum, fixed64, fixed32, message, repeated, Table, end, ◌⦂◌◂◌, ValueOf, Message}
+use Rattle.model_message.specs.Messages.{wire_type}
+use Rattle.model_message.specs.Canon.{septets_of, shortest, payload_bytes, field_bytes, bytes_field, unless_empty, unless_no_fields, is_flat, row_bytes, shape_fields, shape_bytes, table_fields, canon}
+use Rattle.model_message.specs.Whole.{IsText, IsWhole, IsMessage}
+use Rattle.model_message.proofs.Composed.{canon-field, canon-end, row_bytes-append}
 use Rattle.otlp_proto.specs.Encode.{Cursor, Lays, Carries, Puts, PutsAll}
 use Rattle.otlp_proto.proofs.Laying.{lays-none, lays-both, lays-as}
 

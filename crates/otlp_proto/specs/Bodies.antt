@@ -1,9 +1,9 @@
 -- The bytes of a body. (OTLP Specification, OTLP/HTTP; which of the ways that Protocol Buffers
 -- allow: profile)
 use Rattle.std.specs.Prelude.{ℕ, List}
-use Rattle.message_model.specs.Tables
-use Rattle.message_model.specs.Canon.{canon}
-use Rattle.export_model.specs.Export.{ResourceGroup, request_message}
+use Rattle.model_message.specs.Tables
+use Rattle.model_message.specs.Canon.{canon}
+use Rattle.model_export.specs.Export.{ResourceGroup, request_message}
 use Rattle.otlp_span.specs.declared.reason.Reason.{Reason}
 use Rattle.otlp_span.specs.declared.reason.Reason.TheVariants as reasons
 use Rattle.otlp_proto.specs.declared.encoder.EncodeFault.{EncodeFault}

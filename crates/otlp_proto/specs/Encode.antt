@@ -1,12 +1,13 @@
 -- What is written of a message into a sink: its bytes, and that it is one that can be read.
-use Rattle.std.specs.Prelude.{◌≡◌, ℕ, ◌+◌, ◌-◌, ◌≤◌, ◌<◌, ◌^◌, List, ◌++◌, length, map, min, Bool, true, false}
+use Rattle.std.specs.Prelude.{◌≡◌, ℕ, ◌+◌, ◌-◌, ◌≤◌, ◌<◌, ◌^◌, List, ◌++◌, length, map, min, Bool}
+use Rattle.std.specs.Prelude.{true, false}
 use Rattle.std.specs.List.{AllByRecursion}
-use Rattle.span_model.specs.Spans.{EndedSpan}
-use Rattle.export_model.specs.Export.{span_message}
-use Rattle.message_model.specs.Tables
-use Rattle.message_model.specs.Tables.{Shape, Table, ValueOf, Message}
-use Rattle.message_model.specs.Canon.{canon, shape_bytes}
-use Rattle.message_model.specs.Whole.{IsWhole, IsMessage}
+use Rattle.model_span.specs.Spans.{SpanData}
+use Rattle.model_export.specs.Export.{span_message}
+use Rattle.model_message.specs.Tables
+use Rattle.model_message.specs.Tables.{Shape, Table, ValueOf, Message}
+use Rattle.model_message.specs.Canon.{canon, shape_bytes}
+use Rattle.model_message.specs.Whole.{IsWhole, IsMessage}
 
 -- ---- sinks
 
@@ -21,7 +22,7 @@ pub data Cursor : Type 0 where
 abbrev pub saturated : ℕ → ℕ
 saturated n = min n (2 ^ 64 - 1)
 
--- The bytes are laid behind what the sink had taken. Nothing is said of a buffer that has no room
+-- The bytes are laid after what the sink had taken. Nothing is said of a buffer that has no room
 -- for them.
 abbrev pub Lays : List ℕ → Cursor → Cursor → Type 0
 Lays bytes (counted n) (counted m) = saturated m ≡ saturated (n + length bytes)
@@ -46,12 +47,12 @@ pub record Measures (content : List ℕ) (Whole : Type 0) (len : ℕ) : Type 0 w
   pub size : len ≡ saturated (length content)
   pub whole : Whole
 
--- a field of a table, put behind what stands
+-- a field of a table, put after what stands
 pub record Puts (n : ℕ) (s : Shape) (x : ValueOf s) (old new : Cursor) : Type 0 where
   pub bytes : Lays (shape_bytes n s x) old new
   pub whole : IsWhole s x
 
--- the fields of a table, put behind what stands
+-- the fields of a table, put after what stands
 pub record PutsAll (t : Table) (r : Message t) (old new : Cursor) : Type 0 where
   pub bytes : Lays (canon t r) old new
   pub whole : IsMessage t r
@@ -59,24 +60,24 @@ pub record PutsAll (t : Table) (r : Message t) (old new : Cursor) : Type 0 where
 -- ---- lengths of spans
 
 -- the message of an ended span, as bytes
-abbrev pub span_bytes : EndedSpan → List ℕ
+abbrev pub span_bytes : SpanData → List ℕ
 span_bytes x = canon Tables.span (span_message x.span)
 
 -- it can be read
-abbrev pub IsWholeSpan : EndedSpan → Type 0
+abbrev pub IsWholeSpan : SpanData → Type 0
 IsWholeSpan x = IsMessage Tables.span (span_message x.span)
 
 -- how many bytes it has
-abbrev pub span_len : EndedSpan → ℕ
+abbrev pub span_len : SpanData → ℕ
 span_len x = saturated (length (span_bytes x))
 
--- the lengths of these spans, put behind what stands
-pub record AddsLens (spans : List EndedSpan) (old new : List ℕ) : Type 0 where
+-- the lengths of these spans, put after what stands
+pub record AddsLens (spans : List SpanData) (old new : List ℕ) : Type 0 where
   pub lens : new ≡ old ++ map span_len spans
   pub whole : AllByRecursion IsWholeSpan spans
 
 -- the lengths of these spans come first
-pub record BeginLens (spans : List EndedSpan) (all : List ℕ) : Type 0 where
+pub record BeginLens (spans : List SpanData) (all : List ℕ) : Type 0 where
   pub behind : List ℕ
   pub lens : all ≡ map span_len spans ++ behind
   pub whole : AllByRecursion IsWholeSpan spans

@@ -1,8 +1,8 @@
 //! The bodies of OTLP/HTTP trace exports.
 ghost use Rattle.std.specs.Prelude.{◌≡◌, ◌≢◌, ◌≤◌, ◌<◌, [], IfErr, IfOk, IsErrOf, OnOk, length};
-ghost use Rattle.message_model.specs.Reading.{Reads};
-ghost use Rattle.message_model.specs.Messages.{body_meaning};
-ghost use Rattle.export_model.specs.Export as model;
+ghost use Rattle.model_message.specs.Reading.{Reads};
+ghost use Rattle.model_message.specs.Messages.{body_meaning};
+ghost use Rattle.model_export.specs.Export as model;
 ghost use Rattle.otlp_span.specs.Dropped.{reason_view};
 ghost use Rattle.otlp_proto.specs.Bodies.{body_bytes, reason_of};
 
@@ -17,7 +17,7 @@ use std::alloc::Allocator;
 /// # Errors
 ///
 /// `OutOfMemory` where memory was refused; without spans none is taken. `TooLarge` where the body
-/// has more than `max` bytes, which is told before memory for it is taken.
+/// has more than `max` bytes, which is reported before memory for it is taken.
 pub fn body_of<A: Allocator + Copy>(
     alloc: A,
     spans: &[SpanData<A>],

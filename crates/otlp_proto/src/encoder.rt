@@ -2,12 +2,12 @@
 //! puts its fields, in rising number, into a sink: first into one that counts them, then into a
 //! buffer of just that length.
 ghost use Rattle.std.specs.Prelude.{◌≡◌, ◌≢◌, ◌≤◌, ◌<◌, [], true, IfOk, OnOk, IsErrOf, length};
-ghost use Rattle.drop_model.specs.Dropped.{can_drop_batch};
+ghost use Rattle.model_drop.specs.Dropped.{can_drop_batch};
 ghost use Rattle.otlp_span.specs.Dropped.{reason_view};
-ghost use Rattle.message_model.specs.Reading.{Reads};
-ghost use Rattle.message_model.specs.Tables;
-ghost use Rattle.message_model.specs.Messages.{meaning, body_meaning};
-ghost use Rattle.export_model.specs.Export as model;
+ghost use Rattle.model_message.specs.Reading.{Reads};
+ghost use Rattle.model_message.specs.Tables;
+ghost use Rattle.model_message.specs.Messages.{meaning, body_meaning};
+ghost use Rattle.model_export.specs.Export as model;
 ghost use Rattle.scope_group.specs.Group.{groups_view};
 ghost use Rattle.otlp_proto.specs.Bodies.{body_bytes, reason_of};
 
@@ -78,7 +78,7 @@ impl From<OutOfMemory> for EncodeFault {
 /// # Errors
 ///
 /// `OutOfMemory` where memory was refused; without a group none is taken. `TooLarge` where the body
-/// has more than `max` bytes, which is told before memory for it is taken.
+/// has more than `max` bytes, which is reported before memory for it is taken.
 pub fn encode<A: Allocator + Copy>(
     alloc: A,
     groups: &[ResourceGroup<'_, A>],

@@ -6,8 +6,8 @@ use Rattle.std.proofs.lemmas.Bool.{ne_eqb}
 use Rattle.std.proofs.lemmas.Grind.{reverse_onto}
 use Rattle.std.proofs.lemmas.List.{map-append, reverse-append}
 use Rattle.std.proofs.lemmas.List.Elements.{filter-append}
-use Rattle.message_model.specs.Wire.{Field, Payload, len}
-use Rattle.message_model.specs.Messages.{member_of, last_run, wire_type}
+use Rattle.model_message.specs.Wire.{Field, Payload, len}
+use Rattle.model_message.specs.Messages.{member_of, last_run, wire_type}
 use Rattle.otlp_wire.specs.Fields.{payload_of, field_of}
 use Rattle.otlp_wire.specs.declared.reader.Field.{Field as Found}
 use Rattle.otlp_wire.specs.declared.reader.Payload.{Payload as Held}
@@ -71,7 +71,7 @@ other-member f n w e h step =
 pub no-number : (f : Found) → (f.number ≡ 1 → ⊥) → (f.number ≡ 2 → ⊥) → (f.number ≡ 3 → ⊥) → (f.number ≡ 4 → ⊥) → (f.number ≡ 5 → ⊥) → (f.number ≡ 6 → ⊥) → (f.number ≡ 7 → ⊥) → members_from_last (field_of f ∷ []) ≡ []
 no-number f h1 h2 h3 h4 h5 h6 h7 = no-member (field_of f) (rw (ne_eqb f.number 1 h1, ne_eqb f.number 2 h2, ne_eqb f.number 3 h3, ne_eqb f.number 4 h4, ne_eqb f.number 5 h5, ne_eqb f.number 6 h6, ne_eqb f.number 7 h7) refl)
 
--- ---- fields one behind the other
+-- ---- fields one after the other
 
 pub no-members : members_from_last [] ≡ []
 unfolding members_from_last
@@ -81,7 +81,7 @@ pub members-append : (a b : List Field) → members_from_last (a ++ b) ≡ membe
 unfolding members_from_last
 members-append a b = ap reverse (filter-append (λ f. is_some (member_of f)) a b) ∙ reverse-append (filter (λ f. is_some (member_of f)) a) (filter (λ f. is_some (member_of f)) b)
 
--- what counts of a value, after some fields behind others
+-- what counts of a value, after some fields after others
 abbrev pub Leads : {A : Type 0} → Member A → Member A → List Field → Type 0
 Leads old new fields = (back : List Field) → Holds old back → Holds new (members_from_last fields ++ back)
 

@@ -3,12 +3,12 @@ use Rattle.std.proofs.Common.{◌≡◌, refl, sym, ap, subst, ◌∙◌, ℕ, z
 use Rattle.std.specs.Borrow.{Bor}
 use Rattle.std.specs.List.{Contains}
 use Rattle.std.proofs.lemmas.List.Elements.{Contains-push}
-use Rattle.message_model.specs.Reading.{Fault, too_deep}
-use Rattle.message_model.specs.Wire.{Field, Payload, len, row}
-use Rattle.message_model.specs.Tables
-use Rattle.message_model.specs.Tables.{Shape, Table, end, ◌⦂◌◂◌, text, any}
-use Rattle.message_model.specs.Messages.{PayloadReading, payloads, joined_rows, last_bytes, read, read_table, value}
-use Rattle.message_model.specs.AnyValue.{AnyValue}
+use Rattle.model_message.specs.Reading.{Fault, too_deep}
+use Rattle.model_message.specs.Wire.{Field, Payload, len, row}
+use Rattle.model_message.specs.Tables
+use Rattle.model_message.specs.Tables.{Shape, Table, end, ◌⦂◌◂◌, text, any}
+use Rattle.model_message.specs.Messages.{PayloadReading, payloads, joined_rows, last_bytes, read, read_table, value}
+use Rattle.model_message.specs.AnyValue.{AnyValue}
 use Rattle.otlp_read.specs.declared.any_value.Member.{Member}
 use Rattle.otlp_read.specs.declared.any_value.Member.TheVariants.{Empty}
 use Rattle.otlp_read.specs.declared.any_value.PairParts.{PairParts}

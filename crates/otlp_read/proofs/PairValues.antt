@@ -1,12 +1,12 @@
 -- What a value and a pair mean, by what counts of their fields.
 use Rattle.std.proofs.Common.{◌≡◌, refl, sym, ap, ap₂, subst, ◌∙◌, ℕ, suc, List, [], ◌∷◌, ◌++◌, append-nil, filter, reverse, is_some}
 use Rattle.std.specs.List.{Contains}
-use Rattle.message_model.specs.AnyValue.{AnyValue}
-use Rattle.message_model.specs.Reading.{Reading, Reads, done}
-use Rattle.message_model.specs.Wire.{Field, Payload, len, row}
-use Rattle.message_model.specs.Tables
-use Rattle.message_model.specs.Tables.{text, any, message, end, ◌⦂◌◂◌, ◌▸◌}
-use Rattle.message_model.specs.Messages.{payloads, joined_rows, read, read_table, value, value_of, utf8, last_bytes, member_of}
+use Rattle.model_message.specs.AnyValue.{AnyValue}
+use Rattle.model_message.specs.Reading.{Reading, Reads, done}
+use Rattle.model_message.specs.Wire.{Field, Payload, len, row}
+use Rattle.model_message.specs.Tables
+use Rattle.model_message.specs.Tables.{text, any, message, end, ◌⦂◌◂◌, ◌▸◌}
+use Rattle.model_message.specs.Messages.{payloads, joined_rows, read, read_table, value, value_of, utf8, last_bytes, member_of}
 use Rattle.otlp_read.specs.declared.any_value.PairParts.{PairParts}
 use Rattle.otlp_message.specs.declared.fault.ReadFault.{ReadFault}
 use Rattle.otlp_message.specs.Faults.{NamesOne}

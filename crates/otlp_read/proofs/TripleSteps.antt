@@ -6,7 +6,7 @@ use Rattle.std.proofs.lemmas.List.Concat.{flat_map-append}
 through-index : {X : Type 0} (xs : List X) (i : ℕ) (x : X) → i < length xs → x ≡ get_or xs i x → take (i + 1) xs ≡ take i xs ++ x ∷ []
 through-index xs i x l e = take_more xs i x l ∙ ap (λ y. take i xs ++ y ∷ []) (sym e)
 
--- where those through an index are behind some, so are those with one more
+-- where those through an index are after some, so are those with one more
 pub map-more : {X Y Z : Type 0} (f : Y → Z) (g : X → Y) (xs : List X) (i : ℕ) (x : X) → i < length xs → x ≡ get_or xs i x → (old mid new : List Z) →
     mid ≡ old ++ map f (map g (take i xs)) → new ≡ mid ++ f (g x) ∷ [] → new ≡ old ++ map f (map g (take (i + 1) xs))
 map-more f g xs i x l e old mid new p q =

@@ -4,11 +4,11 @@ use Rattle.std.specs.Borrow.{Bor}
 use Rattle.std.specs.Int.{cast_signed, w64}
 use Rattle.std.specs.List.{last_or}
 use Rattle.std.proofs.lemmas.List.{map-append, take_more, take-append-drop}
-use Rattle.message_model.specs.AnyValue.{AnyValue, as_values, as_pairs}
-use Rattle.message_model.specs.Reading.{Reading, Reads, ◌>>=◌, done}
-use Rattle.message_model.specs.Wire.{Field, Payload, varint, i64, len}
-use Rattle.message_model.specs.Tables.{Shape, any, message, repeated, Table, end, ◌⦂◌◂◌, ◌▸◌, ValueOf, array_value, key_value_list}
-use Rattle.message_model.specs.Messages.{PayloadReading, payloads, joined_rows, read, read_table, value_of, last_run, last_bytes, last_number, number_in, bytes_in, utf8}
+use Rattle.model_message.specs.AnyValue.{AnyValue, as_values, as_pairs}
+use Rattle.model_message.specs.Reading.{Reading, Reads, ◌>>=◌, done}
+use Rattle.model_message.specs.Wire.{Field, Payload, varint, i64, len}
+use Rattle.model_message.specs.Tables.{Shape, any, message, repeated, Table, end, ◌⦂◌◂◌, ◌▸◌, ValueOf, array_value, key_value_list}
+use Rattle.model_message.specs.Messages.{PayloadReading, payloads, joined_rows, read, read_table, value_of, last_run, last_bytes, last_number, number_in, bytes_in, utf8}
 use Rattle.otlp_message.specs.declared.fault.ReadFault.{ReadFault}
 use Rattle.otlp_message.specs.Faults.{NamesOne}
 use Rattle.otlp_message.specs.Gathering.{IsKept, IsGathered, part_faults}

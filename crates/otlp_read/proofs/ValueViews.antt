@@ -1,8 +1,8 @@
 -- What each kind of value as received is in the model.
 use Rattle.std.proofs.Common.{◌≡◌, refl, ap, ◌∙◌, ℕ, ℤ, List, [], ◌∷◌, map, Bool, Vec, String, rules}
 use Rattle.std.specs.String.{string_bytes}
-use Rattle.message_model.specs.AnyValue as protocol
-use Rattle.message_model.specs.AnyValue.{as_values, as_pairs}
+use Rattle.model_message.specs.AnyValue as protocol
+use Rattle.model_message.specs.AnyValue.{as_values, as_pairs}
 use Rattle.otlp_read.specs.declared.any_value.AnyValue.{AnyValue, Empty, Text, Bool as Truth, Int, Double, Array, Pairs, Bytes, the_lemmas}
 use Rattle.otlp_read.specs.Values.{string_pair, any_value_view, values_view, pair_view, pairs_view}
 

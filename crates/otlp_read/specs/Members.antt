@@ -2,12 +2,13 @@
 -- Protocol Buffers, Encoding: Oneofs)
 use Rattle.std.specs.Prelude.{◌≡◌, ℕ, List, [], ◌∷◌, map, filter, reverse, is_some}
 use Rattle.std.specs.Borrow.{Bor}
-use Rattle.message_model.specs.Wire
-use Rattle.message_model.specs.Wire.{Field, varint, i64, len}
-use Rattle.message_model.specs.Messages.{member_of, last_run, joined_rows, payloads, last_bytes}
-use Rattle.message_model.specs.Tables.{text, any}
+use Rattle.model_message.specs.Wire
+use Rattle.model_message.specs.Wire.{Field, varint, i64, len}
+use Rattle.model_message.specs.Messages.{member_of, last_run, joined_rows, payloads, last_bytes}
+use Rattle.model_message.specs.Tables.{text, any}
 use Rattle.otlp_read.specs.declared.any_value.Member.{Member}
-use Rattle.otlp_read.specs.declared.any_value.Member.TheVariants.{Empty, Text, Bool, Int, Double, Array, Pairs, Bytes}
+use Rattle.otlp_read.specs.declared.any_value.Member.TheVariants.{Empty, Text, Bool, Int, Double}
+use Rattle.otlp_read.specs.declared.any_value.Member.TheVariants.{Array, Pairs, Bytes}
 use Rattle.otlp_read.specs.declared.any_value.PairParts.{PairParts}
 
 -- those of some fields that are members of a value, from the last

@@ -1,8 +1,8 @@
 -- Resources and scopes as received in the model, and what was gathered of their fields.
 -- (opentelemetry-proto)
 use Rattle.std.specs.Prelude.{string_bytes}
-use Rattle.message_model.specs.Tables
-use Rattle.message_model.specs.Tables.{Message, ◌▸◌}
+use Rattle.model_message.specs.Tables
+use Rattle.model_message.specs.Tables.{Message, ◌▸◌}
 use Rattle.otlp_read.specs.declared.resource.Resource.{Resource}
 use Rattle.otlp_read.specs.declared.resource.InstrumentationScope.{InstrumentationScope}
 use Rattle.otlp_read.specs.declared.resource.ResourceParts.{ResourceParts}

@@ -1,7 +1,7 @@
 -- Spans as received in the model, and what was gathered of their fields. (opentelemetry-proto)
 use Rattle.std.specs.Prelude.{List, map, string_bytes}
-use Rattle.message_model.specs.Tables
-use Rattle.message_model.specs.Tables.{Message, ◌▸◌}
+use Rattle.model_message.specs.Tables
+use Rattle.model_message.specs.Tables.{Message, ◌▸◌}
 use Rattle.otlp_read.specs.declared.span.Status.{Status}
 use Rattle.otlp_read.specs.declared.span.Event.{Event}
 use Rattle.otlp_read.specs.declared.span.Link.{Link}

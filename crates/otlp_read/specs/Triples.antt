@@ -1,7 +1,7 @@
--- Spans with what they stand under, in the model. (opentelemetry-proto, trace.proto: ResourceSpans,
+-- Spans with what they are under, in the model. (opentelemetry-proto, trace.proto: ResourceSpans,
 -- ScopeSpans)
 use Rattle.std.specs.Prelude.{List, map}
-use Rattle.message_model.specs.Messages as messages
+use Rattle.model_message.specs.Messages as messages
 use Rattle.otlp_read.specs.declared.triple.Triple.{Triple}
 use Rattle.otlp_read.specs.Resources.{resource_view, scope_view}
 use Rattle.otlp_read.specs.Spans.{span_view}

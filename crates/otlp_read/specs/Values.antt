@@ -1,9 +1,9 @@
 -- What values as received are in the model. (opentelemetry-proto, common.proto: AnyValue, KeyValue)
 use Rattle.std.specs.Prelude.{List, String, map, string_bytes}
-use Rattle.message_model.specs.AnyValue as protocol
-use Rattle.message_model.specs.AnyValue.{as_values, as_pairs}
-use Rattle.message_model.specs.Tables
-use Rattle.message_model.specs.Tables.{Message, ◌▸◌}
+use Rattle.model_message.specs.AnyValue as protocol
+use Rattle.model_message.specs.AnyValue.{as_values, as_pairs}
+use Rattle.model_message.specs.Tables
+use Rattle.model_message.specs.Tables.{Message, ◌▸◌}
 use Rattle.otlp_read.specs.declared.any_value.AnyValue.{AnyValue, fold-AnyValue}
 use Rattle.otlp_read.specs.declared.any_value.AnyValue.TheOpen.{AnyValue-F}
 

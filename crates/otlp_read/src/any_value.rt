@@ -2,18 +2,19 @@
 //! ArrayValue, KeyValueList, KeyValue).
 
 ghost use Rattle.std.specs.Prelude.{◌≡◌, ◌++◌, List, [], ◌∷◌, IfOk, IfErr, OnOk, map};
-ghost use Rattle.message_model.specs.Reading.{Reads};
-ghost use Rattle.message_model.specs.Messages;
-ghost use Rattle.message_model.specs.Wire;
-ghost use Rattle.message_model.specs.Wire.{row};
-ghost use Rattle.message_model.specs.Tables;
-ghost use Rattle.message_model.specs.Tables.{message, repeated, ◌▸◌};
-ghost use Rattle.message_model.specs.Messages.{read, read_table, value};
+ghost use Rattle.model_message.specs.Reading.{Reads};
+ghost use Rattle.model_message.specs.Messages;
+ghost use Rattle.model_message.specs.Wire;
+ghost use Rattle.model_message.specs.Wire.{row};
+ghost use Rattle.model_message.specs.Tables;
+ghost use Rattle.model_message.specs.Tables.{message, repeated, ◌▸◌};
+ghost use Rattle.model_message.specs.Messages.{read, read_table, value};
 ghost use Rattle.otlp_wire.specs.Fields.{field_of};
 ghost use Rattle.otlp_message.specs.Faults.{NamesOne};
 ghost use Rattle.otlp_read.specs.Values.{any_value_view, values_view, pair_view, pairs_view};
 ghost use Rattle.otlp_message.specs.Gathering.{GathersRow, KeepsField, field_faults, part_faults};
-ghost use Rattle.otlp_read.specs.Members.{Holds, members_from_last, array_run, pairs_run, parts_view, HoldsPair};
+ghost use Rattle.otlp_read.specs.Members.{Holds, members_from_last, array_run, pairs_run};
+ghost use Rattle.otlp_read.specs.Members.{parts_view, HoldsPair};
 
 use otlp_message::{ReadFault, bytes_in, copy_bytes, last_bytes, read_text};
 use otlp_wire::{Field, Fields, Payload};

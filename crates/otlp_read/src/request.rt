@@ -2,16 +2,19 @@
 //! ExportTraceServiceRequest; trace.proto: ResourceSpans, ScopeSpans).
 
 ghost use Rattle.std.specs.Prelude.{◌≡◌, ◌≢◌, List, [], ◌∷◌, IfOk, IfErr, IsErrOf, IsOk, OnOk};
-ghost use Rattle.message_model.specs.Reading.{Reads};
-ghost use Rattle.message_model.specs.Wire;
-ghost use Rattle.message_model.specs.Tables;
-ghost use Rattle.message_model.specs.Tables.{message, repeated};
-ghost use Rattle.message_model.specs.Messages.{max_depth, meaning, read, value};
+ghost use Rattle.model_message.specs.Reading.{Reads};
+ghost use Rattle.model_message.specs.Wire;
+ghost use Rattle.model_message.specs.Tables;
+ghost use Rattle.model_message.specs.Tables.{message, repeated};
+ghost use Rattle.model_message.specs.Messages.{max_depth, meaning, read, value};
 ghost use Rattle.otlp_wire.specs.Fields.{field_of};
 ghost use Rattle.otlp_message.specs.Faults.{NamesOne};
 ghost use Rattle.otlp_message.specs.Gathering.{KeepsField, field_faults, finished, nothing};
 ghost use Rattle.otlp_read.specs.Spans.{spans_view};
-ghost use Rattle.otlp_read.specs.Requests.{scope_spans_view, scope_groups_view, scope_spans_gathered, resource_spans_view, resource_groups_view, resource_spans_gathered, request_view, request_gathered};
+ghost use Rattle.otlp_read.specs.Requests.{scope_spans_view, scope_groups_view};
+ghost use Rattle.otlp_read.specs.Requests.{scope_spans_gathered, resource_spans_view};
+ghost use Rattle.otlp_read.specs.Requests.{resource_groups_view, resource_spans_gathered};
+ghost use Rattle.otlp_read.specs.Requests.{request_view, request_gathered};
 
 use crate::resource::{InstrumentationScope, InstrumentationScopeParts, Resource, ResourceParts};
 use crate::span::{Span, push_span};
@@ -94,7 +97,7 @@ impl<'a, A: Allocator + Copy> ScopeSpansParts<'a, A> {
 }
 
 impl<'a, A: Allocator + Copy> GatherFields<'a> for ScopeSpansParts<'a, A> {
-    ghost use Rattle.message_model.specs.Tables;
+    ghost use Rattle.model_message.specs.Tables;
     ghost use Rattle.otlp_read.specs.Requests.{scope_spans_gathered};
 
     ghost table = { Tables.scope_spans };
@@ -149,7 +152,7 @@ impl<'a, A: Allocator + Copy> ResourceSpansParts<'a, A> {
 }
 
 impl<'a, A: Allocator + Copy> GatherFields<'a> for ResourceSpansParts<'a, A> {
-    ghost use Rattle.message_model.specs.Tables;
+    ghost use Rattle.model_message.specs.Tables;
     ghost use Rattle.otlp_read.specs.Requests.{resource_spans_gathered};
 
     ghost table = { Tables.resource_spans };
@@ -197,7 +200,7 @@ impl<A: Allocator + Copy> RequestParts<A> {
 }
 
 impl<'a, A: Allocator + Copy> GatherFields<'a> for RequestParts<A> {
-    ghost use Rattle.message_model.specs.Tables;
+    ghost use Rattle.model_message.specs.Tables;
     ghost use Rattle.otlp_read.specs.Requests.{request_gathered};
 
     ghost table = { Tables.request };
@@ -291,8 +294,8 @@ fn push_resource_spans<A: Allocator + Copy>(
 ///
 /// # Errors
 ///
-/// A `ReadFault` that the body has, or `OutOfMemory` where what is kept of it could not be stored; a
-/// body of no bytes takes no memory.
+/// A `ReadFault` that the body has, or `OutOfMemory` where what is kept of it could not be stored;
+/// a body of no bytes takes no memory.
 pub fn read_request<A: Allocator + Copy>(alloc: A, body: &[u8]) -> Result<Request<A>, ReadFault>
     ensures ok { IfOk result (λ request.
         Reads (meaning Tables.request body.now) (request_view request)) }

@@ -2,16 +2,18 @@
 //! common.proto: InstrumentationScope).
 
 ghost use Rattle.std.specs.Prelude.{◌≡◌, List, [], ◌∷◌, IfOk, IfErr, OnOk};
-ghost use Rattle.message_model.specs.Reading.{Reads};
-ghost use Rattle.message_model.specs.Wire;
-ghost use Rattle.message_model.specs.Wire.{row};
-ghost use Rattle.message_model.specs.Tables;
-ghost use Rattle.message_model.specs.Tables.{message, repeated};
-ghost use Rattle.message_model.specs.Messages.{max_depth, meaning, read, value};
+ghost use Rattle.model_message.specs.Reading.{Reads};
+ghost use Rattle.model_message.specs.Wire;
+ghost use Rattle.model_message.specs.Wire.{row};
+ghost use Rattle.model_message.specs.Tables;
+ghost use Rattle.model_message.specs.Tables.{message, repeated};
+ghost use Rattle.model_message.specs.Messages.{max_depth, meaning, read, value};
 ghost use Rattle.otlp_wire.specs.Fields.{field_of};
 ghost use Rattle.otlp_message.specs.Faults.{NamesOne};
-ghost use Rattle.otlp_message.specs.Gathering.{GathersRow, KeepsField, part_faults, field_faults, finished, nothing};
-ghost use Rattle.otlp_read.specs.Resources.{resource_view, resource_gathered, scope_view, scope_gathered};
+ghost use Rattle.otlp_message.specs.Gathering.{GathersRow, KeepsField, part_faults, field_faults};
+ghost use Rattle.otlp_message.specs.Gathering.{finished, nothing};
+ghost use Rattle.otlp_read.specs.Resources.{resource_view, resource_gathered, scope_view};
+ghost use Rattle.otlp_read.specs.Resources.{scope_gathered};
 
 use crate::any_value::{AnyValue, push_attribute};
 use otlp_message::{
@@ -81,7 +83,7 @@ impl<A: Allocator + Copy> ResourceParts<A> {
 }
 
 impl<'a, A: Allocator + Copy> GatherFields<'a> for ResourceParts<A> {
-    ghost use Rattle.message_model.specs.Tables;
+    ghost use Rattle.model_message.specs.Tables;
     ghost use Rattle.otlp_read.specs.Resources.{resource_gathered};
 
     ghost table = { Tables.resource };
@@ -165,7 +167,7 @@ impl<'a, A: Allocator + Copy> InstrumentationScopeParts<'a, A> {
 }
 
 impl<'a, A: Allocator + Copy> GatherFields<'a> for InstrumentationScopeParts<'a, A> {
-    ghost use Rattle.message_model.specs.Tables;
+    ghost use Rattle.model_message.specs.Tables;
     ghost use Rattle.otlp_read.specs.Resources.{scope_gathered};
 
     ghost table = { Tables.scope };

@@ -2,16 +2,19 @@
 //! Status).
 
 ghost use Rattle.std.specs.Prelude.{◌≡◌, List, [], ◌∷◌, IfOk, IfErr, OnOk};
-ghost use Rattle.message_model.specs.Reading.{Reads};
-ghost use Rattle.message_model.specs.Wire;
-ghost use Rattle.message_model.specs.Wire.{row};
-ghost use Rattle.message_model.specs.Tables;
-ghost use Rattle.message_model.specs.Tables.{message, repeated};
-ghost use Rattle.message_model.specs.Messages.{max_depth, meaning, read, value};
+ghost use Rattle.model_message.specs.Reading.{Reads};
+ghost use Rattle.model_message.specs.Wire;
+ghost use Rattle.model_message.specs.Wire.{row};
+ghost use Rattle.model_message.specs.Tables;
+ghost use Rattle.model_message.specs.Tables.{message, repeated};
+ghost use Rattle.model_message.specs.Messages.{max_depth, meaning, read, value};
 ghost use Rattle.otlp_wire.specs.Fields.{field_of};
 ghost use Rattle.otlp_message.specs.Faults.{NamesOne};
-ghost use Rattle.otlp_message.specs.Gathering.{GathersRow, KeepsField, part_faults, field_faults, finished, nothing};
-ghost use Rattle.otlp_read.specs.Spans.{status_view, status_gathered, event_view, events_view, event_gathered, link_view, links_view, link_gathered, span_view, spans_view, span_gathered};
+ghost use Rattle.otlp_message.specs.Gathering.{GathersRow, KeepsField, part_faults, field_faults};
+ghost use Rattle.otlp_message.specs.Gathering.{finished, nothing};
+ghost use Rattle.otlp_read.specs.Spans.{status_view, status_gathered, event_view, events_view};
+ghost use Rattle.otlp_read.specs.Spans.{event_gathered, link_view, links_view, link_gathered};
+ghost use Rattle.otlp_read.specs.Spans.{span_view, spans_view, span_gathered};
 
 use crate::any_value::{AnyValue, push_attribute};
 use otlp_message::{
@@ -60,9 +63,9 @@ pub struct Link<A: Allocator = Global> {
     pub attributes: Vec<(String<A>, AnyValue<A>), A>,
     /// How many attributes were dropped.
     pub dropped_attributes_count: u32,
-    /// The flags of its context in the low 8 bits, whether it is known that the context is remote in
-    /// bit 8, and whether it is in bit 9 (trace.proto: SpanFlags); 0 where the field is absent, and
-    /// other bits as they were received.
+    /// The flags of its context in the low 8 bits, whether it is known that the context is remote
+    /// in bit 8, and whether it is in bit 9 (trace.proto: SpanFlags); 0 where the field is absent,
+    /// and other bits as they were received.
     pub flags: u32,
 }
 
@@ -171,7 +174,7 @@ impl<'a, A: Allocator + Copy> StatusParts<'a, A> {
 }
 
 impl<'a, A: Allocator + Copy> GatherFields<'a> for StatusParts<'a, A> {
-    ghost use Rattle.message_model.specs.Tables;
+    ghost use Rattle.model_message.specs.Tables;
     ghost use Rattle.otlp_read.specs.Spans.{status_gathered};
 
     ghost table = { Tables.status };
@@ -227,7 +230,7 @@ impl<'a, A: Allocator + Copy> EventParts<'a, A> {
 }
 
 impl<'a, A: Allocator + Copy> GatherFields<'a> for EventParts<'a, A> {
-    ghost use Rattle.message_model.specs.Tables;
+    ghost use Rattle.model_message.specs.Tables;
     ghost use Rattle.otlp_read.specs.Spans.{event_gathered};
 
     ghost table = { Tables.event };
@@ -291,7 +294,7 @@ impl<'a, A: Allocator + Copy> LinkParts<'a, A> {
 }
 
 impl<'a, A: Allocator + Copy> GatherFields<'a> for LinkParts<'a, A> {
-    ghost use Rattle.message_model.specs.Tables;
+    ghost use Rattle.model_message.specs.Tables;
     ghost use Rattle.otlp_read.specs.Spans.{link_gathered};
 
     ghost table = { Tables.link };
@@ -387,7 +390,7 @@ impl<'a, A: Allocator + Copy> SpanParts<'a, A> {
 }
 
 impl<'a, A: Allocator + Copy> GatherFields<'a> for SpanParts<'a, A> {
-    ghost use Rattle.message_model.specs.Tables;
+    ghost use Rattle.model_message.specs.Tables;
     ghost use Rattle.otlp_read.specs.Spans.{span_gathered};
 
     ghost table = { Tables.span };

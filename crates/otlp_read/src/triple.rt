@@ -1,8 +1,8 @@
-//! Spans with the scope and the resource that they stand under (opentelemetry-proto, trace.proto:
+//! Spans with the scope and the resource that they are under (opentelemetry-proto, trace.proto:
 //! ResourceSpans, ScopeSpans).
 
 ghost use Rattle.std.specs.Prelude.{◌≡◌, ◌≢◌, [], ◌++◌, IfOk, OnErr, OnOk, map, string_bytes};
-ghost use Rattle.message_model.specs.Messages.{triples, resource_triples, scope_triples};
+ghost use Rattle.model_message.specs.Messages.{triples, resource_triples, scope_triples};
 ghost use Rattle.otlp_read.specs.Resources.{resource_view};
 ghost use Rattle.otlp_read.specs.Requests.{scope_spans_view, resource_spans_view, request_view};
 ghost use Rattle.otlp_read.specs.Triples.{triple_view, triples_view};
@@ -13,7 +13,7 @@ use crate::span::Span;
 use otlp_ids::OutOfMemory;
 use std::alloc::{Allocator, Global};
 
-/// A span with the scope and the resource that it stands under (opentelemetry-proto, trace.proto:
+/// A span with the scope and the resource that it is under (opentelemetry-proto, trace.proto:
 /// ResourceSpans, ScopeSpans).
 #[derive_where(Clone, Copy, Debug)]
 pub struct Triple<'a, A: Allocator = Global> {

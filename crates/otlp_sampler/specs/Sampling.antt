@@ -1,7 +1,7 @@
 -- What decisions and the arguments of a sampler are in the model.
 use Rattle.std.specs.Prelude.{ℕ, List, Option}
-use Rattle.span_model.specs.Sampling as model
-use Rattle.span_model.specs.Spans.{Context}
+use Rattle.model_span.specs.Sampling as model
+use Rattle.model_span.specs.Spans.{Context}
 use Rattle.otlp_ids.specs.declared.TraceId.{TraceId}
 use Rattle.otlp_span.specs.declared.parts.Kind.{Kind}
 use Rattle.otlp_span.specs.Parts.{kind_view}

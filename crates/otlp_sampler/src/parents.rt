@@ -1,5 +1,6 @@
+//! The sampler that goes by the parent of a span.
 ghost use Rattle.std.specs.Prelude.{◌≡◌};
-ghost use Rattle.span_model.specs.Sampling as model;
+ghost use Rattle.model_span.specs.Sampling as model;
 
 use crate::sampling::{AlwaysOff, AlwaysOn, Decision, Sampler};
 use otlp_ids::{SpanContext, TraceId};

@@ -1,7 +1,8 @@
+//! What becomes of a span that starts, and the samplers that always give one answer.
 ghost use Rattle.std.specs.Prelude.{◌≡◌, IsTrue};
 ghost use Rattle.std.specs.Option.{ForSome};
-ghost use Rattle.span_model.specs.Sampling as model;
-ghost use Rattle.span_model.specs.Spans.{is_valid};
+ghost use Rattle.model_span.specs.Sampling as model;
+ghost use Rattle.model_span.specs.Spans.{is_valid};
 ghost use Rattle.otlp_ids.specs.SpanContext.{context_view, parent_view};
 ghost use Rattle.otlp_sampler.specs.Sampling.{decision_view, question};
 

@@ -19,7 +19,7 @@ before_none stop [] none = refl
 before_none stop (b ∷ text) none =
     cond-false _ _ _ (ne_eqb b stop (All-head (IsNot stop) b text none)) ∙ ap (λ t. b ∷ t) (before_none stop text (All-tail (IsNot stop) b text none))
 
--- a text in which it stands first at that place
+-- a text in which it is first at that place
 pub before_first : (stop : ℕ) (text : List ℕ) (at : ℕ) → at < length text → get_or text at 0 ≡ stop
     → ((k : ℕ) → k < at → get_or text k 0 ≢ stop) → before stop text ≡ take at text
 before_first stop [] at inside here others = absurd (omega (arith, inside))

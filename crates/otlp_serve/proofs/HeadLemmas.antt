@@ -43,7 +43,7 @@ token_byte byte token = (
   λ e. true≢false (sym (subst (λ b. is_token_byte b ≡ true) e token) ∙ refl),
 )
 
--- a parse is due behind a head
+-- a parse is due after a head
 head_due : (head : RequestHead) → IsRequestHead head → IsDue (print_request head)
 unfolding print_request
 head_due head valid =
@@ -60,7 +60,7 @@ head_due head valid =
         subst IsDue (sym (regroup blank method target version (print_end line_end) (print_section fields last) x))
         (section_due blank (method ++ space ∷ target ++ space ∷ version) x line_end fields last other.0 other.1)
 
--- a byte behind which none is due makes no head
+-- a byte after which none is due makes no head
 pub none_yet : (text : List ℕ) (b : ℕ) → HasNoRequest text → ¬ (IsDue (text ++ b ∷ [])) → HasNoRequest (text ++ b ∷ [])
 none_yet = none_before_due IsRequestHead print_request head_due
 

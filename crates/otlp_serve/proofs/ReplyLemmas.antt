@@ -73,7 +73,7 @@ reply_short status name digits last short_name short_last short =
     let allow = allow_short status in
     omega (arith, sum, reason, allow, short_name, short_last, short)
 
--- what stands before the seconds, and behind them
+-- what comes before the seconds, and after them
 abbrev pub wait_name : Option ℕ → List ℕ
 wait_name seconds = if is_some seconds then codes "Retry-After: " else []
 

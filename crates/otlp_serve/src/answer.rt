@@ -5,7 +5,8 @@ ghost use Rattle.std.specs.List.{list_all};
 ghost use Rattle.http_header.specs.HeaderMap.{get_all};
 ghost use Rattle.httparse.specs.Grammar.{is_ows};
 ghost use Rattle.otlp_serve.specs.Answers as model;
-ghost use Rattle.otlp_serve.specs.Answers.{is_for_traces, is_plain, is_protobuf, is_same_word, plain_reply, reply_by, without_end_blanks};
+ghost use Rattle.otlp_serve.specs.Answers.{is_for_traces, is_plain, is_protobuf, is_same_word};
+ghost use Rattle.otlp_serve.specs.Answers.{plain_reply, reply_by, without_end_blanks};
 
 use crate::reply::PostReply;
 use crate::status::ReplyStatus;

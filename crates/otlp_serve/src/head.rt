@@ -38,7 +38,7 @@ fn stopped(text: &[u8], spans: &mut [HeaderSpan], fault: HttpFault) -> HttpFault
     }
 }
 
-/// Reads a head, byte by byte so that none behind it is taken, and keeps it in `text`. It is parsed
+/// Reads a head, byte by byte so that none after it is taken, and keeps it in `text`. It is parsed
 /// where its place says so, and where the reading stops.
 pub(crate) fn read_head<R: FaultRead, A: Allocator>(
     reader: &mut R,

@@ -126,14 +126,14 @@ fn read_post_head<R: FaultRead, A: Allocator + Copy>(
     })
 }
 
-/// Reads a request, and no byte behind it (RFC 9112, sections 2.2, 3, 5, 6.3 and 7.1). A head is
+/// Reads a request, and no byte after it (RFC 9112, sections 2.2, 3, 5, 6.3 and 7.1). A head is
 /// what `httparse` reads by default. Its body comes in chunks where Transfer-Encoding is one field,
 /// `chunked` in any case of letters; else it has the length that Content-Length says, and there is
 /// none where neither field stands. Of chunks, extensions and trailers are let go. A read that
 /// failed is not tried again.
 ///
 /// The head, lines of chunks and trailers are read byte by byte: from a socket without a buffer
-/// below, each of their bytes costs a call of the system. The head is parsed behind its first line,
+/// below, each of their bytes costs a call of the system. The head is parsed after its first line,
 /// at its end and where the reading stops, so its time goes by its length. (profile)
 ///
 /// The text of the head, while the call lasts, the method, the target and the body are kept by
@@ -143,17 +143,17 @@ fn read_post_head<R: FaultRead, A: Allocator + Copy>(
 ///
 /// `Head` where there is no whole head that can be used: `Ended` where the bytes ended before;
 /// `Device` where a read failed; `BadHead` where what came can't begin a head, also where it then
-/// ended, a read then failed or memory was then refused (but a target that isn't UTF-8 is told only
-/// behind its end), or where a field is one that `http_header` refuses; `TooLarge` where it has more
-/// bytes or fields than the limits allow; `OutOfMemory` where memory for it was refused. The reader
-/// is left where it was read up to, at most at the end of the head: of one whose first line is bad,
-/// at the end of that.
+/// ended, a read then failed or memory was then refused (but a target that isn't UTF-8 is reported
+/// only after its end), or where a field is one that `http_header` refuses; `TooLarge` where it has
+/// more bytes or fields than the limits allow; `OutOfMemory` where memory for it was refused. The
+/// reader is left where it was read up to, at most at the end of the head: of one whose first line
+/// is bad, at the end of that.
 ///
-/// `Body` behind the head: `BadLength` where Transfer-Encoding is anything but `chunked` (profile),
+/// `Body` after the head: `BadLength` where Transfer-Encoding is anything but `chunked` (profile),
 /// or stands beside a Content-Length, or where that isn't one number of digits that fits 64 bits,
 /// in one field or in several of equal text; `BadChunk` where a chunk's line or the trailers are
 /// bad or longer than a head may be, the trailers have more fields than a head may have, or no CR
-/// LF stands behind a chunk's data; `TooLarge` where Content-Length or the sum of the chunks tells
+/// LF comes after a chunk's data; `TooLarge` where Content-Length or the sum of the chunks tells
 /// of more bytes than the limit, before any of those that it tells of is read; `Ended` where the
 /// bytes ended before all had come; `Device` where a read failed; `OutOfMemory` where memory for it
 /// was refused.

@@ -1,6 +1,7 @@
 //! Replies.
 
-ghost use Rattle.std.specs.Prelude.{◌≡◌, ◌+◌, ◌^◌, ◌<◌, ◌≤◌, [], length, take, map, codes, decimal, if◌then◌else◌, is_some, IfErr, MatchOption, OnOk};
+ghost use Rattle.std.specs.Prelude.{◌≡◌, ◌+◌, ◌^◌, ◌<◌, ◌≤◌, [], length, take, map, codes, decimal};
+ghost use Rattle.std.specs.Prelude.{if◌then◌else◌, is_some, IfErr, MatchOption, OnOk};
 ghost use Rattle.std.specs.Io.KnownBytes.{Appends};
 ghost use Rattle.std.specs.List.{concat};
 ghost use Rattle.http_wire.specs.Devices.{CountsFailure};
@@ -10,13 +11,14 @@ use crate::status::ReplyStatus;
 use http_wire::{FaultWrite, Front, Stopped, write_pieces};
 use itoa::Buffer;
 
-/// What a request is answered. No reply has a body: the message that would stand in it has all
+/// What a request is answered. No reply has a body: the message that would be in it has all
 /// defaults, and so no bytes (OTLP Specification, "OTLP/HTTP Response").
 #[derive(Clone, Copy, Debug, PartialEq, Eq)]
 pub struct PostReply {
     /// Its status.
     pub status: ReplyStatus,
-    /// After how many seconds the client may try again, if that is told (RFC 9110, section 10.2.3).
+    /// After how many seconds the client may try again, if the reply says so (RFC 9110, section
+    /// 10.2.3).
     pub retry_after: Option<u64>,
 }
 
@@ -27,7 +29,7 @@ fn reason_text<'a>(status: ReplyStatus) -> &'a str
     status.reason()
 }
 
-/// The line that tells which methods are allowed, where that is told.
+/// The line that tells which methods are allowed, where the reply has it.
 fn allow_line<'a>(status: ReplyStatus) -> &'a str
     ensures { result.now ≡ allow_line status }
 {
@@ -37,7 +39,7 @@ fn allow_line<'a>(status: ReplyStatus) -> &'a str
     }
 }
 
-/// What stands before the number in the line that tells when to try again.
+/// What comes before the number in the line that tells when to try again.
 fn wait_name<'a>(seconds: Option<u64>) -> &'a str
     ensures { result.now ≡ (if is_some seconds then codes "Retry-After: " else []) }
 {
@@ -48,7 +50,7 @@ fn wait_name<'a>(seconds: Option<u64>) -> &'a str
     }
 }
 
-/// What stands behind it.
+/// What comes after it.
 fn wait_end<'a>(seconds: Option<u64>) -> &'a str
     ensures { result.now ≡ (if is_some seconds then codes "\r\n" else []) }
 {
@@ -84,7 +86,7 @@ fn reply_pieces<'a>(reply: PostReply, code: &'a str, digits: &'a str) -> [&'a [u
 /// sections 2 and 4; OTLP Specification, "OTLP/HTTP Response"). It goes out in one write where the
 /// writer takes all of it, and takes no memory.
 ///
-/// Behind Content-Type, Content-Length and Connection stands `Allow: POST` with 405 (RFC 9110,
+/// After Content-Type, Content-Length and Connection stands `Allow: POST` with 405 (RFC 9110,
 /// section 15.5.6), and Retry-After where the reply has one. (which fields: profile)
 ///
 /// # Errors

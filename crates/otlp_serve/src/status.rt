@@ -23,11 +23,11 @@ pub enum ReplyStatus {
     TooManyRequests,
     /// 431: its head is too large.
     RequestHeaderFieldsTooLarge,
-    /// 502: what stands behind the collector failed.
+    /// 502: what comes after the collector failed.
     BadGateway,
     /// 503: it can't be taken now.
     ServiceUnavailable,
-    /// 504: what stands behind the collector didn't answer in time.
+    /// 504: what comes after the collector didn't answer in time.
     GatewayTimeout,
 }
 

@@ -4,9 +4,9 @@ use Rattle.std.proofs.lemmas.Bool.{ltb-true, ltb-false}
 use Rattle.std.proofs.lemmas.Bool.Decides.{nat_tests}
 use Rattle.std.proofs.lemmas.List.{length-map, map-append, take-append-drop}
 use Rattle.std.proofs.Math.Seq.{drop-cons, take-suc}
-use Rattle.span_model.specs.Attributes.{Attribute, AttributeList, Kept, Limits, SetsPair, attribute_list, attributes, is_empty}
-use Rattle.span_model.specs.Spans.{Call, SpanLimits, unset, attribute_limits, set_attribute, add_link, end, Context, Event, event_of, Link, link, is_ignored, is_valid, no_pairs, is_end, Start, Span, Resource, Scope, Recording, EndedSpan, KeepsPlace, Records, Adds, Ends, span}
-use Rattle.span_model.proofs.Calls.{AddsEvent, adds-attribute, adds-event, adds-counted-event, adds-link, adds-counted-link, first-none, span-ended, span-behind, span-unended}
+use Rattle.model_span.specs.Attributes.{Attribute, AttributeList, Kept, Limits, SetsPair, attribute_list, attributes, is_empty}
+use Rattle.model_span.specs.Spans.{Call, SpanLimits, unset, attribute_limits, set_attribute, add_link, end, Context, Event, event_of, Link, link, is_ignored, is_valid, no_pairs, is_end, Start, Span, Resource, Scope, SpanRecord, SpanData, KeepsPlace, Records, Adds, Ends, span}
+use Rattle.model_span.proofs.Calls.{AddsEvent, adds-attribute, adds-event, adds-counted-event, adds-link, adds-counted-link, first-none, span-ended, span-behind, span-unended}
 use Rattle.otlp_value.specs.declared.Value.{Value}
 use Rattle.otlp_value.specs.Value.{attributes_view}
 use Rattle.otlp_span.specs.declared.body.SpanBody.{SpanBody}
@@ -60,10 +60,10 @@ limited b h = let list : Limits → AttributeList = λ l. record { limits = l; k
 
 -- ---- an event or a link more
 
-abbrev with_events : Recording → Kept Event → Recording
+abbrev with_events : SpanRecord → Kept Event → SpanRecord
 with_events r events = record r { span = record r.span { events = events } }
 
-abbrev with_links : Recording → Kept Link → Recording
+abbrev with_links : SpanRecord → Kept Link → SpanRecord
 with_links r links = record r { span = record r.span { links = links } }
 
 -- what is kept of the pairs, under the limits that the record has
@@ -86,35 +86,35 @@ event-room b d = nat_lt (length b.events.items) d.limits.max_events_per_span
 pub event-room-is : {A : Type 0} {x d e b : SpanBody A} {t u : Bool} → d ≡ x → e ≡ x → b ≡ x → t ≡ event-room d e → t ≡ u → event-room b b ≡ u
 event-room-is p q r h k = ap₂ event-room (r ∙ sym p) (r ∙ sym q) ∙ sym h ∙ k
 
-pub keeps-one-event : {A : Type 0} (b : SpanBody A) (r : Recording) → event-room b b ≡ true → recording_view b ≡ r → KeepsOneMore r.limits.events r.span.events
+pub keeps-one-event : {A : Type 0} (b : SpanBody A) (r : SpanRecord) → event-room b b ≡ true → recording_view b ≡ r → KeepsOneMore r.limits.events r.span.events
 keeps-one-event b r room is =
     let one : length (map event_view b.events.items) < b.limits.max_events_per_span = rw (length-map b.events.items event_view) (ltb-true _ _ room) in
-    subst (λ (r : Recording). KeepsOneMore r.limits.events r.span.events) is one
+    subst (λ (r : SpanRecord). KeepsOneMore r.limits.events r.span.events) is one
 
 -- an event that was kept
-pub keeps-event : {A : Type 0} (b : SpanBody A) (r : Recording) (call : Call) (e : parts.Event A) (k : Kept (parts.Event A)) (is : Event) → recording_view b ≡ r → AddsEvent call → event_of (limits_view b.limits) call ≡ Some is → event-room b b ≡ true → event_view e ≡ is → k ≡ one_kept b.events e →
+pub keeps-event : {A : Type 0} (b : SpanBody A) (r : SpanRecord) (call : Call) (e : parts.Event A) (k : Kept (parts.Event A)) (is : Event) → recording_view b ≡ r → AddsEvent call → event_of (limits_view b.limits) call ≡ Some is → event-room b b ≡ true → event_view e ≡ is → k ≡ one_kept b.events e →
     Adds call r (recording_view (record b { events = k }))
 keeps-event b r call e k is before adds gives room same more =
     let old = recording_view b in
-    let with : Kept Event → Recording = λ k. with_events old k in
+    let with : Kept Event → SpanRecord = λ k. with_events old k in
     let view : Kept (parts.Event _) → Kept Event = λ k. kept_view event_view k in
     let what : view k ≡ one_kept old.span.events is = ap view more ∙ view-one event_view b.events e ∙ ap (one_kept old.span.events) same in
     subst (λ o. Adds call o (with (view k))) before (subst (λ k. Adds call old (with k)) (sym what) (adds-event old call is adds gives (keeps-one-event b old room refl)))
 
 -- one that was only counted
-pub counts-event : {A : Type 0} (b : SpanBody A) (r : Recording) (call : Call) (k : Kept (parts.Event A)) (is : Event) → recording_view b ≡ r → AddsEvent call → event_of (limits_view b.limits) call ≡ Some is → event-room b b ≡ false → k ≡ one_counted b.events →
+pub counts-event : {A : Type 0} (b : SpanBody A) (r : SpanRecord) (call : Call) (k : Kept (parts.Event A)) (is : Event) → recording_view b ≡ r → AddsEvent call → event_of (limits_view b.limits) call ≡ Some is → event-room b b ≡ false → k ≡ one_counted b.events →
     Adds call r (recording_view (record b { events = k }))
 counts-event b r call k is before adds gives full more =
     let old = recording_view b in
-    let with : Kept Event → Recording = λ k. with_events old k in
+    let with : Kept Event → SpanRecord = λ k. with_events old k in
     let view : Kept (parts.Event _) → Kept Event = λ k. kept_view event_view k in
     let no_room : old.limits.events ≤ length old.span.events.items = rw (length-map b.events.items event_view) (ltb-false _ _ full) in
     subst (λ o. Adds call o (with (view k))) before (subst (λ k. Adds call old (with k)) (sym (ap view more)) (adds-counted-event old call is adds gives no_room))
 
 -- no event more
-pub same-events : {A : Type 0} (b : SpanBody A) (r : Recording) (k : Kept (parts.Event A)) → recording_view b ≡ r → k ≡ b.events → recording_view (record b { events = k }) ≡ r
+pub same-events : {A : Type 0} (b : SpanBody A) (r : SpanRecord) (k : Kept (parts.Event A)) → recording_view b ≡ r → k ≡ b.events → recording_view (record b { events = k }) ≡ r
 same-events b r k before is =
-    let with : Kept (parts.Event _) → Recording = λ k. recording_view (record b { events = k }) in
+    let with : Kept (parts.Event _) → SpanRecord = λ k. recording_view (record b { events = k }) in
     ap with is ∙ before
 
 and-false : (b : Bool) → (b && false) ≡ false
@@ -143,40 +143,40 @@ link-room b d = nat_lt (length b.links.items) d.limits.max_links_per_span
 pub link-room-is : {A : Type 0} {x d e b : SpanBody A} {t u : Bool} → d ≡ x → e ≡ x → b ≡ x → t ≡ link-room d e → t ≡ u → link-room b b ≡ u
 link-room-is p q r h k = ap₂ link-room (r ∙ sym p) (r ∙ sym q) ∙ sym h ∙ k
 
-pub keeps-one-link : {A : Type 0} (b : SpanBody A) (r : Recording) → link-room b b ≡ true → recording_view b ≡ r → KeepsOneMore r.limits.links r.span.links
+pub keeps-one-link : {A : Type 0} (b : SpanBody A) (r : SpanRecord) → link-room b b ≡ true → recording_view b ≡ r → KeepsOneMore r.limits.links r.span.links
 keeps-one-link b r room is =
     let one : length (map link_view b.links.items) < b.limits.max_links_per_span = rw (length-map b.links.items link_view) (ltb-true _ _ room) in
-    subst (λ (r : Recording). KeepsOneMore r.limits.links r.span.links) is one
+    subst (λ (r : SpanRecord). KeepsOneMore r.limits.links r.span.links) is one
 
 -- a link that was kept
-pub keeps-link : {A : Type 0} (b : SpanBody A) (r : Recording) (to : Context) (pairs : List Attribute) (l : link_parts.Link A) (k : Kept (link_parts.Link A)) → recording_view b ≡ r → is_ignored to pairs ≡ false → link-room b b ≡ true → link_view l ≡ link (limits_view b.limits) to pairs → k ≡ one_kept b.links l →
+pub keeps-link : {A : Type 0} (b : SpanBody A) (r : SpanRecord) (to : Context) (pairs : List Attribute) (l : link_parts.Link A) (k : Kept (link_parts.Link A)) → recording_view b ≡ r → is_ignored to pairs ≡ false → link-room b b ≡ true → link_view l ≡ link (limits_view b.limits) to pairs → k ≡ one_kept b.links l →
     Adds (add_link to pairs) r (recording_view (record b { links = k }))
 keeps-link b r to pairs l k before says room same more =
     let old = recording_view b in
-    let with : Kept Link → Recording = λ k. with_links old k in
+    let with : Kept Link → SpanRecord = λ k. with_links old k in
     let view : Kept (link_parts.Link _) → Kept Link = λ k. kept_view link_view k in
     let what : view k ≡ one_kept old.span.links (link old.limits to pairs) = ap view more ∙ view-one link_view b.links l ∙ ap (one_kept old.span.links) same in
     subst (λ o. Adds (add_link to pairs) o (with (view k))) before (subst (λ k. Adds (add_link to pairs) old (with k)) (sym what) (adds-link old to pairs says (keeps-one-link b old room refl)))
 
 -- one that was only counted
-pub counts-link : {A : Type 0} (b : SpanBody A) (r : Recording) (to : Context) (pairs : List Attribute) (k : Kept (link_parts.Link A)) → recording_view b ≡ r → is_ignored to pairs ≡ false → link-room b b ≡ false → k ≡ one_counted b.links →
+pub counts-link : {A : Type 0} (b : SpanBody A) (r : SpanRecord) (to : Context) (pairs : List Attribute) (k : Kept (link_parts.Link A)) → recording_view b ≡ r → is_ignored to pairs ≡ false → link-room b b ≡ false → k ≡ one_counted b.links →
     Adds (add_link to pairs) r (recording_view (record b { links = k }))
 counts-link b r to pairs k before says full more =
     let old = recording_view b in
-    let with : Kept Link → Recording = λ k. with_links old k in
+    let with : Kept Link → SpanRecord = λ k. with_links old k in
     let view : Kept (link_parts.Link _) → Kept Link = λ k. kept_view link_view k in
     let no_room : old.limits.links ≤ length old.span.links.items = rw (length-map b.links.items link_view) (ltb-false _ _ full) in
     subst (λ o. Adds (add_link to pairs) o (with (view k))) before (subst (λ k. Adds (add_link to pairs) old (with k)) (sym (ap view more)) (adds-counted-link old to pairs says no_room))
 
 -- no link more
-pub same-links : {A : Type 0} (b : SpanBody A) (r : Recording) (k : Kept (link_parts.Link A)) → recording_view b ≡ r → k ≡ b.links → recording_view (record b { links = k }) ≡ r
+pub same-links : {A : Type 0} (b : SpanBody A) (r : SpanRecord) (k : Kept (link_parts.Link A)) → recording_view b ≡ r → k ≡ b.links → recording_view (record b { links = k }) ≡ r
 same-links b r k before is =
-    let with : Kept (link_parts.Link _) → Recording = λ k. recording_view (record b { links = k }) in
+    let with : Kept (link_parts.Link _) → SpanRecord = λ k. recording_view (record b { links = k }) in
     ap with is ∙ before
 
 -- ---- a run of calls
 
-pub stays : (first old new : Recording) → KeepsPlace first old → KeepsPlace old new → KeepsPlace first new
+pub stays : (first old new : SpanRecord) → KeepsPlace first old → KeepsPlace old new → KeepsPlace first new
 stays first old new a b = record { limits = b.limits ∙ a.limits; resource = b.resource ∙ a.resource; scope = b.scope ∙ a.scope }
 
 -- a call that isn't one of the ends
@@ -203,13 +203,13 @@ pub through-index : {X : Type 0} (view : X → Call) (calls : List X) (i : ℕ) 
 through-index view calls i x l e =
     rw (add-one, take-suc calls i x l) (map-append view (take i calls) (get_or calls i x ∷ []) ∙ ap (λ y. map view (take i calls) ++ view y ∷ []) (sym e))
 
-same-ended : (e : EndedSpan) (r : Resource) (s : Scope) (x : Span) → e.resource ≡ r → e.scope ≡ s → e.span ≡ x → e.ticket ≡ 0 → e ≡ record { resource = r; scope = s; span = x; ticket = 0 }
+same-ended : (e : SpanData) (r : Resource) (s : Scope) (x : Span) → e.resource ≡ r → e.scope ≡ s → e.span ≡ x → e.ticket ≡ 0 → e ≡ record { resource = r; scope = s; span = x; ticket = 0 }
 same-ended e r s x p q h t =
-    let make : Resource → Scope → Span → ℕ → EndedSpan = λ r s x n. record { resource = r; scope = s; span = x; ticket = n } in
+    let make : Resource → Scope → Span → ℕ → SpanData = λ r s x n. record { resource = r; scope = s; span = x; ticket = n } in
     ap (λ y. make y e.scope e.span e.ticket) p ∙ ap (λ y. make r y e.span e.ticket) q ∙ ap (λ y. make r s y e.ticket) h ∙ ap (λ n. make r s x n) t
 
 -- a span that is ended among its calls
-pub ended : (first r : Recording) (e : EndedSpan) (start : Start) (before after : List Call) (at : ℕ) → KeepsPlace first r → Records r start before → Ends at r e →
+pub ended : (first r : SpanRecord) (e : SpanData) (start : Start) (before after : List Call) (at : ℕ) → KeepsPlace first r → Records r start before → Ends at r e →
     e ≡ record { resource = first.resource; scope = first.scope; span = span first.limits start (before ++ end at ∷ after); ticket = 0 }
 ended first r e start before after at place rec ends =
     let whole : e.span ≡ span first.limits start (before ++ end at ∷ after) =
@@ -217,7 +217,7 @@ ended first r e start before after at place rec ends =
     same-ended e first.resource first.scope _ (ends.resource ∙ place.resource) (ends.scope ∙ place.scope) whole ends.ticket
 
 -- a span that is not ended by any of its calls
-pub unended : (first r : Recording) (e : EndedSpan) (start : Start) (calls : List Call) → KeepsPlace first r → Records r start calls → Ends start.at r e →
+pub unended : (first r : SpanRecord) (e : SpanData) (start : Start) (calls : List Call) → KeepsPlace first r → Records r start calls → Ends start.at r e →
     e ≡ record { resource = first.resource; scope = first.scope; span = span first.limits start calls; ticket = 0 }
 unended first r e start calls place rec ends =
     let whole : e.span ≡ span first.limits start calls =

@@ -1,7 +1,7 @@
 -- Several pairs, set one after the other.
 use Rattle.std.proofs.Common.{◌≡◌, sym, ap, subst, ◌∙◌, List, [], ◌∷◌, ◌++◌, append_assoc, String}
 use Rattle.std.proofs.lemmas.List.{map-append}
-use Rattle.span_model.specs.Attributes.{Attribute, AttributeList, Kept, Limits, SetsPair, attribute_list, attributes}
+use Rattle.model_span.specs.Attributes.{Attribute, AttributeList, Kept, Limits, SetsPair, attribute_list, attributes}
 use Rattle.otlp_value.specs.declared.Value.{Value}
 use Rattle.otlp_value.specs.Value.{attribute_view, attributes_view}
 use Rattle.otlp_span.specs.Pairs.{SetsPairs}

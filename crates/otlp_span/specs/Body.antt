@@ -1,11 +1,12 @@
 -- What the body of a span is in the model.
 use Rattle.std.specs.Prelude.{◌≡◌, ℕ, is_some, map, string_bytes, true}
 use Rattle.std.specs.Arc.{arc_value}
-use Rattle.span_model.specs.Attributes.{Kept}
-use Rattle.span_model.specs.Spans as model
+use Rattle.model_span.specs.Attributes.{Kept}
+use Rattle.model_span.specs.Spans as model
 use Rattle.otlp_ids.specs.SpanContext.{context_view}
 use Rattle.otlp_span.specs.declared.body.SpanBody.{SpanBody}
-use Rattle.otlp_span.specs.Parts.{event_view, kind_view, limits_view, link_view, resource_view, scope_view, kept_parent_view, status_view}
+use Rattle.otlp_span.specs.Parts.{event_view, kind_view, limits_view, link_view, resource_view}
+use Rattle.otlp_span.specs.Parts.{scope_view, kept_parent_view, status_view}
 
 -- what is kept, each item in the model
 abbrev pub kept_view : {T M : Type 0} → (T → M) → Kept T → Kept M
@@ -26,7 +27,7 @@ span_view b = record {
 }
 
 -- the body of a span that has ended, with its ticket
-abbrev pub ended_view : {A : Type 0} → ℕ → SpanBody A → model.EndedSpan
+abbrev pub ended_view : {A : Type 0} → ℕ → SpanBody A → model.SpanData
 ended_view ticket b = record {
   resource = resource_view (arc_value b.resource);
   scope = scope_view (arc_value b.scope);
@@ -34,7 +35,7 @@ ended_view ticket b = record {
   ticket = ticket;
 }
 
-abbrev pub recording_view : {A : Type 0} → SpanBody A → model.Recording
+abbrev pub recording_view : {A : Type 0} → SpanBody A → model.SpanRecord
 recording_view b = record {
   limits = limits_view b.limits;
   resource = resource_view (arc_value b.resource);

@@ -1,8 +1,8 @@
 -- What kinds, limits, resources, scopes, starts, events, links and calls are in the model.
 use Rattle.std.specs.Prelude.{Bool, true, false, ℕ, List, [], map, Option, option_map, string_bytes}
 use Rattle.std.specs.Arc.{arc_value}
-use Rattle.span_model.specs.Spans as model
-use Rattle.span_model.specs.Attributes as attributes
+use Rattle.model_span.specs.Spans as model
+use Rattle.model_span.specs.Attributes as attributes
 use Rattle.otlp_ids.specs.declared.SpanId.{SpanId}
 use Rattle.otlp_ids.specs.SpanContext.{context_view}
 use Rattle.otlp_value.specs.Value.{value_view, attributes_view}
@@ -108,8 +108,8 @@ call_view (calls.SetStatus status) = model.set_status (status_view status)
 call_view (calls.UpdateName name) = model.update_name (string_bytes name)
 call_view (calls.End at) = model.end at
 
--- what stands where no call was made yet
-abbrev pub opened_recording : {A : Type 0} → SpanLimits → Open A → model.Recording
+-- what is where no call was made yet
+abbrev pub opened_recording : {A : Type 0} → SpanLimits → Open A → model.SpanRecord
 opened_recording limits o = record {
   limits = limits_view limits;
   resource = resource_view (arc_value o.resource);
@@ -118,11 +118,11 @@ opened_recording limits o = record {
 }
 
 -- the list that the attributes are set in
-abbrev pub attributes_of : model.Recording → attributes.AttributeList
+abbrev pub attributes_of : model.SpanRecord → attributes.AttributeList
 attributes_of r = record { limits = model.attribute_limits r.limits; kept = r.span.attributes }
 
 -- the ended span of these calls
-abbrev pub replayed_span : {A : Type 0} → SpanLimits → Open A → List (SpanCall A) → model.EndedSpan
+abbrev pub replayed_span : {A : Type 0} → SpanLimits → Open A → List (SpanCall A) → model.SpanData
 replayed_span limits o made = record {
   resource = resource_view (arc_value o.resource);
   scope = scope_view (arc_value o.scope);

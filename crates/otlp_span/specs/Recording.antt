@@ -1,7 +1,9 @@
 -- What one more item makes of those that are kept, and which calls take memory.
 use Rattle.std.specs.Prelude.{◌≡◌, ℕ, ◌+◌, ◌<◌, List, [], ◌∷◌, ◌++◌, length, false}
-use Rattle.span_model.specs.Attributes.{Attribute, Kept, capped_count}
-use Rattle.span_model.specs.Spans.{Call, Context, Recording, is_ignored, unset, ok, set_attribute, add_event, record_exception, add_link, set_status, update_name, end}
+use Rattle.model_span.specs.Attributes.{Attribute, Kept, capped_count}
+use Rattle.model_span.specs.Spans.{Call, Context, SpanRecord, is_ignored, unset, ok, set_attribute}
+use Rattle.model_span.specs.Spans.{add_event, record_exception, add_link, set_status, update_name}
+use Rattle.model_span.specs.Spans.{end}
 use Rattle.otlp_value.specs.AttributeList.{TakesPlace}
 use Rattle.otlp_span.specs.Parts.{attributes_of}
 
@@ -18,12 +20,12 @@ abbrev pub one_counted : {A : Type 0} → Kept A → Kept A
 one_counted kept = record { items = kept.items; dropped = capped_count (kept.dropped + 1) }
 
 -- The link is kept: it says something, and there is room for it.
-pub record KeepsLink (to : Context) (pairs : List Attribute) (r : Recording) : Type 0 where
+pub record KeepsLink (to : Context) (pairs : List Attribute) (r : SpanRecord) : Type 0 where
   pub counts : is_ignored to pairs ≡ false
   pub room : KeepsOneMore r.limits.links r.span.links
 
 -- What the call adds is kept, and so takes memory: a new attribute, an event or a link.
-abbrev pub CallTakesMemory : Call → Recording → Type 0
+abbrev pub CallTakesMemory : Call → SpanRecord → Type 0
 CallTakesMemory (set_attribute p) r = TakesPlace p.key (attributes_of r)
 CallTakesMemory (add_event name at pairs) r = KeepsOneMore r.limits.events r.span.events
 CallTakesMemory (record_exception kind message stack at pairs) r =

@@ -1,9 +1,10 @@
 -- The names that hang together, the newest first.
-use Rattle.std.specs.Prelude.{ℕ, ◌+◌, List, [], ◌∷◌, length, Bool, IsTrue, true, false, Option, None, Some}
+use Rattle.std.specs.Prelude.{ℕ, ◌+◌, List, [], ◌∷◌, length, Bool, IsTrue, true, false, Option}
+use Rattle.std.specs.Prelude.{None, Some}
 use Rattle.std.specs.Option.{ForSome}
-use Rattle.drop_model.specs.Dropped as model
-use Rattle.otlp_span.specs.declared.slip.Note.{Note}
-use Rattle.otlp_span.specs.declared.slip.Note.TheVariants as notes
+use Rattle.model_drop.specs.Dropped as model
+use Rattle.otlp_span.specs.declared.slip.SlipNode.{SlipNode}
+use Rattle.otlp_span.specs.declared.slip.SlipNode.TheVariants as nodes
 use Rattle.otlp_span.specs.Dropped.{entry_view}
 
 -- those of a slip, or none where there is no slip
@@ -16,15 +17,15 @@ abbrev pub is_named : List model.Entry → Bool
 is_named [] = false
 is_named (e ∷ es) = true
 
--- the names from what stands on a slip on
-abbrev pub note_entries : {A : Type 0} → Note A → List model.Entry
-note_entries notes.Blank = []
-note_entries (notes.Named entry below) = entry_view entry ∷ entries_of below
+-- the names from what is on a slip on
+abbrev pub node_entries : {A : Type 0} → SlipNode A → List model.Entry
+node_entries nodes.Blank = []
+node_entries (nodes.Named entry below) = entry_view entry ∷ entries_of below
 
 -- what is below names something
-abbrev pub IsNote : {A : Type 0} → Note A → Type 0
-IsNote notes.Blank = Unit {0}
-IsNote (notes.Named entry below) = ForSome below (λ es. IsTrue (is_named es))
+abbrev pub IsSlipNode : {A : Type 0} → SlipNode A → Type 0
+IsSlipNode nodes.Blank = Unit {0}
+IsSlipNode (nodes.Named entry below) = ForSome below (λ es. IsTrue (is_named es))
 
 -- how many slips there are, one that names nothing among them
 abbrev pub slip_count : Option (List model.Entry) → ℕ

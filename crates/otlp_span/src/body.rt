@@ -1,3 +1,4 @@
+//! What a span is made of, in a box of its own.
 ghost use Rattle.std.specs.Prelude.{◌≡◌, []};
 
 use crate::kept::Kept;

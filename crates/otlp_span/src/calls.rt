@@ -1,5 +1,6 @@
+//! A span that is made from a list of calls.
 ghost use Rattle.std.specs.Prelude.{◌≡◌, IfOk, OnErr, OnOk, false};
-ghost use Rattle.span_model.specs.Spans.{Adds, is_end, set_status};
+ghost use Rattle.model_span.specs.Spans.{Adds, is_end, set_status};
 ghost use Rattle.otlp_value.specs.Value.{attributes_view};
 ghost use Rattle.otlp_span.specs.Parts.{call_view, replayed_span, status_view};
 ghost use Rattle.otlp_span.specs.Recording.{CallTakesMemory, HoldsText};
@@ -11,7 +12,7 @@ use otlp_ids::OutOfMemory;
 use otlp_value::Value;
 use std::alloc::Allocator;
 
-/// The span of a start and of the calls on it. The calls behind the first end are ignored (Trace
+/// The span of a start and of the calls on it. The calls after the first end are ignored (Trace
 /// API, "End"); where there is no end, the span ends at its start (profile). What the calls hold is
 /// copied.
 ///

@@ -1,10 +1,12 @@
+//! A span that has ended, and what is left of one that was dropped.
 ghost use Rattle.std.specs.Prelude.{◌≡◌, [], map, option_map};
-ghost use Rattle.drop_model.specs.Dropped.{entry_of};
-ghost use Rattle.span_model.specs.Spans.{has_remote_parent, with_ticket};
+ghost use Rattle.model_drop.specs.Dropped.{entry_of};
+ghost use Rattle.model_span.specs.Spans.{has_remote_parent, with_ticket};
 ghost use Rattle.otlp_ids.specs.SpanContext.{context_view};
 ghost use Rattle.otlp_value.specs.Value.{attributes_view};
 ghost use Rattle.otlp_span.specs.Dropped.{entry_view, reason_view};
-ghost use Rattle.otlp_span.specs.Parts.{event_view, kind_view, link_view, parent_id_view, resource_view, scope_view, status_view};
+ghost use Rattle.otlp_span.specs.Parts.{event_view, kind_view, link_view, parent_id_view};
+ghost use Rattle.otlp_span.specs.Parts.{resource_view, scope_view, status_view};
 
 use crate::body::{BlankSlip, SpanBody};
 use crate::parts::{Event, Kind, Link, Resource, Scope, Status};
@@ -35,9 +37,9 @@ pub struct SpanRemains<A: Allocator = Global> {
 }
 
 impl<A: Allocator> Model for SpanData<A> {
-    ghost use Rattle.span_model.specs.Spans.{EndedSpan};
+    ghost use Rattle.model_span.specs.Spans as spans;
 
-    ghost Value = { EndedSpan };
+    ghost Value = { spans.SpanData };
 
     ghost use Rattle.otlp_span.specs.Body.{HasSlip, ended_view};
 

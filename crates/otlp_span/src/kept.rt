@@ -1,3 +1,4 @@
+//! Items that are kept up to a limit.
 ghost use Rattle.std.specs.Prelude.{◌≡◌, OnErr, OnOk, [], length, nat_lt};
 ghost use Rattle.otlp_span.specs.Recording.{one_counted, one_kept};
 
@@ -15,7 +16,7 @@ pub(crate) struct Kept<T, A: Allocator> {
 }
 
 impl<T, A: Allocator> Model for Kept<T, A> {
-    ghost use Rattle.span_model.specs.Attributes.{Kept};
+    ghost use Rattle.model_span.specs.Attributes.{Kept};
 
     ghost Value = { Kept T };
 

@@ -1,6 +1,7 @@
+//! The attributes of events, links and exceptions.
 ghost use Rattle.std.specs.Prelude.{◌≡◌, IfOk, OnOk, string_bytes};
-ghost use Rattle.span_model.specs.Attributes.{attribute_list};
-ghost use Rattle.span_model.specs.Spans.{exception_pairs, pair_unless_empty};
+ghost use Rattle.model_span.specs.Attributes.{attribute_list};
+ghost use Rattle.model_span.specs.Spans.{exception_pairs, pair_unless_empty};
 ghost use Rattle.otlp_value.specs.Value.{attributes_view, limits_view};
 ghost use Rattle.otlp_span.specs.Pairs.{SetsPairs};
 

@@ -1,3 +1,4 @@
+//! The parts of a span: kind, status, scope, resource, events and links.
 ghost use Rattle.std.specs.Prelude.{◌≡◌, None};
 
 use otlp_ids::{OutOfMemory, SpanContext, SpanId, copy_text};
@@ -22,7 +23,7 @@ pub enum Kind {
 }
 
 impl Default for Kind {
-    ghost use Rattle.span_model.specs.Spans.{internal};
+    ghost use Rattle.model_span.specs.Spans.{internal};
     ghost use Rattle.otlp_span.specs.Parts.{kind_view};
 
     ghost is_default = { λ kind. kind_view kind ≡ internal };
@@ -55,7 +56,7 @@ pub struct SpanLimits {
 
 impl SpanLimits {
     ghost use Rattle.otlp_value.specs.Value as values;
-    ghost use Rattle.span_model.specs.Spans.{attribute_limits, event_limits, link_limits};
+    ghost use Rattle.model_span.specs.Spans.{attribute_limits, event_limits, link_limits};
     ghost use Rattle.otlp_span.specs.Parts.{limits_view};
 
     /// Those of the attributes of the span.
@@ -91,7 +92,7 @@ impl SpanLimits {
 
 impl Default for SpanLimits {
     ghost use Rattle.std.specs.Prelude.{◌≡◌};
-    ghost use Rattle.span_model.specs.Spans.{default_limits};
+    ghost use Rattle.model_span.specs.Spans.{default_limits};
     ghost use Rattle.otlp_span.specs.Parts.{limits_view};
 
     ghost is_default = { λ limits. limits_view limits ≡ default_limits };
@@ -155,7 +156,7 @@ pub struct Scope<A: Allocator = Global> {
 
 impl<A: Allocator + Copy> Scope<A> {
     ghost use Rattle.std.specs.Prelude.{[], IfOk, OnErr, false};
-    ghost use Rattle.span_model.specs.Attributes.{is_empty};
+    ghost use Rattle.model_span.specs.Attributes.{is_empty};
     ghost use Rattle.otlp_span.specs.Parts.{scope_view};
 
     /// A scope with this name, on memory of its own, and without a version, attributes or a schema.
@@ -218,7 +219,7 @@ pub enum Status<A: Allocator = Global> {
 }
 
 impl<A: Allocator> Status<A> {
-    ghost use Rattle.span_model.specs.Spans.{is_ok_status};
+    ghost use Rattle.model_span.specs.Spans.{is_ok_status};
     ghost use Rattle.otlp_span.specs.Parts.{is_unset_status, status_view};
 
     /// Whether no other status replaces it.

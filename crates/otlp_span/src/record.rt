@@ -1,6 +1,7 @@
+//! A span while it is recorded.
 ghost use Rattle.std.specs.Prelude.{◌≡◌, IfOk, OnErr, OnOk, false, length, nat_lt, string_bytes};
-ghost use Rattle.span_model.specs.Spans as model;
-ghost use Rattle.span_model.specs.Spans.{Adds, Ends, is_ignored};
+ghost use Rattle.model_span.specs.Spans as model;
+ghost use Rattle.model_span.specs.Spans.{Adds, Ends, is_ignored};
 ghost use Rattle.otlp_ids.specs.SpanContext.{context_view};
 ghost use Rattle.otlp_value.specs.AttributeList.{TakesPlace};
 ghost use Rattle.otlp_value.specs.Value.{attribute_view, attributes_view};
@@ -28,9 +29,9 @@ pub struct SpanRecord<A: Allocator = Global> {
 }
 
 impl<A: Allocator> Model for SpanRecord<A> {
-    ghost use Rattle.span_model.specs.Spans.{Recording};
+    ghost use Rattle.model_span.specs.Spans as spans;
 
-    ghost Value = { Recording };
+    ghost Value = { spans.SpanRecord };
 
     ghost use Rattle.otlp_span.specs.Body.{HasSlip, IsLimited, recording_view};
 

@@ -1,4 +1,6 @@
-ghost use Rattle.std.specs.Prelude.{◌≡◌, ◌≤◌, ◌∷◌, ◌++◌, [], IfOk, IsTrue, drop, length, option_map, slice_get, take};
+//! The name of a span that isn't delivered, and the memory in which it is kept.
+ghost use Rattle.std.specs.Prelude.{◌≡◌, ◌≤◌, ◌∷◌, ◌++◌, [], IfOk, IsTrue, drop, length};
+ghost use Rattle.std.specs.Prelude.{option_map, slice_get, take};
 ghost use Rattle.std.specs.Option.{ForSome, option_copied};
 ghost use Rattle.otlp_span.specs.Dropped.{entry_view};
 ghost use Rattle.otlp_span.specs.Slips.{entries_of, is_named, slip_count};
@@ -10,7 +12,7 @@ use std::iter::FusedIterator;
 use std::marker::Model;
 use std::{fmt, mem};
 
-/// The name of a span that was dropped (profile).
+/// The name of a span that was dropped or lost (profile).
 #[derive(Debug, Clone, Copy, PartialEq, Eq)]
 pub struct Entry {
     /// The trace that the span belongs to.
@@ -19,25 +21,25 @@ pub struct Entry {
     pub span: SpanId,
     /// Its number among the spans that were admitted, from 0 on.
     pub ticket: u64,
-    /// Why it was dropped.
+    /// Why it isn't delivered.
     pub reason: Reason,
 }
 
-/// The memory in which the name of a dropped span is kept, taken when the span starts: to name it
-/// takes none (profile). Slips that name spans are linked into a chain. In contracts a slip is the
-/// list of the names from it on, the newest first, and is empty while it names nothing.
+/// The memory in which the name of a dropped or lost span is kept, taken when the span starts: to
+/// name it takes none (profile). Slips that name spans are linked into a chain. In contracts a slip
+/// is the list of the names from it on, the newest first, and is empty while it names nothing.
 ///
 /// A chain that is let go is taken apart one slip at a time, so that a long one doesn't use up the
 /// stack.
 #[cycle(slip)]
 pub struct Slip<A: Allocator = Global> {
-    note: Box<Note<A>, A>,
+    node: Box<SlipNode<A>, A>,
 }
 
-/// What stands on a slip.
+/// What is on a slip.
 #[cycle(slip)]
 #[derive(Drop)]
-pub(crate) enum Note<A: Allocator> {
+pub(crate) enum SlipNode<A: Allocator> {
     /// Nothing yet.
     Blank,
     /// A name, and what is linked below it.
@@ -46,21 +48,21 @@ pub(crate) enum Note<A: Allocator> {
 
 impl<A: Allocator> Model for Slip<A> {
     ghost use Rattle.std.specs.Prelude.{List, length};
-    ghost use Rattle.drop_model.specs.Dropped.{Entry};
+    ghost use Rattle.model_drop.specs.Dropped.{Entry};
 
     ghost Value = { List Entry };
 
-    ghost use Rattle.otlp_span.specs.Slips.{IsNote, note_entries};
+    ghost use Rattle.otlp_span.specs.Slips.{IsSlipNode, node_entries};
 
-    ghost view = { λ s. note_entries s.note.value };
+    ghost view = { λ s. node_entries s.node.value };
 
-    ghost invariant = { λ s. IsNote s.note.value };
+    ghost invariant = { λ s. IsSlipNode s.node.value };
 
     ghost size = { length };
 
     ghost use Rattle.otlp_span.specs.SlipFalls.{depth-le-length};
 
-    ghost size_decreases = { λ s h. depth-le-length A A.Allocator s.note.value };
+    ghost size_decreases = { λ s h. depth-le-length A A.Allocator s.node.value };
 }
 
 impl<A: Allocator> Slip<A> {
@@ -72,8 +74,8 @@ impl<A: Allocator> Slip<A> {
     pub(crate) fn blank(alloc: A) -> Result<Slip<A>, OutOfMemory>
         ensures { IfOk result (λ slip. slip ≡ []) }
     {
-        let note = Box::new(alloc, Note::Blank)?;
-        Ok(Slip { note })
+        let node = Box::new(alloc, SlipNode::Blank)?;
+        Ok(Slip { node })
     }
 
     /// Names a span on a slip that names nothing yet, above those that are named below. It takes no
@@ -83,7 +85,7 @@ impl<A: Allocator> Slip<A> {
         requires below_named { ForSome below (λ slip. IsTrue (is_named slip)) }
         ensures { result ≡ entry_view entry ∷ entries_of below }
     {
-        *self.note = Note::Named(entry, below);
+        *self.node = SlipNode::Named(entry, below);
         self
     }
 
@@ -93,10 +95,10 @@ impl<A: Allocator> Slip<A> {
         ensures all { self ≡ entry_view result.0 ∷ entries_of result.1 }
         ensures below_named { ForSome result.1 (λ slip. IsTrue (is_named slip)) }
     {
-        let Slip { note } = self;
-        match Box::into_inner(note) {
-            Note::Named(entry, below) => (entry, below),
-            Note::Blank => unreachable!(),
+        let Slip { node } = self;
+        match Box::into_inner(node) {
+            SlipNode::Named(entry, below) => (entry, below),
+            SlipNode::Blank => unreachable!(),
         }
     }
 
@@ -109,9 +111,9 @@ impl<A: Allocator> Slip<A> {
         ensures below { entries_of result ≡ drop 1 self.old }
         ensures was_named { ForSome result (λ slip. IsTrue (is_named slip)) }
     {
-        match &mut *self.note {
-            Note::Named(_, linked) => mem::replace(linked, below),
-            Note::Blank => unreachable!(),
+        match &mut *self.node {
+            SlipNode::Named(_, linked) => mem::replace(linked, below),
+            SlipNode::Blank => unreachable!(),
         }
     }
 
@@ -119,9 +121,9 @@ impl<A: Allocator> Slip<A> {
     pub fn newest(&self) -> Option<&Entry>
         ensures { option_map (λ e. entry_view e.now) result ≡ slice_get self.now 0 }
     {
-        match &*self.note {
-            Note::Named(entry, _) => Some(entry),
-            Note::Blank => None,
+        match &*self.node {
+            SlipNode::Named(entry, _) => Some(entry),
+            SlipNode::Blank => None,
         }
     }
 
@@ -136,10 +138,10 @@ impl<A: Allocator> Slip<A> {
     fn into_below(self) -> Option<Slip<A>>
         ensures { slip_count result ≤ length self }
     {
-        let Slip { note } = self;
-        match Box::into_inner(note) {
-            Note::Named(_, below) => below,
-            Note::Blank => None,
+        let Slip { node } = self;
+        match Box::into_inner(node) {
+            SlipNode::Named(_, below) => below,
+            SlipNode::Blank => None,
         }
     }
 }
@@ -168,7 +170,7 @@ pub struct Entries<'a, A: Allocator = Global> {
 impl<'a, A: Allocator> Model for Entries<'a, A> {
     ghost use Rattle.std.specs.Prelude.{List};
     ghost use Rattle.std.specs.Option.{ForSome, option_copied};
-    ghost use Rattle.drop_model.specs.Dropped.{Entry};
+    ghost use Rattle.model_drop.specs.Dropped.{Entry};
 
     ghost Value = { List Entry };
 
@@ -198,7 +200,7 @@ impl<'a, A: Allocator> Iterator for Entries<'a, A> {
 
     fn next(&mut self) -> Option<&'a Entry> {
         let slip = self.next?;
-        let Note::Named(entry, below) = &*slip.note else {
+        let SlipNode::Named(entry, below) = &*slip.node else {
             return None;
         };
         self.next = below.as_ref();

@@ -5,7 +5,7 @@ use Rattle.std.proofs.lemmas.List.{length-map, map-id, map-set, nil_from_length}
 use Rattle.std.proofs.lemmas.Str.{IsUtf8-past_char, chars_past_char, encodes-chars, chars-nil}
 use Rattle.std.specs.Iterator.{SkipsThenYields, Yields}
 use Rattle.std.specs.Str.Iter.{char_indices_steps, char_indices_rest, char_indices_offset}
-use Rattle.span_model.specs.Attributes.{Value, text, bool, int, texts, bools, ints, cut}
+use Rattle.model_span.specs.Attributes.{Value, text, bool, int, texts, bools, ints, cut}
 
 -- ---- one text
 
@@ -73,7 +73,8 @@ with_first-all f [] (suc n) l = refl
 with_first-all f (x ∷ xs) zero l = absurd (omega (arith, l))
 with_first-all f (x ∷ xs) (suc n) l = ap (λ ys. f x ∷ ys) (with_first-all f xs n (omega (arith, l)))
 
--- One more is written at its place, in some form of the code's, which `view` takes to what is changed.
+-- One more is written at its place, in some form of the code's, which `view` takes to what is
+-- changed.
 pub one-more : {A B : Type 0} (f : B → B) (view : A → B) (xs : List B) (i : ℕ) (items : List A) (x y : A) → map view items ≡ with_first f i xs → i < length xs → view y ≡ f (view (get_or items i x)) →
     map view (set items i y) ≡ with_first f (i + 1) xs
 one-more f view xs i items x y so_far l new = map-set view items i y

@@ -9,8 +9,8 @@ use Rattle.std.proofs.lemmas.List.{length-map, map-append, map-set}
 use Rattle.std.proofs.lemmas.List.Folds.{list_any_at}
 use Rattle.std.proofs.lemmas.List.Quantifiers.{position-Some}
 use lib.Pointwise.{bytes_decides}
-use Rattle.span_model.specs.Attributes.{Value, Attribute, AttributeList, Limits, Kept, SetsPair, attributes, capped_count, cut, distinct_of, has_key, is_empty, kept_keys, last_value}
-use Rattle.span_model.proofs.Setting.{set_by, set_one, attributes-more}
+use Rattle.model_span.specs.Attributes.{Value, Attribute, AttributeList, Limits, Kept, SetsPair, attributes, capped_count, cut, distinct_of, has_key, is_empty, kept_keys, last_value}
+use Rattle.model_span.proofs.Setting.{set_by, set_one, attributes-more}
 
 -- ---- what no element passes
 
@@ -40,7 +40,7 @@ own-key a = (bytes_decides a a).1 refl
 abbrev among : List ℕ → List (List ℕ) → Bool
 among k keys = list_any (λ l. bytes_eq l k) keys
 
--- each key stands once
+-- each key is once
 abbrev IsApart : List (List ℕ) → Type 0
 IsApart [] = Unit {0}
 IsApart (k ∷ keys) = (among k keys ≡ false) × IsApart keys
@@ -77,7 +77,7 @@ apart-distinct (k ∷ keys) = (left-out k (distinct_of bytes_eq keys), apart-fil
 abbrev keys_of : List Attribute → List (List ℕ)
 keys_of items = map (λ q. q.key) items
 
--- the keys that are kept stand once each
+-- the keys that are kept are once each
 kept-apart : (limits : Limits) (pairs : List Attribute) → IsApart (keys_of (attributes limits pairs).items)
 unfolding attributes
 kept-apart limits pairs = subst IsApart (sym (back (kept_keys limits.count pairs))) (apart-take limits.count _ (apart-distinct _))
@@ -101,7 +101,7 @@ renewed-none k v (q ∷ items) h =
     let parts = or_parts (has_key k q) (list_any (has_key k) items) h in
     ap₂ (λ x l. x ∷ l) (ap (λ t. cond t (record { key = q.key; value = v }) q) parts.0) (renewed-none k v items parts.1)
 
--- a write at the place of a key that stands once
+-- a write at the place of a key that is once
 set-renews : (k : List ℕ) (v : Value) (items : List Attribute) (i : ℕ) (d : Attribute) → IsApart (keys_of items) → i < length items → has_key k (get_or items i d) ≡ true →
     set items i (record { key = (get_or items i d).key; value = v }) ≡ map (renewed k v) items
 set-renews k v [] i d h l e = absurd (omega (arith, l))

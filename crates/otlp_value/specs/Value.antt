@@ -1,6 +1,6 @@
 -- What values, pairs and limits are in the model.
 use Rattle.std.specs.Prelude.{◌≡◌, ◌<◌, List, String, false, length, map, string_bytes}
-use Rattle.span_model.specs.Attributes as model
+use Rattle.model_span.specs.Attributes as model
 use Rattle.otlp_value.specs.declared.Value.{Value}
 use Rattle.otlp_value.specs.declared.Value.TheVariants.{Text, Bool, Int, Texts, Bools, Ints}
 use Rattle.otlp_value.specs.declared.Limits.{Limits}

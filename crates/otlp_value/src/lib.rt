@@ -2,11 +2,14 @@
 //! Limits").
 #![tactic(auto)]
 
-ghost use Rattle.std.specs.Prelude.{◌≡◌, ◌<◌, ◌∷◌, ◌++◌, IfOk, OnErr, OnOk, Some, [], false, length, map, position, string_bytes};
-ghost use Rattle.span_model.specs.Attributes as model;
-ghost use Rattle.span_model.specs.Attributes.{SetsPair, attribute_list, cut, first_chars, has_key, is_empty};
+ghost use Rattle.std.specs.Prelude.{◌≡◌, ◌<◌, ◌∷◌, ◌++◌, IfOk, OnErr, OnOk, Some, [], false};
+ghost use Rattle.std.specs.Prelude.{length, map, position, string_bytes};
+ghost use Rattle.model_span.specs.Attributes as model;
+ghost use Rattle.model_span.specs.Attributes.{SetsPair, attribute_list, cut, first_chars, has_key};
+ghost use Rattle.model_span.specs.Attributes.{is_empty};
 ghost use Rattle.otlp_value.specs.AttributeList.{TakesPlace};
-ghost use Rattle.otlp_value.specs.Value.{CopyTakesMemory, attribute_view, attributes_view, limits_view, value_view};
+ghost use Rattle.otlp_value.specs.Value.{CopyTakesMemory, attribute_view, attributes_view};
+ghost use Rattle.otlp_value.specs.Value.{limits_view, value_view};
 
 use otlp_ids::{OutOfMemory, copy_text};
 use std::alloc::{Allocator, Global};
@@ -105,7 +108,7 @@ pub struct AttributeList<A: Allocator = Global> {
 }
 
 impl<A: Allocator> Model for AttributeList<A> {
-    ghost use Rattle.span_model.specs.Attributes.{AttributeList};
+    ghost use Rattle.model_span.specs.Attributes.{AttributeList};
 
     ghost Value = { AttributeList };
 

@@ -3,9 +3,9 @@ use Rattle.std.proofs.Common.{◌≡◌, refl, ℕ, zero, suc, ◌<◌, ◌≤�
 use Rattle.std.proofs.lemmas.Bool.{lt-ltb, le-ltb}
 use Rattle.std.proofs.lemmas.Nat.{div_below, mod_below}
 use Rattle.std.proofs.Math.Nat.{mod-le}
-use Rattle.message_model.specs.Canon.{septets_of, shortest}
-use Rattle.message_model.specs.Spelling.{number_of_septets}
-use Rattle.message_model.proofs.Varints.{shortest-is}
+use Rattle.model_message.specs.Canon.{septets_of, shortest}
+use Rattle.model_message.specs.Spelling.{number_of_septets}
+use Rattle.model_message.proofs.Varints.{shortest-is}
 use Rattle.otlp_wire.specs.Writing.{IsLeastSize, IsReachedSize}
 
 -- the groups of a number that takes one

@@ -1,10 +1,10 @@
--- What the fields of a row hold stands in the row's bytes.
+-- What the fields of a row hold is in the row's bytes.
 use Rattle.std.proofs.Common.{◌≡◌, refl, sym, ap, ◌∙◌, ℕ, zero, suc, ◌-◌, List, [], ◌∷◌, ◌++◌, length, Result, Ok, Err, append-nil, append_assoc}
-use Rattle.message_model.specs.Reading.{Fault}
-use Rattle.message_model.specs.Wire.{Payload, varint, i64, len, i32, Field, field, row_from, row_after, row}
-use Rattle.message_model.specs.Messages.{bytes_in}
-use Rattle.message_model.specs.Spelling.{IsPayload}
-use Rattle.message_model.proofs.Fields.{takes-field}
+use Rattle.model_message.specs.Reading.{Fault}
+use Rattle.model_message.specs.Wire.{Payload, varint, i64, len, i32, Field, field, row_from, row_after, row}
+use Rattle.model_message.specs.Messages.{bytes_in}
+use Rattle.model_message.specs.Spelling.{IsPayload}
+use Rattle.model_message.proofs.Fields.{takes-field}
 use Rattle.otlp_wire.specs.Fields.{IsPart, ArePartsOf}
 
 none-part : (bs : List ℕ) → IsPart [] bs

@@ -1,10 +1,10 @@
 -- The row of some bytes, by the field at their front.
 use Rattle.std.proofs.Common.{◌≡◌, refl, sym, ap, ◌∙◌, ℕ, ◌+◌, ◌-◌, ◌<◌, List, [], ◌∷◌, length, Ok, Err, ◌==◌, false, arith}
 use Rattle.std.proofs.lemmas.Bool.{true≢false}
-use Rattle.message_model.specs.Reading.{Reading, Fault, done}
-use Rattle.message_model.specs.Wire.{Field, put, field, row_from, row_after, row}
-use Rattle.message_model.proofs.Fields.{takes-field}
-use Rattle.message_model.proofs.RowLaws.{row-field}
+use Rattle.model_message.specs.Reading.{Reading, Fault, done}
+use Rattle.model_message.specs.Wire.{Field, put, field, row_from, row_after, row}
+use Rattle.model_message.proofs.Fields.{takes-field}
+use Rattle.model_message.proofs.RowLaws.{row-field}
 
 pub row-none : (bytes : List ℕ) → length bytes ≡ 0 → row bytes ≡ done []
 unfolding row row_after

@@ -1,12 +1,12 @@
--- A varint that is read from its first byte on: the groups that were read, and those behind them.
+-- A varint that is read from its first byte on: the groups that were read, and those after them.
 use Rattle.std.proofs.Common.{◌≡◌, refl, sym, ap, ◌∙◌, ℕ, zero, suc, ◌<◌, ◌≤◌, ◌+◌, ◌-◌, ◌*◌, ◌%◌, ◌^◌, List, [], ◌∷◌, length, take, drop, get_or, Result, Ok, Err, drop-cons, add-one, arith, pow-suc, mod-eq_of_lt}
 use Rattle.std.proofs.lemmas.Bool.{lt-ltb, le-ltb}
 use Rattle.std.proofs.lemmas.List.{drop_all, take_all, length-drop}
 use Rattle.std.proofs.Math.Nat.{mul-le-mul_right}
-use Rattle.message_model.specs.Reading.{Fault, truncated, long_varint}
-use Rattle.message_model.specs.Wire.{after, give, septets, number}
+use Rattle.model_message.specs.Reading.{Fault, truncated, long_varint}
+use Rattle.model_message.specs.Wire.{after, give, septets, number}
 
--- The groups that were read are the low part of the number, and the groups behind them are read at
+-- The groups that were read are the low part of the number, and the groups after them are read at
 -- this scale.
 pub record Begun (bytes : List ℕ) (value scale i : ℕ) : Type 0 where
   pub room : ℕ
@@ -24,7 +24,7 @@ from-low (Err f) = refl
 pub begun-none : (bytes : List ℕ) → Begun bytes 0 1 0
 begun-none bytes = record { room = 10; count = refl; power = refl; low = omega arith; in_range = omega arith; whole = from-low (septets 10 bytes) }
 
--- one more group before those behind it
+-- one more group before those after it
 one-higher : (value scale group : ℕ) (r : Result (ℕ × List ℕ) Fault) →
     after (after r (λ high. give (group + 128 * high))) (λ high. give (value + scale * high)) ≡ after r (λ high. give (value + group * scale + scale * 128 * high))
 one-higher value scale group (Ok (n, rest)) = ap (λ k. Ok (k, rest)) (omega arith)

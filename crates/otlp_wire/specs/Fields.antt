@@ -1,15 +1,18 @@
 -- What a reader of fields gives, in the model's terms (Protocol Buffers, Encoding: Message
 -- Structure).
-use Rattle.std.specs.Prelude.{◌≡◌, ℕ, ◌+◌, List, [], ◌∷◌, ◌++◌, length, Option, Some, None, Result, Ok, Err}
+use Rattle.std.specs.Prelude.{◌≡◌, ℕ, ◌+◌, List, [], ◌∷◌, ◌++◌, length, Option, Some, None, Result}
+use Rattle.std.specs.Prelude.{Ok, Err}
 use Rattle.std.specs.List.{AllByRecursion}
 use Rattle.std.specs.Iterator.{Count, at_most}
 use Rattle.std.specs.Borrow.{Bor}
-use Rattle.message_model.specs.Reading.{Reading, Fault, done, truncated, long_varint, bad_number, group, bad_wire_type}
-use Rattle.message_model.specs.Wire
-use Rattle.message_model.specs.Wire.{put}
-use Rattle.message_model.specs.Messages.{bytes_in}
+use Rattle.model_message.specs.Reading.{Reading, Fault, done, truncated, long_varint, bad_number}
+use Rattle.model_message.specs.Reading.{group, bad_wire_type}
+use Rattle.model_message.specs.Wire
+use Rattle.model_message.specs.Wire.{put}
+use Rattle.model_message.specs.Messages.{bytes_in}
 use Rattle.otlp_wire.specs.declared.reader.WireFault.{WireFault}
-use Rattle.otlp_wire.specs.declared.reader.WireFault.TheVariants.{Truncated, LongVarint, BadNumber, Group, BadWireType}
+use Rattle.otlp_wire.specs.declared.reader.WireFault.TheVariants.{Truncated, LongVarint, BadNumber}
+use Rattle.otlp_wire.specs.declared.reader.WireFault.TheVariants.{Group, BadWireType}
 use Rattle.otlp_wire.specs.declared.reader.Payload.{Payload}
 use Rattle.otlp_wire.specs.declared.reader.Payload.TheVariants.{Varint, I64, Len, I32}
 use Rattle.otlp_wire.specs.declared.reader.Field.{Field}
@@ -33,13 +36,13 @@ payload_of (I32 n) = Wire.i32 n
 abbrev pub field_of : Field → Wire.Field
 field_of f = record { number = f.number; payload = payload_of f.payload }
 
--- what stands at the front of some bytes, with the bytes after it, or the fault that stands there
+-- what is at the front of some bytes, with the bytes after it, or the fault that is there
 abbrev pub front_of : {A B : Type 0} → (A → B) → Result (A × Bor (List ℕ)) WireFault
     → Result (B × List ℕ) Fault
 front_of view (Ok (x, rest)) = Ok (view x, rest.now)
 front_of view (Err fault) = Err (fault_of fault)
 
--- Of the row that was left: its first field, and the fields behind it are left; or the fault in
+-- Of the row that was left: its first field, and the fields after it are left; or the fault in
 -- the place of its first field, and nothing is left; or none where nothing was left. (Protocol
 -- Buffers, Encoding: Message Structure)
 abbrev pub GivesField : Reading (List Wire.Field) → Option (Result Field WireFault)
@@ -53,7 +56,7 @@ GivesField old None new = (old ≡ done []) × (new ≡ done [])
 abbrev pub outcome_count : Reading (List Wire.Field) → Count
 outcome_count left = at_most (length left.value + length left.faults)
 
--- some bytes of these, one behind the other
+-- some bytes of these, one after the other
 pub record IsPart (part whole : List ℕ) : Type 0 where
   pub before : List ℕ
   pub behind : List ℕ

@@ -1,10 +1,11 @@
--- What a writer puts behind the bytes of a vector (Protocol Buffers, Encoding).
-use Rattle.std.specs.Prelude.{◌≡◌, ℕ, ◌+◌, ◌≤◌, List, ◌++◌, length, take, drop, Vec, vec_len, vec_capacity}
-use Rattle.message_model.specs.Wire.{Payload}
-use Rattle.message_model.specs.Spelling.{IsVarint, IsPayload}
-use Rattle.message_model.specs.Canon.{payload_bytes}
+-- What a writer puts after the bytes of a vector (Protocol Buffers, Encoding).
+use Rattle.std.specs.Prelude.{◌≡◌, ℕ, ◌+◌, ◌≤◌, List, ◌++◌, length, take, drop, Vec, vec_len}
+use Rattle.std.specs.Prelude.{vec_capacity}
+use Rattle.model_message.specs.Wire.{Payload}
+use Rattle.model_message.specs.Spelling.{IsVarint, IsPayload}
+use Rattle.model_message.specs.Canon.{payload_bytes}
 
--- the new bytes are the old ones, with a spelling of the payload behind them
+-- the new bytes are the old ones, with a spelling of the payload after them
 pub record Appends (p : Payload) (old new : List ℕ) : Type 0 where
   pub spelling : List ℕ
   pub spells : IsPayload spelling p

@@ -6,9 +6,10 @@
 mod places;
 mod reader;
 
-ghost use Rattle.std.specs.Prelude.{◌≡◌, ◌+◌, ◌-◌, ◌≤◌, ◌<◌, ◌++◌, length, OnOk, OnErr, IsOk, vec_len, vec_capacity};
-ghost use Rattle.message_model.specs.Wire;
-ghost use Rattle.message_model.specs.Canon.{shortest, payload_bytes};
+ghost use Rattle.std.specs.Prelude.{◌≡◌, ◌+◌, ◌-◌, ◌≤◌, ◌<◌, ◌++◌, length, OnOk, OnErr, IsOk};
+ghost use Rattle.std.specs.Prelude.{vec_len, vec_capacity};
+ghost use Rattle.model_message.specs.Wire;
+ghost use Rattle.model_message.specs.Canon.{shortest, payload_bytes};
 ghost use Rattle.otlp_wire.specs.Writing.{Appends, FitsCapacity, IsLeastSize, IsReachedSize};
 
 use otlp_ids::OutOfMemory;
@@ -40,7 +41,7 @@ pub fn varint_size(value: u64) -> usize
 /// # Errors
 ///
 /// `OutOfMemory` where there was no room and the vector could not grow. It then holds what it held.
-#[tactic(auto, unfolding(message_model::specs::Canon::payload_bytes))]
+#[tactic(auto, unfolding(model_message::specs::Canon::payload_bytes))]
 pub fn write_varint<A: Allocator>(out: &mut Vec<u8, A>, value: u64) -> Result<(), OutOfMemory>
     ensures spelled { OnOk result (Appends (Wire.varint value) out.old.items out.new.items) }
     ensures canonical { OnOk result
@@ -76,7 +77,7 @@ fn push_varint<A: Allocator>(out: &mut Vec<u8, A>, value: u64)
 /// # Errors
 ///
 /// `OutOfMemory` where there was no room and the vector could not grow. It then holds what it held.
-#[tactic(auto, unfolding(message_model::specs::Canon::payload_bytes))]
+#[tactic(auto, unfolding(model_message::specs::Canon::payload_bytes))]
 pub fn write_fixed64<A: Allocator>(out: &mut Vec<u8, A>, value: u64) -> Result<(), OutOfMemory>
     ensures spelled { OnOk result (Appends (Wire.i64 value) out.old.items out.new.items) }
     ensures canonical { OnOk result
@@ -96,7 +97,7 @@ pub fn write_fixed64<A: Allocator>(out: &mut Vec<u8, A>, value: u64) -> Result<(
 /// # Errors
 ///
 /// `OutOfMemory` where there was no room and the vector could not grow. It then holds what it held.
-#[tactic(auto, unfolding(message_model::specs::Canon::payload_bytes))]
+#[tactic(auto, unfolding(model_message::specs::Canon::payload_bytes))]
 pub fn write_fixed32<A: Allocator>(out: &mut Vec<u8, A>, value: u32) -> Result<(), OutOfMemory>
     ensures spelled { OnOk result (Appends (Wire.i32 value) out.old.items out.new.items) }
     ensures canonical { OnOk result
@@ -116,7 +117,7 @@ pub fn write_fixed32<A: Allocator>(out: &mut Vec<u8, A>, value: u32) -> Result<(
 /// # Errors
 ///
 /// `OutOfMemory` where there was no room and the vector could not grow. It then holds what it held.
-#[tactic(auto, unfolding(message_model::specs::Canon::payload_bytes))]
+#[tactic(auto, unfolding(model_message::specs::Canon::payload_bytes))]
 pub fn write_len<A: Allocator>(out: &mut Vec<u8, A>, bytes: &[u8]) -> Result<(), OutOfMemory>
     ensures spelled { OnOk result (Appends (Wire.len bytes.now) out.old.items out.new.items) }
     ensures canonical { OnOk result

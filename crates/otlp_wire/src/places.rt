@@ -1,13 +1,13 @@
 //! Writers of payloads into a slice, at a place of it (Protocol Buffers, "Encoding"). They take no
-//! memory, and each answers the place behind what it wrote.
+//! memory, and each answers the place after what it wrote.
 
 ghost use Rattle.std.specs.Prelude.{◌≡◌, ◌+◌, ◌≤◌, length};
-ghost use Rattle.message_model.specs.Wire;
-ghost use Rattle.message_model.specs.Canon.{payload_bytes};
+ghost use Rattle.model_message.specs.Wire;
+ghost use Rattle.model_message.specs.Canon.{payload_bytes};
 ghost use Rattle.otlp_wire.specs.Writing.{FitsAt, PutsAt};
 
 /// Writes the payload of a field of wire type VARINT at the place `at`, in `varint_size(value)`
-/// bytes, the fewest that spell it, and answers the place behind them (Protocol Buffers, Encoding,
+/// bytes, the fewest that spell it, and answers the place after them (Protocol Buffers, Encoding,
 /// "Base 128 Varints").
 pub fn put_varint(out: &mut [u8], at: usize, value: u64) -> usize
     requires { FitsAt (payload_bytes (Wire.varint value)) at out.old }
@@ -25,7 +25,7 @@ pub fn put_varint(out: &mut [u8], at: usize, value: u64) -> usize
 }
 
 /// Writes the payload of a field of wire type I64 at the place `at`: 8 bytes, the lowest first. It
-/// answers the place behind them (Protocol Buffers, Encoding, "Non-varint Numbers").
+/// answers the place after them (Protocol Buffers, Encoding, "Non-varint Numbers").
 pub fn put_fixed64(out: &mut [u8], at: usize, value: u64) -> usize
     requires { FitsAt (payload_bytes (Wire.i64 value)) at out.old }
     ensures { PutsAt (payload_bytes (Wire.i64 value)) at out.old out.new result }
@@ -34,7 +34,7 @@ pub fn put_fixed64(out: &mut [u8], at: usize, value: u64) -> usize
 }
 
 /// Writes the payload of a field of wire type I32 at the place `at`: 4 bytes, the lowest first. It
-/// answers the place behind them (Protocol Buffers, Encoding, "Non-varint Numbers").
+/// answers the place after them (Protocol Buffers, Encoding, "Non-varint Numbers").
 pub fn put_fixed32(out: &mut [u8], at: usize, value: u32) -> usize
     requires { FitsAt (payload_bytes (Wire.i32 value)) at out.old }
     ensures { PutsAt (payload_bytes (Wire.i32 value)) at out.old out.new result }
@@ -42,7 +42,7 @@ pub fn put_fixed32(out: &mut [u8], at: usize, value: u32) -> usize
     put_bytes(out, at, &value.to_le_bytes())
 }
 
-/// Writes these bytes at the place `at`, and answers the place behind them.
+/// Writes these bytes at the place `at`, and answers the place after them.
 pub fn put_bytes(out: &mut [u8], at: usize, bytes: &[u8]) -> usize
     requires { FitsAt bytes.now at out.old }
     ensures { PutsAt bytes.now at out.old out.new result }

@@ -1,16 +1,16 @@
 //! A reader of the fields of a message (Protocol Buffers, "Encoding").
 
 ghost use Rattle.std.specs.Prelude.{◌≡◌, ◌<◌};
-ghost use Rattle.message_model.specs.Wire;
-ghost use Rattle.message_model.specs.Wire.{row};
+ghost use Rattle.model_message.specs.Wire;
+ghost use Rattle.model_message.specs.Wire.{row};
 ghost use Rattle.otlp_wire.specs.Fields.{front_of, payload_of, field_of, ArePartsOf};
 
 use std::iter::FusedIterator;
 use std::marker::Model;
 use thiserror::Error;
 
-/// What stands in the place of a field where none does (Protocol Buffers, Encoding, "Message
-/// Structure"). A tag's number is told before its wire type, and both before a payload's fault.
+/// What is in the place of a field where none does (Protocol Buffers, Encoding, "Message
+/// Structure"). A tag's number is reported before its wire type, and both before a payload's fault.
 #[derive(Error, Debug, Clone, Copy, PartialEq, Eq)]
 pub enum WireFault {
     /// A proper beginning of a field, which the end of the bytes cuts off.
@@ -37,7 +37,7 @@ pub enum Payload<'a> {
     Varint(u64),
     /// Wire type 1: 8 bytes, the lowest first.
     I64(u64),
-    /// Wire type 2: the bytes behind their length.
+    /// Wire type 2: the bytes after their length.
     Len(&'a [u8]),
     /// Wire type 5: 4 bytes, the lowest first.
     I32(u32),
@@ -83,7 +83,7 @@ fn read_groups(bytes: &[u8]) -> Result<(u64, &[u8]), WireFault>
     Err(WireFault::LongVarint)
 }
 
-/// So many bytes behind their length, and the bytes after them.
+/// So many bytes after their length, and the bytes after them.
 fn read_counted(bytes: &[u8]) -> Result<(&[u8], &[u8]), WireFault>
     ensures { front_of (λ content. content.now) result ≡ Wire.counted_bytes bytes.now }
 {
@@ -93,7 +93,7 @@ fn read_counted(bytes: &[u8]) -> Result<(&[u8], &[u8]), WireFault>
 }
 
 /// The payload of the wire type, and the bytes after it.
-#[tactic(auto, unfolding(message_model::specs::Wire::payload))]
+#[tactic(auto, unfolding(model_message::specs::Wire::payload))]
 fn read_payload(wire_type: u64, bytes: &[u8]) -> Result<(Payload<'_>, &[u8]), WireFault>
     requires { wire_type < 8 }
     ensures { front_of payload_of result ≡ Wire.payload wire_type bytes.now }
@@ -122,7 +122,7 @@ fn read_payload(wire_type: u64, bytes: &[u8]) -> Result<(Payload<'_>, &[u8]), Wi
 
 /// The field at the front, and the bytes after it.
 #[inline(always)]
-#[tactic(auto, unfolding(message_model::specs::Wire::field))]
+#[tactic(auto, unfolding(model_message::specs::Wire::field))]
 fn read_field(bytes: &[u8]) -> Result<(Field<'_>, &[u8]), WireFault>
     ensures { front_of field_of result ≡ Wire.field bytes.now }
 {
@@ -149,8 +149,8 @@ pub struct Fields<'a> {
 
 impl<'a> Model for Fields<'a> {
     ghost use Rattle.std.specs.Prelude.{List};
-    ghost use Rattle.message_model.specs.Reading.{Reading};
-    ghost use Rattle.message_model.specs.Wire.{Field, row};
+    ghost use Rattle.model_message.specs.Reading.{Reading};
+    ghost use Rattle.model_message.specs.Wire.{Field, row};
 
     ghost Value = { Reading (List Field) };
 

@@ -1,7 +1,7 @@
 //! How often a batch is sent, and how long the waits between are.
 
 ghost use Rattle.std.specs.Prelude.{◌≡◌, ◌≤◌, ◌↔◌, IfOk, IsErr};
-ghost use Rattle.retry_model.specs.Waits.{IsRetryConfig, longest_ms};
+ghost use Rattle.model_retry.specs.Waits.{IsRetryConfig, longest_ms};
 ghost use Rattle.retry_core.specs.Retries.{default_retry, without_least};
 
 use std::marker::Model;
@@ -25,8 +25,8 @@ pub struct RetryConfig {
 }
 
 impl Model for RetryConfig {
-    ghost use Rattle.retry_model.specs.Waits as waits;
-    ghost use Rattle.retry_model.specs.Waits.{IsRetryConfig};
+    ghost use Rattle.model_retry.specs.Waits as waits;
+    ghost use Rattle.model_retry.specs.Waits.{IsRetryConfig};
 
     ghost Value = { waits.RetryConfig };
 
@@ -53,9 +53,9 @@ impl Model for RetryConfig {
 }
 
 impl RetryConfig {
-    /// A batch is sent so many times at most, 1 to 5. The wait behind its first attempt is
-    /// `initial_ms` milliseconds at most, 1 to 30,000, behind each later one at most twice as long
-    /// as behind the one before it, and never above `max_ms`, which is from `initial_ms` to
+    /// A batch is sent so many times at most, 1 to 5. The wait after its first attempt is
+    /// `initial_ms` milliseconds at most, 1 to 30,000, after each later one at most twice as long
+    /// as after the one before it, and never above `max_ms`, which is from `initial_ms` to
     /// 300,000, where the collector asks for none. There is no least wait. (profile)
     ///
     /// # Errors
@@ -122,7 +122,7 @@ impl RetryConfig {
         self.attempts
     }
 
-    /// How long the wait behind the first attempt is at most, in milliseconds: 1 to 30,000.
+    /// How long the wait after the first attempt is at most, in milliseconds: 1 to 30,000.
     pub fn initial_ms(&self) -> u32
         ensures { result ≡ self.now.initial_ms }
     {
@@ -145,7 +145,7 @@ impl RetryConfig {
         self.least_ms
     }
 
-    /// The most that is waited behind this attempt, in milliseconds, where the collector asks for
+    /// The most that is waited after this attempt, in milliseconds, where the collector asks for
     /// no wait.
     pub(crate) fn longest_ms(&self, attempt: u32) -> u64
         requires first { 1 ≤ attempt }

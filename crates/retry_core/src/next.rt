@@ -1,8 +1,8 @@
 //! What follows from an outcome.
 
 ghost use Rattle.std.specs.Prelude.{◌≡◌, ◌≤◌, option_map};
-ghost use Rattle.retry_model.specs.Retries.{fate_of, next_of};
-ghost use Rattle.retry_model.specs.Waits.{next_after, retried};
+ghost use Rattle.model_retry.specs.Retries.{fate_of, next_of};
+ghost use Rattle.model_retry.specs.Waits.{next_after, retried};
 ghost use Rattle.retry_core.specs.Retries.{fate_view, next_view, outcome_view, retry_after_view};
 
 use crate::config::RetryConfig;
@@ -81,9 +81,9 @@ fn last_next(outcome: &Outcome) -> Next
 /// "OTLP/HTTP Throttling")
 ///
 /// `Later` and `NoReply` are followed by another attempt, unless this one was the last. The wait
-/// before it is `initial_ms` behind the first attempt, and twice as long behind each later one, up
+/// before it is `initial_ms` after the first attempt, and twice as long after each later one, up
 /// to `max_ms`; the word, modulo half of that and one more, takes off so many milliseconds, which
-/// are half of the wait at most. What a reply asks for stands in place of it, up to 300 seconds: so
+/// are half of the wait at most. What a reply asks for is in place of it, up to 300 seconds: so
 /// many seconds, or until a date, so at once where that has passed. No wait is shorter than
 /// `least_ms`. The moment is 2^64 - 1 where it would be later. The last attempt is followed by
 /// `GiveUp(Attempts)`. At every attempt `Delivered` gives `Done`, `Partial` itself, and `Refused`

@@ -1,7 +1,7 @@
 //! How long the waits between the attempts of a batch are.
 
 ghost use Rattle.std.specs.Prelude.{◌≡◌, ◌≤◌, min, option_map};
-ghost use Rattle.retry_model.specs.Waits.{asked_ns, backoff_ms, greatest_wait, wait_ns};
+ghost use Rattle.model_retry.specs.Waits.{asked_ns, backoff_ms, greatest_wait, wait_ns};
 ghost use Rattle.retry_core.specs.Retries.{retry_after_view};
 
 use crate::config::RetryConfig;
@@ -16,7 +16,7 @@ const SECOND: u128 = 1_000_000_000;
 /// The most that a reply is waited for, in nanoseconds. (profile)
 const GREATEST_WAIT: u128 = 300_000_000_000;
 
-/// The wait behind this attempt, in milliseconds, where the collector asks for none.
+/// The wait after this attempt, in milliseconds, where the collector asks for none.
 fn backoff_ms(config: &RetryConfig, attempt: u32, word: u64) -> u64
     requires first { 1 ≤ attempt }
     requires last { attempt ≤ config.now.attempts }
@@ -34,7 +34,7 @@ fn capped(wait: u128) -> u64
     wait.min(GREATEST_WAIT) as u64
 }
 
-/// What is asked for behind this attempt, from `now` on, in nanoseconds: what the collector asks
+/// What is asked for after this attempt, from `now` on, in nanoseconds: what the collector asks
 /// for, or else the backoff.
 fn asked_ns(
     config: &RetryConfig,
@@ -57,7 +57,7 @@ fn asked_ns(
     }
 }
 
-/// The wait behind this attempt, from `now` on, in nanoseconds: what is asked for, or the least.
+/// The wait after this attempt, from `now` on, in nanoseconds: what is asked for, or the least.
 pub(crate) fn wait_ns(
     config: &RetryConfig,
     attempt: u32,

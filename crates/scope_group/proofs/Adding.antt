@@ -28,7 +28,7 @@ behind eq k x old new p (e ∷ es) (suc i) l same before at =
     let other : eq k e.0 ≡ false = before 0 (omega arith) in
     rw other (ap (λ gs. record { key = e.0; items = e.1.items } ∷ gs) (behind eq k x old new p es i (omega (arith, l)) same (λ j h. before (suc j) (omega (arith, h))) at))
 
--- an item behind those of its key
+-- an item after those of its key
 pub added-behind : {K T A : Type 0} (eq : K → K → Bool) (es : List (K × Vec T A)) (k : K) (x : T) (i : ℕ) (old new : Vec T A) → position (eq k) (keys_of es) ≡ Some i → slice_get (values_of es) i ≡ Some old → new.items ≡ old.items ++ x ∷ [] →
     groups_of (set_value_at es i new) ≡ with_item eq (groups_of es) k x
 added-behind eq es k x i old new there at p =

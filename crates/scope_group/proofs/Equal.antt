@@ -4,7 +4,7 @@ use lib.Pointwise.{pointwise}
 use Rattle.otlp_value.specs.declared.Value.{Value}
 use Rattle.otlp_value.specs.declared.Value.TheVariants as values
 use Rattle.otlp_value.specs.Value.{value_view, attribute_view, attributes_view}
-use Rattle.export_model.specs.Export.{value_eq, attribute_eq, resource_eq, scope_eq}
+use Rattle.model_export.specs.Export.{value_eq, attribute_eq, resource_eq, scope_eq}
 use Rattle.otlp_value.specs.contracts.ValuePartialEq.TheImpl as derived
 use Rattle.std.specs.Borrow.{RattleType}
 use Rattle.std.specs.declared.alloc.Allocator.{Ghosts}

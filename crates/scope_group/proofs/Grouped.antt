@@ -7,10 +7,10 @@ use Rattle.std.proofs.lemmas.Bool.{false≢true, true≢false}
 use Rattle.std.proofs.lemmas.List.{append-nil, map-append}
 use Rattle.std.proofs.lemmas.List.Elements.{filter-append}
 use Rattle.std.proofs.lemmas.Map.Views.{any-filter_same}
-use Rattle.span_model.specs.Attributes.{distinct_of}
-use Rattle.span_model.proofs.Lists.{distinct-more, filter-keeps}
-use Rattle.span_model.specs.Spans.{Resource, EndedSpan}
-use Rattle.export_model.specs.Export.{Group, ResourceGroup, scope_eq, resource_eq, groups_by, groups}
+use Rattle.model_span.specs.Attributes.{distinct_of}
+use Rattle.model_span.proofs.Lists.{distinct-more, filter-keeps}
+use Rattle.model_span.specs.Spans.{Resource, SpanData}
+use Rattle.model_export.specs.Export.{Group, ResourceGroup, scope_eq, resource_eq, groups_by, groups}
 use Rattle.scope_group.specs.Keyed.{group_view, with_item}
 
 -- an equality is lawful
@@ -25,7 +25,7 @@ weaker : {A : Type 0} (P Q : A → Type 0) → ((x : A) → P x → Q x) → (xs
 weaker P Q step [] h = tt
 weaker P Q step (x ∷ xs) h = (step x h.0, weaker P Q step xs h.1)
 
--- no key equals one behind it
+-- no key equals one after it
 abbrev Apart : {K : Type 0} → (K → K → Bool) → List K → Type 0
 Apart same [] = Unit {0}
 Apart same (k ∷ ks) = AllByRecursion (λ j. same k j ≡ false) ks × Apart same ks
@@ -107,7 +107,7 @@ module _ {K A : Type 0} (same : K → K → Bool) (laws : IsEquivalence same) (k
       go true e r rest = absurd (true≢false r)
       go false e r rest = rw (laws.symm k (key_of x), e) (rest r)
 
-  -- the last item stands behind those of its key, or alone behind all groups
+  -- the last item comes after those of its key, or alone after all groups
   pub groups-more : (xs : List A) (x : A) → groups_by same key_of (xs ++ x ∷ []) ≡ with_item same (groups_by same key_of xs) (key_of x) x
   unfolding groups_by
   groups-more xs x =
@@ -151,16 +151,16 @@ no-groups same key_of = refl
 
 -- ---- the spans of each resource by scope
 
-abbrev pub by_scope : Group Resource EndedSpan → ResourceGroup
+abbrev pub by_scope : Group Resource SpanData → ResourceGroup
 by_scope g = record { key = g.key; items = groups_by scope_eq (λ x. x.scope) g.items }
 
 -- where none is left all are grouped
-pub all-grouped : (xs : List ResourceGroup) (left all : List (Group Resource EndedSpan)) (spans : List EndedSpan) → xs ++ map by_scope left ≡ map by_scope all → left ≡ [] → all ≡ groups_by resource_eq (λ x. x.resource) spans → xs ≡ groups spans
+pub all-grouped : (xs : List ResourceGroup) (left all : List (Group Resource SpanData)) (spans : List SpanData) → xs ++ map by_scope left ≡ map by_scope all → left ≡ [] → all ≡ groups_by resource_eq (λ x. x.resource) spans → xs ≡ groups spans
 unfolding groups
 all-grouped xs left all spans h none e = sym (append-nil xs) ∙ ap (λ ys. xs ++ map by_scope ys) (sym none) ∙ h ∙ ap (map by_scope) e
 
 -- where one is left there are spans
-pub some-spans : (xs : List ResourceGroup) (left more all : List (Group Resource EndedSpan)) (y : Group Resource EndedSpan) (spans : List EndedSpan) → xs ++ map by_scope left ≡ map by_scope all → left ≡ y ∷ more →
+pub some-spans : (xs : List ResourceGroup) (left more all : List (Group Resource SpanData)) (y : Group Resource SpanData) (spans : List SpanData) → xs ++ map by_scope left ≡ map by_scope all → left ≡ y ∷ more →
     all ≡ groups_by resource_eq (λ x. x.resource) spans → spans ≢ []
 some-spans xs left more all y spans h some e empty =
     let none : all ≡ [] = e ∙ ap (groups_by resource_eq (λ x. x.resource)) empty ∙ no-groups resource_eq (λ x. x.resource) in

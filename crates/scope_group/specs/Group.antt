@@ -1,9 +1,9 @@
 -- What groups of spans are in the model.
 use Rattle.std.specs.Prelude.{List, map, Vec}
 use Rattle.std.specs.Borrow.{Bor}
-use Rattle.span_model.specs.Spans as spans
-use Rattle.span_model.specs.Spans.{EndedSpan}
-use Rattle.export_model.specs.Export as model
+use Rattle.model_span.specs.Spans as spans
+use Rattle.model_span.specs.Spans.{SpanData}
+use Rattle.model_export.specs.Export as model
 use Rattle.otlp_span.specs.declared.parts.Resource.{Resource}
 use Rattle.otlp_span.specs.declared.parts.Scope.{Scope}
 use Rattle.otlp_span.specs.Parts.{resource_view, scope_view}
@@ -23,12 +23,12 @@ groups_view groups = map resource_group_view groups
 
 -- the entries of a map from scopes to their spans
 abbrev pub scopes_view :
-    {A : Type 0} → List (Bor (Scope A) × Vec (Bor EndedSpan) A) → List model.ScopeGroup
+    {A : Type 0} → List (Bor (Scope A) × Vec (Bor SpanData) A) → List model.ScopeGroup
 scopes_view entries = map (group_view (λ s. scope_view s.now) (λ x. x.now)) (groups_of entries)
 
 -- the entries of a map from resources to their spans
 abbrev pub resources_view :
-    {A : Type 0} → List (Bor (Resource A) × Vec (Bor EndedSpan) A)
-    → List (model.Group spans.Resource EndedSpan)
+    {A : Type 0} → List (Bor (Resource A) × Vec (Bor SpanData) A)
+    → List (model.Group spans.Resource SpanData)
 resources_view entries =
     map (group_view (λ r. resource_view r.now) (λ x. x.now)) (groups_of entries)

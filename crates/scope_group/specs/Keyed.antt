@@ -1,9 +1,9 @@
 -- Items under keys, in the order in which the keys came first.
 use Rattle.std.specs.Prelude.{List, [], ◌∷◌, ◌++◌, Bool, if◌then◌else◌, map, Vec}
-use Rattle.export_model.specs.Export.{Group}
+use Rattle.model_export.specs.Export.{Group}
 
--- The groups with one item more: it stands behind those of the first key that equals its own, or
--- else alone, behind all groups.
+-- The groups with one item more: it comes after those of the first key that equals its own, or
+-- else alone, after all groups.
 abbrev pub with_item :
     {K T : Type 0} → (K → K → Bool) → List (Group K T) → K → T → List (Group K T)
 with_item same [] k x = record { key = k; items = x ∷ [] } ∷ []

@@ -24,7 +24,7 @@ fn last_index<K: Eq + Hash, T, A: Allocator>(groups: &Keyed<K, T, A>, key: &K) -
     None
 }
 
-/// Adds an item to those of its key. A key that is new stands behind the others. The last key is
+/// Adds an item to those of its key. A key that is new comes after the others. The last key is
 /// tried before the others are looked up.
 ///
 /// # Errors

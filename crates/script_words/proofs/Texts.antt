@@ -45,7 +45,7 @@ begins c [] = elim (cases_Bool (eqb c 37)) [ inl e ↦ rw e refl | inr e ↦ rw 
 begins c (d ∷ []) = elim (cases_Bool (eqb c 37)) [ inl e ↦ rw e refl | inr e ↦ rw e refl ]
 begins c (d ∷ e ∷ rest) = elim (cases_Bool (eqb c 37)) [ inl h ↦ rw h (escaped (hex_byte d e) rest) | inr h ↦ rw h refl ]
 
--- one more byte, and what the word behind it spells
+-- one more byte, and what the word after it spells
 pub goes_on : (front w rest : List ℕ) (b : ℕ) (whole : Option (List ℕ))
     → first_byte_of w ≡ Some (b, rest) → behind front (bytes_of w) ≡ whole → behind (front ++ b ∷ []) (bytes_of rest) ≡ whole
 goes_on front [] rest b whole first so_far = cc

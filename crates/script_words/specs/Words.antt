@@ -1,5 +1,8 @@
 -- What the words of a line stand for: a word is a list of bytes without a space.
-use Rattle.std.specs.Prelude.{◌≡◌, ◌≢◌, ◌⊎◌, ◌↔◌, ◌<◌, ◌++◌, ℕ, ◌+◌, ◌-◌, ◌*◌, ◌^◌, ◌==◌, ◌&&◌, nat_lt, ℤ, pos, neg_ℤ, List, [], ◌∷◌, length, take, drop, position, Bool, false, if◌then◌else◌, Option, Some, None, option_map, bytes_eq, codes, Result, Ok, Err}
+use Rattle.std.specs.Prelude.{◌≡◌, ◌≢◌, ◌⊎◌, ◌↔◌, ◌<◌, ◌++◌, ℕ, ◌+◌, ◌-◌, ◌*◌, ◌^◌, ◌==◌, ◌&&◌}
+use Rattle.std.specs.Prelude.{nat_lt, ℤ, pos, neg_ℤ, List, [], ◌∷◌, length, take, drop, position}
+use Rattle.std.specs.Prelude.{Bool, false, if◌then◌else◌, Option, Some, None, option_map, bytes_eq}
+use Rattle.std.specs.Prelude.{codes, Result, Ok, Err}
 use Rattle.std.specs.Int.{w64, from_be_bytes}
 use Rattle.std.specs.Result.{result_ok}
 use Rattle.std.specs.Str.{IsUtf8, is_utf8, all_ascii_digits}
@@ -92,7 +95,7 @@ unfoldable pub text_of : List ℕ → Option (List ℕ)
 text_of [] = None
 text_of (c ∷ cs) = if bytes_eq (c ∷ cs) (codes "%") then Some [] else bytes_of (c ∷ cs) >>= utf8_of
 
--- the first byte that a word spells, and the word behind its spelling
+-- the first byte that a word spells, and the word after its spelling
 abbrev pub first_byte_of : List ℕ → Option (ℕ × List ℕ)
 first_byte_of [] = None
 first_byte_of (c ∷ []) = if c == 37 then None else Some (c, [])
@@ -102,7 +105,7 @@ first_byte_of (c ∷ d ∷ e ∷ rest) =
 
 -- ---- parts of a word
 
--- what stands in front of the first colon (58), and what stands behind it, if there is one
+-- what is in front of the first colon (58), and what comes after it, if there is one
 abbrev pub around_colon_of : List ℕ → Option (List ℕ × List ℕ)
 around_colon_of word =
     option_map (λ i. (take i word, drop (i + 1) word)) (position (λ b. b == 58) word)

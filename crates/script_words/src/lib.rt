@@ -9,7 +9,9 @@
 #![tactic(auto)]
 
 ghost use Rattle.std.specs.Prelude.{◌≡◌, ◌^◌, ◌==◌, map, IfOk, option_map, ok_or, string_bytes};
-ghost use Rattle.script_words.specs.Words.{Gives, each_of, number_below, signed_number, hex_word, hex_byte, byte_of, around_colon_of, first_byte_of, bytes_of, utf8_of, text_of, TextsAreSpelled};
+ghost use Rattle.script_words.specs.Words.{Gives, each_of, number_below, signed_number, hex_word};
+ghost use Rattle.script_words.specs.Words.{hex_byte, byte_of, around_colon_of, first_byte_of};
+ghost use Rattle.script_words.specs.Words.{bytes_of, utf8_of, text_of, TextsAreSpelled};
 ghost use Rattle.std.specs.List.{slice_split};
 ghost use Rattle.std.specs.Str.{all_ascii_digits};
 ghost use Rattle.script_words.specs.declared.WordFault.TheVariants.{Bad, OutOfMemory};
@@ -22,7 +24,7 @@ use thiserror::Error;
 /// Why a word was not read.
 #[derive(Debug, Clone, Copy, PartialEq, Eq, Error)]
 pub enum WordFault {
-    /// It spells nothing that may stand there.
+    /// It spells nothing that may be there.
     #[error("bad word")]
     Bad,
     /// Memory was refused.
@@ -109,7 +111,7 @@ pub fn small_number(word: &[u8]) -> Result<u32, WordFault>
     u32::try_from(number).map_err(|_| WordFault::Bad)
 }
 
-/// A whole number of 64 bits: decimal digits, behind a `-` or without one. `-0` is 0.
+/// A whole number of 64 bits: decimal digits, after a `-` or without one. `-0` is 0.
 ///
 /// # Errors
 ///
@@ -174,7 +176,7 @@ pub fn byte(word: &[u8]) -> Result<u8, WordFault>
     }
 }
 
-/// What stands in front of the first colon of a word, and what stands behind it; `None` where there
+/// What is in front of the first colon of a word, and what comes after it; `None` where there
 /// is no colon.
 pub fn around_colon(word: &[u8]) -> Option<(&[u8], &[u8])>
     ensures { option_map (λ p. (p.0.now, p.1.now)) result ≡ around_colon_of word.now }
@@ -183,7 +185,7 @@ pub fn around_colon(word: &[u8]) -> Option<(&[u8], &[u8])>
     Some((&word[..colon], &word[colon + 1..]))
 }
 
-/// The first byte that a word spells, and the word behind its spelling.
+/// The first byte that a word spells, and the word after its spelling.
 fn first_byte(word: &[u8]) -> Option<(u8, &[u8])>
     ensures { option_map (λ p. (p.0, p.1.now)) result ≡ first_byte_of word.now }
 {
@@ -225,7 +227,7 @@ fn utf8<A: Allocator>(bytes: Vec<u8, A>) -> Option<String<A>>
 ///
 /// # Errors
 ///
-/// `Bad` where the word is empty, a `%` stands in it (and not alone) without two digits behind it,
+/// `Bad` where the word is empty, a `%` is in it (and not alone) without two digits after it,
 /// or the bytes aren't UTF-8. `OutOfMemory` where memory was refused.
 #[tactic(auto, unfolding(crate::specs::Words::text_of))]
 pub fn text<A: Allocator>(alloc: A, word: &[u8]) -> Result<String<A>, WordFault>

@@ -6,17 +6,17 @@ use Rattle.std.proofs.lemmas.List.{append_assoc, length-append, map-append}
 use Rattle.std.proofs.lemmas.Grind.{flat_map-append}
 use Rattle.std.proofs.lemmas.List.Elements.{filter_map-append}
 use Rattle.std.proofs.lemmas.List.Sorted.{IsPermutation-append_left, IsPermutation-refl, IsPermutation-trans, length_permutation}
-use Rattle.span_model.specs.Spans.{EndedSpan}
-use Rattle.drop_model.specs.Dropped.{Entry}
-use Rattle.desk_model.specs.Desks.{capped, drop_counts, fate_counts}
+use Rattle.model_span.specs.Spans.{SpanData}
+use Rattle.model_drop.specs.Dropped.{Entry}
+use Rattle.model_desk.specs.Desks.{capped, drop_counts, fate_counts}
 use Rattle.span_exporter.specs.Handed.{Handed, Gains}
 use Rattle.account_book.specs.Accounts.{Replaces}
 use Rattle.account_book.proofs.Facts.{length_replaced, gathered_replaced, each_append, each_at, each_replaced, part_replaced, replaces_told}
-use Rattle.pass_model.specs.Passes.{SpanEnd, PassAccount, accepted_span, accepted_spans, all_accepted, all_dropped, all_popped, all_popped_lost, drop_in, dropped_entries, dropped_entry, drops}
-use Rattle.pass_model.proofs.Steps.{News, closed_by, gives_step, late_step, losses_step, names_step}
+use Rattle.model_processor.specs.Passes.{SpanEnd, PassAccount, accepted_span, accepted_spans, all_accepted, all_dropped, all_popped, all_popped_lost, drop_in, dropped_entries, dropped_entry, drops}
+use Rattle.model_processor.proofs.PassSteps.{News, closed_by, gives_step, late_step, losses_step, names_step}
 use Rattle.simple_processor.specs.Bodies.{AreTold, Fits, Handing, LacksItsBody, LossesAreTold, attempt_in, attempt_of_span, fates_of, lost_by_attempt, losses_of}
-use Rattle.simple_processor.specs.Desk.{State, drops_in, ticket_count}
-use Rattle.simple_processor.specs.Holders.{Origin, Holder, account_in, on_pass, pass, pass_account, pass_accounts}
+use Rattle.simple_processor.specs.ExportStates.{State, drops_in, ticket_count}
+use Rattle.simple_processor.specs.AnyAccounts.{Origin, AnyAccount, account_in, on_pass, pass, pass_account, pass_accounts}
 use Rattle.simple_processor.specs.Kept.{Agrees, IsOf, IsShared, Kept}
 use Rattle.simple_processor.proofs.Lists.{images_more}
 
@@ -59,15 +59,15 @@ gains_more xs ys (Some had) b d first then =
     then ∙ ap (option_map (λ (all : List Handed). all ++ ys)) first ∙ ap Some (append_assoc had xs ys)
 
 -- more spans were handed, some of them are lost, and some names were popped
-losses_more : (bodies new_bodies : List Handed) (accepted accepted' more : List EndedSpan) (lost lost' : List Entry) (count count' : ℕ) (popped popped' ls : List Entry) (handings : List Handing)
+losses_more : (bodies new_bodies : List Handed) (accepted accepted' more : List SpanData) (lost lost' : List Entry) (count count' : ℕ) (popped popped' ls : List Entry) (handings : List Handing)
     → IsPermutation accepted' (accepted ++ more) → more ≡ map (λ (x : Handing). x.span) handings → AreTold handings new_bodies → IsPermutation (losses_of handings ++ lost) (lost' ++ ls) → count' ≡ count + length (losses_of handings)
     → IsPermutation popped' (popped ++ ls) → LossesAreTold bodies accepted lost count popped → LossesAreTold (bodies ++ new_bodies) accepted' lost' count' popped'
 losses_more bodies new_bodies accepted accepted' more lost lost' count count' popped popped' ls handings grown spans told step counted gone k =
-    let span : Handing → EndedSpan = λ (x : Handing). x.span in
+    let span : Handing → SpanData = λ (x : Handing). x.span in
     let both : IsPermutation (accepted ++ more) (map span k.handings ++ more) = IsPermutation-append_left more accepted (map span k.handings) k.spans in
     record {
       handings = k.handings ++ handings;
-      spans = subst (λ (ss : List EndedSpan). IsPermutation accepted' ss) (ap (λ (ss : List EndedSpan). map span k.handings ++ ss) spans ∙ sym (map-append span k.handings handings))
+      spans = subst (λ (ss : List SpanData). IsPermutation accepted' ss) (ap (λ (ss : List SpanData). map span k.handings ++ ss) spans ∙ sym (map-append span k.handings handings))
           (IsPermutation-trans accepted' (accepted ++ more) (map span k.handings ++ more) grown both);
       told = record {
         attempts = map-append (λ (x : Handing). attempt_of_span x.span) k.handings handings ∙ (λ i. k.told.attempts i ++ told.attempts i) ∙ sym (map-append attempt_in bodies new_bodies);
@@ -132,7 +132,7 @@ module _ (had told told' : Option (List Handed)) (s s' : State) (old new : List 
   }
 
 -- the same of all accounts
-pub kept_step : (origin : Origin) (told told' : Option (List Handed)) (s s' : State) (holders holders' : List Holder) (a b : PassAccount)
+pub kept_step : (origin : Origin) (told told' : Option (List Handed)) (s s' : State) (holders holders' : List AnyAccount) (a b : PassAccount)
     → Replaces holders (pass a) (pass b) holders' → Kept origin told s holders → Step told told' s s' a b → Kept origin told' s' holders'
 kept_step origin told told' s s' holders holders' a b r k st = record {
   few = let e = length_replaced holders (pass a) (pass b) holders' r in let f = k.few in omega arith;
@@ -142,11 +142,11 @@ kept_step origin told told' s s' holders holders' a b r k st = record {
 }
 
 -- what is kept while something lies under the lock
-pub kept_of : {D : Type 0} (told : D → Option (List Handed)) (state : D → State) (origin : Origin) (o : Option D) (desk : D) (holders : List Holder) → IsShared told state origin o holders → o ≡ Some desk → Kept origin (told desk) (state desk) holders
-kept_of told state origin o desk holders inv is = subst (λ x. IsShared told state origin x holders) is inv
+pub kept_of : {D : Type 0} (told : D → Option (List Handed)) (state : D → State) (origin : Origin) (o : Option D) (export : D) (holders : List AnyAccount) → IsShared told state origin o holders → o ≡ Some export → Kept origin (told export) (state export) holders
+kept_of told state origin o export holders inv is = subst (λ x. IsShared told state origin x holders) is inv
 
 -- the same of an account that was recognized and told
-pub kept_told : (origin : Origin) (told told' : Option (List Handed)) (s s' : State) (holders known holders' : List Holder) (h known_h h' : Holder) (f : PassAccount → PassAccount)
+pub kept_told : (origin : Origin) (told told' : Option (List Handed)) (s s' : State) (holders known holders' : List AnyAccount) (h known_h h' : AnyAccount) (f : PassAccount → PassAccount)
     → Kept origin told s holders → known ≡ holders → known_h ≡ h → h ≡ pass (account_in h) → Replaces known known_h h' holders' → h' ≡ on_pass f known_h → Step told told' s s' (account_in h) (f (account_in h)) → Kept origin told' s' holders'
 kept_told origin told told' s s' holders known holders' h known_h h' f k same same_h is r changed st =
     let now : known_h ≡ pass (account_in h) = same_h ∙ is in

@@ -4,20 +4,20 @@ use Rattle.std.specs.Prelude.{IsPermutation, Option, Some, None, OnSome, map, dr
 use Rattle.std.specs.List.{AllByRecursion}
 use Rattle.std.proofs.lemmas.List.{nil_from_length, drop_at}
 use Rattle.std.proofs.lemmas.List.Sorted.{IsPermutation-refl, IsPermutation-trans, IsPermutation-map, length_permutation}
-use Rattle.drop_model.specs.Dropped.{Entry}
-use Rattle.desk_model.specs.Desks.{drop_counts, fate_counts}
+use Rattle.model_drop.specs.Dropped.{Entry}
+use Rattle.model_desk.specs.Desks.{drop_counts, fate_counts}
 use Rattle.drop_ledger.specs.Counts.{drop_counts_view}
 use Rattle.batch_desk.specs.Views.{fate_counts_view}
 use Rattle.batch_desk.specs.declared.totals.Totals.{Totals}
 use Rattle.span_exporter.specs.Handed.{Handed, Gains}
 use Rattle.account_book.specs.Accounts.{Replaces, Removes, Closes}
 use Rattle.account_book.proofs.Facts.{each_closed, each_removed, each_same, gathered_all, length_removed, nothing_of, one_replaced, part_kept}
-use Rattle.pass_model.specs.Passes.{PassAccount, accepted_spans, all_accepted, all_dropped, all_popped, all_popped_lost, dropped_entries, drops, new_account}
-use Rattle.pass_model.specs.Clauses.{CountsLate, GivesTickets, NamesDrops}
-use Rattle.pass_model.proofs.Steps.{gives_closed, gives_new, late_closed, late_new, losses_same, names_same}
+use Rattle.model_processor.specs.Passes.{PassAccount, accepted_spans, all_accepted, all_dropped, all_popped, all_popped_lost, dropped_entries, drops, new_account}
+use Rattle.model_processor.specs.PassClauses.{CountsLate, GivesTickets, NamesDrops}
+use Rattle.model_processor.proofs.PassSteps.{gives_closed, gives_new, late_closed, late_new, losses_same, names_same}
 use Rattle.simple_processor.specs.Bodies.{Fits, Handing, LacksItsBody, LossesAreTold, attempt_in, attempt_of_span, fates_of, losses_of, told_since}
-use Rattle.simple_processor.specs.Desk.{State, drops_in, new_state, ticket_count}
-use Rattle.simple_processor.specs.Holders.{Origin, Holder, new_origin, pass, pass_account, pass_accounts, processor}
+use Rattle.simple_processor.specs.ExportStates.{State, drops_in, new_state, ticket_count}
+use Rattle.simple_processor.specs.AnyAccounts.{Origin, AnyAccount, new_origin, pass, pass_account, pass_accounts, processor}
 use Rattle.simple_processor.specs.Kept.{Agrees, IsAccountOf, IsOf, Kept, given_tickets}
 use Rattle.simple_processor.proofs.Ends.{gains_nothing}
 
@@ -46,33 +46,34 @@ agrees_new had max_body accounts all = record {
   late = late_new accounts all;
 }
 
-new_accounts : (holders : List Holder) → AllByRecursion (λ h. h ≡ pass new_account) holders → AllByRecursion (λ a. a ≡ new_account) (pass_accounts holders)
+new_accounts : (holders : List AnyAccount) → AllByRecursion (λ h. h ≡ pass new_account) holders → AllByRecursion (λ a. a ≡ new_account) (pass_accounts holders)
 new_accounts [] all = tt
 new_accounts (h ∷ holders) all =
     let rest = new_accounts holders all.1 in
-    subst (λ (x : Holder). AllByRecursion (λ a. a ≡ new_account) (pass_accounts (x ∷ holders))) (sym all.0) (refl, rest)
+    subst (λ (x : AnyAccount). AllByRecursion (λ a. a ≡ new_account) (pass_accounts (x ∷ holders))) (sym all.0) (refl, rest)
 
-of_passes : (origin : Origin) (holders : List Holder) → AllByRecursion (λ h. h ≡ pass new_account) holders → AllByRecursion (IsOf origin) holders
+of_passes : (origin : Origin) (holders : List AnyAccount) → AllByRecursion (λ h. h ≡ pass new_account) holders → AllByRecursion (IsOf origin) holders
 of_passes origin [] all = tt
 of_passes origin (h ∷ holders) all = (subst (IsOf origin) (sym all.0) tt, of_passes origin holders all.1)
 
-pub kept_new : (origin : Origin) (holders opened : List Holder) → holders ≡ processor origin ∷ opened → length opened ≤ origin.passes → AllByRecursion (λ h. h ≡ pass new_account) opened → Kept origin origin.had (new_state origin.max_body) holders
+pub kept_new : (origin : Origin) (holders opened : List AnyAccount) → holders ≡ processor origin ∷ opened → length opened ≤ origin.passes → AllByRecursion (λ h. h ≡ pass new_account) opened → Kept origin origin.had (new_state origin.max_body) holders
 kept_new origin holders opened is few all =
-    subst (λ (hs : List Holder). Kept origin origin.had (new_state origin.max_body) hs) (sym is) (record {
+    subst (λ (hs : List AnyAccount). Kept origin origin.had (new_state origin.max_body) hs) (sym is) (record {
       few = omega arith;
       origins = (refl, of_passes origin opened all);
       max_body = refl;
       agrees = agrees_new origin.had origin.max_body (pass_accounts opened) (new_accounts opened all);
     })
 
--- the same of a book in which the processor's account was opened and told, and then those of its passes
-pub kept_begins : (origin : Origin) (told : Option (List Handed)) (s : State) (empty one recorded holders opened : List Holder) (u w : Holder)
+-- the same of a book in which the processor's account was opened and told, and then those of its
+-- passes
+pub kept_begins : (origin : Origin) (told : Option (List Handed)) (s : State) (empty one recorded holders opened : List AnyAccount) (u w : AnyAccount)
     → told ≡ origin.had → s ≡ new_state origin.max_body → empty ≡ [] → one ≡ empty ++ processor new_origin ∷ [] → Replaces one u w recorded → w ≡ processor origin → holders ≡ recorded ++ opened
     → length opened ≤ origin.passes → AllByRecursion (λ h. h ≡ pass new_account) opened → Kept origin told s holders
 kept_begins origin told s empty one recorded holders opened u w told_is s_is none one_is r w_is is few all =
-    let single : one ≡ processor new_origin ∷ [] = one_is ∙ ap (λ (hs : List Holder). hs ++ processor new_origin ∷ []) none in
-    let after : recorded ≡ w ∷ [] = (one_replaced (processor new_origin) u w recorded (subst (λ (hs : List Holder). Replaces hs u w recorded) single r)).1 in
-    let whole : holders ≡ processor origin ∷ opened = is ∙ ap (λ (hs : List Holder). hs ++ opened) (after ∙ ap (λ (h : Holder). h ∷ []) w_is) in
+    let single : one ≡ processor new_origin ∷ [] = one_is ∙ ap (λ (hs : List AnyAccount). hs ++ processor new_origin ∷ []) none in
+    let after : recorded ≡ w ∷ [] = (one_replaced (processor new_origin) u w recorded (subst (λ (hs : List AnyAccount). Replaces hs u w recorded) single r)).1 in
+    let whole : holders ≡ processor origin ∷ opened = is ∙ ap (λ (hs : List AnyAccount). hs ++ opened) (after ∙ ap (λ (h : AnyAccount). h ∷ []) w_is) in
     subst (λ o. Kept origin o s holders) (sym told_is) (subst (λ (x : State). Kept origin origin.had x holders) (sym s_is) (kept_new origin holders opened whole few all))
 
 -- ---- the end
@@ -100,7 +101,7 @@ agrees_closed had told s old done k c =
     }
 
 -- the processor's own account is closed, and then those of all its passes
-module _ (origin said : Origin) (told : Option (List Handed)) (s : State) (all rest left : List Holder) (done : List PassAccount) (k : Kept origin told s all) (r : Removes all (processor said) rest) (c : Closes (pass_accounts rest) done (pass_accounts left))
+module _ (origin said : Origin) (told : Option (List Handed)) (s : State) (all rest left : List AnyAccount) (done : List PassAccount) (k : Kept origin told s all) (r : Removes all (processor said) rest) (c : Closes (pass_accounts rest) done (pass_accounts left))
     (counted : length rest ≡ length left + length done) (enough : said.passes ≤ length done) where
   pub said_is : said ≡ origin
   said_is = (each_removed (IsOf origin) all (processor said) rest r k.origins).0
@@ -115,10 +116,10 @@ module _ (origin said : Origin) (told : Option (List Handed)) (s : State) (all r
 
   pub agrees_end : Agrees said.had told s done
   agrees_end =
-      let whole : Closes (pass_accounts all) done [] = subst (λ (xs : List PassAccount). Closes xs done []) (part_kept pass_account all (processor said) rest r refl) (subst (λ (hs : List Holder). Closes (pass_accounts rest) done (pass_accounts hs)) none_left c) in
+      let whole : Closes (pass_accounts all) done [] = subst (λ (xs : List PassAccount). Closes xs done []) (part_kept pass_account all (processor said) rest r refl) (subst (λ (hs : List AnyAccount). Closes (pass_accounts rest) done (pass_accounts hs)) none_left c) in
       subst (λ (o : Origin). Agrees o.had told s done) (sym said_is) (agrees_closed origin.had told s (pass_accounts all) done k.agrees whole)
 
--- ---- what is told in the end
+-- ---- what is reported in the end
 
 since_is : (h bodies : List Handed) → drop (length h) (h ++ bodies) ≡ bodies
 since_is h bodies = drop_at h bodies (length h) refl

@@ -1,14 +1,14 @@
 -- One more is counted.
 use Rattle.std.proofs.Common.{◌≡◌, ◌+◌, ap, ◌∙◌, arith}
-use Rattle.desk_model.specs.Desks as model
-use Rattle.desk_model.specs.Desks.{with_drops}
+use Rattle.model_desk.specs.Desks as model
+use Rattle.model_desk.specs.Desks.{with_drops}
 use Rattle.otlp_span.specs.Dropped.{reason_view}
 use Rattle.otlp_proto.specs.Bodies.{reason_of}
 use Rattle.otlp_proto.specs.declared.encoder.EncodeFault.{EncodeFault}
 use Rattle.otlp_proto.specs.declared.encoder.EncodeFault.TheVariants as faults
 use Rattle.drop_ledger.specs.Counts.{drop_counts_view}
 use Rattle.drop_ledger.specs.declared.counts.DropCounts.{DropCounts}
-use Rattle.simple_processor.specs.Desk.{CountsOne}
+use Rattle.simple_processor.specs.ExportStates.{CountsOne}
 
 pub counts_one : (fault : EncodeFault) (old new : DropCounts) → drop_counts_view new ≡ with_drops (reason_view (reason_of fault)) 1 (drop_counts_view old) → CountsOne (reason_view (reason_of fault)) old new
 counts_one faults.OutOfMemory old new is =

@@ -15,10 +15,10 @@ use Rattle.span_exporter.specs.declared.exporter.Exporter as exporter
 use Rattle.account_book.specs.declared.book.Naming as naming
 use Rattle.account_book.proofs.book.Account.TheSendSync as account
 use Rattle.account_book.proofs.book.Book.TheSendSync as book
-use Rattle.simple_processor.specs.contracts.desk.Desk as Desk
-use Rattle.simple_processor.specs.contracts.desk.Desk.TheInside as desk
+use Rattle.simple_processor.specs.contracts.export.ExportState as ExportState
+use Rattle.simple_processor.specs.contracts.export.ExportState.TheInside as export
 use Rattle.simple_processor.specs.contracts.encoder.Encoder as Encoder
-use Rattle.simple_processor.specs.contracts.holding.Holding as Holding
+use Rattle.simple_processor.specs.contracts.account.AccountState as AccountState
 use Rattle.simple_processor.specs.contracts.pass.SimplePass as SimplePass
 use Rattle.simple_processor.specs.contracts.pass.SimplePass.TheInside as pass
 use Rattle.simple_processor.specs.contracts.shared.Shared as Shared
@@ -28,10 +28,10 @@ encoder_send : IsSend (Encoder.the_row Heap.the_row ghosts)
 encoder_send = search (sendable, data_send, heap.crosses) depth 60 fits 20000
 
 -- what lies under the lock, and the lock
-desk_send : (E : RattleType) → IsSend E → IsSend (Desk.the_row E Heap.the_row ghosts)
-desk_send E e =
-    let fields : FieldsHave IsSend (desk.the_type E Heap.the_row ghosts).parts = search (sendable, as_row_send, e, encoder_send, ledger_send, fates.the_send) depth 30 in
-    view_send _ _ _ _ _ (declared_send (desk.the_type E Heap.the_row ghosts) fields)
+export_send : (E : RattleType) → IsSend E → IsSend (ExportState.the_row E Heap.the_row ghosts)
+export_send E e =
+    let fields : FieldsHave IsSend (export.the_type E Heap.the_row ghosts).parts = search (sendable, as_row_send, e, encoder_send, ledger_send, fates.the_send) depth 30 in
+    view_send _ _ _ _ _ (declared_send (export.the_type E Heap.the_row ghosts) fields)
 
 module _ (J E : RattleType) (g : naming.Ghosts J.Denot) (h : exporter.Ghosts E.Denot) (e : IsSend E) where
   abbrev lock : RattleType
@@ -39,7 +39,7 @@ module _ (J E : RattleType) (g : naming.Ghosts J.Denot) (h : exporter.Ghosts E.D
 
   shared_send : IsSend (Shared.the_row J E Heap.the_row g h ghosts)
   shared_send =
-      let d = desk_send E e in
+      let d = export_send E e in
       let fields : FieldsHave IsSend (shared.the_type J E Heap.the_row g h ghosts).parts = search (sendable, as_row_send, variants_send, d, book.the_send, heap.crosses) depth 30 in
       view_send _ _ _ _ _ (declared_send (shared.the_type J E Heap.the_row g h ghosts) fields)
 
@@ -52,7 +52,7 @@ module _ (J E : RattleType) (g : naming.Ghosts J.Denot) (h : exporter.Ghosts E.D
   pub pass_send : (R : RattleType) → IsSend R → IsSend (SimplePass.the_row J E R Heap.the_row g h ghosts)
   pass_send R r = view_send _ _ _ _ _ (
       declared_send (pass.the_type J E R Heap.the_row g h ghosts)
-      (heap.Arc-send lock lock_send lock_sync, (account.the_send J Holding.the_row g, (as_row_send (row_field R) r, tt)))
+      (heap.Arc-send lock lock_send lock_sync, (account.the_send J AccountState.the_row g, (as_row_send (row_field R) r, tt)))
       )
 
 -- the same where the exporter keeps in memory what it is handed

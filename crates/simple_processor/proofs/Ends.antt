@@ -3,25 +3,25 @@ use Rattle.std.proofs.Common.{◌≡◌, ℕ, ◌+◌, ◌<◌, true, false, Lis
 use Rattle.std.specs.Prelude.{IsPermutation, Option, Some, None}
 use Rattle.std.proofs.lemmas.List.{append-nil}
 use Rattle.std.proofs.lemmas.List.Sorted.{IsPermutation-refl, IsPermutation-sym, IsPermutation-to_front}
-use Rattle.span_model.specs.Spans.{EndedSpan, with_ticket}
-use Rattle.drop_model.specs.Dropped.{Reason, queue_full, encode_memory, too_large, abandoned, Entry, entry_of}
-use Rattle.export_model.specs.Export.{LacksBody}
-use Rattle.retry_model.specs.Retries.{fate_of, next_of}
-use Rattle.desk_model.specs.Queue.{lost_as, lost_names}
-use Rattle.desk_model.specs.Desks.{DropCounts, capped, drop_counts, fate_counts, with_drops, with_fate}
-use Rattle.desk_model.proofs.Lists.{some-more}
-use Rattle.desk_model.proofs.Events.{counts-more, fates-more}
+use Rattle.model_span.specs.Spans.{SpanData, with_ticket}
+use Rattle.model_drop.specs.Dropped.{Reason, queue_full, encode_memory, too_large, abandoned, Entry, entry_of}
+use Rattle.model_export.specs.Export.{LacksBody}
+use Rattle.model_retry.specs.Retries.{fate_of, next_of}
+use Rattle.model_desk.specs.Queue.{lost_as, lost_names}
+use Rattle.model_desk.specs.Desks.{DropCounts, capped, drop_counts, fate_counts, with_drops, with_fate}
+use Rattle.model_desk.proofs.Lists.{some-more}
+use Rattle.model_desk.proofs.Events.{counts-more, fates-more}
 use Rattle.otlp_span.specs.Dropped.{reason_view}
 use Rattle.otlp_span.specs.declared.reason.Reason as reasons
 use Rattle.otlp_span.specs.declared.reason.Reason.TheVariants as codes
 use Rattle.trace_api.specs.declared.pass.Ended.{Ended}
 use Rattle.trace_api.specs.declared.pass.Ended.TheVariants as answers
 use Rattle.span_exporter.specs.Handed.{Handed, Gains}
-use Rattle.pass_model.specs.Passes.{SpanEnd, accepted, dropped, PassAccount, after_pop, after_pop_lost}
-use Rattle.pass_model.proofs.Steps.{News, closed_by, closes-last, no_news, none_more, one_news, shut-closes}
+use Rattle.model_processor.specs.Passes.{SpanEnd, accepted, dropped, PassAccount, after_pop, after_pop_lost}
+use Rattle.model_processor.proofs.PassSteps.{News, closed_by, closes-last, no_news, none_more, one_news, shut-closes}
 use Rattle.simple_processor.specs.Accounts.{after_end, after_shutdown, is_simple_answer}
 use Rattle.simple_processor.specs.Bodies.{Handing, fates_of, lost_by_attempt, losses_of}
-use Rattle.simple_processor.specs.Desk.{State, Answers, IsDropped, IsHanded, IsLate, Pops, PopsLost, drop_count, drops_in, is_last_ticket, ticket_count, with_drop}
+use Rattle.simple_processor.specs.ExportStates.{State, Answers, IsDropped, IsHanded, IsLate, Pops, PopsLost, drop_count, drops_in, is_last_ticket, ticket_count, with_drop}
 use Rattle.simple_processor.proofs.Agree.{Step}
 
 pub gains_nothing : (told told' : Option (List Handed)) → told' ≡ told → Gains [] told told'
@@ -81,7 +81,7 @@ late-more m n is = omega arith
 closes-now : (s : State) (count n : ℕ) → s.closed ≡ false → s.closed ≡ closed_by count n → is_last_ticket count ≡ closed_by (count + 1) (n + 0)
 closes-now s count n admits is = closes-last count n (sym admits ∙ is) ∙ ap (closed_by (count + 1)) (none_more n)
 
-late_end : (told told' : Option (List Handed)) (s s' : State) (span : EndedSpan) (a : PassAccount) → IsLate told told' s s' → Step told told' s s' a (after_end answers.Late span a)
+late_end : (told told' : Option (List Handed)) (s s' : State) (span : SpanData) (a : PassAccount) → IsLate told told' s s' → Step told told' s s' a (after_end answers.Late span a)
 late_end told told' s s' span a l =
     quiet told told' s s' a (after_end answers.Late span a) l.nothing_is_sent (ap (λ (x : State). x.handed) l.state) (ap drops_in l.state) (ap (λ (x : State). x.max_body) l.state) (ap (λ (x : State). x.fates) l.state) refl
     [] [] 1 0 (sym (append-nil a.popped)) (sym (append-nil a.popped_lost)) (same_lost s s' (ap (λ (x : State). x.lost) l.state)) (ap (λ (x : State). x.lost_count) l.state) refl (none_more a.shutdowns)
@@ -123,7 +123,7 @@ pop_lost_step told told' s s' a entry unsent p =
 none-late : (s : State) (n : ℕ) → s.closed ≡ false → (0 < n → s.closed ≡ true) → 0 < n + 0 → ⊥
 none-late s n admits was some = let e = was (omega arith) in let f = admits in cc
 
-handed_step : (told told' : Option (List Handed)) (s s' : State) (span : EndedSpan) (ticket : ℕ) (a : PassAccount) → IsHanded told told' s span ticket s' → Step told told' s s' a (after_end (answers.Handed ticket) span a)
+handed_step : (told told' : Option (List Handed)) (s s' : State) (span : SpanData) (ticket : ℕ) (a : PassAccount) → IsHanded told told' s span ticket s' → Step told told' s s' a (after_end (answers.Handed ticket) span a)
 handed_step told told' s s' span ticket a h =
     let count : ticket_count s' ≡ ticket_count s + 1 = let e = ap (λ (x : State). x.handed) h.state in let f : drop_count s' ≡ drop_count s = ap drop_count h.state in omega arith in
     let end : SpanEnd = accepted (with_ticket ticket span) in
@@ -175,7 +175,7 @@ record Adds (reason : Reason) (s : State) : Type 0 where
   count : drop_count (with_drop reason s) ≡ drop_count s + 1
   counts : drops_in (with_drop reason s) ≡ with_drops reason 1 (drops_in s)
 
-adds : (max_body : ℕ) (spans : List EndedSpan) (reason : Reason) (s : State) → LacksBody max_body spans reason → Adds reason s
+adds : (max_body : ℕ) (spans : List SpanData) (reason : Reason) (s : State) → LacksBody max_body spans reason → Adds reason s
 adds max_body spans encode_memory s lacks = record { handed = refl; lost = refl; lost_count = refl; late = refl; fates = refl; max_body = refl; count = omega arith; counts = refl }
 adds max_body spans too_large s lacks = record { handed = refl; lost = refl; lost_count = refl; late = refl; fates = refl; max_body = refl; count = omega arith; counts = refl }
 adds max_body spans queue_full s lacks = absurd lacks
@@ -185,7 +185,7 @@ adds max_body spans Reason.bad_reply s lacks = absurd lacks
 adds max_body spans Reason.given_up s lacks = absurd lacks
 adds max_body spans Reason.left_handed s lacks = absurd lacks
 
-dropped_step : (told told' : Option (List Handed)) (s s' : State) (span : EndedSpan) (why : reasons.Reason) (ticket : ℕ) (a : PassAccount) → IsDropped told told' s span (reason_view why) ticket s' → Step told told' s s' a (after_end (answers.Dropped ticket why) span a)
+dropped_step : (told told' : Option (List Handed)) (s s' : State) (span : SpanData) (why : reasons.Reason) (ticket : ℕ) (a : PassAccount) → IsDropped told told' s span (reason_view why) ticket s' → Step told told' s s' a (after_end (answers.Dropped ticket why) span a)
 dropped_step told told' s s' span why ticket a d =
     let reason : Reason = reason_view why in
     let more : Adds reason s = adds s.max_body (with_ticket ticket span ∷ []) reason s d.lacks in
@@ -225,7 +225,7 @@ dropped_step told told' s s' span why ticket a d =
     }
 
 -- the end of a span, by its answer
-pub end_step : (told told' : Option (List Handed)) (s s' : State) (span : EndedSpan) (answer : Ended) (a : PassAccount) → Answers told told' s span answer s' → Step told told' s s' a (after_end answer span a)
+pub end_step : (told told' : Option (List Handed)) (s s' : State) (span : SpanData) (answer : Ended) (a : PassAccount) → Answers told told' s span answer s' → Step told told' s s' a (after_end answer span a)
 end_step told told' s s' span (answers.Handed ticket) a x = handed_step told told' s s' span ticket a x
 end_step told told' s s' span (answers.Dropped ticket why) a x = dropped_step told told' s s' span why ticket a x
 end_step told told' s s' span answers.Late a x = late_end told told' s s' span a x
@@ -234,7 +234,7 @@ end_step told told' s s' span answers.NotSampled a x = absurd x
 end_step told told' s s' span answers.AlreadyEnded a x = absurd x
 
 -- which answers there are
-pub end_answer : (told told' : Option (List Handed)) (s s' : State) (span : EndedSpan) (answer : Ended) → Answers told told' s span answer s' → is_simple_answer answer ≡ true
+pub end_answer : (told told' : Option (List Handed)) (s s' : State) (span : SpanData) (answer : Ended) → Answers told told' s span answer s' → is_simple_answer answer ≡ true
 end_answer told told' s s' span (answers.Handed ticket) x = refl
 end_answer told told' s s' span (answers.Dropped ticket codes.EncodeMemory) x = refl
 end_answer told told' s s' span (answers.Dropped ticket codes.TooLarge) x = refl

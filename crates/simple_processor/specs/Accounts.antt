@@ -1,15 +1,15 @@
 -- What calls on a pass of a simple processor add to what it knows. (Trace SDK, Simple processor,
 -- OnEnd, Shutdown)
 use Rattle.std.specs.Prelude.{◌≡◌, ◌+◌, Bool, true, false}
-use Rattle.span_model.specs.Spans.{EndedSpan}
+use Rattle.model_span.specs.Spans.{SpanData}
 use Rattle.otlp_span.specs.Dropped.{reason_view}
 use Rattle.otlp_span.specs.declared.reason.Reason.TheVariants as reasons
 use Rattle.trace_api.specs.declared.pass.Ended.{Ended}
 use Rattle.trace_api.specs.declared.pass.Ended.TheVariants as answers
-use Rattle.pass_model.specs.Passes.{PassAccount, after_accepted, after_dropped, after_late}
+use Rattle.model_processor.specs.Passes.{PassAccount, after_accepted, after_dropped, after_late}
 
 -- a span that ended, and what was answered
-abbrev pub after_end : Ended → EndedSpan → PassAccount → PassAccount
+abbrev pub after_end : Ended → SpanData → PassAccount → PassAccount
 after_end (answers.Handed ticket) span account = after_accepted ticket span account
 after_end (answers.Dropped ticket reason) span account =
     after_dropped (reason_view reason) ticket span account
@@ -30,7 +30,7 @@ abbrev pub after_shutdown : PassAccount → PassAccount
 after_shutdown account = record account { shutdowns = account.shutdowns + 1 }
 
 -- A span ends on a pass, which knows then what came of this very span.
-pub record AdmitsSpan (old : PassAccount) (span : EndedSpan) (answer : Ended) (new : PassAccount)
+pub record AdmitsSpan (old : PassAccount) (span : SpanData) (answer : Ended) (new : PassAccount)
     : Type 0 where
   pub answered : is_simple_answer answer ≡ true
   pub account : new ≡ after_end answer span old

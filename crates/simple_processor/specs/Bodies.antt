@@ -1,16 +1,17 @@
 -- What a simple processor hands to its exporter: each span alone, once. (Trace SDK, Simple
 -- processor; number and attempt: profile)
-use Rattle.std.specs.Prelude.{ℕ, ◌+◌, ◌≤◌, ◌≡◌, List, [], ◌∷◌, drop, length, map, filter_map, flat_map, IsPermutation, Option, Some}
-use Rattle.message_model.specs.Reading.{Reading, done}
-use Rattle.message_model.specs.Messages.{Triple, body_meaning}
-use Rattle.span_model.specs.Spans.{EndedSpan}
-use Rattle.export_model.specs.Export.{LacksBody, grouped_triples}
-use Rattle.drop_model.specs.Dropped.{Entry}
-use Rattle.retry_model.specs.Retries.{Fate, Outcome, fate_of, next_of}
-use Rattle.desk_model.specs.Queue.{lost_as}
+use Rattle.std.specs.Prelude.{ℕ, ◌+◌, ◌≤◌, ◌≡◌, List, [], ◌∷◌, drop, length, map, filter_map}
+use Rattle.std.specs.Prelude.{flat_map, IsPermutation, Option, Some}
+use Rattle.model_message.specs.Reading.{Reading, done}
+use Rattle.model_message.specs.Messages.{Triple, body_meaning}
+use Rattle.model_span.specs.Spans.{SpanData}
+use Rattle.model_export.specs.Export.{LacksBody, grouped_triples}
+use Rattle.model_drop.specs.Dropped.{Entry}
+use Rattle.model_retry.specs.Retries.{Fate, Outcome, fate_of, next_of}
+use Rattle.model_desk.specs.Queue.{lost_as}
 use Rattle.span_exporter.specs.Handed.{Handed}
-use Rattle.pass_model.specs.Passes.{Drop}
-use Rattle.pass_model.specs.Clauses.{NamesLosses}
+use Rattle.model_processor.specs.Passes.{Drop}
+use Rattle.model_processor.specs.PassClauses.{NamesLosses}
 
 -- An attempt, as OTLP reads it: its number, which attempt it is, and the meaning of its body.
 pub record Attempt : Type 0 where
@@ -19,7 +20,7 @@ pub record Attempt : Type 0 where
   pub meaning : Reading (List Triple)
 
 -- The one attempt of a span: under its ticket and 1, the first, with a body that means this span.
-abbrev pub attempt_of_span : EndedSpan → Attempt
+abbrev pub attempt_of_span : SpanData → Attempt
 attempt_of_span span = record {
   number = span.ticket + 1;
   attempt = 1;
@@ -44,7 +45,7 @@ fates_of bodies = filter_map (λ (h : Handed). fate_of (next_of h.outcome)) bodi
 
 -- A span that was handed, and what its one attempt came to.
 pub record Handing : Type 0 where
-  pub span : EndedSpan
+  pub span : SpanData
   pub outcome : Outcome
 
 -- its entry, with its fate's reason, if it is lost
@@ -63,14 +64,14 @@ pub record AreTold (handings : List Handing) (bodies : List Handed) : Type 0 whe
 
 -- Each accepted span was handed, in a body of its own. Those whose attempt came to nothing are
 -- named, each for its fate's reason, and counted.
-pub record LossesAreTold (bodies : List Handed) (accepted : List EndedSpan) (lost : List Entry)
+pub record LossesAreTold (bodies : List Handed) (accepted : List SpanData) (lost : List Entry)
     (count : ℕ) (popped : List Entry) : Type 0 where
   pub handings : List Handing
   pub spans : IsPermutation accepted (map (λ (x : Handing). x.span) handings)
   pub told : AreTold handings bodies
   pub names : NamesLosses lost count (losses_of handings) popped
 
--- what an exporter tells that it was handed behind what it had told; one that doesn't tell, nothing
+-- what an exporter tells that it was handed after what it had told; one that doesn't tell, nothing
 abbrev pub told_since : Option (List Handed) → Option (List Handed) → List Handed
 told_since (Some had) (Some all) = drop (length had) all
 told_since _ _ = []

@@ -1,18 +1,21 @@
 -- How what lies under the lock stands to the accounts. (profile)
-use Rattle.std.specs.Prelude.{◌≡◌, ℕ, ◌+◌, ◌≤◌, List, [], length, map, IsPermutation, Option, Some, None}
+use Rattle.std.specs.Prelude.{◌≡◌, ℕ, ◌+◌, ◌≤◌, List, [], length, map, IsPermutation, Option, Some}
+use Rattle.std.specs.Prelude.{None}
 use Rattle.std.specs.List.{AllByRecursion}
-use Rattle.drop_model.specs.Dropped.{Entry}
-use Rattle.desk_model.specs.Desks.{fate_counts}
+use Rattle.model_drop.specs.Dropped.{Entry}
+use Rattle.model_desk.specs.Desks.{fate_counts}
 use Rattle.span_exporter.specs.Handed.{Handed, Gains}
-use Rattle.pass_model.specs.Passes.{PassAccount, drops, all_accepted, all_dropped, all_popped, all_popped_lost}
-use Rattle.pass_model.specs.Clauses.{CountsLate, GivesTickets, NamesDrops}
-use Rattle.simple_processor.specs.Bodies.{Fits, LacksItsBody, LossesAreTold, attempt_in, attempt_of_span, fates_of}
-use Rattle.simple_processor.specs.Desk.{State, AreTotals, drops_in, ticket_count}
+use Rattle.model_processor.specs.Passes.{PassAccount, drops, all_accepted, all_dropped, all_popped}
+use Rattle.model_processor.specs.Passes.{all_popped_lost}
+use Rattle.model_processor.specs.PassClauses.{CountsLate, GivesTickets, NamesDrops}
+use Rattle.simple_processor.specs.Bodies.{Fits, LacksItsBody, LossesAreTold, attempt_in}
+use Rattle.simple_processor.specs.Bodies.{attempt_of_span, fates_of}
+use Rattle.simple_processor.specs.ExportStates.{State, AreTotals, drops_in, ticket_count}
 use Rattle.batch_desk.specs.declared.totals.Totals.{Totals}
-use Rattle.simple_processor.specs.Holders.{Origin, Holder, processor, pass, pass_accounts}
+use Rattle.simple_processor.specs.AnyAccounts.{Origin, AnyAccount, processor, pass, pass_accounts}
 
 -- the processor's own account says what it began with
-abbrev pub IsOf : Origin → Holder → Type 0
+abbrev pub IsOf : Origin → AnyAccount → Type 0
 IsOf origin (processor said) = said ≡ origin
 IsOf origin (pass account) = Unit {0}
 
@@ -34,7 +37,7 @@ pub record Agrees (had told : Option (List Handed)) (s : State) (accounts : List
   pub late : CountsLate s.late (ticket_count s) s.closed accounts
 
 -- What the lock keeps of the accounts of a processor that began so.
-pub record Kept (origin : Origin) (told : Option (List Handed)) (s : State) (holders : List Holder)
+pub record Kept (origin : Origin) (told : Option (List Handed)) (s : State) (holders : List AnyAccount)
     : Type 0 where
   pub few : length holders ≤ origin.passes + 1
   pub origins : AllByRecursion (IsOf origin) holders
@@ -43,11 +46,11 @@ pub record Kept (origin : Origin) (told : Option (List Handed)) (s : State) (hol
 
 -- the same, and that no account is left where nothing lies there any more
 abbrev pub IsShared : {D : Type 0} → (D → Option (List Handed)) → (D → State) → Origin → Option D
-    → List Holder → Type 0
+    → List AnyAccount → Type 0
 IsShared told state origin None holders = holders ≡ []
-IsShared told state origin (Some desk) holders = Kept origin (told desk) (state desk) holders
+IsShared told state origin (Some export) holders = Kept origin (told export) (state export) holders
 
--- ---- what is told in the end
+-- ---- what is reported in the end
 
 -- What an exporter that tells was handed since the processor began, one attempt for each span that
 -- the passes know as handed.

@@ -1,6 +1,6 @@
 -- What a simple processor shows, and what its passes know.
 pub mod Accounts
-pub mod Holders
+pub mod AnyAccounts
 pub mod Bodies
-pub mod Desk
+pub mod ExportStates
 pub mod Kept

@@ -1,8 +1,8 @@
 //! Encodes spans one at a time.
 ghost use Rattle.std.specs.Prelude.{◌≡◌, ◌≤◌, [], ◌∷◌, IfErr, IfOk, length};
-ghost use Rattle.message_model.specs.Reading.{Reads};
-ghost use Rattle.message_model.specs.Messages.{body_meaning};
-ghost use Rattle.export_model.specs.Export.{LacksBody, grouped_triples};
+ghost use Rattle.model_message.specs.Reading.{Reads};
+ghost use Rattle.model_message.specs.Messages.{body_meaning};
+ghost use Rattle.model_export.specs.Export.{LacksBody, grouped_triples};
 ghost use Rattle.otlp_span.specs.Dropped.{reason_view};
 ghost use Rattle.otlp_proto.specs.Bodies.{reason_of};
 

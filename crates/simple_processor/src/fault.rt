@@ -1,8 +1,10 @@
+//! Why a simple processor was not made.
+
 use otlp_ids::OutOfMemory;
 use std::alloc::{AllocError, AllocFailed};
 use thiserror::Error;
 
-/// Why a processor was not made. Where both hold, the first is told.
+/// Why a processor was not made. Where both hold, the first is reported.
 #[derive(Debug, Clone, Copy, PartialEq, Eq, Error)]
 pub enum SimpleFault {
     /// It would have no pass, or more than [`MAX_PASSES`](crate::MAX_PASSES).

@@ -6,16 +6,16 @@
 //! contract says what was handed and dropped through them.
 #![tactic(auto)]
 
-mod desk;
+mod account;
 mod encoder;
+mod export;
 mod fault;
-mod holding;
 mod pass;
 mod processor;
 mod shared;
 
+pub use account::SimpleBlank;
 pub use account_book::Naming;
 pub use fault::SimpleFault;
-pub use holding::SimpleBlank;
 pub use pass::{Flushed, SimplePass};
 pub use processor::{MAX_PASSES, SimpleAccounts, SimpleMissing, SimpleParts, SimpleProcessor};

@@ -1,10 +1,10 @@
 //! The passes of a simple processor.
 ghost use Rattle.std.specs.Prelude.{◌≡◌, IfNone, IfSome};
 ghost use Rattle.otlp_span.specs.Dropped.{entry_view};
-ghost use Rattle.pass_model.specs.Passes.{after_pop, after_pop_lost};
+ghost use Rattle.model_processor.specs.Passes.{after_pop, after_pop_lost};
 ghost use Rattle.simple_processor.specs.Accounts.{after_shutdown};
 
-use crate::holding::Holding;
+use crate::account::AccountState;
 use crate::shared::Shared;
 use account_book::{Account, Naming};
 use otlp_span::{Entry, SpanData};
@@ -27,14 +27,14 @@ pub struct Flushed;
 #[derive(Drop)]
 pub struct SimplePass<J: Naming, E: Exporter, R, A: Allocator = Global> {
     pub(crate) shared: Arc<Mutex<Shared<J, E, A>>, A>,
-    pub(crate) account: Account<J, Holding>,
+    pub(crate) account: Account<J, AccountState>,
     pub(crate) rt: R,
 }
 
 impl<J: Naming, E: Exporter, R, A: Allocator> Model for SimplePass<J, E, R, A> {
     ghost use Rattle.std.specs.Prelude.{◌≡◌};
-    ghost use Rattle.pass_model.specs.Passes.{PassAccount};
-    ghost use Rattle.simple_processor.specs.Holders.{account_in, pass};
+    ghost use Rattle.model_processor.specs.Passes.{PassAccount};
+    ghost use Rattle.simple_processor.specs.AnyAccounts.{account_in, pass};
 
     ghost Value = { PassAccount };
 
@@ -112,8 +112,8 @@ impl<J: Naming, E: Exporter, R: Wait, A: Allocator + Copy> EndPass<SpanData<A>>
     /// Encodes the span alone and hands its body to the exporter, in one attempt, numbered with
     /// its ticket and 1: `Handed`. Where memory is refused, or the body would be longer than it may
     /// be, the ledger names the span on its own slip: `Dropped`, as `EncodeMemory` or `TooLarge`.
-    /// Behind a shutdown the span is only counted: `Late`. Tickets are given from 0 on; where the
-    /// next would be 2^64 - 1, none is given any more, as behind a shutdown (profile: tickets, the
+    /// After a shutdown the span is only counted: `Late`. Tickets are given from 0 on; where the
+    /// next would be 2^64 - 1, none is given any more, as after a shutdown (profile: tickets, the
     /// ledger, the greatest body, late spans).
     fn admit(&mut self, span: SpanData<A>) -> Ended {
         let SimplePass {

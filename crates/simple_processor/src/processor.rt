@@ -1,21 +1,24 @@
 //! The simple processor.
-ghost use Rattle.std.specs.Prelude.{◌≡◌, ◌<◌, ◌≤◌, ◌↔◌, ◌⊎◌, IfErr, IfOk, IsErrOf, IsPermutation, MatchResult, OnOk, OnSome, length, map, vec_len};
+ghost use Rattle.std.specs.Prelude.{◌≡◌, ◌<◌, ◌≤◌, ◌↔◌, ◌⊎◌, IfErr, IfOk, IsErrOf, IsPermutation};
+ghost use Rattle.std.specs.Prelude.{MatchResult, OnOk, OnSome, length, map, vec_len};
 ghost use Rattle.std.specs.List.{AllByRecursion};
 ghost use Rattle.span_exporter.specs.Handed.{Gains};
-ghost use Rattle.desk_model.specs.Desks.{fate_counts};
+ghost use Rattle.model_desk.specs.Desks.{fate_counts};
 ghost use Rattle.drop_ledger.specs.Counts.{drop_counts_view};
 ghost use Rattle.batch_desk.specs.Views.{fate_counts_view};
-ghost use Rattle.pass_model.specs.Passes.{PassAccount, drops, all_accepted, all_dropped, all_popped, all_popped_lost, new_account};
-ghost use Rattle.pass_model.specs.Clauses.{CountsLate, GivesTickets, NamesDrops};
-ghost use Rattle.simple_processor.specs.Bodies.{Fits, LacksItsBody, LossesAreTold, attempt_in, attempt_of_span, fates_of, told_since};
-ghost use Rattle.simple_processor.specs.Holders.{pass};
+ghost use Rattle.model_processor.specs.Passes.{PassAccount, drops, all_accepted, all_dropped};
+ghost use Rattle.model_processor.specs.Passes.{all_popped, all_popped_lost, new_account};
+ghost use Rattle.model_processor.specs.PassClauses.{CountsLate, GivesTickets, NamesDrops};
+ghost use Rattle.simple_processor.specs.Bodies.{Fits, LacksItsBody, LossesAreTold, attempt_in};
+ghost use Rattle.simple_processor.specs.Bodies.{attempt_of_span, fates_of, told_since};
+ghost use Rattle.simple_processor.specs.AnyAccounts.{pass};
 ghost use Rattle.simple_processor.specs.Kept.{given_tickets};
 ghost use Rattle.simple_processor.specs.declared.processor.TheConstants.{MAX_PASSES};
 
-use crate::desk::Desk;
+use crate::account::{AccountState, Began, Begins, NewProcessor, SimpleBlank};
 use crate::encoder::Encoder;
+use crate::export::ExportState;
 use crate::fault::SimpleFault;
-use crate::holding::{Began, Begins, Holding, NewProcessor, SimpleBlank};
 use crate::pass::SimplePass;
 use crate::shared::Shared;
 use account_book::{Account, Naming};
@@ -40,14 +43,14 @@ const _: () = prove!(MAX_PASSES == 64);
 #[derive(Drop)]
 pub struct SimpleProcessor<J: Naming, E: Exporter, R, A: Allocator = Global> {
     shared: Arc<Mutex<Shared<J, E, A>>, A>,
-    account: Account<J, Holding>,
+    account: Account<J, AccountState>,
     passes: usize,
     rt: R,
 }
 
 impl<J: Naming, E: Exporter, R, A: Allocator> Model for SimpleProcessor<J, E, R, A> {
     ghost use Rattle.std.specs.Prelude.{◌≡◌, ◌<◌};
-    ghost use Rattle.simple_processor.specs.Holders.{Origin, origin_in, processor};
+    ghost use Rattle.simple_processor.specs.AnyAccounts.{Origin, origin_in, processor};
 
     ghost Value = { Origin };
 
@@ -87,7 +90,8 @@ pub struct SimpleAccounts<E, A: Allocator = Global> {
     pub totals: Totals,
     /// The names of the dropped spans that were not popped.
     pub ledger: Ledger<A>,
-    /// The names of the lost spans: each was handed to the exporter, and its attempt came to nothing.
+    /// The names of the lost spans: each was handed to the exporter, and its attempt came to
+    /// nothing.
     pub lost: Ledger<A>,
 }
 
@@ -141,9 +145,9 @@ impl<J: Naming, E: Exporter, R: Copy, A: Allocator + Copy> SimpleProcessor<J, E,
             exporter: Snapshot::of(&exporter),
         };
         book.record::<Began<E>, Begins<E>>(&mut account, &began);
-        let accounts = book.open_all::<Holding, A>(alloc, passes)?;
+        let accounts = book.open_all::<AccountState, A>(alloc, passes)?;
         let shared = Shared {
-            desk: Some(Desk::new(exporter, encoder)),
+            export: Some(ExportState::new(exporter, encoder)),
             book,
             passes,
             max_body,
@@ -208,7 +212,8 @@ impl<J: Naming, E: Exporter, R: Wait + Copy, A: Allocator + Copy> SimpleProcesso
             × (a.totals.dropped.abandoned ≡ 0)) }
 
         // A span whose attempt came to nothing is named in the second ledger, until its entry is
-        // popped: refused, given up since no more attempt is made, or with a reply that can't be read.
+        // popped: refused, given up since no more attempt is made, or with a reply that can't be
+        // read.
         ensures losses { IfOk result (λ a. OnSome (E.handed a.exporter)
             (LossesAreTold (told_since self.had (E.handed a.exporter))
             (all_accepted passes.items) a.lost a.totals.lost (all_popped_lost passes.items))) }
@@ -244,7 +249,7 @@ fn give_passes<J: Naming, E: Exporter + Drop, R: Copy, A: Allocator>(
     alloc: A,
     rt: R,
     shared: &Arc<Mutex<Shared<J, E, A>>, A>,
-    accounts: Vec<Account<J, Holding>, A>,
+    accounts: Vec<Account<J, AccountState>, A>,
 ) -> Result<Vec<SimplePass<J, E, R, A>, A>, AllocError>
     requires { AllByRecursion (λ h. h ≡ pass new_account) accounts.items }
     ensures count { IfOk result (λ passes. vec_len passes ≡ vec_len accounts) }

@@ -1,13 +1,14 @@
 //! What threads share, with the accounts of those who share it.
 ghost use Rattle.std.specs.Prelude.{◌≡◌, ◌≤◌, vec_len, true, option_map, IfSome, IfNone};
 ghost use Rattle.otlp_span.specs.Dropped.{entry_view};
-ghost use Rattle.pass_model.specs.Passes.{after_pop, after_pop_lost};
+ghost use Rattle.model_processor.specs.Passes.{after_pop, after_pop_lost};
 ghost use Rattle.simple_processor.specs.Accounts.{after_end, after_shutdown, is_simple_answer};
-ghost use Rattle.simple_processor.specs.Holders.{account_in, on_pass, origin_in, pass, processor};
+ghost use Rattle.simple_processor.specs.AnyAccounts.{account_in, on_pass, origin_in, pass};
+ghost use Rattle.simple_processor.specs.AnyAccounts.{processor};
 ghost use Rattle.simple_processor.specs.Kept.{IsAccountOf};
 
-use crate::desk::Desk;
-use crate::holding::{Ends, Holding, Pops, PopsLost, ShutsDown, SpanEnded};
+use crate::account::{AccountState, Ends, Pops, PopsLost, ShutsDown, SpanEnded};
+use crate::export::ExportState;
 use crate::pass::SimplePass;
 use crate::processor::SimpleAccounts;
 use account_book::{Account, Book, Naming};
@@ -21,8 +22,8 @@ use trace_api::Ended;
 /// What lies under the lock of a processor, until it is closed out, with the book of its accounts.
 #[derive(Drop)]
 pub(crate) struct Shared<J: Naming, E: Exporter, A: Allocator> {
-    pub(crate) desk: Option<Desk<E, A>>,
-    pub(crate) book: Book<J, Holding>,
+    pub(crate) export: Option<ExportState<E, A>>,
+    pub(crate) book: Book<J, AccountState>,
     pub(crate) passes: usize,
     pub(crate) max_body: usize,
     pub(crate) began: Snapshot<E>,
@@ -37,68 +38,72 @@ impl<J: Naming, E: Exporter, A: Allocator> Model for Shared<J, E, A> {
 
     ghost invariant = { λ s. IsShared (λ d. E.handed d.exporter) (λ d. d.state)
         (record { passes = s.passes; had = E.handed s.began.value; max_body = s.max_body })
-        s.desk s.book };
+        s.export s.book };
 }
 
 impl<J: Naming, E: Exporter, A: Allocator + Copy> Shared<J, E, A> {
     /// A span ends on a pass.
-    pub(crate) fn admit(&mut self, account: &mut Account<J, Holding>, span: SpanData<A>) -> Ended
+    pub(crate) fn admit(
+        &mut self,
+        account: &mut Account<J, AccountState>,
+        span: SpanData<A>,
+    ) -> Ended
         requires { account.old ≡ pass (account_in account.old) }
         ensures account { account.new ≡ on_pass (after_end result span) account.old }
         ensures answer { is_simple_answer result ≡ true }
     {
         self.book.recognize(account);
-        let Some(desk) = &mut self.desk else {
+        let Some(export) = &mut self.export else {
             unreachable!()
         };
         let seen = Snapshot::of(&span);
-        let answer = desk.admit(span);
+        let answer = export.admit(span);
         self.book
             .record::<SpanEnded<A>, Ends>(account, &SpanEnded { span: seen, answer });
         answer
     }
 
     /// A pass shuts the processor down.
-    pub(crate) fn shutdown(&mut self, account: &mut Account<J, Holding>)
+    pub(crate) fn shutdown(&mut self, account: &mut Account<J, AccountState>)
         requires { account.old ≡ pass (account_in account.old) }
         ensures { account.new ≡ on_pass after_shutdown account.old }
     {
         self.book.recognize(account);
-        let Some(desk) = &mut self.desk else {
+        let Some(export) = &mut self.export else {
             unreachable!()
         };
-        desk.shutdown();
+        export.shutdown();
         self.book.record::<(), ShutsDown>(account, &());
     }
 
     /// A pass pops an entry of the ledger.
-    pub(crate) fn pop_entry(&mut self, account: &mut Account<J, Holding>) -> Option<Entry>
+    pub(crate) fn pop_entry(&mut self, account: &mut Account<J, AccountState>) -> Option<Entry>
         requires { account.old ≡ pass (account_in account.old) }
         ensures some { IfSome result
             (λ entry. account.new ≡ on_pass (after_pop (entry_view entry)) account.old) }
         ensures none { IfNone result (account.new ≡ account.old) }
     {
         self.book.recognize(account);
-        let Some(desk) = &mut self.desk else {
+        let Some(export) = &mut self.export else {
             unreachable!()
         };
-        let entry = desk.pop_entry()?;
+        let entry = export.pop_entry()?;
         self.book.record::<Entry, Pops>(account, &entry);
         Some(entry)
     }
 
     /// A pass pops an entry of the ledger of lost spans.
-    pub(crate) fn pop_lost(&mut self, account: &mut Account<J, Holding>) -> Option<Entry>
+    pub(crate) fn pop_lost(&mut self, account: &mut Account<J, AccountState>) -> Option<Entry>
         requires { account.old ≡ pass (account_in account.old) }
         ensures some { IfSome result
             (λ entry. account.new ≡ on_pass (after_pop_lost (entry_view entry)) account.old) }
         ensures none { IfNone result (account.new ≡ account.old) }
     {
         self.book.recognize(account);
-        let Some(desk) = &mut self.desk else {
+        let Some(export) = &mut self.export else {
             unreachable!()
         };
-        let entry = desk.pop_lost()?;
+        let entry = export.pop_lost()?;
         self.book.record::<Entry, PopsLost>(account, &entry);
         Some(entry)
     }
@@ -106,7 +111,7 @@ impl<J: Naming, E: Exporter, A: Allocator + Copy> Shared<J, E, A> {
     /// Takes all out, once the processor and all passes are back.
     pub(crate) fn close<R>(
         &mut self,
-        mut account: Account<J, Holding>,
+        mut account: Account<J, AccountState>,
         passes: Vec<SimplePass<J, E, R, A>, A>,
     ) -> SimpleAccounts<E, A>
     where
@@ -118,7 +123,7 @@ impl<J: Naming, E: Exporter, A: Allocator + Copy> Shared<J, E, A> {
             result.ledger result.lost passes.items }
     {
         self.book.recognize(&mut account);
-        let Some(desk) = self.desk.take() else {
+        let Some(export) = self.export.take() else {
             unreachable!()
         };
         self.book.close(account);
@@ -130,6 +135,6 @@ impl<J: Naming, E: Exporter, A: Allocator + Copy> Shared<J, E, A> {
             } = pass;
             self.book.close(account);
         }
-        desk.into_accounts()
+        export.into_accounts()
     }
 }

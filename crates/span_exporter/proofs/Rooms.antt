@@ -15,7 +15,7 @@ pub one_attempt : (fits : Bool) (attempts left : ℕ) → left + 1 ≡ attempts
 one_attempt true attempts left h = omega arith
 one_attempt false attempts left h = omega arith
 
--- one buffer more behind the others, and one fewer
+-- one buffer more after the others, and one fewer
 pub one_more : {A : Type 0} (least : ℕ) (buffers : List (Vec ℕ A)) (buffer : Vec ℕ A)
     → AreBuffers least buffers → IsBuffer least buffer → AreBuffers least (buffers ++ buffer ∷ [])
 one_more least [] buffer all h = (h, tt)

@@ -1,6 +1,6 @@
 -- What an exporter was handed. (Trace SDK, Span Exporter; numbers of batches and attempts: profile)
 use Rattle.std.specs.Prelude.{◌≡◌, ℕ, List, [], ◌∷◌, ◌++◌, Option, option_map}
-use Rattle.retry_model.specs.Retries.{Outcome}
+use Rattle.model_retry.specs.Retries.{Outcome}
 
 -- An attempt to send a batch: the batch's number, which attempt of it this is, from 1 on, the body,
 -- and what came of it. (Trace SDK, Export)
@@ -15,7 +15,7 @@ abbrev pub handing : ℕ → ℕ → List ℕ → Outcome → List Handed
 handing number attempt body outcome =
     record { number = number; attempt = attempt; body = body; outcome = outcome } ∷ []
 
--- An exporter that tells what it was handed has, behind what it had, exactly these. Another tells
+-- An exporter that tells what it was handed has, after what it had, exactly these. Another tells
 -- nothing. (profile)
 abbrev pub Gains : List Handed → Option (List Handed) → Option (List Handed) → Type 0
 Gains more old new = new ≡ option_map (λ had. had ++ more) old

@@ -1,6 +1,6 @@
 -- What an exporter over memory shows. (profile)
 use Rattle.std.specs.Prelude.{List, [], ◌∷◌}
-use Rattle.retry_model.specs.Retries.{Outcome}
+use Rattle.model_retry.specs.Retries.{Outcome}
 use Rattle.span_exporter.specs.Handed.{Handed}
 use Rattle.span_exporter.specs.Room.{Room}
 
@@ -10,7 +10,7 @@ pub record Memory : Type 0 where
   pub outcomes : List Outcome
   pub room : Room
 
--- the first of the listed outcomes, and behind the last always that the batch was taken
+-- the first of the listed outcomes, and after the last always that the batch was taken
 abbrev pub next_outcome : List Outcome → Outcome
 next_outcome [] = Outcome.delivered
 next_outcome (outcome ∷ outcomes) = outcome

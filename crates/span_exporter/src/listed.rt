@@ -7,7 +7,7 @@ use retry_core::Outcome;
 use std::alloc::Allocator;
 use std::marker::Model;
 
-/// Outcomes of attempts, one after the other, and behind the last one that all was taken. In
+/// Outcomes of attempts, one after the other, and after the last one that all was taken. In
 /// contracts it is the list of those that are left.
 #[derive(Drop)]
 #[derive_where(Debug)]
@@ -18,7 +18,7 @@ pub(crate) struct ListedOutcomes<A: Allocator> {
 
 impl<A: Allocator> Model for ListedOutcomes<A> {
     ghost use Rattle.std.specs.Prelude.{◌≤◌, List, drop, length, map};
-    ghost use Rattle.retry_model.specs.Retries as model;
+    ghost use Rattle.model_retry.specs.Retries as model;
     ghost use Rattle.retry_core.specs.Retries.{outcome_view};
 
     ghost Value = { List model.Outcome };

@@ -1,5 +1,6 @@
 //! An exporter over memory.
-ghost use Rattle.std.specs.Prelude.{◌≡◌, ◌+◌, ◌<◌, ◌≤◌, ◌++◌, ℕ, [], OnErr, OnOk, drop, length, map};
+ghost use Rattle.std.specs.Prelude.{◌≡◌, ◌+◌, ◌<◌, ◌≤◌, ◌++◌, ℕ, [], OnErr, OnOk, drop, length};
+ghost use Rattle.std.specs.Prelude.{map};
 ghost use Rattle.retry_core.specs.Retries.{outcome_view};
 ghost use Rattle.span_exporter.specs.Handed.{handing};
 ghost use Rattle.span_exporter.specs.Memory.{next_outcome};

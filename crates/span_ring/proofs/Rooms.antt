@@ -26,14 +26,14 @@ past_is τ zero o = omega (arith, zero-mul (size τ))
 past_is τ (suc m) o = past_is τ m (o + size (bare τ)) ∙ omega (arith, suc-mul m (size τ), size-raw τ)
 
 module _ {M : Type 1} {𝓤 : Ura M} (𝓛 : Logic 𝓤) (b : ℕ) where
-  -- room right behind other room
+  -- room right after other room
   pub joined : (τ : Ty) (m n o at : ℕ) → at ≡ m * size τ + o
       → ent 𝓤 (sep 𝓤 (sem 𝓛 (froom (bare (ty_array τ m)) b o)) (sem 𝓛 (froom (bare (ty_array τ n)) b at))) (sem 𝓛 (froom (bare (ty_array τ (m + n))) b o))
   joined τ m n o at e = qed 𝓛 (‵ (froom (bare (ty_array τ m)) b o) ∷ ‵ (froom (bare (ty_array τ n)) b at) ∷ []) ∵ move ! (1 ∷ []) $
       rewrite ! 0 (λ (k : ℕ). ‵ (froom (bare (ty_array τ n)) b k)) (e ∙ sym (past_is τ m o)) refl $ move ! (1 ∷ 0 ∷ []) $ by ! (room_glue 𝓛 (bare τ) m n b o)
 
   module _ (R : RattleType) (x : R.Denot) where
-    -- an item right behind others
+    -- an item right after others
     pub one_more : (xs : List R.Denot) (o at : ℕ) → at ≡ length xs * type_size R + o
         → ent 𝓤 (sep 𝓤 (sem 𝓛 (items_own R b o xs)) (sem 𝓛 (part_at R full_share x b at))) (sem 𝓛 (items_own R b o (xs ++ x ∷ [])))
     one_more [] o at e = let same : at ≡ o = omega (arith, e, zero-mul (type_size R)) in qed 𝓛 (‵ (items_own R b o []) ∷ ‵ (part_at R full_share x b at) ∷ []) ∵ drop ! $

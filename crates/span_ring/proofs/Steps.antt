@@ -34,7 +34,7 @@ module _ {X : Type 0} (queue batch : ℕ) (full : List (RunView X)) (filling : R
         enough = subst (λ (n : ℕ). queue ≤ n * batch) same are.enough;
       }
 
-  -- an item is put behind the others, for which there is room
+  -- an item is put after the others, for which there is room
   pub pushed : (full' : List (RunView X)) (filling' : RunView X) (spare' : List (RunView X)) (run_out : Bool) (x : X)
       → AreSegments full filling spare len queue batch run_out → len ≢ queue → items_of full' filling' ≡ items_of full filling → AreFull batch full'
       → (length filling'.items < batch) × (filling'.room ≡ batch) → AreSpare batch spare' → length full' + length spare' ≡ length full + length spare

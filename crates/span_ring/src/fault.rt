@@ -1,6 +1,8 @@
+//! Why a ring was not made.
+
 use thiserror::Error;
 
-/// Why a ring was not made. Where several hold, the first in this order is told.
+/// Why a ring was not made. Where several hold, the first in this order is reported.
 #[derive(Clone, Copy, Debug, PartialEq, Eq, Error)]
 pub enum RingFault {
     /// The queue or the batch is of no items.

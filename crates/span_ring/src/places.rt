@@ -1,3 +1,4 @@
+//! The places of a segment: how items are put into them, read and taken out.
 ghost use Rattle.std.specs.Prelude.{◌≡◌, ℕ, ◌+◌, ◌-◌, ◌<◌, ◌++◌, ◌∷◌, [], List, length, drop};
 ghost use denote.RawPtr.{Ptr};
 ghost use Rattle.span_ring.specs.Places.{places_own, places_lent};
@@ -28,7 +29,7 @@ unsafe impl<T: Send> Send for Places<T> {}
 unsafe impl<T: Sync> Sync for Places<T> {}
 
 impl<T> Places<T> {
-    /// Puts the item into the first empty place behind the others.
+    /// Puts the item into the first empty place after the others.
     pub(crate) fn write(&mut self, base: *const T, index: usize, item: T)
         requires at { base ≡ self.old.at }
         requires index { index ≡ self.old.before + length self.old.items }

@@ -1,4 +1,7 @@
-ghost use Rattle.std.specs.Prelude.{◌≡◌, ◌<◌, ◌≤◌, ◌↔◌, ◌⊎◌, ◌==◌, [], ◌∷◌, ◌++◌, length, take, drop, true, false, is_ok, is_some, if◌then◌else◌, IsErr, IsNone, IsErrOf, IfOk, IfErr, IfSome};
+//! The ring itself.
+ghost use Rattle.std.specs.Prelude.{◌≡◌, ◌<◌, ◌≤◌, ◌↔◌, ◌⊎◌, ◌==◌, [], ◌∷◌, ◌++◌, length, take};
+ghost use Rattle.std.specs.Prelude.{drop, true, false, is_ok, is_some, if◌then◌else◌, IsErr};
+ghost use Rattle.std.specs.Prelude.{IsNone, IsErrOf, IfOk, IfErr, IfSome};
 ghost use Rattle.span_ring.specs.SpanRing.{empty_ring, IsRingSize};
 
 use crate::fault::RingFault;
@@ -142,7 +145,7 @@ impl<T, A: Allocator> SpanRing<T, A> {
         self.run_out
     }
 
-    /// Lets the item wait behind the others, also while a run is out.
+    /// Lets the item wait after the others, also while a run is out.
     ///
     /// # Errors
     ///

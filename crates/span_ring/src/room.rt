@@ -1,3 +1,4 @@
+//! The room of an empty `Vec`, taken apart: its address, and the right to free it.
 ghost use Rattle.std.specs.Prelude.{◌≡◌, ◌+◌, [], vec_capacity};
 ghost use Rattle.std.specs.Vec.{vec_ptr};
 ghost use Rattle.std_alloc.specs.declared.vec.Vec.{Vec as VecOf};

@@ -1,3 +1,4 @@
+//! Items that left a ring together.
 ghost use Rattle.std.specs.Prelude.{◌≡◌, ◌≤◌, ◌==◌, ◌++◌, [], length, option_to_list, IsNone, ◌↔◌};
 
 use crate::places::Places;

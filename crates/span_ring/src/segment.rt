@@ -1,3 +1,4 @@
+//! A segment of a ring: room for the items of one batch.
 ghost use Rattle.std.specs.Prelude.{◌≡◌, ◌<◌, ◌++◌, ◌∷◌, [], length, vec_capacity, IfOk};
 ghost use Rattle.span_ring.specs.Run.{empty_run};
 
@@ -68,7 +69,7 @@ impl<T, A: Allocator> Segment<T, A> {
         self.places.view(self.owner.base(), 0, self.len)
     }
 
-    /// Puts the item behind the others.
+    /// Puts the item after the others.
     pub(crate) fn push(&mut self, item: T)
         requires { length self.old.items < self.old.room }
         ensures { self.new ≡ record self.old { items = self.old.items ++ item ∷ [] } }

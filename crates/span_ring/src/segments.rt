@@ -1,3 +1,4 @@
+//! The segments of a ring, but for the one that is out.
 ghost use Rattle.std.specs.Prelude.{◌≡◌, ◌+◌, ◌<◌, ◌≤◌, ◌++◌, [], length, take, vec_capacity, IfOk};
 ghost use Rattle.std.specs.VecDeque.{deque_capacity};
 ghost use Rattle.span_ring.specs.Run.{empty_run};
@@ -51,7 +52,7 @@ impl<T, A: Allocator + Copy> Segments<T, A> {
 }
 
 impl<T, A: Allocator> Segments<T, A> {
-    /// Where the segment that is being filled is full, puts it behind the others that are, and a
+    /// Where the segment that is being filled is full, puts it after the others that are, and a
     /// spare one in its place.
     #[tactic(auto, using(crate::proofs::Lengths::segments))]
     pub(crate) fn make_room(&mut self, batch: usize)

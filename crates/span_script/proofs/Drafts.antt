@@ -5,9 +5,9 @@ use Rattle.std.specs.List.{slice_set}
 use Rattle.std.proofs.lemmas.Bool.{eq-eqb, lt-ltb}
 use Rattle.std.proofs.lemmas.List.{map_push, length-map}
 use Rattle.std.proofs.lemmas.Option.{slice_get_within}
-use Rattle.span_model.specs.Attributes as attributes
-use Rattle.span_model.specs.Attributes.{AttributeList, SetsPair}
-use Rattle.span_model.specs.Spans as spans
+use Rattle.model_span.specs.Attributes as attributes
+use Rattle.model_span.specs.Attributes.{AttributeList, SetsPair}
+use Rattle.model_span.specs.Spans as spans
 use Rattle.otlp_span.specs.declared.parts.SpanLimits.{SpanLimits}
 use Rattle.otlp_span.specs.Parts.{limits_view}
 use Rattle.batch_desk.specs.declared.config.DeskConfig.{DeskConfig}

@@ -3,7 +3,7 @@ use Rattle.std.proofs.Common.{◌≡◌, ℕ, suc, ◌+◌, ◌-◌, ◌<◌, Li
 use Rattle.std.specs.Prelude.{unwrap_or}
 use Rattle.std.specs.Option.{IfSome}
 use Rattle.std.proofs.lemmas.Option.{cond_some}
-use Rattle.desk_model.specs.Desks.{DeskConfig}
+use Rattle.model_desk.specs.Desks.{DeskConfig}
 use Rattle.span_ring.specs.SpanRing.{IsRingSize}
 use Rattle.batch_desk.specs.Desk.{default_config}
 use Rattle.script_words.specs.Words.{◌>>=◌}

@@ -6,8 +6,8 @@ use Rattle.std.proofs.lemmas.Bool.{and_parts, cases_Bool, eqb-true, eq-eqb, ne_e
 use Rattle.std.proofs.lemmas.List.{map_push, length-map}
 use Rattle.std.proofs.lemmas.List.Elements.{filter_map-append}
 use Rattle.std.proofs.lemmas.List.Concat.{flat_map-append}
-use Rattle.span_model.specs.Attributes as attributes
-use Rattle.span_model.specs.Spans as spans
+use Rattle.model_span.specs.Attributes as attributes
+use Rattle.model_span.specs.Spans as spans
 use Rattle.span_script.specs.Lines.{Line, words, sampler, limits, desk, max_body, resource, scope, scope_attribute, outcome, step}
 use Rattle.span_script.specs.Scripts.{with_attributes, is_step, is_setting, words_in, sampler_in, limits_in, desk_in, max_body_in, attribute_in, scope_in, attribute_on, outcome_in, step_in, settings_first, at_most_one, numbered_from, on_scopes_before, is_script, first_of, scopes_of, contents_of}
 use Rattle.span_script.specs.Drafts.{no_items, fits, set_on, extended_script}
@@ -42,21 +42,21 @@ once true true (x ∷ xs) c = sym (and_false (at_most_one (x ∷ xs) && c))
 once true false xs c = sym (and_false (at_most_one xs && c))
 once false b xs c = refl
 
--- a scope, behind those before it
+-- a scope, after those before it
 placed : (a b x y c : Bool) → ((a && b) && ((x && (c && true)) && y)) ≡ ((a && (x && y)) && (b && c))
 placed false b x y c = refl
 placed true b false y c = and_false b
 placed true b true y false = and_false b ∙ sym (and_false y) ∙ ap (λ e. y && e) (sym (and_false b))
 placed true b true y true = ap (λ e. b && e) refl ∙ and_comm b y ∙ ap (λ e. y && e) (sym (and_true b))
 
--- an attribute, behind those before it
+-- an attribute, after those before it
 behind_others : (a b y c : Bool) → ((a && b) && (y && (c && true))) ≡ ((a && y) && (b && c))
 behind_others false b y c = refl
 behind_others true b false c = and_false b
 behind_others true b true true = refl
 behind_others true b true false = refl
 
--- the same behind another condition
+-- the same after another condition
 behind : (a b m x y z : Bool) → ((a && b) && x) ≡ ((a && y) && z) → ((a && b) && (m && x)) ≡ ((a && (m && y)) && z)
 behind a b true x y z e = e
 behind true b false x y z e = and_false b
@@ -64,7 +64,7 @@ behind false b false x y z e = refl
 
 -- ---- one more line
 
--- whether a line may stand behind a step
+-- whether a line may come after a step
 abbrev may_follow : Line → Bool
 may_follow l = not (is_setting l)
 
@@ -115,7 +115,7 @@ number_last m ((k, y) ∷ xs) n x =
     ap (λ b. eqb k m && b) (number_last (m + 1) xs n x ∙ ap (λ i. numbered_from (m + 1) xs && (eqb n i && true)) (omega arith))
     ∙ and_assoc (eqb k m) (numbered_from (m + 1) xs) (eqb n (m + length ((k, y) ∷ xs)) && true)
 
--- the last line stands behind all scopes
+-- the last line comes after all scopes
 before_last : (n : ℕ) (ls : List Line) (l : Line)
     → on_scopes_before n (ls ++ l ∷ []) ≡ (on_scopes_before n ls && on_scopes_before (n + length (filter_map scope_in ls)) (l ∷ []))
 before_last n [] l = ap (λ k. on_scopes_before k (l ∷ [])) (sym (add-zero n))
@@ -213,7 +213,7 @@ same_scopes ls l e none =
     rw (none_more scope_in ls l e)
     (same_each _ _ (filter_map scope_in ls) (λ p. ap (λ ps. with_attributes ps p.1) (none_more (attribute_on p.0) ls l (none p.0))))
 
--- no attribute stands before its scope
+-- no attribute comes before its scope
 nothing_on : (m n : ℕ) (ls : List Line) → on_scopes_before m ls ≡ true → m + length (filter_map scope_in ls) ≤ n → filter_map (attribute_on n) ls ≡ []
 nothing_on m n [] e h = refl
 nothing_on m n (words ws ∷ ls) e h = nothing_on m n ls e h
@@ -267,7 +267,7 @@ on_last ls n k p =
     filter_map-append (attribute_on n) ls (scope_attribute k p ∷ [])
     ∙ elim (cases_Bool (eqb k n)) [ inl e ↦ rw e refl | inr e ↦ rw e (append-nil (filter_map (attribute_on n) ls)) ]
 
--- the scopes from one on that stands behind that of the number
+-- the scopes from one on that comes after that of the number
 rest_on : (m k : ℕ) (p : attributes.Attribute) (f : ℕ → List attributes.Attribute) (xs : List (ℕ × spans.Scope)) → k < m → numbered_from m xs ≡ true
     → map (λ q. with_attributes (one_on k p (f q.0) q.0) q.1) xs ≡ map (λ q. with_attributes (f q.0) q.1) xs
 rest_on m k p f [] h e = refl

@@ -1,7 +1,7 @@
 -- How pairs are read one after the other.
 use Rattle.std.proofs.Common.{◌≡◌, ℕ, ◌<◌, ◌≤◌, List, [], ◌∷◌, ◌++◌, length, get_or, drop, Option, Some, None, Err, String, Vec, refl, sym, ap, ◌∙◌, arith, append-nil}
 use denote.Ref.{Bor}
-use Rattle.span_model.specs.Attributes.{Attribute}
+use Rattle.model_span.specs.Attributes.{Attribute}
 use Rattle.otlp_value.specs.declared.Value.{Value}
 use Rattle.otlp_value.specs.Value.{attribute_view, attributes_view}
 use Rattle.script_words.specs.Words.{Gives, in_front}

@@ -4,7 +4,7 @@ use Rattle.std.specs.Prelude.{◌==◌, ◌&&◌, nat_le, if◌then◌else◌, o
 use Rattle.std.specs.Option.{IfSome}
 use Rattle.std.specs.List.{slice_split}
 use Rattle.std.proofs.lemmas.Bool.{cases_Bool}
-use Rattle.desk_model.specs.Desks.{DeskConfig}
+use Rattle.model_desk.specs.Desks.{DeskConfig}
 use Rattle.span_ring.specs.SpanRing.{IsRingSize}
 use Rattle.span_ring.specs.declared.ring.TheConstants.{MAX_QUEUE}
 use Rattle.script_words.specs.Words.{◌>>=◌, each_of, number_below, hex_word, text_of}

@@ -19,7 +19,7 @@ abbrev pub numbered : ℕ → Option Script → (Script → Result Script ℕ) �
 numbered n None next = Err n
 numbered n (Some s) next = next s
 
--- A script and the lines behind it, the first of which has the number n: what they say together, or
+-- A script and the lines after it, the first of which has the number n: what they say together, or
 -- the number of the first that may not follow.
 unfoldable pub lines_read : ℕ → Script → List (List ℕ) → Result Script ℕ
 lines_read n s [] = Ok s

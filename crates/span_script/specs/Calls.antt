@@ -1,6 +1,8 @@
--- The calls on a span, by the name of the line and the words behind the span's number.
-use Rattle.std.specs.Prelude.{ℕ, ◌^◌, false, List, [], ◌∷◌, if◌then◌else◌, Option, Some, None, option_map, bytes_eq, codes}
-use Rattle.span_model.specs.Spans.{Call, Status, set_attribute, add_event, record_exception, add_link, set_status, update_name, unset, ok, error}
+-- The calls on a span, by the name of the line and the words after the span's number.
+use Rattle.std.specs.Prelude.{ℕ, ◌^◌, false, List, [], ◌∷◌, if◌then◌else◌, Option, Some, None}
+use Rattle.std.specs.Prelude.{option_map, bytes_eq, codes}
+use Rattle.model_span.specs.Spans.{Call, Status, set_attribute, add_event, record_exception}
+use Rattle.model_span.specs.Spans.{add_link, set_status, update_name, unset, ok, error}
 use Rattle.script_words.specs.Words.{◌>>=◌, number_below, text_of}
 use Rattle.span_script.specs.Values.{pair_of, pairs_of}
 use Rattle.span_script.specs.Contexts.{context_of}
@@ -69,7 +71,7 @@ unfoldable pub name_call : List (List ℕ) → Option Call
 name_call (name ∷ []) = option_map update_name (text_of name)
 name_call _ = None
 
--- a call of this name, and the words behind the span's number
+-- a call of this name, and the words after the span's number
 unfoldable pub call_of : List ℕ → List (List ℕ) → Option Call
 call_of name words =
     if bytes_eq name (codes "attr") then attribute_call words

@@ -1,8 +1,10 @@
 -- How the context of a span, and the parent of one that starts, are spelled.
-use Rattle.std.specs.Prelude.{ℕ, ◌^◌, Bool, true, false, List, if◌then◌else◌, Option, Some, None, option_map, bytes_eq, codes}
-use Rattle.span_model.specs.Spans.{Context}
-use Rattle.history_model.specs.Steps.{Parent, root, numbered, given}
-use Rattle.script_words.specs.Words.{◌>>=◌, number_below, hex_bytes, byte_of, text_of, around_colon_of}
+use Rattle.std.specs.Prelude.{ℕ, ◌^◌, Bool, true, false, List, if◌then◌else◌, Option, Some, None}
+use Rattle.std.specs.Prelude.{option_map, bytes_eq, codes}
+use Rattle.model_span.specs.Spans.{Context}
+use Rattle.model_run.specs.Steps.{Parent, root, numbered, given}
+use Rattle.script_words.specs.Words.{◌>>=◌, number_below, hex_bytes, byte_of, text_of}
+use Rattle.script_words.specs.Words.{around_colon_of}
 
 -- ---- what words spell
 
@@ -15,7 +17,7 @@ context_of remote trace span flags state = do
   s ← text_of state
   Some (record { trace = t; span = i; flags = f; remote = remote; state = s })
 
--- `TRACE:SPAN:FLAGS:STATE`, in which all behind the third colon is the state
+-- `TRACE:SPAN:FLAGS:STATE`, in which all after the third colon is the state
 unfoldable pub joined_context_of : Bool → List ℕ → Option Context
 joined_context_of remote word = do
   trace ← around_colon_of word
@@ -23,14 +25,14 @@ joined_context_of remote word = do
   flags ← around_colon_of span.1
   context_of remote trace.0 span.0 flags.0 flags.1
 
--- whether the context behind `remote:` or `local:` is remote (Trace API, IsRemote)
+-- whether the context after `remote:` or `local:` is remote (Trace API, IsRemote)
 unfoldable pub is_remote_of : List ℕ → Option Bool
 is_remote_of side =
     if bytes_eq side (codes "remote") then Some true
     else if bytes_eq side (codes "local") then Some false
     else None
 
--- a context behind one of these
+-- a context after one of these
 unfoldable pub given_of : List ℕ → List ℕ → Option Parent
 given_of side context =
     is_remote_of side >>= λ remote. option_map given (joined_context_of remote context)

@@ -1,13 +1,16 @@
 -- What the code has of the lines so far, and how it goes on.
-use Rattle.std.specs.Prelude.{◌≡◌, ℕ, zero, suc, ◌==◌, nat_lt, Bool, true, false, not, ◌&&◌, List, [], ◌∷◌, ◌++◌, length, map, if◌then◌else◌, option_map, is_some, Option, Some, None, Result, Ok, Err, string_bytes}
-use Rattle.span_model.specs.Attributes.{Attribute, AttributeList, attributes, attribute_list}
-use Rattle.span_model.specs.Spans as spans
+use Rattle.std.specs.Prelude.{◌≡◌, ℕ, zero, suc, ◌==◌, nat_lt, Bool, true, false, not, ◌&&◌, List}
+use Rattle.std.specs.Prelude.{[], ◌∷◌, ◌++◌, length, map, if◌then◌else◌, option_map, is_some}
+use Rattle.std.specs.Prelude.{Option, Some, None, Result, Ok, Err, string_bytes}
+use Rattle.model_span.specs.Attributes.{Attribute, AttributeList, attributes, attribute_list}
+use Rattle.model_span.specs.Spans as spans
 use Rattle.otlp_span.specs.Parts.{limits_view}
 use Rattle.batch_desk.specs.Views.{config_view}
 use Rattle.retry_core.specs.Retries.{outcome_view}
 use Rattle.trace_history.specs.Steps.{step_view}
 use Rattle.script_words.specs.Words.{◌>>=◌}
-use Rattle.span_script.specs.Lines.{Line, words, sampler, limits, desk, max_body, resource, scope, scope_attribute, outcome, step, line_of}
+use Rattle.span_script.specs.Lines.{Line, words, sampler, limits, desk, max_body, resource, scope}
+use Rattle.span_script.specs.Lines.{scope_attribute, outcome, step, line_of}
 use Rattle.span_script.specs.Scripts.{Script, all_kept, with_attributes}
 use Rattle.span_script.specs.declared.draft.Draft.{Draft}
 use Rattle.span_script.specs.declared.scope.ScopeDraft.{ScopeDraft}

@@ -1,12 +1,13 @@
 -- What a line of a script says: words with one space (32) between them, the first of which is its
 -- name.
-use Rattle.std.specs.Prelude.{ℕ, ◌^◌, ◌==◌, nat_le, ◌&&◌, List, [], ◌∷◌, if◌then◌else◌, Option, Some, None, option_map, bytes_eq, codes, string_bytes}
+use Rattle.std.specs.Prelude.{ℕ, ◌^◌, ◌==◌, nat_le, ◌&&◌, List, [], ◌∷◌, if◌then◌else◌, Option}
+use Rattle.std.specs.Prelude.{Some, None, option_map, bytes_eq, codes, string_bytes}
 use Rattle.std.specs.List.{slice_split}
-use Rattle.span_model.specs.Attributes as attributes
-use Rattle.span_model.specs.Spans as spans
-use Rattle.desk_model.specs.Desks.{DeskConfig}
-use Rattle.retry_model.specs.Retries.{Outcome}
-use Rattle.history_model.specs.Steps.{Step}
+use Rattle.model_span.specs.Attributes as attributes
+use Rattle.model_span.specs.Spans as spans
+use Rattle.model_desk.specs.Desks.{DeskConfig}
+use Rattle.model_retry.specs.Retries.{Outcome}
+use Rattle.model_run.specs.Steps.{Step}
 use Rattle.otlp_value.specs.Value.{attribute_view}
 use Rattle.otlp_span.specs.Parts.{limits_view}
 use Rattle.span_ring.specs.declared.ring.TheConstants.{MAX_QUEUE}
@@ -137,7 +138,7 @@ unfoldable pub scope_attribute_line : List (List ℕ) → Option Line
 scope_attribute_line (number ∷ key ∷ value ∷ []) = scope_attribute_line_of number key value
 scope_attribute_line _ = None
 
--- a number from 1 on, up to the greatest that may stand there
+-- a number from 1 on, up to the greatest that may be there
 unfoldable pub size_to : ℕ → List ℕ → Option ℕ
 size_to greatest word =
     number_below (2 ^ 32) word >>= λ n. if nat_le 1 n && nat_le n greatest then Some n else None
@@ -161,7 +162,7 @@ unfoldable pub max_body_line : List (List ℕ) → Option Line
 max_body_line (greatest ∷ []) = option_map max_body (number_below (2 ^ 64) greatest)
 max_body_line _ = None
 
--- a line of this name and these words behind it
+-- a line of this name and these words after it
 unfoldable pub entry : List ℕ → List (List ℕ) → Option Line
 entry name arguments =
     if bytes_eq name (codes "words") then words_line arguments

@@ -1,13 +1,13 @@
 -- What a script in the code is.
 use Rattle.std.specs.Prelude.{◌≡◌, ℕ, List, map, unwrap_or, Result, Ok, Err}
-use Rattle.span_model.specs.Attributes.{attributes}
+use Rattle.model_span.specs.Attributes.{attributes}
 use Rattle.otlp_value.specs.Value.{attributes_view}
 use Rattle.otlp_span.specs.Parts.{limits_view, scope_view}
 use Rattle.batch_desk.specs.Views.{config_view}
 use Rattle.batch_desk.specs.Desk.{default_config}
 use Rattle.retry_core.specs.Retries.{outcome_view}
 use Rattle.trace_history.specs.Steps.{step_view}
-use Rattle.span_model.specs.Spans.{default_limits}
+use Rattle.model_span.specs.Spans.{default_limits}
 use Rattle.span_script.specs.Scripts.{Script, all_kept, kept_scope, IsLine}
 use Rattle.span_script.specs.declared.sampler.SamplerName.TheVariants.{AlwaysOn}
 use Rattle.span_script.specs.declared.script.Script.{Script as CodeScript}

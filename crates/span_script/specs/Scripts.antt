@@ -1,13 +1,17 @@
 -- What the lines of a script say together.
-use Rattle.std.specs.Prelude.{ℕ, ◌+◌, ◌-◌, ◌^◌, ◌<◌, ◌≤◌, ◌==◌, nat_lt, Bool, true, false, not, ◌&&◌, List, [], ◌∷◌, length, map, take, filter, filter_map, flat_map, slice_index_or, if◌then◌else◌, Option, Some, None, is_some, ok_or, Result}
+use Rattle.std.specs.Prelude.{ℕ, ◌+◌, ◌-◌, ◌^◌, ◌<◌, ◌≤◌, ◌==◌, nat_lt, Bool, true, false, not}
+use Rattle.std.specs.Prelude.{◌&&◌, List, [], ◌∷◌, length, map, take, filter, filter_map, flat_map}
+use Rattle.std.specs.Prelude.{slice_index_or, if◌then◌else◌, Option, Some, None, is_some, ok_or}
+use Rattle.std.specs.Prelude.{Result}
 use Rattle.std.specs.List.{slice_split, list_all, position_or_len, range_with_len}
-use Rattle.span_model.specs.Attributes as attributes
-use Rattle.span_model.specs.Spans as spans
-use Rattle.desk_model.specs.Desks.{DeskConfig}
-use Rattle.retry_model.specs.Retries.{Outcome}
-use Rattle.history_model.specs.Steps.{Step}
+use Rattle.model_span.specs.Attributes as attributes
+use Rattle.model_span.specs.Spans as spans
+use Rattle.model_desk.specs.Desks.{DeskConfig}
+use Rattle.model_retry.specs.Retries.{Outcome}
+use Rattle.model_run.specs.Steps.{Step}
 use Rattle.script_words.specs.Words.{◌>>=◌, each_of}
-use Rattle.span_script.specs.Lines.{Line, words, sampler, limits, desk, max_body, resource, scope, scope_attribute, outcome, step, line_of}
+use Rattle.span_script.specs.Lines.{Line, words, sampler, limits, desk, max_body, resource, scope}
+use Rattle.span_script.specs.Lines.{scope_attribute, outcome, step, line_of}
 use Rattle.span_script.specs.declared.sampler.SamplerName.{SamplerName}
 
 pub record Script : Type 0 where
@@ -94,7 +98,7 @@ abbrev pub step_in : Line → Option Step
 step_in (step x) = Some x
 step_in _ = None
 
--- settings stand before steps: none stands behind the first step
+-- settings come before steps: none comes after the first step
 abbrev pub settings_first : List Line → Bool
 settings_first [] = true
 settings_first (line ∷ lines) =
@@ -110,7 +114,7 @@ abbrev pub numbered_from : ℕ → List (ℕ × spans.Scope) → Bool
 numbered_from n [] = true
 numbered_from n ((number, x) ∷ scopes) = number == n && numbered_from (n + 1) scopes
 
--- Attributes are set on scopes that stand before them. The lines stand behind so many scopes.
+-- Attributes are set on scopes that come before them. The lines come after so many scopes.
 abbrev pub on_scopes_before : ℕ → List Line → Bool
 on_scopes_before n [] = true
 on_scopes_before n (scope number x ∷ lines) = on_scopes_before (n + 1) lines
@@ -118,7 +122,7 @@ on_scopes_before n (scope_attribute number p ∷ lines) =
     nat_lt number n && on_scopes_before n lines
 on_scopes_before n (_ ∷ lines) = on_scopes_before n lines
 
--- Settings stand before steps, the sampler, the limits, the desk and the greatest body are set once
+-- Settings come before steps, the sampler, the limits, the desk and the greatest body are set once
 -- at most, scopes are numbered from 0 in their order, and attributes are set on scopes that stand
 -- before them.
 abbrev pub is_script : List Line → Bool

@@ -1,7 +1,8 @@
--- The steps of a program, by the name of the line and the words behind it.
-use Rattle.std.specs.Prelude.{ℕ, ◌^◌, List, [], ◌∷◌, if◌then◌else◌, Option, Some, None, option_map, bytes_eq, codes}
-use Rattle.span_model.specs.Spans as spans
-use Rattle.history_model.specs.Steps.{Step, start, call, flush, shutdown, take, encode, attempt, reply}
+-- The steps of a program, by the name of the line and the words after it.
+use Rattle.std.specs.Prelude.{ℕ, ◌^◌, List, [], ◌∷◌, if◌then◌else◌, Option, Some, None, option_map}
+use Rattle.std.specs.Prelude.{bytes_eq, codes}
+use Rattle.model_span.specs.Spans as spans
+use Rattle.model_run.specs.Steps.{Step, start, call, flush, shutdown, take, encode, attempt, reply}
 use Rattle.otlp_span.specs.declared.parts.Kind.{Kind}
 use Rattle.otlp_span.specs.declared.parts.Kind.TheVariants as kinds
 use Rattle.otlp_span.specs.Parts.{kind_view}
@@ -48,14 +49,14 @@ unfoldable pub end_step : List (List ℕ) → Option Step
 end_step (span ∷ at ∷ []) = end_step_of span at
 end_step _ = None
 
--- any other call of a name, on the span of a number, with the words behind that
+-- any other call of a name, on the span of a number, with the words after that
 unfoldable pub call_step_of : List ℕ → List ℕ → List (List ℕ) → Option Step
 call_step_of name span others = do
   n ← number_below (2 ^ 32) span
   c ← call_of name others
   Some (call n c)
 
--- the span's number stands behind the name
+-- the span's number comes after the name
 unfoldable pub call_step : List ℕ → List (List ℕ) → Option Step
 call_step name [] = None
 call_step name (span ∷ others) = call_step_of name span others
@@ -96,7 +97,7 @@ unfoldable pub reply_step : List (List ℕ) → Option Step
 reply_step (at ∷ word ∷ []) = reply_step_of at word
 reply_step _ = None
 
--- a step of this name, and the words behind it
+-- a step of this name, and the words after it
 unfoldable pub step_of : List ℕ → List (List ℕ) → Option Step
 step_of name words =
     if bytes_eq name (codes "flush") then bare_step flush words

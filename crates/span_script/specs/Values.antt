@@ -1,7 +1,8 @@
 -- How the value of an attribute is spelled, and how pairs are.
-use Rattle.std.specs.Prelude.{ℕ, ◌==◌, Bool, true, false, List, [], ◌∷◌, if◌then◌else◌, Option, Some, None, option_map, bytes_eq, codes}
+use Rattle.std.specs.Prelude.{ℕ, ◌==◌, Bool, true, false, List, [], ◌∷◌, if◌then◌else◌, Option}
+use Rattle.std.specs.Prelude.{Some, None, option_map, bytes_eq, codes}
 use Rattle.std.specs.List.{slice_split}
-use Rattle.span_model.specs.Attributes.{Value, Attribute, text, bool, int, texts, bools, ints}
+use Rattle.model_span.specs.Attributes.{Value, Attribute, text, bool, int, texts, bools, ints}
 use Rattle.script_words.specs.Words.{◌>>=◌, in_front, each_of, signed_number, text_of}
 
 -- `true` or `false`

@@ -3,7 +3,9 @@
 ghost use Rattle.std.specs.Prelude.{map};
 ghost use Rattle.otlp_span.specs.Parts.{call_view, status_view};
 ghost use Rattle.script_words.specs.Words.{Gives};
-ghost use Rattle.span_script.specs.Calls.{attribute_call, call_of, described_status_of, event_call, event_call_of, exception_call, exception_of, link_call, name_call, plain_status_of, status_call};
+ghost use Rattle.span_script.specs.Calls.{attribute_call, call_of, described_status_of, event_call};
+ghost use Rattle.span_script.specs.Calls.{event_call_of, exception_call, exception_of, link_call};
+ghost use Rattle.span_script.specs.Calls.{name_call, plain_status_of, status_call};
 
 use crate::context::parse_context;
 use crate::value::{parse_pair, parse_pairs};
@@ -11,7 +13,7 @@ use otlp_span::{SpanCall, Status};
 use script_words::{WordFault, number, text};
 use std::alloc::Allocator;
 
-/// Reads a call of this name, and the words behind the span's number.
+/// Reads a call of this name, and the words after the span's number.
 #[tactic(auto, unfolding(crate::specs::Calls::call_of))]
 pub(crate) fn parse_call<A: Allocator + Copy>(
     alloc: A,

@@ -4,7 +4,8 @@ ghost use Rattle.std.specs.Prelude.{◌≡◌, ok_or};
 ghost use Rattle.otlp_ids.specs.SpanContext.{context_view};
 ghost use Rattle.script_words.specs.Words.{Gives, hex_bytes};
 ghost use Rattle.trace_history.specs.Steps.{parent_name_view};
-ghost use Rattle.span_script.specs.Contexts.{context_of, given_of, is_remote_of, joined_context_of, parent_of, plain_parent_of};
+ghost use Rattle.span_script.specs.Contexts.{context_of, given_of, is_remote_of, joined_context_of};
+ghost use Rattle.span_script.specs.Contexts.{parent_of, plain_parent_of};
 ghost use Rattle.script_words.specs.declared.WordFault.TheVariants.{Bad};
 
 use otlp_ids::{SpanContext, SpanId, TraceFlags, TraceId};
@@ -14,7 +15,7 @@ use std::str;
 use trace_history::Parent;
 
 /// Reads the parent of a span that starts: `root`, the number of a span, or `remote:` or `local:`
-/// with a context behind it.
+/// with a context after it.
 #[tactic(auto, unfolding(crate::specs::Contexts::parent_of))]
 pub(crate) fn parse_parent<A: Allocator>(alloc: A, word: &[u8]) -> Result<Parent<A>, WordFault>
     ensures { Gives parent_name_view result (parent_of word.now) }
@@ -36,7 +37,7 @@ fn parse_plain_parent<A: Allocator>(word: &[u8]) -> Result<Parent<A>, WordFault>
     }
 }
 
-/// Whether the context behind `remote` or `local` is remote.
+/// Whether the context after `remote` or `local` is remote.
 #[tactic(auto, unfolding(crate::specs::Contexts::is_remote_of))]
 fn parse_side(side: &[u8]) -> Result<bool, WordFault>
     ensures { result ≡ ok_or (is_remote_of side.now) Bad }

@@ -6,9 +6,11 @@ ghost use Rattle.otlp_span.specs.Parts.{limits_view};
 ghost use Rattle.batch_desk.specs.Views.{config_view};
 ghost use Rattle.retry_core.specs.Retries.{outcome_view};
 ghost use Rattle.trace_history.specs.Steps.{step_view};
-ghost use Rattle.span_script.specs.Lines.{line_view, words, sampler, limits, desk, max_body, resource, scope, scope_attribute, outcome, step};
+ghost use Rattle.span_script.specs.Lines.{line_view, words, sampler, limits, desk, max_body};
+ghost use Rattle.span_script.specs.Lines.{resource, scope, scope_attribute, outcome, step};
 ghost use Rattle.span_script.specs.Scripts.{Script};
-ghost use Rattle.span_script.specs.Drafts.{Holds, Follows, no_items, no_script, with_line, line_read};
+ghost use Rattle.span_script.specs.Drafts.{Holds, Follows, no_items, no_script, with_line};
+ghost use Rattle.span_script.specs.Drafts.{line_read};
 
 use crate::line::{Line, parse_line};
 use crate::sampler::SamplerName;
@@ -66,7 +68,7 @@ impl<A: Allocator + Copy> Draft<A> {
     ///
     /// # Errors
     ///
-    /// `Bad` where the line may not stand there, `OutOfMemory` where memory was refused. What the
+    /// `Bad` where the line may not be there, `OutOfMemory` where memory was refused. What the
     /// draft then holds is not specified.
     #[tactic(auto, unfolding(crate::specs::Drafts::line_read))]
     pub(crate) fn add_line(&mut self, alloc: A, line: &[u8]) -> Result<(), WordFault>

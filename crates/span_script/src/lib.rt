@@ -22,17 +22,17 @@
 //! | `status N unset`, `ok` or `error TEXT` | sets the status |
 //! | `name N TEXT` | gives the span another name |
 //! | `end N AT` | ends a span |
-//! | `flush`, `shutdown` | asks for the spans that wait, and closes the queue behind them |
+//! | `flush`, `shutdown` | asks for the spans that wait, and closes the queue after them |
 //! | `take AT` | takes the next batch, if it is due |
 //! | `encode` | encodes the batch that was taken |
 //! | `attempt AT` | hands it to the exporter |
 //! | `reply AT WORD` | judges what came of that |
 //!
-//! The first eight are settings, which stand before the first step; an `answer` may stand anywhere,
+//! The first eight are settings, which come before the first step; an `answer` may be anywhere,
 //! and all others are steps. Limits are numbers of attributes, events and links of a span, of
 //! attributes of an event and of a link, and the length of a text in characters, or `none`. Q is
 //! how many spans may wait, 1 to 65,536, B how many a batch may have, 1 to Q, and D the delay in
-//! milliseconds. Scopes are numbered from 0 in their order, and an attribute stands behind the
+//! milliseconds. Scopes are numbered from 0 in their order, and an attribute comes after the
 //! scope that it is set on. OUTCOME is `delivered`, `partial N`, which is how many spans were
 //! rejected, `refused STATUS`, which is a status of HTTP, or `bad`. In a step N is the number of a
 //! span: they are numbered from 0 by their starts. AT is a moment, and WORD a random number. PARENT
@@ -41,11 +41,11 @@
 //! `internal`, `server`, `client`, `producer` or `consumer`. PAIRS is any number of `KEY VALUE`.
 //!
 //! In a text `%` and two hexadecimal digits are that byte, `%` alone is the empty text, other bytes
-//! stand for themselves, and the whole is UTF-8. Numbers are decimal digits; moments, random numbers and
-//! the greatest body have 64 bits, how many were rejected 64 with a sign, limits, the delay and numbers of
-//! spans and scopes 32, and a status 16. A value is `t:TEXT`, `b:true`, `b:false`, `i:NUMBER`, a
-//! whole number of 64 bits that may begin with `-`, or an array `T:`, `B:` or `I:` of these, with
-//! commas between them; a comma in such a text is `%2c`.
+//! stand for themselves, and the whole is UTF-8. Numbers are decimal digits; moments, random
+//! numbers and the greatest body have 64 bits, how many were rejected 64 with a sign, limits, the
+//! delay and numbers of spans and scopes 32, and a status 16. A value is `t:TEXT`, `b:true`,
+//! `b:false`, `i:NUMBER`, a whole number of 64 bits that may begin with `-`, or an array `T:`, `B:`
+//! or `I:` of these, with commas between them; a comma in such a text is `%2c`.
 #![tactic(auto)]
 
 mod call;

@@ -4,7 +4,11 @@ ghost use Rattle.std.specs.Prelude.{◌≡◌, map, ok_or};
 ghost use Rattle.otlp_span.specs.Parts.{limits_view};
 ghost use Rattle.batch_desk.specs.Views.{config_view};
 ghost use Rattle.script_words.specs.Words.{Gives};
-ghost use Rattle.span_script.specs.Lines.{line_view, sampler_of, length_of, limits_of, words_line, sampler_line, limits_line, resource_line, scope_line_of, scope_line, scope_attribute_line_of, scope_attribute_line, size_to, desk_of, desk_line, max_body_line, entry, line_of};
+ghost use Rattle.span_script.specs.Lines.{line_view, sampler_of, length_of, limits_of, words_line};
+ghost use Rattle.span_script.specs.Lines.{sampler_line, limits_line, resource_line, scope_line_of};
+ghost use Rattle.span_script.specs.Lines.{scope_line, scope_attribute_line_of};
+ghost use Rattle.span_script.specs.Lines.{scope_attribute_line, size_to, desk_of, desk_line};
+ghost use Rattle.span_script.specs.Lines.{max_body_line, entry, line_of};
 ghost use Rattle.script_words.specs.declared.WordFault.TheVariants.{Bad};
 
 use crate::outcome::parse_outcome;
@@ -77,7 +81,7 @@ pub(crate) fn parse_line<A: Allocator + Copy>(alloc: A, line: &[u8]) -> Result<L
     }
 }
 
-/// Reads a line of this name and these words behind it.
+/// Reads a line of this name and these words after it.
 #[tactic(auto, unfolding(crate::specs::Lines::entry))]
 fn parse_entry<A: Allocator + Copy>(
     alloc: A,

@@ -1,7 +1,7 @@
 //! A scope whose attributes are still being set.
 
 ghost use Rattle.std.specs.Prelude.{◌≡◌, [], IfOk, map};
-ghost use Rattle.span_model.specs.Attributes.{attribute_list};
+ghost use Rattle.model_span.specs.Attributes.{attribute_list};
 ghost use Rattle.otlp_span.specs.Parts.{scope_view};
 ghost use Rattle.span_script.specs.Scripts.{all_kept};
 ghost use Rattle.span_script.specs.Drafts.{scope_draft_view, finished_scope};

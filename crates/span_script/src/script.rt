@@ -72,9 +72,9 @@ impl<A: Allocator + Copy> Script<A> {
     ///
     /// # Errors
     ///
-    /// `BadLine` where a line is bad by itself or may not stand where it does: a setting behind a
+    /// `BadLine` where a line is bad by itself or may not be where it does: a setting after a
     /// step, a second sampler, second limits, a second desk, a second greatest body, a scope with
-    /// another number than the next, an attribute of a scope that doesn't stand before it.
+    /// another number than the next, an attribute of a scope that doesn't come before it.
     /// `OutOfMemory` where memory was refused.
     pub fn parse(alloc: A, text: &[u8]) -> Result<Script<A>, ScriptError>
         // What the lines say, or the first bad one.

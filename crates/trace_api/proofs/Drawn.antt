@@ -2,10 +2,10 @@
 use Rattle.std.proofs.Common.{◌≡◌, refl, sym, ap, subst, ◌∙◌, ℕ, zero, suc, ◌+◌, add-zero, add-suc, zero-add, arith, List, Option, Some, None, option_map, Result, Ok, Err, IsErrAnd}
 use mathlib.Core.Path.{fun_ext}
 use Rattle.rand_core.specs.Stream.{Stream, next_u64}
-use Rattle.span_model.specs.Spans.{Context}
-use Rattle.span_model.specs.Identifiers.{Words, span_id, words_after, words_spent}
-use Rattle.span_model.specs.Sampling.{Decision}
-use Rattle.span_model.specs.Starts.{Ids, Tracer, StartRequest, StartedSpan, HeldSpan, trace_of, trace_words, ids_of, ids_words, decision_of, started_span, started_span_as}
+use Rattle.model_span.specs.Spans.{Context}
+use Rattle.model_span.specs.Identifiers.{Words, span_id, words_after, words_spent}
+use Rattle.model_span.specs.Sampling.{Decision}
+use Rattle.model_span.specs.Starts.{Ids, Tracer, StartRequest, StartedSpan, HeldSpan, trace_of, trace_words, ids_of, ids_words, decision_of, started_span, started_span_as}
 use Rattle.otlp_ids.specs.WordStream.{Spends, after_words, words_of}
 use Rattle.trace_api.specs.Starts.{StartTakesMemory, StartsAs}
 use Rattle.trace_api.specs.declared.provider.StartFault.{StartFault}
@@ -32,7 +32,7 @@ no-trace parent s t e spent =
     let all : ids_words parent (words_of s) ≡ n = rw (← e) (add-zero n) in
     (rw (← e) refl, record { stream = spent.stream ∙ ap (λ k. after_words k s) (sym all); words = spent.words ∙ ap (λ k. words_after k (words_of s)) (sym all) })
 
--- what is drawn behind a trace
+-- what is drawn after a trace
 pub behind-trace : (parent : Option Context) (trace : List ℕ) (id : Option (List ℕ)) (s t u : Stream) → Some trace ≡ trace_of parent (words_of s) → Spends (trace_words parent) s t →
     id ≡ span_id (words_of t) → Spends (words_spent 1) t u →
     (option_map (λ i. record { trace = trace; span = i }) id ≡ ids_of parent (words_of s)) × Spends (ids_words parent) s u

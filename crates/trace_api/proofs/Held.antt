@@ -2,16 +2,16 @@
 use Rattle.std.proofs.Common.{◌≡◌, refl, sym, ap, ◌∙◌, ℕ, List, [], ◌∷◌, ◌++◌, Bool, true, false, ◌||◌, Option}
 use Rattle.std.specs.List.{list_any}
 use Rattle.std.proofs.lemmas.List.Folds.{list_any-append}
-use Rattle.span_model.specs.Spans.{Call, Context, Kind, Recording, SpanLimits, Resource, Scope, Span, Start, Adds, end, is_end, span}
-use Rattle.span_model.proofs.Live.{all-live}
-use Rattle.span_model.specs.Sampling.{Decision, is_recording}
+use Rattle.model_span.specs.Spans.{Call, Context, Kind, SpanRecord, SpanLimits, Resource, Scope, Span, Start, Adds, end, is_end, span}
+use Rattle.model_span.proofs.Live.{all-live}
+use Rattle.model_span.specs.Sampling.{Decision, is_recording}
 use Rattle.trace_api.specs.State.{state_view}
 use Rattle.trace_api.specs.declared.span.State.{State}
 use Rattle.trace_api.specs.declared.span.State.TheVariants as states
-use Rattle.span_model.specs.Starts.{StartedSpan, SpanState, HeldSpan, Tracer, Ids, Does, started_span_as, recording, not_recording, ended, held_span, state_after, is_recording_state}
+use Rattle.model_span.specs.Starts.{StartedSpan, SpanState, HeldSpan, Tracer, Ids, Does, started_span_as, recording, not_recording, ended, held_span, state_after, is_recording_state}
 
 -- what is recorded of a span after some calls
-abbrev recorded : StartedSpan → List Call → Recording
+abbrev recorded : StartedSpan → List Call → SpanRecord
 recorded s calls = record { limits = s.limits; resource = s.resource; scope = s.scope; span = span s.limits s.start calls }
 
 -- the state by whether a call is an end and whether the span was recorded
@@ -44,7 +44,7 @@ does c x old new t = record {
       (t.value s calls (list_any is_end calls) (is_recording s.decision) refl refl (was ∙ state-is s calls (list_any is_end calls) (is_recording s.decision) refl refl));
 }
 
-pub does-recorded : (c : Call) (x : Context) (old new : Recording) → is_end c ≡ false → Adds c old new →
+pub does-recorded : (c : Call) (x : Context) (old new : SpanRecord) → is_end c ≡ false → Adds c old new →
     Does c (record { context = x; state = recording old }) (record { context = x; state = recording new })
 does-recorded c x old new k a = does c x (recording old) (recording new) (record { value = by })
   where
@@ -53,16 +53,16 @@ does-recorded c x old new k a = does c x (recording old) (recording new) (record
     by s calls false false e f h = cc
     by s calls false true e f h =
         let was : old ≡ recorded s calls = cc in
-        let limits = ap (λ (r : Recording). r.limits) was in
-        let now = a.value s.start calls (record { none_ends = all-live calls e; is = ap (λ (r : Recording). r.span) was ∙ ap (λ l. span l s.start calls) (sym limits) }) in
+        let limits = ap (λ (r : SpanRecord). r.limits) was in
+        let now = a.value s.start calls (record { none_ends = all-live calls e; is = ap (λ (r : SpanRecord). r.span) was ∙ ap (λ l. span l s.start calls) (sym limits) }) in
         let same : new ≡ recorded s (calls ++ c ∷ []) = place-of new (recorded s (calls ++ c ∷ []))
-        (a.place.limits ∙ limits) (a.place.resource ∙ ap (λ (r : Recording). r.resource) was) (a.place.scope ∙ ap (λ (r : Recording). r.scope) was)
+        (a.place.limits ∙ limits) (a.place.resource ∙ ap (λ (r : SpanRecord). r.resource) was) (a.place.scope ∙ ap (λ (r : SpanRecord). r.scope) was)
         (now.is ∙ ap (λ l. span l s.start (calls ++ c ∷ [])) (a.place.limits ∙ limits)) in
         ap recording same ∙ sym (state-is s (calls ++ c ∷ []) false true (any-more c calls false false e k) f)
       where
-        place-of : (r t : Recording) → r.limits ≡ t.limits → r.resource ≡ t.resource → r.scope ≡ t.scope → r.span ≡ t.span → r ≡ t
+        place-of : (r t : SpanRecord) → r.limits ≡ t.limits → r.resource ≡ t.resource → r.scope ≡ t.scope → r.span ≡ t.span → r ≡ t
         place-of r t l m n o =
-            let make : SpanLimits → Resource → Scope → Span → Recording = λ a b y z. record { limits = a; resource = b; scope = y; span = z } in
+            let make : SpanLimits → Resource → Scope → Span → SpanRecord = λ a b y z. record { limits = a; resource = b; scope = y; span = z } in
             ap (λ a. make a r.resource r.scope r.span) l ∙ ap (λ b. make t.limits b r.scope r.span) m
             ∙ ap (λ y. make t.limits t.resource y r.span) n ∙ ap (λ z. make t.limits t.resource t.scope z) o
 
@@ -117,7 +117,7 @@ recorded-is limits resource scope start s l r c t = rw (l, r, c, t) refl
 
 -- ---- a span's state in the code
 
-pub not-recorded : {A : Type 0} (state : State A) → ((r : Recording) → state ≡ states.Recording r → ⊥) → is_recording_state (state_view state) ≡ false
+pub not-recorded : {A : Type 0} (state : State A) → ((r : SpanRecord) → state ≡ states.Recording r → ⊥) → is_recording_state (state_view state) ≡ false
 not-recorded (states.Recording r) h = absurd (h r refl)
 not-recorded states.NotRecording h = refl
 not-recorded states.Ended h = refl

@@ -1,7 +1,7 @@
 -- Facts of answers.
 use Rattle.std.proofs.Common.{Result, Ok, Err, OnOk, OnErr}
-use Rattle.span_model.specs.Spans.{Recording}
-use Rattle.span_model.specs.Starts.{SpanState, recording, not_recording, ended}
+use Rattle.model_span.specs.Spans.{SpanRecord}
+use Rattle.model_span.specs.Starts.{SpanState, recording, not_recording, ended}
 use Rattle.trace_api.specs.Calls.{IsRecordingWith}
 
 pub on-ok : {T E : Type 0} {P Q : Type 0} (r : Result T E) → (P → Q) → OnOk r P → OnOk r Q
@@ -13,13 +13,13 @@ on-err (Ok x) f h = tt
 on-err (Err e) f h = f h
 
 -- of a span that is recorded
-pub recording-with : {P Q : Recording → Type 0} (state : SpanState) → ((r : Recording) → P r → Q r) → IsRecordingWith P state → IsRecordingWith Q state
+pub recording-with : {P Q : SpanRecord → Type 0} (state : SpanState) → ((r : SpanRecord) → P r → Q r) → IsRecordingWith P state → IsRecordingWith Q state
 recording-with (recording r) f h = f r h
 recording-with not_recording f h = h
 recording-with ended f h = h
 
 -- what is so whatever is recorded
-pub said-with : {P : Recording → Type 0} {Q : Type 0} (state : SpanState) → ((r : Recording) → P r → Q) → IsRecordingWith P state → Q
+pub said-with : {P : SpanRecord → Type 0} {Q : Type 0} (state : SpanState) → ((r : SpanRecord) → P r → Q) → IsRecordingWith P state → Q
 said-with (recording r) f h = f r h
 said-with not_recording f h = absurd h
 said-with ended f h = absurd h

@@ -1,13 +1,14 @@
 -- What calls on a span come to.
 use Rattle.std.specs.Prelude.{◌≡◌, ℕ, Bool, ◌&&◌, IsTrue, Option, Some, None, Result, Ok, Err}
-use Rattle.span_model.specs.Spans.{EndedSpan, Recording, Ends}
-use Rattle.span_model.specs.Identifiers.{has_sampled_flag}
-use Rattle.span_model.specs.Starts.{HeldSpan, SpanState, recording, not_recording, ended, is_recording_state}
+use Rattle.model_span.specs.Spans.{SpanData, SpanRecord, Ends}
+use Rattle.model_span.specs.Identifiers.{has_sampled_flag}
+use Rattle.model_span.specs.Starts.{HeldSpan, SpanState, recording, not_recording, ended}
+use Rattle.model_span.specs.Starts.{is_recording_state}
 use Rattle.trace_api.specs.declared.pass.Ended.{Ended}
 use Rattle.trace_api.specs.Pass.{is_admission}
 
 -- the span is recorded, and this is so of what is
-abbrev pub IsRecordingWith : (Recording → Type 0) → SpanState → Type 0
+abbrev pub IsRecordingWith : (SpanRecord → Type 0) → SpanState → Type 0
 IsRecordingWith holds (recording r) = holds r
 IsRecordingWith holds not_recording = ⊥
 IsRecordingWith holds ended = ⊥
@@ -17,9 +18,9 @@ abbrev pub goes_to_pass : HeldSpan → Bool
 goes_to_pass span = is_recording_state span.state && has_sampled_flag span.context.flags
 
 -- A pass was asked for what is recorded, as it is after this end, and said what became of it.
-pub record Asks {P : Type 0} (admits : P → EndedSpan → Ended → P → Type 0) (at : ℕ) (r : Recording)
+pub record Asks {P : Type 0} (admits : P → SpanData → Ended → P → Type 0) (at : ℕ) (r : SpanRecord)
     (old : P) (answer : Ended) (new : P) : Type 0 where
-  pub span : EndedSpan
+  pub span : SpanData
   pub value : Ends at r span
   pub asked : admits old span answer new
   pub admission : IsTrue (is_admission answer)

@@ -2,3 +2,4 @@ pub mod Pass
 pub mod Starts
 pub mod Calls
 pub mod State
+pub mod Words

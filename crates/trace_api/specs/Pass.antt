@@ -1,9 +1,11 @@
 -- What ended spans go to. (Trace SDK, Span processor)
-use Rattle.std.specs.Prelude.{◌≡◌, ℕ, ◌+◌, ◌-◌, ◌^◌, min, nat_lt, Bool, true, false, List, [], ◌∷◌, ◌++◌, length, if◌then◌else◌}
-use Rattle.span_model.specs.Spans.{EndedSpan, with_ticket}
+use Rattle.std.specs.Prelude.{◌≡◌, ℕ, ◌+◌, ◌-◌, ◌^◌, min, nat_lt, Bool, true, false, List, [], ◌∷◌}
+use Rattle.std.specs.Prelude.{◌++◌, length, if◌then◌else◌}
+use Rattle.model_span.specs.Spans.{SpanData, with_ticket}
 use Rattle.otlp_span.specs.declared.reason.Reason.TheVariants.{QueueFull}
 use Rattle.trace_api.specs.declared.pass.Ended.{Ended}
-use Rattle.trace_api.specs.declared.pass.Ended.TheVariants.{Queued, Handed, Dropped, Late, NotSampled, AlreadyEnded}
+use Rattle.trace_api.specs.declared.pass.Ended.TheVariants.{Queued, Handed, Dropped, Late}
+use Rattle.trace_api.specs.declared.pass.Ended.TheVariants.{NotSampled, AlreadyEnded}
 
 -- an answer of one that was asked to take a span
 abbrev pub is_admission : Ended → Bool
@@ -16,7 +18,7 @@ is_admission AlreadyEnded = false
 
 -- the spans that are kept for a body, how many may be, and how many more have ended
 pub record Body : Type 0 where
-  pub spans : List EndedSpan
+  pub spans : List SpanData
   pub room : ℕ
   pub dropped : ℕ
 
@@ -35,11 +37,11 @@ has_room b = nat_lt (length b.spans) b.room
 abbrev pub answer_of : Body → Ended
 answer_of b = if has_room b then Queued (next_ticket b) else Dropped (next_ticket b) QueueFull
 
-abbrev pub with_span : Body → EndedSpan → Body
+abbrev pub with_span : Body → SpanData → Body
 with_span b span =
     if has_room b then record b { spans = b.spans ++ with_ticket (next_ticket b) span ∷ [] }
     else record b { dropped = counted_spans (b.dropped + 1) }
 
-pub record Admits (old : Body) (span : EndedSpan) (answer : Ended) (new : Body) : Type 0 where
+pub record Admits (old : Body) (span : SpanData) (answer : Ended) (new : Body) : Type 0 where
   pub answered : answer ≡ answer_of old
   pub kept : new ≡ with_span old span

@@ -1,9 +1,11 @@
 -- How a tracer starts spans.
-use Rattle.std.specs.Prelude.{◌≡◌, ℕ, ◌⊎◌, List, [], true, false, Option, Some, None, string_bytes, Result, Ok, Err}
-use Rattle.span_model.specs.Spans.{Context, Kind, Resource, Scope, SpanLimits}
-use Rattle.span_model.specs.Attributes.{is_empty}
-use Rattle.span_model.specs.Sampling.{SamplerMeaning, is_recording}
-use Rattle.span_model.specs.Starts.{Ids as ModelIds, StartRequest, StartedSpan, Tracer, HeldSpan, held_span, started_span_as}
+use Rattle.std.specs.Prelude.{◌≡◌, ℕ, ◌⊎◌, List, [], true, false, Option, Some, None, string_bytes}
+use Rattle.std.specs.Prelude.{Result, Ok, Err}
+use Rattle.model_span.specs.Spans.{Context, Kind, Resource, Scope, SpanLimits}
+use Rattle.model_span.specs.Attributes.{is_empty}
+use Rattle.model_span.specs.Sampling.{SamplerMeaning, is_recording}
+use Rattle.model_span.specs.Starts.{Ids as ModelIds, StartRequest, StartedSpan, Tracer, HeldSpan}
+use Rattle.model_span.specs.Starts.{held_span, started_span_as}
 use Rattle.otlp_ids.specs.SpanContext.{parent_view}
 use Rattle.otlp_span.specs.Parts.{kind_view}
 use Rattle.otlp_sampler.specs.Sampling.{decision_view}

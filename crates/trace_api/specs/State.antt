@@ -1,5 +1,5 @@
 -- What the state of a span is in the model.
-use Rattle.span_model.specs.Starts as model
+use Rattle.model_span.specs.Starts as model
 use Rattle.trace_api.specs.declared.span.State.{State}
 use Rattle.trace_api.specs.declared.span.State.TheVariants as states
 

@@ -5,7 +5,9 @@
 mod pass;
 mod provider;
 mod span;
+mod words;
 
 pub use pass::{BodyPass, EndPass, Ended};
 pub use provider::{Provider, StartFault, Tracer};
 pub use span::Span;
+pub use words::WordsRng;

@@ -1,6 +1,5 @@
 //! What ended spans go to.
 ghost use Rattle.std.specs.Prelude.{◌≡◌, ◌<◌, IfOk, IsTrue, OnErr, []};
-ghost use Rattle.span_model.specs.Spans.{EndedSpan};
 ghost use Rattle.trace_api.specs.declared.pass.Ended.{Ended};
 ghost use Rattle.trace_api.specs.Pass.{Admits, is_admission};
 

@@ -1,18 +1,21 @@
 //! What starts spans.
-ghost use Rattle.std.specs.Prelude.{◌≡◌, IfOk, IfSome, IsTrue, OnErr, false, option_map, string_bytes, true};
+ghost use Rattle.std.specs.Prelude.{◌≡◌, IfOk, IfSome, IsTrue, OnErr, false, option_map};
+ghost use Rattle.std.specs.Prelude.{string_bytes, true};
 ghost use Rattle.std.specs.Arc.{arc_value};
 ghost use Rattle.std.specs.Option.{ForSome};
-ghost use Rattle.span_model.specs.Attributes.{is_empty};
-ghost use Rattle.span_model.specs.Identifiers.{span_id, words_spent};
-ghost use Rattle.span_model.specs.Sampling.{is_recording, valid_parent};
-ghost use Rattle.span_model.specs.Spans.{is_valid};
-ghost use Rattle.span_model.specs.Starts as model;
-ghost use Rattle.span_model.specs.Starts.{start_request};
+ghost use Rattle.model_span.specs.Attributes.{is_empty};
+ghost use Rattle.model_span.specs.Identifiers.{span_id, words_spent};
+ghost use Rattle.model_span.specs.Sampling.{is_recording, valid_parent};
+ghost use Rattle.model_span.specs.Spans.{is_valid};
+ghost use Rattle.model_span.specs.Starts as model;
+ghost use Rattle.model_span.specs.Starts.{start_request};
 ghost use Rattle.otlp_ids.specs.SpanContext.{context_view, parent_view};
 ghost use Rattle.otlp_ids.specs.WordStream.{Spends, words_of};
-ghost use Rattle.otlp_span.specs.Parts.{kept_parent_view, kind_view, limits_view, resource_view, scope_view};
+ghost use Rattle.otlp_span.specs.Parts.{kept_parent_view, kind_view, limits_view, resource_view};
+ghost use Rattle.otlp_span.specs.Parts.{scope_view};
 ghost use Rattle.otlp_sampler.specs.Sampling.{decision_view};
-ghost use Rattle.trace_api.specs.Starts.{IsDecided, OpensAs, StartsAs, ids_view, opening_view, tracer_view};
+ghost use Rattle.trace_api.specs.Starts.{IsDecided, OpensAs, StartsAs, ids_view, opening_view};
+ghost use Rattle.trace_api.specs.Starts.{tracer_view};
 
 use crate::span::Span;
 use otlp_ids::{OutOfMemory, SpanContext, SpanId, TraceFlags, TraceId, copy_text};

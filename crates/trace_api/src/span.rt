@@ -1,8 +1,9 @@
 //! A span in the hands of a program.
-ghost use Rattle.std.specs.Prelude.{◌≡◌, ◌≢◌, IfOk, IfSome, OnErr, OnOk, false, is_some, true, string_bytes};
-ghost use Rattle.span_model.specs.Spans as model;
-ghost use Rattle.span_model.specs.Starts as starts;
-ghost use Rattle.span_model.specs.Starts.{Does, IgnoredUnlessRecording, is_recording_state};
+ghost use Rattle.std.specs.Prelude.{◌≡◌, ◌≢◌, IfOk, IfSome, OnErr, OnOk, false, is_some, true};
+ghost use Rattle.std.specs.Prelude.{string_bytes};
+ghost use Rattle.model_span.specs.Spans as model;
+ghost use Rattle.model_span.specs.Starts as starts;
+ghost use Rattle.model_span.specs.Starts.{Does, IgnoredUnlessRecording, is_recording_state};
 ghost use Rattle.otlp_ids.specs.SpanContext.{context_view};
 ghost use Rattle.otlp_value.specs.AttributeList.{TakesPlace};
 ghost use Rattle.otlp_value.specs.Value.{attribute_view, attributes_view};
@@ -41,7 +42,7 @@ pub struct Span<A: Allocator = Global> {
 }
 
 impl<A: Allocator> Model for Span<A> {
-    ghost use Rattle.span_model.specs.Starts.{HeldSpan};
+    ghost use Rattle.model_span.specs.Starts.{HeldSpan};
     ghost use Rattle.otlp_ids.specs.SpanContext.{context_view};
     ghost use Rattle.trace_api.specs.State.{state_view};
 

@@ -1,6 +1,7 @@
 -- What steps are in the model.
 use Rattle.std.specs.Prelude.{string_bytes}
-use Rattle.history_model.specs.Steps.{Parent, root, numbered, given, Step, start, call, flush, shutdown, take, encode, attempt, reply}
+use Rattle.model_run.specs.Steps.{Parent, root, numbered, given, Step, start, call, flush, shutdown}
+use Rattle.model_run.specs.Steps.{take, encode, attempt, reply}
 use Rattle.otlp_ids.specs.SpanContext.{context_view}
 use Rattle.otlp_span.specs.Parts.{kind_view, call_view}
 use Rattle.trace_history.specs.declared.step.Parent.{Parent as CodeParent}

@@ -17,8 +17,8 @@ pub enum Answer {
     },
     /// To a start: the generator gave only zeros, in eight draws of an identifier.
     NoRandomness,
-    /// To a start or a call that is no end: memory was refused. Nothing has changed, but a start has
-    /// its number and has spent the words that it drew.
+    /// To a start or a call that is no end: memory was refused. Nothing has changed, but a start
+    /// has its number and has spent the words that it drew.
     OutOfMemory,
     /// To a call: there is no span of this number. To a start: the scope or the parent isn't there.
     /// Nothing has changed, but a start has its number.
@@ -64,7 +64,7 @@ pub enum Answer {
         /// What came of it.
         outcome: Outcome,
     },
-    /// To an attempt: its moment stands before the one from which the batch is to be sent again.
+    /// To an attempt: its moment comes before the one from which the batch is to be sent again.
     /// Nothing has changed.
     Early,
     /// To a reply: what follows for the batch from its last attempt. Where that is `Again`, the

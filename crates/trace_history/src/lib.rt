@@ -1,7 +1,7 @@
 //! The steps of a program that uses a tracer and the batch processor that its spans end in, and
 //! their answers.
 //!
-//! A list of steps is all that such a program does (`run_model` has what comes of it). It comes
+//! A list of steps is all that such a program does (`model_run` has what comes of it). It comes
 //! from a script, or from whatever else tells a program's calls.
 #![tactic(auto)]
 

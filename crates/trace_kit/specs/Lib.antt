@@ -1,25 +1,25 @@
 -- The specifications that contracts of this kit cite, from one place.
-pub use Rattle.message_model.specs.Reading
-pub use Rattle.message_model.specs.Messages
-pub use Rattle.message_model.specs.Tables
-pub use Rattle.span_model.specs.Attributes
-pub use Rattle.span_model.specs.Identifiers
-pub use Rattle.span_model.specs.Sampling
-pub use Rattle.span_model.specs.Spans
-pub use Rattle.span_model.specs.Starts
-pub use Rattle.drop_model.specs.Dropped
-pub use Rattle.desk_model.specs.Desks
-pub use Rattle.desk_model.specs.Queue
-pub use Rattle.retry_model.specs.Retries
-pub use Rattle.retry_model.specs.Waits
-pub use Rattle.desk_laws.specs.Queues
-pub use Rattle.run_laws.specs.Laws as RunLaws
-pub use Rattle.export_model.specs.Export
-pub use Rattle.history_model.specs.Steps
-pub use Rattle.history_model.specs.History
-pub use Rattle.run_model.specs.Runs
-pub use Rattle.run_model.specs.Answers
-pub use Rattle.run_model.specs.Headline
+pub use Rattle.model_message.specs.Reading
+pub use Rattle.model_message.specs.Messages
+pub use Rattle.model_message.specs.Tables
+pub use Rattle.model_span.specs.Attributes
+pub use Rattle.model_span.specs.Identifiers
+pub use Rattle.model_span.specs.Sampling
+pub use Rattle.model_span.specs.Spans
+pub use Rattle.model_span.specs.Starts
+pub use Rattle.model_drop.specs.Dropped
+pub use Rattle.model_desk.specs.Desks
+pub use Rattle.model_desk.specs.Queue
+pub use Rattle.model_retry.specs.Retries
+pub use Rattle.model_retry.specs.Waits
+pub use Rattle.law_desk.specs.Queues
+pub use Rattle.law_run.specs.Laws as RunLaws
+pub use Rattle.model_export.specs.Export
+pub use Rattle.model_run.specs.Steps
+pub use Rattle.model_run.specs.History
+pub use Rattle.model_run.specs.Runs
+pub use Rattle.model_run.specs.Answers
+pub use Rattle.model_run.specs.Headline
 pub use Rattle.otlp_ids.specs.SpanContext
 pub use Rattle.otlp_ids.specs.WordStream
 pub use Rattle.otlp_value.specs.AttributeList
@@ -50,22 +50,22 @@ pub use Rattle.batch_desk.specs.Batch
 pub use Rattle.batch_desk.specs.Counts as DeskCounts
 pub use Rattle.batch_desk.specs.Views as DeskViews
 pub use Rattle.retry_core.specs.Retries as RetryViews
-pub use Rattle.pass_model.specs.Passes
-pub use Rattle.pass_model.specs.Clauses as PassClauses
+pub use Rattle.model_processor.specs.Passes
+pub use Rattle.model_processor.specs.PassClauses as PassClauses
 pub use Rattle.simple_processor.specs.Accounts as PassAccounts
 pub use Rattle.simple_processor.specs.Bodies as PassBodies
 pub use Rattle.simple_processor.specs.Kept as PassKept
-pub use Rattle.simple_processor.specs.Holders as PassHolders
-pub use Rattle.batch_model.specs.Worker as BatchWorker
-pub use Rattle.batch_model.specs.Holders as BatchHolders
-pub use Rattle.batch_model.specs.Batches as BatchSends
-pub use Rattle.batch_model.specs.Clauses as BatchClauses
-pub use Rattle.batch_model.specs.Kept as BatchKept
+pub use Rattle.simple_processor.specs.AnyAccounts as PassHolders
+pub use Rattle.model_processor.specs.Worker as BatchWorker
+pub use Rattle.model_processor.specs.AnyAccounts as BatchHolders
+pub use Rattle.model_processor.specs.Batches as BatchSends
+pub use Rattle.model_processor.specs.WorkerClauses as BatchClauses
+pub use Rattle.model_processor.specs.Kept as BatchKept
 pub use Rattle.batch_processor.specs.Views as BatchViews
 pub use Rattle.batch_processor.specs.Answers as BatchAnswers
 pub use Rattle.batch_processor.specs.Holds as BatchHolds
 pub use Rattle.batch_processor.specs.Attempts as BatchWorking
-pub use Rattle.run_text.specs.Lines
+pub use Rattle.trace_run.specs.Lines
 pub use Rattle.trace_run.specs.Out
 pub use Rattle.trace_run.specs.Run
 pub use Rattle.trace_run.specs.Report
@@ -76,4 +76,4 @@ pub use Rattle.http_wire.specs.Devices
 pub use Rattle.otlp_http.specs.Request
 pub use Rattle.otlp_http.specs.Replies
 pub use Rattle.otlp_http.specs.Outcomes
-pub use Rattle.words_rng.specs.Words
+pub use Rattle.trace_api.specs.Words

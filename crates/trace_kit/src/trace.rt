@@ -8,5 +8,4 @@ pub use otlp_span::{
     replay,
 };
 pub use otlp_value::{AttributeList, Limits, Value};
-pub use trace_api::{BodyPass, EndPass, Ended, Provider, Span, StartFault, Tracer};
-pub use words_rng::WordsRng;
+pub use trace_api::{BodyPass, EndPass, Ended, Provider, Span, StartFault, Tracer, WordsRng};

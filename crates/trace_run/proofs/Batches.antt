@@ -1,28 +1,28 @@
--- One more step of a run at its queue: where it stands behind it.
+-- One more step of a run at its queue: where it comes after it.
 use Rattle.std.proofs.Common.{◌≡◌, refl, sym, ap, subst, ◌∙◌, ℕ, ◌+◌, ◌<◌, ◌≤◌, arith, List, [], ◌∷◌, ◌++◌, length, Bool, true, false, ◌||◌, ◌⊎◌, Option, Some, None, inl, inr}
 use Rattle.std.specs.Prelude.{if◌then◌else◌}
 use Rattle.std.proofs.lemmas.Bool.{ne_eqb, lt-ltb, le-ltb, le-leb, lt-leb}
 use Rattle.rand_core.specs.Stream.{Stream}
-use Rattle.span_model.specs.Sampling.{SamplerMeaning}
-use Rattle.drop_model.specs.Dropped.{Reason as model-Reason, too_large as model-too_large}
-use Rattle.span_model.specs.Spans.{EndedSpan}
-use Rattle.export_model.specs.Export.{LacksBody, groups, body_length}
-use Rattle.retry_model.specs.Retries as retries
-use Rattle.retry_model.specs.Retries.{delivered, Next, Fate, fate_of}
-use Rattle.retry_model.specs.Waits.{RetryConfig, next_after}
-use Rattle.desk_model.specs.Queue as queue
-use Rattle.desk_model.specs.Queue.{DeskEvent, last_spans, last_batch, stage, not_out, in_hand, with_exporter}
-use Rattle.desk_model.specs.Desks as desks
-use Rattle.desk_model.specs.Desks.{Desk, OutBatch, IsDesk, Does, desk_of, accepted_count}
-use Rattle.desk_model.proofs.Steps.{last-kept, sizes-kept}
-use Rattle.history_model.specs.Steps.{Step, is_shutdown, flush, shutdown, take, encode, attempt, reply}
-use Rattle.run_model.specs.Runs as runs
-use Rattle.run_model.specs.Runs.{Answer, Answered, is_refused, span_steps, event_by, desk_events}
-use Rattle.run_model.specs.Answers as model
-use Rattle.run_model.specs.Answers.{RunConfig, Progress, progress, progress_by, last_attempt, last_length, desk_after, IsAnswer, take_answer, encode_answer, attempt_answer, reply_answer}
-use Rattle.run_model.specs.Headline as headline
-use Rattle.run_model.specs.Headline.{pending_as}
-use Rattle.run_model.proofs.More.{is_shut, steps-none, ended-none, events-more, progress-some, last_attempt-none, last_attempt-some}
+use Rattle.model_span.specs.Sampling.{SamplerMeaning}
+use Rattle.model_drop.specs.Dropped.{Reason as model-Reason, too_large as model-too_large}
+use Rattle.model_span.specs.Spans.{SpanData}
+use Rattle.model_export.specs.Export.{LacksBody, groups, body_length}
+use Rattle.model_retry.specs.Retries as retries
+use Rattle.model_retry.specs.Retries.{delivered, Next, Fate, fate_of}
+use Rattle.model_retry.specs.Waits.{RetryConfig, next_after}
+use Rattle.model_desk.specs.Queue as queue
+use Rattle.model_desk.specs.Queue.{DeskEvent, last_spans, last_batch, stage, not_out, in_hand, with_exporter}
+use Rattle.model_desk.specs.Desks as desks
+use Rattle.model_desk.specs.Desks.{Desk, OutBatch, IsDesk, Does, desk_of, accepted_count}
+use Rattle.model_desk.proofs.Steps.{last-kept, sizes-kept}
+use Rattle.model_run.specs.Steps.{Step, is_shutdown, flush, shutdown, take, encode, attempt, reply}
+use Rattle.model_run.specs.Runs as runs
+use Rattle.model_run.specs.Runs.{Answer, Answered, is_refused, span_steps, event_by, desk_events}
+use Rattle.model_run.specs.Answers as model
+use Rattle.model_run.specs.Answers.{RunConfig, Progress, progress, progress_by, last_attempt, last_length, desk_after, IsAnswer, take_answer, encode_answer, attempt_answer, reply_answer}
+use Rattle.model_run.specs.Headline as headline
+use Rattle.model_run.specs.Headline.{pending_as}
+use Rattle.model_run.proofs.More.{is_shut, steps-none, ended-none, events-more, progress-some, last_attempt-none, last_attempt-some}
 use Rattle.otlp_span.specs.Dropped.{reason_view}
 use Rattle.otlp_span.specs.declared.reason.Reason.{Reason}
 use Rattle.otlp_span.specs.declared.reason.Reason.TheVariants.{QueueFull, EncodeMemory, TooLarge, Abandoned, Refused, BadReply, GivenUp, LeftHanded}
@@ -33,7 +33,7 @@ use Rattle.trace_history.specs.Answers.{answer_view}
 use Rattle.trace_history.specs.declared.answer.Answer.{Answer as CodeAnswer}
 use Rattle.trace_history.specs.declared.answer.Answer.TheVariants as answers
 use Rattle.span_exporter.specs.Handed.{Handed}
-use Rattle.span_table.specs.Table.{IsTable, TableWith}
+use Rattle.trace_run.specs.Table.{IsTable, TableWith}
 use Rattle.trace_run.specs.Out.{ExportStage, to_encode, to_send, to_judge, to_retry, Out, progress_of, attempts_at, is_sent, shown_as, shown, IsTied, IsIdle, Takes, TakesBatch, DoesNothing, Encodes, EncodesAt, EncodesBatch, HasBody, DropsBatch, Sends, SendsAt, SendsFirst, SendsAgain, IsEarly, SendsNone, Replies, JudgesAt, Judges, Settles, PutsOff}
 use Rattle.trace_run.specs.State.{Stands}
 use Rattle.trace_run.proofs.Standing.{IsQuiet, or-false, tied-kept, desk-is, stands-on, out-stays, quiet-on}
@@ -48,7 +48,7 @@ abbrev pub number_in : Option headline.PendingBatch → ℕ
 number_in None = 0
 number_in (Some b) = b.number
 
-abbrev pub spans_in : Option headline.PendingBatch → List EndedSpan
+abbrev pub spans_in : Option headline.PendingBatch → List SpanData
 spans_in None = []
 spans_in (Some b) = b.spans
 
@@ -56,20 +56,20 @@ abbrev pub attempts_in : Option headline.PendingBatch → ℕ
 attempts_in None = 0
 attempts_in (Some b) = b.attempts
 
-pub progress-is : (p : Progress) (spans : List EndedSpan) (number attempts : ℕ) (o : Option headline.PendingBatch) → o ≡ pending_as p spans number attempts → progress_in o ≡ p
+pub progress-is : (p : Progress) (spans : List SpanData) (number attempts : ℕ) (o : Option headline.PendingBatch) → o ≡ pending_as p spans number attempts → progress_in o ≡ p
 progress-is model.not_out spans number attempts o e = ap progress_in e
 progress-is model.to_encode spans number attempts o e = ap progress_in e
 progress-is model.to_send spans number attempts o e = ap progress_in e
 progress-is (model.to_judge outcome) spans number attempts o e = ap progress_in e
 progress-is (model.to_retry moment) spans number attempts o e = ap progress_in e
 
-pub record Shows (b : headline.PendingBatch) (p : Progress) (es : List EndedSpan) (n k : ℕ) : Type 0 where
+pub record Shows (b : headline.PendingBatch) (p : Progress) (es : List SpanData) (n k : ℕ) : Type 0 where
   pub stage : b.progress ≡ p
   pub number : b.number ≡ n
   pub spans : b.spans ≡ es
   pub attempts : b.attempts ≡ k
 
-pub shows : (b : headline.PendingBatch) (p : Progress) (spans : List EndedSpan) (number attempts : ℕ) → Some b ≡ pending_as p spans number attempts → Shows b p spans number attempts
+pub shows : (b : headline.PendingBatch) (p : Progress) (spans : List SpanData) (number attempts : ℕ) → Some b ≡ pending_as p spans number attempts → Shows b p spans number attempts
 shows b model.not_out spans number attempts e = cc
 shows b model.to_encode spans number attempts e = record { stage = ap progress_in e; number = ap number_in e; spans = ap spans_in e; attempts = ap attempts_in e }
 shows b model.to_send spans number attempts e = record { stage = ap progress_in e; number = ap number_in e; spans = ap spans_in e; attempts = ap attempts_in e }
@@ -102,7 +102,7 @@ module _ {S R : Type 0} (meaning : S → SamplerMeaning) (stream : R → Stream)
   abbrev events : List DeskEvent
   events = desk_events run.setup h
 
-  same-spans : (x : Answered) → Rattle.history_model.specs.History.span_step (is_refused x.answer) x.step ≡ None → IsTable meaning stream run.setup (span_steps (h ++ x ∷ [])) table
+  same-spans : (x : Answered) → Rattle.model_run.specs.History.span_step (is_refused x.answer) x.step ≡ None → IsTable meaning stream run.setup (span_steps (h ++ x ∷ [])) table
   same-spans x e = subst (λ steps. IsTable meaning stream run.setup steps table) (sym (steps-none h x e)) at.spans
 
   no-more : length table.spans ≤ length table.spans + 1
@@ -113,7 +113,7 @@ module _ {S R : Type 0} (meaning : S → SamplerMeaning) (stream : R → Stream)
   number-is = ap (λ d. d.batches) at.history.is
 
   -- a step that changes nothing
-  idle-on : (x : Answered) → IsQuiet x.answer x.step → Rattle.history_model.specs.History.span_step (is_refused x.answer) x.step ≡ None → is_shutdown x.step ≡ false → IsAnswer run h x → Stands meaning stream run (h ++ x ∷ []) table desk out
+  idle-on : (x : Answered) → IsQuiet x.answer x.step → Rattle.model_run.specs.History.span_step (is_refused x.answer) x.step ≡ None → is_shutdown x.step ≡ false → IsAnswer run h x → Stands meaning stream run (h ++ x ∷ []) table desk out
   idle-on x q e f right = quiet-on meaning stream run h table desk out at x table q (same-spans x e) (ended-none run.setup h x e) f no-more right
 
   -- ---- flush and shutdown
@@ -195,9 +195,9 @@ module _ {S R : Type 0} (meaning : S → SamplerMeaning) (stream : R → Stream)
   number-of : (o : Out) → out ≡ Some o → o.batch.number ≡ (desk_after run h).batches
   number-of o e = let sh = out-shows o e in sh.number ∙ sym number-is ∙ ap (λ k. k.batches) (desk-is meaning stream run h table desk out at)
 
-  -- nothing is done where the batch stands elsewhere, or none is out
+  -- nothing is done where the batch is elsewhere, or none is out
   nothing-on : (step : Step) (answer : CodeAnswer) (desk2 : Desk) (out2 : Option Out) → IsIdle out answer out2 → desk2 ≡ desk → is_shutdown step ≡ false
-      → ((refused : Bool) → Rattle.history_model.specs.History.span_step refused step ≡ None) → IsAnswer run h (record { step = step; answer = runs.nothing })
+      → ((refused : Bool) → Rattle.model_run.specs.History.span_step refused step ≡ None) → IsAnswer run h (record { step = step; answer = runs.nothing })
       → Stands meaning stream run (h ++ record { step = step; answer = answer_view answer } ∷ []) table desk2 out2
   nothing-on step answer desk2 out2 idle same f none right =
       let Goal : CodeAnswer → Desk → Option Out → Type 0 = λ a d o. Stands meaning stream run (h ++ record { step = step; answer = answer_view a } ∷ []) table d o in
@@ -281,7 +281,7 @@ module _ {S R : Type 0} (meaning : S → SamplerMeaning) (stream : R → Stream)
   encodes-batch o e s answers.Early desk2 out2 t = absurd t
   encodes-batch o e s answers.Nothing desk2 out2 t = absurd t
 
-  -- where the batch stands elsewhere
+  -- where the batch is elsewhere
   idle-encode : (p : Progress) → progress h ≡ p → ((d : Desk) → encode_answer run h d false p ≡ runs.nothing) → IsAnswer run h (record { step = encode; answer = runs.nothing })
   idle-encode p e f = record { given = record { refused = false; outcome = delivered }; is = sym (ap (encode_answer run h (desk_after run h) false) e ∙ f (desk_after run h)) }
 

@@ -3,18 +3,18 @@ use Rattle.std.proofs.Common.{◌≡◌, sym, ap, subst, ◌∙◌, ℕ, zero, s
 use Rattle.std.specs.Option.{option_to_list}
 use Rattle.std.specs.List.{AllByRecursion}
 use Rattle.std.proofs.lemmas.List.Elements.{filter_map-append}
-use Rattle.message_model.specs.Reading.{Reads}
-use Rattle.message_model.specs.Messages.{body_meaning}
-use Rattle.export_model.specs.Export.{groups, grouped_triples}
-use Rattle.desk_model.specs.Queue.{DeskEvent, batch_sizes, batch_spans, last_batch, size_of_take}
-use Rattle.desk_model.specs.Desks.{Desk, IsDesk, AreAllowed}
-use Rattle.desk_laws.specs.Queues.{BatchesStay}
-use Rattle.history_model.specs.History.{Setup}
-use Rattle.run_model.specs.Runs.{Answered, event_by, desk_events}
-use Rattle.run_model.specs.Answers.{RunConfig}
-use Rattle.run_model.specs.Headline.{EachOnce, attempts, AreNumbered}
-use Rattle.run_model.proofs.More.{events-more}
-use Rattle.run_laws.specs.Laws.{HandedAreTheBatches, LedgerNamesTheDropped}
+use Rattle.model_message.specs.Reading.{Reads}
+use Rattle.model_message.specs.Messages.{body_meaning}
+use Rattle.model_export.specs.Export.{groups, grouped_triples}
+use Rattle.model_desk.specs.Queue.{DeskEvent, batch_sizes, batch_spans, last_batch, size_of_take}
+use Rattle.model_desk.specs.Desks.{Desk, IsDesk, AreAllowed}
+use Rattle.law_desk.specs.Queues.{BatchesStay}
+use Rattle.model_run.specs.History.{Setup}
+use Rattle.model_run.specs.Runs.{Answered, event_by, desk_events}
+use Rattle.model_run.specs.Answers.{RunConfig}
+use Rattle.model_run.specs.Headline.{EachOnce, attempts, AreNumbered}
+use Rattle.model_run.proofs.More.{events-more}
+use Rattle.law_run.specs.Laws.{HandedAreTheBatches, LedgerNamesTheDropped}
 use Rattle.otlp_proto.specs.Bodies.{body_bytes}
 use Rattle.span_exporter.specs.Handed.{Handed}
 use Rattle.trace_run.specs.State.{HasItsBody, TellsAll}

@@ -1,18 +1,18 @@
--- One more step of a run that is a call on a span: where it stands behind it.
+-- One more step of a run that is a call on a span: where it comes after it.
 use Rattle.std.proofs.Common.{◌≡◌, refl, sym, ap, subst, ◌∙◌, ℕ, ◌-◌, ◌^◌, ◌<◌, List, [], ◌∷◌, ◌++◌, length, false, Option, None, IfSome}
 use Rattle.rand_core.specs.Stream.{Stream}
-use Rattle.span_model.specs.Sampling.{SamplerMeaning}
-use Rattle.span_model.specs.Spans.{Call, set_attribute, end, end_of, is_end}
-use Rattle.desk_model.specs.Desks.{Desk}
-use Rattle.history_model.specs.Steps.{Step}
-use Rattle.history_model.specs.History.{SpanStep, Setup, calls_on}
-use Rattle.run_model.specs.Runs.{Answered, is_refused, span_steps}
-use Rattle.run_model.specs.Answers.{RunConfig}
-use Rattle.run_model.specs.Headline.{attempt_by}
+use Rattle.model_span.specs.Sampling.{SamplerMeaning}
+use Rattle.model_span.specs.Spans.{Call, set_attribute, end, end_of, is_end}
+use Rattle.model_desk.specs.Desks.{Desk}
+use Rattle.model_run.specs.Steps.{Step}
+use Rattle.model_run.specs.History.{SpanStep, Setup, calls_on}
+use Rattle.model_run.specs.Runs.{Answered, is_refused, span_steps}
+use Rattle.model_run.specs.Answers.{RunConfig}
+use Rattle.model_run.specs.Headline.{attempt_by}
 use Rattle.trace_history.specs.Answers.{answer_view}
 use Rattle.trace_history.specs.declared.answer.Answer.{Answer as CodeAnswer}
-use Rattle.span_table.specs.Table.{IsTable, TableWith, TakesStep, answer_to_call, span_numbered}
-use Rattle.span_table.specs.Ends.{EndsAs}
+use Rattle.trace_run.specs.Table.{IsTable, TableWith, TakesStep, answer_to_call, span_numbered}
+use Rattle.trace_run.specs.Ends.{EndsAs}
 use Rattle.trace_run.specs.Queue.{Admits}
 use Rattle.trace_run.specs.Out.{Out}
 use Rattle.trace_run.specs.State.{Stands}

@@ -1,4 +1,4 @@
--- One more step of a run that is an end: where it stands behind it.
+-- One more step of a run that is an end: where it comes after it.
 use Rattle.std.proofs.Common.{◌≡◌, refl, sym, ap, subst, ◌∙◌, ℕ, ◌+◌, ◌-◌, ◌^◌, ◌<◌, ◌==◌, nat_lt, arith, List, [], ◌∷◌, ◌++◌, length, Bool, true, false, cond, ◌&&◌, not, Option, Some, None, slice_get, option_map, inl, inr, ◌⊎◌}
 use Rattle.std.specs.List.{list_any}
 use Rattle.std.specs.Option.{option_to_list, option_and_then}
@@ -6,22 +6,22 @@ use Rattle.std.proofs.lemmas.List.{append-nil, length_push}
 use Rattle.std.proofs.lemmas.Bool.{ltb-true, eqb-true}
 use Rattle.std.proofs.lemmas.Option.{slice_get_within}
 use Rattle.rand_core.specs.Stream.{Stream}
-use Rattle.span_model.specs.Sampling.{SamplerMeaning, is_sampled}
-use Rattle.span_model.specs.Spans.{Call, EndedSpan, end, is_end, with_ticket}
-use Rattle.span_model.specs.Starts.{StartedSpan, exported_span}
-use Rattle.drop_model.specs.Dropped.{queue_full}
-use Rattle.retry_model.specs.Retries.{delivered}
-use Rattle.desk_model.specs.Queue as queue
-use Rattle.desk_model.specs.Queue.{DeskEvent, last_spans, size_of_take}
-use Rattle.desk_model.specs.Desks.{Desk, IsDesk}
-use Rattle.desk_model.proofs.Steps.{IsWithin, last-kept, last-queued, sizes-kept, allowed-within}
-use Rattle.history_model.specs.Steps.{Step}
-use Rattle.history_model.specs.History.{SpanStep, StartResult, calls_on, start_count, start_results, exported_of, exported_if_sampled, ended_spans, with_tickets}
-use Rattle.history_model.proofs.Histories.{ended-no-more, ended-more, outcomes-many}
-use Rattle.run_model.specs.Runs as runs
-use Rattle.run_model.specs.Runs.{Answer, Answered, is_refused, span_steps, ended_by, span_of_end, event_by, desk_events}
-use Rattle.run_model.specs.Answers.{RunConfig, call_answer, end_answer, progress_by, desk_after, IsAnswer}
-use Rattle.run_model.proofs.More.{is_shut, shut-more, ended-open, ended-shut, ended-some, events-more, span-of-end, answers-more}
+use Rattle.model_span.specs.Sampling.{SamplerMeaning, is_sampled}
+use Rattle.model_span.specs.Spans.{Call, SpanData, end, is_end, with_ticket}
+use Rattle.model_span.specs.Starts.{StartedSpan, exported_span}
+use Rattle.model_drop.specs.Dropped.{queue_full}
+use Rattle.model_retry.specs.Retries.{delivered}
+use Rattle.model_desk.specs.Queue as queue
+use Rattle.model_desk.specs.Queue.{DeskEvent, last_spans, size_of_take}
+use Rattle.model_desk.specs.Desks.{Desk, IsDesk}
+use Rattle.model_desk.proofs.Steps.{IsWithin, last-kept, last-queued, sizes-kept, allowed-within}
+use Rattle.model_run.specs.Steps.{Step}
+use Rattle.model_run.specs.History.{SpanStep, StartResult, calls_on, start_count, start_results, exported_of, exported_if_sampled, ended_spans, with_tickets}
+use Rattle.model_run.proofs.Histories.{ended-no-more, ended-more, outcomes-many}
+use Rattle.model_run.specs.Runs as runs
+use Rattle.model_run.specs.Runs.{Answer, Answered, is_refused, span_steps, ended_by, span_of_end, event_by, desk_events}
+use Rattle.model_run.specs.Answers.{RunConfig, call_answer, end_answer, progress_by, desk_after, IsAnswer}
+use Rattle.model_run.proofs.More.{is_shut, shut-more, ended-open, ended-shut, ended-some, events-more, span-of-end, answers-more}
 use Rattle.batch_desk.specs.Desk.{admission, admission_event, after_admission}
 use Rattle.batch_desk.specs.declared.admitted.Admitted.{Admitted}
 use Rattle.batch_desk.specs.declared.admitted.Admitted.TheVariants as admitted
@@ -30,8 +30,8 @@ use Rattle.trace_api.specs.declared.pass.Ended.TheVariants as ends
 use Rattle.trace_history.specs.Answers.{answer_view}
 use Rattle.trace_history.specs.declared.answer.Answer.{Answer as CodeAnswer}
 use Rattle.trace_history.specs.declared.answer.Answer.TheVariants as answers
-use Rattle.span_table.specs.Table.{TableWith, TakesStep, span_numbered}
-use Rattle.span_table.specs.Ends.{EndsAs, EndsBy, AnswersAlone}
+use Rattle.trace_run.specs.Table.{TableWith, TakesStep, span_numbered}
+use Rattle.trace_run.specs.Ends.{EndsAs, EndsBy, AnswersAlone}
 use Rattle.trace_run.specs.Queue.{Admits, ended_as}
 use Rattle.trace_run.specs.Out.{Out}
 use Rattle.trace_run.specs.State.{Stands}
@@ -108,7 +108,7 @@ module _ {S R : Type 0} (meaning : S → SamplerMeaning) (stream : R → Stream)
   -- ---- the first end of a sampled span
 
   module _ (s : StartedSpan) (there : span_numbered run.setup steps n ≡ Some s) (first : list_any is_end calls ≡ false) (sampled : is_sampled s.decision ≡ true) where
-    abbrev span : EndedSpan
+    abbrev span : SpanData
     span = exported_span s later-calls
 
     abbrev k : ℕ
@@ -167,7 +167,7 @@ module _ {S R : Type 0} (meaning : S → SamplerMeaning) (stream : R → Stream)
           → Stands meaning stream run (h ++ answered answer ∷ []) table2 desk2 out
       ticket-on answer event table2 desk2 r is stage does config same-out next closed last size takes many small right =
           let x : Answered = answered answer in
-          let spans2 : List EndedSpan = ended_by run.setup h ++ with_ticket k span ∷ [] in
+          let spans2 : List SpanData = ended_by run.setup h ++ with_ticket k span ∷ [] in
           let grown : ended_by run.setup (h ++ x ∷ []) ≡ spans2 = ended-is answer r in
           let one : length spans2 ≡ k + 1 = length_push (ended_by run.setup h) (with_ticket k span) in
           let events : desk_events run.setup (h ++ x ∷ []) ≡ desk_events run.setup h ++ event ∷ [] = events-more run.setup h x (Some event) is in

@@ -6,3 +6,7 @@ mod Settling
 pub mod Telling
 pub mod Calling
 pub mod Bodies
+mod SpanSteps
+mod SpanCalls
+pub mod Places
+pub mod Texts

@@ -1,4 +1,4 @@
--- A whole run: where it stands behind its first steps, and behind all.
+-- A whole run: where it comes after its first steps, and after all.
 use Rattle.std.proofs.Common.{◌≡◌, refl, sym, ap, subst, ◌∙◌, ℕ, suc, ◌+◌, ◌<◌, arith, List, [], ◌∷◌, ◌++◌, length, take, append_assoc, Option, Some, None, option_map, get_or}
 use Rattle.std.proofs.Math.Seq.{take-suc}
 use Rattle.std.specs.Option.{option_to_list}
@@ -6,14 +6,14 @@ use Rattle.std.specs.List.{AllByRecursion}
 use Rattle.std.proofs.lemmas.List.{append-nil, map-append, length-take-le}
 use Rattle.std.proofs.lemmas.List.Elements.{filter_map-append}
 use Rattle.rand_core.specs.Stream.{Stream}
-use Rattle.span_model.specs.Sampling.{SamplerMeaning}
-use Rattle.desk_model.specs.Desks.{Desk, IsDesk, AreAllowed, new_desk}
-use Rattle.run_model.specs.Runs.{Answered, ended_by, desk_events}
-use Rattle.run_model.specs.Answers.{RunConfig, AreAnswers}
-use Rattle.run_model.specs.Headline.{Attempt, attempt_by, attempts}
-use Rattle.run_laws.specs.Laws.{OfRuns, IsAllowed}
+use Rattle.model_span.specs.Sampling.{SamplerMeaning}
+use Rattle.model_desk.specs.Desks.{Desk, IsDesk, AreAllowed, new_desk}
+use Rattle.model_run.specs.Runs.{Answered, ended_by, desk_events}
+use Rattle.model_run.specs.Answers.{RunConfig, AreAnswers}
+use Rattle.model_run.specs.Headline.{Attempt, attempt_by, attempts}
+use Rattle.law_run.specs.Laws.{OfRuns, IsAllowed}
 use Rattle.span_exporter.specs.Handed.{Handed}
-use Rattle.span_table.specs.Table.{IsTable, TableWith}
+use Rattle.trace_run.specs.Table.{IsTable, TableWith}
 use Rattle.trace_history.specs.Answers.{answer_view, history_view}
 use Rattle.trace_history.specs.Steps.{step_view}
 use Rattle.trace_history.specs.declared.answer.Answer.{Answer as CodeAnswer}
@@ -77,11 +77,11 @@ one-of (Some x) = refl
 pub attempts-push : (h : List Answered) (x : Answered) → attempts (h ++ x ∷ []) ≡ attempts h ++ option_to_list (attempt_by x.answer)
 attempts-push h x = filter_map-append (λ y. attempt_by y.answer) h (x ∷ []) ∙ ap (λ l. attempts h ++ l) (one-of (attempt_by x.answer))
 
--- ---- before the first step and behind the last one
+-- ---- before the first step and after the last one
 
 module _ {S R : Type 0} (meaning : S → SamplerMeaning) (stream : R → Stream) (run : RunConfig) where
   pub stands-first : (table : TableWith S R) (desk : Desk) → IsTable meaning stream run.setup [] table → table.spans ≡ [] → desk ≡ new_desk run.desk 0 → IsDesk 0 [] desk → Stands meaning stream run [] table desk None
-  unfolding desk_events ended_by AreAnswers Rattle.run_model.specs.Answers.progress
+  unfolding desk_events ended_by AreAnswers Rattle.model_run.specs.Answers.progress
   stands-first table desk spans none is history = record {
     spans = spans;
     history = history;

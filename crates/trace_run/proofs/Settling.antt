@@ -1,8 +1,8 @@
 -- When a batch that is out can be settled.
 use Rattle.std.proofs.Common.{◌≡◌, ℕ, true, length, sym, ap}
 use Rattle.std.specs.Prelude.{option_map}
-use Rattle.retry_model.specs.Retries.{Fate}
-use Rattle.desk_model.specs.Desks.{Desk, OutBatch, out_size}
+use Rattle.model_retry.specs.Retries.{Fate}
+use Rattle.model_desk.specs.Desks.{Desk, OutBatch, out_size}
 use Rattle.batch_desk.specs.Batch.{BatchView}
 use Rattle.batch_desk.specs.Desk.{CanSettle, IsOut}
 

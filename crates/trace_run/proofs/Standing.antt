@@ -1,23 +1,23 @@
--- One more step of a run: where it stands behind it.
+-- One more step of a run: where it comes after it.
 use Rattle.std.proofs.Common.{◌≡◌, refl, sym, ap, subst, ◌∙◌, ℕ, ◌+◌, ◌≤◌, arith, List, [], ◌∷◌, ◌++◌, length, Bool, true, false, cond, ◌||◌, ◌&&◌, Option, Some, None}
 use Rattle.std.specs.Option.{option_to_list}
 use Rattle.std.proofs.lemmas.List.{append-nil, length_push}
 use Rattle.std.proofs.lemmas.List.Elements.{filter_map-append}
 use Rattle.rand_core.specs.Stream.{Stream}
-use Rattle.span_model.specs.Sampling.{SamplerMeaning}
-use Rattle.span_model.specs.Spans.{Kind, Call, is_end}
-use Rattle.span_model.specs.Starts.{StartedSpan}
-use Rattle.desk_model.specs.Queue.{DeskEvent, last_spans, last_batch}
-use Rattle.desk_model.specs.Desks.{Desk, IsDesk, desk_of}
-use Rattle.history_model.specs.Steps.{Parent, Step, is_shutdown}
-use Rattle.history_model.specs.History.{SpanStep, Setup, calls_on}
-use Rattle.history_model.proofs.Histories.{ended-start, ended-no-more}
-use Rattle.run_model.specs.Runs.{Answer, started, out_of_memory, done, Answered, is_refused, span_steps, ended_by, event_by, desk_events}
-use Rattle.run_model.specs.Answers.{RunConfig, start_answer, call_answer, takes_memory, call_takes_memory, progress_by, desk_after, IsAnswer}
-use Rattle.run_model.specs.Headline.{pending_as, pending_after, attempt_by}
-use Rattle.run_model.proofs.More.{is_shut, shut-more, ended-open, ended-shut, ended-none, ended-some, events-more, progress-none, quiet-attempts, last_attempt-none, answers-more}
-use Rattle.retry_model.specs.Retries.{delivered}
-use Rattle.span_table.specs.Table.{IsTable, TableWith, TakesStep, answer_to_start, answer_to_call, span_numbered}
+use Rattle.model_span.specs.Sampling.{SamplerMeaning}
+use Rattle.model_span.specs.Spans.{Kind, Call, is_end}
+use Rattle.model_span.specs.Starts.{StartedSpan}
+use Rattle.model_desk.specs.Queue.{DeskEvent, last_spans, last_batch}
+use Rattle.model_desk.specs.Desks.{Desk, IsDesk, desk_of}
+use Rattle.model_run.specs.Steps.{Parent, Step, is_shutdown}
+use Rattle.model_run.specs.History.{SpanStep, Setup, calls_on}
+use Rattle.model_run.proofs.Histories.{ended-start, ended-no-more}
+use Rattle.model_run.specs.Runs.{Answer, started, out_of_memory, done, Answered, is_refused, span_steps, ended_by, event_by, desk_events}
+use Rattle.model_run.specs.Answers.{RunConfig, start_answer, call_answer, takes_memory, call_takes_memory, progress_by, desk_after, IsAnswer}
+use Rattle.model_run.specs.Headline.{pending_as, pending_after, attempt_by}
+use Rattle.model_run.proofs.More.{is_shut, shut-more, ended-open, ended-shut, ended-none, ended-some, events-more, progress-none, quiet-attempts, last_attempt-none, answers-more}
+use Rattle.model_retry.specs.Retries.{delivered}
+use Rattle.trace_run.specs.Table.{IsTable, TableWith, TakesStep, answer_to_start, answer_to_call, span_numbered}
 use Rattle.trace_run.specs.Out.{Out, shown, IsTied}
 use Rattle.trace_run.specs.State.{Stands}
 
@@ -90,9 +90,9 @@ module _ {S R : Type 0} (meaning : S → SamplerMeaning) (stream : R → Stream)
       stands-on x table2 desk out None spans same (q.event run.setup h) (subst (λ es. IsDesk 0 es desk) (sym (append-nil (desk_events run.setup h))) at.history)
       refl refl (at.closed ∙ sym (ap (λ b. is_shut h || b) unshut ∙ or-false (is_shut h))) few at.tied (out-stays x (desk_events run.setup h) q.stage events refl refl) right
 
-  -- the spans behind a step that a table has taken
+  -- the spans after a step that a table has taken
   pub spans-on : (x : Answered) (table2 : TableWith S R) → TakesStep meaning stream x.step x.answer table table2 → IsTable meaning stream run.setup (span_steps (h ++ x ∷ [])) table2
-  spans-on x table2 takes = subst (λ steps. IsTable meaning stream run.setup steps table2) (sym (filter_map-append (λ y. Rattle.history_model.specs.History.span_step (is_refused y.answer) y.step) h (x ∷ []))) (takes run.setup (span_steps h) at.spans)
+  spans-on x table2 takes = subst (λ steps. IsTable meaning stream run.setup steps table2) (sym (filter_map-append (λ y. Rattle.model_run.specs.History.span_step (is_refused y.answer) y.step) h (x ∷ []))) (takes run.setup (span_steps h) at.spans)
 
   -- ---- starts and calls
 

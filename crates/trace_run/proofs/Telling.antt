@@ -4,23 +4,23 @@ use Rattle.std.specs.Prelude.{is_none}
 use Rattle.std.specs.Option.{option_to_list}
 use Rattle.std.specs.List.{list_any}
 use Rattle.rand_core.specs.Stream.{Stream}
-use Rattle.span_model.specs.Sampling.{SamplerMeaning, is_sampled}
-use Rattle.span_model.specs.Spans.{Call, end, is_end}
-use Rattle.span_model.specs.Starts.{StartedSpan, exported_span}
-use Rattle.retry_model.specs.Retries.{Outcome}
-use Rattle.desk_model.specs.Queue.{DeskEvent, batch_spans, last_batch, last_spans}
-use Rattle.desk_model.specs.Desks.{Desk, is_due}
-use Rattle.run_model.specs.Runs.{Answer, Answered, desk_events}
-use Rattle.retry_model.specs.Waits.{RetryConfig}
-use Rattle.run_model.specs.Answers.{RunConfig, last_attempt, take_answer}
-use Rattle.run_model.specs.Headline.{attempt_by}
+use Rattle.model_span.specs.Sampling.{SamplerMeaning, is_sampled}
+use Rattle.model_span.specs.Spans.{Call, end, is_end}
+use Rattle.model_span.specs.Starts.{StartedSpan, exported_span}
+use Rattle.model_retry.specs.Retries.{Outcome}
+use Rattle.model_desk.specs.Queue.{DeskEvent, batch_spans, last_batch, last_spans}
+use Rattle.model_desk.specs.Desks.{Desk, is_due}
+use Rattle.model_run.specs.Runs.{Answer, Answered, desk_events}
+use Rattle.model_retry.specs.Waits.{RetryConfig}
+use Rattle.model_run.specs.Answers.{RunConfig, last_attempt, take_answer}
+use Rattle.model_run.specs.Headline.{attempt_by}
 use Rattle.batch_desk.specs.Batch.{BatchView}
 use Rattle.trace_history.specs.Answers.{answer_view}
 use Rattle.trace_history.specs.declared.answer.Answer.{Answer as CodeAnswer}
 use Rattle.trace_history.specs.declared.answer.Answer.TheVariants as answers
 use Rattle.span_exporter.specs.Handed.{Handed}
-use Rattle.span_table.specs.Table.{TableWith}
-use Rattle.span_table.specs.Ends.{EndsAs, EndsBy}
+use Rattle.trace_run.specs.Table.{TableWith}
+use Rattle.trace_run.specs.Ends.{EndsAs, EndsBy}
 use Rattle.trace_run.specs.Queue.{Admits}
 use Rattle.trace_run.specs.Out.{ExportStage, to_encode, to_send, to_judge, to_retry, Out, Encodes, EncodesAt, EncodesBatch, Sends, SendsAt, SendsBody, IsBody, SendsNone, IsBodyOf, Replies, JudgesAt}
 use Rattle.trace_run.specs.State.{Stands, HasItsBody, TellsAll, Tells}
@@ -46,7 +46,7 @@ end-tells (Some s) calls now old new answer t = by (list_any is_end calls) (is_s
 take-tells : (desk : Desk) (now : ℕ) (answer : CodeAnswer) → answer_view answer ≡ take_answer desk now → attempt_by (answer_view answer) ≡ None
 take-tells desk now answer e = ap attempt_by e ∙ by (is_due desk now && is_none desk.out)
   where
-    by : (b : Bool) → attempt_by (cond b (Rattle.run_model.specs.Runs.taken (desk.batches + 1) (Rattle.std.specs.Prelude.min desk.config.batch (Rattle.std.specs.Prelude.length desk.waiting))) Rattle.run_model.specs.Runs.not_taken) ≡ None
+    by : (b : Bool) → attempt_by (cond b (Rattle.model_run.specs.Runs.taken (desk.batches + 1) (Rattle.std.specs.Prelude.min desk.config.batch (Rattle.std.specs.Prelude.length desk.waiting))) Rattle.model_run.specs.Runs.not_taken) ≡ None
     by true = refl
     by false = refl
 

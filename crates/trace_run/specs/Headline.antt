@@ -2,15 +2,16 @@
 -- Specification, OTLP/HTTP; profile)
 use Rattle.std.specs.Prelude.{◌≡◌, ℕ, ◌<◌, ◌≤◌, List, map, slice_get, Option, Some}
 use Rattle.std.specs.List.{AllByRecursion}
-use Rattle.message_model.specs.Reading.{Reads}
-use Rattle.message_model.specs.Messages.{body_meaning}
-use Rattle.export_model.specs.Export.{groups, grouped_triples}
-use Rattle.desk_model.specs.Queue.{batch_spans, last_batch}
-use Rattle.history_model.specs.History.{Setup}
-use Rattle.run_model.specs.Runs.{Answered, desk_events}
-use Rattle.run_model.specs.Answers.{RunConfig}
-use Rattle.run_model.specs.Headline.{EachOnce, Attempt, attempts, AreNumbered}
-use Rattle.run_laws.specs.Laws.{HandedAreTheBatches, WaitingAreEnded, BatchesAreEnded, DropsNameEnded, LedgerNamesTheDropped}
+use Rattle.model_message.specs.Reading.{Reads}
+use Rattle.model_message.specs.Messages.{body_meaning}
+use Rattle.model_export.specs.Export.{groups, grouped_triples}
+use Rattle.model_desk.specs.Queue.{batch_spans, last_batch}
+use Rattle.model_run.specs.History.{Setup}
+use Rattle.model_run.specs.Runs.{Answered, desk_events}
+use Rattle.model_run.specs.Answers.{RunConfig}
+use Rattle.model_run.specs.Headline.{EachOnce, Attempt, attempts, AreNumbered}
+use Rattle.law_run.specs.Laws.{HandedAreTheBatches, WaitingAreEnded, BatchesAreEnded}
+use Rattle.law_run.specs.Laws.{DropsNameEnded, LedgerNamesTheDropped}
 use Rattle.otlp_proto.specs.Bodies.{body_bytes}
 use Rattle.span_exporter.specs.Handed.{Handed, Gains}
 

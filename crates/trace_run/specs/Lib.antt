@@ -5,3 +5,9 @@ pub mod Report
 pub mod Run
 pub mod State
 pub mod Headline
+pub mod Table
+pub mod Ends
+pub mod Opens
+pub mod Calls
+pub mod Lines
+pub mod Places

@@ -1,14 +1,15 @@
 -- The batch that is out in a run, and what is done to it.
-use Rattle.std.specs.Prelude.{◌≡◌, ℕ, ◌+◌, ◌<◌, ◌≤◌, ◌⊎◌, Bool, true, false, List, length, Option, Some, None}
-use Rattle.message_model.specs.Reading.{Reads}
-use Rattle.message_model.specs.Messages.{body_meaning}
-use Rattle.span_model.specs.Spans.{EndedSpan}
-use Rattle.export_model.specs.Export.{LacksBody, groups, body_length, grouped_triples}
-use Rattle.retry_model.specs.Retries as retries
-use Rattle.retry_model.specs.Retries.{Fate, fate_of}
-use Rattle.desk_model.specs.Queue as desk
-use Rattle.desk_model.specs.Desks.{Desk, Does, DropsSpans, SettlesSpans, TakesSpans}
-use Rattle.retry_model.specs.Waits.{RetryConfig, IsRetryConfig, next_after}
+use Rattle.std.specs.Prelude.{◌≡◌, ℕ, ◌+◌, ◌<◌, ◌≤◌, ◌⊎◌, Bool, true, false, List, length, Option}
+use Rattle.std.specs.Prelude.{Some, None}
+use Rattle.model_message.specs.Reading.{Reads}
+use Rattle.model_message.specs.Messages.{body_meaning}
+use Rattle.model_span.specs.Spans.{SpanData}
+use Rattle.model_export.specs.Export.{LacksBody, groups, body_length, grouped_triples}
+use Rattle.model_retry.specs.Retries as retries
+use Rattle.model_retry.specs.Retries.{Fate, fate_of}
+use Rattle.model_desk.specs.Queue as desk
+use Rattle.model_desk.specs.Desks.{Desk, Does, DropsSpans, SettlesSpans, TakesSpans}
+use Rattle.model_retry.specs.Waits.{RetryConfig, IsRetryConfig, next_after}
 use Rattle.otlp_proto.specs.Bodies.{body_bytes}
 use Rattle.otlp_span.specs.Dropped.{reason_view}
 use Rattle.otlp_span.specs.declared.reason.Reason.{Reason}
@@ -20,8 +21,8 @@ use Rattle.batch_desk.specs.Desk.{IsOut}
 use Rattle.span_exporter.specs.Handed.{Handed, handing, Gains}
 use Rattle.trace_history.specs.declared.answer.Answer.{Answer}
 use Rattle.trace_history.specs.declared.answer.Answer.TheVariants as answers
-use Rattle.run_model.specs.Answers as model
-use Rattle.run_model.specs.Headline as headline
+use Rattle.model_run.specs.Answers as model
+use Rattle.model_run.specs.Headline as headline
 
 -- how far the batch is: it is to be encoded, or this body is to be sent, or it was sent in this
 -- attempt, and this came of it, or it had so many attempts and is to be sent again, from this
@@ -78,19 +79,19 @@ IsTied d (Some o) = IsOut (is_sent o.stage) d o.batch
 
 -- The body, read as a request, is these spans under their resources and scopes, written as the
 -- canon has it. (OTLP Specification, OTLP/HTTP; the canon: profile)
-pub record IsBodyOf (spans : List EndedSpan) (body : List ℕ) : Type 0 where
+pub record IsBodyOf (spans : List SpanData) (body : List ℕ) : Type 0 where
   pub means : Reads (body_meaning body) (grouped_triples spans)
   pub bytes : body ≡ body_bytes (groups spans)
 
--- a body that is to be sent is that of the batch, and behind these attempts there is room for all
+-- a body that is to be sent is that of the batch, and after these attempts there is room for all
 -- that are configured
-pub record HasRoom (retry : RetryConfig) (room : ℕ → ℕ) (spans : List EndedSpan) (body : List ℕ)
+pub record HasRoom (retry : RetryConfig) (room : ℕ → ℕ) (spans : List SpanData) (body : List ℕ)
     (attempts : ℕ) : Type 0 where
   pub config : IsRetryConfig retry
   pub enough : retry.attempts ≤ room (length body) + attempts
   pub is : IsBodyOf spans body
 
-abbrev pub IsReadyAt : RetryConfig → (ℕ → ℕ) → List EndedSpan → ExportStage → Type 0
+abbrev pub IsReadyAt : RetryConfig → (ℕ → ℕ) → List SpanData → ExportStage → Type 0
 IsReadyAt retry room spans to_encode = Unit {0}
 IsReadyAt retry room spans (to_send body) = HasRoom retry room spans body 0
 IsReadyAt retry room spans (to_judge body attempt outcome) = HasRoom retry room spans body attempt

@@ -1,7 +1,7 @@
 -- What comes of a span that ends in a run's queue. (Trace SDK, OnEnd; Batching processor)
 use Rattle.std.specs.Prelude.{◌≡◌}
-use Rattle.span_model.specs.Spans.{EndedSpan}
-use Rattle.desk_model.specs.Desks.{Desk, Does}
+use Rattle.model_span.specs.Spans.{SpanData}
+use Rattle.model_desk.specs.Desks.{Desk, Does}
 use Rattle.otlp_span.specs.declared.reason.Reason.TheVariants.{QueueFull}
 use Rattle.batch_desk.specs.Desk.{admission, admission_event, after_admission}
 use Rattle.batch_desk.specs.declared.admitted.Admitted.{Admitted}
@@ -15,7 +15,7 @@ ended_as (admitted.Full ticket) = ends.Dropped ticket QueueFull
 ended_as admitted.Late = ends.Late
 
 -- The desk admits it, and the answer says so.
-pub record Admits (old : Desk) (span : EndedSpan) (answer : Ended) (new : Desk) : Type 0 where
+pub record Admits (old : Desk) (span : SpanData) (answer : Ended) (new : Desk) : Type 0 where
   pub answered : answer ≡ ended_as (admission old)
   pub desk : new ≡ after_admission (admission old) span old
   pub does : Does (admission_event (admission old) span) old new

@@ -1,13 +1,13 @@
 -- What a run leaves, and what is left of it once it is closed. (profile)
 use Rattle.std.specs.Prelude.{List, Option, Some, None, if◌then◌else◌}
-use Rattle.drop_model.specs.Dropped as dropped
-use Rattle.retry_model.specs.Retries as retries
-use Rattle.desk_model.specs.Desks.{Desk, after_settled}
+use Rattle.model_drop.specs.Dropped as dropped
+use Rattle.model_retry.specs.Retries as retries
+use Rattle.model_desk.specs.Desks.{Desk, after_settled}
 use Rattle.batch_desk.specs.Desk.{after_drop}
 use Rattle.rand_core.specs.Stream.{Stream}
-use Rattle.span_model.specs.Sampling.{SamplerMeaning}
-use Rattle.run_model.specs.Runs.{Answered}
-use Rattle.run_model.specs.Answers as model
+use Rattle.model_span.specs.Sampling.{SamplerMeaning}
+use Rattle.model_run.specs.Runs.{Answered}
+use Rattle.model_run.specs.Answers as model
 use Rattle.trace_history.specs.Answers.{history_view}
 use Rattle.trace_history.specs.declared.answer.Answer.{Answer}
 use Rattle.trace_history.specs.declared.step.Step.{Step}

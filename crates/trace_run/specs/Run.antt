@@ -1,8 +1,8 @@
 -- What a run begins with.
 use Rattle.std.specs.Prelude.{map}
 use Rattle.rand_core.specs.Stream.{Stream}
-use Rattle.span_model.specs.Sampling.{SamplerMeaning}
-use Rattle.run_model.specs.Answers as model
+use Rattle.model_span.specs.Sampling.{SamplerMeaning}
+use Rattle.model_run.specs.Answers as model
 use Rattle.otlp_ids.specs.WordStream.{words_of}
 use Rattle.otlp_span.specs.Parts.{limits_view, resource_view, scope_view}
 use Rattle.batch_desk.specs.Views.{config_view}

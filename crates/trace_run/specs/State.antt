@@ -1,22 +1,23 @@
--- Where a run stands behind some steps.
-use Rattle.std.specs.Prelude.{◌≡◌, ℕ, ◌+◌, ◌-◌, ◌^◌, ◌<◌, ◌≤◌, List, [], ◌∷◌, ◌++◌, length, map, Option}
+-- Where a run comes after some steps.
+use Rattle.std.specs.Prelude.{◌≡◌, ℕ, ◌+◌, ◌-◌, ◌^◌, ◌<◌, ◌≤◌, List, [], ◌∷◌, ◌++◌, length, map}
+use Rattle.std.specs.Prelude.{Option}
 use Rattle.std.specs.Option.{option_to_list}
 use Rattle.std.specs.List.{list_any, AllByRecursion}
 use Rattle.rand_core.specs.Stream.{Stream}
-use Rattle.span_model.specs.Sampling.{SamplerMeaning}
-use Rattle.desk_model.specs.Desks.{Desk, IsDesk}
-use Rattle.retry_model.specs.Waits.{RetryConfig}
-use Rattle.history_model.specs.Steps.{is_shutdown}
-use Rattle.history_model.specs.History.{Setup}
-use Rattle.run_model.specs.Runs.{Answer, Answered, span_steps, ended_by, desk_events}
-use Rattle.run_model.specs.Answers.{RunConfig, AreAnswers}
-use Rattle.run_model.specs.Headline.{Attempt, attempt_by, pending_after}
+use Rattle.model_span.specs.Sampling.{SamplerMeaning}
+use Rattle.model_desk.specs.Desks.{Desk, IsDesk}
+use Rattle.model_retry.specs.Waits.{RetryConfig}
+use Rattle.model_run.specs.Steps.{is_shutdown}
+use Rattle.model_run.specs.History.{Setup}
+use Rattle.model_run.specs.Runs.{Answer, Answered, span_steps, ended_by, desk_events}
+use Rattle.model_run.specs.Answers.{RunConfig, AreAnswers}
+use Rattle.model_run.specs.Headline.{Attempt, attempt_by, pending_after}
 use Rattle.span_exporter.specs.Handed.{Handed, Gains}
-use Rattle.span_table.specs.Table.{IsTable, TableWith}
+use Rattle.trace_run.specs.Table.{IsTable, TableWith}
 use Rattle.trace_run.specs.Out.{Out, shown, IsTied}
 use Rattle.trace_run.specs.Headline.{told_attempt, MeansItsBatch, IsCanonical}
 
--- Behind these steps, the spans, the queue and the batch that is out are what the steps mean.
+-- After these steps, the spans, the queue and the batch that is out are what the steps mean.
 pub record Stands {S R : Type 0} (meaning : S → SamplerMeaning) (stream : R → Stream)
     (run : RunConfig) (h : List Answered) (table : TableWith S R) (desk : Desk)
     (out : Option Out) : Type 0 where
@@ -30,7 +31,7 @@ pub record Stands {S R : Type 0} (meaning : S → SamplerMeaning) (stream : R �
   pub out_is : shown out ≡ pending_after run.setup h
   pub answers : AreAnswers run h
 
--- One more step: whatever steps were before, it stands behind these and this one.
+-- One more step: whatever steps were before, it comes after these and this one.
 abbrev pub GoesOn : {S R : Type 0} → (S → SamplerMeaning) → (R → Stream) → RetryConfig → ℕ
     → Answered → TableWith S R → Desk → Option Out → TableWith S R → Desk → Option Out → Type 0
 GoesOn meaning stream retry max_body x table desk out table2 desk2 out2 =

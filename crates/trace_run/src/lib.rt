@@ -7,8 +7,12 @@ mod queue;
 mod report;
 mod running;
 mod sending;
+mod table;
+mod text;
 mod whole;
 
 pub use config::RunConfig;
 pub use report::RunReport;
+pub use table::SpanTable;
+pub use text::{write_answers, write_report};
 pub use whole::run;

@@ -12,7 +12,7 @@ pub(crate) struct SpanQueue<A: Allocator> {
 }
 
 impl<A: Allocator> Model for SpanQueue<A> {
-    ghost use Rattle.desk_model.specs.Desks.{Desk};
+    ghost use Rattle.model_desk.specs.Desks.{Desk};
 
     ghost Value = { Desk };
 
@@ -24,7 +24,7 @@ impl<A: Allocator> EndPass<SpanData<A>> for SpanQueue<A> {
 
     ghost admits = { Admits };
 
-    /// Queues the span, or drops it as `QueueFull` where as many wait as the queue holds. Behind a
+    /// Queues the span, or drops it as `QueueFull` where as many wait as the queue holds. After a
     /// shutdown it is late.
     fn admit(&mut self, span: SpanData<A>) -> Ended {
         match self.desk.admit(span) {

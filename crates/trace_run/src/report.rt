@@ -55,8 +55,8 @@ impl<A: Allocator> RunReport<A> {
 
     /// Ends the batch that is out, if one is, since nobody hands it on any more: it is settled as
     /// `Abandoned` where it was handed to the exporter, and the second ledger names its spans as
-    /// `LeftHanded`; else it is dropped, and the ledger names its spans as `Abandoned`. Nothing else
-    /// changes. (profile)
+    /// `LeftHanded`; else it is dropped, and the ledger names its spans as `Abandoned`. Nothing
+    /// else changes. (profile)
     pub fn close(self) -> Desk<A>
         ensures { result ≡ after_close self }
     {

@@ -1,15 +1,16 @@
 //! The batch that is out: it is taken, encoded, sent, and judged by what came of that.
 ghost use Rattle.std.specs.Prelude.{◌≡◌, ◌<◌, ◌≤◌, ◌+◌, ℕ, IfOk, IsErrOf, length, false};
-ghost use Rattle.export_model.specs.Export.{groups, body_length};
-ghost use Rattle.desk_model.specs.Desks.{DropsSpans};
-ghost use Rattle.retry_model.specs.Waits.{IsRetryConfig, RetryConfig};
-ghost use Rattle.run_model.specs.Answers.{take_answer};
+ghost use Rattle.model_export.specs.Export.{groups, body_length};
+ghost use Rattle.model_desk.specs.Desks.{DropsSpans};
+ghost use Rattle.model_retry.specs.Waits.{IsRetryConfig, RetryConfig};
+ghost use Rattle.model_run.specs.Answers.{take_answer};
 ghost use Rattle.otlp_proto.specs.Bodies.{reason_of};
 ghost use Rattle.otlp_span.specs.Dropped.{reason_view};
 ghost use Rattle.batch_desk.specs.Desk.{IsOut, after_drop};
 ghost use Rattle.trace_history.specs.Answers.{answer_view};
 ghost use Rattle.trace_history.specs.declared.answer.Answer.TheVariants.{Dropped};
-ghost use Rattle.trace_run.specs.Out.{Encodes, EncodesBatch, IsBodyOf, IsCounted, IsReady, IsTied, Replies, Sends, SendsBody, Takes, is_sent};
+ghost use Rattle.trace_run.specs.Out.{Encodes, EncodesBatch, IsBodyOf, IsCounted, IsReady, IsTied};
+ghost use Rattle.trace_run.specs.Out.{Replies, Sends, SendsBody, Takes, is_sent};
 
 use batch_desk::{Batch, Desk};
 use otlp_proto::{EncodeFault, body_of};

@@ -1,32 +1,37 @@
 //! Runs of whole programs.
 ghost use Rattle.std.specs.Prelude.{◌≡◌, IfOk, OnErr, length};
-ghost use Rattle.retry_model.specs.Waits.{IsRetryConfig};
+ghost use Rattle.model_retry.specs.Waits.{IsRetryConfig};
 ghost use Rattle.span_ring.specs.SpanRing.{IsRingSize};
-ghost use Rattle.run_model.specs.Answers.{AreAnswers, desk_after};
-ghost use Rattle.run_model.specs.Headline.{pending_after};
+ghost use Rattle.model_run.specs.Answers.{AreAnswers, desk_after};
+ghost use Rattle.model_run.specs.Headline.{pending_after};
 ghost use Rattle.trace_history.specs.Answers.{history_view};
 ghost use Rattle.trace_run.specs.Out.{shown};
-ghost use Rattle.run_laws.specs.Laws.{LateBehindShutdown, DroppedWhereFull, QueuedWhereRoom, TakenWhereDue, TakesTheFirst, TakenBehindShutdown, OneBatchIsOut, EncodedWhereItFits, DroppedUnencoded, DroppedBatchIsNamed, AttemptsAreNumbered, AttemptsAreFew, AttemptsAreFiveAtMost, NoAttemptIsEarly, RepliesAreDecided, HandedAreNotDropped, LedgerNamesTheDropped, LossesAreNamed};
+ghost use Rattle.law_run.specs.Laws.{LateBehindShutdown, DroppedWhereFull, QueuedWhereRoom};
+ghost use Rattle.law_run.specs.Laws.{TakenWhereDue, TakesTheFirst, TakenBehindShutdown};
+ghost use Rattle.law_run.specs.Laws.{OneBatchIsOut, EncodedWhereItFits, DroppedUnencoded};
+ghost use Rattle.law_run.specs.Laws.{DroppedBatchIsNamed, AttemptsAreNumbered, AttemptsAreFew};
+ghost use Rattle.law_run.specs.Laws.{AttemptsAreFiveAtMost, NoAttemptIsEarly, RepliesAreDecided};
+ghost use Rattle.law_run.specs.Laws.{HandedAreNotDropped, LedgerNamesTheDropped, LossesAreNamed};
 ghost use Rattle.trace_run.specs.Report.{OfRun};
 ghost use Rattle.trace_run.specs.Run.{run_config};
 ghost use Rattle.trace_run.specs.Headline.{AreCanonical, Headline};
 
+use crate::SpanTable;
 use crate::config::RunConfig;
 use crate::queue::SpanQueue;
 use crate::report::RunReport;
 use crate::running::Running;
 use crate::sending::BatchExport;
 use batch_desk::Desk;
-use desk_laws::batches_are_slices;
-use otlp_ids::OutOfMemory;
-use otlp_sampler::Sampler;
-use rand_core::Rng;
-use run_laws::{
+use law_desk::batches_are_slices;
+use law_run::{
     attempts_are_answered, encodings_are_answered, ends_are_answered, losses_are_named,
     none_is_unaccounted_for, one_batch_is_out, queued_spans_are_ended, takes_are_answered,
 };
+use otlp_ids::OutOfMemory;
+use otlp_sampler::Sampler;
+use rand_core::Rng;
 use span_exporter::Exporter;
-use span_table::SpanTable;
 use std::alloc::Allocator;
 use std::sync::Arc;
 use trace_api::Provider;
@@ -58,7 +63,7 @@ pub fn run<S: Sampler + Drop, R: Rng + Drop, E: Exporter, A: Allocator + Copy>(
     ensures count { IfOk result (λ report. length report.answers ≡ length steps.now) }
     ensures answered { IfOk result (OfRun S.meaning R.stream config steps.now AreAnswers) }
 
-    // The first end of a sampled span: behind a shutdown it is late; else the span is dropped where
+    // The first end of a sampled span: after a shutdown it is late; else the span is dropped where
     // the queue is full, and waits where it isn't.
     ensures late { IfOk result
         (OfRun S.meaning R.stream config steps.now LateBehindShutdown) }
@@ -75,8 +80,8 @@ pub fn run<S: Sampler + Drop, R: Rng + Drop, E: Exporter, A: Allocator + Copy>(
     ensures one_out { IfOk result
         (OfRun S.meaning R.stream config steps.now (λ run. OneBatchIsOut)) }
 
-    // A batch has a body only where that isn't larger than it may be. It is dropped only in place of
-    // its encoding, for want of memory or where its body would be larger, and then its spans are
+    // A batch has a body only where that isn't larger than it may be. It is dropped only in place
+    // of its encoding, for want of memory or where its body would be larger, and then its spans are
     // named.
     ensures fits { IfOk result
         (OfRun S.meaning R.stream config steps.now EncodedWhereItFits) }

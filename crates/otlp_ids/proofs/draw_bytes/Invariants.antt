@@ -1,6 +1,6 @@
 use Rattle.std.proofs.Common.{◌≡◌, ℕ, ◌*◌, ◌/◌, ◌<◌, false}
-use Rattle.span_model.specs.Identifiers.{draw}
-use Rattle.span_model.specs.Spans.{is_id}
+use Rattle.model_span.specs.Identifiers.{draw}
+use Rattle.model_span.specs.Spans.{is_id}
 use Rattle.otlp_ids.specs.WordStream.{after_words, words_of}
 use Rattle.otlp_ids.proofs.draw_bytes.Given as goal
 

@@ -1,8 +1,8 @@
 //! Fields of messages (Protocol Buffers, "Encoding").
 ghost use Rattle.std.specs.Prelude.{◌≡◌, ◌+◌, ◌*◌, ◌<◌, pos};
-ghost use Rattle.message_model.specs.Wire;
-ghost use Rattle.message_model.specs.Tables;
-ghost use Rattle.message_model.specs.Canon.{field_bytes, shortest};
+ghost use Rattle.model_message.specs.Wire;
+ghost use Rattle.model_message.specs.Tables;
+ghost use Rattle.model_message.specs.Canon.{field_bytes, shortest};
 ghost use Rattle.otlp_proto.specs.Encode.{Lays, Puts};
 ghost use Rattle.otlp_proto.specs.WireTypes.{wire_type_number};
 

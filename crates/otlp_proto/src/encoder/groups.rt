@@ -1,10 +1,10 @@
 //! A request: its spans, by resource and scope (opentelemetry-proto, trace_service.proto:
 //! ExportTraceServiceRequest; trace.proto: ResourceSpans, ScopeSpans).
 ghost use Rattle.std.specs.Prelude.{◌≡◌, length, drop};
-ghost use Rattle.message_model.specs.Tables;
-ghost use Rattle.message_model.specs.Canon.{field_bytes, bytes_field, canon};
-ghost use Rattle.message_model.specs.Whole.{IsMessage};
-ghost use Rattle.export_model.specs.Export as model;
+ghost use Rattle.model_message.specs.Tables;
+ghost use Rattle.model_message.specs.Canon.{field_bytes, bytes_field, canon};
+ghost use Rattle.model_message.specs.Whole.{IsMessage};
+ghost use Rattle.model_export.specs.Export as model;
 ghost use Rattle.scope_group.specs.Group.{scope_group_view, resource_group_view, groups_view};
 ghost use Rattle.otlp_proto.specs.Encode.{Carries, PutsAll, BeginLens};
 ghost use Rattle.otlp_proto.specs.Grouped.{spans_in, all_spans};
@@ -28,7 +28,7 @@ fn put_scope_spans<A: Allocator, S: Sink>(sink: &mut S, group: &ScopeGroup<'_, A
     put_text(sink, 3, group.scope.schema_url.as_str());
 }
 
-/// Puts a scope's spans as a field, and answers the lengths behind theirs.
+/// Puts a scope's spans as a field, and answers the lengths after theirs.
 fn put_scope<'l, A: Allocator, S: Sink>(
     sink: &mut S,
     number: u32,
@@ -54,7 +54,7 @@ fn put_scope<'l, A: Allocator, S: Sink>(
     rest
 }
 
-/// Puts the message of a resource's spans, and answers the lengths behind theirs.
+/// Puts the message of a resource's spans, and answers the lengths after theirs.
 fn put_resource_spans<'l, A: Allocator, S: Sink>(
     sink: &mut S,
     group: &ResourceGroup<'_, A>,
@@ -76,7 +76,7 @@ fn put_resource_spans<'l, A: Allocator, S: Sink>(
     rest
 }
 
-/// Puts a resource's spans as a field, and answers the lengths behind theirs.
+/// Puts a resource's spans as a field, and answers the lengths after theirs.
 fn put_resource<'l, A: Allocator, S: Sink>(
     sink: &mut S,
     number: u32,

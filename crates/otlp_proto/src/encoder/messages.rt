@@ -1,7 +1,7 @@
 //! Messages in fields of others (Protocol Buffers, Encoding, "Submessages").
 ghost use Rattle.std.specs.Prelude.{ℕ, List, map};
 ghost use Rattle.std.specs.List.{AllByRecursion};
-ghost use Rattle.message_model.specs.Canon.{field_bytes, row_bytes, bytes_field};
+ghost use Rattle.model_message.specs.Canon.{field_bytes, row_bytes, bytes_field};
 ghost use Rattle.otlp_proto.specs.Encode.{Carries, Measures};
 
 use crate::encoder::fields::{WireType, put_key};

@@ -1,8 +1,8 @@
 //! Events, links and the status of a span, resources and scopes (opentelemetry-proto, trace.proto:
 //! Span.Event, Span.Link, Status; resource.proto: Resource; common.proto: InstrumentationScope).
 ghost use Rattle.std.specs.Prelude.{◌≡◌, pos};
-ghost use Rattle.message_model.specs.Tables;
-ghost use Rattle.export_model.specs.Export as model;
+ghost use Rattle.model_message.specs.Tables;
+ghost use Rattle.model_export.specs.Export as model;
 ghost use Rattle.otlp_span.specs.Parts.{status_view};
 ghost use Rattle.otlp_proto.specs.Encode.{Puts};
 
@@ -14,11 +14,11 @@ use otlp_span::{Event, Link, Resource, Scope, Status};
 use std::alloc::Allocator;
 
 impl<B: Allocator> Submessage for Event<B> {
-    ghost use Rattle.message_model.specs.Tables;
-    ghost use Rattle.message_model.specs.Canon.{canon};
-    ghost use Rattle.message_model.specs.Whole.{IsMessage};
-    ghost use Rattle.span_model.specs.Spans as spans;
-    ghost use Rattle.export_model.specs.Export as model;
+    ghost use Rattle.model_message.specs.Tables;
+    ghost use Rattle.model_message.specs.Canon.{canon};
+    ghost use Rattle.model_message.specs.Whole.{IsMessage};
+    ghost use Rattle.model_span.specs.Spans as spans;
+    ghost use Rattle.model_export.specs.Export as model;
     ghost use Rattle.otlp_span.specs.Parts.{event_view};
 
     ghost viewed = { spans.Event };
@@ -37,8 +37,8 @@ impl<B: Allocator> Submessage for Event<B> {
     }
 }
 
-/// Bit 8 of the flags of a span or a link: it is known whether the parent, or the link's context, is
-/// remote (trace.proto: SpanFlags).
+/// Bit 8 of the flags of a span or a link: it is known whether the parent, or the link's context,
+/// is remote (trace.proto: SpanFlags).
 const HAS_IS_REMOTE: u32 = 0x100;
 
 /// Bit 9: it is remote (trace.proto: SpanFlags).
@@ -53,11 +53,11 @@ pub fn flags_number(flags: TraceFlags, remote: bool) -> u32
 }
 
 impl<B: Allocator> Submessage for Link<B> {
-    ghost use Rattle.message_model.specs.Tables;
-    ghost use Rattle.message_model.specs.Canon.{canon};
-    ghost use Rattle.message_model.specs.Whole.{IsMessage};
-    ghost use Rattle.span_model.specs.Spans as spans;
-    ghost use Rattle.export_model.specs.Export as model;
+    ghost use Rattle.model_message.specs.Tables;
+    ghost use Rattle.model_message.specs.Canon.{canon};
+    ghost use Rattle.model_message.specs.Whole.{IsMessage};
+    ghost use Rattle.model_span.specs.Spans as spans;
+    ghost use Rattle.model_export.specs.Export as model;
     ghost use Rattle.otlp_span.specs.Parts.{link_view};
 
     ghost viewed = { spans.Link };
@@ -80,11 +80,11 @@ impl<B: Allocator> Submessage for Link<B> {
 }
 
 impl<B: Allocator> Submessage for Resource<B> {
-    ghost use Rattle.message_model.specs.Tables;
-    ghost use Rattle.message_model.specs.Canon.{canon};
-    ghost use Rattle.message_model.specs.Whole.{IsMessage};
-    ghost use Rattle.span_model.specs.Spans as spans;
-    ghost use Rattle.export_model.specs.Export as model;
+    ghost use Rattle.model_message.specs.Tables;
+    ghost use Rattle.model_message.specs.Canon.{canon};
+    ghost use Rattle.model_message.specs.Whole.{IsMessage};
+    ghost use Rattle.model_span.specs.Spans as spans;
+    ghost use Rattle.model_export.specs.Export as model;
     ghost use Rattle.otlp_span.specs.Parts.{resource_view};
 
     ghost viewed = { spans.Resource };
@@ -101,11 +101,11 @@ impl<B: Allocator> Submessage for Resource<B> {
 }
 
 impl<B: Allocator> Submessage for Scope<B> {
-    ghost use Rattle.message_model.specs.Tables;
-    ghost use Rattle.message_model.specs.Canon.{canon};
-    ghost use Rattle.message_model.specs.Whole.{IsMessage};
-    ghost use Rattle.span_model.specs.Spans as spans;
-    ghost use Rattle.export_model.specs.Export as model;
+    ghost use Rattle.model_message.specs.Tables;
+    ghost use Rattle.model_message.specs.Canon.{canon};
+    ghost use Rattle.model_message.specs.Whole.{IsMessage};
+    ghost use Rattle.model_span.specs.Spans as spans;
+    ghost use Rattle.model_export.specs.Export as model;
     ghost use Rattle.otlp_span.specs.Parts.{scope_view};
 
     ghost viewed = { spans.Scope };
@@ -147,11 +147,11 @@ fn status_code<A: Allocator>(status: &Status<A>) -> u8
 }
 
 impl<B: Allocator> Submessage for Status<B> {
-    ghost use Rattle.message_model.specs.Tables;
-    ghost use Rattle.message_model.specs.Canon.{canon};
-    ghost use Rattle.message_model.specs.Whole.{IsMessage};
-    ghost use Rattle.span_model.specs.Spans as spans;
-    ghost use Rattle.export_model.specs.Export as model;
+    ghost use Rattle.model_message.specs.Tables;
+    ghost use Rattle.model_message.specs.Canon.{canon};
+    ghost use Rattle.model_message.specs.Whole.{IsMessage};
+    ghost use Rattle.model_span.specs.Spans as spans;
+    ghost use Rattle.model_export.specs.Export as model;
     ghost use Rattle.otlp_span.specs.Parts.{status_view};
 
     ghost viewed = { spans.Status };

@@ -1,14 +1,14 @@
 //! What takes the bytes of a message: a count of them, or a buffer.
 ghost use Rattle.std.specs.Prelude.{◌≡◌, ◌+◌, ◌<◌, ◌≤◌, true, false, ◌^◌, ℕ, List, [], IfOk};
-ghost use Rattle.message_model.specs.Wire;
-ghost use Rattle.message_model.specs.Canon.{payload_bytes};
+ghost use Rattle.model_message.specs.Wire;
+ghost use Rattle.model_message.specs.Canon.{payload_bytes};
 ghost use Rattle.otlp_proto.specs.Encode.{Cursor, Lays, Skips, saturated};
 
 use otlp_ids::OutOfMemory;
 use std::alloc::Allocator;
 use std::marker::Model;
 
-/// What takes bytes, one behind the other.
+/// What takes bytes, one after the other.
 pub trait Sink {
     ghost cursor: { Self → Cursor };
 

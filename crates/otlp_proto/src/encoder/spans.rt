@@ -1,8 +1,8 @@
 //! Spans, and how long the message of each is (opentelemetry-proto, trace.proto: Span).
 ghost use Rattle.std.specs.Prelude.{◌≡◌, ◌≢◌, [], IfOk, OnOk, OnErr, map, flat_map, pos, unwrap_or};
-ghost use Rattle.message_model.specs.Tables;
-ghost use Rattle.span_model.specs.Spans.{has_remote_parent};
-ghost use Rattle.export_model.specs.Export as model;
+ghost use Rattle.model_message.specs.Tables;
+ghost use Rattle.model_span.specs.Spans.{has_remote_parent};
+ghost use Rattle.model_export.specs.Export as model;
 ghost use Rattle.otlp_span.specs.Parts.{kind_view, parent_id_view};
 ghost use Rattle.scope_group.specs.Group.{scope_group_view, resource_group_view, groups_view};
 ghost use Rattle.otlp_proto.specs.Encode.{Puts, AddsLens};
@@ -50,10 +50,10 @@ fn span_flags<A: Allocator>(span: &SpanData<A>) -> u32
 }
 
 impl<B: Allocator> Submessage for SpanData<B> {
-    ghost use Rattle.span_model.specs.Spans.{EndedSpan};
+    ghost use Rattle.model_span.specs.Spans as spans;
     ghost use Rattle.otlp_proto.specs.Encode.{span_bytes, IsWholeSpan};
 
-    ghost viewed = { EndedSpan };
+    ghost viewed = { spans.SpanData };
 
     ghost view = { λ span. span };
 

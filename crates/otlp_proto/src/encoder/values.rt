@@ -11,9 +11,9 @@ use std::alloc::Allocator;
 
 impl<B: Allocator> Submessage for String<B> {
     ghost use Rattle.std.specs.Prelude.{string_bytes};
-    ghost use Rattle.message_model.specs.AnyValue.{AnyValue};
-    ghost use Rattle.message_model.specs.Canon.{value_fields, row_bytes};
-    ghost use Rattle.message_model.specs.Whole.{IsValue};
+    ghost use Rattle.model_message.specs.AnyValue.{AnyValue};
+    ghost use Rattle.model_message.specs.Canon.{value_fields, row_bytes};
+    ghost use Rattle.model_message.specs.Whole.{IsValue};
 
     ghost viewed = { AnyValue };
 
@@ -29,9 +29,9 @@ impl<B: Allocator> Submessage for String<B> {
 }
 
 impl Submessage for bool {
-    ghost use Rattle.message_model.specs.AnyValue.{AnyValue};
-    ghost use Rattle.message_model.specs.Canon.{value_fields, row_bytes};
-    ghost use Rattle.message_model.specs.Whole.{IsValue};
+    ghost use Rattle.model_message.specs.AnyValue.{AnyValue};
+    ghost use Rattle.model_message.specs.Canon.{value_fields, row_bytes};
+    ghost use Rattle.model_message.specs.Whole.{IsValue};
 
     ghost viewed = { AnyValue };
 
@@ -47,9 +47,9 @@ impl Submessage for bool {
 }
 
 impl Submessage for i64 {
-    ghost use Rattle.message_model.specs.AnyValue.{AnyValue};
-    ghost use Rattle.message_model.specs.Canon.{value_fields, row_bytes};
-    ghost use Rattle.message_model.specs.Whole.{IsValue};
+    ghost use Rattle.model_message.specs.AnyValue.{AnyValue};
+    ghost use Rattle.model_message.specs.Canon.{value_fields, row_bytes};
+    ghost use Rattle.model_message.specs.Whole.{IsValue};
 
     ghost viewed = { AnyValue };
 
@@ -73,7 +73,7 @@ struct ArrayValue<'a, T>(&'a [T]);
 impl<T: Submessage> Submessage for ArrayValue<'_, T> {
     ghost use Rattle.std.specs.Prelude.{List, map};
     ghost use Rattle.std.specs.List.{AllByRecursion};
-    ghost use Rattle.message_model.specs.Canon.{row_bytes, bytes_field};
+    ghost use Rattle.model_message.specs.Canon.{row_bytes, bytes_field};
 
     ghost viewed = { List T.viewed };
 
@@ -89,10 +89,10 @@ impl<T: Submessage> Submessage for ArrayValue<'_, T> {
 }
 
 impl<B: Allocator> Submessage for Value<B> {
-    ghost use Rattle.message_model.specs.AnyValue.{AnyValue};
-    ghost use Rattle.message_model.specs.Canon.{value_fields, row_bytes};
-    ghost use Rattle.message_model.specs.Whole.{IsValue};
-    ghost use Rattle.export_model.specs.Export as model;
+    ghost use Rattle.model_message.specs.AnyValue.{AnyValue};
+    ghost use Rattle.model_message.specs.Canon.{value_fields, row_bytes};
+    ghost use Rattle.model_message.specs.Whole.{IsValue};
+    ghost use Rattle.model_export.specs.Export as model;
     ghost use Rattle.otlp_value.specs.Value.{value_view};
 
     ghost viewed = { AnyValue };
@@ -117,11 +117,11 @@ impl<B: Allocator> Submessage for Value<B> {
 }
 
 impl<B: Allocator> Submessage for (String<B>, Value<B>) {
-    ghost use Rattle.message_model.specs.Tables;
-    ghost use Rattle.message_model.specs.Canon.{canon};
-    ghost use Rattle.message_model.specs.Whole.{IsMessage};
-    ghost use Rattle.span_model.specs.Attributes as attributes;
-    ghost use Rattle.export_model.specs.Export as model;
+    ghost use Rattle.model_message.specs.Tables;
+    ghost use Rattle.model_message.specs.Canon.{canon};
+    ghost use Rattle.model_message.specs.Whole.{IsMessage};
+    ghost use Rattle.model_span.specs.Attributes as attributes;
+    ghost use Rattle.model_export.specs.Export as model;
     ghost use Rattle.otlp_value.specs.Value.{attribute_view};
 
     ghost viewed = { attributes.Attribute };

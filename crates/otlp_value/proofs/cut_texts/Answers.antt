@@ -1,6 +1,6 @@
 use Rattle.std.proofs.Common.{◌∙◌, Some, string_bytes, map, arith}
 use Rattle.std.proofs.lemmas.List.{length-map}
-use Rattle.span_model.specs.Attributes.{first_chars}
+use Rattle.model_span.specs.Attributes.{first_chars}
 use Rattle.otlp_value.proofs.Cutting.{with_first-all, one-more}
 use Rattle.otlp_value.proofs.cut_texts.Goals as goal
 

@@ -1,5 +1,5 @@
 use Rattle.std.proofs.Common.{◌≡◌, map, string_bytes, Some}
-use Rattle.span_model.specs.Attributes.{first_chars}
+use Rattle.model_span.specs.Attributes.{first_chars}
 use Rattle.otlp_value.proofs.Cutting.{with_first}
 use Rattle.otlp_value.proofs.cut_texts.Given as goal
 

@@ -1,5 +1,5 @@
 use Rattle.std.proofs.Common.{arith, ◌≡◌, refl, ap, ◌∙◌, ℕ, ◌+◌, ◌/◌, ◌%◌, ◌<◌, [], ◌∷◌, ◌++◌, length, append_assoc, Vec, vec_len, vec_capacity}
-use Rattle.message_model.specs.Canon.{shortest, payload_bytes}
+use Rattle.model_message.specs.Canon.{shortest, payload_bytes}
 use Rattle.otlp_wire.proofs.Groups.{MoreGroups, low_groups, high_groups}
 use Rattle.otlp_wire.proofs.push_varint.Invariants.{Begun}
 use Rattle.otlp_wire.proofs.push_varint.Goals as goal

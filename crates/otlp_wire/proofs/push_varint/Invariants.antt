@@ -1,5 +1,5 @@
 use Rattle.std.proofs.Common.{◌≡◌, ◌≤◌, ◌<◌, ◌+◌, ◌^◌, ℕ, suc, ◌++◌, length, Vec, vec_len, vec_capacity}
-use Rattle.message_model.specs.Canon.{septets_of, shortest}
+use Rattle.model_message.specs.Canon.{septets_of, shortest}
 use Rattle.otlp_wire.proofs.push_varint.Given as goal
 
 -- What is there, with the groups of what is left, is the whole, and there is room for it.

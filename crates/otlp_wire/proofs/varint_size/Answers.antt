@@ -1,5 +1,5 @@
 use Rattle.std.proofs.Common.{arith, ◌≡◌, sym, ap, subst, ℕ, ◌<◌, length}
-use Rattle.message_model.specs.Canon.{shortest}
+use Rattle.model_message.specs.Canon.{shortest}
 use Rattle.otlp_wire.specs.Writing.{IsLeastSize, IsReachedSize}
 use Rattle.otlp_wire.proofs.Groups.{low_groups, high_groups, shortest-least, shortest-reached}
 use Rattle.otlp_wire.proofs.varint_size.Invariants.{Counted}

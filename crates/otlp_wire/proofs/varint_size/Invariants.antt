@@ -1,5 +1,5 @@
 use Rattle.std.proofs.Common.{◌≡◌, ◌≤◌, ◌<◌, ◌+◌, ◌^◌, ℕ, suc, length}
-use Rattle.message_model.specs.Canon.{septets_of, shortest}
+use Rattle.model_message.specs.Canon.{septets_of, shortest}
 use Rattle.otlp_wire.proofs.varint_size.Given as goal
 
 -- With the groups of what is left, one too many is counted.

@@ -1,8 +1,8 @@
 use Rattle.std.proofs.Common.{arith, refl, length}
 use Rattle.std.proofs.lemmas.Grind.{common_steps}
-use Rattle.message_model.specs.Wire
-use Rattle.message_model.specs.Canon.{shortest, payload_bytes}
-use Rattle.message_model.proofs.Varints.{shortest-is}
+use Rattle.model_message.specs.Wire
+use Rattle.model_message.specs.Canon.{shortest, payload_bytes}
+use Rattle.model_message.proofs.Varints.{shortest-is}
 use Rattle.otlp_wire.proofs.write_len.Goals as goal
 
 pub returns-clause-spelled : goal.returns-clause-spelled

@@ -7,7 +7,8 @@ use Rattle.account_book.proofs.Crosses.{result_send, three_send}
 use Rattle.first_service.proofs.Sends.{error_send}
 use Rattle.first_service.proofs.service.start_worker.Goals as goal
 
--- what the thread's closure captures may cross: the runtime's value, the allocator and the worker's pass
+-- what the thread's closure captures may cross: the runtime's value, the allocator and the worker's
+-- pass
 pub spawn-started-requires-send-F : goal.spawn-started-requires-send-F
 spawn-started-requires-send-F g c κs within =
     let r = c.type_bounds.send-R in

@@ -2,7 +2,7 @@ use Rattle.std.proofs.Common.{◌≡◌, ℕ, ◌≤◌, ◌+◌, ◌-◌, ◌++
 use Rattle.std.specs.Io.KnownBytes.{Consumes}
 use Rattle.http_wire.proofs.chunk.read_exactly.Given as goal
 
--- what was read stands behind the bytes, and nothing failed
+-- what was read comes after the bytes, and nothing failed
 abbrev pub invariant-pieces : goal.invariant-pieces
 invariant-pieces g l =
     let remaining = g.R.FaultRead.remaining in

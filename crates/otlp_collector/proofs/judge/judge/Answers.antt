@@ -1,7 +1,7 @@
 use Rattle.std.proofs.Common.{ap, refl, subst, sym, Some}
-use Rattle.message_model.specs.Reading.{Reads}
-use Rattle.message_model.specs.Messages.{meaning}
-use Rattle.message_model.specs.Tables
+use Rattle.model_message.specs.Reading.{Reads}
+use Rattle.model_message.specs.Messages.{meaning}
+use Rattle.model_message.specs.Tables
 use Rattle.otlp_message.specs.Faults.{NamesOne}
 use Rattle.otlp_read.specs.Requests.{request_view}
 use Rattle.otlp_serve.specs.Posts.{post_view}

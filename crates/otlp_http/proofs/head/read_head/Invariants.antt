@@ -4,7 +4,8 @@ use Rattle.httparse.specs.Grammar.{HasNoResponse}
 use Rattle.http_wire.specs.Places.{IsPlace}
 use Rattle.otlp_http.proofs.head.read_head.Given as goal
 
--- the text is what was read, no front of it is a head, nothing failed, and the place is that behind it
+-- the text is what was read, no front of it is a head, nothing failed, and the place is that after
+-- it
 abbrev pub invariant-loop-place : goal.invariant-loop-place
 invariant-loop-place g l =
     let remaining = g.R.FaultRead.remaining in

@@ -1,5 +1,5 @@
-use Rattle.message_model.specs.Wire.{row}
-use Rattle.message_model.specs.Messages.{value, max_depth}
+use Rattle.model_message.specs.Wire.{row}
+use Rattle.model_message.specs.Messages.{value, max_depth}
 use Rattle.otlp_message.specs.Gathering.{IsGathered}
 use Rattle.otlp_message.proofs.FieldsRead.{FieldsRead}
 use Rattle.otlp_message.proofs.GatherSteps.{Behind}

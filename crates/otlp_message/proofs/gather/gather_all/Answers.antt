@@ -1,7 +1,7 @@
 use Rattle.std.proofs.Common.{◌≡◌, sym, subst, Err, IfErr, [], ◌∷◌, arith}
-use Rattle.message_model.specs.Wire.{len}
-use Rattle.message_model.specs.Tables.{message}
-use Rattle.message_model.specs.Messages.{value, max_depth, read}
+use Rattle.model_message.specs.Wire.{len}
+use Rattle.model_message.specs.Tables.{message}
+use Rattle.model_message.specs.Messages.{value, max_depth, read}
 use Rattle.otlp_message.specs.Faults.{NamesOne}
 use Rattle.otlp_message.proofs.GatherSteps.{part-names}
 use Rattle.otlp_message.proofs.Finished.{message-is}

@@ -1,5 +1,5 @@
 use Rattle.std.proofs.Common.{refl}
-use Rattle.message_model.specs.Tables.{message}
+use Rattle.model_message.specs.Tables.{message}
 use Rattle.otlp_wire.specs.Fields.{field_of}
 use Rattle.otlp_message.proofs.Finished.{in-skips, in-more, in-fails, both-ok, on-err}
 use Rattle.otlp_message.proofs.gather.gather_in.Goals as goal

@@ -1,6 +1,6 @@
 use Rattle.std.proofs.Common.{refl, sym, ◌∙◌, subst, Some, arith}
-use Rattle.message_model.specs.Tables
-use Rattle.message_model.specs.Tables.{message}
+use Rattle.model_message.specs.Tables
+use Rattle.model_message.specs.Tables.{message}
 use Rattle.otlp_wire.specs.Fields.{GivesField}
 use Rattle.otlp_message.proofs.ResponseSteps.{response-none, response-skips, response-more, response-fails}
 use Rattle.otlp_message.proofs.response.partial_fields.Goals as goal

@@ -1,5 +1,5 @@
 use Rattle.std.proofs.Common.{◌≡◌, rules, to_z, of_z, w64, sym, ap, ◌∙◌}
-use Rattle.message_model.specs.Tables.{◌▸◌}
+use Rattle.model_message.specs.Tables.{◌▸◌}
 use Rattle.otlp_message.proofs.ResponseMeaning.{meaning-value}
 use Rattle.otlp_message.proofs.response.read_partial_bytes.Goals as goal
 

@@ -1,7 +1,7 @@
 use Rattle.std.proofs.Common.{◌≡◌, rules, to_z, of_z, w64, sym, ap, ◌∙◌}
 use Rattle.std.specs.Int.{cast_signed}
 use Rattle.std.specs.String.{string_bytes}
-use Rattle.message_model.specs.Tables.{◌▸◌}
+use Rattle.model_message.specs.Tables.{◌▸◌}
 use Rattle.otlp_message.proofs.response.read_response.Goals as goal
 
 pub returns-clause-ok : goal.returns-clause-ok

@@ -1,5 +1,5 @@
 use Rattle.std.proofs.Common.{sym, ap, ◌∙◌, ◌++◌}
-use Rattle.message_model.specs.Canon.{row_bytes, unless_empty}
+use Rattle.model_message.specs.Canon.{row_bytes, unless_empty}
 use Rattle.otlp_message.proofs.ResponseBytes.{partial-row}
 use Rattle.otlp_message.proofs.response_writer.partial_bytes.Goals as goal
 

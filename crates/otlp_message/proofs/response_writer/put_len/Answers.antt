@@ -1,4 +1,4 @@
-use Rattle.message_model.specs.Canon.{bytes_field, payload_bytes}
+use Rattle.model_message.specs.Canon.{bytes_field, payload_bytes}
 use Rattle.otlp_message.proofs.ResponseBytes.{keyed, of-ok}
 use Rattle.otlp_message.proofs.response_writer.put_len.Goals as goal
 

@@ -1,6 +1,6 @@
 use Rattle.std.proofs.Common.{◌≡◌, ◌≢◌, sym, ap, ◌∙◌, ◌++◌, append-nil, arith}
-use Rattle.message_model.specs.Wire.{varint}
-use Rattle.message_model.specs.Canon.{payload_bytes, row_bytes, number_field}
+use Rattle.model_message.specs.Wire.{varint}
+use Rattle.model_message.specs.Canon.{payload_bytes, row_bytes, number_field}
 use Rattle.otlp_message.proofs.ResponseBytes.{keyed, some-number, no-number}
 use Rattle.otlp_message.proofs.response_writer.put_rejected_spans.Goals as goal
 

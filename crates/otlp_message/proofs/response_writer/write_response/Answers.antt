@@ -2,8 +2,8 @@ use Rattle.std.proofs.Common.{◌≡◌, sym, ap, ◌∙◌, rules, arith, to_z-
 use Rattle.std.specs.Int.{w64, cast_unsigned}
 use Rattle.std.proofs.lemmas.Str.{is_utf8-from_IsUtf8}
 use mir.Val.{SFits}
-use Rattle.message_model.specs.Tables
-use Rattle.message_model.specs.Whole.{IsMessage, IsText}
+use Rattle.model_message.specs.Tables
+use Rattle.model_message.specs.Whole.{IsMessage, IsText}
 use Rattle.otlp_message.proofs.ResponseBytes.{empty-response, full-response, response-reads}
 use Rattle.otlp_message.proofs.response_writer.write_response.Goals as goal
 

@@ -1,7 +1,7 @@
 use Rattle.std.proofs.Common.{◌≡◌, ◌<◌, ◌^◌, [], length, arith, sym, ap, ◌∙◌, subst}
-use Rattle.message_model.specs.Tables
-use Rattle.message_model.specs.Canon.{canon}
-use Rattle.export_model.specs.Export.{request_message, body_length}
+use Rattle.model_message.specs.Tables
+use Rattle.model_message.specs.Canon.{canon}
+use Rattle.model_export.specs.Export.{request_message, body_length}
 use Rattle.scope_group.specs.Group.{groups_view}
 use Rattle.otlp_proto.specs.Bodies.{body_bytes}
 use Rattle.otlp_proto.specs.Encode.{PutsAll}

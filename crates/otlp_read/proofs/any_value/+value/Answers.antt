@@ -1,11 +1,11 @@
 use Rattle.std.proofs.Common.{◌≡◌, refl, sym, ap, subst, ◌∙◌, Some, Err, IfErr, List, [], ◌∷◌, rules, arith, ◌++◌, ◌-◌, suc, take, get_or, take_all, to_z, of_z, w64}
 use Rattle.std.proofs.lemmas.List.{map-append}
-use Rattle.message_model.specs.Reading.{Reads, too_deep}
-use Rattle.message_model.specs.Wire.{Field, row, len}
-use Rattle.message_model.specs.Tables
-use Rattle.message_model.specs.Tables.{message, repeated, any, ◌▸◌}
-use Rattle.message_model.specs.Messages.{value, value_of, read, payloads, utf8}
-use Rattle.message_model.specs.AnyValue.{AnyValue, as_pairs}
+use Rattle.model_message.specs.Reading.{Reads, too_deep}
+use Rattle.model_message.specs.Wire.{Field, row, len}
+use Rattle.model_message.specs.Tables
+use Rattle.model_message.specs.Tables.{message, repeated, any, ◌▸◌}
+use Rattle.model_message.specs.Messages.{value, value_of, read, payloads, utf8}
+use Rattle.model_message.specs.AnyValue.{AnyValue, as_pairs}
 use Rattle.std.specs.List.{Contains}
 use Rattle.otlp_wire.specs.Fields.{GivesField, field_of}
 use Rattle.otlp_message.specs.Faults.{NamesOne}

@@ -1,8 +1,8 @@
 use Rattle.std.proofs.Common.{◌+◌, ◌*◌, take}
-use Rattle.message_model.specs.Wire.{row}
-use Rattle.message_model.specs.Tables
-use Rattle.message_model.specs.Tables.{message, ◌▸◌}
-use Rattle.message_model.specs.Messages.{value}
+use Rattle.model_message.specs.Wire.{row}
+use Rattle.model_message.specs.Tables
+use Rattle.model_message.specs.Tables.{message, ◌▸◌}
+use Rattle.model_message.specs.Messages.{value}
 use Rattle.otlp_read.specs.Values.{values_view, pairs_view}
 use Rattle.otlp_message.specs.Gathering.{IsGathered, IsKept}
 use Rattle.otlp_read.specs.Members.{parts_view}

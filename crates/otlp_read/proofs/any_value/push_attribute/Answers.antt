@@ -1,9 +1,9 @@
 use Rattle.std.proofs.Common.{◌≡◌, refl, sym, ap, subst, ◌∙◌, Err, IfErr, List, [], ◌∷◌, ◌++◌, arith}
 use Rattle.std.proofs.lemmas.List.{map-append}
-use Rattle.message_model.specs.Wire.{Field, len}
-use Rattle.message_model.specs.Tables
-use Rattle.message_model.specs.Tables.{message, repeated}
-use Rattle.message_model.specs.Messages.{value, max_depth, read, payloads}
+use Rattle.model_message.specs.Wire.{Field, len}
+use Rattle.model_message.specs.Tables
+use Rattle.model_message.specs.Tables.{message, repeated}
+use Rattle.model_message.specs.Messages.{value, max_depth, read, payloads}
 use Rattle.otlp_wire.specs.Fields.{field_of}
 use Rattle.otlp_message.specs.Faults.{NamesOne}
 use Rattle.otlp_message.specs.Gathering.{IsKept, field_faults}

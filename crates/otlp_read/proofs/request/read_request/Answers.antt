@@ -1,7 +1,7 @@
 use Rattle.std.proofs.Common.{◌≡◌, sym, subst, ◌∙◌, Err, IfErr, arith}
-use Rattle.message_model.specs.Reading.{Reads}
-use Rattle.message_model.specs.Tables
-use Rattle.message_model.specs.Messages.{meaning}
+use Rattle.model_message.specs.Reading.{Reads}
+use Rattle.model_message.specs.Tables
+use Rattle.model_message.specs.Messages.{meaning}
 use Rattle.otlp_message.specs.Faults.{NamesOne}
 use Rattle.otlp_read.specs.Requests.{request_view}
 use Rattle.otlp_message.proofs.Finished.{meaning-is, on-ok, on-err}

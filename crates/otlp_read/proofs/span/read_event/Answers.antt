@@ -1,5 +1,5 @@
 use Rattle.std.proofs.Common.{sym, subst}
-use Rattle.message_model.specs.Reading.{Reads}
+use Rattle.model_message.specs.Reading.{Reads}
 use Rattle.otlp_message.specs.Faults.{NamesOne}
 use Rattle.otlp_read.specs.Spans.{event_view}
 use Rattle.otlp_message.proofs.Finished.{on-ok, on-err}

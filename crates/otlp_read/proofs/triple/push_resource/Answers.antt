@@ -1,5 +1,5 @@
 use Rattle.std.proofs.Common.{string_bytes}
-use Rattle.message_model.specs.Messages.{scope_triples}
+use Rattle.model_message.specs.Messages.{scope_triples}
 use Rattle.otlp_read.specs.Resources.{resource_view}
 use Rattle.otlp_read.specs.Requests.{scope_spans_view}
 use Rattle.otlp_read.specs.Triples.{triples_view}

@@ -1,6 +1,6 @@
 use Rattle.std.proofs.Common.{◌≡◌, ◌++◌, string_bytes, take}
-use Rattle.message_model.specs.Messages.{resource_triples}
-use Rattle.message_model.specs.Tables.{◌▸◌}
+use Rattle.model_message.specs.Messages.{resource_triples}
+use Rattle.model_message.specs.Tables.{◌▸◌}
 use Rattle.otlp_read.specs.Resources.{resource_view}
 use Rattle.otlp_read.specs.Requests.{scope_groups_view}
 use Rattle.otlp_read.specs.Triples.{triples_view}

@@ -1,7 +1,7 @@
 use Rattle.std.proofs.Common.{string_bytes}
-use Rattle.message_model.specs.Messages.{Triple}
-use Rattle.message_model.specs.Tables
-use Rattle.message_model.specs.Tables.{Message}
+use Rattle.model_message.specs.Messages.{Triple}
+use Rattle.model_message.specs.Tables
+use Rattle.model_message.specs.Tables.{Message}
 use Rattle.otlp_read.specs.Resources.{resource_view, scope_view}
 use Rattle.otlp_read.specs.Spans.{span_view}
 use Rattle.otlp_read.specs.Triples.{triple_view, triples_view}

@@ -1,6 +1,6 @@
 use Rattle.std.proofs.Common.{◌≡◌, ◌++◌, string_bytes, take}
-use Rattle.message_model.specs.Messages.{scope_triples}
-use Rattle.message_model.specs.Tables.{◌▸◌}
+use Rattle.model_message.specs.Messages.{scope_triples}
+use Rattle.model_message.specs.Tables.{◌▸◌}
 use Rattle.otlp_read.specs.Resources.{resource_view, scope_view}
 use Rattle.otlp_read.specs.Spans.{spans_view}
 use Rattle.otlp_read.specs.Triples.{triples_view}

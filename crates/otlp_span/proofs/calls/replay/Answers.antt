@@ -1,5 +1,5 @@
 use Rattle.std.proofs.Common.{◌∙◌, ap, subst, map, take, drop, suc, take_all, refl}
-use Rattle.span_model.specs.Spans.{Adds, is_end}
+use Rattle.model_span.specs.Spans.{Adds, is_end}
 use Rattle.otlp_span.specs.Parts.{call_view, start_view, opened_recording}
 use Rattle.otlp_span.proofs.Recorded.{stays, from-index, through-index, ended, no-end, unended}
 use Rattle.otlp_span.proofs.calls.replay.Goals as goal

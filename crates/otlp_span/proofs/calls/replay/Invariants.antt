@@ -1,5 +1,5 @@
 use Rattle.std.proofs.Common.{map, take}
-use Rattle.span_model.specs.Spans.{Records, KeepsPlace}
+use Rattle.model_span.specs.Spans.{Records, KeepsPlace}
 use Rattle.otlp_span.specs.Parts.{start_view, call_view, opened_recording}
 use Rattle.otlp_span.proofs.calls.replay.Given as goal
 

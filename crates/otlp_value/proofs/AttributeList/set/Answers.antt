@@ -3,7 +3,7 @@ use Rattle.std.specs.List.{position}
 use Rattle.std.specs.String.{string_len}
 use Rattle.std.proofs.lemmas.List.{length-map}
 use Rattle.std.proofs.lemmas.Result.{err_from_is_err_and}
-use Rattle.span_model.specs.Attributes.{Attribute, Value, has_key, is_empty}
+use Rattle.model_span.specs.Attributes.{Attribute, Value, has_key, is_empty}
 use Rattle.otlp_value.specs.declared.Value as declared
 use Rattle.otlp_value.specs.Value.{attribute_view, limits_view}
 use Rattle.otlp_value.proofs.Setting.{is_empty-length, is-new, sets-full, sets-ignored, sets-new, sets-there}

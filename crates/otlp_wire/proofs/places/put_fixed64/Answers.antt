@@ -1,4 +1,4 @@
-use Rattle.message_model.specs.Canon.{payload_bytes}
+use Rattle.model_message.specs.Canon.{payload_bytes}
 use Rattle.otlp_wire.proofs.places.put_fixed64.Goals as goal
 
 pub put_bytes-requires : goal.put_bytes-requires

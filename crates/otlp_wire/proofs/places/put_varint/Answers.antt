@@ -1,6 +1,6 @@
 use Rattle.std.proofs.Common.{arith, ◌≡◌, refl, sym, ap, ◌∙◌, ℕ, ◌+◌, ◌/◌, ◌%◌, ◌<◌, List, [], ◌∷◌, ◌++◌, length, take, drop, set, append_assoc, append-nil}
 use Rattle.std.proofs.lemmas.List.{take_more_set, drop-set-lt, length-append, length-set, drop-drop}
-use Rattle.message_model.specs.Canon.{shortest, payload_bytes}
+use Rattle.model_message.specs.Canon.{shortest, payload_bytes}
 use Rattle.otlp_wire.specs.Writing.{PutsAt}
 use Rattle.otlp_wire.proofs.Groups.{MoreGroups, low_groups, high_groups}
 use Rattle.otlp_wire.proofs.places.put_varint.Invariants.{Begun}

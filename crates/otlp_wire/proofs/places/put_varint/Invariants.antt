@@ -1,5 +1,5 @@
 use Rattle.std.proofs.Common.{◌≡◌, ◌≤◌, ◌<◌, ◌+◌, ◌^◌, ℕ, suc, List, ◌++◌, length, take, drop}
-use Rattle.message_model.specs.Canon.{septets_of, shortest}
+use Rattle.model_message.specs.Canon.{septets_of, shortest}
 use Rattle.otlp_wire.proofs.places.put_varint.Given as goal
 
 -- What is there, with the groups of what is left, is the whole, and there is room for it.

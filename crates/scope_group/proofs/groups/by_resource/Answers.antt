@@ -1,7 +1,7 @@
 use Rattle.std.proofs.Common.{◌∙◌, refl, sym, ap, take, ◌++◌, ◌∷◌, [], ◌+◌}
 use Rattle.std.proofs.lemmas.List.{take_more}
-use Rattle.export_model.specs.Export.{resource_eq}
-use Rattle.export_model.proofs.Equalities.{resource_eq-Decides}
+use Rattle.model_export.specs.Export.{resource_eq}
+use Rattle.model_export.proofs.Equalities.{resource_eq-Decides}
 use Rattle.otlp_span.specs.Parts.{resource_view}
 use Rattle.scope_group.specs.Group.{resources_view}
 use Rattle.scope_group.proofs.Equal.{resource-same, value-same}

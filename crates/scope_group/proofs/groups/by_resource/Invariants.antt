@@ -1,5 +1,5 @@
 use Rattle.std.proofs.Common.{◌≡◌, take}
-use Rattle.export_model.specs.Export.{groups_by, resource_eq}
+use Rattle.model_export.specs.Export.{groups_by, resource_eq}
 use Rattle.scope_group.specs.Group.{resources_view}
 use Rattle.scope_group.proofs.groups.by_resource.Given as goal
 

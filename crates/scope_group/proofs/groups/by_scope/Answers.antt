@@ -1,7 +1,7 @@
 use Rattle.std.proofs.Common.{◌∙◌, refl, sym, ap, map, take, ◌++◌, ◌∷◌, [], ◌+◌}
 use Rattle.std.proofs.lemmas.List.{map-append, take_more}
-use Rattle.export_model.specs.Export.{scope_eq}
-use Rattle.export_model.proofs.Equalities.{scope_eq-Decides}
+use Rattle.model_export.specs.Export.{scope_eq}
+use Rattle.model_export.proofs.Equalities.{scope_eq-Decides}
 use Rattle.otlp_span.specs.Parts.{scope_view}
 use Rattle.scope_group.specs.Group.{scopes_view}
 use Rattle.scope_group.proofs.Equal.{scope-same, value-same}

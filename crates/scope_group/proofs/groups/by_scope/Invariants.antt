@@ -1,5 +1,5 @@
 use Rattle.std.proofs.Common.{◌≡◌, map, take}
-use Rattle.export_model.specs.Export.{groups_by, scope_eq}
+use Rattle.model_export.specs.Export.{groups_by, scope_eq}
 use Rattle.scope_group.specs.Group.{scopes_view}
 use Rattle.scope_group.proofs.groups.by_scope.Given as goal
 

@@ -3,8 +3,8 @@ use Rattle.std.specs.Prelude.{vec_capacity}
 use Rattle.std.specs.List.{AllByRecursion}
 use Rattle.std.proofs.lemmas.List.{length-append}
 use Rattle.account_book.proofs.Facts.{each_append, yields_each, yields_step}
-use Rattle.pass_model.specs.Passes.{PassAccount, new_account}
-use Rattle.simple_processor.specs.Holders.{account_in, pass}
+use Rattle.model_processor.specs.Passes.{PassAccount, new_account}
+use Rattle.simple_processor.specs.AnyAccounts.{account_in, pass}
 use Rattle.simple_processor.proofs.processor.give_passes.Goals as goal
 
 pub loop-account-preserved : goal.loop-account-preserved

@@ -1,7 +1,7 @@
 use Rattle.std.proofs.Common.{◌≡◌, ◌≤◌, ◌++◌, length, vec_len}
 use Rattle.std.specs.Prelude.{vec_capacity}
 use Rattle.std.specs.List.{AllByRecursion}
-use Rattle.pass_model.specs.Passes.{new_account}
+use Rattle.model_processor.specs.Passes.{new_account}
 use Rattle.simple_processor.proofs.processor.give_passes.Given as goal
 
 abbrev pub invariant-loop-account : goal.invariant-loop-account

@@ -1,12 +1,12 @@
 use Rattle.std.proofs.Common.{◌≡◌, length, take, vec_capacity}
-use Rattle.run_model.specs.Headline.{attempts}
+use Rattle.model_run.specs.Headline.{attempts}
 use Rattle.trace_history.specs.Answers.{history_view}
 use Rattle.trace_run.specs.Out.{IsReady}
 use Rattle.trace_run.specs.Run.{run_config}
 use Rattle.trace_run.specs.State.{Stands, HasItsBody, TellsAll}
 use Rattle.trace_run.proofs.whole.run.Given as goal
 
--- It stands behind the steps so far, and the exporter tells their attempts.
+-- It comes after the steps so far, and the exporter tells their attempts.
 abbrev pub invariant-loop-step : goal.invariant-loop-step
 invariant-loop-step g l = record {
   stands : Stands g.S.Sampler.meaning g.R.Rng.stream (run_config g.S.Sampler.meaning g.R.Rng.stream l.fn.config) (history_view (take l.step-index l.steps) l.answers.items) l.running.table l.running.queue l.out;

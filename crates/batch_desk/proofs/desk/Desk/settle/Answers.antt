@@ -1,6 +1,6 @@
 use Rattle.std.proofs.Common.{subst, sym, ap, refl, ◌∙◌}
-use Rattle.desk_model.specs.Desks.{SettlesSpans}
-use Rattle.desk_model.specs.Queue.{lost_names}
+use Rattle.model_desk.specs.Desks.{SettlesSpans}
+use Rattle.model_desk.specs.Queue.{lost_names}
 use Rattle.retry_core.specs.Retries.{fate_view}
 use Rattle.batch_desk.proofs.desk.Desk.settle.Goals as goal
 

@@ -1,7 +1,7 @@
 use Rattle.std.proofs.Common.{arith, ap, sym, ◌∙◌, ◌≡◌, ◌+◌, ◌≤◌, true, Some, length}
 use Rattle.std.specs.Prelude.{option_map}
 use Rattle.std.proofs.lemmas.Grind.{common_steps}
-use Rattle.desk_model.specs.Desks.{is_loss, out_size}
+use Rattle.model_desk.specs.Desks.{is_loss, out_size}
 use Rattle.retry_core.specs.Retries.{fate_view}
 use Rattle.batch_desk.specs.Desk.{out_state}
 use Rattle.batch_desk.specs.Views.{out_view}

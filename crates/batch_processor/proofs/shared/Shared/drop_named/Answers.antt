@@ -1,8 +1,8 @@
 use Rattle.std.proofs.Common.{ap, refl}
-use Rattle.desk_model.specs.Desks.{Desk}
-use Rattle.batch_model.proofs.Holding.{kept_of, kept_worker, origin_there}
-use Rattle.batch_model.proofs.Workers.{drop_agrees}
-use Rattle.batch_model.specs.Holders.{after_drop, worker_in}
+use Rattle.model_desk.specs.Desks.{Desk}
+use Rattle.model_processor.proofs.AccountState.{kept_of, kept_worker, origin_there}
+use Rattle.model_processor.proofs.Workers.{drop_agrees}
+use Rattle.model_processor.specs.AnyAccounts.{after_drop, worker_in}
 use Rattle.batch_processor.specs.Views.{setup_view}
 use Rattle.batch_processor.proofs.Holds.{desk_changed, named_drop, named_is}
 use Rattle.batch_desk.specs.Desk.{after_names}

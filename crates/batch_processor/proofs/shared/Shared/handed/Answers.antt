@@ -1,9 +1,9 @@
 use Rattle.std.proofs.Common.{ap, refl}
-use Rattle.desk_model.specs.Desks.{Desk}
-use Rattle.batch_model.proofs.Holding.{kept_of, kept_worker, origin_there}
+use Rattle.model_desk.specs.Desks.{Desk}
+use Rattle.model_processor.proofs.AccountState.{kept_of, kept_worker, origin_there}
 use Rattle.batch_processor.specs.Views.{setup_view}
-use Rattle.batch_model.specs.Holders.{after_handed, worker_in}
-use Rattle.batch_model.proofs.Workers.{handed_agrees}
+use Rattle.model_processor.specs.AnyAccounts.{after_handed, worker_in}
+use Rattle.model_processor.proofs.Workers.{handed_agrees}
 use Rattle.batch_processor.proofs.Holds.{state_of}
 use Rattle.std.specs.Prelude.{None}
 use Rattle.batch_processor.proofs.shared.Shared.handed.Goals as goal

@@ -1,9 +1,9 @@
 use Rattle.std.proofs.Common.{sym, refl, subst, true}
-use Rattle.batch_model.specs.Kept.{IsShared}
-use Rattle.batch_model.proofs.Holding.{kept_of, kept_worker, origin_there}
+use Rattle.model_processor.specs.Kept.{IsShared}
+use Rattle.model_processor.proofs.AccountState.{kept_of, kept_worker, origin_there}
 use Rattle.batch_processor.specs.Views.{setup_view}
-use Rattle.batch_model.specs.Holders.{after_left, worker_in}
-use Rattle.batch_model.proofs.Workers.{left_agrees}
+use Rattle.model_processor.specs.AnyAccounts.{after_left, worker_in}
+use Rattle.model_processor.proofs.Workers.{left_agrees}
 use Rattle.batch_processor.proofs.shared.Shared.leave_if.Goals as goal
 
 pub invariant_of-self : goal.invariant_of-self

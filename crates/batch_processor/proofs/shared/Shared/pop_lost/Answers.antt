@@ -1,11 +1,11 @@
 use Rattle.std.proofs.Common.{ap, refl}
-use Rattle.desk_model.specs.Desks.{Desk}
-use Rattle.batch_model.proofs.Holding.{kept_of, kept_pass}
+use Rattle.model_desk.specs.Desks.{Desk}
+use Rattle.model_processor.proofs.AccountState.{kept_of, kept_pass}
 use Rattle.batch_processor.specs.Views.{setup_view}
 use Rattle.otlp_span.specs.Dropped.{entry_view}
-use Rattle.pass_model.specs.Passes.{after_pop_lost}
-use Rattle.batch_model.specs.Holders.{account_in}
-use Rattle.batch_model.proofs.Passes.{pop_lost_agrees}
+use Rattle.model_processor.specs.Passes.{after_pop_lost}
+use Rattle.model_processor.specs.AnyAccounts.{account_in}
+use Rattle.model_processor.proofs.Passes.{pop_lost_agrees}
 use Rattle.batch_processor.proofs.Holds.{lost_first, lost_is}
 use Rattle.batch_processor.proofs.shared.Shared.pop_lost.Goals as goal
 

@@ -1,10 +1,10 @@
 use Rattle.std.proofs.Common.{ap, sym, ◌∙◌}
 use Rattle.batch_processor.specs.Views.{setup_view}
-use Rattle.batch_model.proofs.Holding.{kept_of, kept_pass}
-use Rattle.batch_model.specs.Holders.{account_in}
+use Rattle.model_processor.proofs.AccountState.{kept_of, kept_pass}
+use Rattle.model_processor.specs.AnyAccounts.{account_in}
 use Rattle.batch_processor.specs.Views.{after_end, ended_of}
 use Rattle.batch_processor.proofs.Holds.{admit_agrees, admit_config, desk_changed, guarded_some, in_hold}
-use Rattle.desk_model.specs.Desks.{Desk}
+use Rattle.model_desk.specs.Desks.{Desk}
 use Rattle.batch_desk.specs.Desk.{admission, after_admission, is_queued}
 use Rattle.batch_processor.specs.Holds.{Guarded}
 use Rattle.batch_processor.proofs.shared.Shared.queue.Goals as goal

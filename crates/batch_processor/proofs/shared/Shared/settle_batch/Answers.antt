@@ -1,11 +1,11 @@
 use Rattle.std.proofs.Common.{ap, refl, ◌∙◌}
-use Rattle.desk_model.specs.Desks.{Desk}
-use Rattle.batch_model.proofs.Holding.{kept_of, kept_worker, origin_there}
+use Rattle.model_desk.specs.Desks.{Desk}
+use Rattle.model_processor.proofs.AccountState.{kept_of, kept_worker, origin_there}
 use Rattle.batch_processor.specs.Views.{outcomes_view, setup_view}
-use Rattle.retry_model.specs.Retries.{Fate}
+use Rattle.model_retry.specs.Retries.{Fate}
 use Rattle.batch_desk.specs.Desk.{after_loss}
-use Rattle.batch_model.specs.Holders.{after_settle, on_worker, worker_in}
-use Rattle.batch_model.proofs.Workers.{settle_agrees}
+use Rattle.model_processor.specs.AnyAccounts.{after_settle, on_worker, worker_in}
+use Rattle.model_processor.proofs.Workers.{settle_agrees}
 use Rattle.batch_processor.proofs.Holds.{can_settle, desk_changed, settled_by}
 use Rattle.batch_processor.proofs.shared.Shared.settle_batch.Goals as goal
 

@@ -1,7 +1,7 @@
 use Rattle.std.proofs.Common.{rules, ◌≡◌, subst, sym, refl}
 use Rattle.std.specs.Prelude.{Some}
 use Rattle.retry_core.specs.Retries.{outcome_view}
-use Rattle.batch_model.specs.Holders.{worker}
+use Rattle.model_processor.specs.AnyAccounts.{worker}
 use Rattle.batch_processor.specs.Holds.{IsSentBatchOf}
 use Rattle.batch_processor.specs.Working.{IsWorkingWith, WorkerState, hand_at, to_judge}
 use Rattle.batch_processor.proofs.Turns.{handed_out}

@@ -1,5 +1,5 @@
 use Rattle.std.proofs.Common.{◌≤◌, length, subst, sym}
-use Rattle.export_model.specs.Export.{LacksBody}
+use Rattle.model_export.specs.Export.{LacksBody}
 use Rattle.otlp_span.specs.Dropped.{reason_view}
 use Rattle.batch_processor.specs.Working.{WorkerState}
 use Rattle.batch_processor.proofs.Turns.{encode_step, lack_step}

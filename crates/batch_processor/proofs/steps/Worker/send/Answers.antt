@@ -1,4 +1,4 @@
-use Rattle.batch_model.specs.Holders.{after_handed, worker_in}
+use Rattle.model_processor.specs.AnyAccounts.{after_handed, worker_in}
 use Rattle.batch_processor.specs.Views.{outcomes_view, setup_view}
 use Rattle.batch_processor.proofs.Turns.{send_step, state_of, told_state}
 use Rattle.batch_processor.proofs.steps.Worker.send.Goals as goal

@@ -1,5 +1,5 @@
 use Rattle.std.proofs.Common.{subst}
-use Rattle.batch_model.specs.Clauses.{EndByWork, WorksUntilItLeaves, abandon}
+use Rattle.model_processor.specs.WorkerClauses.{EndByWork, WorksUntilItLeaves, abandon}
 use Rattle.batch_processor.specs.Working.{Work}
 use Rattle.batch_processor.proofs.Turns.{pass_end, pass_until_left}
 use Rattle.batch_processor.proofs.worker.WorkerPass.abandon.Goals as goal

@@ -1,5 +1,5 @@
 use Rattle.std.proofs.Common.{refl}
-use Rattle.message_model.specs.Tables.{text, int64}
+use Rattle.model_message.specs.Tables.{text, int64}
 use Rattle.otlp_wire.specs.Fields.{field_of}
 use Rattle.otlp_message.proofs.LastPayloads.{counts-more}
 use Rattle.otlp_message.proofs.response.PartialFields.with.Goals as goal

@@ -1,4 +1,4 @@
-use Rattle.message_model.specs.Wire.{row}
+use Rattle.model_message.specs.Wire.{row}
 use Rattle.otlp_message.proofs.ResponseSteps.{PartRead}
 use Rattle.otlp_message.proofs.response.PartialFields.with_fields.Given as goal
 

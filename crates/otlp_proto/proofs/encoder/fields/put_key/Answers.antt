@@ -1,4 +1,4 @@
-use Rattle.message_model.specs.Canon.{payload_bytes}
+use Rattle.model_message.specs.Canon.{payload_bytes}
 use Rattle.otlp_proto.proofs.encoder.fields.put_key.Goals as goal
 
 pub returns : goal.returns

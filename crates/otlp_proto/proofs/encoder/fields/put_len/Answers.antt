@@ -1,6 +1,6 @@
 use Rattle.std.proofs.Common.{length}
-use Rattle.message_model.specs.Wire
-use Rattle.message_model.specs.Canon.{shortest, payload_bytes}
+use Rattle.model_message.specs.Wire
+use Rattle.model_message.specs.Canon.{shortest, payload_bytes}
 use Rattle.otlp_proto.proofs.Laying.{tagged, lays-both}
 use Rattle.otlp_proto.proofs.encoder.fields.put_len.Goals as goal
 

@@ -1,4 +1,4 @@
-use Rattle.message_model.specs.Wire
+use Rattle.model_message.specs.Wire
 use Rattle.otlp_proto.proofs.Laying.{tagged}
 use Rattle.otlp_proto.proofs.encoder.fields.put_varint.Goals as goal
 

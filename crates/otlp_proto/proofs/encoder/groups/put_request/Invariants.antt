@@ -1,15 +1,15 @@
 use Rattle.std.proofs.Common.{◌≡◌, map, take, drop, length}
 use Rattle.std.specs.List.{AllByRecursion}
-use Rattle.message_model.specs.Tables
-use Rattle.message_model.specs.Canon.{row_bytes, bytes_field, canon}
-use Rattle.message_model.specs.Whole.{IsMessage}
-use Rattle.export_model.specs.Export.{resource_spans_message}
+use Rattle.model_message.specs.Tables
+use Rattle.model_message.specs.Canon.{row_bytes, bytes_field, canon}
+use Rattle.model_message.specs.Whole.{IsMessage}
+use Rattle.model_export.specs.Export.{resource_spans_message}
 use Rattle.scope_group.specs.Group.{groups_view}
 use Rattle.otlp_proto.specs.Encode.{Carries}
 use Rattle.otlp_proto.specs.Grouped.{all_spans}
 use Rattle.otlp_proto.proofs.encoder.groups.put_request.Given as goal
 
--- The resources so far are put, and the lengths behind theirs are left.
+-- The resources so far are put, and the lengths after theirs are left.
 abbrev pub invariant-loop-group : goal.invariant-loop-group
 invariant-loop-group g l =
     let resources = groups_view (take l.group-index l.groups) in

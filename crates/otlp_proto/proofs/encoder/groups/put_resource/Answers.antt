@@ -1,7 +1,7 @@
 use Rattle.std.proofs.Common.{subst}
-use Rattle.message_model.specs.Tables
-use Rattle.message_model.specs.Canon.{canon}
-use Rattle.export_model.specs.Export.{resource_spans_message}
+use Rattle.model_message.specs.Tables
+use Rattle.model_message.specs.Canon.{canon}
+use Rattle.model_export.specs.Export.{resource_spans_message}
 use Rattle.scope_group.specs.Group.{resource_group_view}
 use Rattle.otlp_proto.specs.Encode.{Lays}
 use Rattle.otlp_proto.proofs.Laying.{sized-field, counted-len}

@@ -1,6 +1,6 @@
 use Rattle.std.proofs.Common.{map, take, take_all, refl, sym, ap, ◌∙◌, arith}
 use Rattle.std.proofs.lemmas.List.{length-map, get_or-map}
-use Rattle.export_model.specs.Export.{span_message}
+use Rattle.model_export.specs.Export.{span_message}
 use Rattle.otlp_proto.specs.Encode.{span_bytes, IsWholeSpan}
 use Rattle.otlp_proto.proofs.Writing.{no-field, and-field, put-message, put-messages, each-none, each-more, through-index}
 use Rattle.otlp_proto.proofs.Lens.{begin-at}

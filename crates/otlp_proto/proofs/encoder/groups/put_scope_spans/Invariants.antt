@@ -1,6 +1,6 @@
 use Rattle.std.proofs.Common.{map, take}
 use Rattle.std.specs.List.{AllByRecursion}
-use Rattle.message_model.specs.Canon.{row_bytes, bytes_field}
+use Rattle.model_message.specs.Canon.{row_bytes, bytes_field}
 use Rattle.otlp_proto.specs.Encode.{Carries, span_bytes, IsWholeSpan}
 use Rattle.otlp_proto.proofs.encoder.groups.put_scope_spans.Given as goal
 

@@ -1,6 +1,6 @@
 use Rattle.std.proofs.Common.{map, take}
 use Rattle.std.specs.List.{AllByRecursion}
-use Rattle.message_model.specs.Canon.{row_bytes, bytes_field}
+use Rattle.model_message.specs.Canon.{row_bytes, bytes_field}
 use Rattle.otlp_proto.specs.Encode.{Carries}
 use Rattle.otlp_proto.proofs.encoder.messages.put_each.Given as goal
 

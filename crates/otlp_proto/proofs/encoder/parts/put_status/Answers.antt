@@ -1,7 +1,7 @@
 use Rattle.std.proofs.Common.{◌≡◌, ◌≢◌, refl, length, arith}
-use Rattle.message_model.specs.Tables
-use Rattle.message_model.specs.Canon.{canon}
-use Rattle.export_model.specs.Export.{status_message}
+use Rattle.model_message.specs.Tables
+use Rattle.model_message.specs.Canon.{canon}
+use Rattle.model_export.specs.Export.{status_message}
 use Rattle.otlp_span.specs.Parts.{status_view}
 use Rattle.otlp_proto.proofs.Writing.{some-message, no-message}
 use Rattle.otlp_proto.proofs.encoder.parts.put_status.Goals as goal

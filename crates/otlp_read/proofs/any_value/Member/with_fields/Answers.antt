@@ -1,5 +1,5 @@
 use Rattle.std.proofs.Common.{sym, ◌∙◌, subst, Some}
-use Rattle.message_model.specs.Wire.{row}
+use Rattle.model_message.specs.Wire.{row}
 use Rattle.otlp_wire.specs.Fields.{GivesField, field_of}
 use Rattle.otlp_message.proofs.FieldsRead.{read-none, read-more}
 use Rattle.otlp_read.proofs.MemberSteps.{Leads, leads-none, leads-more}

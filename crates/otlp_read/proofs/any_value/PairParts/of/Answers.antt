@@ -1,8 +1,8 @@
 use Rattle.std.proofs.Common.{◌≡◌, refl, sym, ◌∙◌, subst, Some, rules, Err, IfErr, [], ◌∷◌}
-use Rattle.message_model.specs.Wire.{row, len}
-use Rattle.message_model.specs.Tables
-use Rattle.message_model.specs.Tables.{message}
-use Rattle.message_model.specs.Messages.{value, read}
+use Rattle.model_message.specs.Wire.{row, len}
+use Rattle.model_message.specs.Tables
+use Rattle.model_message.specs.Tables.{message}
+use Rattle.model_message.specs.Messages.{value, read}
 use Rattle.otlp_wire.specs.Fields.{GivesField, field_of}
 use Rattle.otlp_message.specs.Faults.{NamesOne}
 use Rattle.otlp_read.specs.Members.{HoldsPair}

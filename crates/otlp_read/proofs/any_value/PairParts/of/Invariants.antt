@@ -1,4 +1,4 @@
-use Rattle.message_model.specs.Wire.{row}
+use Rattle.model_message.specs.Wire.{row}
 use Rattle.otlp_read.specs.Members.{HoldsPair}
 use Rattle.otlp_message.proofs.FieldsRead.{FieldsRead}
 use Rattle.otlp_read.proofs.any_value.PairParts.of.Given as goal

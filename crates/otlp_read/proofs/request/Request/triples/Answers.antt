@@ -1,5 +1,5 @@
 use Rattle.std.proofs.Common.{[]}
-use Rattle.message_model.specs.Messages.{resource_triples}
+use Rattle.model_message.specs.Messages.{resource_triples}
 use Rattle.otlp_read.specs.Requests.{resource_spans_view}
 use Rattle.otlp_read.specs.Triples.{triples_view}
 use Rattle.otlp_read.proofs.TripleSteps.{flat_map-more, on-err-always, some-part}

@@ -1,6 +1,6 @@
 use Rattle.std.proofs.Common.{◌≡◌, take}
-use Rattle.message_model.specs.Messages.{triples}
-use Rattle.message_model.specs.Tables.{◌▸◌}
+use Rattle.model_message.specs.Messages.{triples}
+use Rattle.model_message.specs.Tables.{◌▸◌}
 use Rattle.otlp_read.specs.Requests.{resource_groups_view}
 use Rattle.otlp_read.specs.Triples.{triples_view}
 use Rattle.otlp_read.proofs.request.Request.triples.Given as goal

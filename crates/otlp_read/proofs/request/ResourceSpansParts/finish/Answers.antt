@@ -1,7 +1,7 @@
 use Rattle.std.proofs.Common.{◌≡◌, sym, subst, Err, IfErr, arith}
-use Rattle.message_model.specs.Tables
-use Rattle.message_model.specs.Tables.{message, repeated, text, bytes, uint32, enum, fixed64, end, ◌⦂◌◂◌}
-use Rattle.message_model.specs.Messages.{value, max_depth}
+use Rattle.model_message.specs.Tables
+use Rattle.model_message.specs.Tables.{message, repeated, text, bytes, uint32, enum, fixed64, end, ◌⦂◌◂◌}
+use Rattle.model_message.specs.Messages.{value, max_depth}
 use Rattle.otlp_message.specs.Faults.{NamesOne}
 use Rattle.otlp_message.specs.Gathering.{finished}
 use Rattle.otlp_read.specs.Requests.{resource_spans_gathered}

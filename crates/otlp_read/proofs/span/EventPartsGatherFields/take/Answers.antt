@@ -1,8 +1,8 @@
 use Rattle.std.proofs.Common.{◌≡◌, refl, sym, subst, Err, IfErr, List, ◌∷◌, ◌++◌, arith}
-use Rattle.message_model.specs.Wire.{Field}
-use Rattle.message_model.specs.Tables
-use Rattle.message_model.specs.Tables.{message, repeated, text, bytes, uint32, enum, fixed64}
-use Rattle.message_model.specs.Messages.{value, max_depth, read_table}
+use Rattle.model_message.specs.Wire.{Field}
+use Rattle.model_message.specs.Tables
+use Rattle.model_message.specs.Tables.{message, repeated, text, bytes, uint32, enum, fixed64}
+use Rattle.model_message.specs.Messages.{value, max_depth, read_table}
 use Rattle.otlp_wire.specs.Fields.{field_of}
 use Rattle.otlp_message.specs.Faults.{NamesOne}
 use Rattle.otlp_message.proofs.Finished.{place-fails}

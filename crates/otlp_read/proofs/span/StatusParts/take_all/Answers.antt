@@ -1,9 +1,9 @@
 use Rattle.std.proofs.Common.{◌≡◌, sym, subst, Some, Err, IfErr, List, arith}
-use Rattle.message_model.specs.Wire.{Field, row}
-use Rattle.message_model.specs.Tables
+use Rattle.model_message.specs.Wire.{Field, row}
+use Rattle.model_message.specs.Tables
 use Rattle.otlp_read.specs.declared.span.StatusParts.{StatusParts}
 use Rattle.otlp_read.specs.Spans.{status_gathered}
-use Rattle.message_model.specs.Messages.{value, max_depth}
+use Rattle.model_message.specs.Messages.{value, max_depth}
 use Rattle.otlp_wire.specs.Fields.{GivesField, field_of}
 use Rattle.otlp_message.specs.Faults.{NamesOne}
 use Rattle.otlp_message.specs.Gathering.{IsGathered, part_faults}

@@ -1,6 +1,6 @@
-use Rattle.message_model.specs.Tables
-use Rattle.message_model.specs.Wire.{row}
-use Rattle.message_model.specs.Messages.{value, max_depth}
+use Rattle.model_message.specs.Tables
+use Rattle.model_message.specs.Wire.{row}
+use Rattle.model_message.specs.Messages.{value, max_depth}
 use Rattle.otlp_message.specs.Gathering.{IsGathered}
 use Rattle.otlp_read.specs.Spans.{status_gathered}
 use Rattle.otlp_message.proofs.FieldsRead.{FieldsRead}

@@ -1,5 +1,5 @@
 use Rattle.std.proofs.Common.{refl}
-use Rattle.message_model.specs.Tables.{text, enum}
+use Rattle.model_message.specs.Tables.{text, enum}
 use Rattle.otlp_read.proofs.span.StatusPartsGatherFields.take.Goals as goal
 
 pub returns-clause-ok : goal.returns-clause-ok

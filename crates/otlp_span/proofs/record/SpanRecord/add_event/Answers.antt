@@ -1,6 +1,6 @@
 use Rattle.std.proofs.Common.{◌≡◌, sym, ap, ◌∙◌, refl, string_bytes}
-use Rattle.span_model.specs.Attributes.{Attribute, Kept, attributes}
-use Rattle.span_model.specs.Spans.{Event, add_event, event, event_limits}
+use Rattle.model_span.specs.Attributes.{Attribute, Kept, attributes}
+use Rattle.model_span.specs.Spans.{Event, add_event, event, event_limits}
 use Rattle.otlp_value.specs.Value.{attributes_view}
 use Rattle.otlp_span.specs.declared.body.SpanBody.{SpanBody}
 use Rattle.otlp_span.specs.Body.{recording_view}

@@ -1,7 +1,7 @@
 use Rattle.std.proofs.Common.{◌≡◌, sym, ap, ◌∙◌, true, false}
-use Rattle.span_model.specs.Attributes.{Attribute, Kept, attributes}
-use Rattle.span_model.specs.Spans.{Link, is_ignored, link, link_limits}
-use Rattle.span_model.proofs.Calls.{adds-ignored-link}
+use Rattle.model_span.specs.Attributes.{Attribute, Kept, attributes}
+use Rattle.model_span.specs.Spans.{Link, is_ignored, link, link_limits}
+use Rattle.model_span.proofs.Calls.{adds-ignored-link}
 use Rattle.otlp_ids.specs.SpanContext.{context_view}
 use Rattle.otlp_value.specs.Value.{attributes_view}
 use Rattle.otlp_span.specs.declared.body.SpanBody.{SpanBody}

@@ -1,5 +1,5 @@
 use Rattle.std.proofs.Common.{◌≡◌, ap, ◌∙◌}
-use Rattle.span_model.proofs.Calls.{ends-at}
+use Rattle.model_span.proofs.Calls.{ends-at}
 use Rattle.otlp_span.specs.Body.{recording_view}
 use Rattle.otlp_span.proofs.record.SpanRecord.close.Goals as goal
 

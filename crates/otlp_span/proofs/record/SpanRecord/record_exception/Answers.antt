@@ -1,6 +1,6 @@
 use Rattle.std.proofs.Common.{◌≡◌, sym, ap, ap₂, ◌∙◌, refl, ℕ, List, string_bytes, codes}
-use Rattle.span_model.specs.Attributes.{Attribute, Kept, attributes}
-use Rattle.span_model.specs.Spans.{Event, record_exception, event, event_limits, exception_pairs}
+use Rattle.model_span.specs.Attributes.{Attribute, Kept, attributes}
+use Rattle.model_span.specs.Spans.{Event, record_exception, event, event_limits, exception_pairs}
 use Rattle.otlp_value.specs.Value.{attributes_view}
 use Rattle.otlp_span.specs.declared.body.SpanBody.{SpanBody}
 use Rattle.otlp_span.specs.Body.{recording_view}

@@ -1,6 +1,6 @@
 use Rattle.std.proofs.Common.{◌≡◌, sym, ap, ◌∙◌, true, false}
-use Rattle.span_model.specs.Spans.{is_ok_status}
-use Rattle.span_model.proofs.Calls.{adds-status, adds-status-after-ok, adds-unset}
+use Rattle.model_span.specs.Spans.{is_ok_status}
+use Rattle.model_span.proofs.Calls.{adds-status, adds-status-after-ok, adds-unset}
 use Rattle.otlp_span.specs.Body.{recording_view}
 use Rattle.otlp_span.specs.Parts.{is_unset_status, status_view}
 use Rattle.otlp_span.proofs.record.SpanRecord.set_status.Goals as goal

@@ -1,5 +1,5 @@
 use Rattle.std.proofs.Common.{◌≡◌, ap, ◌∙◌, string_bytes}
-use Rattle.span_model.proofs.Calls.{adds-name}
+use Rattle.model_span.proofs.Calls.{adds-name}
 use Rattle.otlp_span.specs.Body.{recording_view}
 use Rattle.otlp_span.proofs.record.SpanRecord.update_name.Goals as goal
 

@@ -1,6 +1,6 @@
 use Rattle.std.proofs.Common.{◌≤◌, ◌∷◌, sym, ap, ◌∙◌, List, length, Option, None, Some, arith}
-use Rattle.drop_model.specs.Dropped.{Entry}
-use Rattle.otlp_span.specs.Slips.{entries_of, note_entries, slip_count}
+use Rattle.model_drop.specs.Dropped.{Entry}
+use Rattle.otlp_span.specs.Slips.{entries_of, node_entries, slip_count}
 use Rattle.otlp_span.specs.Dropped.{entry_view}
 use Rattle.otlp_span.proofs.slip.Slip.into_below.Goals as goal
 
@@ -10,5 +10,5 @@ one-more e (Some es) = omega arith
 
 pub returns-in-Named : goal.returns-in-Named
 returns-in-Named g c =
-    let names = ap note_entries (sym c.in-Named.is ∙ c.into_inner.ensures) ∙ c.self.view_is in
+    let names = ap node_entries (sym c.in-Named.is ∙ c.into_inner.ensures) ∙ c.self.view_is in
     rw (← names) (one-more (entry_view c.in-Named.field-0) c.in-Named.below)

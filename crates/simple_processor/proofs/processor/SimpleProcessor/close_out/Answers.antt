@@ -1,5 +1,5 @@
 use Rattle.std.proofs.Common.{sym}
-use Rattle.simple_processor.specs.Holders.{origin_in}
+use Rattle.simple_processor.specs.AnyAccounts.{origin_in}
 use Rattle.simple_processor.proofs.Closing.{keeps, spans_are, fates_are, fits_are, lacking_are, late_are, losses_are, names_are, tickets_are}
 use Rattle.simple_processor.proofs.processor.SimpleProcessor.close_out.Goals as goal
 

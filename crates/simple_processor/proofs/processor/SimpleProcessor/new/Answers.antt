@@ -1,6 +1,6 @@
 use Rattle.std.proofs.Common.{rules, ◌≤◌, ap, ◌∙◌, sym, length}
-use Rattle.simple_processor.specs.Desk.{new_state}
-use Rattle.simple_processor.specs.Holders.{Origin}
+use Rattle.simple_processor.specs.ExportStates.{new_state}
+use Rattle.simple_processor.specs.AnyAccounts.{Origin}
 use Rattle.simple_processor.proofs.Closing.{kept_begins}
 use Rattle.simple_processor.proofs.processor.SimpleProcessor.new.Goals as goal
 

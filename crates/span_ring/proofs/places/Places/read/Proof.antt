@@ -68,7 +68,8 @@ read_spec 𝓤 𝓛 𝓜 𝓡 wired X L =
     take_at ! 2 $ rewrite ! 0 (λ (r : Ptr). ‵ (fat full_share ty_ptr (l 2) 0 (ptr_val r))) (at ∙ e) refl $ give_at ! 2 $ first ! $ blocks ! $
     sets ! (bin ! (get ! refl) (size_lit ! (record { fits = tiny })) (record { fits = far })) refl (tt, record { fits = far }) $
     sets ! (bin ! (get ! refl) (get ! refl) tt) refl (tt, tt) $
-    -- [room; items and room; the mark; its cell; the open borrow, in three entries; the other token]
+    -- [room; items and room; the mark; its cell; the open borrow, in three entries; the other
+    -- token]
     fsplit ! $ move ! (1 ∷ []) $ fsplit ! $
     rewrite ! 0 (λ (ys : List R.Denot). ‵ (items_own R b (d.before * s + o) ys)) first_is.1 refl $ fsplit ! $
     rewrite ! 0 (λ (n : ℕ). ‵ (part_at R full_share x b (n * s + o))) (sym index) refl $
@@ -76,7 +77,8 @@ read_spec 𝓤 𝓛 𝓜 𝓡 wired X L =
     peeks ! R (Is R) (shows 𝓛 R) x (v ∷ []) (λ is. let good = (((param_laws 0 X L).lawful 𝓛).typed x (v ∷ []) is).0 in move ! (1 ∷ 0 ∷ []) $
     sets_last ! (of_opd ! (load ! (through ! refl (stop !)) (look ! 0 refl))) refl good $
     exec ! 𝓣.C 𝓣.Λ En' code.Mir.t-2 (at_ret En' Post) $ sets ! (of_opd ! (get ! refl)) refl good $
-    -- [the item's cell; what it owns; the others; room behind, and before them; the mark; its cell; the open borrow]
+    -- [the item's cell; what it owns; the others; room after, and before them; the mark; its cell;
+    -- the open borrow]
     use1 𝓛 (‵ (froom τ b (i * s + o))) (𝓛.laws.at_room τ b (i * s + o) v) $ move ! (4 ∷ 0 ∷ []) $
     use2 𝓛 (‵ (froom (bare (ty_array τ (d.before + 1))) b o)) (longer 𝓛 b τ d.before o (i * s + o) (ap (λ (n : ℕ). n * s + o) index)) $ move ! (2 ∷ 3 ∷ []) $
     rewrite ! 0 (λ (k : ℕ). ‵ (items_own R b k xs)) further refl $ rewrite ! 1 (λ (n : ℕ). ‵ (froom (bare (ty_array τ d.after)) b (n * s + o))) as_many refl $

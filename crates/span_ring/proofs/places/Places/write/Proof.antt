@@ -1,4 +1,4 @@
--- `write` puts an item into the first place behind the others.
+-- `write` puts an item into the first place after the others.
 use Rattle.std.proofs.Common.{◌≡◌, ◌∙◌, ℕ, ◌+◌, ◌-◌, ◌*◌, ◌^◌, ◌<◌, List, [], ◌∷◌, ◌++◌, suc, length, arith, refl, sym, ap, subst}
 use Rattle.std.proofs.raw_atomic.Walks.{proved_at, leaves}
 use Rattle.std.proofs.alloc.Calls.{Goes-blank, handle_tells}
@@ -73,13 +73,15 @@ write_spec 𝓤 𝓛 𝓜 𝓡 wired X L =
     take_at ! 2 $ rewrite ! 0 (λ (r : Ptr). ‵ (fat full_share ty_ptr (l 2) 0 (ptr_val r))) (at ∙ e) refl $ give_at ! 2 $ first ! $ blocks ! $
     sets ! (bin ! (get ! refl) (size_lit ! (record { fits = tiny })) (record { fits = far })) refl (tt, record { fits = far }) $
     sets ! (bin ! (get ! refl) (get ! refl) tt) refl (tt, tt) $
-    -- [room; items and room; the mark; its cell; the open borrow, in three entries; the other token; what the item owns]
+    -- [room; items and room; the mark; its cell; the open borrow, in three entries; the other
+    -- token; what the item owns]
     fsplit ! $ move ! (1 ∷ []) $ fsplit ! $ move ! (1 ∷ []) $ rewrite ! 0 (λ (n : ℕ). ‵ (froom (bare (ty_array τ d.after)) b (n * s + o))) (sym index) refl $
     rewrite ! 0 (λ (n : ℕ). ‵ (froom (bare (ty_array τ n)) b (i * s + o))) one_place refl $
     use1 𝓛 (‵ (froom τ b (i * s + o)) ⊛ ‵ (froom (bare (ty_array τ left)) b (i * s + o + s))) (shorter 𝓛 b τ left (i * s + o)) $ split ! $
     sets ! (of_opd ! (get ! refl)) refl good $ assigns_last ! (of_opd ! (get ! refl)) (through ! refl (stop !)) (init ! 0 refl good) $
     exec ! 𝓣.C 𝓣.Λ En' code.Mir.t-2 (at_ret En' Post) $ sets ! (of_opd ! (unit_lit !)) refl (tt, tt) $
-    -- [the item's cell; room behind it; the others; room before them; the mark; its cell; the open borrow; the other token; what the item owns]
+    -- [the item's cell; room after it; the others; room before them; the mark; its cell; the open
+    -- borrow; the other token; what the item owns]
     move ! (0 ∷ 10 ∷ []) $ use2 𝓛 (‵ (part_at R full_share x b (i * s + o))) (part_in 𝓛 R refl full_share x b (i * s + o) w) $ move ! (2 ∷ 0 ∷ []) $
     use2 𝓛 (‵ (items_own R b (d.before * s + o) xs)) (one_more 𝓛 b R x d.items (d.before * s + o) (i * s + o) behind) $
     rewrite ! 1 (λ (k : ℕ). ‵ (froom (bare (ty_array τ left)) b k)) further refl $ fjoin ! $ move ! (1 ∷ 0 ∷ []) $ fjoin ! $

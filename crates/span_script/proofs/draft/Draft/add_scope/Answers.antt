@@ -1,6 +1,6 @@
 use Rattle.std.proofs.Common.{◌≡◌, [], ◌∙◌, sym, ap, length, string_bytes, rules}
 use Rattle.std.proofs.lemmas.Bool.{not-false}
-use Rattle.span_model.specs.Spans as spans
+use Rattle.model_span.specs.Spans as spans
 use Rattle.span_script.proofs.Drafts.{add_scope}
 use Rattle.span_script.proofs.draft.Draft.add_scope.Goals as goal
 

@@ -2,8 +2,8 @@ use Rattle.std.proofs.Common.{◌≡◌, List, [], ◌∷◌, map, Option, Some,
 use Rattle.std.specs.Prelude.{option_map, unwrap_or}
 use Rattle.std.specs.Option.{UnwrapsOrElse}
 use Rattle.otlp_span.specs.Parts.{limits_view}
-use Rattle.span_model.specs.Spans as spans
-use Rattle.span_model.specs.Spans.{default_limits}
+use Rattle.model_span.specs.Spans as spans
+use Rattle.model_span.specs.Spans.{default_limits}
 use Rattle.batch_desk.specs.Desk.{default_config}
 use Rattle.batch_desk.specs.Views.{config_view}
 use Rattle.span_script.specs.Scripts.{kept_scope}

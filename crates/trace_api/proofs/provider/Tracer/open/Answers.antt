@@ -1,9 +1,9 @@
 use Rattle.std.proofs.Common.{◌≡◌, ◌∙◌, refl, sym, ap, true, false, string_bytes}
 use Rattle.std.specs.Arc.{arc_value}
-use Rattle.span_model.specs.Spans.{Start}
-use Rattle.span_model.specs.Sampling.{is_recording}
+use Rattle.model_span.specs.Spans.{Start}
+use Rattle.model_span.specs.Sampling.{is_recording}
 use Rattle.otlp_ids.specs.SpanContext.{context_view}
-use Rattle.span_model.specs.Starts.{StartedSpan}
+use Rattle.model_span.specs.Starts.{StartedSpan}
 use Rattle.otlp_sampler.specs.Sampling.{decision_view}
 use Rattle.otlp_span.specs.Parts.{kept_parent_view, kind_view, limits_view, resource_view, scope_view}
 use Rattle.trace_api.specs.Starts.{opening_view, tracer_view}

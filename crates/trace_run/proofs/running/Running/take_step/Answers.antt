@@ -1,5 +1,5 @@
 use Rattle.std.proofs.Common.{refl, string_bytes}
-use Rattle.run_model.specs.Runs.{span_steps}
+use Rattle.model_run.specs.Runs.{span_steps}
 use Rattle.otlp_span.specs.Parts.{call_view, kind_view}
 use Rattle.trace_history.specs.Answers.{answer_view}
 use Rattle.trace_history.specs.Steps.{parent_name_view}

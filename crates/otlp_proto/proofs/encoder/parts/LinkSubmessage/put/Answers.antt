@@ -1,4 +1,4 @@
-use Rattle.export_model.specs.Export.{attribute_message}
+use Rattle.model_export.specs.Export.{attribute_message}
 use Rattle.otlp_proto.proofs.Writing.{no-field, and-field, carries, put-messages}
 use Rattle.otlp_proto.proofs.encoder.parts.LinkSubmessage.put.Goals as goal
 

@@ -1,6 +1,6 @@
 use Rattle.std.proofs.Common.{arith, sym, subst, length, ap}
-use Rattle.message_model.specs.Wire
-use Rattle.message_model.specs.Canon.{payload_bytes}
+use Rattle.model_message.specs.Wire
+use Rattle.model_message.specs.Canon.{payload_bytes}
 use Rattle.otlp_proto.specs.Encode.{Lays}
 use Rattle.otlp_proto.proofs.Laying.{no-room}
 use Rattle.otlp_proto.proofs.encoder.sink.BufferSink.put_fixed64.Goals as goal

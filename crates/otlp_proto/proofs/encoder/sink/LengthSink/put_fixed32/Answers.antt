@@ -1,5 +1,5 @@
 use Rattle.std.proofs.Common.{refl}
-use Rattle.message_model.specs.Canon.{payload_bytes}
+use Rattle.model_message.specs.Canon.{payload_bytes}
 use Rattle.otlp_proto.proofs.Laying.{count-saturates}
 use Rattle.otlp_proto.proofs.encoder.sink.LengthSink.put_fixed32.Goals as goal
 

@@ -1,4 +1,4 @@
-use Rattle.export_model.specs.Export.{attribute_message, event_message, link_message}
+use Rattle.model_export.specs.Export.{attribute_message, event_message, link_message}
 use Rattle.otlp_proto.proofs.Writing.{no-field, and-field, carries, put-messages, parent-id}
 use Rattle.otlp_proto.proofs.encoder.spans.SpanDataSubmessage.put.Goals as goal
 

@@ -1,5 +1,5 @@
 use Rattle.std.proofs.Common.{string_bytes, map}
-use Rattle.message_model.specs.AnyValue.{AnyValue}
+use Rattle.model_message.specs.AnyValue.{AnyValue}
 use Rattle.otlp_proto.proofs.Values.{map-map, one-level, array-member}
 use Rattle.otlp_proto.proofs.encoder.values.ValueSubmessage.put.Goals as goal
 

@@ -1,2 +1,0 @@
--- What the examples are about.
-pub mod Accounts

@@ -1,6 +1,0 @@
-use Rattle.desk_laws.proofs.Ledgers.{lost-names-all, lost-add-up}
-use Rattle.desk_laws.proofs.Losses.{losses-handed, reasons-apart}
-use Rattle.desk_laws.proofs.ledger_names_the_losses.Goals as goal
-
-pub returns : goal.returns
-returns c = record { unpopped = lost-names-all; popped = lost-add-up; handed = losses-handed; apart = reasons-apart }

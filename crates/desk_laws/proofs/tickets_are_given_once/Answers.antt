@@ -1,5 +1,0 @@
-use Rattle.desk_laws.proofs.Tickets.{tickets-in-order}
-use Rattle.desk_laws.proofs.tickets_are_given_once.Goals as goal
-
-pub returns : goal.returns
-returns c = record { in_order = tickets-in-order }

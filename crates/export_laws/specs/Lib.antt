@@ -1,2 +1,0 @@
-pub mod Delivery
-pub mod SmallBatch

@@ -1,0 +1,78 @@
+-- Visible bytes, of which hosts, numbers and the names of a request are made.
+use Rattle.std.proofs.Common.{◌≡◌, ℕ, ◌<◌, ◌^◌, Bool, true, false, ◌&&◌, nat_lt, IsTrue, List, [], ◌∷◌, length, reverse, refl, sym, subst, arith}
+use Rattle.std.specs.Prelude.{All, nat_le, decimal}
+use Rattle.std.specs.List.{list_all}
+use Rattle.std.specs.Char.{is_ascii_digit}
+use Rattle.std.specs.Str.Parse.{AllDigits, digits_value}
+use Rattle.std.proofs.lemmas.Bool.Decides.{nat_tests}
+use Rattle.std.proofs.lemmas.Fmt.{decimal_is_IsNumeral}
+use Rattle.std.proofs.lemmas.List.Elements.{All-weaker, All-head, All-nil, All-cons}
+use Rattle.std.proofs.lemmas.List.Sums.{AllPass-from_list_all}
+use Rattle.httparse.specs.Grammar.{AllPass, is_ows, is_value_byte, skip_ows, trim_ows}
+use Rattle.httparse.proofs.TrimLemmas.{AllPass-reverse, trim_ows_space}
+use Rattle.http_wire.specs.Fields.{is_length}
+use Rattle.otlp_http.specs.Address.{is_host_byte}
+
+-- from `!` to `~`
+abbrev pub is_visible : ℕ → Bool
+is_visible b = nat_le 33 b && nat_lt b 127
+
+abbrev pub AreVisible : List ℕ → Type 0
+AreVisible bytes = AllPass is_visible bytes
+
+-- ---- what they may be in
+
+pub value_bytes : (bytes : List ℕ) → AreVisible bytes → AllPass is_value_byte bytes
+value_bytes bytes are = All-weaker (λ b. IsTrue (is_visible b)) (λ b. IsTrue (is_value_byte b)) (λ b is. grind (arith, nat_tests)) bytes are
+
+no_blank : (b : ℕ) → IsTrue (is_visible b) → is_ows b ≡ false
+no_blank b is = grind (arith, nat_tests)
+
+stays : (bytes : List ℕ) → AreVisible bytes → skip_ows bytes ≡ bytes
+stays [] are = refl
+stays (b ∷ bytes) are = rw (no_blank b (All-head (λ x. IsTrue (is_visible x)) b bytes are)) refl
+
+-- after a space they are a field's value as they are
+pub trimmed : (bytes : List ℕ) → AreVisible bytes → trim_ows (32 ∷ bytes) ≡ bytes
+trimmed bytes are = trim_ows_space bytes (stays bytes are) (stays (reverse bytes) (AllPass-reverse is_visible bytes are))
+
+-- ---- which bytes are
+
+pub host_bytes : (host : List ℕ) → list_all is_host_byte host ≡ true → AreVisible host
+host_bytes host are =
+    All-weaker (λ b. IsTrue (is_host_byte b)) (λ b. IsTrue (is_visible b)) (λ b is. grind (arith, nat_tests)) host
+    (AllPass-from_list_all is_host_byte host are)
+
+digits_are : (bytes : List ℕ) → AllDigits 10 bytes → AreVisible bytes
+digits_are [] are = All-nil (λ b. IsTrue (is_visible b))
+digits_are (b ∷ bytes) are = All-cons (λ x. IsTrue (is_visible x)) b bytes (grind (arith, nat_tests)) (digits_are bytes are.1)
+
+digits_test : (bytes : List ℕ) → AllDigits 10 bytes → list_all is_ascii_digit bytes ≡ true
+digits_test [] are = refl
+digits_test (b ∷ bytes) are =
+    let first : is_ascii_digit b ≡ true = grind (arith, nat_tests) in
+    rw (first, digits_test bytes are.1) refl
+
+pub decimal_bytes : (n : ℕ) → n < 2 ^ 64 → AreVisible (decimal n)
+decimal_bytes n fits = digits_are (decimal n) (decimal_is_IsNumeral n fits).0.1
+
+below : (a b : ℕ) → a < b → nat_lt a b ≡ true
+below a b is = grind (arith, nat_tests)
+
+and_true : (a b : Bool) → a ≡ true → b ≡ true → (a && b) ≡ true
+and_true a b e f = rw (e, f) refl
+
+-- a number is a length, and that length is the number
+pub length_is : (n : ℕ) → n < 2 ^ 64 → (is_length (decimal n) ≡ true) × (digits_value 10 (decimal n) ≡ n)
+length_is n fits =
+    let is = decimal_is_IsNumeral n fits in
+    let small : digits_value 10 (decimal n) < 2 ^ 64 = subst (λ k. k < 2 ^ 64) (sym is.1) fits in (
+      and_true _ _ (and_true _ _ (below 0 (length (decimal n)) is.0.0) (digits_test (decimal n) is.0.1)) (below (digits_value 10 (decimal n)) (2 ^ 64) small),
+      is.1,
+    )
+
+-- ---- four things
+
+pub all_four : {A : Type 0} (P : A → Type 0) (a b c d : A) → P a → P b → P c → P d → All P (a ∷ b ∷ c ∷ d ∷ [])
+all_four P a b c d first second third fourth =
+    All-cons P a (b ∷ c ∷ d ∷ []) first (All-cons P b (c ∷ d ∷ []) second (All-cons P c (d ∷ []) third (All-cons P d [] fourth (All-nil P))))

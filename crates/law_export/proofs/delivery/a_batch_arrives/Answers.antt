@@ -1,0 +1,16 @@
+use Rattle.law_export.proofs.Delivered.{batch_arrives, one_of_two}
+use Rattle.law_export.proofs.Behind.{behind_left}
+use Rattle.law_export.proofs.Memory.{unavailable}
+use Rattle.law_export.proofs.delivery.a_batch_arrives.Goals as goal
+
+pub returns-clause-whole : goal.returns-clause-whole
+returns-clause-whole c = batch_arrives c.bytes_mean_one_request.ensures.post
+
+pub returns-clause-broken_off : goal.returns-clause-broken_off
+returns-clause-broken_off c = one_of_two c.bytes_mean_one_request.ensures.post
+
+pub returns-clause-unavailable : goal.returns-clause-unavailable
+returns-clause-unavailable c = unavailable
+
+pub returns-clause-behind : goal.returns-clause-behind
+returns-clause-behind c = behind_left

@@ -1,0 +1,9 @@
+pub mod Rows
+pub mod Keeping
+pub mod Calls
+pub mod Grouping
+pub mod Faults
+pub mod Meanings
+pub mod Requests
+pub mod Delivery
+pub mod SmallBatch

@@ -1,0 +1,25 @@
+-- What encodings answer.
+use Rattle.std.proofs.Common.{◌≡◌, ap, subst, ◌∙◌, ℕ, List, [], ◌∷◌, ◌++◌, Some}
+use Rattle.model_drop.specs.Dropped.{Reason}
+use Rattle.model_desk.specs.Queue.{drops, entries_by}
+use Rattle.model_desk.specs.Queue as desk
+use Rattle.model_desk.proofs.Lists.{gather-more}
+use Rattle.model_run.specs.Runs.{Answer, Answered, encoded, event_by, desk_events}
+use Rattle.model_run.specs.Answers.{RunConfig}
+use Rattle.model_run.proofs.More.{events-more}
+use Rattle.law_run.specs.Laws.{OfHistories, OfRuns, EncodedWhereItFits, DroppedUnencoded, DroppedBatchIsNamed}
+use Rattle.law_run.proofs.Histories.{answer-at}
+use Rattle.law_run.proofs.Attempts.{Told, told}
+
+pub encoded-where-it-fits : OfRuns EncodedWhereItFits
+encoded-where-it-fits run h w before later x e number size k =
+    let s = subst (Told run before x.step) k (told run before x (answer-at run h w before later x e)) in
+    (s.1, s.2, s.3)
+
+pub dropped-unencoded : OfRuns DroppedUnencoded
+dropped-unencoded run h w before later x e number reason k = subst (Told run before x.step) k (told run before x (answer-at run h w before later x e))
+
+pub dropped-batch-is-named : OfHistories DroppedBatchIsNamed
+dropped-batch-is-named setup h before later x e number reason k =
+    ap drops (events-more setup before x (Some (desk.dropped reason)) (ap (λ a. event_by setup before a x.step) k))
+    ∙ gather-more entries_by (desk_events setup before) (desk.dropped reason)

@@ -1,0 +1,9 @@
+pub mod PassLists
+pub mod PassSteps
+pub mod Lists
+pub mod Parts
+pub mod Passes
+pub mod Workers
+pub mod AccountState
+pub mod Closing
+pub mod Reasons

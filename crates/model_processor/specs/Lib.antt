@@ -1,0 +1,9 @@
+-- What the passes of a processor know, and what that comes to.
+pub mod Passes
+pub mod PassClauses
+-- What the passes and the worker of a batch processor know, and what that comes to.
+pub mod Worker
+pub mod Batches
+pub mod WorkerClauses
+pub mod AnyAccounts
+pub mod Kept

@@ -1,0 +1,5 @@
+pub mod Runs
+pub mod Answers
+pub mod Headline
+pub mod Steps
+pub mod History

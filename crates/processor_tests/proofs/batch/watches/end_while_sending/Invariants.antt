@@ -1,4 +1,0 @@
-use Rattle.processor_tests.proofs.batch.watches.end_while_sending.Given as goal
-
-abbrev pub ghosts-watch : goal.ghosts-watch
-ghosts-watch g a = record { name = a.blank }

@@ -1,0 +1,21 @@
+use denote.Exit.{no}
+use denote.Param.{param, copied}
+use denote.Param.Send.{param_send, arg_send}
+use Rattle.batch_processor.proofs.Crosses.{worker_send}
+use Rattle.account_book.proofs.Crosses.{result_send, two_send}
+use Rattle.program_bench.proofs.Sends.{error_send}
+use Rattle.program_bench.proofs.threads.start_worker.Goals as goal
+
+-- what the thread's closure captures may cross: the runtime's value and the worker's pass
+pub spawn-started-requires-send-F : goal.spawn-started-requires-send-F
+spawn-started-requires-send-F g c κs within =
+    let r = c.type_bounds.send-R in
+    let p = worker_send (param 0 g.row.J) g.J.Naming (copied 1 g.row.R) r in
+    param_send 1 _ (arg_send _ no _ (two_send _ _ _ r p))
+
+-- and so may the pass that it gives back
+pub spawn-started-requires-send-T : goal.spawn-started-requires-send-T
+spawn-started-requires-send-T g c κs within =
+    let r = c.type_bounds.send-R in
+    let p = worker_send (param 0 g.row.J) g.J.Naming (copied 1 g.row.R) r in
+    param_send 2 _ (arg_send _ no _ (result_send _ _ p error_send))

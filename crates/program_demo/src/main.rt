@@ -1,0 +1,17 @@
+//! `trace-demo` ends spans on threads, posts them to a collector of its own, and prints what became
+//! of them.
+#![tactic(auto)]
+
+use program_demo_parts::trace_demo;
+use std::process::ExitCode;
+use std::{env, io};
+
+fn main(rt: HostRuntime) -> io::Result<ExitCode> {
+    let mut words = Vec::new(rt.alloc());
+    for word in env::args(&rt)? {
+        words.push(word)?;
+    }
+    let (mut output, mut faults) = (rt.stdout(), rt.stderr());
+    let status = trace_demo(rt, rt.alloc(), words, &mut output, &mut faults);
+    Ok(ExitCode::from(status))
+}

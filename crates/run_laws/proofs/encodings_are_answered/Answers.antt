@@ -1,5 +1,0 @@
-use Rattle.run_laws.proofs.Encodings.{encoded-where-it-fits, dropped-unencoded, dropped-batch-is-named}
-use Rattle.run_laws.proofs.encodings_are_answered.Goals as goal
-
-pub returns : goal.returns
-returns c = record { fits = encoded-where-it-fits; dropped = dropped-unencoded; named = dropped-batch-is-named }

@@ -1,5 +1,0 @@
-use Rattle.run_laws.proofs.Answered.{late-behind-shutdown, dropped-where-full, queued-where-room}
-use Rattle.run_laws.proofs.ends_are_answered.Goals as goal
-
-pub returns : goal.returns
-returns c = record { late = late-behind-shutdown; full = dropped-where-full; queued = queued-where-room }

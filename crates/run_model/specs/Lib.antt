@@ -1,3 +1,0 @@
-pub mod Runs
-pub mod Answers
-pub mod Headline

@@ -1,1 +1,0 @@
-use Rattle.script_program.proofs.text.text_of_run.Goals as goal

@@ -1,3 +1,0 @@
-//! What the calls on spans mean (OpenTelemetry Trace API and Trace SDK): definitions of attributes,
-//! identifiers, sampling, starts and calls. Their laws are in crate `trace_laws`.
-#![tactic(auto)]

@@ -1,4 +1,0 @@
-pub mod Table
-pub mod Ends
-pub mod Opens
-pub mod Calls

@@ -1,0 +1,31 @@
+//! Comparisons, each a call of a function of its own: `assert_eq!` in its place is proved with the
+//! body that it is in, which takes ten times as long.
+use std::alloc::Global;
+use std::fmt::{Debug, Display};
+use std::process::Abort;
+
+/// Asserts that two values are equal.
+pub(crate) fn assert_equal<T: PartialEq + Debug + Drop>(rt: &impl Abort, left: T, right: T) {
+    assert_eq!(rt; left, right);
+}
+
+/// Asserts that two values are equal, at this place of a table.
+pub(crate) fn assert_equal_at<T, P>(rt: &impl Abort, left: T, right: T, place: P)
+where
+    T: PartialEq + Debug + Drop,
+    P: Debug + Drop,
+{
+    assert_eq!(rt; left, right, "at {place:?}");
+}
+
+/// Asserts how a fault is reported.
+pub(crate) fn assert_told<T: Display>(rt: &impl Abort, alloc: Global, fault: &T, text: &str) {
+    let told = format!(in alloc; "{fault}").expect(rt, "memory");
+    assert_equal(rt, told.as_str(), text);
+}
+
+/// Asserts how a value is shown to a programmer.
+pub(crate) fn assert_shown<T: Debug>(rt: &impl Abort, alloc: Global, value: &T, text: &str) {
+    let shown = format!(in alloc; "{value:?}").expect(rt, "memory");
+    assert_equal(rt, shown.as_str(), text);
+}

@@ -1,0 +1,180 @@
+//! Spans that end while no batch is sent, and processors that are made and closed out.
+ghost use Rattle.std.specs.Prelude.{◌≡◌};
+
+use crate::batch::fixture::{close, config, make, queue};
+use crate::batch::neighbors;
+use crate::batch::neighbors::close_out;
+use crate::equal::{assert_equal, assert_equal_at};
+use crate::fixture::{assert_told, end, end_in, end_twice, entry};
+use batch_desk::Totals;
+use batch_processor::{
+    BatchBlank, BatchConfig, Flushed, MAX_PASSES, Missing, Naming, NewFault, Parts, Pass,
+    WorkerLeft,
+};
+use drop_ledger::DropCounts;
+use otlp_sampler::AlwaysOff;
+use otlp_span::Reason;
+use retry_core::RetryConfig;
+use std::alloc::Global;
+use std::marker::Brand;
+use std::process::Abort;
+use std::sync::Wait;
+use trace_api::Ended;
+
+/// Two spans end where one may wait: the other pass pops the entry of the second.
+fn pop_full<J: Naming, R: Wait + Abort + Copy>(rt: R, alloc: Global, blank: BatchBlank)
+    requires { blank ≡ J.name }
+{
+    let Parts {
+        processor,
+        mut passes,
+        worker,
+    } = make::<J, R, Global>(rt, alloc, blank, config(1, 1), 2, 0);
+    let mut other = passes.pop().expect(&rt, "a pass");
+    queue(&rt, alloc, passes.as_mut_slice(), 0, 1);
+    let pass = passes.first_mut().expect(&rt, "another pass");
+    let full = Ended::Dropped(1, Reason::QueueFull);
+    assert_equal(&rt, end(&rt, alloc, pass), full);
+    assert_equal(&rt, other.pop_entry(), Some(entry(1, Reason::QueueFull)));
+    assert_equal(&rt, other.pop_entry(), None);
+    passes.push(other).expect(&rt, "memory");
+    let left = close(rt, alloc, processor, passes, worker);
+    let want = Totals {
+        accepted: 1,
+        left: 1,
+        dropped: DropCounts {
+            queue_full: 1,
+            ..DropCounts::default()
+        },
+        ..Totals::default()
+    };
+    assert_equal(&rt, left.totals, want);
+    assert_equal(&rt, left.names.len(), 0);
+}
+
+#[test]
+fn pops(rt: HostRuntime) {
+    pop_full::<Brand, HostRuntime>(rt, rt.alloc(), BatchBlank::new());
+}
+
+/// Ends a span that is dropped, asks for all and shuts down, and ends a span twice after that.
+fn end_late<J: Naming, R: Wait + Abort>(rt: &R, alloc: Global, pass: &mut Pass<J, R>) {
+    let dropped = end_in(rt, alloc, AlwaysOff, "", pass);
+    assert_equal(rt, dropped, Ended::NotSampled);
+    assert_equal(rt, pass.force_flush(), Ok(Flushed));
+    assert_equal(rt, pass.shutdown(), Ok(Flushed));
+    let twice = end_twice(rt, alloc, pass);
+    assert_equal(rt, twice, (Ended::Late, Ended::AlreadyEnded));
+}
+
+/// Nothing was queued, so a shutdown waits for nothing, and the span that ends after it is late.
+/// With a pass missing, all is given back.
+fn give_back<J: Naming, R: Wait + Abort + Copy>(rt: R, alloc: Global, blank: BatchBlank)
+    requires { blank ≡ J.name }
+{
+    let Parts {
+        processor,
+        mut passes,
+        worker,
+    } = make::<J, R, Global>(rt, alloc, blank, config(8, 4), 2, 0);
+    let mut last = passes.pop().expect(&rt, "a pass");
+    end_late(&rt, alloc, &mut last);
+    let missing = close_out(processor, passes, worker).err();
+    let Missing {
+        processor,
+        mut passes,
+        worker,
+    } = missing.expect(&rt, "a pass is missing");
+    assert_equal(&rt, passes.len(), 1);
+    passes.push(last).expect(&rt, "memory");
+    let totals = close(rt, alloc, processor, passes, worker).totals;
+    let want = Totals {
+        late: 1,
+        closed: true,
+        ..Totals::default()
+    };
+    assert_equal(&rt, totals, want);
+}
+
+#[test]
+fn missing(rt: HostRuntime) {
+    give_back::<Brand, HostRuntime>(rt, rt.alloc(), BatchBlank::new());
+}
+
+/// How many passes a processor has that is to have so many, with these settings.
+fn count_passes<J: Naming, R: Wait + Abort + Copy>(
+    rt: R,
+    alloc: Global,
+    blank: BatchBlank,
+    config: BatchConfig,
+    passes: usize,
+) -> Result<usize, NewFault>
+    requires { blank ≡ J.name }
+{
+    let Parts {
+        processor,
+        passes,
+        worker,
+    } = neighbors::make::<J, R, Global>(alloc, rt, blank, config, passes, 0)?;
+    let count = passes.len();
+    close(rt, alloc, processor, passes, worker);
+    Ok(count)
+}
+
+#[test]
+fn settings_are_looked_at_first(rt: HostRuntime) {
+    for (passes, queue, batch, want) in [
+        (0, 0, 0, Err(NewFault::BadPasses)),
+        (MAX_PASSES + 1, 8, 4, Err(NewFault::BadPasses)),
+        (1, 0, 0, Err(NewFault::ZeroSize)),
+        (1, 8, 0, Err(NewFault::ZeroSize)),
+        (1, 8, 9, Err(NewFault::BatchAboveQueue)),
+        (1, 65_537, 65_537, Err(NewFault::TooLarge)),
+        (1, 8, 8, Ok(1)),
+        (MAX_PASSES, 65_536, 1, Ok(MAX_PASSES)),
+    ] {
+        let blank = BatchBlank::new();
+        let config = config(queue, batch);
+        let count = count_passes::<Brand, HostRuntime>(rt, rt.alloc(), blank, config, passes);
+        assert_equal_at(&rt, count, want, (passes, queue, batch));
+    }
+}
+
+#[test]
+fn each_fault_tells_itself(rt: HostRuntime) {
+    for (fault, want) in [
+        (NewFault::BadPasses, "a processor has 1 to 64 passes"),
+        (
+            NewFault::ZeroSize,
+            "a queue and a batch have room for a span",
+        ),
+        (
+            NewFault::BatchAboveQueue,
+            "a batch is no larger than the queue",
+        ),
+        (
+            NewFault::TooLarge,
+            "a queue has room for 65,536 spans at most",
+        ),
+        (NewFault::OutOfMemory, "out of memory"),
+    ] {
+        assert_told(&rt, rt.alloc(), &fault, want);
+    }
+    assert_told(&rt, rt.alloc(), &WorkerLeft, "the worker has left");
+}
+
+#[test]
+fn the_standards_numbers_are_the_defaults(rt: HostRuntime) {
+    let BatchConfig {
+        desk,
+        retry,
+        max_body,
+    } = BatchConfig::default();
+    assert_equal(
+        &rt,
+        (desk.queue, desk.batch, desk.delay_ms),
+        (2048, 512, 5000),
+    );
+    assert_equal(&rt, retry, RetryConfig::default());
+    assert_equal(&rt, max_body, 4_194_304);
+}

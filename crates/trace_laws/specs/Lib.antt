@@ -1,4 +1,0 @@
-pub mod Rows
-pub mod Keeping
-pub mod Calls
-pub mod Grouping

@@ -1,8 +1,0 @@
--- The fields of a message's bytes. (Protocol Buffers, Encoding: Message Structure)
-use Rattle.std.specs.Prelude.{◌≡◌, ℕ, List}
-use Rattle.message_model.specs.Wire.{Field}
-use Rattle.message_model.specs.Spelling.{IsRow}
-
--- Some bytes spell one row of fields at most. (Protocol Buffers, Encoding: Message Structure)
-abbrev pub OneRow : Type 0
-OneRow = (bs : List ℕ) (a b : List Field) → IsRow bs a → IsRow bs b → a ≡ b

@@ -1,0 +1,65 @@
+-- What is written of a run, with what is left to write.
+use Rattle.std.proofs.Common.{◌≡◌, sym, ap, ◌∙◌, ℕ, ◌+◌, ◌-◌, ◌^◌, ◌<◌, arith, List, [], ◌∷◌, ◌++◌, length, length-append, append_assoc, append-nil, ◌⊎◌, inl, inr}
+use Rattle.trace_history.specs.Answers.{answer_view, history_view}
+use Rattle.trace_history.specs.Steps.{step_view}
+use Rattle.trace_history.specs.declared.answer.Answer.{Answer}
+use Rattle.trace_history.specs.declared.step.Step.{Step}
+use Rattle.model_run.specs.Runs.{Answered}
+use Rattle.span_exporter.specs.Handed.{Handed}
+use Rattle.trace_run.specs.Lines.{line_of, lines_behind, answers_text}
+use Rattle.trace_run.specs.Places.{IsBehind}
+use Rattle.trace_run.proofs.Places.{starts-few, sent-few}
+use Rattle.trace_run.specs.declared.text.place.Place.{Place}
+
+-- Of these steps some have their lines after the old text, and the next one is in this place.
+pub record Written {A : Type 0} (handed : List Handed) (steps : List (Step A)) (answers : List Answer) (old new : List ℕ) (place : Place)
+    (later : List (Step A)) (rest : List Answer) : Type 0 where
+  pub before : List Answered
+  pub behind : IsBehind before place
+  pub count : length before + length later ≡ length steps
+  pub text : new ++ lines_behind handed before (history_view later rest) ≡ old ++ answers_text handed (history_view steps answers)
+
+module _ {A : Type 0} (handed : List Handed) (steps : List (Step A)) (answers : List Answer) (old : List ℕ) where
+  pub written-first : (place : Place) (later : List (Step A)) (rest : List Answer) → IsBehind [] place → later ≡ steps → rest ≡ answers
+      → Written handed steps answers old old place later rest
+  written-first place later rest is all-steps all-answers = record {
+    before = [];
+    behind = is;
+    count = omega (arith, ap length all-steps);
+    text = λ i. old ++ lines_behind handed [] (history_view (all-steps i) (all-answers i));
+  }
+
+  pub written-more : (text next : List ℕ) (place after : Place) (step : Step A) (answer : Answer) (later : List (Step A)) (rest : List Answer)
+      → (w : Written handed steps answers old text place (step ∷ later) (answer ∷ rest))
+      → ((before : List Answered) → IsBehind before place → next ≡ text ++ line_of handed before (record { step = step_view step; answer = answer_view answer }))
+      → ((before : List Answered) → IsBehind before place → IsBehind (before ++ record { step = step_view step; answer = answer_view answer } ∷ []) after)
+      → Written handed steps answers old next after later rest
+  unfolding lines_behind
+  written-more text next place after step answer later rest w line moves =
+      let x : Answered = record { step = step_view step; answer = answer_view answer } in
+      record {
+        before = w.before ++ x ∷ [];
+        behind = moves w.before w.behind;
+        count = omega (arith, length-append w.before (x ∷ []), w.count);
+        text =
+            ap (λ l. l ++ lines_behind handed (w.before ++ x ∷ []) (history_view later rest)) (line w.before w.behind)
+            ∙ append_assoc text (line_of handed w.before x) _
+            ∙ w.text;
+      }
+
+  pub room-left : (text : List ℕ) (place : Place) (step : Step A) (left later : List (Step A)) (rest : List Answer) → Written handed steps answers old text place left rest
+      → left ≡ step ∷ later → length steps < 2 ^ 64 → (place.starts < 2 ^ 64 - 1) × (place.sent < 2 ^ 64 - 1)
+  room-left text place step left later rest w more few = (
+    omega (arith, w.behind.starts, starts-few w.before, w.count, ap length more),
+    omega (arith, w.behind.sent, sent-few w.before, w.count, ap length more),
+  )
+
+  nothing-left : (text : List ℕ) (before : List Answered) → text ≡ text ++ lines_behind handed before []
+  unfolding lines_behind
+  nothing-left text before = sym (append-nil text)
+
+  pub written-all : (text : List ℕ) (place : Place) (later : List (Step A)) (rest : List Answer) → Written handed steps answers old text place later rest
+      → (later ≡ []) ⊎ (rest ≡ []) → text ≡ old ++ answers_text handed (history_view steps answers)
+  written-all text place [] rest w end = nothing-left text w.before ∙ w.text
+  written-all text place (step ∷ later) [] w end = nothing-left text w.before ∙ w.text
+  written-all text place (step ∷ later) (answer ∷ rest) w end = elim end [ inl e ↦ cc | inr e ↦ cc ]

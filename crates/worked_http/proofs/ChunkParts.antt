@@ -1,0 +1,85 @@
+-- Chunks that are written out.
+use Rattle.std.proofs.Common.{◌≡◌, ℕ, ◌<◌, ◌≤◌, nat_lt, Bool, true, false, ◌&&◌, List, [], ◌∷◌, ◌++◌, length, sym, ap, ◌∙◌, arith, Some, None, Option, codes}
+use Rattle.std.specs.Prelude.{nat_le}
+use Rattle.std.specs.List.{list_all, list_any}
+use Rattle.std.specs.Char.{is_ascii_hexdigit}
+use Rattle.std.proofs.lemmas.List.Sums.{AllPass-from_list_all}
+use Rattle.std.proofs.lemmas.List.Elements.{All-head}
+use Rattle.std.proofs.lemmas.Bool.{leb-true, ltb-true, false≢true}
+use Rattle.httparse.specs.Grammar.{LineEnd, crlf, lf, print_end, Field, print_section, AllPass, ChunkLine, IsChunkLine, print_chunk_line, print_extension, is_ows, is_extension_byte, IsExtension, HasNoChunkLine, NeverHasChunkLine}
+use Rattle.http_wire.specs.declared.limits.HeadLimits.{HeadLimits}
+use Rattle.http_wire.specs.Chunks.{IsLine, Trailers, print_trailers, IsTrailers, HasNoTrailers}
+use Rattle.http_wire.proofs.ChunkLemmas.{line_ends, trailers_end}
+use Rattle.worked_http.proofs.Heads.{both, all_of, is_field, field_is, is_line_feed, line_feed_in}
+
+abbrev is_extension : Option (List ℕ) → Bool
+is_extension None = true
+is_extension (Some text) = list_all is_extension_byte text
+
+extension_is : (extension : Option (List ℕ)) → is_extension extension ≡ true → IsExtension extension
+extension_is None e = tt
+extension_is (Some text) e = AllPass-from_list_all is_extension_byte text e
+
+abbrev pub is_line : ChunkLine → Bool
+is_line l = (nat_lt 0 (length l.digits) && nat_le (length l.digits) 16) && (list_all is_ascii_hexdigit l.digits && (list_all is_ows l.pad && is_extension l.extension))
+
+-- a line that is written out
+pub line_valid : (l : ChunkLine) → is_line l ≡ true → IsChunkLine l
+line_valid l e =
+    let parts = both (nat_lt 0 (length l.digits) && nat_le (length l.digits) 16) _ e in
+    let sizes = both (nat_lt 0 (length l.digits)) (nat_le (length l.digits) 16) parts.0 in
+    let rest = both (list_all is_ascii_hexdigit l.digits) _ parts.1 in
+    let last = both (list_all is_ows l.pad) _ rest.1 in
+    record {
+      digits = (ltb-true 0 (length l.digits) sizes.0, leb-true (length l.digits) 16 sizes.1, AllPass-from_list_all is_ascii_hexdigit l.digits rest.0);
+      pad = AllPass-from_list_all is_ows l.pad last.0;
+      extension = extension_is l.extension last.1;
+    }
+
+pub line_is : (most : ℕ) (l : ChunkLine) → is_line l ≡ true → nat_le (length (print_chunk_line l)) most ≡ true → IsLine most l
+line_is most l e bytes = record { valid = line_valid l e; bytes = leb-true (length (print_chunk_line l)) most bytes }
+
+-- a line of digits alone
+abbrev pub plain : List ℕ → ChunkLine
+plain digits = record { digits = digits; pad = []; extension = None }
+
+-- trailers that are written out
+pub trailers_are : (limits : HeadLimits) (t : Trailers) → list_all is_field t.fields ≡ true → nat_le (length t.fields) limits.fields ≡ true
+    → nat_le (length (print_trailers t)) limits.head ≡ true → IsTrailers limits t
+trailers_are limits t valid few bytes = record {
+  valid = all_of _ is_field field_is t.fields valid;
+  few = leb-true (length t.fields) limits.fields few;
+  bytes = leb-true (length (print_trailers t)) limits.head bytes;
+}
+
+-- a text without a line feed has no line, and no trailers
+pub has_no_line : (text : List ℕ) → list_any is_line_feed text ≡ false → HasNoChunkLine text
+has_no_line text none l rest reads =
+    let ends = line_ends l in
+    false≢true (sym none ∙ ap (list_any is_line_feed) (reads.1 ∙ ap (λ t. t ++ rest) ends.1) ∙ line_feed_in ends.0 rest)
+
+pub has_no_trailers : (limits : HeadLimits) (text : List ℕ) → list_any is_line_feed text ≡ false → HasNoTrailers limits text
+has_no_trailers limits text none t rest reads =
+    let ends = trailers_end t in
+    false≢true (sym none ∙ ap (list_any is_line_feed) (reads.1 ∙ ap (λ t. t ++ rest) ends.1) ∙ line_feed_in ends.0 rest)
+
+-- no line begins with a g
+pub no_g : NeverHasChunkLine (codes "g")
+unfolding print_chunk_line
+no_g more l rest reads = begins_not l.digits reads.0.digits.0 reads.0.digits.2 reads.1
+  where
+    begins_not : (digits : List ℕ) → 0 < length digits → AllPass is_ascii_hexdigit digits
+        → 103 ∷ more ≡ (digits ++ l.pad ++ print_extension l.extension ++ print_end crlf) ++ rest → ⊥
+    begins_not [] some all e = omega (arith, some)
+    begins_not (d ∷ digits) some all e =
+        let heads : ◌≡◌ {A = ℕ} 103 d = cc in
+        false≢true (ap is_ascii_hexdigit heads ∙ All-head (λ b. is_ascii_hexdigit b ≡ true) d digits all)
+
+-- no trailers without a field begin with an A
+pub no_a : (limits : HeadLimits) (more : List ℕ) → limits.fields ≡ 0 → HasNoTrailers limits (65 ∷ more)
+no_a limits more zero t rest reads = begins_not t.fields t.last reads.0.few reads.1
+  where
+    begins_not : (fields : List Field) (last : LineEnd) → length fields ≤ limits.fields → 65 ∷ more ≡ print_section fields last ++ rest → ⊥
+    begins_not [] crlf few e = let heads : ◌≡◌ {A = ℕ} 65 13 = cc in omega (arith, heads)
+    begins_not [] lf few e = let heads : ◌≡◌ {A = ℕ} 65 10 = cc in omega (arith, heads)
+    begins_not (f ∷ fields) last few e = omega (arith, few, zero)

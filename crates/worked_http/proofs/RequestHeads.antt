@@ -1,0 +1,70 @@
+-- Heads of requests that are written out, and texts that have none.
+use Rattle.std.proofs.Common.{◌≡◌, ◌<◌, ℕ, nat_lt, Bool, true, false, ◌&&◌, List, [], ◌∷◌, ◌++◌, length, bytes_eq, refl, sym, ap, ◌∙◌, arith, inl, inr}
+use Rattle.std.specs.Prelude.{Some, nat_le}
+use Rattle.std.specs.List.{list_all, list_any}
+use Rattle.std.specs.Io.KnownBytes.{Consumes}
+use Rattle.std.proofs.lemmas.List.Sums.{AllPass-from_list_all}
+use Rattle.std.proofs.lemmas.Bool.{cases_Bool, leb-true, ltb-true, false≢true}
+use Rattle.std.proofs.lemmas.Str.{IsUtf8-from_ascii}
+use Rattle.std.proofs.lemmas.Str.Ascii.{IsAscii-from_all}
+use Rattle.httparse.specs.Grammar.{is_token, is_token_byte, is_uri_byte, RequestHead, IsRequestHead, print_request, HasNoRequest}
+use Rattle.http_header.specs.Token.{lowercase}
+use Rattle.http_wire.specs.declared.limits.HeadLimits.{HeadLimits}
+use Rattle.http_wire.specs.Fields.{KeepsFields}
+use Rattle.otlp_serve.specs.RequestHeads.{request_fields}
+use Rattle.otlp_serve.specs.Posts.{ComesWith}
+use Rattle.otlp_serve.proofs.HeadLemmas.{head_ends}
+use Rattle.worked_http.specs.Posted.{under}
+use Rattle.worked_http.proofs.Heads.{both, all_of, is_field, field_is, is_taken, all_taken, is_line_feed, line_feed_in}
+
+abbrev is_target : List ℕ → Bool
+is_target target = nat_lt 0 (length target) && (list_all is_uri_byte target && list_all (λ b. nat_lt b 128) target)
+
+abbrev pub is_request : RequestHead → Bool
+is_request h = is_token h.method && (is_target h.target && (nat_le h.minor 1 && list_all is_field h.fields))
+
+pub request_is : (h : RequestHead) → is_request h ≡ true → IsRequestHead h
+request_is h e =
+    let parts = both (is_token h.method) _ e in
+    let method = both (nat_lt 0 (length h.method)) (list_all is_token_byte h.method) parts.0 in
+    let rest = both (is_target h.target) _ parts.1 in
+    let target = both (nat_lt 0 (length h.target)) _ rest.0 in
+    let bytes = both (list_all is_uri_byte h.target) (list_all (λ b. nat_lt b 128) h.target) target.1 in
+    let last = both (nat_le h.minor 1) (list_all is_field h.fields) rest.1 in
+    record {
+      method = (ltb-true 0 (length h.method) method.0, AllPass-from_list_all is_token_byte h.method method.1);
+      target = (ltb-true 0 (length h.target) target.0, AllPass-from_list_all is_uri_byte h.target bytes.0);
+      target_text = IsUtf8-from_ascii _ (IsAscii-from_all _ (all_of (λ b. b < 128) (λ b. nat_lt b 128) (λ b below. ltb-true b 128 below) h.target bytes.1));
+      minor = leb-true h.minor 1 last.0;
+      fields = all_of _ is_field field_is h.fields last.1;
+    }
+
+-- a head that is written out came, and then some bytes
+pub came : (limits : HeadLimits) (h : RequestHead) (taken : List ℕ) {bytes left : List ℕ}
+    → Consumes (Some bytes) (Some left) (print_request h ++ taken)
+    → is_request h ≡ true → nat_le (length (print_request h)) limits.head ≡ true → nat_le (length h.fields) limits.fields ≡ true
+    → list_all is_taken (request_fields h) ≡ true → ComesWith limits (Some bytes) (Some left) h taken
+came limits h taken comes is bytes fields kept = record {
+  comes = comes;
+  valid = record {
+    valid = request_is h is;
+    whole = refl;
+    bytes = leb-true (length (print_request h)) limits.head bytes;
+    fields = leb-true (length h.fields) limits.fields fields;
+  };
+  kept = all_taken (request_fields h) kept;
+}
+
+-- a field is kept under its name in lower case
+pub one_field : (name value : List ℕ) → KeepsFields (under (lowercase name) (value ∷ [])) ((name, value) ∷ [])
+one_field name value = record {
+  values = λ key. elim (cases_Bool (bytes_eq (lowercase name) key)) [ inl t ↦ rw t refl | inr f ↦ rw f refl ];
+  names = omega arith;
+  count = omega arith;
+}
+
+-- a text without a line feed has no head at its front
+pub no_line : (text : List ℕ) → list_any is_line_feed text ≡ false → HasNoRequest text
+no_line text none h rest reads =
+    let ends = head_ends h in
+    false≢true (sym none ∙ ap (list_any is_line_feed) (reads.1 ∙ ap (λ t. t ++ rest) ends.1) ∙ line_feed_in ends.0 rest)

@@ -1,0 +1,27 @@
+//! The texts of requests (RFC 9112, sections 2.1, 3 and 5).
+
+ghost use Rattle.std.specs.Prelude.{◌≡◌, ◌++◌, [], codes, length, replicate};
+ghost use Rattle.otlp_http.specs.Request.{request_head, request_text};
+ghost use Rattle.worked_http.specs.Collectors.{elsewhere, local};
+
+/// The head of a request whose body has 70 bytes, and how long the whole request is.
+pub fn heads()
+    ensures head { request_head local 70 ≡
+        codes "POST /v1/traces HTTP/1.1\r\nHost: 127.0.0.1:4318\r\n" ++
+        codes "Content-Type: application/x-protobuf\r\nContent-Length: 70\r\n" ++
+        codes "Connection: close\r\n\r\n" }
+    ensures head_bytes { length (request_head local 70) ≡ 127 }
+    ensures whole_bytes { length (request_text local (replicate 70 7)) ≡ 197 }
+{}
+
+/// The body comes after the empty line as it is, also where it has none or looks like a field.
+pub fn bodies()
+    ensures none { request_text elsewhere [] ≡
+        codes "POST /?q=~ HTTP/1.1\r\nHost: a-1.test:0\r\n" ++
+        codes "Content-Type: application/x-protobuf\r\nContent-Length: 0\r\n" ++
+        codes "Connection: close\r\n\r\n" }
+    ensures some { request_text elsewhere (codes "A: b\r\n") ≡
+        codes "POST /?q=~ HTTP/1.1\r\nHost: a-1.test:0\r\n" ++
+        codes "Content-Type: application/x-protobuf\r\nContent-Length: 6\r\n" ++
+        codes "Connection: close\r\n\r\nA: b\r\n" }
+{}
