@@ -1,9 +1,10 @@
 //! The fields of a message, gathered one after another, whatever its table.
 
-ghost use Rattle.std.specs.Prelude.{◌≡◌, ◌≢◌, ◌++◌, List, [], ◌∷◌, IfOk, IfErr, IsErrOf, OnOk};
+ghost use Rattle.std.specs.Prelude.{◌≡◌, ◌≢◌, ◌++◌, List, [], ◌∷◌, IfOk, IfErr, IsErrOf, OnOk, map};
+ghost use Rattle.model_message.specs.Reading.{Reads};
 ghost use Rattle.model_message.specs.Wire;
 ghost use Rattle.model_message.specs.Wire.{row};
-ghost use Rattle.model_message.specs.Tables.{Table, message};
+ghost use Rattle.model_message.specs.Tables.{Message, Table, message, repeated};
 ghost use Rattle.model_message.specs.Messages.{max_depth, read, read_table, value};
 ghost use Rattle.otlp_wire.specs.Fields.{field_of};
 ghost use Rattle.otlp_message.specs.Faults.{NamesOne};
@@ -13,15 +14,21 @@ ghost use Rattle.otlp_message.specs.Gathering.{field_faults, finished, nothing, 
 use crate::fault::ReadFault;
 use crate::payloads::bytes_in;
 use otlp_wire::{Field, Fields};
+use std::alloc::Allocator;
 
 /// What is gathered of the fields of a message: the last payload of a scalar, a text or bytes, what
 /// is gathered of a message in it, and the values of a repeated field (Protocol Buffers, Encoding,
 /// "Last One Wins", "Repeated Elements"). A type for a message says by `table` which fields that
-/// has, and by `gathered` what it keeps of them.
+/// has, by `gathered` what it keeps of them, and by `shown` what the message is that they make.
 pub trait GatherFields<'a> {
+    /// The message that the fields make.
+    type Output: Drop;
+
     ghost table: { Table };
 
     ghost gathered: { Self → Gathered table };
+
+    ghost shown: { Self.Output → Message table };
 
     /// Takes one field more. One that the table hasn't, or of another wire type, changes nothing.
     ///
@@ -37,6 +44,17 @@ pub trait GatherFields<'a> {
         ensures err { IfErr result (λ fault. (before after : List Wire.Field) → NamesOne
             (read_table (value max_depth) table
             (before ++ field_of field.entry ∷ after)).faults fault) };
+
+    /// The message that the fields make.
+    ///
+    /// # Errors
+    ///
+    /// A `ReadFault` that they have, or `OutOfMemory` where the message could not be stored.
+    fn finish(self) -> Result<Self::Output, ReadFault>
+        ensures ok { IfOk result (λ x. Reads (finished (value max_depth) (message table)
+            (gathered self)) (shown x)) }
+        ensures err { IfErr result (λ fault. NamesOne (finished (value max_depth)
+            (message table) (gathered self)).faults fault) };
 }
 
 /// Takes the fields of these bytes.
@@ -97,4 +115,51 @@ where
     let mut gathered = empty;
     gather(&mut gathered, content)?;
     Ok(gathered)
+}
+
+/// The message of these bytes, whose fields go to `empty`.
+fn read_message<'a, G: GatherFields<'a>>(
+    empty: G,
+    content: &'a [u8],
+) -> Result<G::Output, ReadFault>
+where
+    G: Drop,
+    requires { G.gathered empty ≡ nothing G.table }
+    ensures ok { IfOk result (λ x. Reads (read (value max_depth) (message G.table)
+        (Wire.len content.now ∷ [])) (G.shown x)) }
+    ensures err { IfErr result (λ fault. NamesOne
+        (read (value max_depth) (message G.table) (Wire.len content.now ∷ [])).faults fault) }
+{
+    let parts = gather_all(empty, content)?;
+    parts.finish()
+}
+
+/// Appends the message that the field is, whose fields go to `empty`, where the field has this
+/// number (Protocol Buffers, Encoding, "Repeated Elements").
+///
+/// # Errors
+///
+/// A `ReadFault` that the field has, or `OutOfMemory` where its message could not be stored. No
+/// message is appended then.
+pub fn push_message<'a, G: GatherFields<'a>, A: Allocator>(
+    empty: G,
+    messages: &mut Vec<G::Output, A>,
+    field: Field<'a>,
+    number: u32,
+) -> Result<(), ReadFault>
+where
+    G: Drop,
+    requires { G.gathered empty ≡ nothing G.table }
+    ensures ok { OnOk result (KeepsField (repeated (message G.table)) number
+        (map G.shown messages.old.items) (map G.shown messages.new.items)
+        (field_of field.entry)) }
+    ensures err { IfErr result (λ fault. (before after : List Wire.Field) → NamesOne
+        (field_faults (repeated (message G.table)) number before (field_of field.entry) after)
+        fault) }
+{
+    let Some(content) = bytes_in(field, number) else {
+        return Ok(());
+    };
+    messages.push(read_message(empty, content)?)?;
+    Ok(())
 }

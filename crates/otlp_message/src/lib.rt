@@ -6,7 +6,7 @@
 //! Whoever reads a message of another table writes a type that keeps what counts of its fields, and
 //! implements [`GatherFields`] for it: its `take` keeps a number by [`last_varint`] or
 //! [`last_fixed64`] or [`last_fixed32`], a text or bytes by [`last_bytes`], a message by
-//! [`gather_in`], and a member of a repeated field by [`bytes_in`] with [`gather_all`]. What
+//! [`gather_in`], and the messages of a repeated field by [`push_message`]. What
 //! doesn't count is not looked into: fields that are unknown or of another wire type, and the texts
 //! that a later one replaces.
 #![tactic(auto)]
@@ -20,7 +20,7 @@ mod response_writer;
 
 pub use content::{copy_bytes, read_text};
 pub use fault::ReadFault;
-pub use gather::{GatherFields, gather_all, gather_in};
+pub use gather::{GatherFields, gather_all, gather_in, push_message};
 pub use payloads::{bytes_in, last_bytes, last_fixed32, last_fixed64, last_varint, low_32_bits};
 pub use response::{
     PartialSuccess, Response, read_partial_bytes, read_rejected_spans, read_response,

@@ -1,17 +1,16 @@
 //! Resources and scopes as they were received (opentelemetry-proto, resource.proto: Resource;
 //! common.proto: InstrumentationScope).
 
-ghost use Rattle.std.specs.Prelude.{◌≡◌, List, [], ◌∷◌, IfOk, IfErr, OnOk};
-ghost use Rattle.model_message.specs.Reading.{Reads};
+ghost use Rattle.std.specs.Prelude.{◌≡◌, List, [], IfErr, OnOk};
 ghost use Rattle.model_message.specs.Wire;
 ghost use Rattle.model_message.specs.Wire.{row};
 ghost use Rattle.model_message.specs.Tables;
 ghost use Rattle.model_message.specs.Tables.{message, repeated};
-ghost use Rattle.model_message.specs.Messages.{max_depth, meaning, read, value};
+ghost use Rattle.model_message.specs.Messages.{max_depth, read, value};
 ghost use Rattle.otlp_wire.specs.Fields.{field_of};
 ghost use Rattle.otlp_message.specs.Faults.{NamesOne};
 ghost use Rattle.otlp_message.specs.Gathering.{GathersRow, KeepsField, part_faults, field_faults};
-ghost use Rattle.otlp_message.specs.Gathering.{finished, nothing};
+ghost use Rattle.otlp_message.specs.Gathering.{nothing};
 ghost use Rattle.otlp_read.specs.Resources.{resource_view, resource_gathered, scope_view};
 ghost use Rattle.otlp_read.specs.Resources.{scope_gathered};
 
@@ -67,33 +66,31 @@ impl<A: Allocator + Copy> ResourceParts<A> {
             dropped_attributes_count: 0,
         }
     }
-
-    /// The resource.
-    pub(crate) fn finish(self) -> Result<Resource<A>, ReadFault>
-        ensures ok { IfOk result (λ x. Reads (finished (value max_depth) (message Tables.resource)
-            (resource_gathered self)) (resource_view x)) }
-        ensures err { IfErr result (λ fault. NamesOne (finished (value max_depth)
-            (message Tables.resource) (resource_gathered self)).faults fault) }
-    {
-        Ok(Resource {
-            attributes: self.attributes,
-            dropped_attributes_count: low_32_bits(self.dropped_attributes_count),
-        })
-    }
 }
 
 impl<'a, A: Allocator + Copy> GatherFields<'a> for ResourceParts<A> {
     ghost use Rattle.model_message.specs.Tables;
-    ghost use Rattle.otlp_read.specs.Resources.{resource_gathered};
+    ghost use Rattle.otlp_read.specs.Resources.{resource_gathered, resource_view};
+
+    type Output = Resource<A>;
 
     ghost table = { Tables.resource };
 
     ghost gathered = { resource_gathered };
 
+    ghost shown = { resource_view };
+
     fn take(&mut self, field: Field<'a>) -> Result<(), ReadFault> {
         push_attribute(self.alloc, &mut self.attributes, field, 1)?;
         self.dropped_attributes_count = last_varint(self.dropped_attributes_count, field, 2);
         Ok(())
+    }
+
+    fn finish(self) -> Result<Resource<A>, ReadFault> {
+        Ok(Resource {
+            attributes: self.attributes,
+            dropped_attributes_count: low_32_bits(self.dropped_attributes_count),
+        })
     }
 }
 
@@ -148,31 +145,19 @@ impl<'a, A: Allocator + Copy> InstrumentationScopeParts<'a, A> {
         };
         self.take_all(content)
     }
-
-    /// The scope.
-    pub(crate) fn finish(self) -> Result<InstrumentationScope<A>, ReadFault>
-        ensures ok { IfOk result (λ x. Reads (finished (value max_depth) (message Tables.scope)
-            (scope_gathered self.entry)) (scope_view x)) }
-        ensures err { IfErr result (λ fault. NamesOne (finished (value max_depth)
-            (message Tables.scope) (scope_gathered self.entry)).faults fault) }
-    {
-        let alloc = self.alloc;
-        Ok(InstrumentationScope {
-            name: read_text(alloc, self.name)?,
-            version: read_text(alloc, self.version)?,
-            attributes: self.attributes,
-            dropped_attributes_count: low_32_bits(self.dropped_attributes_count),
-        })
-    }
 }
 
 impl<'a, A: Allocator + Copy> GatherFields<'a> for InstrumentationScopeParts<'a, A> {
     ghost use Rattle.model_message.specs.Tables;
-    ghost use Rattle.otlp_read.specs.Resources.{scope_gathered};
+    ghost use Rattle.otlp_read.specs.Resources.{scope_gathered, scope_view};
+
+    type Output = InstrumentationScope<A>;
 
     ghost table = { Tables.scope };
 
     ghost gathered = { scope_gathered };
+
+    ghost shown = { scope_view };
 
     fn take(&mut self, field: Field<'a>) -> Result<(), ReadFault> {
         self.name = last_bytes(self.name, field, 1);
@@ -180,5 +165,15 @@ impl<'a, A: Allocator + Copy> GatherFields<'a> for InstrumentationScopeParts<'a,
         push_attribute(self.alloc, &mut self.attributes, field, 3)?;
         self.dropped_attributes_count = last_varint(self.dropped_attributes_count, field, 4);
         Ok(())
+    }
+
+    fn finish(self) -> Result<InstrumentationScope<A>, ReadFault> {
+        let alloc = self.alloc;
+        Ok(InstrumentationScope {
+            name: read_text(alloc, self.name)?,
+            version: read_text(alloc, self.version)?,
+            attributes: self.attributes,
+            dropped_attributes_count: low_32_bits(self.dropped_attributes_count),
+        })
     }
 }

@@ -1,25 +1,24 @@
 //! Spans as they were received, and what belongs to one (opentelemetry-proto, trace.proto: Span,
 //! Status).
 
-ghost use Rattle.std.specs.Prelude.{◌≡◌, List, [], ◌∷◌, IfOk, IfErr, OnOk};
-ghost use Rattle.model_message.specs.Reading.{Reads};
+ghost use Rattle.std.specs.Prelude.{◌≡◌, List, [], IfErr, OnOk};
 ghost use Rattle.model_message.specs.Wire;
 ghost use Rattle.model_message.specs.Wire.{row};
 ghost use Rattle.model_message.specs.Tables;
 ghost use Rattle.model_message.specs.Tables.{message, repeated};
-ghost use Rattle.model_message.specs.Messages.{max_depth, meaning, read, value};
+ghost use Rattle.model_message.specs.Messages.{max_depth, value};
 ghost use Rattle.otlp_wire.specs.Fields.{field_of};
 ghost use Rattle.otlp_message.specs.Faults.{NamesOne};
 ghost use Rattle.otlp_message.specs.Gathering.{GathersRow, KeepsField, part_faults, field_faults};
-ghost use Rattle.otlp_message.specs.Gathering.{finished, nothing};
-ghost use Rattle.otlp_read.specs.Spans.{status_view, status_gathered, event_view, events_view};
-ghost use Rattle.otlp_read.specs.Spans.{event_gathered, link_view, links_view, link_gathered};
-ghost use Rattle.otlp_read.specs.Spans.{span_view, spans_view, span_gathered};
+ghost use Rattle.otlp_message.specs.Gathering.{nothing};
+ghost use Rattle.otlp_read.specs.Spans.{status_view, status_gathered, event_view};
+ghost use Rattle.otlp_read.specs.Spans.{event_gathered, link_view, link_gathered};
+ghost use Rattle.otlp_read.specs.Spans.{span_view, span_gathered};
 
 use crate::any_value::{AnyValue, push_attribute};
 use otlp_message::{
-    GatherFields, ReadFault, bytes_in, copy_bytes, gather_all, last_bytes, last_fixed32,
-    last_fixed64, last_varint, low_32_bits, read_text,
+    GatherFields, ReadFault, bytes_in, copy_bytes, last_bytes, last_fixed32, last_fixed64,
+    last_varint, low_32_bits, push_message, read_text,
 };
 use otlp_wire::{Field, Fields};
 use std::alloc::{Allocator, Global};
@@ -157,34 +156,32 @@ impl<'a, A: Allocator + Copy> StatusParts<'a, A> {
         };
         self.take_all(content)
     }
-
-    /// The status.
-    pub(crate) fn finish(self) -> Result<Status<A>, ReadFault>
-        ensures ok { IfOk result (λ x. Reads (finished (value max_depth) (message Tables.status)
-            (status_gathered self.entry)) (status_view x)) }
-        ensures err { IfErr result (λ fault. NamesOne (finished (value max_depth)
-            (message Tables.status) (status_gathered self.entry)).faults fault) }
-    {
-        let alloc = self.alloc;
-        Ok(Status {
-            message: read_text(alloc, self.message)?,
-            code: low_32_bits(self.code).cast_signed(),
-        })
-    }
 }
 
 impl<'a, A: Allocator + Copy> GatherFields<'a> for StatusParts<'a, A> {
     ghost use Rattle.model_message.specs.Tables;
-    ghost use Rattle.otlp_read.specs.Spans.{status_gathered};
+    ghost use Rattle.otlp_read.specs.Spans.{status_gathered, status_view};
+
+    type Output = Status<A>;
 
     ghost table = { Tables.status };
 
     ghost gathered = { status_gathered };
 
+    ghost shown = { status_view };
+
     fn take(&mut self, field: Field<'a>) -> Result<(), ReadFault> {
         self.message = last_bytes(self.message, field, 2);
         self.code = last_varint(self.code, field, 3);
         Ok(())
+    }
+
+    fn finish(self) -> Result<Status<A>, ReadFault> {
+        let alloc = self.alloc;
+        Ok(Status {
+            message: read_text(alloc, self.message)?,
+            code: low_32_bits(self.code).cast_signed(),
+        })
     }
 }
 
@@ -211,31 +208,19 @@ impl<'a, A: Allocator + Copy> EventParts<'a, A> {
             dropped_attributes_count: 0,
         }
     }
-
-    /// The event.
-    pub(crate) fn finish(self) -> Result<Event<A>, ReadFault>
-        ensures ok { IfOk result (λ x. Reads (finished (value max_depth) (message Tables.event)
-            (event_gathered self.entry)) (event_view x)) }
-        ensures err { IfErr result (λ fault. NamesOne (finished (value max_depth)
-            (message Tables.event) (event_gathered self.entry)).faults fault) }
-    {
-        let alloc = self.alloc;
-        Ok(Event {
-            time_unix_nano: self.time_unix_nano,
-            name: read_text(alloc, self.name)?,
-            attributes: self.attributes,
-            dropped_attributes_count: low_32_bits(self.dropped_attributes_count),
-        })
-    }
 }
 
 impl<'a, A: Allocator + Copy> GatherFields<'a> for EventParts<'a, A> {
     ghost use Rattle.model_message.specs.Tables;
-    ghost use Rattle.otlp_read.specs.Spans.{event_gathered};
+    ghost use Rattle.otlp_read.specs.Spans.{event_gathered, event_view};
+
+    type Output = Event<A>;
 
     ghost table = { Tables.event };
 
     ghost gathered = { event_gathered };
+
+    ghost shown = { event_view };
 
     fn take(&mut self, field: Field<'a>) -> Result<(), ReadFault> {
         self.time_unix_nano = last_fixed64(self.time_unix_nano, field, 1);
@@ -243,6 +228,16 @@ impl<'a, A: Allocator + Copy> GatherFields<'a> for EventParts<'a, A> {
         push_attribute(self.alloc, &mut self.attributes, field, 3)?;
         self.dropped_attributes_count = last_varint(self.dropped_attributes_count, field, 4);
         Ok(())
+    }
+
+    fn finish(self) -> Result<Event<A>, ReadFault> {
+        let alloc = self.alloc;
+        Ok(Event {
+            time_unix_nano: self.time_unix_nano,
+            name: read_text(alloc, self.name)?,
+            attributes: self.attributes,
+            dropped_attributes_count: low_32_bits(self.dropped_attributes_count),
+        })
     }
 }
 
@@ -273,33 +268,19 @@ impl<'a, A: Allocator + Copy> LinkParts<'a, A> {
             flags: 0,
         }
     }
-
-    /// The link.
-    pub(crate) fn finish(self) -> Result<Link<A>, ReadFault>
-        ensures ok { IfOk result (λ x. Reads (finished (value max_depth) (message Tables.link)
-            (link_gathered self.entry)) (link_view x)) }
-        ensures err { IfErr result (λ fault. NamesOne (finished (value max_depth)
-            (message Tables.link) (link_gathered self.entry)).faults fault) }
-    {
-        let alloc = self.alloc;
-        Ok(Link {
-            trace_id: copy_bytes(alloc, self.trace_id)?,
-            span_id: copy_bytes(alloc, self.span_id)?,
-            trace_state: read_text(alloc, self.trace_state)?,
-            attributes: self.attributes,
-            dropped_attributes_count: low_32_bits(self.dropped_attributes_count),
-            flags: self.flags,
-        })
-    }
 }
 
 impl<'a, A: Allocator + Copy> GatherFields<'a> for LinkParts<'a, A> {
     ghost use Rattle.model_message.specs.Tables;
-    ghost use Rattle.otlp_read.specs.Spans.{link_gathered};
+    ghost use Rattle.otlp_read.specs.Spans.{link_gathered, link_view};
+
+    type Output = Link<A>;
 
     ghost table = { Tables.link };
 
     ghost gathered = { link_gathered };
+
+    ghost shown = { link_view };
 
     fn take(&mut self, field: Field<'a>) -> Result<(), ReadFault> {
         self.trace_id = last_bytes(self.trace_id, field, 1);
@@ -309,6 +290,18 @@ impl<'a, A: Allocator + Copy> GatherFields<'a> for LinkParts<'a, A> {
         self.dropped_attributes_count = last_varint(self.dropped_attributes_count, field, 5);
         self.flags = last_fixed32(self.flags, field, 6);
         Ok(())
+    }
+
+    fn finish(self) -> Result<Link<A>, ReadFault> {
+        let alloc = self.alloc;
+        Ok(Link {
+            trace_id: copy_bytes(alloc, self.trace_id)?,
+            span_id: copy_bytes(alloc, self.span_id)?,
+            trace_state: read_text(alloc, self.trace_state)?,
+            attributes: self.attributes,
+            dropped_attributes_count: low_32_bits(self.dropped_attributes_count),
+            flags: self.flags,
+        })
     }
 }
 
@@ -359,14 +352,41 @@ impl<'a, A: Allocator + Copy> SpanParts<'a, A> {
             flags: 0,
         }
     }
+}
 
-    /// The span.
-    pub(crate) fn finish(self) -> Result<Span<A>, ReadFault>
-        ensures ok { IfOk result (λ x. Reads (finished (value max_depth) (message Tables.span)
-            (span_gathered self.entry)) (span_view x)) }
-        ensures err { IfErr result (λ fault. NamesOne (finished (value max_depth)
-            (message Tables.span) (span_gathered self.entry)).faults fault) }
-    {
+impl<'a, A: Allocator + Copy> GatherFields<'a> for SpanParts<'a, A> {
+    ghost use Rattle.model_message.specs.Tables;
+    ghost use Rattle.otlp_read.specs.Spans.{span_gathered, span_view};
+
+    type Output = Span<A>;
+
+    ghost table = { Tables.span };
+
+    ghost gathered = { span_gathered };
+
+    ghost shown = { span_view };
+
+    fn take(&mut self, field: Field<'a>) -> Result<(), ReadFault> {
+        self.trace_id = last_bytes(self.trace_id, field, 1);
+        self.span_id = last_bytes(self.span_id, field, 2);
+        self.trace_state = last_bytes(self.trace_state, field, 3);
+        self.parent_span_id = last_bytes(self.parent_span_id, field, 4);
+        self.name = last_bytes(self.name, field, 5);
+        self.kind = last_varint(self.kind, field, 6);
+        self.start_time_unix_nano = last_fixed64(self.start_time_unix_nano, field, 7);
+        self.end_time_unix_nano = last_fixed64(self.end_time_unix_nano, field, 8);
+        push_attribute(self.alloc, &mut self.attributes, field, 9)?;
+        self.dropped_attributes_count = last_varint(self.dropped_attributes_count, field, 10);
+        push_message(EventParts::new(self.alloc), &mut self.events, field, 11)?;
+        self.dropped_events_count = last_varint(self.dropped_events_count, field, 12);
+        push_message(LinkParts::new(self.alloc), &mut self.links, field, 13)?;
+        self.dropped_links_count = last_varint(self.dropped_links_count, field, 14);
+        self.status.take_in(field, 15)?;
+        self.flags = last_fixed32(self.flags, field, 16);
+        Ok(())
+    }
+
+    fn finish(self) -> Result<Span<A>, ReadFault> {
         let alloc = self.alloc;
         Ok(Span {
             trace_id: copy_bytes(alloc, self.trace_id)?,
@@ -387,129 +407,4 @@ impl<'a, A: Allocator + Copy> SpanParts<'a, A> {
             flags: self.flags,
         })
     }
-}
-
-impl<'a, A: Allocator + Copy> GatherFields<'a> for SpanParts<'a, A> {
-    ghost use Rattle.model_message.specs.Tables;
-    ghost use Rattle.otlp_read.specs.Spans.{span_gathered};
-
-    ghost table = { Tables.span };
-
-    ghost gathered = { span_gathered };
-
-    fn take(&mut self, field: Field<'a>) -> Result<(), ReadFault> {
-        self.trace_id = last_bytes(self.trace_id, field, 1);
-        self.span_id = last_bytes(self.span_id, field, 2);
-        self.trace_state = last_bytes(self.trace_state, field, 3);
-        self.parent_span_id = last_bytes(self.parent_span_id, field, 4);
-        self.name = last_bytes(self.name, field, 5);
-        self.kind = last_varint(self.kind, field, 6);
-        self.start_time_unix_nano = last_fixed64(self.start_time_unix_nano, field, 7);
-        self.end_time_unix_nano = last_fixed64(self.end_time_unix_nano, field, 8);
-        push_attribute(self.alloc, &mut self.attributes, field, 9)?;
-        self.dropped_attributes_count = last_varint(self.dropped_attributes_count, field, 10);
-        push_event(self.alloc, &mut self.events, field, 11)?;
-        self.dropped_events_count = last_varint(self.dropped_events_count, field, 12);
-        push_link(self.alloc, &mut self.links, field, 13)?;
-        self.dropped_links_count = last_varint(self.dropped_links_count, field, 14);
-        self.status.take_in(field, 15)?;
-        self.flags = last_fixed32(self.flags, field, 16);
-        Ok(())
-    }
-}
-
-/// The event of these bytes.
-fn read_event<A: Allocator + Copy>(alloc: A, content: &[u8]) -> Result<Event<A>, ReadFault>
-    ensures ok { IfOk result (λ x. Reads
-        (read (value max_depth) (message Tables.event) (Wire.len content.now ∷ []))
-        (event_view x)) }
-    ensures err { IfErr result (λ fault. NamesOne
-        (read (value max_depth) (message Tables.event) (Wire.len content.now ∷ [])).faults fault) }
-{
-    let parts = gather_all(EventParts::new(alloc), content)?;
-    parts.finish()
-}
-
-/// Appends an event, where the field has this number.
-fn push_event<A: Allocator + Copy>(
-    alloc: A,
-    events: &mut Vec<Event<A>, A>,
-    field: Field<'_>,
-    number: u32,
-) -> Result<(), ReadFault>
-    ensures ok { OnOk result (KeepsField (repeated (message Tables.event)) number
-        (events_view events.old.items) (events_view events.new.items) (field_of field.entry)) }
-    ensures err { IfErr result (λ fault. (before after : List Wire.Field) → NamesOne
-        (field_faults (repeated (message Tables.event)) number before
-        (field_of field.entry) after) fault) }
-{
-    let Some(content) = bytes_in(field, number) else {
-        return Ok(());
-    };
-    events.push(read_event(alloc, content)?)?;
-    Ok(())
-}
-
-/// The link of these bytes.
-fn read_link<A: Allocator + Copy>(alloc: A, content: &[u8]) -> Result<Link<A>, ReadFault>
-    ensures ok { IfOk result (λ x. Reads
-        (read (value max_depth) (message Tables.link) (Wire.len content.now ∷ []))
-        (link_view x)) }
-    ensures err { IfErr result (λ fault. NamesOne
-        (read (value max_depth) (message Tables.link) (Wire.len content.now ∷ [])).faults fault) }
-{
-    let parts = gather_all(LinkParts::new(alloc), content)?;
-    parts.finish()
-}
-
-/// Appends a link, where the field has this number.
-fn push_link<A: Allocator + Copy>(
-    alloc: A,
-    links: &mut Vec<Link<A>, A>,
-    field: Field<'_>,
-    number: u32,
-) -> Result<(), ReadFault>
-    ensures ok { OnOk result (KeepsField (repeated (message Tables.link)) number
-        (links_view links.old.items) (links_view links.new.items) (field_of field.entry)) }
-    ensures err { IfErr result (λ fault. (before after : List Wire.Field) → NamesOne
-        (field_faults (repeated (message Tables.link)) number before
-        (field_of field.entry) after) fault) }
-{
-    let Some(content) = bytes_in(field, number) else {
-        return Ok(());
-    };
-    links.push(read_link(alloc, content)?)?;
-    Ok(())
-}
-
-/// The span of these bytes.
-fn read_span<A: Allocator + Copy>(alloc: A, content: &[u8]) -> Result<Span<A>, ReadFault>
-    ensures ok { IfOk result (λ x. Reads
-        (read (value max_depth) (message Tables.span) (Wire.len content.now ∷ []))
-        (span_view x)) }
-    ensures err { IfErr result (λ fault. NamesOne
-        (read (value max_depth) (message Tables.span) (Wire.len content.now ∷ [])).faults fault) }
-{
-    let parts = gather_all(SpanParts::new(alloc), content)?;
-    parts.finish()
-}
-
-/// Appends a span, where the field has this number.
-pub(crate) fn push_span<A: Allocator + Copy>(
-    alloc: A,
-    spans: &mut Vec<Span<A>, A>,
-    field: Field<'_>,
-    number: u32,
-) -> Result<(), ReadFault>
-    ensures ok { OnOk result (KeepsField (repeated (message Tables.span)) number
-        (spans_view spans.old.items) (spans_view spans.new.items) (field_of field.entry)) }
-    ensures err { IfErr result (λ fault. (before after : List Wire.Field) → NamesOne
-        (field_faults (repeated (message Tables.span)) number before
-        (field_of field.entry) after) fault) }
-{
-    let Some(content) = bytes_in(field, number) else {
-        return Ok(());
-    };
-    spans.push(read_span(alloc, content)?)?;
-    Ok(())
 }

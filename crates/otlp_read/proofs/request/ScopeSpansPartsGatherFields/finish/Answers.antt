@@ -7,7 +7,7 @@ use Rattle.otlp_message.specs.Gathering.{finished}
 use Rattle.otlp_read.specs.Requests.{scope_spans_gathered}
 use Rattle.otlp_message.proofs.Named.{names-within}
 use Rattle.otlp_message.proofs.Finished.{finished-first, finished-others}
-use Rattle.otlp_read.proofs.request.ScopeSpansParts.finish.Goals as goal
+use Rattle.otlp_read.proofs.request.ScopeSpansPartsGatherFields.finish.Goals as goal
 
 pub returns-in_err-finish-clause-err : goal.returns-in_err-finish-clause-err
 returns-in_err-finish-clause-err g c =

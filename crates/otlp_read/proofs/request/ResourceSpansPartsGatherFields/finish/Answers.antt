@@ -7,7 +7,7 @@ use Rattle.otlp_message.specs.Gathering.{finished}
 use Rattle.otlp_read.specs.Requests.{resource_spans_gathered}
 use Rattle.otlp_message.proofs.Named.{names-within}
 use Rattle.otlp_message.proofs.Finished.{finished-first, finished-others}
-use Rattle.otlp_read.proofs.request.ResourceSpansParts.finish.Goals as goal
+use Rattle.otlp_read.proofs.request.ResourceSpansPartsGatherFields.finish.Goals as goal
 
 pub returns-in_err-finish-clause-err : goal.returns-in_err-finish-clause-err
 returns-in_err-finish-clause-err g c =

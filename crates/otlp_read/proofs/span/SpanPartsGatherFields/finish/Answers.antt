@@ -7,7 +7,7 @@ use Rattle.otlp_message.specs.Gathering.{finished}
 use Rattle.otlp_read.specs.Spans.{span_gathered}
 use Rattle.otlp_message.proofs.Named.{names-within}
 use Rattle.otlp_message.proofs.Finished.{finished-first, finished-others}
-use Rattle.otlp_read.proofs.span.SpanParts.finish.Goals as goal
+use Rattle.otlp_read.proofs.span.SpanPartsGatherFields.finish.Goals as goal
 
 pub returns-in_err-read_text-clause-err : goal.returns-in_err-read_text-clause-err
 returns-in_err-read_text-clause-err g c =
