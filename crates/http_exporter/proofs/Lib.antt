@@ -1,3 +1,4 @@
+pub mod BufferLemmas
 pub mod Crosses
 pub mod FailureLemmas
 pub mod FrontLemmas

@@ -1,3 +1,4 @@
 pub mod Attempts
 pub mod Failures
 pub mod Tcp
+pub mod Buffers

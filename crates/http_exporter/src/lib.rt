@@ -3,12 +3,14 @@
 //! [`HttpExporter`]. A [`Failure`] says what the last attempt met that failed.
 #![tactic(auto)]
 
+mod buffer;
 mod dial;
 mod exporter;
 mod failure;
 mod front;
 mod tcp;
 
+pub use buffer::Buffered;
 pub use dial::Dial;
 pub use exporter::LinkExporter;
 pub use failure::{Failure, MESSAGE_ROOM, Message};

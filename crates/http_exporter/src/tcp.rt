@@ -2,6 +2,7 @@
 
 ghost use Rattle.std.specs.Prelude.{◌≡◌, ◌≤◌, ℕ, false, None};
 
+use crate::buffer::Buffered;
 use crate::dial::Dial;
 use crate::exporter::LinkExporter;
 use otlp_http::{Counted, Target};
@@ -18,9 +19,9 @@ pub const DEFAULT_EXPORT_TIMEOUT_MS: u64 = 30_000;
 
 const _: () = prove!(DEFAULT_EXPORT_TIMEOUT_MS == 30_000);
 
-/// Dials over TCP: a connection of its own for each request, without Nagle's delay, and without a
-/// buffer: each byte of a reply's head costs a call of the system. What a system's sockets give and
-/// take no contract says. In contracts it is a `TcpDialing`.
+/// Dials over TCP: a connection of its own for each request, without Nagle's delay, which is read
+/// through a buffer. What a system's sockets give and take no contract says. In contracts it is a
+/// `TcpDialing`.
 #[derive(Drop)]
 pub struct TcpDial<R> {
     rt: R,
@@ -69,15 +70,15 @@ impl<R: Net> TcpDial<R> {
 }
 
 impl<R: Net> Dial for TcpDial<R> {
-    type Link = Counted<R::Stream>;
+    type Link = Buffered<Counted<R::Stream>>;
 
-    fn dial(&mut self, host: &str, port: u16) -> Option<Counted<R::Stream>> {
+    fn dial(&mut self, host: &str, port: u16) -> Option<Buffered<Counted<R::Stream>>> {
         let timeout = Duration::from_millis(self.timeout_ms);
         let stream = self.connect(host, port, timeout)?;
         stream.set_read_timeout(Some(timeout)).ok()?;
         stream.set_write_timeout(Some(timeout)).ok()?;
         stream.set_nodelay(true).ok()?;
-        Some(Counted::new(stream))
+        Some(Buffered::new(Counted::new(stream)))
     }
 }
 

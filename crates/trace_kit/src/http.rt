@@ -3,8 +3,8 @@
 //! any [`Dial`], and the [`Failure`] that each keeps; below them the requests and replies,
 //! [`write_request`], [`read_reply`], and [`outcome_of`] for what a reply means.
 pub use http_exporter::{
-    DEFAULT_EXPORT_TIMEOUT_MS, Dial, Failure, HttpExporter, LinkExporter, MESSAGE_ROOM, Message,
-    TcpDial,
+    Buffered, DEFAULT_EXPORT_TIMEOUT_MS, Dial, Failure, HttpExporter, LinkExporter, MESSAGE_ROOM,
+    Message, TcpDial,
 };
 pub use http_wire::{
     Counted, DeviceFailed, FaultRead, FaultWrite, HeadLimits, HttpFault, MOST_FIELDS, Stopped,
