@@ -24,14 +24,14 @@ fn each_growth_of_a_vector_is_refused_once(rt: HostRuntime) {
     for fail_index in 0..GROWTHS {
         let heap = FailingAllocator::new(&ample, fail_index);
         let pushed = count_pushed(&heap);
-        let told = (heap.calls(), heap.has_failed());
-        assert_equal_at(&rt, (pushed, told), (99, (GROWTHS + 1, true)), fail_index);
+        let found = (heap.calls(), heap.has_failed());
+        assert_equal_at(&rt, (pushed, found), (99, (GROWTHS + 1, true)), fail_index);
         assert_equal_at(&rt, ample.used(), 0, fail_index);
     }
 }
 
 #[test]
-fn behind_the_last_call_none_is_refused(rt: HostRuntime) {
+fn after_the_last_call_none_is_refused(rt: HostRuntime) {
     let heap = FailingAllocator::new(rt.alloc(), GROWTHS);
     assert_equal(&rt, (heap.calls(), heap.has_failed()), (0, false));
     for (pushed, calls, has_failed) in [

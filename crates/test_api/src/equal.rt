@@ -1,5 +1,6 @@
 //! Comparisons, each a call of a function of its own: `assert_eq!` in its place is proved with the
-//! body that it is in, which takes ten times as long.
+//! body that it is in, which takes ten times as long. Each crate of tests has its own, since a
+//! library may not have functions that end the process.
 use std::alloc::Allocator;
 use std::fmt::{Debug, Display};
 use std::process::Abort;
@@ -22,31 +23,20 @@ where
 pub(crate) fn assert_shown<A: Allocator>(
     rt: &impl Abort,
     alloc: A,
-    shown: &impl Debug,
+    value: &impl Debug,
     text: &str,
 ) {
-    let told = format!(in alloc; "{shown:?}").expect(rt, "memory");
-    assert_equal(rt, told.as_str(), text);
+    let found = format!(in alloc; "{value:?}").expect(rt, "memory");
+    assert_equal(rt, found.as_str(), text);
 }
 
-/// Asserts what `Display` tells.
-pub(crate) fn assert_told<A: Allocator>(
+/// Asserts what `Display` writes.
+pub(crate) fn assert_displayed<A: Allocator>(
     rt: &impl Abort,
     alloc: A,
-    told: &impl Display,
+    value: &impl Display,
     text: &str,
 ) {
-    let told = format!(in alloc; "{told}").expect(rt, "memory");
-    assert_equal(rt, told.as_str(), text);
-}
-
-/// Asserts how what `Debug` shows begins.
-pub(crate) fn assert_begins<A: Allocator>(
-    rt: &impl Abort,
-    alloc: A,
-    shown: &impl Debug,
-    front: &str,
-) {
-    let told = format!(in alloc; "{shown:?}").expect(rt, "memory");
-    assert_equal(rt, told.as_str().starts_with(front), true);
+    let found = format!(in alloc; "{value}").expect(rt, "memory");
+    assert_equal(rt, found.as_str(), text);
 }

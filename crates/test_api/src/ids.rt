@@ -1,6 +1,6 @@
 //! Identifiers, flags and contexts, and how faults are reported. What is drawn and read is in the
 //! stored runs.
-use crate::equal::{assert_equal, assert_told};
+use crate::equal::{assert_displayed, assert_equal};
 use otlp_ids::{IdFault, OutOfMemory, SpanId, TraceFlags, TraceId};
 use trace_api::StartFault;
 
@@ -29,9 +29,9 @@ fn a_length_is_bad_before_a_digit_is(rt: HostRuntime) {
 #[test]
 fn ids_and_flags_are_displayed_in_lower_case(rt: HostRuntime) {
     let alloc = rt.alloc();
-    assert_told(&rt, alloc, &TRACE, "0102030405060708090a0b0c0d0e0f10");
-    assert_told(&rt, alloc, &SPAN, "abcdef000000000f");
-    assert_told(&rt, alloc, &TraceFlags(0x0b), "0b");
+    assert_displayed(&rt, alloc, &TRACE, "0102030405060708090a0b0c0d0e0f10");
+    assert_displayed(&rt, alloc, &SPAN, "abcdef000000000f");
+    assert_displayed(&rt, alloc, &TraceFlags(0x0b), "0b");
     let padded = format!(in alloc; "{SPAN:>18}").expect(&rt, "memory");
     assert_equal(&rt, padded.as_str(), "  abcdef000000000f");
     let mut text = [0; 32];
@@ -55,15 +55,15 @@ fn bit_0_is_the_sampled_flag(rt: HostRuntime) {
 }
 
 #[test]
-fn faults_are_told(rt: HostRuntime) {
+fn faults_are_displayed(rt: HostRuntime) {
     let alloc = rt.alloc();
     let no_randomness = "no randomness: only zeros were drawn";
-    assert_told(&rt, alloc, &IdFault::NoRandomness, no_randomness);
+    assert_displayed(&rt, alloc, &IdFault::NoRandomness, no_randomness);
     let text = "bad length: an identifier has two digits a byte";
-    assert_told(&rt, alloc, &IdFault::BadLength, text);
+    assert_displayed(&rt, alloc, &IdFault::BadLength, text);
     let text = "bad digit: an identifier is written in hexadecimal";
-    assert_told(&rt, alloc, &IdFault::BadDigit, text);
-    assert_told(&rt, alloc, &OutOfMemory, "out of memory");
-    assert_told(&rt, alloc, &StartFault::NoRandomness, no_randomness);
-    assert_told(&rt, alloc, &StartFault::OutOfMemory, "out of memory");
+    assert_displayed(&rt, alloc, &IdFault::BadDigit, text);
+    assert_displayed(&rt, alloc, &OutOfMemory, "out of memory");
+    assert_displayed(&rt, alloc, &StartFault::NoRandomness, no_randomness);
+    assert_displayed(&rt, alloc, &StartFault::OutOfMemory, "out of memory");
 }

@@ -1,7 +1,6 @@
 //! Tests over public calls alone: of identifiers, contexts, values, lists of attributes, samplers
 //! and the generator of listed words; of the parts of spans and their replay; of tracers, spans and
-//! passes; of the queue of ended spans, its ledger and its batches, and of retries; and of the
-//! allocator that refuses a call. The crate has no items of its own.
+//! passes; and of the allocator that refuses a call. The crate has no items of its own.
 #![tactic(auto)]
 
 #[cfg(test)]
@@ -14,8 +13,6 @@ mod copies;
 mod equal;
 #[cfg(test)]
 mod ids;
-#[cfg(test)]
-mod queue;
 #[cfg(test)]
 mod refusals;
 #[cfg(test)]

@@ -256,8 +256,8 @@ fn each_growth_of_a_start_and_of_the_calls_is_refused_in_turn(rt: HostRuntime) {
     // of its attributes and its name.
     for (way, starts, nothing) in [(Way::Values, 4, 7), (Way::Names, 5, 6)] {
         let counts = refuse_in_turn(&rt, rt.alloc(), way);
-        let told = (counts.starts, counts.nothing);
-        assert_equal_at(&rt, told, (starts, nothing), way);
+        let found = (counts.starts, counts.nothing);
+        assert_equal_at(&rt, found, (starts, nothing), way);
         let calls = [1, 2, 4, 2, 0, 0, 0];
         assert_equal(&rt, counts.calls.as_slice(), calls.as_slice());
     }

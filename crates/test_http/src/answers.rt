@@ -44,7 +44,7 @@ fn assert_writes(
     assert_equal_at(rt, found, wanted, (reply, failing));
 }
 
-/// A status, a wait in seconds, the status's code, what stands for it in the first line of a reply,
+/// A status, a wait in seconds, the status's code, what the first line of a reply has for it,
 /// and the last fields of that.
 type Row = (ReplyStatus, Option<u64>, u16, &'static str, &'static str);
 
@@ -136,8 +136,8 @@ const REPLIES: [Row; 15] = [
 /// Checks how a status is reported, and what is written of a reply that has it.
 fn assert_written(rt: &impl Abort, alloc: Global, row: Row) {
     let (status, retry_after, code, line, fields) = row;
-    let told = (status.code(), Some(status.reason()));
-    assert_equal_at(rt, told, (code, line.get(4..)), code);
+    let plain = (status.code(), Some(status.reason()));
+    assert_equal_at(rt, plain, (code, line.get(4..)), code);
     let text = reply_with(rt, alloc, line, fields);
     let reply = PostReply {
         status,

@@ -8,36 +8,36 @@ use std::fmt::Display;
 use std::process::Abort;
 
 /// Checks how a fault is reported.
-fn assert_told<T: Display + Drop>(rt: &impl Abort, alloc: Global, fault: T, text: &str) {
-    let told = format!(in alloc; "{fault}").expect(rt, "memory");
-    assert_equal(rt, told.as_str(), text);
+fn assert_displayed<T: Display + Drop>(rt: &impl Abort, alloc: Global, fault: T, text: &str) {
+    let plain = format!(in alloc; "{fault}").expect(rt, "memory");
+    assert_equal(rt, plain.as_str(), text);
 }
 
 #[test]
-fn faults_of_messages_are_told(rt: HostRuntime) {
+fn faults_of_messages_are_displayed(rt: HostRuntime) {
     let alloc = rt.alloc();
-    assert_told(&rt, alloc, HttpFault::Ended, "the message ended early");
-    assert_told(&rt, alloc, HttpFault::Device, "the device failed");
-    assert_told(&rt, alloc, HttpFault::BadHead, "bad head");
-    assert_told(&rt, alloc, HttpFault::BadLength, "bad length");
-    assert_told(&rt, alloc, HttpFault::BadChunk, "bad chunk");
-    assert_told(&rt, alloc, HttpFault::TooLarge, "too large");
-    assert_told(&rt, alloc, HttpFault::OutOfMemory, "out of memory");
+    assert_displayed(&rt, alloc, HttpFault::Ended, "the message ended early");
+    assert_displayed(&rt, alloc, HttpFault::Device, "the device failed");
+    assert_displayed(&rt, alloc, HttpFault::BadHead, "bad head");
+    assert_displayed(&rt, alloc, HttpFault::BadLength, "bad length");
+    assert_displayed(&rt, alloc, HttpFault::BadChunk, "bad chunk");
+    assert_displayed(&rt, alloc, HttpFault::TooLarge, "too large");
+    assert_displayed(&rt, alloc, HttpFault::OutOfMemory, "out of memory");
     let fault = PostFault::Head(HttpFault::BadHead);
-    assert_told(&rt, alloc, fault, "request head: bad head");
+    assert_displayed(&rt, alloc, fault, "request head: bad head");
     let fault = PostFault::Body(HttpFault::TooLarge);
-    assert_told(&rt, alloc, fault, "request body: too large");
+    assert_displayed(&rt, alloc, fault, "request body: too large");
 }
 
 #[test]
-fn faults_of_targets_and_devices_are_told(rt: HostRuntime) {
+fn faults_of_targets_and_devices_are_displayed(rt: HostRuntime) {
     let alloc = rt.alloc();
     let text = "bad host: a host is letters, digits, dots and dashes";
-    assert_told(&rt, alloc, TargetFault::BadHost, text);
+    assert_displayed(&rt, alloc, TargetFault::BadHost, text);
     let text = "bad path: a path is a slash and visible characters";
-    assert_told(&rt, alloc, TargetFault::BadPath, text);
-    assert_told(&rt, alloc, TargetFault::OutOfMemory, "out of memory");
-    assert_told(&rt, alloc, DeviceFailed, "the device failed");
+    assert_displayed(&rt, alloc, TargetFault::BadPath, text);
+    assert_displayed(&rt, alloc, TargetFault::OutOfMemory, "out of memory");
+    assert_displayed(&rt, alloc, DeviceFailed, "the device failed");
     let stopped = Stopped { sent: 2 };
-    assert_told(&rt, alloc, stopped, "the device failed after 2 bytes");
+    assert_displayed(&rt, alloc, stopped, "the device failed after 2 bytes");
 }

@@ -1,4 +1,4 @@
-//! Texts that tests read as replies, how they come, and what is told of a reply in plain values.
+//! Texts that tests read as replies, how they come, and what a reply is in plain values.
 
 use crate::equal::{assert_equal, assert_equal_at};
 use otlp_http::{
@@ -19,15 +19,12 @@ pub const HEAD: &[u8] = b"HTTP/1.1 200 OK\r\nContent-Length: 7\r\n\r\n";
 pub const REPLY: &[u8] =
     b"HTTP/1.1 200 OK\r\nContent-Length: 7\r\n\r\n\x0a\x05\x08\x02\x12\x01\x78";
 
-/// The type of a body that a collector takes.
-pub const TYPE: &str = "Content-Type: application/x-protobuf\r\n";
-
 /// What was read: a reply's status, the wait that it asks for, and its body or why that can't be
 /// had; or why there is no reply.
-pub type Told<'a> = Result<(u16, Option<RetryAfter>, Result<&'a [u8], HttpFault>), HttpFault>;
+pub type Plain<'a> = Result<(u16, Option<RetryAfter>, Result<&'a [u8], HttpFault>), HttpFault>;
 
 /// What was read, in plain values.
-pub(crate) fn told<A: Allocator>(answer: &Result<Reply<A>, HttpFault>) -> Told<'_> {
+pub(crate) fn plain<A: Allocator>(answer: &Result<Reply<A>, HttpFault>) -> Plain<'_> {
     match answer {
         Ok(reply) => Ok((reply.status, reply.retry_after, body_of(&reply.body))),
         Err(fault) => Err(*fault),
@@ -80,18 +77,6 @@ pub(crate) fn reply_with(rt: &impl Abort, alloc: Global, status: &str, fields: &
         text.push_str(piece).expect(rt, "memory");
     }
     text
-}
-
-/// The same of this status, this reason and these last fields.
-pub(crate) fn reply_text(
-    rt: &impl Abort,
-    alloc: Global,
-    code: u16,
-    reason: &str,
-    fields: &str,
-) -> String {
-    let status = format!(in alloc; "{code} {reason}").expect(rt, "memory");
-    reply_with(rt, alloc, status.as_str(), fields)
 }
 
 /// A target with this host, this port and this path.
@@ -193,10 +178,10 @@ pub(crate) fn assert_reply(
     alloc: Global,
     text: &[u8],
     way: Way,
-    wanted: (Told<'_>, Rest),
+    wanted: (Plain<'_>, Rest),
 ) {
     let (answer, rest) = read_way(rt, alloc, alloc, text, way);
-    assert_equal_at(rt, (told(&answer), rest), wanted, text);
+    assert_equal_at(rt, (plain(&answer), rest), wanted, text);
 }
 
 /// The most bytes that a call gives of a text that is read in parts of several sizes, and at once.
@@ -207,7 +192,7 @@ pub(crate) fn assert_read(
     rt: &impl Abort,
     alloc: Global,
     text: &[u8],
-    wanted: Told<'_>,
+    wanted: Plain<'_>,
     left: usize,
 ) {
     for most in PARTS {

@@ -1,36 +1,31 @@
-//! Tests of `http_wire`, `otlp_http`, `http_exporter`, `otlp_serve`, `otlp_collector` and
-//! `program_collector_parts` over public calls alone. The crate has no items of its own.
+//! Tests of `http_wire`, `otlp_http` and `otlp_serve` over public calls alone: what is read and
+//! written of requests and replies, in parts and at once, where devices fail, and where memory is
+//! refused. The crate has no items of its own.
 #![tactic(auto)]
 
 #[cfg(test)]
 mod answers;
 #[cfg(test)]
-mod changes;
+mod changed_bytes;
 #[cfg(test)]
 mod chunks;
-#[cfg(test)]
-mod collector;
 #[cfg(test)]
 mod devices;
 #[cfg(test)]
 mod equal;
 #[cfg(test)]
-mod exporter;
-#[cfg(test)]
 mod faults;
 #[cfg(test)]
 mod fixture;
 #[cfg(test)]
-mod network;
-#[cfg(test)]
-mod places;
+mod head_places;
 #[cfg(test)]
 mod posts;
+#[cfg(test)]
+mod refused_memory;
 #[cfg(test)]
 mod replies;
 #[cfg(test)]
 mod requests;
-#[cfg(test)]
-mod scarce;
 #[cfg(test)]
 mod targets;

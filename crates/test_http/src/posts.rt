@@ -18,10 +18,10 @@ pub(crate) const HEAD: &[u8] = b"POST /v1/traces HTTP/1.1\r\n\
 const SHORT_HEAD: &[u8] = b"\r\nPUT /x?y=\xc3\xa9 HTTP/1.0\nContent-Length:7\n\n";
 
 /// What was read: a request's method, target and body, or why there is none.
-pub(crate) type Told<'a> = Result<(&'a str, &'a str, &'a [u8]), PostFault>;
+pub(crate) type Plain<'a> = Result<(&'a str, &'a str, &'a [u8]), PostFault>;
 
 /// What was read, in plain values.
-pub(crate) fn told<A: Allocator>(answer: &Result<Post<A>, PostFault>) -> Told<'_> {
+pub(crate) fn plain<A: Allocator>(answer: &Result<Post<A>, PostFault>) -> Plain<'_> {
     match answer {
         Ok(post) => Ok((
             post.method.as_str(),
@@ -33,7 +33,7 @@ pub(crate) fn told<A: Allocator>(answer: &Result<Post<A>, PostFault>) -> Told<'_
 }
 
 /// The whole request.
-const WHOLE: Told<'static> = Ok(("POST", "/v1/traces", BODY));
+const WHOLE: Plain<'static> = Ok(("POST", "/v1/traces", BODY));
 
 /// The request that a reader gives, within these limits.
 pub(crate) fn read<R: FaultRead, A: Allocator + Copy>(
@@ -67,10 +67,10 @@ pub(crate) fn assert_post(
     alloc: Global,
     text: &[u8],
     way: Way,
-    wanted: (Told<'_>, Rest),
+    wanted: (Plain<'_>, Rest),
 ) {
     let (answer, rest) = read_way(rt, alloc, alloc, text, way);
-    assert_equal_at(rt, (told(&answer), rest), wanted, text);
+    assert_equal_at(rt, (plain(&answer), rest), wanted, text);
 }
 
 /// Checks what a text is read as in parts of several sizes, and how many of its bytes are left.
@@ -78,7 +78,7 @@ pub(crate) fn assert_read(
     rt: &impl Abort,
     alloc: Global,
     text: &[u8],
-    wanted: Told<'_>,
+    wanted: Plain<'_>,
     left: usize,
 ) {
     for most in PARTS {
@@ -87,14 +87,14 @@ pub(crate) fn assert_read(
 }
 
 /// What a request by POST for `/` is read as that has this body, or whose body can't be had.
-pub(crate) fn post_of(body: Result<&[u8], HttpFault>) -> Told<'_> {
+pub(crate) fn post_of(body: Result<&[u8], HttpFault>) -> Plain<'_> {
     match body {
         Ok(body) => Ok(("POST", "/", body)),
         Err(fault) => Err(PostFault::Body(fault)),
     }
 }
 
-/// Fields that tell no length.
+/// Fields that give no length.
 const NO_LENGTHS: [&[u8]; 10] = [
     b"Content-Length: x\r\n",
     b"Content-Length: 1, 1\r\n",
@@ -108,7 +108,7 @@ const NO_LENGTHS: [&[u8]; 10] = [
     b"Content-Length: 1\r\ntransfer-encoding: chunked\r\n",
 ];
 
-/// Checks that a request with these fields tells no length, and that the three bytes after its
+/// Checks that a request with these fields has no length, and that the three bytes after its
 /// head are left.
 fn assert_no_length(rt: &impl Abort, alloc: Global, fields: &'static [u8]) {
     let text = (
@@ -129,7 +129,7 @@ fn a_length_that_is_none_is_bad(rt: HostRuntime) {
 }
 
 /// Checks that each front of a request with this head has ended, and what the whole is read as.
-fn assert_cut(rt: &impl Abort, alloc: Global, head: &[u8], wanted: Told<'_>) {
+fn assert_cut(rt: &impl Abort, alloc: Global, head: &[u8], wanted: Plain<'_>) {
     let text = joined(rt, alloc, head, BODY);
     for size in 0..text.len() {
         let front = text.get(..size).expect(rt, "a front");

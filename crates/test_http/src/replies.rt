@@ -2,7 +2,7 @@
 
 use crate::chunks;
 use crate::fixture::{
-    BODY, HEAD, REPLY, Text, Told, assert_read, assert_reply, bytes_of, failing, joined, within,
+    BODY, HEAD, Plain, REPLY, Text, assert_read, assert_reply, bytes_of, failing, joined, within,
 };
 use otlp_http::{HeadLimits, HttpFault};
 use retry_core::RetryAfter;
@@ -10,12 +10,12 @@ use std::alloc::Global;
 use std::process::Abort;
 
 /// Checks what a reply is read as, and how many of its bytes are left.
-fn assert_text(rt: &impl Abort, alloc: Global, text: Text, wanted: Told<'_>, left: usize) {
+fn assert_text(rt: &impl Abort, alloc: Global, text: Text, wanted: Plain<'_>, left: usize) {
     assert_read(rt, alloc, &bytes_of(rt, alloc, text), wanted, left);
 }
 
 /// What the reply with a body is read as.
-const WHOLE: Told<'static> = Ok((200, None, Ok(BODY)));
+const WHOLE: Plain<'static> = Ok((200, None, Ok(BODY)));
 
 /// The first line of a reply that has fields.
 const OK: &[u8] = b"HTTP/1.1 200 OK\r\n";
@@ -194,7 +194,7 @@ fn of_a_bad_reply_its_head_is_read_at_most(rt: HostRuntime) {
 }
 
 #[test]
-fn interim_heads_may_stand_behind_many_empty_lines(rt: HostRuntime) {
+fn interim_heads_may_come_after_many_empty_lines(rt: HostRuntime) {
     let alloc = rt.alloc();
     let interim = bytes_of(&rt, alloc, (b"", b"\n", 16_366, b"HTTP/1.1 100 N\r\n\r\n"));
     let mut text = Vec::new(alloc);
@@ -207,7 +207,7 @@ fn interim_heads_may_stand_behind_many_empty_lines(rt: HostRuntime) {
 
 /// Limits of a head's bytes, of its fields and of a body's bytes, what the reply is read as within
 /// them, and how many of its bytes are left.
-const LOWER: [(HeadLimits, Told<'static>, usize); 3] = [
+const LOWER: [(HeadLimits, Plain<'static>, usize); 3] = [
     // A field too many is reported at the end of the head.
     (
         HeadLimits {
@@ -336,7 +336,7 @@ fn a_reply_stops_at_each_read_that_fails(rt: HostRuntime) {
 pub(crate) const BAD_FIELD: &[u8] = b"HTTP/1.1 200 OK\r\nA b: c\r\nD: e\r\n\r\n";
 
 #[test]
-fn a_bad_head_is_told_where_a_read_fails(rt: HostRuntime) {
+fn a_bad_head_is_reported_where_a_read_fails(rt: HostRuntime) {
     for at in 25..33usize {
         let left = 33usize.saturating_sub(at);
         let wanted = (Err(HttpFault::BadHead), (left, 1));

@@ -1,4 +1,4 @@
-//! Targets that tell their parts, and memory that is refused to one.
+//! Targets that give their parts, and memory that is refused to one.
 
 use crate::equal::{assert_equal, assert_equal_at};
 use crate::fixture::target;
@@ -8,7 +8,7 @@ use std::alloc::Global;
 use std::process::Abort;
 use test_support::FailingAllocator;
 
-/// Checks that a target tells its parts.
+/// Checks that a target gives its parts.
 fn assert_parts(rt: &impl Abort, alloc: Global, host: &str, port: u16, path: &str) {
     let target = target(alloc, host, port, path).expect(rt, "a target");
     let parts = (target.host(), target.port(), target.path());
@@ -16,7 +16,7 @@ fn assert_parts(rt: &impl Abort, alloc: Global, host: &str, port: u16, path: &st
 }
 
 #[test]
-fn a_target_tells_its_parts(rt: HostRuntime) {
+fn a_target_gives_its_parts(rt: HostRuntime) {
     let alloc = rt.alloc();
     assert_parts(&rt, alloc, "127.0.0.1", 4318, "/v1/traces");
     assert_parts(&rt, alloc, "Collector-9.example", 0, "/");

@@ -1,5 +1,6 @@
 //! Comparisons, each a call of a function of its own: `assert_eq!` in its place is proved with the
-//! body that it is in, which takes ten times as long.
+//! body that it is in, which takes ten times as long. Each crate of tests has its own, since a
+//! library may not have functions that end the process.
 use std::alloc::Global;
 use std::fmt::{Debug, Display};
 use std::process::Abort;
@@ -19,13 +20,13 @@ where
 }
 
 /// Asserts how a fault is reported.
-pub(crate) fn assert_told<T: Display>(rt: &impl Abort, alloc: Global, fault: &T, text: &str) {
-    let told = format!(in alloc; "{fault}").expect(rt, "memory");
-    assert_equal(rt, told.as_str(), text);
+pub(crate) fn assert_displayed<T: Display>(rt: &impl Abort, alloc: Global, fault: &T, text: &str) {
+    let found = format!(in alloc; "{fault}").expect(rt, "memory");
+    assert_equal(rt, found.as_str(), text);
 }
 
 /// Asserts how a value is shown to a programmer.
 pub(crate) fn assert_shown<T: Debug>(rt: &impl Abort, alloc: Global, value: &T, text: &str) {
-    let shown = format!(in alloc; "{value:?}").expect(rt, "memory");
-    assert_equal(rt, shown.as_str(), text);
+    let found = format!(in alloc; "{value:?}").expect(rt, "memory");
+    assert_equal(rt, found.as_str(), text);
 }

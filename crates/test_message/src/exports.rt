@@ -1,6 +1,6 @@
 //! Groups of spans by resource and scope, a large body, the greatest length, and refused memory.
 
-use crate::equal::{assert_equal, assert_equal_at, assert_told};
+use crate::equal::{assert_displayed, assert_equal, assert_equal_at};
 use crate::samples::{Sample, spans_of, spans_of_remote};
 use linked_list_allocator::LocalHeap;
 use otlp_proto::{EncodeFault, body_of, encode};
@@ -68,7 +68,7 @@ fn made<A: Allocator + Copy>(
 }
 
 /// What was made, to be compared.
-fn told(made: &Result<String, EncodeFault>) -> Result<&str, EncodeFault> {
+fn plain(made: &Result<String, EncodeFault>) -> Result<&str, EncodeFault> {
     match made {
         Ok(text) => Ok(text),
         Err(fault) => Err(*fault),
@@ -116,7 +116,7 @@ fn assert_exported(
 ) {
     for making in [Making::Body, Making::Encoding] {
         let made = made(rt, alloc, (alloc, alloc), (samples, making, max));
-        assert_equal_at(rt, told(&made), want, max);
+        assert_equal_at(rt, plain(&made), want, max);
     }
 }
 
@@ -225,7 +225,7 @@ fn count_calls(
     } else {
         Ok(text)
     };
-    assert_equal_at(rt, told(&made), want, fail_index);
+    assert_equal_at(rt, plain(&made), want, fail_index);
     assert_equal_at(rt, heap.used(), 0, fail_index);
     scarce.calls()
 }
@@ -256,7 +256,7 @@ fn each_call_for_memory_is_refused_in_turn(rt: HostRuntime) {
 }
 
 #[test]
-fn tells_each_fault(rt: HostRuntime) {
-    assert_told(&rt, rt.alloc(), &EncodeFault::OutOfMemory, "out of memory");
-    assert_told(&rt, rt.alloc(), &EncodeFault::TooLarge, "too large");
+fn each_fault_is_displayed(rt: HostRuntime) {
+    assert_displayed(&rt, rt.alloc(), &EncodeFault::OutOfMemory, "out of memory");
+    assert_displayed(&rt, rt.alloc(), &EncodeFault::TooLarge, "too large");
 }

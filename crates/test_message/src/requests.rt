@@ -9,7 +9,7 @@ use std::alloc::{Allocator, Global};
 use std::process::Abort;
 use test_support::FailingAllocator;
 
-/// What is told of a request.
+/// What is reported of a request.
 #[derive(Clone, Copy)]
 enum Telling {
     /// All its values, as `Debug` shows them.
@@ -40,7 +40,7 @@ fn read<A: Allocator + Copy>(
 /// What came of a request.
 #[derive(Clone, Copy, Debug, PartialEq, Eq)]
 enum Outcome {
-    /// What was to be told of it is reported.
+    /// What was to be said of it is reported.
     Whole,
     /// Memory for the list of its spans was refused.
     WithoutSpans,
@@ -58,8 +58,8 @@ fn outcome_of<A: Allocator + Copy>(
     (body, telling, text): (&[u8], Telling, &str),
 ) -> Outcome {
     match read(rt, alloc, memory, (body, telling)) {
-        Ok(told) if told.as_str() == text => Outcome::Whole,
-        Ok(told) if told.as_str() == "no spans" => Outcome::WithoutSpans,
+        Ok(plain) if plain.as_str() == text => Outcome::Whole,
+        Ok(plain) if plain.as_str() == "no spans" => Outcome::WithoutSpans,
         Ok(_) => Outcome::Other,
         Err(fault) => Outcome::Fault(fault),
     }
@@ -136,7 +136,7 @@ fn deep_body(rt: &impl Abort, alloc: Global) -> Vec<u8> {
 }
 
 #[test]
-fn each_fault_is_told(rt: HostRuntime) {
+fn each_fault_is_reported(rt: HostRuntime) {
     let alloc = rt.alloc();
     for (body, fault) in FAULTS {
         let row = (*body, Telling::Values, "");
@@ -191,7 +191,7 @@ fn count_refused(rt: &impl Abort, alloc: Global, row: (&[u8], Telling, &str)) ->
 }
 
 #[test]
-fn each_refusal_of_memory_is_told(rt: HostRuntime) {
+fn each_refusal_of_memory_is_reported(rt: HostRuntime) {
     let alloc = rt.alloc();
     let (read, listed) = count_refused(&rt, alloc, RICH_ROW);
     assert_equal_at(&rt, read >= 24 && read <= 120, true, read);

@@ -1,7 +1,7 @@
 //! Responses that are read and written, with bytes that were written out by hand
 //! (opentelemetry-proto, trace_service.proto; Protocol Buffers, "Encoding").
 
-use crate::equal::{assert_equal_at, assert_told};
+use crate::equal::{assert_displayed, assert_equal_at};
 use linked_list_allocator::LocalHeap;
 use otlp_message::{
     PartialSuccess, ReadFault, Response, read_partial_bytes, read_rejected_spans, read_response,
@@ -13,10 +13,10 @@ use std::process::Abort;
 use test_support::FailingAllocator;
 
 /// How many spans a response says were rejected, and for which cause; or why it is none.
-type Told<'a> = Result<(i64, &'a str), ReadFault>;
+type Plain<'a> = Result<(i64, &'a str), ReadFault>;
 
-/// What a response tells.
-fn told<A: Allocator>(response: &Result<Response<A>, ReadFault>) -> Told<'_> {
+/// What a response says, in plain values.
+fn plain<A: Allocator>(response: &Result<Response<A>, ReadFault>) -> Plain<'_> {
     match response {
         Ok(response) => {
             let partial = response.partial_success();
@@ -27,13 +27,13 @@ fn told<A: Allocator>(response: &Result<Response<A>, ReadFault>) -> Told<'_> {
 }
 
 /// Checks what a response is read as, with this memory.
-fn assert_read<A: Allocator>(rt: &impl Abort, memory: A, body: &[u8], want: Told<'_>) {
+fn assert_read<A: Allocator>(rt: &impl Abort, memory: A, body: &[u8], want: Plain<'_>) {
     let response = read_response(memory, body);
-    assert_equal_at(rt, told(&response), want, body);
+    assert_equal_at(rt, plain(&response), want, body);
 }
 
 /// Checks how many spans are read to be rejected, without memory.
-fn assert_rejected(rt: &impl Abort, body: &[u8], want: Told<'_>) {
+fn assert_rejected(rt: &impl Abort, body: &[u8], want: Plain<'_>) {
     let want = match want {
         Ok((rejected, _)) => Ok(rejected),
         Err(fault) => Err(fault),
@@ -41,12 +41,12 @@ fn assert_rejected(rt: &impl Abort, body: &[u8], want: Told<'_>) {
     assert_equal_at(rt, read_rejected_spans(body), want, body);
 }
 
-const TRUNCATED: Told<'_> = Err(ReadFault::Wire(WireFault::Truncated));
+const TRUNCATED: Plain<'_> = Err(ReadFault::Wire(WireFault::Truncated));
 
-const BAD_NUMBER: Told<'_> = Err(ReadFault::Wire(WireFault::BadNumber));
+const BAD_NUMBER: Plain<'_> = Err(ReadFault::Wire(WireFault::BadNumber));
 
-/// Bodies, and what they tell.
-const BODIES: &[(&[u8], Told<'_>)] = &[
+/// Bodies, and what they say.
+const BODIES: &[(&[u8], Plain<'_>)] = &[
     (b"", Ok((0, ""))),
     (b"\x0a\x00", Ok((0, ""))),
     (b"\x0a\x05\x08\x02\x12\x01x", Ok((2, "x"))),
@@ -133,7 +133,7 @@ fn the_message_of_a_status_is_read(rt: HostRuntime) {
 }
 
 #[test]
-fn a_refusal_of_memory_for_a_message_is_told(rt: HostRuntime) {
+fn a_refusal_of_memory_for_a_message_is_reported(rt: HostRuntime) {
     let heap = LocalHeap::new(rt.alloc(), 4096).expect(&rt, "memory");
     let message = b"\x0a\x05\x08\x02\x12\x01x".as_slice();
     for (body, fail_index, want, calls) in [
@@ -198,7 +198,7 @@ fn a_long_message_is_read_and_written(rt: HostRuntime) {
 }
 
 #[test]
-fn each_refusal_of_memory_for_a_body_is_told(rt: HostRuntime) {
+fn each_refusal_of_memory_for_a_body_is_reported(rt: HostRuntime) {
     let alloc = rt.alloc();
     let mut refused = 0u64;
     for fail_index in 0..=16u64 {
@@ -214,7 +214,7 @@ fn each_refusal_of_memory_for_a_body_is_told(rt: HostRuntime) {
 }
 
 #[test]
-fn faults_are_told(rt: HostRuntime) {
+fn faults_are_displayed(rt: HostRuntime) {
     let alloc = rt.alloc();
     for (fault, text) in [
         (
@@ -238,6 +238,6 @@ fn faults_are_told(rt: HostRuntime) {
         (ReadFault::TooDeep, "a value nests too deep"),
         (ReadFault::OutOfMemory, "out of memory"),
     ] {
-        assert_told(&rt, alloc, &fault, text);
+        assert_displayed(&rt, alloc, &fault, text);
     }
 }

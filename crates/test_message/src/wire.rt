@@ -112,7 +112,7 @@ fn puts_each_payload_at_its_place(rt: HostRuntime) {
 }
 
 // Whether the writer got its memory, on a heap of so many bytes, or nothing where not even the
-// bytes before it fit. What stood there stands.
+// bytes before it fit. What was there stays.
 fn grows(rt: &impl Abort, alloc: Global, payload: Payload, size: usize) -> Option<bool> {
     let heap = LocalHeap::new(alloc, size).expect(rt, "memory");
     let mut out = Vec::from_slice(&heap, b"what stood before").ok()?;

@@ -110,7 +110,7 @@ pub(crate) fn exporter<A: Allocator + Copy>(
 }
 
 /// Asserts how a fault is reported.
-pub(crate) fn assert_told<T: Display>(rt: &impl Abort, alloc: Global, fault: &T, want: &str) {
-    let told = format!(in alloc; "{fault}").expect(rt, "memory");
-    assert_equal(rt, told.as_str(), want);
+pub(crate) fn assert_displayed<T: Display>(rt: &impl Abort, alloc: Global, fault: &T, want: &str) {
+    let shown = format!(in alloc; "{fault}").expect(rt, "memory");
+    assert_equal(rt, shown.as_str(), want);
 }

@@ -190,15 +190,15 @@ impl Posted {
 /// What comes before the first blank line of a text, and what comes after it.
 fn split_at_blank(text: &[u8]) -> Option<(&[u8], &[u8])> {
     for at in 0..text.len() {
-        let behind = text.get(at..)?;
-        if behind.starts_with(b"\r\n\r\n") {
-            return Some((text.get(..at)?, behind.get(4..)?));
+        let after = text.get(at..)?;
+        if after.starts_with(b"\r\n\r\n") {
+            return Some((text.get(..at)?, after.get(4..)?));
         }
     }
     None
 }
 
-/// The length that the last line of a head but one tells.
+/// The length that the last line of a head but one gives.
 fn content_length(head: &[u8]) -> Option<usize> {
     let head = str::from_utf8(head).ok()?;
     for line in head.lines() {
@@ -244,11 +244,11 @@ fn add_fields<'a>(rt: &impl Abort, message: &'a [u8], number: u64, found: &mut V
         if rest.is_empty() {
             return;
         }
-        let (key, held, behind) = read_field(rest).expect(rt, "a field");
+        let (key, held, after) = read_field(rest).expect(rt, "a field");
         if key == number {
             found.push(held).expect(rt, "memory");
         }
-        rest = behind;
+        rest = after;
     }
 }
 

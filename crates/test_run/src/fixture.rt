@@ -1,4 +1,4 @@
-//! Programs in short, what they run with, and what a run tells.
+//! Programs in short, what they run with, and what a run reports.
 use crate::equal::{assert_equal, assert_equal_at};
 use batch_desk::{Desk, DeskConfig, Totals};
 use drop_ledger::Ledger;
@@ -187,7 +187,7 @@ pub(crate) fn steps<A: Allocator + Copy>(
     steps
 }
 
-// ---- what a run has, and what it tells
+// ---- what a run has, and what it reports
 
 /// What a run has before its first step: the scope `s`, and spans of these words that this sampler
 /// decides on. Batches are sent again as by default.
@@ -261,9 +261,9 @@ pub(crate) fn assert_left(rt: &impl Abort, found: &Left, wanted: &Left) {
     assert_equal(rt, found.abandoned, wanted.abandoned);
 }
 
-/// What a run answered, and what its report tells.
+/// What a run answered, and what its report says.
 #[derive(Drop)]
-pub(crate) struct Told<A: Allocator> {
+pub(crate) struct Said<A: Allocator> {
     pub(crate) answers: Vec<Answer, A>,
     pub(crate) left: Left,
     pub(crate) totals: Totals,
@@ -319,10 +319,10 @@ fn before<A: Allocator>(report: &RunReport<A>, totals: Totals) -> Left {
     }
 }
 
-/// Closes a report, and answers what it told.
-fn close<A: Allocator + Copy>(rt: &impl Abort, alloc: A, report: RunReport<A>) -> Told<A> {
+/// Closes a report, and answers what it said.
+fn close<A: Allocator + Copy>(rt: &impl Abort, alloc: A, report: RunReport<A>) -> Said<A> {
     let totals = report.desk().totals();
-    let mut told = Told {
+    let mut said = Said {
         answers: Vec::from_slice(alloc, report.answers()).expect(rt, "memory"),
         left: before(&report, totals),
         totals,
@@ -332,8 +332,8 @@ fn close<A: Allocator + Copy>(rt: &impl Abort, alloc: A, report: RunReport<A>) -
         all_names: Vec::new(alloc),
     };
     let mut desk = report.close();
-    tell_closed(rt, alloc, &mut told, &mut desk);
-    told
+    look_at_closed(rt, alloc, &mut said, &mut desk);
+    said
 }
 
 /// How many spans are lost when a report is closed that leaves this: those of the batch that is
@@ -345,26 +345,26 @@ fn lost_with(left: &Left) -> u64 {
     }
 }
 
-/// Tells of the desk of a report that is closed.
-fn tell_closed<A: Allocator + Copy>(
+/// Adds what the desk of a report says that is closed.
+fn look_at_closed<A: Allocator + Copy>(
     rt: &impl Abort,
     alloc: A,
-    told: &mut Told<A>,
+    said: &mut Said<A>,
     desk: &mut Desk<A>,
 ) {
     assert_equal(rt, desk.out(), None);
     let mut totals = desk.totals();
-    told.left.abandoned = (totals.dropped.abandoned, totals.fates.abandoned);
-    totals.dropped.abandoned = told.totals.dropped.abandoned;
-    totals.fates.abandoned = told.totals.fates.abandoned;
-    let lost = told.totals.lost.saturating_add(lost_with(&told.left));
+    said.left.abandoned = (totals.dropped.abandoned, totals.fates.abandoned);
+    totals.dropped.abandoned = said.totals.dropped.abandoned;
+    totals.fates.abandoned = said.totals.fates.abandoned;
+    let lost = said.totals.lost.saturating_add(lost_with(&said.left));
     assert_equal(rt, (totals.lost, desk.lost().len()), (lost, lost));
-    totals.lost = told.totals.lost;
-    assert_equal(rt, totals, told.totals);
-    told.names = names(rt, alloc, desk.ledger());
-    told.lost = names(rt, alloc, desk.lost());
-    told.waiting = drop_waiting(rt, alloc, desk);
-    told.all_names = names(rt, alloc, desk.ledger());
+    totals.lost = said.totals.lost;
+    assert_equal(rt, totals, said.totals);
+    said.names = names(rt, alloc, desk.ledger());
+    said.lost = names(rt, alloc, desk.lost());
+    said.waiting = drop_waiting(rt, alloc, desk);
+    said.all_names = names(rt, alloc, desk.ledger());
     assert_equal(rt, desk.lost().len(), lost);
 }
 
@@ -375,7 +375,7 @@ pub(crate) fn run_steps<S: Sampler + Drop, E: Exporter, A: Allocator + Copy>(
     config: RunConfig<S, WordsRng<A>, A>,
     steps: &[Step<A>],
     exporter: &mut E,
-) -> Result<Told<A>, OutOfMemory> {
+) -> Result<Said<A>, OutOfMemory> {
     let (ample, scarce) = memory;
     let (queue, batch) = (config.desk.queue, config.desk.batch);
     assert!(rt; 0 < batch && batch <= queue && queue <= MAX_QUEUE);
@@ -439,12 +439,12 @@ impl Refusals {
     }
 
     /// Counts a run at this place in which so many refusals were reported: one at most.
-    pub(crate) fn count(&mut self, rt: &impl Abort, told: usize, place: u64) {
-        match told {
+    pub(crate) fn count(&mut self, rt: &impl Abort, said: usize, place: u64) {
+        match said {
             0 => self.granted = self.granted.saturating_add(1),
             _ => self.refused = self.refused.saturating_add(1),
         }
-        assert_equal_at(rt, told <= 1, true, (place, told));
+        assert_equal_at(rt, said <= 1, true, (place, said));
     }
 
     /// Asserts that there were so many of each, or more.

@@ -1,7 +1,7 @@
 //! Tests over public calls: of runs, with what the exporter was handed, links that fail, failures
-//! at random, and each refusal of memory; of exporters over memory; and of the program
-//! `trace-script` in scarce memory. What a run answers and prints is tried by the stored runs of
-//! that program, in examples/. The crate has no items of its own.
+//! at random, and each refusal of memory; and of exporters over memory. What a run answers and
+//! prints is tried by the stored runs of `trace-script`, in examples/. The crate has no items of
+//! its own.
 #![tactic(auto)]
 
 #[cfg(test)]
@@ -12,8 +12,6 @@ mod exporters;
 mod far_side;
 #[cfg(test)]
 mod fixture;
-#[cfg(test)]
-mod growths;
 #[cfg(test)]
 mod links;
 #[cfg(test)]

@@ -83,7 +83,7 @@ fn attempt(at: u64, number: u32, attempted: Attempted) -> [Row; 2] {
 }
 
 /// The moment of the attempt after one at this moment.
-fn moment_behind(at: u64, next: Next) -> u64 {
+fn moment_after(at: u64, next: Next) -> u64 {
     match next {
         Next::Again(moment) => moment,
         _ => at,
@@ -98,7 +98,7 @@ fn program(rt: &impl Abort, alloc: Global, attempts: &[Attempted]) -> Vec<Row> {
     for attempted in attempts {
         let rows = attempt(at, number, *attempted);
         program.extend_from_slice(&rows).expect(rt, "memory");
-        at = moment_behind(at, attempted.1);
+        at = moment_after(at, attempted.1);
         number = number.wrapping_add(1);
     }
     program
@@ -124,18 +124,18 @@ fn assert_run<E: Exporter>(
 ) {
     let config = config(rt, alloc, AlwaysOn, desk(1, 1), roots(rt, alloc));
     let steps = steps(rt, alloc, program);
-    let told = run_steps(rt, (alloc, alloc), config, steps.as_slice(), exporter);
-    let told = told.expect(rt, "memory");
-    assert_answers(rt, told.answers.as_slice(), program);
-    assert_left(rt, &told.left, &NOTHING_LEFT);
+    let said = run_steps(rt, (alloc, alloc), config, steps.as_slice(), exporter);
+    let said = said.expect(rt, "memory");
+    assert_answers(rt, said.answers.as_slice(), program);
+    assert_left(rt, &said.left, &NOTHING_LEFT);
     let lost = lost.map(|reason| Entry {
         trace: TRACE,
         span: span_id(0),
         ticket: 0,
         reason,
     });
-    assert_equal(rt, told.lost.first(), lost.as_ref());
-    let counts = (told.names.len(), told.lost.len(), told.totals.lost);
+    assert_equal(rt, said.lost.first(), lost.as_ref());
+    let counts = (said.names.len(), said.lost.len(), said.totals.lost);
     let count = u64::from(lost.is_some());
     assert_equal(rt, counts, (0, count as usize, count));
 }

@@ -1,7 +1,7 @@
 //! Runs to which memory is refused once, at each place in turn.
 use crate::equal::{assert_equal, assert_equal_at};
 use crate::fixture::{
-    Do, Gives, Left, Refusals, Row, TRACE, Told, assert_answers, assert_left, config, desk,
+    Do, Gives, Left, Refusals, Row, Said, TRACE, assert_answers, assert_left, config, desk,
     exporter, roots, run_steps, span_id, steps,
 };
 use linked_list_allocator::LocalHeap;
@@ -140,16 +140,16 @@ fn count_named(names: &[Entry], ticket: u64) -> usize {
 fn assert_accounted<A: Allocator + Copy>(
     rt: &impl Abort,
     ample: A,
-    told: &Told<A>,
+    said: &Said<A>,
     handed: &[Handed<A>],
 ) {
-    let tickets = tickets(rt, ample, told.answers.as_slice());
-    let dropped = told.totals.dropped.queue_full;
-    let ended = told.totals.accepted.saturating_add(dropped);
+    let tickets = tickets(rt, ample, said.answers.as_slice());
+    let dropped = said.totals.dropped.queue_full;
+    let ended = said.totals.accepted.saturating_add(dropped);
     assert_equal(rt, ended, tickets.len() as u64);
-    assert_equal(rt, (told.lost.len(), told.totals.lost), (0, 0));
+    assert_equal(rt, (said.lost.len(), said.totals.lost), (0, 0));
     for (ticket, span) in &tickets {
-        let named = count_named(told.all_names.as_slice(), *ticket);
+        let named = count_named(said.all_names.as_slice(), *ticket);
         let handed = count_handed(handed, *span);
         assert_equal_at(rt, named.saturating_add(handed), 1, ticket);
     }
@@ -167,9 +167,9 @@ const LEFT: Left = Left {
 
 /// Asserts what is answered and left where no memory is refused. The batch that is out ends with
 /// the report: it was not handed, so its span is the newest that is named.
-fn assert_whole<A: Allocator>(rt: &impl Abort, told: &Told<A>) {
-    assert_answers(rt, told.answers.as_slice(), PROGRAM);
-    assert_left(rt, &told.left, &LEFT);
+fn assert_whole<A: Allocator>(rt: &impl Abort, said: &Said<A>) {
+    assert_answers(rt, said.answers.as_slice(), PROGRAM);
+    assert_left(rt, &said.left, &LEFT);
     let names = [(1, Reason::Abandoned), (2, Reason::QueueFull)];
     let names = names.map(|(ticket, reason)| Entry {
         trace: TRACE,
@@ -177,7 +177,7 @@ fn assert_whole<A: Allocator>(rt: &impl Abort, told: &Told<A>) {
         ticket,
         reason,
     });
-    assert_equal(rt, told.names.as_slice(), names.as_slice());
+    assert_equal(rt, said.names.as_slice(), names.as_slice());
 }
 
 /// Asserts that the spans of a run are accounted for, and all that is reported where no step is
@@ -185,26 +185,26 @@ fn assert_whole<A: Allocator>(rt: &impl Abort, told: &Told<A>) {
 fn count_answered<A: Allocator + Copy>(
     rt: &impl Abort,
     ample: A,
-    told: &Told<A>,
+    said: &Said<A>,
     handed: &[Handed<A>],
 ) -> usize {
-    assert_accounted(rt, ample, told, handed);
-    let refused = count_refused(told.answers.as_slice());
+    assert_accounted(rt, ample, said, handed);
+    let refused = count_refused(said.answers.as_slice());
     if refused == 0 {
-        assert_whole(rt, told);
+        assert_whole(rt, said);
     }
     refused
 }
 
-/// How many refusals were told of a run, whose spans are accounted for.
-fn count_told<A: Allocator + Copy>(
+/// How many refusals were reported of a run, whose spans are accounted for.
+fn count_said<A: Allocator + Copy>(
     rt: &impl Abort,
     ample: A,
-    told: &Result<Told<A>, OutOfMemory>,
+    said: &Result<Said<A>, OutOfMemory>,
     handed: &[Handed<A>],
 ) -> usize {
-    match told {
-        Ok(told) => count_answered(rt, ample, told, handed),
+    match said {
+        Ok(said) => count_answered(rt, ample, said, handed),
         Err(OutOfMemory) => {
             assert_equal(rt, handed.len(), 0);
             1
@@ -218,8 +218,8 @@ fn run_scarce<A: Allocator + Copy>(rt: &impl Abort, ample: A, scarce: A) -> usiz
     let config = config(rt, ample, AlwaysOn, desk(2, 1), roots(rt, ample));
     let steps = steps(rt, ample, PROGRAM);
     let memory = (ample, scarce);
-    let told = run_steps(rt, memory, config, steps.as_slice(), &mut exporter);
-    count_told(rt, ample, &told, exporter.handed())
+    let said = run_steps(rt, memory, config, steps.as_slice(), &mut exporter);
+    count_said(rt, ample, &said, exporter.handed())
 }
 
 /// More calls for memory than the run makes.

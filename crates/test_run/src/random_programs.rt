@@ -44,7 +44,7 @@ impl Making {
         below(&mut self.rng, count)
     }
 
-    /// The moment of a clock that goes on by up to three seconds, or stands still.
+    /// The moment of a clock that goes on by up to three seconds, or stays as it is.
     fn moment(&mut self) -> u64 {
         if one_in(&mut self.rng, 2) {
             let step = u64::from(below(&mut self.rng, 3_000)).saturating_mul(MILLISECOND);
@@ -123,14 +123,17 @@ impl Making {
     }
 }
 
+/// The longest of these names.
+const LONG_NAME: &str =
+    "a name that takes more bytes in a body than the others, and more room while it is kept";
+
 /// A name of a span, or of an attribute.
 fn name(number: u32) -> &'static str {
     match number {
         0 => "",
         1 => "a",
         2 => "a longer name",
-        _ =>
-            "a name that takes more bytes in a body than the others, and more room while it is kept",
+        _ => LONG_NAME,
     }
 }
 

@@ -1,7 +1,7 @@
 //! Whole runs in which memory, wires, replies and clocks fail at random.
 use crate::equal::{assert_equal, assert_equal_at};
 use crate::far_side::{Attempt, FarSide, RandomWires, add_spans};
-use crate::fixture::{Left, Told, run_steps};
+use crate::fixture::{Left, Said, run_steps};
 use crate::random_programs::{below, random_config, random_steps};
 use linked_list_allocator::LocalHeap;
 use otlp_ids::{OutOfMemory, SpanId};
@@ -109,7 +109,7 @@ fn event_of<A: Allocator>(step: &Step<A>, answer: &Answer) -> Option<Event> {
     }
 }
 
-/// A span that was asked for, as the steps and their answers tell.
+/// A span that was asked for, as the steps and their answers say.
 #[derive(Clone, Copy)]
 struct Asked {
     span: SpanId,
@@ -117,7 +117,7 @@ struct Asked {
     has_ended: bool,
 }
 
-/// What a program's steps and their answers tell of its spans.
+/// What a program's steps and their answers say of its spans.
 #[derive(Drop)]
 struct Book {
     asked: Vec<Asked>,
@@ -257,24 +257,24 @@ fn abandoned_with(left: &Left) -> (u64, u64) {
 }
 
 /// Adds the spans that a report leaves: those that are named, and those that wait.
-fn add_left<A: Allocator>(rt: &impl Abort, told: &Told<A>, found: &mut Vec<u64>, runs: &mut Runs) {
-    assert_equal(rt, told.left.abandoned, abandoned_with(&told.left));
-    let (spans, batches) = told.left.abandoned;
+fn add_left<A: Allocator>(rt: &impl Abort, said: &Said<A>, found: &mut Vec<u64>, runs: &mut Runs) {
+    assert_equal(rt, said.left.abandoned, abandoned_with(&said.left));
+    let (spans, batches) = said.left.abandoned;
     if spans > 0 {
         runs.count(Event::Abandoned);
     }
     if batches > 0 {
         runs.count(Event::BatchAbandoned);
     }
-    if !told.waiting.is_empty() {
+    if !said.waiting.is_empty() {
         runs.count(Event::LeftInQueue);
     }
-    for entry in &told.names {
+    for entry in &said.names {
         let identifier = u64::from_be_bytes(entry.span.0);
         found.push(identifier).expect(rt, "memory");
     }
     found
-        .extend_from_slice(told.waiting.as_slice())
+        .extend_from_slice(said.waiting.as_slice())
         .expect(rt, "memory");
 }
 
@@ -305,23 +305,23 @@ fn add_lost(
     }
 }
 
-/// The lost spans, the oldest first, as the answers and the bodies that were handed tell: those of
+/// The lost spans, the oldest first, as the answers and the bodies that were handed say: those of
 /// each batch that was given up, and then those of one that is left.
 fn lost_spans<A: Allocator>(
     rt: &impl Abort,
     alloc: Global,
-    told: &Told<A>,
+    said: &Said<A>,
     attempts: &[Attempt],
 ) -> Vec<(u64, Reason)> {
     let mut lost = Vec::new(alloc);
-    for answer in &told.answers {
+    for answer in &said.answers {
         if let Answer::Replied { batch, next } = answer {
             if let Some(reason) = lost_by(*next) {
                 add_lost(rt, alloc, attempts, *batch, reason, &mut lost);
             }
         }
     }
-    if let Some((batch, true)) = told.left.out {
+    if let Some((batch, true)) = said.left.out {
         add_lost(rt, alloc, attempts, batch, Reason::LeftHanded, &mut lost);
     }
     lost
@@ -329,13 +329,13 @@ fn lost_spans<A: Allocator>(
 
 /// Asserts that the second ledger names these spans, the oldest last, and that the first one has
 /// no such reason.
-fn assert_lost<A: Allocator>(rt: &impl Abort, told: &Told<A>, lost: &[(u64, Reason)], seed: u64) {
-    assert_equal_at(rt, told.lost.len(), lost.len(), seed);
-    for (entry, wanted) in told.lost.iter().rev().zip(lost) {
+fn assert_lost<A: Allocator>(rt: &impl Abort, said: &Said<A>, lost: &[(u64, Reason)], seed: u64) {
+    assert_equal_at(rt, said.lost.len(), lost.len(), seed);
+    for (entry, wanted) in said.lost.iter().rev().zip(lost) {
         let found = (u64::from_be_bytes(entry.span.0), entry.reason);
         assert_equal_at(rt, found, *wanted, seed);
     }
-    for entry in &told.all_names {
+    for entry in &said.all_names {
         assert_equal_at(rt, entry.reason.is_lost(), false, seed);
     }
 }
@@ -346,21 +346,21 @@ fn assert_accounted<A: Allocator>(
     rt: &impl Abort,
     alloc: Global,
     steps: &[Step<A>],
-    told: &Told<A>,
+    said: &Said<A>,
     far_side: &FarSide<RandomWires>,
     runs: &mut Runs,
 ) {
-    let answered = (told.answers.len(), far_side.lost);
+    let answered = (said.answers.len(), far_side.lost);
     assert_equal_at(rt, answered, (steps.len(), 0), runs.seed);
     let attempts = far_side.attempts.as_slice();
     let mut book = Book::new(alloc);
-    read_answers(rt, &mut book, steps, told.answers.as_slice(), runs);
+    read_answers(rt, &mut book, steps, said.answers.as_slice(), runs);
     count_attempts(rt, attempts, runs);
     let mut found = Vec::new(alloc);
     add_handed(rt, alloc, attempts, &mut found);
-    add_left(rt, told, &mut found, runs);
-    let lost = lost_spans(rt, alloc, told, attempts);
-    assert_lost(rt, told, lost.as_slice(), runs.seed);
+    add_left(rt, said, &mut found, runs);
+    let lost = lost_spans(rt, alloc, said, attempts);
+    assert_lost(rt, said, lost.as_slice(), runs.seed);
     found.sort().expect(rt, "memory");
     book.ended.sort().expect(rt, "memory");
     assert_equal_at(rt, found.as_slice(), book.ended.as_slice(), runs.seed);
@@ -368,17 +368,17 @@ fn assert_accounted<A: Allocator>(
     assert_equal_at(rt, found.len(), book.ended.len(), runs.seed);
 }
 
-/// Asserts what is told of a run: nothing was handed where there was no memory for it.
-fn assert_told<A: Allocator>(
+/// Asserts what is reported of a run: nothing was handed where there was no memory for it.
+fn assert_said<A: Allocator>(
     rt: &impl Abort,
     alloc: Global,
     steps: &[Step<A>],
-    told: &Result<Told<A>, OutOfMemory>,
+    said: &Result<Said<A>, OutOfMemory>,
     far_side: &FarSide<RandomWires>,
     runs: &mut Runs,
 ) {
-    match told {
-        Ok(told) => assert_accounted(rt, alloc, steps, told, far_side, runs),
+    match said {
+        Ok(said) => assert_accounted(rt, alloc, steps, said, far_side, runs),
         Err(OutOfMemory) => {
             runs.count(Event::RunRefused);
             assert_equal(rt, far_side.attempts.len(), 0);
@@ -397,8 +397,8 @@ fn run_random<A: Allocator + Copy>(
     let steps = random_steps(rt, ample, runs.seed, STEPS);
     let config = random_config(rt, ample, &mut Pcg32::new(runs.seed, 3));
     let mut far_side = FarSide::new(rt, alloc, RandomWires::new(alloc, runs.seed));
-    let told = run_steps(rt, memory, config, steps.as_slice(), &mut far_side);
-    assert_told(rt, alloc, steps.as_slice(), &told, &far_side, runs);
+    let said = run_steps(rt, memory, config, steps.as_slice(), &mut far_side);
+    assert_said(rt, alloc, steps.as_slice(), &said, &far_side, runs);
 }
 
 /// Makes a run on memory that is refused up to three times, at random calls.

@@ -50,7 +50,7 @@ fn a_clock_never_goes_back(rt: HostRuntime) {
 }
 
 #[test]
-fn a_clock_stands_until_it_is_set(rt: HostRuntime) {
+fn a_clock_stays_until_it_is_set(rt: HostRuntime) {
     let clock = ManualClock::new(3);
     assert_equal(&rt, (clock.now(), clock.now()), (3, 3));
     for moment in [5, 4] {

@@ -5,7 +5,7 @@ use crate::batch::fixture::{close, config, make, queue};
 use crate::batch::neighbors;
 use crate::batch::neighbors::close_out;
 use crate::equal::{assert_equal, assert_equal_at};
-use crate::fixture::{assert_told, end, end_in, end_twice, entry};
+use crate::fixture::{assert_displayed, end, end_in, end_twice, entry};
 use batch_desk::Totals;
 use batch_processor::{
     BatchBlank, BatchConfig, Flushed, MAX_PASSES, Missing, Naming, NewFault, Parts, Pass,
@@ -53,7 +53,7 @@ fn pop_full<J: Naming, R: Wait + Abort + Copy>(rt: R, alloc: Global, blank: Batc
 }
 
 #[test]
-fn pops(rt: HostRuntime) {
+fn popped_names_are_no_longer_in_the_ledger(rt: HostRuntime) {
     pop_full::<Brand, HostRuntime>(rt, rt.alloc(), BatchBlank::new());
 }
 
@@ -97,7 +97,7 @@ fn give_back<J: Naming, R: Wait + Abort + Copy>(rt: R, alloc: Global, blank: Bat
 }
 
 #[test]
-fn missing(rt: HostRuntime) {
+fn a_missing_pass_is_given_back(rt: HostRuntime) {
     give_back::<Brand, HostRuntime>(rt, rt.alloc(), BatchBlank::new());
 }
 
@@ -141,7 +141,7 @@ fn settings_are_looked_at_first(rt: HostRuntime) {
 }
 
 #[test]
-fn each_fault_tells_itself(rt: HostRuntime) {
+fn each_fault_is_displayed(rt: HostRuntime) {
     for (fault, want) in [
         (NewFault::BadPasses, "a processor has 1 to 64 passes"),
         (
@@ -158,9 +158,9 @@ fn each_fault_tells_itself(rt: HostRuntime) {
         ),
         (NewFault::OutOfMemory, "out of memory"),
     ] {
-        assert_told(&rt, rt.alloc(), &fault, want);
+        assert_displayed(&rt, rt.alloc(), &fault, want);
     }
-    assert_told(&rt, rt.alloc(), &WorkerLeft, "the worker has left");
+    assert_displayed(&rt, rt.alloc(), &WorkerLeft, "the worker has left");
 }
 
 #[test]

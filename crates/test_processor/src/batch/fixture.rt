@@ -15,14 +15,10 @@ use otlp_span::{Entry, Reason};
 use otlp_wire::{Field, Fields, Payload};
 use span_exporter::{Exporter, Handed};
 use std::alloc::{Allocator, Global};
-use std::cell::Cell;
 use std::process::Abort;
 use std::sync::Wait;
 use std::time::Clock;
 use trace_api::{Ended, WordsRng};
-
-/// A second, in nanoseconds.
-pub(crate) const SECOND: u64 = 1_000_000_000;
 
 /// Asserts that these name so many spans, the last of which has this ticket, the newest first.
 pub(crate) fn assert_named(
@@ -76,11 +72,7 @@ fn held_by<'a, A: Allocator + Copy>(
 /// How many resources and how many spans are in a body (opentelemetry-proto,
 /// "ExportTraceServiceRequest": the resources are its fields 1, their scopes the fields 2 of these,
 /// and spans the fields 2 of a scope's).
-pub(crate) fn count_body<A: Allocator + Copy>(
-    rt: &impl Abort,
-    alloc: A,
-    body: &[u8],
-) -> (usize, usize) {
+fn count_body<A: Allocator + Copy>(rt: &impl Abort, alloc: A, body: &[u8]) -> (usize, usize) {
     let resources = held_by(rt, alloc, &[body], 1);
     let scopes = held_by(rt, alloc, resources.as_slice(), 2);
     (
@@ -157,31 +149,11 @@ where
     assert_equal(&rt, end, WorkEnd::TurnsSpent);
 }
 
-/// Goes on by a minute at each look.
-#[derive(Drop)]
-pub(crate) struct Minutes(Cell<u64>);
-
-impl Minutes {
-    pub(crate) fn new() -> Minutes {
-        Minutes(Cell::new(0))
-    }
-}
-
-impl batch_processor::Clock for Minutes {
-    fn now(&self) -> u64 {
-        let moment = self.0.get().saturating_add(60 * SECOND);
-        self.0.set(moment);
-        moment
-    }
-}
-
-/// What a processor comes to: its totals, and the names of dropped and of lost spans, the newest
-/// one first.
+/// What a processor comes to: its totals, and the names of dropped spans, the newest one first.
 #[derive(Drop)]
 pub(crate) struct Left<A: Allocator = Global> {
     pub(crate) totals: Totals,
     pub(crate) names: Vec<Entry, A>,
-    pub(crate) lost: Vec<Entry, A>,
 }
 
 /// What a processor comes to whose passes are all back.
@@ -197,7 +169,6 @@ pub(crate) fn close<J: Naming, R: Wait + Abort + Copy, A: Allocator + Copy>(
     Left {
         totals: desk.totals(),
         names: names_in(&rt, alloc, desk.ledger()),
-        lost: names_in(&rt, alloc, desk.lost()),
     }
 }
 

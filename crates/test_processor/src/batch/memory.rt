@@ -29,7 +29,7 @@ enum Refused {
     /// The batch whose last span has this ticket: it couldn't be encoded, or no room was made for
     /// it.
     Batch(u64),
-    /// Nothing that tells.
+    /// Nothing that is reported.
     Nothing,
 }
 

@@ -2,7 +2,7 @@
 ghost use Rattle.std.specs.Prelude.{◌≡◌};
 
 use crate::equal::{assert_equal, assert_equal_at};
-use crate::fixture::{assert_told, end, end_in, end_twice, entry, exporter};
+use crate::fixture::{assert_displayed, end, end_in, end_twice, entry, exporter};
 use crate::simple::fixture::{assert_handed, close, make};
 use crate::simple::neighbors;
 use crate::simple::neighbors::close_out;
@@ -277,5 +277,5 @@ fn a_processor_has_1_to_64_passes(rt: HostRuntime) {
         assert_equal(&rt, count, want);
     }
     let fault = SimpleFault::BadPasses;
-    assert_told(&rt, rt.alloc(), &fault, "a processor has 1 to 64 passes");
+    assert_displayed(&rt, rt.alloc(), &fault, "a processor has 1 to 64 passes");
 }

@@ -25,7 +25,7 @@ enum Refused {
     New,
     /// The span with this ticket.
     Span(u64),
-    /// Nothing that tells.
+    /// Nothing that is reported.
     Nothing,
 }
 
@@ -151,7 +151,7 @@ fn a_refused_span_is_popped_without_memory(rt: HostRuntime) {
 const MOST: u64 = 150;
 
 #[test]
-fn each_refusal_of_memory_is_told(rt: HostRuntime) {
+fn each_refusal_of_memory_is_reported(rt: HostRuntime) {
     let heap = LocalHeap::new(rt.alloc(), 65_536).expect(&rt, "memory");
     let ample = FailingAllocator::new(&heap, u64::MAX);
     let (mut new, mut first, mut second, mut nothing) = (0u32, 0u32, 0u32, 0u32);

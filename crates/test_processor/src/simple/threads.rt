@@ -103,6 +103,6 @@ where
 }
 
 #[test]
-fn simple_four(rt: HostRuntime) {
+fn each_span_of_four_threads_is_handed(rt: HostRuntime) {
     run_four::<Brand, HostRuntime>(rt, rt.alloc(), SimpleBlank::new());
 }

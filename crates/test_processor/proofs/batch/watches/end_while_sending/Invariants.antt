@@ -1,4 +1,0 @@
-use Rattle.test_processor.proofs.batch.watches.end_while_sending.Given as goal
-
-abbrev pub ghosts-watch : goal.ghosts-watch
-ghosts-watch g a = record { name = a.blank }

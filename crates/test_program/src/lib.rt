@@ -1,0 +1,20 @@
+//! Tests, over public calls alone, of programs as libraries and of what they reach over a network:
+//! `trace-script` where memory is refused (`program_script_parts`), the collector
+//! (`otlp_collector`, `program_collector_parts`) and the exporter that posts to one
+//! (`http_exporter`). The crate has no items of its own.
+#![tactic(auto)]
+
+#[cfg(test)]
+mod buffers;
+#[cfg(test)]
+mod collector;
+#[cfg(test)]
+mod equal;
+#[cfg(test)]
+mod exporter;
+#[cfg(test)]
+mod fixture;
+#[cfg(test)]
+mod network;
+#[cfg(test)]
+mod script_memory;
