@@ -1,3 +1,1 @@
-mod Options
 mod Prints
-mod Words

@@ -2,11 +2,12 @@
 
 ghost use Rattle.std.specs.Prelude.{◌≡◌, ◌≢◌, ◌≤◌, ◌⊎◌, [], IfOk, OnOk, Some, codes};
 ghost use Rattle.std.specs.Io.KnownBytes.{Appends, Keeps};
-ghost use Rattle.program_collector_parts.specs.Command.{AskForHelp, IsTaken, number_in};
+ghost use Rattle.program_args.specs.Words.{AskForHelp, IsTaken, number_in};
+ghost use Rattle.program_collector_parts.specs.Command.{command};
 ghost use Rattle.program_collector_parts.specs.Printed.{PrintsAll, PrintsConnections, PrintsOne};
 ghost use Rattle.program_collector_parts.specs.Printed.{collector_limits, listening_line};
 
-use crate::args::{CollectorArgs, tell_words};
+use crate::args::CollectorArgs;
 use crate::failure::{Failure, tell};
 use crate::link::serve_stream;
 use http_wire::{Counted, HeadLimits};
@@ -29,18 +30,19 @@ pub fn run_collector<R: Net, W: Write, F: Write>(
     faults: &mut F,
 ) -> u8
     ensures status { result ≤ 3 }
-    ensures asked { result ≡ 0 → IsTaken words.now ⊎ AskForHelp words.now }
-    ensures printed { IsTaken words.now → result ≡ 0 → PrintsAll
-        (number_in (codes "port") 4318 words.now) (number_in (codes "count") 1 words.now)
-        (number_in (codes "max-body") 16_777_216 words.now)
+    ensures asked { result ≡ 0 → IsTaken command words.now ⊎ AskForHelp command words.now }
+    ensures printed { IsTaken command words.now → result ≡ 0 → PrintsAll
+        (number_in command (codes "port") 4318 words.now)
+        (number_in command (codes "count") 1 words.now)
+        (number_in command (codes "max-body") 16_777_216 words.now)
         (W.contents output.old) (W.contents output.new) }
-    ensures refused { IsTaken words.now → result ≢ 2 }
+    ensures refused { IsTaken command words.now → result ≢ 2 }
     ensures quiet { result ≡ 2 → Keeps (W.contents output.old) (W.contents output.new) }
     ensures untold { result ≡ 0 → Keeps (F.contents faults.old) (F.contents faults.new) }
 {
     match CollectorArgs::read(alloc, words) {
         Ok(args) => collect(rt, alloc, args, output, faults),
-        Err(error) => tell_words(output, faults, &error),
+        Err(fault) => fault.tell(output, faults),
     }
 }
 

@@ -1,8 +1,17 @@
-//! `trace-demo` ends spans on threads, posts them to a collector of its own, and prints what became
-//! of them.
+//! `trace-demo` ends spans on threads, posts them to a collector of its own, some of whose replies
+//! are those of one that fails, and prints what became of them.
 #![tactic(auto)]
 
-use program_demo_parts::trace_demo;
+mod args;
+mod batches;
+mod collector;
+mod lanes;
+mod program;
+mod sums;
+mod tally;
+mod words;
+
+use crate::program::trace_demo;
 use std::process::ExitCode;
 use std::{env, io};
 

@@ -1,8 +1,6 @@
 -- What a soak may be asked for.
-use Rattle.std.specs.Prelude.{ℕ, ◌≤◌}
-
-abbrev pub IsWithin : ℕ → ℕ → ℕ → Type 0
-IsWithin least most number = (least ≤ number) × (number ≤ most)
+use Rattle.std.specs.Prelude.{ℕ}
+use Rattle.program_args.specs.Words.{IsWithin}
 
 -- So many threads end so many spans in all. (profile)
 abbrev pub IsInRange : ℕ → ℕ → Type 0

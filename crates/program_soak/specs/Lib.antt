@@ -1,5 +1,6 @@
 pub mod Args
 pub mod Balance
+pub mod Command
 pub mod Losses
 pub mod Memory
 pub mod Verdicts

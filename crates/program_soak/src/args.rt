@@ -1,11 +1,10 @@
 //! What `trace-soak` is asked for, and its command line.
-ghost use Rattle.std.specs.Prelude.{◌≡◌, ◌↔◌, IfSome, IsNone};
+ghost use Rattle.std.specs.Prelude.{codes, IfErr, IfOk};
+ghost use Rattle.program_args.specs.Words.{IsCause, IsSetBy, IsTaken};
 ghost use Rattle.program_soak.specs.Args.{IsInRange};
+ghost use Rattle.program_soak.specs.Command.{command};
 
-use clap::builder::ValueParser;
-use clap::error::ErrorKind;
-use clap::{Arg, ArgAction, ArgMatches, Command, Error};
-use program_demo_parts::ArgFault;
+use program_args::{ArgFault, CommandLine, FlagOption, NumberOption};
 use std::alloc::Global;
 
 /// What `trace-soak` is asked for. Its numbers are in their ranges. (the ranges: profile)
@@ -24,25 +23,47 @@ pub struct SoakArgs {
     ghost in_range: { IsInRange threads spans },
 }
 
-impl SoakArgs {
-    /// What is asked for by these numbers. `None` where one of them is out of its range.
-    pub fn new(spans: u64, threads: usize, seed: u64, slack: u64, verbose: bool) -> Option<SoakArgs>
-        ensures refused { IsNone result ↔ ¬ IsInRange threads spans }
-        ensures value { IfSome result (λ a. (a.spans ≡ spans) × (a.threads ≡ threads)
-            × (a.seed ≡ seed) × (a.slack ≡ slack) × (a.verbose ≡ verbose)) }
-    {
-        if !(1..=63).contains(&threads) || !(1..=1_000_000_000).contains(&spans) {
-            return None;
-        }
-        Some(SoakArgs {
-            spans,
-            threads,
-            seed,
-            slack,
-            verbose,
-        })
-    }
+/// What the program does.
+const ABOUT: &str =
+    "Ends spans on threads, loses replies and links at random, and balances the spans";
 
+/// The options that take a number.
+const NUMBERS: [NumberOption<'static>; 4] = [
+    NumberOption {
+        name: "spans",
+        value: "N",
+        least: 1,
+        most: 1_000_000_000,
+        default: 1_000_000,
+        help: "How many spans end: 1 to 1,000,000,000 [default: 1000000]",
+    },
+    NumberOption {
+        name: "threads",
+        value: "N",
+        least: 1,
+        most: 63,
+        default: 4,
+        help: "How many threads end them: 1 to 63 [default: 4]",
+    },
+    NumberOption {
+        name: "seed",
+        value: "N",
+        least: 0,
+        most: u64::MAX,
+        default: 1,
+        help: "What the generators begin with [default: 1]",
+    },
+    NumberOption {
+        name: "slack",
+        value: "N",
+        least: 0,
+        most: u64::MAX,
+        default: 2_048,
+        help: "By how many kB memory may rise after the first rounds [default: 2048]",
+    },
+];
+
+impl SoakArgs {
     /// Reads the words of the command line, of which the first is the program's name: `--spans`,
     /// `--threads`, `--seed` and `--slack`, each with a number after it, and `--verbose`. Numbers
     /// that are left out are 1,000,000, 4, 1 and 2,048.
@@ -51,63 +72,29 @@ impl SoakArgs {
     ///
     /// `Help` where the words ask for it. `Mistake` where a word isn't known, one is twice, or
     /// a number is none or out of its range. `OutOfMemory` where memory was refused.
-    pub fn read(words: Vec<String>) -> Result<SoakArgs, ArgFault> {
-        let alloc = *words.allocator();
-        match read_words(alloc, words.as_slice())? {
-            Some(args) => Ok(args),
-            None => {
-                let cause = "a number is out of its range";
-                let mistake = command(alloc)?.error(ErrorKind::ValueValidation, cause)?;
-                Err(ArgFault::Mistake(mistake))
-            }
-        }
+    pub fn read(alloc: Global, words: &[String]) -> Result<SoakArgs, ArgFault>
+        ensures taken { IfOk result (λ _. IsTaken command words.now) }
+        ensures verbose { IfOk result (λ args.
+            IsSetBy command (codes "verbose") words.now args.verbose) }
+        ensures refused { IfErr result (IsCause command words.now) }
+    {
+        let numbers = NUMBERS;
+        let line = CommandLine {
+            program: "trace-soak",
+            about: ABOUT,
+            numbers: &numbers,
+            flag: Some(FlagOption {
+                name: "verbose",
+                help: "Report counts on standard error",
+            }),
+        };
+        let found = line.read(alloc, words)?;
+        Ok(SoakArgs {
+            spans: found.numbers[0],
+            threads: found.numbers[1] as usize,
+            seed: found.numbers[2],
+            slack: found.numbers[3],
+            verbose: found.is_set,
+        })
     }
-}
-
-/// What these words ask for. `None` where a number is out of its range.
-fn read_words(alloc: Global, words: &[String]) -> Result<Option<SoakArgs>, ArgFault> {
-    let found = find_options(alloc, words)?;
-    Ok(SoakArgs::new(
-        found.get_one::<u64>("spans").unwrap_or(1_000_000),
-        found.get_one::<usize>("threads").unwrap_or(4),
-        found.get_one::<u64>("seed").unwrap_or(1),
-        found.get_one::<u64>("slack").unwrap_or(2_048),
-        found.get_flag("verbose"),
-    ))
-}
-
-/// What clap finds in the words.
-fn find_options<'a>(alloc: Global, words: &'a [String]) -> Result<ArgMatches<'a>, Error> {
-    command(alloc)?.try_get_matches_from(words)
-}
-
-/// An option of this name that takes a number, from `least` to `most`.
-fn number<'a>(alloc: Global, name: &'a str, least: u64, most: u64, help: &'a str) -> Arg<'a> {
-    Arg::new(alloc, name)
-        .long(name)
-        .value_name("N")
-        .action(ArgAction::Set)
-        .value_parser(ValueParser::unsigned(least, most))
-        .help(help)
-}
-
-/// The command line.
-fn command<'a>(alloc: Global) -> Result<Command<'a>, Error> {
-    let spans = "How many spans end: 1 to 1,000,000,000 [default: 1000000]";
-    let threads = "How many threads end them: 1 to 63 [default: 4]";
-    let seed = "What the generators begin with [default: 1]";
-    let slack = "By how many kB memory may rise behind the first rounds [default: 2048]";
-    let verbose = Arg::new(alloc, "verbose")
-        .long("verbose")
-        .action(ArgAction::SetTrue)
-        .help("Tell counts on standard error");
-    let command = Command::new(alloc, "trace-soak")
-        .about("Ends spans on threads, loses replies and links at random, and balances the spans")
-        .bin_name("trace-soak")?
-        .arg(number(alloc, "spans", 1, 1_000_000_000, spans))?
-        .arg(number(alloc, "threads", 1, 63, threads))?
-        .arg(number(alloc, "seed", 0, u64::MAX, seed))?
-        .arg(number(alloc, "slack", 0, u64::MAX, slack))?
-        .arg(verbose)?;
-    Ok(command)
 }

@@ -17,6 +17,7 @@ use crate::worker::{config, start_worker};
 use batch_processor::{BatchBlank, BatchConfig, BatchProcessor, Clock, Naming, Parts, SystemClock};
 use http_exporter::LinkExporter;
 use otlp_http::{DEFAULT_PATH, DEFAULT_PORT, Target};
+use program_args::tell_unwritten;
 use std::alloc::Global;
 use std::io::Write;
 use std::marker::Brand;
@@ -46,7 +47,7 @@ where
     ensures status { result ≤ 3 }
     ensures quiet { result ≡ 2 → Keeps (W.contents output.old) (W.contents output.new) }
 {
-    match SoakArgs::read(words) {
+    match SoakArgs::read(alloc, words.as_slice()) {
         Ok(args) => soak(rt, alloc, output, faults, &args),
         Err(fault) => fault.tell(output, faults),
     }
@@ -57,8 +58,9 @@ where
 /// or `no`; where counts are asked for, they are reported on `faults`. (profile)
 ///
 /// The answer is the program's status: 0 where all that has to hold was found to, and else 1. It is
-/// 1 too where a write fails, and where a thread, memory or the size of memory can't be had, or the
-/// worker has left; that is reported on `faults`, and nothing is printed.
+/// 1 too where a write fails, which is reported on `faults` as `cannot write`, and where a thread,
+/// memory or the size of memory can't be had, or the worker has left, which is reported there, and
+/// nothing is printed.
 pub fn soak<R, W, F>(rt: R, alloc: Global, output: &mut W, faults: &mut F, args: &SoakArgs) -> u8
 where
     R: Files + Threads + Wait + time::Clock + Copy + Send + Sync + 'static,
@@ -80,7 +82,7 @@ where
     }
     match findings.print(output) {
         Ok(()) => findings.verdict().status(),
-        Err(_) => 1,
+        Err(_) => tell_unwritten(faults),
     }
 }
 

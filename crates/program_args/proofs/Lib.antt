@@ -1,0 +1,4 @@
+mod Bounds
+mod Causes
+mod Numbers
+mod Simple

@@ -1,0 +1,3 @@
+pub mod Args
+pub mod Balance
+pub mod Command

@@ -1,3 +1,0 @@
-mod Causes
-mod Crosses
-mod Options

@@ -1,4 +1,0 @@
-pub mod Args
-pub mod Balance
-pub mod Command
-pub mod Faults
