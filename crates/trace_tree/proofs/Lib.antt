@@ -1,0 +1,12 @@
+pub mod Sets
+pub mod Ancestors
+pub mod Walking
+pub mod Rounding
+pub mod Opening
+pub mod Times
+pub mod Eaches
+pub mod Partway
+pub mod Ids
+pub mod Starts
+pub mod Families
+pub mod Arranged
