@@ -6,9 +6,10 @@ PREFIX ?= $(HOME)/.local
 help: ## List the targets
 	@grep -E '^[a-z]+:.*##' Makefile | sed -E 's/:.*## /: /'
 
-run: tour ## The same as make tour
+run: ## Build the first program without its proof, and run it (a minute)
+	tools/run-first
 
-tour: ## Build programs without their proofs and run them, each with a word on what it shows
+tour: ## Build the other programs and run them, each with a word on what it shows
 	tools/tour
 
 quick: docs ## The documents, and tests and programs before their proofs (some minutes)

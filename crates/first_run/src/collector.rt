@@ -1,0 +1,94 @@
+//! The far side: a collector on loopback, on a thread of its own. It is busy at first.
+use anyhow::{Context, Result, bail};
+use otlp_serve::{Counted, HeadLimits, PostReply, ReplyStatus, read_post, write_reply};
+use std::alloc::Global;
+use std::io::BufReader;
+use std::net::{Ipv4Addr, Net, TcpListener, TcpStream};
+use std::thread::{self, JoinHandle, Threads};
+use std::time::Duration;
+
+/// How long a read and a write of a connection may each take, in milliseconds.
+const TIMEOUT_MS: u64 = 10_000;
+
+/// The most bytes of a body.
+const MAX_BODY: usize = 16_777_216;
+
+/// A collector, which listens on a port that was free.
+#[derive(Drop)]
+pub struct Collector {
+    port: u16,
+    thread: JoinHandle<Result<Vec<Vec<u8>>>>,
+}
+
+impl Collector {
+    /// Listens, and starts the thread.
+    pub fn start<R>(rt: &R, alloc: Global) -> Result<Collector>
+    where
+        R: Net<Listener = TcpListener, Stream = TcpStream> + Threads,
+    {
+        let here = (Ipv4Addr::LOCALHOST, 0u16);
+        let listener = TcpListener::bind(rt, here).context("no port on loopback")?;
+        let port = listener.local_addr()?.port();
+        let thread = thread::spawn(rt, move || collect(alloc, &listener))?;
+        Ok(Collector { port, thread })
+    }
+
+    /// The port that it listens on.
+    pub fn port(&self) -> u16 {
+        self.port
+    }
+
+    /// Ends the collector: the bodies of its requests, in order. The first one was answered 503,
+    /// each other one 200.
+    pub fn stop<R>(self, rt: &R) -> Result<Vec<Vec<u8>>>
+    where
+        R: Net<Listener = TcpListener, Stream = TcpStream> + Threads,
+    {
+        let Collector { port, thread } = self;
+        // A connection without a request ends the thread.
+        let here = (Ipv4Addr::LOCALHOST, port);
+        let wake = TcpStream::connect(rt, here).context("the collector is gone")?;
+        drop(wake);
+        thread.join(rt)
+    }
+}
+
+/// Serves one connection after the other, up to the first one without a request that can be read.
+fn collect(alloc: Global, listener: &TcpListener) -> Result<Vec<Vec<u8>>> {
+    let mut bodies = Vec::new(alloc);
+    for stream in listener.incoming() {
+        let status = if bodies.is_empty() {
+            ReplyStatus::ServiceUnavailable
+        } else {
+            ReplyStatus::Ok
+        };
+        let Some(body) = receive(alloc, &stream?, status)? else {
+            return Ok(bodies);
+        };
+        bodies.push(body)?;
+    }
+    bail!("the collector can't listen any more")
+}
+
+/// Reads the request of a connection, answers it with this status, and gives its body. `None` where
+/// no request can be read.
+fn receive(alloc: Global, stream: &TcpStream, status: ReplyStatus) -> Result<Option<Vec<u8>>> {
+    let timeout = Duration::from_millis(TIMEOUT_MS);
+    stream.set_read_timeout(Some(timeout))?;
+    stream.set_write_timeout(Some(timeout))?;
+    let limits = HeadLimits {
+        body: MAX_BODY,
+        ..HeadLimits::default()
+    };
+    let mut reader = Counted::new(BufReader::new(alloc, stream)?);
+    let Ok(post) = read_post(alloc, alloc, &mut reader, &limits) else {
+        return Ok(None);
+    };
+    let reply = PostReply {
+        status,
+        retry_after: None,
+    };
+    // Where the reply doesn't get through, the body comes again.
+    let _ = write_reply(&mut Counted::new(stream), reply);
+    Ok(Some(post.body))
+}
