@@ -39,7 +39,7 @@ places events =
 abbrev pub times : ℕ → List ℕ → ℕ
 times ticket among = count_by (λ t. t == ticket) among
 
--- Each ticket that was given is in one of these places, once, and no other ticket does.
+-- Each ticket that was given is in one of these places, once, and no other ticket is.
 abbrev pub EachTicketOnce : Type 0
 EachTicketOnce =
     Always (λ config made events. (ticket : ℕ)

@@ -27,7 +27,7 @@ heads : (bytes : List ℕ) (h k : ResponseHead) (r q : List ℕ) → IsResponseH
     → (h ≡ k) × (r ≡ q)
 heads bytes h k r q x y e f = response_unique bytes h k r q (x, e) (y, f)
 
--- no interim head is where a final one does
+-- no interim head is where a final one is
 final_not : (limits : HeadLimits) (bytes : List ℕ) (head : ResponseHead) (rest : List ℕ) → IsResponseHead head → ¬ (IsInterimStatus (status_code head))
     → bytes ≡ print_response head ++ rest → Stands limits bytes → ⊥
 final_not limits bytes head rest valid final e stands =

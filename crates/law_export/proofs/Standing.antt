@@ -1,4 +1,4 @@
--- What is where no field does, against the faults of the reader.
+-- What is at a place where no field is, against the faults of the reader.
 use Rattle.std.proofs.Common.{◌≡◌, ◌≢◌, ◌⊎◌, inl, inr, refl, sym, ap, subst, ◌∙◌, ℕ, List, [], ◌∷◌, ◌++◌, length, replicate, Result, Ok, Err, ◌↔◌, append-nil, arith, append_assoc, Bool, true, false, nat_lt, ◌<◌, ◌-◌, ◌%◌, ◌/◌, ◌^◌}
 use Rattle.std.proofs.lemmas.List.{length-append, length-replicate}
 use Rattle.std.proofs.lemmas.Nat.{div-add-mod', mod_below}

@@ -1,4 +1,4 @@
--- What is where no field does. (Protocol Buffers, Encoding: Base 128 Varints, Message
+-- What is at a place where no field is. (Protocol Buffers, Encoding: Base 128 Varints, Message
 -- Structure; Language Guide: Assigning Field Numbers)
 use Rattle.std.specs.Prelude.{◌≡◌, ◌≢◌, ◌⊎◌, ◌↔◌, ℕ, ◌≤◌, ◌/◌, ◌%◌, List, [], ◌∷◌, ◌++◌, length}
 use Rattle.std.specs.Prelude.{true, false, Err}

@@ -65,7 +65,7 @@ ResourcesAreInOrder =
     (spans : List SpanData)
     → AllPairs (λ g h. first_of_resource g.key spans < first_of_resource h.key spans) (groups spans)
 
--- So do the scopes under a resource.
+-- So are the scopes under a resource.
 abbrev pub ScopesAreInOrder : Type 0
 ScopesAreInOrder =
     (spans : List SpanData)

@@ -77,7 +77,7 @@ pub fn left()
     ensures replied { progress_after 13 ≡ not_out }
 {}
 
-/// Each ticket that was given is in one place, and no other ticket does: one waits, one is in
+/// Each ticket that was given is in one place, and no other ticket is: one waits, one is in
 /// the batch that is out, two were handed over, and one was dropped.
 #[tactic(auto, unfolding(crate::specs::Worked::worked_places))]
 pub fn places()

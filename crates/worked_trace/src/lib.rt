@@ -1,5 +1,6 @@
-//! Worked examples of the model of a trace export (crate `trace_model`): bytes and values that were
-//! written out by hand. The checker computes what the definitions make of each, and compares.
+//! Worked examples of the model of a trace export (crates `model_message`, `model_span`,
+//! `model_export`): bytes and values that were written out by hand. The checker computes what the
+//! definitions make of each, and compares.
 //!
 //! Each function is a group of examples. Its clauses are the examples, and it does nothing when it
 //! is called. In them `hex "0a 3e"` is a list of bytes and `codes "a"` a text. `span_a` is a root
