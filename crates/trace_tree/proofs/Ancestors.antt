@@ -1,8 +1,8 @@
 -- Ancestors, cycles of them, and trees without cycles.
-use Rattle.std.proofs.Common.{◌≡◌, sym, ◌∙◌, subst, ℕ, ◌<◌, ◌≤◌, ◌⊎◌, inl, inr, refl, Option, Some, None, List, arith, length}
+use Rattle.std.proofs.Common.{◌≡◌, sym, ◌∙◌, subst, ℕ, ◌≤◌, ◌⊎◌, inl, inr, refl, Option, Some, None, List, arith}
 use Rattle.std.proofs.lemmas.Option.{none-some, same_Some}
 use Rattle.trace_tree.specs.Parents.{parent_at}
-use Rattle.trace_tree.specs.Cycles.{HasAncestor, parent, above, EndsAtTop, topmost, beneath, OpensCycle, IsOpened, IsTree}
+use Rattle.trace_tree.specs.Cycles.{HasAncestor, parent, above, EndsAtTop, topmost, beneath, OpensCycle, IsOpened}
 use Rattle.trace_tree.specs.Walks.{LeadsTo}
 
 module _ (parents : List (Option ℕ)) where

@@ -1,11 +1,11 @@
 -- The rows of a tree as those of spans.
-use Rattle.std.proofs.Common.{◌≡◌, sym, ◌∙◌, ap, subst, refl, ℕ, ◌<◌, ◌⊎◌, inl, inr, Bool, true, false, Option, Some, None, is_some, List, [], ◌∷◌, ◌++◌, length, map, get_or, arith, All, AllPairs, IsSome}
-use Rattle.std.specs.List.{AllByRecursion as Each, range_with_len}
+use Rattle.std.proofs.Common.{◌≡◌, sym, ◌∙◌, ap, subst, refl, ℕ, ◌<◌, ◌⊎◌, inl, inr, Bool, true, false, Option, Some, None, is_some, List, [], ◌∷◌, ◌++◌, length, map, get_or, arith, All, AllPairs}
+use Rattle.std.specs.List.{AllByRecursion as Each}
 use Rattle.std.proofs.lemmas.List.Elements.{All-from_recursion, recursion_from_All}
 use Rattle.std.proofs.lemmas.List.{length-map}
 use Rattle.std.proofs.lemmas.Option.{none-some}
 use Rattle.trace_tree.specs.Parents.{parent_of, parents_of, parent_at}
-use Rattle.trace_tree.specs.Cycles.{OpensCycle, IsOpened, IsTree}
+use Rattle.trace_tree.specs.Cycles.{IsTree}
 use Rattle.trace_tree.specs.Order.{ArePlaces, places_of, precedes, AreByStart}
 use Rattle.trace_tree.specs.Rows.{is_root_at, IsPlace, child_parent, tree_parent, IsNested, EachAfter, HangsInTree, AreInOrder, place_by, place_at, ArePlaced, AreRowsOf}
 use Rattle.trace_tree.specs.declared.span.TreeSpan.{TreeSpan}

@@ -1,6 +1,6 @@
 -- What holds of each element of a list, and of each and any later one.
-use Rattle.std.proofs.Common.{◌≡◌, sym, ◌∙◌, ap, subst, refl, ℕ, zero, suc, ◌+◌, ◌<◌, inl, inr, Bool, true, false, List, [], ◌∷◌, ◌++◌, length, map, arith, filter, AllPairs}
-use Rattle.std.specs.List.{AllByRecursion as Each, All}
+use Rattle.std.proofs.Common.{◌≡◌, sym, subst, ℕ, suc, ◌<◌, inl, inr, Bool, true, List, [], ◌∷◌, ◌++◌, length, map, arith, filter, AllPairs}
+use Rattle.std.specs.List.{AllByRecursion as Each}
 use Rattle.std.proofs.lemmas.Bool.{cases_Bool, cond-true, cond-false}
 use Rattle.std.proofs.lemmas.List.Elements.{All-from_recursion, recursion_from_All}
 use Rattle.std.proofs.lemmas.List.Kept.{AllPairs-cons}

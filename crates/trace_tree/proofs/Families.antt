@@ -1,5 +1,5 @@
 -- Families of spans, as more and more of them are put in.
-use Rattle.std.proofs.Common.{◌≡◌, ◌≢◌, sym, ◌∙◌, ap, subst, refl, ℕ, ◌+◌, ◌<◌, ◌≤◌, inl, inr, Bool, true, false, cond, eqb, Option, Some, None, is_none, List, [], ◌∷◌, ◌++◌, length, map, get_or, set, replicate, take, append-nil, length-set, arith, filter, Vec}
+use Rattle.std.proofs.Common.{◌≡◌, sym, ◌∙◌, ap, subst, refl, ℕ, ◌+◌, ◌<◌, ◌≤◌, inl, inr, Bool, true, false, cond, Option, Some, None, is_none, List, [], ◌∷◌, ◌++◌, length, get_or, set, replicate, take, append-nil, length-set, filter, Vec}
 use Rattle.std.proofs.lemmas.Bool.{eq-eqb, ne_eqb}
 use Rattle.std.proofs.lemmas.List.{get_or-replicate, map_more, length-replicate, map-set, get_or-map, take_all, length-map}
 use Rattle.std.proofs.lemmas.List.Elements.{filter-append}

@@ -1,6 +1,6 @@
 -- Where the first span with an identifier is.
 use Rattle.std.proofs.Common.{◌≡◌, sym, ◌∙◌, ap, subst, refl, ℕ, zero, suc, ◌+◌, ◌<◌, ◌≤◌, inl, inr, Bool, true, false, not, cond, eqb, ltb, Option, Some, None, List, [], ◌∷◌, ◌++◌, length, length-append, arith, position, map, get_or, take, is_some}
-use Rattle.std.specs.List.{position_or_len, prefix_len}
+use Rattle.std.specs.List.{position_or_len}
 use Rattle.std.specs.Str.{bytes_eq}
 use Rattle.std.specs.Cmp.Lexicographic.{slice_cmp}
 use Rattle.std.specs.Ordering.{nat_cmp, is_eq}
@@ -11,7 +11,7 @@ use Rattle.std.proofs.lemmas.List.Quantifiers.{position-Some}
 use Rattle.std.proofs.lemmas.List.Sums.{prefix_len-le-length}
 use Rattle.std.proofs.lemmas.Option.{none-some, cond_some}
 use Rattle.std.proofs.lemmas.Slice.Eq.{bytes_eq-Decides}
-use Rattle.trace_tree.specs.Parents.{has_id, place_of_id, names_none, parent_of, parents_of, parent_at}
+use Rattle.trace_tree.specs.Parents.{has_id, place_of_id, names_none, parent_of, parents_of}
 use Rattle.trace_tree.specs.Cycles.{AreInList}
 use Rattle.trace_tree.specs.declared.span.TreeSpan.{TreeSpan}
 

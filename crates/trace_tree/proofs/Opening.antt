@@ -1,5 +1,5 @@
 -- The cycles that walks from more and more spans open.
-use Rattle.std.proofs.Common.{◌≡◌, ◌≢◌, sym, ◌∙◌, ap, subst, ℕ, zero, suc, ◌+◌, ◌<◌, ◌⊎◌, inl, inr, refl, Option, Some, None, List, [], ◌∷◌, length, set, get_or, replicate, length-set, arith}
+use Rattle.std.proofs.Common.{◌≡◌, ◌≢◌, sym, ◌∙◌, ap, subst, ℕ, zero, suc, ◌+◌, ◌<◌, ◌⊎◌, inl, inr, refl, Option, None, List, length, set, replicate, length-set, arith}
 use Rattle.std.proofs.lemmas.List.{length-replicate}
 use Rattle.std.proofs.lemmas.Bool.{cases_eq}
 use Rattle.trace_tree.specs.Parents.{parent_at}

@@ -1,5 +1,5 @@
 -- Some rows of a tree, with the pile of those that come next.
-use Rattle.std.proofs.Common.{◌≡◌, sym, ◌∙◌, ap, subst, refl, ℕ, zero, suc, ◌+◌, ◌<◌, ◌≤◌, inl, inr, Bool, true, false, not, eqb, ◌||◌, Option, Some, None, is_none, List, [], ◌∷◌, ◌++◌, length, map, reverse, length-append, append_assoc, append-nil, arith, filter, All, AllPairs}
+use Rattle.std.proofs.Common.{◌≡◌, sym, ◌∙◌, ap, subst, refl, ℕ, zero, suc, ◌+◌, ◌<◌, ◌≤◌, inl, inr, Bool, true, false, not, eqb, ◌||◌, Option, Some, None, is_none, List, [], ◌∷◌, ◌++◌, length, map, reverse, length-append, append_assoc, append-nil, arith, filter, All}
 use Rattle.std.specs.List.{AllByRecursion as Each, range_with_len}
 use Rattle.std.specs.List.Sorted.{IsPermutation}
 use Rattle.std.proofs.lemmas.Bool.{cases_eq, cases_lt, eqb-true, eq-eqb, ne_eqb, true≢false, both_ways}
@@ -7,14 +7,13 @@ use Rattle.std.proofs.lemmas.List.Elements.{All-from_recursion, recursion_from_A
 use Rattle.std.proofs.lemmas.List.Sorted.{IsPermutation-trans, IsPermutation-append_left, IsPermutation-append_right, IsPermutation-append_comm, IsPermutation-cons, IsPermutation-filter_both, length_permutation, All-permutation}
 use Rattle.std.proofs.lemmas.List.{map-append, length-map, reverse-append, reverse-reverse}
 use Rattle.std.proofs.lemmas.List.FromFn.{length-range_with_len}
-use Rattle.std.proofs.lemmas.Option.{none-some}
 use Rattle.trace_tree.specs.Parents.{parent_at}
 use Rattle.trace_tree.specs.Cycles.{AreInList, EndsAtTop, topmost, beneath}
 use Rattle.trace_tree.specs.Order.{ArePlaces, places_of, is_parent, is_top, is_child, tops_of, children_of}
 use Rattle.trace_tree.specs.Rows.{IsUnder, IsNested, EachAfter, place_at, row_at, AreRowsOf}
 use Rattle.trace_tree.specs.declared.span.Place.{Place}
 use Rattle.trace_tree.specs.declared.span.Row.{Row}
-use Rattle.trace_tree.proofs.Eaches.{Each-append, Each-front, Each-back, Each-weaker, Each-always, Each-map, Each-unmap, Each-filter, Each-passes, Pairs, Pairs-append, Pairs-back, Pairs-between, Pairs-map, Pairs-weaker, Pairs-always, Pairs-filter, Pairs-from_All, All-from_Pairs}
+use Rattle.trace_tree.proofs.Eaches.{Each-append, Each-front, Each-back, Each-weaker, Each-always, Each-map, Each-unmap, Each-filter, Each-passes, Pairs, Pairs-append, Pairs-between, Pairs-map, Pairs-weaker, Pairs-always, Pairs-filter, Pairs-from_All, All-from_Pairs}
 use Rattle.trace_tree.proofs.Times.{times, times-append, times-same, times-other, times-place, times-past, times-permutation, times-filter_out, filter_none, filter_split}
 
 abbrev pub indices : List Row → List ℕ

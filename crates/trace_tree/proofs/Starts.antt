@@ -1,17 +1,17 @@
 -- The order of spans by their starts.
-use Rattle.std.proofs.Common.{◌≡◌, ◌≢◌, sym, ◌∙◌, ap, subst, refl, ℕ, zero, suc, ◌+◌, ◌<◌, ◌≤◌, inl, inr, Bool, true, false, cond, eqb, ltb, ◌||◌, ◌&&◌, List, [], ◌∷◌, ◌++◌, length, map, get_or, arith, All, AllPairs, Ordering}
-use Rattle.std.specs.List.{AllByRecursion as Each, range_with_len, slice_index}
+use Rattle.std.proofs.Common.{◌≡◌, ◌≢◌, sym, ◌∙◌, ap, subst, refl, ℕ, zero, suc, ◌+◌, ◌<◌, ◌≤◌, inl, inr, Bool, true, false, eqb, ltb, ◌||◌, ◌&&◌, List, [], ◌∷◌, ◌++◌, length, get_or, arith, All, AllPairs, Ordering}
+use Rattle.std.specs.List.{AllByRecursion as Each, range_with_len}
 use Rattle.std.specs.List.Sorted.{IsPermutation, IsSortedBy}
 use Rattle.std.specs.Ordering.{nat_cmp, is_lt, ordering_then}
 use Rattle.std.specs.Cmp.{IsTotalOrder}
 use Rattle.std.proofs.lemmas.Cmp.{then_total, on_total, nat_cmp_total}
 use Rattle.std.proofs.lemmas.Bool.{cases_eq, cases_lt, cases_order, lt-ltb, le-ltb, eq-eqb, or_left, or_right, and_from, true≢false}
 use Rattle.std.proofs.lemmas.List.{get_or-map, map_push, length-map}
-use Rattle.std.proofs.lemmas.List.Elements.{All-from_recursion, recursion_from_All, All-push, All-nil}
-use Rattle.std.proofs.lemmas.List.Sorted.{ranks_by, sorted_far, IsPermutation-map, IsPermutation-trans, All-permutation}
+use Rattle.std.proofs.lemmas.List.Elements.{All-push, All-nil}
+use Rattle.std.proofs.lemmas.List.Sorted.{ranks_by, sorted_far, IsPermutation-map, All-permutation}
 use Rattle.trace_tree.specs.Order.{start_at, precedes, ArePlaces, places_of, AreStarts, AreByStart}
 use Rattle.trace_tree.specs.declared.span.TreeSpan.{TreeSpan}
-use Rattle.trace_tree.proofs.Times.{times, times-same, times-other, times-permutation, times-place, times-past}
+use Rattle.trace_tree.proofs.Times.{times, times-same, times-other, times-place, times-past}
 use Rattle.trace_tree.proofs.Eaches.{Pairs, Pairs-map, Pairs-from_All, All-from_Pairs}
 
 abbrev pub Start : Type 0

@@ -2,9 +2,9 @@
 use Rattle.std.proofs.Common.{◌≡◌, ◌≢◌, sym, ◌∙◌, ap, subst, ℕ, ◌<◌, ◌⊎◌, inl, inr, refl, Option, Some, None, List, length, set, length-set}
 use Rattle.trace_tree.specs.Parents.{parent_at}
 use Rattle.trace_tree.specs.Cycles.{HasAncestor, parent}
-use Rattle.trace_tree.specs.Walks.{mark_at, LeadsTo, IsFresh, IsWalk, IsWalkUp, IsRound}
+use Rattle.trace_tree.specs.Walks.{mark_at, IsFresh, IsWalk, IsWalkUp, IsRound}
 use Rattle.trace_tree.specs.declared.cycles.Mark.{Mark}
-use Rattle.trace_tree.specs.declared.cycles.Mark.TheVariants.{Unseen, SeenFrom, OnCycle}
+use Rattle.trace_tree.specs.declared.cycles.Mark.TheVariants.{Unseen, SeenFrom}
 use Rattle.trace_tree.proofs.Sets.{set_cases}
 use Rattle.trace_tree.proofs.Ancestors.{ancestor_push}
 

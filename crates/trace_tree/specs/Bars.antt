@@ -22,5 +22,6 @@ column_of width whole time = if whole == 0 then 0 else time * width / whole
 unfoldable pub bar_of : ℕ → ℕ → ℕ → ℕ → Bar
 bar_of width whole start «end» = record {
   first = min (column_of width whole start) (width - 1);
-  end = max (min (column_of width whole «end») width) (min (column_of width whole start) (width - 1) + 1);
+  end = max (min (column_of width whole «end») width)
+      (min (column_of width whole start) (width - 1) + 1);
 }

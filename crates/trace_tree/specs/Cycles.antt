@@ -5,7 +5,8 @@ use Rattle.trace_tree.specs.Parents.{parent_at}
 -- From the span in one place, going to the parent once or more leads to the one in the other.
 pub data HasAncestor (parents : List (Option ℕ)) : ℕ → ℕ → Type 0 where
   parent : {k p : ℕ} → parent_at parents k ≡ Some p → HasAncestor parents k p
-  above : {k p a : ℕ} → parent_at parents k ≡ Some p → HasAncestor parents p a → HasAncestor parents k a
+  above : {k p a : ℕ} → parent_at parents k ≡ Some p → HasAncestor parents p a
+      → HasAncestor parents k a
 
 -- The span is on a cycle, and comes before the others of that cycle in the list.
 pub record OpensCycle (parents : List (Option ℕ)) (k : ℕ) : Type 0 where

@@ -51,8 +51,10 @@ abbrev pub children_of : List (Option ℕ) → List ℕ → ℕ → List ℕ
 children_of parents order p = filter (is_child parents p) order
 
 -- these are the children of each span
-pub record AreChildren (parents : List (Option ℕ)) (order : List ℕ) (children : List (List ℕ)) : Type 0 where
-  pub each : (p : ℕ) → p < length children → slice_index_or children p [] ≡ children_of parents order p
+pub record AreChildren (parents : List (Option ℕ)) (order : List ℕ) (children : List (List ℕ))
+    : Type 0 where
+  pub each : (p : ℕ) → p < length children
+      → slice_index_or children p [] ≡ children_of parents order p
 
 -- the lists in vectors
 abbrev pub lists_of : {Z : Type 0} → List (Vec ℕ Z) → List (List ℕ)

@@ -1,5 +1,5 @@
 -- The parent of each span in a list.
-use Rattle.std.specs.Prelude.{ℕ, Bool, Option, None, List, [], ◌==◌, if◌then◌else◌, length, map}
+use Rattle.std.specs.Prelude.{ℕ, Bool, Option, None, List, ◌==◌, if◌then◌else◌, length, map}
 use Rattle.std.specs.Prelude.{position}
 use Rattle.std.specs.List.{slice_index_or}
 use Rattle.std.specs.Str.{bytes_eq}

@@ -23,8 +23,7 @@ IsPlace spans k Child =
     IsSome (parent_at (parents_of spans) k) × ¬ OpensCycle (parents_of spans) k
 IsPlace spans k Cycle = OpensCycle (parents_of spans) k
 
--- one of the rows before it is the parent's, one depth less, and since then all are deeper than
--- that
+-- one of the rows before it is the parent's, one depth less, and since then all are deeper than it
 pub record IsUnder (parent : ℕ) (before : List Row) (row : Row) : Type 0 where
   pub above : List Row
   pub parent_row : Row
@@ -77,16 +76,19 @@ abbrev pub row_at : List Place → ℕ → ℕ → Row
 row_at places depth k = record { index = k; depth = depth; place = place_at places k }
 
 -- the places of spans with these parents, which are those in the tree
-pub record ArePlaced (spans : List TreeSpan) (parents tree : List (Option ℕ)) (places : List Place) : Type 0 where
+pub record ArePlaced (spans : List TreeSpan) (parents tree : List (Option ℕ)) (places : List Place)
+    : Type 0 where
   pub same_length : length places ≡ length spans
   pub each : (k : ℕ) → k < length spans
       → place_at places k ≡ place_by (is_root_at spans k) (parent_at parents k) (parent_at tree k)
 
 -- the rows of a tree of these parents, in this order
-pub record AreRowsOf (tree : List (Option ℕ)) (places : List Place) (order : List ℕ) (rows : List Row) : Type 0 where
+pub record AreRowsOf (tree : List (Option ℕ)) (places : List Place) (order : List ℕ)
+    (rows : List Row) : Type 0 where
   pub all : ArePlaces (length places) (map (λ (r : Row). r.index) rows)
   pub placed : All (λ (r : Row). r.place ≡ place_at places r.index) rows
-  pub nested : EachAfter (λ before (row : Row). IsNested (parent_at tree row.index) before row) [] rows
+  pub nested :
+      EachAfter (λ before (row : Row). IsNested (parent_at tree row.index) before row) [] rows
   pub ordered : (r : ℕ → ℕ → Bool) → AllPairs (λ i j. r i j ≡ true) order
       → AllPairs (λ (a b : Row). parent_at tree a.index ≡ parent_at tree b.index
       → r a.index b.index ≡ true) rows

@@ -38,7 +38,8 @@ pub record IsWalk (parents : List (Option ℕ)) (old new : List Mark) (start las
   pub leads : (k : ℕ) → mark_at new k ≡ SeenFrom start → LeadsTo parents k last
 
 -- it ends at a span without a parent, or at one that an earlier walk came to
-pub record IsWalkUp (parents : List (Option ℕ)) (old new : List Mark) (start last : ℕ) : Type 0 where
+pub record IsWalkUp (parents : List (Option ℕ)) (old new : List Mark) (start last : ℕ)
+    : Type 0 where
   pub walk : IsWalk parents old new start last
   pub ends : (parent_at parents last ≡ None) ⊎ (mark_at old last ≢ Unseen)
 
@@ -56,7 +57,8 @@ pub record IsRemarked (old new : List Mark) (start : ℕ) : Type 0 where
       ⊎ ((mark_at old k ≡ SeenFrom start) × (mark_at new k ≡ OnCycle))
 
 -- Walks came from all spans before this one, and what they came to leads to a top.
-pub record AreOpenBefore (parents tree : List (Option ℕ)) (marks : List Mark) (start : ℕ) : Type 0 where
+pub record AreOpenBefore (parents tree : List (Option ℕ)) (marks : List Mark) (start : ℕ)
+    : Type 0 where
   pub opened : IsOpened parents tree
   pub marks_length : length marks ≡ length parents
   pub ends : (k : ℕ) → mark_at marks k ≢ Unseen → EndsAtTop tree k

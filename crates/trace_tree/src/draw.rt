@@ -110,10 +110,10 @@ fn push_row<A: Allocator + Copy>(
     }
 }
 
-/// Appends a line for each row (profile): the name of its span, indented by two spaces for each row
-/// above it; a bar of so many columns between two `|`, which shows when the span ran within the
-/// time from the earliest start to the latest end of all spans; how long it ran, with three digits;
-/// and what else is to be said of it: `error`, `parent not received` or `cycle`.
+/// Appends a line for each row (profile): the name of its span, indented by two spaces for each
+/// row above it; a bar of so many columns between two `|`, which shows when the span ran within
+/// the time from the earliest start to the latest end of all spans; how long it ran, with three
+/// digits; and what else is to be said of it: `error`, `parent not received` or `cycle`.
 ///
 /// A name has 40 columns with its indentation, which is 24 columns at most. One that is longer is
 /// cut and ends in `~`. Each character counts as one column. Controls, separators of lines,

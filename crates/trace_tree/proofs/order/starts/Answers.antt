@@ -1,5 +1,5 @@
 use Rattle.std.proofs.Common.{sym, subst, rules}
-use Rattle.trace_tree.proofs.Starts.{AreStartsBefore, starts_more, starts_all}
+use Rattle.trace_tree.proofs.Starts.{AreStartsBefore, starts_more}
 use Rattle.trace_tree.proofs.order.starts.Goals as goal
 
 pub loop-index-preserved : goal.loop-index-preserved

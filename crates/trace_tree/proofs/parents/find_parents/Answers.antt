@@ -1,4 +1,4 @@
-use Rattle.std.proofs.Common.{ap, ◌∙◌, sym, subst, rules, get_or}
+use Rattle.std.proofs.Common.{◌∙◌, sym, subst, rules, get_or}
 use Rattle.trace_tree.specs.Cycles.{AreInList}
 use Rattle.trace_tree.proofs.Ids.{nobody, parents_more, parents_all, parents_in_list, parent_none, parent_some}
 use Rattle.trace_tree.proofs.parents.find_parents.Goals as goal

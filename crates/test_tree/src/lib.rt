@@ -1,0 +1,7 @@
+//! Tests of `trace_tree` over its public calls: whole texts, large lists, and refused memory.
+#![tactic(auto)]
+
+#[cfg(test)]
+mod large;
+#[cfg(test)]
+mod texts;
