@@ -1,3 +1,2 @@
 pub mod FinalLemmas
-pub mod HeadLemmas
 pub mod RequestLemmas

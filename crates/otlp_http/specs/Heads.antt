@@ -1,14 +1,14 @@
 -- What comes where the head of a reply is due (RFC 9112, sections 2 to 5, as `httparse` has them).
-use Rattle.std.specs.Prelude.{◌≡◌, ℕ, ◌<◌, ◌≤◌, ◌⊎◌, List, ◌++◌, length, map, Option, All}
+use Rattle.std.specs.Prelude.{◌≡◌, ℕ, ◌<◌, ◌≤◌, List, ◌++◌, length, map, Option, All}
 use Rattle.std.specs.List.{flat_map}
-use Rattle.std.specs.Io.KnownBytes.{IsAtEnd, Consumes}
+use Rattle.std.specs.Io.KnownBytes.{Consumes}
 use Rattle.httparse.specs.Grammar.{ResponseHead, IsResponseHead, print_response, status_code}
 use Rattle.httparse.specs.Grammar.{HasNoResponse, NeverHasResponse, MayBecomeResponse}
 use Rattle.httparse.specs.Spans.{ResponseExceeds, name_and_value}
 use Rattle.http_wire.specs.declared.fault.HttpFault.{HttpFault}
-use Rattle.http_wire.specs.declared.fault.HttpFault.TheVariants as faults
 use Rattle.http_wire.specs.declared.limits.HeadLimits.{HeadLimits}
 use Rattle.http_wire.specs.Fields.{NameAndValue}
+use Rattle.http_head.specs.Heads.{LacksSuchHead}
 
 -- the fields of a head, in their order
 abbrev pub fields_of : ResponseHead → List NameAndValue
@@ -27,19 +27,9 @@ IsUnfinished text = HasNoResponse text × MayBecomeResponse text
 
 -- the text came where a head was due, then these bytes were left, and no head came for this cause
 abbrev pub LacksHead : HeadLimits → List ℕ → Option (List ℕ) → Type 0 → HttpFault → Type 0
-LacksHead limits text left failed faults.Ended =
-    IsAtEnd left × IsUnfinished text × (length text < limits.head)
-LacksHead limits text left failed faults.Device =
-    failed × IsUnfinished text × (length text < limits.head)
-LacksHead limits text left failed faults.BadHead =
-    NeverHasResponse text × (length text ≤ limits.head)
-LacksHead limits text left failed faults.TooLarge =
-    (length text ≤ limits.head)
-    × ((IsUnfinished text × (length text ≡ limits.head)) ⊎ ResponseExceeds limits.fields text)
-LacksHead limits text left failed faults.OutOfMemory =
-    HasNoResponse text × (length text < limits.head)
-LacksHead limits text left failed faults.BadLength = ⊥
-LacksHead limits text left failed faults.BadChunk = ⊥
+LacksHead limits text left failed fault =
+    LacksSuchHead HasNoResponse MayBecomeResponse NeverHasResponse ResponseExceeds
+    limits text left failed fault
 
 -- a status from 100 to 199
 abbrev pub IsInterimStatus : ℕ → Type 0

@@ -1,4 +1,5 @@
 pub mod Address
+pub mod HeadLaws
 pub mod Heads
 pub mod Outcomes
 pub mod Parses

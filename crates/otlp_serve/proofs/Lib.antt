@@ -1,4 +1,3 @@
 pub mod AnswerLemmas
-pub mod HeadLemmas
 pub mod PostLemmas
 pub mod ReplyLemmas

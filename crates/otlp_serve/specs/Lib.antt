@@ -1,4 +1,5 @@
 pub mod Answers
+pub mod HeadLaws
 pub mod Parses
 pub mod Posts
 pub mod Replies

@@ -1,17 +1,15 @@
 -- What a parse of a request's head answers, and what is kept of it.
-use Rattle.std.specs.Prelude.{◌≡◌, ℕ, List, length, All, Option, Some, None, Result, Ok, Err}
+use Rattle.std.specs.Prelude.{◌≡◌, ℕ, List, length, All, Option}
 use Rattle.std.specs.Io.KnownBytes.{Consumes}
-use Rattle.httparse.specs.Grammar.{RequestHead, NeverHasRequest, print_request}
-use Rattle.httparse.specs.Spans.{IsRequestAt, IsRequestWithin, RequestExceeds}
+use Rattle.httparse.specs.Grammar.{RequestHead, print_request}
+use Rattle.httparse.specs.Spans.{IsRequestAt, IsRequestWithin}
 use Rattle.httparse.specs.declared.spans.HeaderSpan.{HeaderSpan}
 use Rattle.httparse.specs.declared.spans.RequestSpans.{RequestSpans}
 use Rattle.http_header.specs.FieldValue.{FieldValue}
 use Rattle.http_header.specs.HeaderMap.{Entries}
-use Rattle.http_wire.specs.declared.fault.HttpFault.{HttpFault}
-use Rattle.http_wire.specs.declared.fault.HttpFault.TheVariants as faults
 use Rattle.http_wire.specs.declared.limits.HeadLimits.{HeadLimits}
 use Rattle.http_wire.specs.Fields.{IsTaken, KeepsFields}
-use Rattle.otlp_serve.specs.RequestHeads.{request_fields, IsRequestText, IsUnfinishedRequest}
+use Rattle.otlp_serve.specs.RequestHeads.{request_fields, IsRequestText}
 
 -- the spans cover the parts of that head, which is the text
 abbrev pub CoversRequest : HeadLimits → List ℕ → List HeaderSpan → RequestSpans → RequestHead
@@ -25,26 +23,11 @@ abbrev pub FindsRequest : HeadLimits → List ℕ → List HeaderSpan → Reques
 FindsRequest limits text spans found =
     (head : RequestHead) × CoversRequest limits text spans found head
 
--- what a parse of the text says, with room for so many fields
-abbrev pub ParsesRequest : List ℕ → ℕ → List HeaderSpan → Result (Option RequestSpans) HttpFault
-    → Type 0
-ParsesRequest text room spans (Ok (Some found)) =
+-- the spans cover the parts of a head at the front of the text, with room for so many fields
+abbrev pub FindsFront : List ℕ → ℕ → List HeaderSpan → RequestSpans → Type 0
+FindsFront text room spans found =
     (head : RequestHead) × IsRequestAt text spans found head
     × IsRequestWithin text spans found × (length spans ≡ room)
-ParsesRequest text room spans (Ok None) = IsUnfinishedRequest text
-ParsesRequest text room spans (Err faults.BadHead) = NeverHasRequest text
-ParsesRequest text room spans (Err faults.TooLarge) = RequestExceeds room text
-ParsesRequest text room spans (Err faults.Ended) = ⊥
-ParsesRequest text room spans (Err faults.Device) = ⊥
-ParsesRequest text room spans (Err faults.BadLength) = ⊥
-ParsesRequest text room spans (Err faults.BadChunk) = ⊥
-ParsesRequest text room spans (Err faults.OutOfMemory) = ⊥
-
--- the text can't begin a head, or has too many fields, or else it stopped
-pub data IsStopped (text : List ℕ) (room : ℕ) (fault answer : HttpFault) : Type 0 where
-  unfinished : IsUnfinishedRequest text → answer ≡ fault → IsStopped text room fault answer
-  bad : NeverHasRequest text → answer ≡ faults.BadHead → IsStopped text room fault answer
-  over : RequestExceeds room text → answer ≡ faults.TooLarge → IsStopped text room fault answer
 
 -- a head came, and its parts are kept
 pub record HasKeptRequest (limits : HeadLimits) (old new : Option (List ℕ))

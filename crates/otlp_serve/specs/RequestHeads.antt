@@ -1,14 +1,13 @@
 -- What comes where the head of a request is due (RFC 9112, sections 2, 3 and 5, as `httparse` has
 -- them).
-use Rattle.std.specs.Prelude.{◌≡◌, ℕ, ◌<◌, ◌≤◌, ◌⊎◌, List, length, map, Option}
-use Rattle.std.specs.Io.KnownBytes.{IsAtEnd}
+use Rattle.std.specs.Prelude.{◌≡◌, ℕ, ◌≤◌, List, length, map, Option}
 use Rattle.httparse.specs.Grammar.{RequestHead, IsRequestHead, print_request}
 use Rattle.httparse.specs.Grammar.{HasNoRequest, NeverHasRequest, MayBecomeRequest}
 use Rattle.httparse.specs.Spans.{RequestExceeds, name_and_value}
 use Rattle.http_wire.specs.declared.fault.HttpFault.{HttpFault}
-use Rattle.http_wire.specs.declared.fault.HttpFault.TheVariants as faults
 use Rattle.http_wire.specs.declared.limits.HeadLimits.{HeadLimits}
 use Rattle.http_wire.specs.Fields.{NameAndValue}
+use Rattle.http_head.specs.Heads.{LacksSuchHead}
 
 -- the fields of a head, in their order
 abbrev pub request_fields : RequestHead → List NameAndValue
@@ -28,17 +27,6 @@ IsUnfinishedRequest text = HasNoRequest text × MayBecomeRequest text
 
 -- the text came where a head was due, then these bytes were left, and no head came for this cause
 abbrev pub LacksRequest : HeadLimits → List ℕ → Option (List ℕ) → Type 0 → HttpFault → Type 0
-LacksRequest limits text left failed faults.Ended =
-    IsAtEnd left × IsUnfinishedRequest text × (length text < limits.head)
-LacksRequest limits text left failed faults.Device =
-    failed × IsUnfinishedRequest text × (length text < limits.head)
-LacksRequest limits text left failed faults.BadHead =
-    NeverHasRequest text × (length text ≤ limits.head)
-LacksRequest limits text left failed faults.TooLarge =
-    (length text ≤ limits.head)
-    × ((IsUnfinishedRequest text × (length text ≡ limits.head))
-    ⊎ RequestExceeds limits.fields text)
-LacksRequest limits text left failed faults.OutOfMemory =
-    HasNoRequest text × (length text < limits.head)
-LacksRequest limits text left failed faults.BadLength = ⊥
-LacksRequest limits text left failed faults.BadChunk = ⊥
+LacksRequest limits text left failed fault =
+    LacksSuchHead HasNoRequest MayBecomeRequest NeverHasRequest RequestExceeds
+    limits text left failed fault

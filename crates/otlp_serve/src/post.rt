@@ -11,9 +11,10 @@ ghost use Rattle.otlp_serve.specs.Posts.{post_view, CountsAtPost, HasNoPost, Has
 
 use crate::answer::{is_for_traces, is_plain, is_protobuf, plain_reply};
 use crate::fault::PostFault;
-use crate::head::read_head;
+use crate::head::RequestHeads;
 use crate::reply::PostReply;
 use crate::status::ReplyStatus;
+use http_head::read_head;
 use http_header::HeaderMap;
 use http_wire::{
     FaultRead, HeadLimits, HttpFault, MOST_FIELDS, keep_fields, read_body, request_framing,
@@ -103,7 +104,7 @@ fn read_post_head<R: FaultRead, A: Allocator + Copy>(
     let mut text = Vec::new(alloc);
     let mut room = [HeaderSpan::default(); MOST_FIELDS];
     let spans = &mut room[..limits.fields];
-    let head = match read_head(reader, limits, &mut text, spans) {
+    let head = match read_head::<RequestHeads, R, A>(reader, limits, &mut text, spans) {
         Ok(head) => head,
         Err(fault) => return Err(fault),
     };

@@ -1,15 +1,18 @@
 -- Chunks that are written out.
-use Rattle.std.proofs.Common.{◌≡◌, ℕ, ◌<◌, ◌≤◌, nat_lt, Bool, true, false, ◌&&◌, List, [], ◌∷◌, ◌++◌, length, sym, ap, ◌∙◌, arith, Some, None, Option, codes}
+use Rattle.std.proofs.Common.{◌≡◌, ℕ, ◌<◌, ◌≤◌, nat_lt, Bool, true, false, ◌&&◌, List, [], ◌∷◌, ◌++◌, length, refl, sym, ap, ◌∙◌, arith, Some, None, Option, Result, Ok, codes}
 use Rattle.std.specs.Prelude.{nat_le}
-use Rattle.std.specs.List.{list_all, list_any}
+use Rattle.std.specs.List.{list_all, list_any, flat_map}
 use Rattle.std.specs.Char.{is_ascii_hexdigit}
 use Rattle.std.proofs.lemmas.List.Sums.{AllPass-from_list_all}
-use Rattle.std.proofs.lemmas.List.Elements.{All-head}
+use Rattle.std.proofs.lemmas.List.Elements.{All-cons, All-head, All-nil}
 use Rattle.std.proofs.lemmas.Bool.{leb-true, ltb-true, false≢true}
-use Rattle.httparse.specs.Grammar.{LineEnd, crlf, lf, print_end, Field, print_section, AllPass, ChunkLine, IsChunkLine, print_chunk_line, print_extension, is_ows, is_extension_byte, IsExtension, HasNoChunkLine, NeverHasChunkLine}
+use Rattle.httparse.specs.Grammar.{LineEnd, crlf, lf, print_end, Field, print_section, AllPass, ChunkLine, IsChunkLine, print_chunk_line, chunk_size, print_extension, is_ows, is_extension_byte, IsExtension, HasNoChunkLine, NeverHasChunkLine}
+use Rattle.httparse.proofs.OnLiterals.{httparse_on_literals}
+use Rattle.http_wire.specs.declared.fault.HttpFault.{HttpFault}
 use Rattle.http_wire.specs.declared.limits.HeadLimits.{HeadLimits}
-use Rattle.http_wire.specs.Chunks.{IsLine, Trailers, print_trailers, IsTrailers, HasNoTrailers}
+use Rattle.http_wire.specs.Chunks.{Chunk, print_chunk, IsChunk, data_of, IsLine, Trailers, print_trailers, IsTrailers, HasNoTrailers, EndsChunks, whole, IsChunkedBody}
 use Rattle.http_wire.proofs.ChunkLemmas.{line_ends, trailers_end}
+use Rattle.worked_http.specs.Replied.{usual}
 use Rattle.worked_http.proofs.Heads.{both, all_of, is_field, field_is, is_line_feed, line_feed_in}
 
 abbrev is_extension : Option (List ℕ) → Bool
@@ -51,6 +54,52 @@ trailers_are limits t valid few bytes = record {
   few = leb-true (length t.fields) limits.fields few;
   bytes = leb-true (length (print_trailers t)) limits.head bytes;
 }
+
+-- ---- whole bodies
+
+-- no chunk came before the text that ends the chunks
+pub no_chunks : (limits : HeadLimits) (text : List ℕ) {left : Option (List ℕ)} {failed : Type 0} {answer : Result (List ℕ) HttpFault}
+    → EndsChunks limits [] text left failed answer → IsChunkedBody limits text left failed answer
+no_chunks limits text ends = record { chunks = []; text = text; each = All-nil (IsChunk limits.head); fit = omega arith; whole = refl; ends = ends }
+
+-- one chunk that is written out came before it
+pub one_chunk : (limits : HeadLimits) (c : Chunk) (text : List ℕ) {taken : List ℕ} {left : Option (List ℕ)} {failed : Type 0} {answer : Result (List ℕ) HttpFault}
+    → IsChunk limits.head c → nat_le (length (data_of (c ∷ []))) limits.body ≡ true → taken ≡ flat_map print_chunk (c ∷ []) ++ text
+    → EndsChunks limits (data_of (c ∷ [])) text left failed answer → IsChunkedBody limits taken left failed answer
+one_chunk limits c text is fit taken ends = record {
+  chunks = c ∷ [];
+  text = text;
+  each = All-cons (IsChunk limits.head) c [] is (All-nil (IsChunk limits.head));
+  fit = leb-true (length (data_of (c ∷ []))) limits.body fit;
+  whole = taken;
+  ends = ends;
+}
+
+-- a chunk that is written out
+pub chunk_is : (most : ℕ) (c : Chunk) → is_line c.line ≡ true → nat_le (length (print_chunk_line c.line)) most ≡ true
+    → nat_lt 0 (chunk_size c.line) ≡ true → length c.bytes ≡ chunk_size c.line → IsChunk most c
+chunk_is most c line bytes some size = record { line = line_is most c.line line bytes; some = ltb-true 0 (chunk_size c.line) some; size = size }
+
+abbrev pub abc : Chunk
+abc = record { line = plain (codes "3"); bytes = codes "abc" }
+
+abbrev pub wiki : Chunk
+wiki = record { line = plain (codes "4"); bytes = codes "wiki" }
+
+abbrev no_fields : Trailers
+no_fields = record { fields = []; last = crlf }
+
+-- the last chunk's line came, and the empty line
+pub plain_end : {bytes : List ℕ} {left : Option (List ℕ)} {failed : Type 0} → EndsChunks usual bytes (codes "0\r\n\r\n") left failed (Ok bytes)
+unfolding httparse_on_literals
+plain_end = whole (plain (codes "0")) no_fields (line_is usual.head (plain (codes "0")) refl refl) refl (trailers_are usual no_fields refl refl refl) refl refl
+
+-- a body of one chunk, whatever comes after it
+pub abc_body : (left : List ℕ) → IsChunkedBody usual (codes "3\r\nabc\r\n0\r\n\r\n") (Some left) ⊥ (Ok (codes "abc"))
+unfolding httparse_on_literals
+abc_body left = one_chunk usual abc (codes "0\r\n\r\n") (chunk_is usual.head abc refl refl refl refl) refl refl plain_end
+
+-- ---- no line, no trailers
 
 -- a text without a line feed has no line, and no trailers
 pub has_no_line : (text : List ℕ) → list_any is_line_feed text ≡ false → HasNoChunkLine text

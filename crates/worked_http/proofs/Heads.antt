@@ -19,7 +19,7 @@ use Rattle.otlp_http.specs.Replies.{framing_of}
 use Rattle.http_wire.specs.Bodies.{IsBody}
 use Rattle.http_wire.specs.Fields.{NameAndValue, IsTaken, retry_after, values_of}
 use Rattle.otlp_http.specs.Heads.{fields_of, IsHeadText, IsInterim}
-use Rattle.otlp_http.proofs.HeadLemmas.{head_ends}
+use Rattle.otlp_http.specs.HeadLaws.{head_ends}
 use Rattle.worked_http.specs.Replied.{AreReply, usual}
 
 pub both : (a b : Bool) → (a && b) ≡ true → (a ≡ true) × (b ≡ true)
@@ -83,6 +83,14 @@ taken_is field e =
 
 pub all_taken : (fields : List NameAndValue) → list_all is_taken fields ≡ true → All IsTaken fields
 all_taken fields e = all_of IsTaken is_taken taken_is fields e
+
+-- a field that is written out, with a line end of CR LF
+abbrev pub field : List ℕ → List ℕ → Field
+field name raw = record { name = name; raw = raw; end = crlf }
+
+-- a head of HTTP/1.1 with that status, reason and one field
+abbrev pub answered : List ℕ → List ℕ → Field → ResponseHead
+answered digits reason one = record { blank = []; minor = 1; digits = digits; reason = Some reason; line_end = crlf; fields = one ∷ []; last = crlf }
 
 -- the head that is `continue`
 abbrev pub interim : ResponseHead

@@ -1,20 +1,24 @@
 -- Heads of requests that are written out, and texts that have none.
-use Rattle.std.proofs.Common.{◌≡◌, ◌<◌, ℕ, nat_lt, Bool, true, false, ◌&&◌, List, [], ◌∷◌, ◌++◌, length, bytes_eq, refl, sym, ap, ◌∙◌, arith, inl, inr}
-use Rattle.std.specs.Prelude.{Some, nat_le}
+use Rattle.std.proofs.Common.{◌≡◌, ◌<◌, ℕ, nat_lt, Bool, true, false, ◌&&◌, List, [], ◌∷◌, ◌++◌, length, bytes_eq, codes, refl, sym, ap, ◌∙◌, arith, inl, inr}
+use Rattle.std.specs.Prelude.{Some, Ok, Err, nat_le}
 use Rattle.std.specs.List.{list_all, list_any}
 use Rattle.std.specs.Io.KnownBytes.{Consumes}
 use Rattle.std.proofs.lemmas.List.Sums.{AllPass-from_list_all}
 use Rattle.std.proofs.lemmas.Bool.{cases_Bool, leb-true, ltb-true, false≢true}
 use Rattle.std.proofs.lemmas.Str.{IsUtf8-from_ascii}
 use Rattle.std.proofs.lemmas.Str.Ascii.{IsAscii-from_all}
-use Rattle.httparse.specs.Grammar.{is_token, is_token_byte, is_uri_byte, RequestHead, IsRequestHead, print_request, HasNoRequest}
+use Rattle.httparse.specs.Grammar.{crlf, Field, is_token, is_token_byte, is_uri_byte, RequestHead, IsRequestHead, print_request, HasNoRequest}
 use Rattle.http_header.specs.Token.{lowercase}
+use Rattle.http_wire.specs.declared.fault.HttpFault.{HttpFault}
 use Rattle.http_wire.specs.declared.limits.HeadLimits.{HeadLimits}
+use Rattle.http_wire.specs.Bodies.{request_framing, IsBody}
 use Rattle.http_wire.specs.Fields.{KeepsFields}
 use Rattle.otlp_serve.specs.RequestHeads.{request_fields}
-use Rattle.otlp_serve.specs.Posts.{ComesWith}
-use Rattle.otlp_serve.proofs.HeadLemmas.{head_ends}
-use Rattle.worked_http.specs.Posted.{under}
+use Rattle.otlp_serve.specs.declared.fault.PostFault.TheVariants.{Body}
+use Rattle.otlp_serve.specs.Posts.{ComesWith, HttpPost}
+use Rattle.otlp_serve.specs.HeadLaws.{head_ends}
+use Rattle.worked_http.specs.Replied.{usual}
+use Rattle.worked_http.specs.Posted.{under, AreNoPost, ArePost}
 use Rattle.worked_http.proofs.Heads.{both, all_of, is_field, field_is, is_taken, all_taken, is_line_feed, line_feed_in}
 
 abbrev is_target : List ℕ → Bool
@@ -39,8 +43,12 @@ request_is h e =
       fields = all_of _ is_field field_is h.fields last.1;
     }
 
+-- a head of HTTP/1.1 that puts to `/`, with one field
+abbrev pub put : Field → RequestHead
+put one = record { blank = []; method = codes "PUT"; target = codes "/"; minor = 1; line_end = crlf; fields = one ∷ []; last = crlf }
+
 -- a head that is written out came, and then some bytes
-pub came : (limits : HeadLimits) (h : RequestHead) (taken : List ℕ) {bytes left : List ℕ}
+came : (limits : HeadLimits) (h : RequestHead) (taken : List ℕ) {bytes left : List ℕ}
     → Consumes (Some bytes) (Some left) (print_request h ++ taken)
     → is_request h ≡ true → nat_le (length (print_request h)) limits.head ≡ true → nat_le (length h.fields) limits.fields ≡ true
     → list_all is_taken (request_fields h) ≡ true → ComesWith limits (Some bytes) (Some left) h taken
@@ -54,6 +62,34 @@ came limits h taken comes is bytes fields kept = record {
   };
   kept = all_taken (request_fields h) kept;
 }
+
+-- a request whose head is written out
+pub posted : (head : RequestHead) (taken : List ℕ) {bytes left : List ℕ} {post : HttpPost}
+    → Consumes (Some bytes) (Some left) (print_request head ++ taken)
+    → is_request head ≡ true → nat_le (length (print_request head)) usual.head ≡ true → nat_le (length head.fields) usual.fields ≡ true
+    → list_all is_taken (request_fields head) ≡ true
+    → post.method ≡ head.method → post.target ≡ head.target → KeepsFields post.fields (request_fields head)
+    → IsBody (request_framing (request_fields head)) usual taken (Some left) ⊥ (Ok post.body)
+    → ArePost bytes left post
+posted head taken comes is bytes fields kept method target keeps body = record {
+  head = head;
+  taken = taken;
+  comes = came usual head taken comes is bytes fields kept;
+  method = method;
+  target = target;
+  fields = keeps;
+  body = body;
+}
+
+-- a head that is written out, and why its body didn't come
+pub without_body : (limits : HeadLimits) (head : RequestHead) (taken : List ℕ) {bytes left : List ℕ} {fault : HttpFault}
+    → Consumes (Some bytes) (Some left) (print_request head ++ taken)
+    → is_request head ≡ true → nat_le (length (print_request head)) limits.head ≡ true → nat_le (length head.fields) limits.fields ≡ true
+    → list_all is_taken (request_fields head) ≡ true
+    → IsBody (request_framing (request_fields head)) limits taken (Some left) ⊥ (Err fault)
+    → AreNoPost limits bytes left (Body fault)
+without_body limits head taken comes is bytes fields kept body =
+    record { head = head; taken = taken; comes = came limits head taken comes is bytes fields kept; body = body }
 
 -- a field is kept under its name in lower case
 pub one_field : (name value : List ℕ) → KeepsFields (under (lowercase name) (value ∷ [])) ((name, value) ∷ [])

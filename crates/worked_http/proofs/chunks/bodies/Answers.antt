@@ -4,14 +4,8 @@ use Rattle.httparse.specs.Grammar.{crlf, lf}
 use Rattle.httparse.proofs.OnLiterals.{httparse_on_literals}
 use Rattle.http_wire.specs.Chunks.{Chunk, IsChunk, Trailers, whole}
 use Rattle.worked_http.specs.Replied.{usual}
-use Rattle.worked_http.proofs.ChunkParts.{plain, line_is, trailers_are}
+use Rattle.worked_http.proofs.ChunkParts.{plain, line_is, trailers_are, chunk_is, no_chunks, plain_end, abc_body}
 use Rattle.worked_http.proofs.chunks.bodies.Goals as goal
-
-abbrev none : Trailers
-none = record { fields = []; last = crlf }
-
-abbrev abc : Chunk
-abc = record { line = plain (codes "3"); bytes = codes "abc" }
 
 abbrev wiki : Chunk
 wiki = record { line = record { digits = codes "4"; pad = []; extension = Some (codes "a=b") }; bytes = codes "wiki" }
@@ -23,26 +17,10 @@ abbrev two : Trailers
 two = record { fields = record { name = codes "A"; raw = codes " b"; end = lf } ∷ record { name = codes "C"; raw = []; end = crlf } ∷ []; last = crlf }
 
 pub returns-clause-empty : goal.returns-clause-empty
-unfolding httparse_on_literals
-returns-clause-empty c = record {
-  chunks = [];
-  text = codes "0\r\n\r\n";
-  each = All-nil (IsChunk usual.head);
-  fit = omega arith;
-  whole = refl;
-  ends = whole (plain (codes "0")) none (line_is usual.head (plain (codes "0")) refl refl) refl (trailers_are usual none refl refl refl) refl refl;
-}
+returns-clause-empty c = no_chunks usual (codes "0\r\n\r\n") plain_end
 
 pub returns-clause-one : goal.returns-clause-one
-unfolding httparse_on_literals
-returns-clause-one c = record {
-  chunks = abc ∷ [];
-  text = codes "0\r\n\r\n";
-  each = All-cons (IsChunk usual.head) abc [] (record { line = line_is usual.head abc.line refl refl; some = omega arith; size = refl }) (All-nil (IsChunk usual.head));
-  fit = omega arith;
-  whole = refl;
-  ends = whole (plain (codes "0")) none (line_is usual.head (plain (codes "0")) refl refl) refl (trailers_are usual none refl refl refl) refl refl;
-}
+returns-clause-one c = abc_body []
 
 pub returns-clause-dressed : goal.returns-clause-dressed
 unfolding httparse_on_literals
@@ -50,8 +28,8 @@ returns-clause-dressed c = record {
   chunks = wiki ∷ ten ∷ [];
   text = codes "00\r\nA: b\nC:\r\n\r\n";
   each = All-cons (IsChunk usual.head) wiki (ten ∷ [])
-      (record { line = line_is usual.head wiki.line refl refl; some = omega arith; size = refl })
-      (All-cons (IsChunk usual.head) ten [] (record { line = line_is usual.head ten.line refl refl; some = omega arith; size = refl }) (All-nil (IsChunk usual.head)));
+      (chunk_is usual.head wiki refl refl refl refl)
+      (All-cons (IsChunk usual.head) ten [] (chunk_is usual.head ten refl refl refl refl) (All-nil (IsChunk usual.head)));
   fit = omega arith;
   whole = refl;
   ends = whole (plain (codes "00")) two (line_is usual.head (plain (codes "00")) refl refl) refl (trailers_are usual two refl refl refl) refl refl;

@@ -1,33 +1,17 @@
-use Rattle.std.proofs.Common.{[], ◌∷◌, refl, arith, codes, Some, None}
+use Rattle.std.proofs.Common.{[], ◌∷◌, refl, arith, codes, None}
 use Rattle.std.proofs.lemmas.List.Elements.{All-cons, All-nil}
-use Rattle.httparse.specs.Grammar.{crlf, lf, ResponseHead}
+use Rattle.httparse.specs.Grammar.{lf, ResponseHead}
 use Rattle.httparse.proofs.OnLiterals.{httparse_on_literals}
 use Rattle.otlp_http.specs.Heads.{IsInterim}
 use Rattle.worked_http.specs.Replied.{usual, two_rejected}
-use Rattle.worked_http.proofs.Heads.{interim, head_text, replied}
+use Rattle.worked_http.proofs.Heads.{field, answered, interim, head_text, replied}
 use Rattle.worked_http.proofs.replies.replies.Goals as goal
 
 abbrev ok : ResponseHead
-ok = record {
-  blank = [];
-  minor = 1;
-  digits = codes "200";
-  reason = Some (codes "OK");
-  line_end = crlf;
-  fields = record { name = codes "Content-Length"; raw = codes " 7"; end = crlf } ∷ [];
-  last = crlf;
-}
+ok = answered (codes "200") (codes "OK") (field (codes "Content-Length") (codes " 7"))
 
 abbrev busy : ResponseHead
-busy = record {
-  blank = [];
-  minor = 1;
-  digits = codes "503";
-  reason = Some (codes "Busy");
-  line_end = crlf;
-  fields = record { name = codes "Retry-After"; raw = codes " 7"; end = crlf } ∷ [];
-  last = crlf;
-}
+busy = answered (codes "503") (codes "Busy") (field (codes "Retry-After") (codes " 7"))
 
 abbrev no_content : ResponseHead
 no_content = record { blank = []; minor = 0; digits = codes "204"; reason = None; line_end = lf; fields = []; last = lf }

@@ -1,8 +1,7 @@
 use Rattle.std.proofs.Common.{◌≡◌, ◌≤◌, ◌-◌, length}
 use Rattle.std.specs.Io.KnownBytes.{Consumes}
-use Rattle.httparse.specs.Grammar.{HasNoResponse}
 use Rattle.http_wire.specs.Places.{IsPlace}
-use Rattle.otlp_http.proofs.head.read_head.Given as goal
+use Rattle.http_head.proofs.head.read_head.Given as goal
 
 -- the text is what was read, no front of it is a head, nothing failed, and the place is that after
 -- it
@@ -11,7 +10,7 @@ invariant-loop-place g l =
     let remaining = g.R.FaultRead.remaining in
     let failures = g.R.FaultRead.failures in
     Consumes (remaining l.initial.reader) (remaining l.reader) l.text.items
-    × HasNoResponse l.text.items × (length l.text.items ≤ l.limits.head)
+    × g.P.ParseHead.has_none l.text.items × (length l.text.items ≤ l.limits.head)
     × (length l.spans ≡ l.limits.fields)
     × (failures l.reader ≡ failures l.initial.reader) × IsPlace l.text.items l.place
 
