@@ -1,0 +1,24 @@
+//! Why there is no ratio.
+
+use thiserror::Error;
+
+/// Why a ratio is refused.
+#[derive(Debug, Clone, Copy, PartialEq, Eq, Error)]
+pub enum RatioFault {
+    /// The text is empty.
+    #[error("no ratio: the text is empty")]
+    Empty,
+    /// The text isn't decimal digits with at most one point. A sign, a blank and an exponent are
+    /// refused, too.
+    #[error("bad ratio: it is a decimal number such as 0.25, without a sign or an exponent")]
+    NotANumber,
+    /// The ratio is above 1.
+    #[error("bad ratio: it is above 1")]
+    AboveOne,
+    /// The denominator is 0.
+    #[error("bad ratio: its denominator is 0")]
+    ZeroDenominator,
+    /// The threshold is above 2^56.
+    #[error("bad threshold: it is above 2^56")]
+    ThresholdTooLarge,
+}

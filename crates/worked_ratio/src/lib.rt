@@ -1,0 +1,137 @@
+//! Worked examples of sampling by a ratio (crate `ratio_sampler`): thresholds, trace ids and texts,
+//! with what becomes of each written out by hand. The checker computes what the definitions make of
+//! them, and compares.
+//!
+//! Each function without an argument is a group of examples. Its clauses are the examples, and it
+//! does nothing when it is called.
+#![tactic(auto)]
+
+ghost use Rattle.std.specs.Prelude.{◌≡◌, ◌+◌, ◌-◌, ◌^◌, [], ◌∷◌, codes, false, true};
+ghost use Rattle.model_span.specs.Sampling as model;
+ghost use Rattle.ratio_sampler.specs.Decimal.{denominator, is_decimal, numerator};
+ghost use Rattle.ratio_sampler.specs.Ratio.{by_threshold, is_sampled_by, random_part};
+ghost use Rattle.ratio_sampler.specs.Ratio.{threshold_of};
+ghost use Rattle.worked_ratio.specs.OtherRules.{go_samples, python_samples};
+
+use otlp_sampler::{ParentBased, Sampler};
+use ratio_sampler::TraceIdRatio;
+
+/// Thresholds of ratios. OpenTelemetry writes those of 1, 1/2 and 1/4 as `0`, `8` and `c`: their
+/// first hexadecimal digits, of 14 (TraceState: Probability Sampling, "Rejection Threshold").
+pub fn thresholds()
+    ensures all { threshold_of 1 1 ≡ 0 }
+    ensures half { threshold_of 1 2 ≡ 0x80000000000000 }
+    ensures quarter { threshold_of 1 4 ≡ 0xc0000000000000 }
+    ensures unreduced { threshold_of 25 100 ≡ 0xc0000000000000 }
+    ensures none { threshold_of 0 1 ≡ 0x100000000000000 }
+    // A tenth of the numbers is 7205759403792793.6, and a third 24019198012642645.3.
+    ensures tenth { threshold_of 1 10 ≡ 0xe6666666666667 }
+    ensures third { threshold_of 1 3 ≡ 0xaaaaaaaaaaaaab }
+    // The least ratio that samples a number, and one that is smaller.
+    ensures least { threshold_of 1 (2 ^ 56) ≡ 0xffffffffffffff }
+    ensures smaller { threshold_of 1 (2 ^ 56 + 1) ≡ 0x100000000000000 }
+    ensures almost_all { threshold_of (2 ^ 64 - 2) (2 ^ 64 - 1) ≡ 1 }
+{}
+
+/// The trace ids that W3C Trace Context has as examples ("trace-id").
+pub fn trace_ids()
+    ensures first { random_part (
+        0x4b ∷ 0xf9 ∷ 0x2f ∷ 0x35 ∷ 0x77 ∷ 0xb3 ∷ 0x4d ∷ 0xa6 ∷
+        0xa3 ∷ 0xce ∷ 0x92 ∷ 0x9d ∷ 0x0e ∷ 0x0e ∷ 0x47 ∷ 0x36 ∷ []) ≡ 0xce929d0e0e4736 }
+    ensures second { random_part (
+        0x0a ∷ 0xf7 ∷ 0x65 ∷ 0x19 ∷ 0x16 ∷ 0xcd ∷ 0x43 ∷ 0xdd ∷
+        0x84 ∷ 0x48 ∷ 0xeb ∷ 0x21 ∷ 0x1c ∷ 0x80 ∷ 0x31 ∷ 0x9c ∷ []) ≡ 0x48eb211c80319c }
+    // The first one at 1/4, and at 1/8.
+    ensures quarter { is_sampled_by 0xc0000000000000 (
+        0x4b ∷ 0xf9 ∷ 0x2f ∷ 0x35 ∷ 0x77 ∷ 0xb3 ∷ 0x4d ∷ 0xa6 ∷
+        0xa3 ∷ 0xce ∷ 0x92 ∷ 0x9d ∷ 0x0e ∷ 0x0e ∷ 0x47 ∷ 0x36 ∷ []) ≡ true }
+    ensures eighth { is_sampled_by 0xe0000000000000 (
+        0x4b ∷ 0xf9 ∷ 0x2f ∷ 0x35 ∷ 0x77 ∷ 0xb3 ∷ 0x4d ∷ 0xa6 ∷
+        0xa3 ∷ 0xce ∷ 0x92 ∷ 0x9d ∷ 0x0e ∷ 0x0e ∷ 0x47 ∷ 0x36 ∷ []) ≡ false }
+    // A number is sampled at itself as the threshold, and not at the next one.
+    ensures itself { is_sampled_by 0x48eb211c80319c (
+        0x0a ∷ 0xf7 ∷ 0x65 ∷ 0x19 ∷ 0x16 ∷ 0xcd ∷ 0x43 ∷ 0xdd ∷
+        0x84 ∷ 0x48 ∷ 0xeb ∷ 0x21 ∷ 0x1c ∷ 0x80 ∷ 0x31 ∷ 0x9c ∷ []) ≡ true }
+    ensures next { is_sampled_by 0x48eb211c80319d (
+        0x0a ∷ 0xf7 ∷ 0x65 ∷ 0x19 ∷ 0x16 ∷ 0xcd ∷ 0x43 ∷ 0xdd ∷
+        0x84 ∷ 0x48 ∷ 0xeb ∷ 0x21 ∷ 0x1c ∷ 0x80 ∷ 0x31 ∷ 0x9c ∷ []) ≡ false }
+{}
+
+/// The same trace ids by the rules of the Go and of the Python SDK, beside this kit's: the share is
+/// the same, and which traces are in it is not. The low 64 bits of the first id are
+/// `a3ce929d0e0e4736`, those of the second `8448eb211c80319c`, and without their last bit
+/// `51e7494e8707239b` and `422475908e4018ce`.
+pub fn other_sdks()
+    // 1/4 of 2^63 is 0x2000000000000000, and 1/4 of 2^64 is 0x4000000000000000.
+    ensures quarter_here { is_sampled_by (threshold_of 1 4) (
+        0x4b ∷ 0xf9 ∷ 0x2f ∷ 0x35 ∷ 0x77 ∷ 0xb3 ∷ 0x4d ∷ 0xa6 ∷
+        0xa3 ∷ 0xce ∷ 0x92 ∷ 0x9d ∷ 0x0e ∷ 0x0e ∷ 0x47 ∷ 0x36 ∷ []) ≡ true }
+    ensures quarter_in_go { go_samples 1 4 (
+        0x4b ∷ 0xf9 ∷ 0x2f ∷ 0x35 ∷ 0x77 ∷ 0xb3 ∷ 0x4d ∷ 0xa6 ∷
+        0xa3 ∷ 0xce ∷ 0x92 ∷ 0x9d ∷ 0x0e ∷ 0x0e ∷ 0x47 ∷ 0x36 ∷ []) ≡ false }
+    ensures quarter_in_python { python_samples 1 4 (
+        0x4b ∷ 0xf9 ∷ 0x2f ∷ 0x35 ∷ 0x77 ∷ 0xb3 ∷ 0x4d ∷ 0xa6 ∷
+        0xa3 ∷ 0xce ∷ 0x92 ∷ 0x9d ∷ 0x0e ∷ 0x0e ∷ 0x47 ∷ 0x36 ∷ []) ≡ false }
+    // 9/16 of 2^63 is 0x4800000000000000, and 9/16 of 2^64 is 0x9000000000000000.
+    ensures nine_sixteenths_here { is_sampled_by (threshold_of 9 16) (
+        0x0a ∷ 0xf7 ∷ 0x65 ∷ 0x19 ∷ 0x16 ∷ 0xcd ∷ 0x43 ∷ 0xdd ∷
+        0x84 ∷ 0x48 ∷ 0xeb ∷ 0x21 ∷ 0x1c ∷ 0x80 ∷ 0x31 ∷ 0x9c ∷ []) ≡ false }
+    ensures nine_sixteenths_in_go { go_samples 9 16 (
+        0x0a ∷ 0xf7 ∷ 0x65 ∷ 0x19 ∷ 0x16 ∷ 0xcd ∷ 0x43 ∷ 0xdd ∷
+        0x84 ∷ 0x48 ∷ 0xeb ∷ 0x21 ∷ 0x1c ∷ 0x80 ∷ 0x31 ∷ 0x9c ∷ []) ≡ true }
+    ensures nine_sixteenths_in_python { python_samples 9 16 (
+        0x0a ∷ 0xf7 ∷ 0x65 ∷ 0x19 ∷ 0x16 ∷ 0xcd ∷ 0x43 ∷ 0xdd ∷
+        0x84 ∷ 0x48 ∷ 0xeb ∷ 0x21 ∷ 0x1c ∷ 0x80 ∷ 0x31 ∷ 0x9c ∷ []) ≡ true }
+    // 3/4 of 2^63 is 0x6000000000000000, and 3/4 of 2^64 is 0xc000000000000000.
+    ensures three_quarters_here { is_sampled_by (threshold_of 3 4) (
+        0x4b ∷ 0xf9 ∷ 0x2f ∷ 0x35 ∷ 0x77 ∷ 0xb3 ∷ 0x4d ∷ 0xa6 ∷
+        0xa3 ∷ 0xce ∷ 0x92 ∷ 0x9d ∷ 0x0e ∷ 0x0e ∷ 0x47 ∷ 0x36 ∷ []) ≡ true }
+    ensures three_quarters_in_go { go_samples 3 4 (
+        0x4b ∷ 0xf9 ∷ 0x2f ∷ 0x35 ∷ 0x77 ∷ 0xb3 ∷ 0x4d ∷ 0xa6 ∷
+        0xa3 ∷ 0xce ∷ 0x92 ∷ 0x9d ∷ 0x0e ∷ 0x0e ∷ 0x47 ∷ 0x36 ∷ []) ≡ true }
+    ensures three_quarters_in_python { python_samples 3 4 (
+        0x4b ∷ 0xf9 ∷ 0x2f ∷ 0x35 ∷ 0x77 ∷ 0xb3 ∷ 0x4d ∷ 0xa6 ∷
+        0xa3 ∷ 0xce ∷ 0x92 ∷ 0x9d ∷ 0x0e ∷ 0x0e ∷ 0x47 ∷ 0x36 ∷ []) ≡ true }
+{}
+
+/// Texts of ratios.
+pub fn texts()
+    ensures quarter { numerator (codes "0.25") ≡ 25 }
+    ensures quarter_of { denominator (codes "0.25") ≡ 100 }
+    ensures one { numerator (codes "1") ≡ 1 }
+    ensures one_of { denominator (codes "1") ≡ 1 }
+    ensures one_and_zero { numerator (codes "1.0") ≡ 10 }
+    ensures one_and_zero_of { denominator (codes "1.0") ≡ 10 }
+    ensures no_whole_part { numerator (codes ".5") ≡ 5 }
+    ensures no_whole_part_of { denominator (codes ".5") ≡ 10 }
+    ensures zero { numerator (codes "0") ≡ 0 }
+    ensures leading_zeros { numerator (codes "000.1") ≡ 1 }
+    ensures leading_zeros_of { denominator (codes "000.1") ≡ 10 }
+{}
+
+/// Which texts are decimal numbers.
+pub fn forms()
+    ensures quarter { is_decimal (codes "0.25") ≡ true }
+    ensures whole { is_decimal (codes "1") ≡ true }
+    ensures point_first { is_decimal (codes ".5") ≡ true }
+    ensures point_last { is_decimal (codes "1.") ≡ true }
+    ensures above_one { is_decimal (codes "1.5") ≡ true }
+    ensures empty { is_decimal (codes "") ≡ false }
+    ensures point_alone { is_decimal (codes ".") ≡ false }
+    ensures two_points { is_decimal (codes "0.2.5") ≡ false }
+    ensures sign { is_decimal (codes "-0.5") ≡ false }
+    ensures plus { is_decimal (codes "+0.5") ≡ false }
+    ensures exponent { is_decimal (codes "1e-3") ≡ false }
+    ensures blank { is_decimal (codes " 1") ≡ false }
+    ensures comma { is_decimal (codes "0,5") ≡ false }
+{}
+
+/// Roots are sampled by a ratio, and any other span as its parent is: what OTEL_TRACES_SAMPLER
+/// calls `parentbased_traceidratio` (OpenTelemetry Environment Variable Specification).
+pub fn roots_by_ratio(ratio: TraceIdRatio) -> ParentBased<TraceIdRatio>
+    ensures { (span : model.Question) →
+        ⟦<ParentBased<TraceIdRatio> as Sampler>⟧.meaning result span
+        ≡ model.as_parent (by_threshold ratio) span }
+{
+    ParentBased::new(ratio)
+}
