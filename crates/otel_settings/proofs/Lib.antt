@@ -1,0 +1,5 @@
+pub mod LastOf
+pub mod LastPairs
+pub mod Ratios
+pub mod Urls
+mod Resources

@@ -1,0 +1,10 @@
+pub mod Variables
+pub mod Pairs
+pub mod LastPairs
+pub mod Faults
+pub mod Readings
+pub mod Samplers
+pub mod Resources
+pub mod Endpoints
+pub mod Settings
+pub mod SettingsView

@@ -1,0 +1,96 @@
+//! Values that can't be read.
+
+ghost use Rattle.std.specs.Prelude.{◌≡◌, ◌++◌, OnOk, option_map};
+ghost use Rattle.otel_settings.specs.Faults.{faults_view, unread};
+
+use crate::sampler::SamplerName;
+use crate::variable::Variable;
+use std::alloc::{AllocError, Allocator, Global};
+use std::fmt;
+
+/// What is used instead of a value that can't be read.
+#[derive(Debug, Clone, Copy, PartialEq, Eq)]
+pub enum Instead {
+    /// `false`.
+    False,
+    /// No attributes.
+    NoAttributes,
+    /// This number.
+    Number(u32),
+    /// No limit.
+    NoLimit,
+    /// This sampler.
+    Sampler(SamplerName),
+    /// The ratio 1.0, which samples each trace.
+    RatioOne,
+    /// Port 4318 of the same machine, `http://localhost:4318/v1/traces`.
+    DefaultEndpoint,
+    /// What this variable says, or its default if it says nothing.
+    Variable(Variable),
+}
+
+impl fmt::Display for Instead {
+    fn fmt<W: fmt::Write>(&self, f: &mut fmt::Formatter<W>) -> fmt::Result {
+        match self {
+            Instead::False => f.write_str("false"),
+            Instead::NoAttributes => f.write_str("no attributes"),
+            Instead::Number(number) => write!(f, "{number}"),
+            Instead::NoLimit => f.write_str("no limit"),
+            Instead::Sampler(sampler) => write!(f, "{sampler}"),
+            Instead::RatioOne => f.write_str("1.0"),
+            Instead::DefaultEndpoint => f.write_str("http://localhost:4318/v1/traces"),
+            Instead::Variable(variable) => write!(f, "what {variable} says"),
+        }
+    }
+}
+
+/// A value that can't be read. It counts as unset (OpenTelemetry Specification, "Environment
+/// Variable Specification", on each type of value).
+#[derive(Drop)]
+#[derive_where(Debug, PartialEq, Eq)]
+pub struct SettingFault<A: Allocator = Global> {
+    /// The variable.
+    pub variable: Variable,
+    /// Its value.
+    pub text: String<A>,
+    /// What is used instead.
+    pub instead: Instead,
+}
+
+impl<A: Allocator> fmt::Display for SettingFault<A> {
+    fn fmt<W: fmt::Write>(&self, f: &mut fmt::Formatter<W>) -> fmt::Result {
+        let variable = self.variable;
+        let text = self.text.as_str();
+        let instead = self.instead;
+        let form = variable.form();
+        write!(
+            f,
+            "{variable}: {text:?} isn't {form}: {instead} is used instead"
+        )
+    }
+}
+
+/// Adds a fault to the list, if the variable is set and was not read.
+pub(crate) fn note_unread<A: Allocator>(
+    alloc: A,
+    faults: &mut Vec<SettingFault<A>, A>,
+    variable: Variable,
+    text: Option<&str>,
+    is_read: bool,
+    instead: Instead,
+) -> Result<(), AllocError>
+    ensures { OnOk result (faults_view faults.new.items ≡ faults_view faults.old.items
+        ++ unread variable instead (option_map (λ t. t.now) text.entry) is_read) }
+{
+    let Some(text) = text else { return Ok(()) };
+    if is_read {
+        return Ok(());
+    }
+    let text = String::from_str(alloc, text)?;
+    faults.push(SettingFault {
+        variable,
+        text,
+        instead,
+    })?;
+    Ok(())
+}

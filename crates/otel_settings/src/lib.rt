@@ -1,0 +1,27 @@
+//! Settings of tracing by the standard's environment variables (OpenTelemetry Specification,
+//! "Environment Variable Specification"; OTLP Specification, "OTLP Exporter Configuration").
+//!
+//! [`settings_of`] makes settings of a list of names and values, and [`settings_of_environment`] of
+//! those of the process. They are a function of the list, variable by variable: of equal names the
+//! last counts, and a variable that isn't set, or whose value is empty, leaves its default. A value
+//! that can't be read leaves the default, too, and is once in the list of faults, with its variable
+//! and with what is used instead.
+#![tactic(auto)]
+
+mod endpoint;
+mod environment;
+mod fault;
+mod laws;
+mod pairs;
+mod read;
+mod resource;
+mod sampler;
+mod settings;
+mod variable;
+
+pub use environment::settings_of_environment;
+pub use fault::{Instead, SettingFault};
+pub use laws::last_counts;
+pub use sampler::{NamedSampler, SamplerName};
+pub use settings::{Settings, settings_of};
+pub use variable::Variable;
