@@ -1,0 +1,4 @@
+pub mod Named
+pub mod Newest
+pub mod Counts
+pub mod Lines
