@@ -7,7 +7,10 @@ use Rattle.model_span.specs.Spans.{SpanData}
 use Rattle.model_drop.specs.Dropped.{entry_of}
 use Rattle.model_desk.specs.Desks.{Desk, accepted_count, is_due, is_flushed, new_desk}
 use Rattle.model_desk.specs.Queue.{lost_names}
+use Rattle.drop_ledger.specs.Counts.{drop_counts_view}
 use Rattle.batch_desk.specs.Batch.{BatchView, NamedView, SettledView}
+use Rattle.batch_desk.specs.Views.{fate_counts_view}
+use Rattle.batch_desk.specs.declared.totals.Totals.{Totals}
 use Rattle.model_processor.specs.Passes.{PassAccount}
 use Rattle.model_processor.specs.WorkerClauses.{Origin}
 use Rattle.model_processor.specs.AnyAccounts.{AnyAccount, account_in, after_flush, after_shutdown}
@@ -40,6 +43,28 @@ pub record InHold (guarded : Guarded) (account : PassAccount) : Type 0 where
   pub holders : List AnyAccount
   pub kept : Kept origin guarded.left guarded.desk holders
   pub there : Contains holders (pass account)
+
+-- These are the counts of a queue.
+pub record Counts (desk : Desk) (totals : Totals) : Type 0 where
+  pub accepted : totals.accepted ≡ accepted_count desk
+  pub taken : totals.taken ≡ desk.taken
+  pub handed : totals.handed ≡ desk.handed
+  pub lost : totals.lost ≡ desk.lost_count
+  pub left : totals.left ≡ length desk.waiting
+  pub late : totals.late ≡ desk.late
+  pub dropped : drop_counts_view totals.dropped ≡ desk.dropped
+  pub fates : fate_counts_view totals.fates ≡ desk.fates
+  pub closed : totals.closed ≡ desk.closed
+
+-- These were the counts in a hold of the lock, in which a pass knew this.
+pub record IsCounted (guarded : Guarded) (totals : Totals) (account : PassAccount) : Type 0 where
+  pub hold : InHold guarded account
+  pub counts : Counts guarded.desk totals
+
+-- These were the counts in some hold of the lock, in which a pass knew this.
+pub record WasCounted (totals : Totals) (account : PassAccount) : Type 0 where
+  pub guarded : Guarded
+  pub counted : IsCounted guarded totals account
 
 -- ---- who is woken
 

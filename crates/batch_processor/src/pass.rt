@@ -3,11 +3,13 @@ ghost use Rattle.std.specs.Prelude.{◌≡◌, IfNone, IfSome};
 ghost use Rattle.otlp_span.specs.Dropped.{entry_view};
 ghost use Rattle.model_processor.specs.Passes.{after_pop, after_pop_lost};
 ghost use Rattle.batch_processor.specs.Answers.{IsFlushed, IsShutDown};
+ghost use Rattle.batch_processor.specs.Holds.{WasCounted};
 
 use crate::account::AccountState;
 use crate::fault::WorkerLeft;
 use crate::lock::Lock;
 use account_book::{Account, Naming};
+use batch_desk::Totals;
 use otlp_span::{Entry, SpanData};
 use std::alloc::{Allocator, Global};
 use std::fmt;
@@ -76,6 +78,16 @@ impl<J: Naming, R: Wait, A: Allocator + Copy> Pass<J, R, A> {
     {
         let Pass { lock, account, rt } = self;
         lock.shutdown(rt, account)
+    }
+
+    /// The counts of all that came so far, on any pass, with what the worker did: as they are in one
+    /// hold of the lock.
+    pub fn totals(&mut self) -> Totals
+        ensures counts { WasCounted result self.old }
+        ensures unchanged { self.new ≡ self.old }
+    {
+        let Pass { lock, account, rt } = self;
+        lock.shared.lock(rt).totals(account)
     }
 
     /// Takes the newest entry out of the ledger, if there is one.

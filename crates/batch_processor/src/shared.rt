@@ -13,7 +13,8 @@ ghost use Rattle.model_processor.specs.AnyAccounts.{after_take};
 ghost use Rattle.model_processor.specs.AnyAccounts.{left_if, on_pass, on_worker, origin_in, pass};
 ghost use Rattle.model_processor.specs.AnyAccounts.{processor, worker, worker_in};
 ghost use Rattle.batch_processor.specs.Views.{after_answer, after_end, ended_of, outcomes_view};
-ghost use Rattle.batch_processor.specs.Holds.{Asks, InHold, IsBatchOf, IsBatchSize, IsNamedBatchOf};
+ghost use Rattle.batch_processor.specs.Holds.{Asks, InHold, IsBatchOf, IsBatchSize, IsCounted};
+ghost use Rattle.batch_processor.specs.Holds.{IsNamedBatchOf};
 ghost use Rattle.batch_processor.specs.Holds.{IsSettledBatchOf, IsTold, Shuts, has_work, wake_of};
 ghost use Rattle.model_processor.specs.Kept.{IsAccountOf};
 
@@ -26,7 +27,7 @@ use crate::fault::WorkerLeft;
 use crate::hold::{After, Wake};
 use crate::pass::{Flushed, Pass};
 use account_book::{Account, Book, Naming};
-use batch_desk::{Admitted, Batch, Desk, Mark, NamedBatch, SettledBatch};
+use batch_desk::{Admitted, Batch, Desk, Mark, NamedBatch, SettledBatch, Totals};
 use otlp_span::{Entry, Reason, SpanData, SpanRemains};
 use retry_core::Outcome;
 use std::alloc::Allocator;
@@ -281,6 +282,20 @@ impl<J: Naming, A: Allocator + Copy> Shared<J, A> {
             return Some(Err(WorkerLeft));
         }
         None
+    }
+
+    /// The counts of all that came so far, on a pass.
+    pub(crate) fn totals(&mut self, account: &mut Account<J, AccountState>) -> Totals
+        requires { account.old ≡ pass (account_in account.old) }
+        ensures counts { IsCounted self.old result (account_in account.old) }
+        ensures account { account.new ≡ account.old }
+        ensures unchanged { self.new ≡ self.old }
+    {
+        self.book.recognize(account);
+        let Some(desk) = &self.desk else {
+            unreachable!()
+        };
+        desk.totals()
     }
 
     /// A pass pops an entry of the ledger.
