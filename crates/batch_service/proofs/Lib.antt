@@ -1,0 +1,5 @@
+mod Crosses
+mod Names
+mod Stops
+mod Works
+mod Each

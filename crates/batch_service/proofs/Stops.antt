@@ -1,0 +1,53 @@
+-- What a service comes to, by what its thread promised and what its processor came to.
+use Rattle.std.proofs.Common.{◌≡◌, ℕ, ◌≤◌, List, [], ◌∷◌, ◌++◌, false, sym, refl, ap, ◌∙◌, subst, arith}
+use Rattle.std.specs.Prelude.{Option, Result, Ok, Err, None}
+use Rattle.model_desk.specs.Desks.{Desk}
+use Rattle.model_processor.specs.Passes.{PassAccount, new_account, after_shutdown}
+use Rattle.model_processor.specs.Worker.{new_worker}
+use Rattle.model_processor.specs.WorkerClauses.{IsAccounted, Origin, WorksUntilItLeaves, abandon}
+use Rattle.span_exporter.specs.Handed.{Handed, Gains}
+use Rattle.name_sink.specs.Named.{Named}
+use Rattle.batch_processor.specs.Views.{after_answer}
+use Rattle.batch_processor.specs.Working.{Work, attempts_of}
+use Rattle.batch_processor.specs.declared.fault.WorkerLeft.{WorkerLeft}
+use Rattle.batch_processor.specs.declared.pass.Flushed.{Flushed}
+use Rattle.batch_processor.specs.declared.worker.WorkEnd.{WorkEnd}
+use Rattle.batch_processor.specs.declared.worker.WorkEnd.TheVariants as ends
+use Rattle.batch_service.specs.Working.{IsDrained, WorksOn, after_pops, state_of}
+use Rattle.batch_service.specs.Service.{EndsNone, IsServed, ServiceView, new_work, popping}
+
+-- a pass that only asks for a shutdown has ended no span
+none_after : (answer : Result Flushed WorkerLeft) (ticket mark : ℕ) (account : PassAccount) → EndsNone account → EndsNone (after_answer answer (after_shutdown ticket mark account))
+none_after (Ok flushed) ticket mark account e = record { ends = e.ends; popped = e.popped; popped_lost = e.popped_lost; late = e.late }
+none_after (Err left) ticket mark account e = record { ends = e.ends; popped = e.popped; popped_lost = e.popped_lost; late = e.late }
+
+pub shuts_none : (answer : Result Flushed WorkerLeft) (ticket mark : ℕ) (old new : PassAccount) → new ≡ after_answer answer (after_shutdown ticket mark old) → EndsNone old → EndsNone new
+shuts_none answer ticket mark old new is e = subst EndsNone (sym is) (none_after answer ticket mark old e)
+
+more_after : (answer : Result Flushed WorkerLeft) (ticket mark : ℕ) (account : PassAccount) → 1 ≤ (after_answer answer (after_shutdown ticket mark account)).shutdowns
+more_after (Ok flushed) ticket mark account = omega arith
+more_after (Err left) ticket mark account = omega arith
+
+pub shuts_once : (answer : Result Flushed WorkerLeft) (ticket mark : ℕ) (old new : PassAccount) → new ≡ after_answer answer (after_shutdown ticket mark old) → 1 ≤ new.shutdowns
+shuts_once answer ticket mark old new is = subst (λ (a : PassAccount). 1 ≤ a.shutdowns) (sym is) (more_after answer ticket mark old)
+
+module _ (view : ServiceView) (passes : List PassAccount) (desk : Desk) (told' : Option (List Handed)) (named' : Option Named) (begun work : Work) (names names' control : PassAccount) (end : WorkEnd) (all : List PassAccount) where
+  pub served : begun ≡ new_work view.origin → names ≡ new_account → WorksOn (state_of view.handed view.named begun names) (state_of told' named' work names') → (end ≡ ends.Drained → IsDrained work.account) → EndsNone control → 1 ≤ control.shutdowns → all ≡ passes ++ control ∷ names' ∷ [] → IsAccounted view.origin desk all (abandon work.account) → WorksUntilItLeaves view.origin work.account → IsServed view passes desk told' named' end
+  served begun_is names_is works drained none once all_is accounts until =
+      let on = works.goes_on in
+      let more = works.names.more in
+      let popped : names' ≡ popping more = works.names.popped ∙ ap (after_pops more) names_is in
+      let attempts : attempts_of work.account ≡ on.more = on.attempts ∙ ap (λ (w : Work). attempts_of w.account ++ on.more) begun_is in
+      record {
+        worker = work.account;
+        control = control;
+        names = more;
+        accounts = subst (λ (xs : List PassAccount). IsAccounted view.origin desk xs (abandon work.account)) (all_is ∙ ap (λ (p : PassAccount). passes ++ control ∷ p ∷ []) popped) accounts;
+        works = until;
+        own = none;
+        shut = once;
+        stays = on.left ∙ ap (λ (w : Work). w.account.left) begun_is;
+        sent = subst (λ (xs : List Handed). Gains xs view.handed told') (sym attempts) on.gains;
+        given = works.names.gains;
+        drained = drained;
+      }

@@ -1,0 +1,3 @@
+pub mod Working
+pub mod Service
+pub mod Room

@@ -1,0 +1,51 @@
+-- What the thread of a service's worker does: it sends batches, and gives the names of spans that
+-- aren't delivered to a sink. (Trace SDK, Batching processor; names: profile)
+use Rattle.std.specs.Prelude.{◌≡◌, ◌++◌, List, Option, None, option_map, true}
+use Rattle.model_drop.specs.Dropped.{Entry}
+use Rattle.model_processor.specs.Passes.{PassAccount}
+use Rattle.model_processor.specs.Worker.{WorkerAccount}
+use Rattle.name_sink.specs.Named.{Named}
+use Rattle.span_exporter.specs.Handed.{Handed}
+use Rattle.batch_processor.specs.Working.{Work, GoesOn}
+
+-- A sink that tells was given, after what it had, exactly these names. Another tells nothing.
+abbrev pub GainsNames : Named → Option Named → Option Named → Type 0
+GainsNames more old new = new ≡ option_map (λ (had : Named). record {
+  dropped = had.dropped ++ more.dropped;
+  lost = had.lost ++ more.lost;
+}) old
+
+-- a pass popped these names, and did nothing else
+abbrev pub after_pops : Named → PassAccount → PassAccount
+after_pops more account = record account {
+  popped = account.popped ++ more.dropped;
+  popped_lost = account.popped_lost ++ more.lost;
+}
+
+-- The names that a pass popped were given to the sink, in order, and the pass did nothing else.
+pub record GivesNames (told told' : Option Named) (old new : PassAccount) : Type 0 where
+  pub more : Named
+  pub gains : GainsNames more told told'
+  pub popped : new ≡ after_pops more old
+
+-- What a worker's thread has: what its exporter and its sink were given, its worker's pass and the
+-- pass that pops names.
+pub record ThreadState : Type 0 where
+  pub handed : Option (List Handed)
+  pub named : Option Named
+  pub work : Work
+  pub names : PassAccount
+
+-- Work went on, and names were given.
+pub record WorksOn (old new : ThreadState) : Type 0 where
+  pub goes_on : GoesOn old.handed new.handed old.work new.work
+  pub names : GivesNames old.named new.named old.names new.names
+
+abbrev pub state_of : Option (List Handed) → Option Named → Work → PassAccount → ThreadState
+state_of handed named work names =
+    record { handed = handed; named = named; work = work; names = names }
+
+-- It was answered that all is drained, and no batch is out.
+pub record IsDrained (account : WorkerAccount) : Type 0 where
+  pub drained : account.drained ≡ true
+  pub none_out : account.out ≡ None

@@ -1,0 +1,18 @@
+//! A batch processor whose worker has a thread of its own (OpenTelemetry Trace SDK, "Batching
+//! processor").
+#![tactic(auto)]
+
+mod fault;
+mod service;
+mod serving;
+mod thread;
+mod threads;
+mod worker;
+
+pub use fault::StartFault;
+pub use service::{MAX_THREADS, PassMissing, Served, Service, Started};
+pub use serving::{Done, serve};
+pub use threads::Work;
+
+#[test]
+fn compiles() {}

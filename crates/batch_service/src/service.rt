@@ -1,0 +1,346 @@
+//! A batch processor whose worker has a thread of its own.
+ghost use Rattle.std.specs.Prelude.{◌≡◌, ◌≢◌, ◌+◌, ◌<◌, ◌≤◌, ◌↔◌, ◌⊎◌, ◌++◌, [], IfErr, IfOk};
+ghost use Rattle.std.specs.Prelude.{IsErrOf, MatchResult, vec_capacity, vec_len};
+ghost use Rattle.std.specs.List.{AllByRecursion};
+ghost use Rattle.model_processor.specs.Passes.{new_account};
+ghost use Rattle.span_ring.specs.declared.ring.TheConstants.{MAX_QUEUE};
+ghost use Rattle.batch_processor.specs.Answers.{IsFlushed};
+ghost use Rattle.batch_processor.specs.Holds.{WasCounted};
+ghost use Rattle.batch_service.specs.Service.{IsServed, IsThreadCount, new_service, new_work};
+ghost use Rattle.batch_service.specs.Service.{origin_of};
+ghost use Rattle.batch_service.specs.declared.service.TheConstants.{MAX_THREADS};
+
+use crate::fault::StartFault;
+use crate::thread::{self, Worked, WorkerThread};
+use crate::worker::Worker;
+use batch_desk::{Desk, Totals};
+use batch_processor::{
+    Accounts, BatchBlank, BatchConfig, BatchProcessor, Clock, Flushed, Naming, Parts, Pass,
+    SystemClock, WorkEnd, WorkerLeft,
+};
+use name_sink::NameSink;
+use rand::make_rng;
+use rand::rngs::StdRng;
+use rand_core::Rng;
+use span_exporter::Exporter;
+use std::alloc::Global;
+use std::marker::Model;
+use std::random::RandomSource;
+use std::sync::Wait;
+use std::thread::Threads;
+use std::{fmt, time};
+
+/// The most passes that a service may have. A processor has two more at most, which are the
+/// service's own.
+pub const MAX_THREADS: usize = 62;
+
+// No clause says the number itself.
+const _: () = prove!(MAX_THREADS == 62);
+
+/// A batch processor whose worker has a thread of its own (Trace SDK, "Batching processor"). One
+/// that is let go stops nothing: its thread works until the program ends. So a program calls
+/// [`Service::stop`].
+#[derive(Drop)]
+pub struct Service<J: Naming, R: Wait + Drop, E: Exporter, S: NameSink> {
+    processor: BatchProcessor<J, R>,
+    control: Pass<J, R>,
+    thread: WorkerThread<J, R, E, S>,
+    /// Room for the passes that come back, and the service's own.
+    passes: Vec<Pass<J, R>>,
+    /// How many passes others have.
+    threads: usize,
+    rt: R,
+}
+
+impl<J: Naming, R: Wait + Drop, E: Exporter, S: NameSink> Model for Service<J, R, E, S> {
+    ghost use Rattle.std.specs.Prelude.{◌≡◌, ◌+◌, ◌≤◌, [], vec_capacity};
+    ghost use Rattle.model_processor.specs.Passes.{new_account};
+    ghost use Rattle.batch_service.specs.Service.{ServiceView, EndsNone, new_work};
+
+    ghost Value = { ServiceView };
+
+    ghost view = { λ s. record {
+      origin = s.processor;
+      control = s.control;
+      handed = E.handed s.thread.promise.worker.value.exporter;
+      named = S.named s.thread.promise.worker.value.sink;
+    } };
+
+    ghost invariant = { λ s. EndsNone s.control
+        × ((s.thread.promise.worker.value.worker ≡ new_work s.processor)
+        × ((s.thread.promise.worker.value.names ≡ new_account)
+        × ((s.passes.items ≡ []) × ((s.processor.passes ≡ s.threads + 2)
+        × (s.threads + 2 ≤ vec_capacity s.passes))))) };
+}
+
+/// Writes how many passes others have. What a thread has isn't looked at.
+impl<J: Naming, R: Wait + Drop, E: Exporter, S: NameSink> fmt::Debug for Service<J, R, E, S> {
+    fn fmt<W: fmt::Write>(&self, f: &mut fmt::Formatter<W>) -> fmt::Result {
+        f.debug_struct("Service")
+            .field("passes", &self.threads)
+            .finish_non_exhaustive()
+    }
+}
+
+/// A service that has started, and its passes.
+#[derive(Drop)]
+pub struct Started<J: Naming, R: Wait + Drop, E: Exporter, S: NameSink> {
+    /// The service.
+    pub service: Service<J, R, E, S>,
+    /// Its passes, for a thread each.
+    pub passes: Vec<Pass<J, R>>,
+}
+
+/// What a service came to.
+#[derive(Drop)]
+pub struct Served<E, S> {
+    /// What is left in the queue, the ledgers, and the counts.
+    pub desk: Desk,
+    /// What the batches were handed to.
+    pub exporter: E,
+    /// What the names were given to.
+    pub sink: S,
+    /// How the work ended: `Drained`, but after 2^64 - 1 turns.
+    pub end: WorkEnd,
+}
+
+/// A pass is missing: all that was to be stopped, as it was.
+#[derive(Drop)]
+pub struct PassMissing<J: Naming, R: Wait + Drop, E: Exporter, S: NameSink> {
+    /// The service, which works on.
+    pub service: Service<J, R, E, S>,
+    /// The passes that were handed in.
+    pub passes: Vec<Pass<J, R>>,
+}
+
+impl<J, R, E, S> Service<J, R, E, S>
+where
+    J: Naming + Send + Sync + 'static,
+    R: Threads + Wait + time::Clock + Copy + Send + Sync + 'static,
+    E: Exporter + Send + Drop + 'static,
+    S: NameSink + Send + Drop + 'static,
+{
+    /// Starts a service with so many passes, 1 to [`MAX_THREADS`]. Its worker goes by the system's
+    /// clock, and draws the waits between attempts from a generator that the system's random bytes
+    /// seed. The blank becomes its accounts.
+    ///
+    /// # Errors
+    ///
+    /// Why it was not started: `NoRandomBytes`, or a fault of [`Service::start_with`].
+    pub fn start(
+        alloc: Global,
+        rt: R,
+        blank: BatchBlank,
+        exporter: E,
+        sink: S,
+        config: BatchConfig,
+        passes: usize,
+    ) -> Result<Started<J, R, E, S>, StartFault>
+    where
+        R: RandomSource,
+        requires { blank ≡ J.name }
+        ensures service { IfOk result (λ started. started.service
+            ≡ new_service (origin_of config passes) (E.handed exporter) (S.named sink)) }
+        ensures count { IfOk result (λ started. vec_len started.passes ≡ passes) }
+        ensures passes { IfOk result
+            (λ started. AllByRecursion (λ a. a ≡ new_account) started.passes.items) }
+    {
+        let Ok(rng) = make_rng::<StdRng, R>(&rt) else {
+            return Err(StartFault::NoRandomBytes);
+        };
+        let clock = SystemClock::new(rt);
+        Service::start_with(alloc, rt, blank, exporter, sink, config, passes, clock, rng)
+    }
+
+    /// Starts a service with so many passes, 1 to [`MAX_THREADS`]. Its worker goes by this clock,
+    /// and draws the waits between attempts from this generator. The blank becomes its accounts.
+    ///
+    /// # Errors
+    ///
+    /// Why it was not started: the first that holds of `BadPasses` and the faults of the queue, and
+    /// else `OutOfMemory` or `NoThread`.
+    pub fn start_with<C, G>(
+        alloc: Global,
+        rt: R,
+        blank: BatchBlank,
+        exporter: E,
+        sink: S,
+        config: BatchConfig,
+        passes: usize,
+        clock: C,
+        rng: G,
+    ) -> Result<Started<J, R, E, S>, StartFault>
+    where
+        C: Clock + Send + Drop + 'static,
+        G: Rng + Send + Drop + 'static,
+        requires { blank ≡ J.name }
+        ensures service { IfOk result (λ started. started.service
+            ≡ new_service (origin_of config passes) (E.handed exporter) (S.named sink)) }
+        ensures count { IfOk result (λ started. vec_len started.passes ≡ passes) }
+        ensures passes { IfOk result
+            (λ started. AllByRecursion (λ a. a ≡ new_account) started.passes.items) }
+
+        // The first fault that holds is the answer.
+        ensures bad_passes { IsErrOf result StartFault.BadPasses
+            ↔ ((passes ≡ 0) ⊎ (MAX_THREADS < passes)) }
+        ensures zero_size { IsErrOf result StartFault.ZeroSize
+            ↔ (IsThreadCount passes × ((config.desk.queue ≡ 0) ⊎ (config.desk.batch ≡ 0))) }
+        ensures batch_above_queue { IsErrOf result StartFault.BatchAboveQueue
+            ↔ (IsThreadCount passes
+            × ((0 < config.desk.queue) × (config.desk.queue < config.desk.batch))) }
+        ensures too_large { IsErrOf result StartFault.TooLarge
+            ↔ (IsThreadCount passes × ((0 < config.desk.batch)
+            × (config.desk.batch ≤ config.desk.queue) × (MAX_QUEUE < config.desk.queue))) }
+    {
+        if passes == 0 || passes > MAX_THREADS {
+            return Err(StartFault::BadPasses);
+        }
+        let now = clock.now();
+        let parts = BatchProcessor::<J, R>::new(alloc, rt, blank, config, passes + 2, now)?;
+        let room = Vec::with_capacity(alloc, passes + 2)?;
+        Service::with_parts(rt, parts, exporter, sink, room, passes, clock, rng)
+    }
+
+    /// The service of these parts, with room for all passes.
+    fn with_parts<C, G>(
+        rt: R,
+        parts: Parts<J, R>,
+        exporter: E,
+        sink: S,
+        room: Vec<Pass<J, R>>,
+        threads: usize,
+        clock: C,
+        rng: G,
+    ) -> Result<Started<J, R, E, S>, StartFault>
+    where
+        C: Clock + Send + Drop + 'static,
+        G: Rng + Send + Drop + 'static,
+        requires count { vec_len parts.passes ≡ threads + 2 }
+        requires origin { parts.processor.passes ≡ threads + 2 }
+        requires passes { AllByRecursion (λ a. a ≡ new_account) parts.passes.items }
+        requires worker { parts.worker ≡ new_work parts.processor }
+        requires none { room.items ≡ [] }
+        requires room { threads + 2 ≤ vec_capacity room }
+        ensures service { IfOk result (λ started. started.service
+            ≡ new_service parts.processor (E.handed exporter) (S.named sink)) }
+        ensures count { IfOk result (λ started. vec_len started.passes ≡ threads) }
+        ensures passes { IfOk result
+            (λ started. AllByRecursion (λ a. a ≡ new_account) started.passes.items) }
+        ensures fault { IfErr result (λ fault. fault ≡ StartFault.NoThread) }
+    {
+        let Parts {
+            processor,
+            mut passes,
+            worker,
+        } = parts;
+        let (Some(control), Some(names)) = (passes.pop(), passes.pop()) else {
+            unreachable!()
+        };
+        let worker = Worker {
+            worker,
+            names,
+            exporter,
+            sink,
+        };
+        let Some(thread) = thread::start(rt, worker, clock, rng) else {
+            return Err(StartFault::NoThread);
+        };
+        let service = Service {
+            processor,
+            control,
+            thread,
+            passes: room,
+            threads,
+            rt,
+        };
+        Ok(Started { service, passes })
+    }
+
+    /// Waits until all spans that were accepted before are handed to the exporter and settled, or
+    /// dropped (Trace SDK, "ForceFlush").
+    ///
+    /// # Errors
+    ///
+    /// `WorkerLeft` where the worker has left, which a service's worker doesn't.
+    pub fn flush(&mut self) -> Result<Flushed, WorkerLeft>
+        ensures flushed { IsFlushed result self.old.control self.new.control }
+        ensures service { self.new ≡ record self.old { control = self.new.control } }
+    {
+        self.control.force_flush()
+    }
+
+    /// The counts of all that came so far, on any pass, with what the worker did: as they are in one
+    /// hold of the lock.
+    pub fn totals(&mut self) -> Totals
+        ensures counts { WasCounted result self.old.control }
+        ensures unchanged { self.new ≡ self.old }
+    {
+        self.control.totals()
+    }
+
+    /// Stops the service: no span is admitted any more, all that wait are handed to the exporter
+    /// and settled, or dropped, the worker's thread ends, and the processor is closed out. (Trace
+    /// SDK, "Shutdown")
+    ///
+    /// # Errors
+    ///
+    /// `PassMissing` exactly where not all its passes are handed in; it gives all back, as it was,
+    /// and the service works on.
+    pub fn stop(self, passes: Vec<Pass<J, R>>) -> Result<Served<E, S>, PassMissing<J, R, E, S>>
+        ensures missing { MatchResult result
+            (λ _. vec_len passes + 2 ≡ self.origin.passes)
+            (λ _. vec_len passes + 2 ≢ self.origin.passes) }
+        ensures given_back { IfErr result
+            (λ m. (m.service ≡ self) × (m.passes ≡ passes)) }
+        ensures served { IfOk result (λ s. IsServed self passes.items s.desk
+            (E.handed s.exporter) (S.named s.sink) s.end) }
+    {
+        if passes.len() != self.threads {
+            return Err(PassMissing {
+                service: self,
+                passes,
+            });
+        }
+        let Service {
+            processor,
+            mut control,
+            thread,
+            passes: mut all,
+            threads: _,
+            rt,
+        } = self;
+        // Whether the worker had left is known once its thread has ended.
+        let _ = control.shutdown();
+        let Worked { worker, end } = thread.join(&rt);
+        let Worker {
+            worker,
+            names,
+            exporter,
+            sink,
+        } = worker;
+        gather(&mut all, passes);
+        all.push_reserved(control);
+        all.push_reserved(names);
+        let Ok(Accounts { desk }) = processor.close_out(all, worker) else {
+            unreachable!()
+        };
+        Ok(Served {
+            desk,
+            exporter,
+            sink,
+            end,
+        })
+    }
+}
+
+/// Moves all passes to where there is room for them.
+fn gather<J: Naming, R: Wait + Drop>(all: &mut Vec<Pass<J, R>>, mut passes: Vec<Pass<J, R>>)
+    requires { vec_len all.old + vec_len passes ≤ vec_capacity all.old }
+    ensures items { all.new.items ≡ all.old.items ++ passes.items }
+    ensures len { vec_len all.new ≡ vec_len all.old + vec_len passes }
+    ensures capacity { vec_capacity all.old ≤ vec_capacity all.new }
+{
+    if all.append(&mut passes).is_err() {
+        unreachable!()
+    }
+}

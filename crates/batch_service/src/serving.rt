@@ -1,0 +1,88 @@
+//! A whole service: its threads, and what became of their spans.
+ghost use Rattle.std.specs.Prelude.{◌≡◌, IfOk};
+ghost use Rattle.batch_service.specs.Service.{EndsServed, new_service, origin_of};
+
+use crate::fault::StartFault;
+use crate::service::{MAX_THREADS, Served, Service, Started};
+use crate::threads::{Room, Work, work_on_all};
+use batch_processor::{BatchBlank, BatchConfig, Naming};
+use name_sink::NameSink;
+use span_exporter::Exporter;
+use std::alloc::Global;
+use std::marker::Brand;
+use std::random::RandomSource;
+use std::sync::Wait;
+use std::thread::Threads;
+use std::time;
+
+/// What a service gave, and what it came to.
+#[derive(Drop)]
+pub struct Done<T, E, S> {
+    /// What the work of each thread gave, in their order.
+    pub outputs: Vec<T>,
+    /// What the service came to.
+    pub served: Served<E, S>,
+}
+
+/// Starts a service, does the work of so many threads, 1 to [`MAX_THREADS`], and stops it.
+pub fn serve<R, E, S, W>(
+    rt: R,
+    alloc: Global,
+    exporter: E,
+    sink: S,
+    config: BatchConfig,
+    threads: usize,
+    work: &W,
+) -> Result<Done<W::Output, E, S>, StartFault>
+where
+    R: Threads + Wait + RandomSource + time::Clock + Copy + Send + Sync + 'static,
+    E: Exporter + Send + Drop + 'static,
+    S: NameSink + Send + Drop + 'static,
+    W: Work + Sync,
+    W::Output: Send + Drop,
+    ensures { IfOk result (λ done. EndsServed threads
+        (new_service (origin_of config threads) (E.handed exporter) (S.named sink))
+        done.served.desk (E.handed done.served.exporter) (S.named done.served.sink)
+        done.served.end) }
+{
+    let blank = BatchBlank::new();
+    serve_as::<Brand, R, E, S, W>(rt, alloc, blank, exporter, sink, config, threads, work)
+}
+
+/// The same, by the name of the processor's accounts.
+fn serve_as<J, R, E, S, W>(
+    rt: R,
+    alloc: Global,
+    blank: BatchBlank,
+    exporter: E,
+    sink: S,
+    config: BatchConfig,
+    threads: usize,
+    work: &W,
+) -> Result<Done<W::Output, E, S>, StartFault>
+where
+    J: Naming + Send + Sync + 'static,
+    R: Threads + Wait + RandomSource + time::Clock + Copy + Send + Sync + 'static,
+    E: Exporter + Send + Drop + 'static,
+    S: NameSink + Send + Drop + 'static,
+    W: Work + Sync,
+    W::Output: Send + Drop,
+    requires { blank ≡ J.name }
+    ensures { IfOk result (λ done. EndsServed threads
+        (new_service (origin_of config threads) (E.handed exporter) (S.named sink))
+        done.served.desk (E.handed done.served.exporter) (S.named done.served.sink)
+        done.served.end) }
+{
+    if threads == 0 || threads > MAX_THREADS {
+        return Err(StartFault::BadPasses);
+    }
+    let room = Room::<J, R, W::Output>::new(alloc, threads)?;
+    let Started { service, passes } = Service::<J, R, E, S>::start(
+        alloc, rt, blank, exporter, sink, config, threads,
+    )?;
+    let (passes, outputs) = work_on_all(&rt, room, passes, work);
+    let Ok(served) = service.stop(passes) else {
+        unreachable!()
+    };
+    Ok(Done { outputs, served })
+}

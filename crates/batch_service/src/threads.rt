@@ -1,0 +1,121 @@
+//! Threads that each work on a pass of their own.
+ghost use Rattle.std.specs.Prelude.{◌≡◌, ◌≤◌, [], IfOk, IsSome, vec_capacity, vec_len};
+ghost use Rattle.std.specs.List.{AllByRecursion};
+ghost use Rattle.batch_service.specs.Room.{IsRoomFor};
+
+use crate::service::MAX_THREADS;
+use batch_processor::{Naming, Pass};
+use otlp_span::SpanData;
+use std::alloc::{AllocError, Global};
+use std::sync::Wait;
+use std::thread::{self, Threads};
+use trace_api::EndPass;
+
+/// What each thread of a service does.
+pub trait Work {
+    /// What it gives back.
+    type Output;
+
+    /// Does the work of the thread with this number, from 0 on. The thread's spans end on the pass.
+    fn work<P: EndPass<SpanData>>(&self, thread: usize, pass: &mut P) -> Self::Output;
+}
+
+/// A thread's pass, and what its work gave, which isn't known before it is done.
+#[derive(Drop)]
+pub(crate) struct Lane<J: Naming, R, T> {
+    pass: Pass<J, R>,
+    output: Option<T>,
+}
+
+/// Room for what threads need, taken before any of them begins.
+#[derive(Drop)]
+pub(crate) struct Room<J: Naming, R, T> {
+    lanes: Vec<Lane<J, R, T>>,
+    passes: Vec<Pass<J, R>>,
+    outputs: Vec<T>,
+}
+
+impl<J: Naming, R: Drop, T: Drop> Room<J, R, T> {
+    /// Room for so many threads.
+    pub(crate) fn new(alloc: Global, threads: usize) -> Result<Room<J, R, T>, AllocError>
+        ensures { IfOk result (λ room. IsRoomFor threads room) }
+    {
+        Ok(Room {
+            lanes: Vec::with_capacity(alloc, threads)?,
+            passes: Vec::with_capacity(alloc, threads)?,
+            outputs: Vec::with_capacity(alloc, threads)?,
+        })
+    }
+}
+
+/// Does the work of each pass on a thread of its own, one of which is the caller's. Where a thread
+/// can't be made, the one that was to make it does its work too. Gives the passes back, and what
+/// the work gave.
+pub(crate) fn work_on_all<J, R, W>(
+    rt: &R,
+    room: Room<J, R, W::Output>,
+    passes: Vec<Pass<J, R>>,
+    work: &W,
+) -> (Vec<Pass<J, R>>, Vec<W::Output>)
+where
+    J: Naming + Send + Sync + 'static,
+    R: Threads + Wait + Copy + Send + Sync + 'static,
+    W: Work + Sync,
+    W::Output: Send + Drop,
+    requires { IsRoomFor (vec_len passes) room }
+    ensures passes { vec_len result.0 ≡ vec_len passes }
+    ensures outputs { vec_len result.1 ≡ vec_len passes }
+{
+    let Room {
+        mut lanes,
+        passes: back,
+        outputs,
+    } = room;
+    fill(&mut lanes, passes);
+    thread::for_each_mut(
+        rt,
+        lanes.as_mut_slice(),
+        MAX_THREADS,
+        &|thread: usize, lane: &mut Lane<J, R, W::Output>|
+            ensures { IsSome lane.new.output }
+        {
+            lane.output = Some(work.work(thread, &mut lane.pass));
+        },
+    );
+    empty(lanes, back, outputs)
+}
+
+/// A lane for each pass, where there is room for them.
+fn fill<J: Naming, R: Drop, T: Drop>(lanes: &mut Vec<Lane<J, R, T>>, passes: Vec<Pass<J, R>>)
+    requires none { lanes.old.items ≡ [] }
+    requires room { vec_len passes ≤ vec_capacity lanes.old }
+    ensures { vec_len lanes.new ≡ vec_len passes }
+{
+    for pass in passes {
+        let output = None;
+        lanes.push_reserved(Lane { pass, output });
+    }
+}
+
+/// The passes of all lanes, and what their work gave, where there is room for them.
+fn empty<J: Naming, R: Drop, T: Drop>(
+    lanes: Vec<Lane<J, R, T>>,
+    mut passes: Vec<Pass<J, R>>,
+    mut outputs: Vec<T>,
+) -> (Vec<Pass<J, R>>, Vec<T>)
+    requires done { AllByRecursion (λ l. IsSome l.output) lanes.items }
+    requires no_pass { passes.items ≡ [] }
+    requires no_output { outputs.items ≡ [] }
+    requires passes { vec_len lanes ≤ vec_capacity passes }
+    requires outputs { vec_len lanes ≤ vec_capacity outputs }
+    ensures passes { vec_len result.0 ≡ vec_len lanes }
+    ensures outputs { vec_len result.1 ≡ vec_len lanes }
+{
+    for lane in lanes {
+        let Lane { pass, output } = lane;
+        let Some(output) = output else { unreachable!() };
+        passes.push_reserved(pass);
+        outputs.push_reserved(output);
+    }
+    (passes, outputs)
+}

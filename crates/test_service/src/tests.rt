@@ -1,0 +1,6 @@
+//! The tests, a module for each part of what is tested, and what they share.
+
+mod equal;
+mod fixture;
+mod serving;
+mod starting;
