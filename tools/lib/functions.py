@@ -41,9 +41,9 @@ def name_of_impl(head):
     """The name under which a check reports the functions of an impl: its type, then the trait's
     name, and then the names of the types that the trait is given; and whether it is an impl of a
     trait."""
-    head = head.partition("impl")[2].replace("->", "").strip()
+    head = re.split(r"\bwhere\b", head.partition("impl")[2])[0].replace("->", "").strip()
     generics = first_brackets(head) if head.startswith("<") else ""
-    rest = head[len(generics) + 2 if generics else 0 :].partition(" where ")[0]
+    rest = head[len(generics) + 2 if generics else 0 :]
     trait, has_trait, type_ = rest.partition(" for ")
     if not has_trait:
         return last_name(trait), False

@@ -4,24 +4,4 @@
 #![tactic(auto)]
 
 #[cfg(test)]
-mod allocator;
-#[cfg(test)]
-mod calls;
-#[cfg(test)]
-mod copies;
-#[cfg(test)]
-mod equal;
-#[cfg(test)]
-mod ids;
-#[cfg(test)]
-mod refusals;
-#[cfg(test)]
-mod samplers;
-#[cfg(test)]
-mod spans;
-#[cfg(test)]
-mod starts;
-#[cfg(test)]
-mod values;
-#[cfg(test)]
-mod words;
+mod tests;

@@ -4,28 +4,4 @@
 #![tactic(auto)]
 
 #[cfg(test)]
-mod answers;
-#[cfg(test)]
-mod changed_bytes;
-#[cfg(test)]
-mod chunks;
-#[cfg(test)]
-mod devices;
-#[cfg(test)]
-mod equal;
-#[cfg(test)]
-mod faults;
-#[cfg(test)]
-mod fixture;
-#[cfg(test)]
-mod head_places;
-#[cfg(test)]
-mod posts;
-#[cfg(test)]
-mod refused_memory;
-#[cfg(test)]
-mod replies;
-#[cfg(test)]
-mod requests;
-#[cfg(test)]
-mod targets;
+mod tests;

@@ -6,18 +6,4 @@
 #![tactic(auto)]
 
 #[cfg(test)]
-mod bodies;
-#[cfg(test)]
-mod equal;
-#[cfg(test)]
-mod exports;
-#[cfg(test)]
-mod requests;
-#[cfg(test)]
-mod responses;
-#[cfg(test)]
-mod rows;
-#[cfg(test)]
-mod samples;
-#[cfg(test)]
-mod wire;
+mod tests;

@@ -5,16 +5,4 @@
 #![tactic(auto)]
 
 #[cfg(test)]
-mod buffers;
-#[cfg(test)]
-mod collector;
-#[cfg(test)]
-mod equal;
-#[cfg(test)]
-mod exporter;
-#[cfg(test)]
-mod fixture;
-#[cfg(test)]
-mod network;
-#[cfg(test)]
-mod script_memory;
+mod tests;

@@ -5,26 +5,4 @@
 #![tactic(auto)]
 
 #[cfg(test)]
-mod desk;
-#[cfg(test)]
-mod driver;
-#[cfg(test)]
-mod equal;
-#[cfg(test)]
-mod freed;
-#[cfg(test)]
-mod ledger;
-#[cfg(test)]
-mod making;
-#[cfg(test)]
-mod many_lost;
-#[cfg(test)]
-mod plain_desk;
-#[cfg(test)]
-mod random_calls;
-#[cfg(test)]
-mod retries;
-#[cfg(test)]
-mod ring;
-#[cfg(test)]
-mod spans;
+mod tests;

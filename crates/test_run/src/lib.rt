@@ -5,20 +5,4 @@
 #![tactic(auto)]
 
 #[cfg(test)]
-mod equal;
-#[cfg(test)]
-mod exporters;
-#[cfg(test)]
-mod far_side;
-#[cfg(test)]
-mod fixture;
-#[cfg(test)]
-mod links;
-#[cfg(test)]
-mod memory;
-#[cfg(test)]
-mod random_programs;
-#[cfg(test)]
-mod random_runs;
-#[cfg(test)]
-mod written;
+mod tests;

@@ -2,6 +2,4 @@
 #![tactic(auto)]
 
 #[cfg(test)]
-mod large;
-#[cfg(test)]
-mod texts;
+mod tests;

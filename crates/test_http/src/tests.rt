@@ -1,0 +1,15 @@
+//! The tests, a module for each part of what is tested, and what they share.
+
+mod answers;
+mod changed_bytes;
+mod chunks;
+mod devices;
+mod equal;
+mod faults;
+mod fixture;
+mod head_places;
+mod posts;
+mod refused_memory;
+mod replies;
+mod requests;
+mod targets;

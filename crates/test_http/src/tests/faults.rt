@@ -1,0 +1,43 @@
+//! How faults are reported.
+
+use crate::tests::equal::assert_equal;
+use otlp_http::{DeviceFailed, HttpFault, Stopped, TargetFault};
+use otlp_serve::PostFault;
+use std::alloc::Global;
+use std::fmt::Display;
+use std::process::Abort;
+
+/// Checks how a fault is reported.
+fn assert_displayed<T: Display + Drop>(rt: &impl Abort, alloc: Global, fault: T, text: &str) {
+    let plain = format!(in alloc; "{fault}").expect(rt, "memory");
+    assert_equal(rt, plain.as_str(), text);
+}
+
+#[test]
+fn faults_of_messages_are_displayed(rt: HostRuntime) {
+    let alloc = rt.alloc();
+    assert_displayed(&rt, alloc, HttpFault::Ended, "the message ended early");
+    assert_displayed(&rt, alloc, HttpFault::Device, "the device failed");
+    assert_displayed(&rt, alloc, HttpFault::BadHead, "bad head");
+    assert_displayed(&rt, alloc, HttpFault::BadLength, "bad length");
+    assert_displayed(&rt, alloc, HttpFault::BadChunk, "bad chunk");
+    assert_displayed(&rt, alloc, HttpFault::TooLarge, "too large");
+    assert_displayed(&rt, alloc, HttpFault::OutOfMemory, "out of memory");
+    let fault = PostFault::Head(HttpFault::BadHead);
+    assert_displayed(&rt, alloc, fault, "request head: bad head");
+    let fault = PostFault::Body(HttpFault::TooLarge);
+    assert_displayed(&rt, alloc, fault, "request body: too large");
+}
+
+#[test]
+fn faults_of_targets_and_devices_are_displayed(rt: HostRuntime) {
+    let alloc = rt.alloc();
+    let text = "bad host: a host is letters, digits, dots and dashes";
+    assert_displayed(&rt, alloc, TargetFault::BadHost, text);
+    let text = "bad path: a path is a slash and visible characters";
+    assert_displayed(&rt, alloc, TargetFault::BadPath, text);
+    assert_displayed(&rt, alloc, TargetFault::OutOfMemory, "out of memory");
+    assert_displayed(&rt, alloc, DeviceFailed, "the device failed");
+    let stopped = Stopped { sent: 2 };
+    assert_displayed(&rt, alloc, stopped, "the device failed after 2 bytes");
+}

@@ -1,0 +1,23 @@
+//! Comparisons, each a call of a function of its own: `assert_eq!` in its place is proved with the
+//! body that it is in, which takes ten times as long. Each crate of tests has its own, since a
+//! library may not have functions that end the process.
+use std::alloc::Global;
+use std::fmt::{Debug, Display};
+use std::process::Abort;
+
+/// Asserts that two values are equal.
+pub(crate) fn assert_equal<T: PartialEq + Debug + Drop>(rt: &impl Abort, left: T, right: T) {
+    assert_eq!(rt; left, right);
+}
+
+/// Asserts how a fault is reported.
+pub(crate) fn assert_displayed<T: Display>(rt: &impl Abort, alloc: Global, fault: &T, text: &str) {
+    let found = format!(in alloc; "{fault}").expect(rt, "memory");
+    assert_equal(rt, found.as_str(), text);
+}
+
+/// Asserts how a value is shown to a programmer.
+pub(crate) fn assert_shown<T: Debug>(rt: &impl Abort, alloc: Global, value: &T, text: &str) {
+    let found = format!(in alloc; "{value:?}").expect(rt, "memory");
+    assert_equal(rt, found.as_str(), text);
+}
