@@ -5,16 +5,17 @@
 #![tactic(auto)]
 
 mod balance;
-mod names;
-mod service;
+mod cart;
 
+use crate::cart::Cart;
 use anyhow::Result;
 use std::env;
 use std::io::Write;
-use std::marker::Brand;
 use std::process::ExitCode;
+use trace_kit::export::RetryConfig;
 use trace_kit::http::{DEFAULT_EXPORT_TIMEOUT_MS, DEFAULT_PATH, HttpExporter, Target};
-use trace_kit::processor::BatchBlank;
+use trace_kit::processor::{BatchConfig, Done, serve};
+use trace_kit::queue::NameLines;
 
 fn main(rt: HostRuntime) -> Result<ExitCode> {
     let alloc = rt.alloc();
@@ -23,27 +24,31 @@ fn main(rt: HostRuntime) -> Result<ExitCode> {
         writeln!(rt.stderr(), "usage: first_export HOST PORT")?;
         return Ok(ExitCode::from(2));
     };
-    let target = Target::new(
-        alloc,
-        host.as_str(),
-        port.as_str().parse::<u16>()?,
-        DEFAULT_PATH,
-    )?;
-    let timeout_ms = DEFAULT_EXPORT_TIMEOUT_MS;
-    let exporter = HttpExporter::new(alloc, rt, target, timeout_ms).reading_after_a_stop();
-    // `Brand` stands for the name of this one processor, which the types of its passes have.
-    let blank = BatchBlank::new();
-    let mut faults = rt.stderr();
-    let (accounts, exporter) = service::run::<Brand, HostRuntime, _>(
+    let port = port.as_str().parse::<u16>()?;
+    let target = Target::new(alloc, host.as_str(), port, DEFAULT_PATH)?;
+    let exporter = HttpExporter::new(alloc, rt, target, DEFAULT_EXPORT_TIMEOUT_MS);
+    let exporter = exporter.reading_after_a_stop();
+    let names = NameLines::new(rt.stderr());
+    // A batch is sent five times at most, with short waits.
+    let config = BatchConfig {
+        retry: RetryConfig::new(5, 200, 1000)?,
+        ..BatchConfig::default()
+    };
+    let Done { outputs, served } = serve(
         rt,
         alloc,
-        blank,
         exporter,
-        &mut faults,
+        names,
+        config,
+        1,
+        &Cart { rt, alloc },
     )?;
-    let totals = accounts.desk.totals();
+    for output in outputs {
+        output?;
+    }
+    let totals = served.desk.totals();
     balance::write_balance(&mut rt.stdout(), totals)?;
-    if let Some(failure) = exporter.last_failure() {
+    if let Some(failure) = served.exporter.last_failure() {
         writeln!(rt.stdout(), "last failure: {failure}")?;
     }
     Ok(if balance::is_delivered(totals.fates) {
