@@ -37,6 +37,8 @@ pub use Rattle.otlp_message.specs.Response
 pub use Rattle.trace_api.specs.Calls
 pub use Rattle.trace_api.specs.Pass
 pub use Rattle.trace_api.specs.Starts as TracerStarts
+pub use Rattle.span_ext.specs.Calls as ShortCalls
+pub use Rattle.span_ext.specs.Lent
 pub use Rattle.trace_history.specs.Answers as AnswerViews
 pub use Rattle.trace_history.specs.Steps as StepViews
 pub use Rattle.span_exporter.specs.Handed

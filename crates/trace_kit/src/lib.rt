@@ -1,8 +1,8 @@
 //! A tracing kit by OpenTelemetry's API and SDK: the names of all that a program needs, in groups.
 //!
 //! A program makes its spans with [`trace`], and hands them to an exporter by [`processor`], or by
-//! [`queue`] and [`export`]; [`http`] has exporters to a collector, [`run`] whole programs as
-//! lists of steps.
+//! [`queue`] and [`export`]; [`http`] has exporters to a collector, [`settings`] what the
+//! environment sets, [`run`] whole programs as lists of steps.
 #![tactic(auto)]
 
 pub mod export;
@@ -10,4 +10,5 @@ pub mod http;
 pub mod processor;
 pub mod queue;
 pub mod run;
+pub mod settings;
 pub mod trace;

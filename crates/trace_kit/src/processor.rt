@@ -4,9 +4,16 @@
 //! [`WorkerPass`] of one thread hands to an exporter in batches. A [`SimpleProcessor`] ("Simple
 //! processor") encodes each span alone and hands it over at once, under a lock. Either has at most
 //! [`MAX_PASSES`] passes.
+//!
+//! The short way is [`serve`]: it starts a [`Service`], a batch processor whose worker has a thread
+//! of its own, does the [`Work`] of each thread, and stops the service. The names of dropped and
+//! lost spans go to a [`NameSink`](crate::queue::NameSink).
 pub use batch_processor::{
     Accounts, BatchBlank, BatchConfig, BatchProcessor, Clock, Flushed, MAX_PASSES, ManualClock,
     Missing, Naming, NewFault, Parts, Pass, SystemClock, WorkEnd, WorkerLeft, WorkerPass,
+};
+pub use batch_service::{
+    Done, MAX_THREADS, PassMissing, Served, Service, StartFault, Started, Work, serve,
 };
 pub use simple_processor::{
     Flushed as SimpleFlushed, SimpleAccounts, SimpleBlank, SimpleFault, SimpleMissing, SimpleParts,

@@ -1,12 +1,13 @@
 //! The queue of a batch processor (OpenTelemetry Trace SDK, "Batching processor"): a [`Desk`]
 //! admits ended spans and gives them in batches. One [`Ledger`] names the spans that were dropped,
 //! and another those that are lost: their batch was handed to an exporter and came to nothing, for
-//! the [`Reason`] that [`loss_reason`] gives.
+//! the [`Reason`] that [`loss_reason`] gives. Names that are popped go to a [`NameSink`].
 pub use batch_desk::{
     Admitted, Batch, Desk, DeskConfig, FateCounts, Mark, NamedBatch, SettledBatch, Totals,
     loss_reason,
 };
 pub use drop_ledger::{DropCounts, Ledger};
+pub use name_sink::{DEFAULT_NAMES, NameLines, NameSink, NewestNames, ReasonCounts};
 pub use otlp_span::{Entries, Entry, Reason, Slip};
 pub use retry_core::Fate;
 pub use span_ring::{MAX_QUEUE, RingFault, Run, SpanRing};

@@ -1,6 +1,7 @@
 //! Spans as a program makes them (OpenTelemetry Trace API; Trace SDK, "Span Limits", "Sampling"): a
 //! [`Provider`] gives tracers, a [`Tracer`] starts spans, and the end of a [`Span`] hands it to an
-//! [`EndPass`].
+//! [`EndPass`]. With [`SpanExt`] the same is said shortly: names, keys and values are lent and
+//! copied.
 pub use otlp_ids::{IdFault, OutOfMemory, SpanContext, SpanId, TraceFlags, TraceId};
 pub use otlp_sampler::{AlwaysOff, AlwaysOn, Decision, ParentBased, Sampler};
 pub use otlp_span::{
@@ -8,4 +9,6 @@ pub use otlp_span::{
     replay,
 };
 pub use otlp_value::{AttributeList, Limits, Value};
+pub use ratio_sampler::{RatioFault, TraceIdRatio};
+pub use span_ext::{KeyValue, SpanExt, ToValue, ValueRef};
 pub use trace_api::{BodyPass, EndPass, Ended, Provider, Span, StartFault, Tracer, WordsRng};
