@@ -5,6 +5,7 @@ use Rattle.std.proofs.lemmas.Bool.{eqb-true, ltb-true}
 use Rattle.std.proofs.lemmas.List.{length-map, length-take}
 use Rattle.std.proofs.lemmas.List.Sorted.{IsPermutation-append_comm}
 use Rattle.account_book.specs.Accounts.{Replaces}
+use Rattle.account_book.proofs.Facts.{contains_replaced}
 use Rattle.model_span.specs.Spans.{SpanData, with_ticket}
 use Rattle.model_drop.specs.Dropped.{Entry, Reason, queue_full, entry_of}
 use Rattle.model_retry.specs.Retries.{Fate}
@@ -18,15 +19,15 @@ use Rattle.model_processor.specs.Passes.{PassAccount}
 use Rattle.model_processor.specs.Worker.{WorkerAccount}
 use Rattle.model_processor.specs.WorkerClauses.{Origin}
 use Rattle.model_processor.specs.AnyAccounts as holders
-use Rattle.model_processor.specs.AnyAccounts.{AnyAccount, account_in, after_flush, after_shutdown, on_pass, origin_in, pass, pass_accounts, processor, worker, worker_in}
-use Rattle.model_processor.specs.Kept.{Agrees, Kept, shown_out}
+use Rattle.model_processor.specs.AnyAccounts.{AnyAccount, account_in, after_flush, after_shutdown, on_pass, on_worker, origin_in, pass, pass_accounts, processor, worker, worker_in}
+use Rattle.model_processor.specs.Kept.{Agrees, IsShared, Kept, shown_out}
 use Rattle.model_processor.proofs.AccountState.{agrees_there, origin_there}
 use Rattle.model_processor.proofs.Passes.{full_agrees, late_agrees, queued_agrees}
 use Rattle.model_processor.proofs.Workers.{take_agrees}
-use Rattle.batch_processor.specs.Holds.{Asks, Guarded, InHold, IsBatchSize, IsNamedBatchOf, IsSettledBatchOf, IsTold, Shuts, desk_of}
+use Rattle.batch_processor.specs.Holds.{Asks, Guarded, InHold, IsBatchOf, IsBatchSize, IsNamedBatchOf, IsSettledBatchOf, IsTold, Shuts}
 use Rattle.batch_processor.specs.declared.fault.WorkerLeft.{WorkerLeft}
 use Rattle.batch_processor.specs.declared.pass.Flushed.{Flushed}
-use Rattle.batch_processor.specs.Views.{after_end, ended_of}
+use Rattle.batch_processor.specs.Views.{after_end}
 
 -- ---- a span ends
 
@@ -49,16 +50,16 @@ late_where false true next is = cc
 late_where false false next is = cc
 
 module _ (desk desk' : Desk) (w : WorkerAccount) (old new : List PassAccount) (a : PassAccount) (span : SpanData) (k : Agrees desk old w) where
-  pub admit_agrees : (answer : Admitted) → answer ≡ admission desk → desk' ≡ after_admission answer span desk → Replaces old a (after_end (ended_of answer) span a) new → Agrees desk' new w
+  pub admit_agrees : (answer : Admitted) → answer ≡ admission desk → desk' ≡ after_admission answer span desk → Replaces old a (after_end answer span a) new → Agrees desk' new w
   admit_agrees (admitted.Queued ticket) is came r =
       let at = queued_where desk.closed (length desk.waiting == desk.config.queue) desk.next_ticket ticket is in
-      queued_agrees desk w old new a (after_end (ended_of (admitted.Queued ticket)) span a) r k desk' (with_ticket ticket span) at.0 at.1 came refl
+      queued_agrees desk w old new a (after_end (admitted.Queued ticket) span a) r k desk' (with_ticket ticket span) at.0 at.1 came refl
   admit_agrees (admitted.Full ticket) is came r =
       let at = full_where desk.closed (length desk.waiting == desk.config.queue) desk.next_ticket ticket is in
-      full_agrees desk w old new a (after_end (ended_of (admitted.Full ticket)) span a) r k desk' (record { span = with_ticket ticket span; reason = queue_full; floor = a.floor }) (with_ticket ticket span) refl at.0 (eqb-true (length desk.waiting) desk.config.queue at.1) at.2 refl came refl
+      full_agrees desk w old new a (after_end (admitted.Full ticket) span a) r k desk' (record { span = with_ticket ticket span; reason = queue_full; floor = a.floor }) (with_ticket ticket span) refl at.0 (eqb-true (length desk.waiting) desk.config.queue at.1) at.2 refl came refl
   admit_agrees admitted.Late is came r =
       let at = late_where desk.closed (length desk.waiting == desk.config.queue) desk.next_ticket is in
-      late_agrees desk w old new a (after_end (ended_of admitted.Late) span a) r k desk' at came refl
+      late_agrees desk w old new a (after_end admitted.Late span a) r k desk' at came refl
 
 pub admit_config : (desk desk' : Desk) (answer : Admitted) (span : SpanData) → desk' ≡ after_admission answer span desk → desk'.config ≡ desk.config
 admit_config desk desk' (admitted.Queued ticket) span is = ap (λ (d : Desk). d.config) is
@@ -94,6 +95,14 @@ module _ (desk desk' : Desk) (u : WorkerAccount) (passes : List PassAccount) (k 
       subst (λ (b : BatchView). Agrees desk' passes (holders.after_take b.number b.spans u)) (sym is)
       (take_agrees desk u passes k desk' now n spans none refl (ap (λ (d : Desk). d.waiting) came) said)
 
+pub taken_batch : (origin : Origin) (desk : Desk) (h h' : AnyAccount) (batch : BatchView) → h ≡ worker (origin_in h) (worker_in h) → h' ≡ on_worker (holders.after_take batch.number batch.spans) h → origin_in h ≡ origin → desk.config ≡ origin.desk → batch ≡ next_batch desk → IsBatchOf h' batch
+taken_batch origin desk h h' batch is told of config next =
+    let now = told ∙ ap (on_worker (holders.after_take batch.number batch.spans)) is in
+    record {
+      out = ap (λ (x : AnyAccount). (worker_in x).out) now;
+      room = ap (λ (b : BatchView). b.room) next ∙ ap (λ (x : DeskConfig). x.batch) (config ∙ sym (ap (λ (o : Origin). o.desk) of)) ∙ sym (ap (λ (x : AnyAccount). (origin_in x).desk.batch) now);
+    }
+
 -- the batch that is out is the one that the account has
 pub is_out_handed : (desk : Desk) (passes : List PassAccount) (u : WorkerAccount) (batch : BatchView) (body : Option (List ℕ)) → Agrees desk passes u → u.out ≡ Some (record { number = batch.number; spans = batch.spans; body = body; outcomes = [] }) → desk.config.batch ≡ batch.room → IsOut (is_some body) desk batch
 is_out_handed desk passes u batch body k out room = record { out = k.batches.out ∙ ap shown_out out; room = sym room }
@@ -110,6 +119,17 @@ popped_first desk desk' entry first is = first_of desk.ledger entry first ∙ ap
 pub popped_is : (desk desk' : Desk) → desk' ≡ record desk { ledger = drop 1 desk.ledger } → desk' ≡ record desk { ledger = desk'.ledger }
 popped_is desk desk' is = is ∙ ap (λ (l : List Entry). record desk { ledger = l }) (sym (ap (λ (d : Desk). d.ledger) is))
 
+none_first : (ledger : List Entry) → None ≡ slice_get ledger 0 → drop 1 ledger ≡ ledger
+none_first [] e = refl
+none_first (x ∷ ledger) e = cc
+
+-- where there is none, the desk is unchanged
+pub none_popped : (desk desk' : Desk) → None ≡ slice_get desk.ledger 0 → desk' ≡ record desk { ledger = drop 1 desk.ledger } → desk ≡ desk'
+none_popped desk desk' none is = sym (is ∙ ap (λ (l : List Entry). record desk { ledger = l }) (none_first desk.ledger none))
+
+pub none_lost : (desk desk' : Desk) → None ≡ slice_get desk.lost 0 → desk' ≡ record desk { lost = drop 1 desk.lost } → desk ≡ desk'
+none_lost desk desk' none is = sym (is ∙ ap (λ (l : List Entry). record desk { lost = l }) (none_first desk.lost none))
+
 -- the same of an entry of the ledger of lost spans
 pub lost_first : (desk desk' : Desk) (entry : Entry) → Some entry ≡ slice_get desk.lost 0 → desk' ≡ record desk { lost = drop 1 desk.lost } → desk.lost ≡ entry ∷ desk'.lost
 lost_first desk desk' entry first is = first_of desk.lost entry first ∙ ap (λ (l : List Entry). entry ∷ l) (sym (ap (λ (d : Desk). d.lost) is))
@@ -119,22 +139,17 @@ lost_is desk desk' is = is ∙ ap (λ (l : List Entry). record desk { lost = l }
 
 -- ---- what is guarded
 
-pub guarded_some : {spent : List SpanData} (o : Option Desk) (left : Bool) (desk : Desk) (g : Guarded) → record { desk = desk_of o; left = left; spent = spent } ≡ g → o ≡ Some desk → g ≡ record { desk = desk; left = left; spent = spent }
-guarded_some {spent} o left desk g view is = sym view ∙ ap (λ (x : Option Desk). record { desk = desk_of x; left = left; spent = spent }) is
+pub known_hold : {spent : List SpanData} (origin : Origin) (left : Bool) (desk : Desk) (holders : List AnyAccount) (h : AnyAccount) (g : Guarded) → IsShared origin left desk holders → Contains holders h → h ≡ pass (account_in h) → record { desk = desk; left = left; spent = spent } ≡ g → InHold g (account_in h)
+known_hold origin left desk holders h g shared there is view =
+    record {
+      origin = origin;
+      holders = holders;
+      kept = subst (λ (x : Guarded). Kept origin x.left x.desk holders) view (shared h there);
+      there = subst (Contains holders) is there;
+    }
 
--- the desk was changed, and nothing else
-pub desk_changed : {spent : List SpanData} (f : Desk → Desk) (o : Option Desk) (left : Bool) (desk desk' : Desk) (g : Guarded) → record { desk = desk_of o; left = left; spent = spent } ≡ g → o ≡ Some desk → desk' ≡ f desk → record { desk = desk'; left = left; spent = spent } ≡ record g { desk = f g.desk }
-desk_changed {spent} f o left desk desk' g view is came =
-    let now = guarded_some o left desk g view is in
-    ap (λ (d : Desk). record { desk = d; left = left; spent = spent }) came ∙ sym (ap (λ (x : Guarded). record x { desk = f x.desk }) now)
-
-pub in_hold : {spent : List SpanData} (origin : Origin) (left : Bool) (o : Option Desk) (desk : Desk) (holders : List AnyAccount) (h : AnyAccount) (g : Guarded) → Kept origin left desk holders → Contains holders h → h ≡ pass (account_in h) → record { desk = desk_of o; left = left; spent = spent } ≡ g → o ≡ Some desk → InHold g (account_in h)
-in_hold origin left o desk holders h g k there is view some = record {
-  origin = origin;
-  holders = holders;
-  kept = subst (λ (x : Guarded). Kept origin x.left x.desk holders) (sym (guarded_some o left desk g view some)) k;
-  there = subst (Contains holders) is there;
-}
+pub in_hold : {spent : List SpanData} (origin : Origin) (left : Bool) (desk : Desk) (holders holders' : List AnyAccount) (h h' : AnyAccount) (g : Guarded) → IsShared origin left desk holders → Replaces holders h h' holders' → h ≡ pass (account_in h) → record { desk = desk; left = left; spent = spent } ≡ g → InHold g (account_in h)
+in_hold origin left desk holders holders' h h' g shared r is view = known_hold origin left desk holders h g shared (contains_replaced holders h h' holders' r) is view
 
 -- ---- spans that were sent
 
@@ -155,23 +170,19 @@ out_is_some desk = by_out desk.out
 
 -- ---- what a pass asked for, and what it was answered
 
-pub asks_of : {spent : List SpanData} (g : Guarded) (seen desk : Desk) (left : Bool) (h known h' : AnyAccount) (mark : ℕ) → g ≡ record { desk = desk; left = left; spent = spent } → InHold g (account_in h) → known ≡ h → seen ≡ desk → mark ≡ accepted_count desk → h' ≡ on_pass (after_flush seen.next_ticket (accepted_count seen)) known → Asks g mark h h'
-asks_of g seen desk left h known h' mark is hold same seen_is mark_is told =
-    let at : seen ≡ g.desk = seen_is ∙ sym (ap (λ (x : Guarded). x.desk) is) in
-    let count : mark ≡ accepted_count g.desk = mark_is ∙ sym (ap (λ (x : Guarded). accepted_count x.desk) is) in record {
-      hold = hold;
-      mark_is = count;
-      account = told ∙ ap (on_pass (after_flush seen.next_ticket (accepted_count seen))) same ∙ ap (λ (d : Desk). on_pass (after_flush d.next_ticket (accepted_count d)) h) at ∙ ap (λ (n : ℕ). on_pass (after_flush g.desk.next_ticket n) h) (sym count);
-    }
+pub asks_of : (g : Guarded) (seen : Desk) (h h' : AnyAccount) (mark : ℕ) → InHold g (account_in h) → seen ≡ g.desk → mark ≡ accepted_count g.desk → h' ≡ on_pass (after_flush seen.next_ticket (accepted_count seen)) h → Asks g mark h h'
+asks_of g seen h h' mark hold at count told = record {
+  hold = hold;
+  mark_is = count;
+  account = told ∙ ap (λ (d : Desk). on_pass (after_flush d.next_ticket (accepted_count d)) h) at ∙ ap (λ (n : ℕ). on_pass (after_flush g.desk.next_ticket n) h) (sym count);
+}
 
-pub shuts_of : {spent : List SpanData} (g : Guarded) (seen desk : Desk) (left : Bool) (h known h' : AnyAccount) (mark : ℕ) → g ≡ record { desk = desk; left = left; spent = spent } → InHold g (account_in h) → known ≡ h → seen ≡ desk → mark ≡ accepted_count desk → h' ≡ on_pass (after_shutdown seen.next_ticket (accepted_count seen)) known → Shuts g mark h h'
-shuts_of g seen desk left h known h' mark is hold same seen_is mark_is told =
-    let at : seen ≡ g.desk = seen_is ∙ sym (ap (λ (x : Guarded). x.desk) is) in
-    let count : mark ≡ accepted_count g.desk = mark_is ∙ sym (ap (λ (x : Guarded). accepted_count x.desk) is) in record {
-      hold = hold;
-      mark_is = count;
-      account = told ∙ ap (on_pass (after_shutdown seen.next_ticket (accepted_count seen))) same ∙ ap (λ (d : Desk). on_pass (after_shutdown d.next_ticket (accepted_count d)) h) at ∙ ap (λ (n : ℕ). on_pass (after_shutdown g.desk.next_ticket n) h) (sym count);
-    }
+pub shuts_of : (g : Guarded) (seen : Desk) (h h' : AnyAccount) (mark : ℕ) → InHold g (account_in h) → seen ≡ g.desk → mark ≡ accepted_count g.desk → h' ≡ on_pass (after_shutdown seen.next_ticket (accepted_count seen)) h → Shuts g mark h h'
+shuts_of g seen h h' mark hold at count told = record {
+  hold = hold;
+  mark_is = count;
+  account = told ∙ ap (λ (d : Desk). on_pass (after_shutdown d.next_ticket (accepted_count d)) h) at ∙ ap (λ (n : ℕ). on_pass (after_shutdown g.desk.next_ticket n) h) (sym count);
+}
 
 pub told_flushed : (g : Guarded) (mark : ℕ) (x : Flushed) (a : PassAccount) → InHold g a → is_flushed g.desk mark ≡ true → IsTold g mark (Ok x) a
 told_flushed g mark x a hold is = record { hold = hold; flushed = is; left = tt }
@@ -181,19 +192,19 @@ told_left g mark x a hold is left = record { hold = hold; flushed = tt; left = (
 
 -- ---- the batch that is out
 
-module _ (origin : Origin) (left : Bool) (desk : Desk) (holders : List AnyAccount) (h : AnyAccount) (batch : BatchView) (body : Option (List ℕ)) (k : Kept origin left desk holders) (there : Contains holders h) (is : h ≡ worker (origin_in h) (worker_in h))
+module _ (origin : Origin) (left : Bool) (desk : Desk) (holders : List AnyAccount) (h : AnyAccount) (batch : BatchView) (body : Option (List ℕ)) (shared : IsShared origin left desk holders) (there : Contains holders h) (is : h ≡ worker (origin_in h) (worker_in h))
     (out : (worker_in h).out ≡ Some (record { number = batch.number; spans = batch.spans; body = body; outcomes = [] })) (room : batch.room ≡ (origin_in h).desk.batch) where
   pub out_of : IsOut (is_some body) desk batch
   out_of =
-      let r : desk.config.batch ≡ batch.room = ap (λ (x : DeskConfig). x.batch) (k.config ∙ sym (ap (λ (o : Origin). o.desk) (origin_there origin left desk holders h k there is))) ∙ sym room in
-      is_out_handed desk (pass_accounts holders) (worker_in h) batch body (agrees_there origin left desk holders h k there is) out r
+      let r : desk.config.batch ≡ batch.room = ap (λ (x : DeskConfig). x.batch) ((shared h there).config ∙ sym (ap (λ (o : Origin). o.desk) (origin_there origin left desk holders h (shared h there) there is))) ∙ sym room in
+      is_out_handed desk (pass_accounts holders) (worker_in h) batch body (agrees_there origin left desk holders h (shared h there) there is) out r
 
   pub state_of : out_state desk ≡ Some (batch.number, is_some body)
   state_of = ap (option_map {U = ℕ × Bool} (λ b. (b.number, b.is_handed))) out_of.out
 
-module _ (origin : Origin) (left : Bool) (desk : Desk) (holders : List AnyAccount) (h : AnyAccount) (batch : NamedView) (k : Kept origin left desk holders) (there : Contains holders h) (is : h ≡ worker (origin_in h) (worker_in h)) (x : IsNamedBatchOf h batch) where
+module _ (origin : Origin) (left : Bool) (desk : Desk) (holders : List AnyAccount) (h : AnyAccount) (batch : NamedView) (shared : IsShared origin left desk holders) (there : Contains holders h) (is : h ≡ worker (origin_in h) (worker_in h)) (x : IsNamedBatchOf h batch) where
   named_out : IsOut false desk (record { number = batch.number; spans = x.spans; room = batch.room })
-  named_out = out_of origin left desk holders h (record { number = batch.number; spans = x.spans; room = batch.room }) None k there is x.out x.room
+  named_out = out_of origin left desk holders h (record { number = batch.number; spans = x.spans; room = batch.room }) None shared there is x.out x.room
 
   long : length x.spans ≡ length batch.entries
   long = sym (ap length x.entries ∙ length-map x.spans (entry_of batch.reason))
@@ -216,16 +227,16 @@ lost-long fate spans = by_reason (loss_reason fate)
     by_reason None is = cc
     by_reason (Some reason) is = length-map spans (entry_of reason)
 
-module _ (origin : Origin) (left : Bool) (desk : Desk) (holders : List AnyAccount) (h : AnyAccount) (batch : SettledView) (k : Kept origin left desk holders) (there : Contains holders h) (is : h ≡ worker (origin_in h) (worker_in h)) (x : IsSettledBatchOf h batch) where
+module _ (origin : Origin) (left : Bool) (desk : Desk) (holders : List AnyAccount) (h : AnyAccount) (batch : SettledView) (shared : IsShared origin left desk holders) (there : Contains holders h) (is : h ≡ worker (origin_in h) (worker_in h)) (x : IsSettledBatchOf h batch) where
   abbrev sent_batch : BatchView
   sent_batch = record { number = batch.number; spans = x.spans; room = batch.room }
 
   sent_out : IsOut true desk sent_batch
-  sent_out = out_of origin left desk holders h sent_batch (Some x.body) k there is x.out x.room
+  sent_out = out_of origin left desk holders h sent_batch (Some x.body) shared there is x.out x.room
 
   pub can_settle : CanSettle desk batch.fate batch.number batch.room (length batch.entries)
   can_settle = record {
-    out = state_of origin left desk holders h sent_batch (Some x.body) k there is x.out x.room;
+    out = state_of origin left desk holders h sent_batch (Some x.body) shared there is x.out x.room;
     fits = sent_out.room;
     whole = λ loss. ap length x.entries ∙ lost-long batch.fate x.spans loss ∙ sym (ap out_size sent_out.out);
   }

@@ -22,19 +22,11 @@ use Rattle.batch_processor.specs.declared.pass.Flushed.{Flushed}
 
 -- ---- what the lock guards
 
--- The queue, whether the worker has left, and the spans that were sent and aren't freed yet. Once
--- the queue was taken out, it is one at which nothing was ever done.
+-- The queue, whether the worker has left, and the spans that were sent and aren't freed yet.
 pub record Guarded : Type 0 where
   pub desk : Desk
   pub left : Bool
   pub spent : List SpanData
-
-abbrev pub no_desk : Desk
-no_desk = new_desk new_origin.desk 0
-
-abbrev pub desk_of : Option Desk → Desk
-desk_of None = no_desk
-desk_of (Some desk) = desk
 
 -- A pass knew this in a hold of the lock, which guarded this then: what is kept of the accounts of
 -- all was so, and the pass's account was one of them.

@@ -1,8 +1,8 @@
 -- What a processor's settings and answers are in the model.
 use Rattle.std.specs.Prelude.{ℕ, ◌≤◌, List, map, Result, Ok, Err}
 use Rattle.model_span.specs.Spans.{SpanData}
+use Rattle.model_drop.specs.Dropped.{queue_full}
 use Rattle.model_retry.specs.Retries as retries
-use Rattle.otlp_span.specs.Dropped.{reason_view}
 use Rattle.otlp_span.specs.declared.reason.Reason.TheVariants as reasons
 use Rattle.trace_api.specs.declared.pass.Ended.{Ended}
 use Rattle.trace_api.specs.declared.pass.Ended.TheVariants as answers
@@ -40,13 +40,11 @@ ended_of (admitted.Queued ticket) = answers.Queued ticket
 ended_of (admitted.Full ticket) = answers.Dropped ticket reasons.QueueFull
 ended_of admitted.Late = answers.Late
 
--- a span that ended, and what was answered
-abbrev pub after_end : Ended → SpanData → PassAccount → PassAccount
-after_end (answers.Queued ticket) span account = after_accepted ticket span account
-after_end (answers.Dropped ticket reason) span account =
-    after_dropped (reason_view reason) ticket span account
-after_end answers.Late span account = after_late account
-after_end _ span account = account
+-- a span that ended, and was admitted so
+abbrev pub after_end : Admitted → SpanData → PassAccount → PassAccount
+after_end (admitted.Queued ticket) span account = after_accepted ticket span account
+after_end (admitted.Full ticket) span account = after_dropped queue_full ticket span account
+after_end admitted.Late span account = after_late account
 
 -- what was asked for is flushed, or the worker has left
 abbrev pub after_answer : Result Flushed WorkerLeft → PassAccount → PassAccount

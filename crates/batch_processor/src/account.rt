@@ -1,13 +1,12 @@
 //! What the accounts of a processor say, and how that changes. No value of it is made.
 use crate::config::Setup;
 use account_book::{Blank, Change, Opening};
-use batch_desk::{Batch, Desk, NamedBatch};
+use batch_desk::{Admitted, Batch, Desk, NamedBatch};
 use otlp_span::{Entry, SpanData};
 use retry_core::{Fate, Outcome};
 use std::alloc::Allocator;
 use std::marker::{Model, PhantomData};
 use std::snapshot::Snapshot;
-use trace_api::Ended;
 
 /// What an account says: what a processor began with, or what a pass knows, or the worker.
 pub struct AccountState {
@@ -71,11 +70,11 @@ impl Change<AccountState, Setup> for WorkerBegins {
     ghost after = { λ _ setup. worker (setup_view setup) new_worker };
 }
 
-/// A span that ended, and what was answered.
+/// A span that ended, and how it was admitted.
 #[derive(Drop)]
 pub(crate) struct SpanEnded<A: Allocator> {
     pub(crate) span: Snapshot<SpanData<A>>,
-    pub(crate) answer: Ended,
+    pub(crate) admitted: Admitted,
 }
 
 /// A span ends.
@@ -85,7 +84,7 @@ impl<A: Allocator> Change<AccountState, SpanEnded<A>> for Ends {
     ghost use Rattle.batch_processor.specs.Views.{after_end};
     ghost use Rattle.model_processor.specs.AnyAccounts.{on_pass};
 
-    ghost after = { λ holder ended. on_pass (after_end ended.answer ended.span.value) holder };
+    ghost after = { λ holder ended. on_pass (after_end ended.admitted ended.span.value) holder };
 }
 
 /// A pass asks for all that was accepted at this desk.

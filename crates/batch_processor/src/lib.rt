@@ -6,7 +6,6 @@
 mod account;
 mod clock;
 mod config;
-mod encoder;
 mod fault;
 mod hold;
 mod lock;

@@ -4,13 +4,14 @@ ghost use Rattle.otlp_span.specs.Dropped.{entry_view};
 ghost use Rattle.model_processor.specs.Passes.{after_pop, after_pop_lost};
 ghost use Rattle.batch_processor.specs.Answers.{IsFlushed, IsShutDown};
 ghost use Rattle.batch_processor.specs.Holds.{WasCounted};
+ghost use Rattle.batch_processor.specs.Views.{ended_of};
 
 use crate::account::AccountState;
 use crate::fault::WorkerLeft;
 use crate::lock::Lock;
 use account_book::{Account, Naming};
-use batch_desk::Totals;
-use otlp_span::{Entry, SpanData};
+use batch_desk::{Admitted, Totals};
+use otlp_span::{Entry, Reason, SpanData};
 use std::alloc::{Allocator, Global};
 use std::fmt;
 use std::marker::Model;
@@ -46,7 +47,7 @@ impl<J: Naming, R, A: Allocator> Model for Pass<J, R, A> {
     ghost invariant = { λ p. p.account ≡ pass (account_in p.account) };
 }
 
-/// Writes the name of the type alone: what a pass shares lies under the lock, and isn't looked at.
+/// Writes the name of the type alone: what the lock guards isn't looked at.
 impl<J: Naming, R, A: Allocator> fmt::Debug for Pass<J, R, A> {
     fn fmt<W: fmt::Write>(&self, f: &mut fmt::Formatter<W>) -> fmt::Result {
         f.debug_struct("Pass").finish_non_exhaustive()
@@ -65,7 +66,10 @@ impl<J: Naming, R: Wait, A: Allocator + Copy> Pass<J, R, A> {
         ensures { IsFlushed result self.old self.new }
     {
         let Pass { lock, account, rt } = self;
-        lock.flush(rt, account)
+        let mut shared = lock.shared.lock(rt);
+        let after = shared.flush(account);
+        let mark = lock.end(shared, after);
+        lock.wait(rt, account, mark)
     }
 
     /// Admits no span any more, on any pass, and waits as `force_flush` (Trace SDK, "Shutdown").
@@ -77,11 +81,14 @@ impl<J: Naming, R: Wait, A: Allocator + Copy> Pass<J, R, A> {
         ensures { IsShutDown result self.old self.new }
     {
         let Pass { lock, account, rt } = self;
-        lock.shutdown(rt, account)
+        let mut shared = lock.shared.lock(rt);
+        let after = shared.shutdown(account);
+        let mark = lock.end(shared, after);
+        lock.wait(rt, account, mark)
     }
 
-    /// The counts of all that came so far, on any pass, with what the worker did: as they are in one
-    /// hold of the lock.
+    /// The counts of all that came so far, on any pass, with what the worker did: as they are in
+    /// one hold of the lock.
     pub fn totals(&mut self) -> Totals
         ensures counts { WasCounted result self.old }
         ensures unchanged { self.new ≡ self.old }
@@ -121,6 +128,24 @@ impl<J: Naming, R: Wait, A: Allocator + Copy> EndPass<SpanData<A>> for Pass<J, R
     /// No memory is taken. (profile: tickets, the ledger, late spans)
     fn admit(&mut self, span: SpanData<A>) -> Ended {
         let Pass { lock, account, rt } = self;
-        lock.admit(rt, account, span)
+        let mut shared = lock.shared.lock(rt);
+        let after = shared.admit(account, span);
+        let (admitted, remains, spent) = lock.end(shared, after);
+        // A span that doesn't wait is freed here, once the hold is over, and so is one that was
+        // sent.
+        drop(remains);
+        drop(spent);
+        ended_of(admitted)
+    }
+}
+
+/// The answer to the end of a span that was admitted so.
+fn ended_of(admitted: Admitted) -> Ended
+    ensures { result ≡ ended_of admitted }
+{
+    match admitted {
+        Admitted::Queued(ticket) => Ended::Queued(ticket),
+        Admitted::Full(ticket) => Ended::Dropped(ticket, Reason::QueueFull),
+        Admitted::Late => Ended::Late,
     }
 }

@@ -21,7 +21,7 @@ use crate::pass::Pass;
 use crate::shared::Shared;
 use crate::worker::WorkerPass;
 use account_book::{Account, Naming};
-use batch_desk::Desk;
+use batch_desk::{Desk, DeskConfig};
 use std::alloc::{AllocError, Allocator, Global};
 use std::fmt;
 use std::marker::Model;
@@ -33,6 +33,8 @@ pub struct BatchProcessor<J: Naming, R, A: Allocator = Global> {
     lock: Arc<Lock<J, A>, A>,
     account: Account<J, AccountState>,
     setup: Setup,
+    // Takes the place of the desk in the end, so that to take that out needs no memory.
+    spare: Desk<A>,
     rt: R,
 }
 
@@ -49,7 +51,7 @@ impl<J: Naming, R, A: Allocator> Model for BatchProcessor<J, R, A> {
     ghost invariant = { λ p. p.account ≡ processor (setup_view p.setup) };
 }
 
-/// Writes how many passes there are. What lies under the lock isn't looked at.
+/// Writes how many passes there are. What the lock guards isn't looked at.
 impl<J: Naming, R, A: Allocator> fmt::Debug for BatchProcessor<J, R, A> {
     fn fmt<W: fmt::Write>(&self, f: &mut fmt::Formatter<W>) -> fmt::Result {
         f.debug_struct("BatchProcessor")
@@ -111,10 +113,14 @@ impl<J: Naming, R: Wait + Drop, A: Allocator + Copy> BatchProcessor<J, R, A> {
             lock,
             account,
             setup: _,
+            spare,
             rt,
         } = self;
         let of_worker = worker.abandon();
-        let desk = lock.shared.lock(&rt).close(account, of_worker, passes);
+        let desk = lock
+            .shared
+            .lock(&rt)
+            .close(account, of_worker, passes, spare);
         Ok(Accounts { desk })
     }
 }
@@ -189,6 +195,47 @@ impl<J: Naming, R: Wait + Copy, A: Allocator + Copy> BatchProcessor<J, R, A> {
         if passes == 0 || passes > MAX_PASSES {
             return Err(NewFault::BadPasses);
         }
+        BatchProcessor::with_passes(alloc, rt, blank, config, passes, now)
+    }
+
+    /// As [`BatchProcessor::new`], with any number of passes: for who keeps passes beside those
+    /// that others have. (profile)
+    ///
+    /// # Errors
+    ///
+    /// The first fault of the queue that holds.
+    pub fn with_passes(
+        alloc: A,
+        rt: R,
+        blank: BatchBlank,
+        config: BatchConfig,
+        passes: usize,
+        now: u64,
+    ) -> Result<Parts<J, R, A>, NewFault>
+        requires { blank ≡ J.name }
+        ensures processor { IfOk result (λ parts.
+            parts.processor ≡ setup_view (record { passes = passes; config = config })) }
+        ensures count { IfOk result (λ parts. vec_len parts.passes ≡ passes) }
+        ensures passes { IfOk result
+            (λ parts. AllByRecursion (λ a. a ≡ new_account) parts.passes.items) }
+        ensures worker { IfOk result (λ parts. parts.worker ≡ record {
+          origin = setup_view (record { passes = passes; config = config });
+          account = new_worker;
+          encoded = None;
+        }) }
+
+        // The first fault that holds is the answer.
+        ensures any_passes { IsErrOf result NewFault.BadPasses → ⊥ }
+        ensures zero_size { IsErrOf result NewFault.ZeroSize
+            ↔ ((config.desk.queue ≡ 0) ⊎ (config.desk.batch ≡ 0)) }
+        ensures batch_above_queue { IsErrOf result NewFault.BatchAboveQueue
+            ↔ ((0 < config.desk.queue) × (config.desk.queue < config.desk.batch)) }
+        ensures too_large { IsErrOf result NewFault.TooLarge
+            ↔ ((0 < config.desk.batch)
+            × (config.desk.batch ≤ config.desk.queue) × (MAX_QUEUE < config.desk.queue)) }
+        ensures out_of_memory { IsErrOf result NewFault.OutOfMemory
+            → IsRingSize config.desk.queue config.desk.batch }
+    {
         let desk = Desk::new(alloc, config.desk, now)?;
         let setup = Setup { passes, config };
         let parts = BatchProcessor::assemble(alloc, rt, blank, setup, desk)?;
@@ -216,6 +263,7 @@ impl<J: Naming, R: Wait + Copy, A: Allocator + Copy> BatchProcessor<J, R, A> {
           encoded = None;
         }) }
     {
+        let spare = spare_desk(alloc)?;
         let spent = Vec::with_capacity(alloc, setup.config.desk.batch)?;
         let mut book = blank.named::<J>();
         let mut account = book.open::<NewProcessor>();
@@ -224,7 +272,7 @@ impl<J: Naming, R: Wait + Copy, A: Allocator + Copy> BatchProcessor<J, R, A> {
         book.record::<Setup, WorkerBegins>(&mut of_worker, &setup);
         let accounts = book.open_all::<AccountState, A>(alloc, setup.passes)?;
         let shared = Shared {
-            desk: Some(desk),
+            desk,
             left: false,
             spent,
             book,
@@ -237,6 +285,7 @@ impl<J: Naming, R: Wait + Copy, A: Allocator + Copy> BatchProcessor<J, R, A> {
             lock,
             account,
             setup,
+            spare,
             rt,
         };
         Ok(Parts {
@@ -245,6 +294,16 @@ impl<J: Naming, R: Wait + Copy, A: Allocator + Copy> BatchProcessor<J, R, A> {
             worker,
         })
     }
+}
+
+/// A desk as small as may be, which nobody uses: it has a queue for one span.
+fn spare_desk<A: Allocator + Copy>(alloc: A) -> Result<Desk<A>, AllocError> {
+    let smallest = DeskConfig {
+        queue: 1,
+        batch: 1,
+        delay_ms: 0,
+    };
+    Desk::new(alloc, smallest, 0).map_err(|_| AllocError)
 }
 
 /// A pass for each of these accounts.

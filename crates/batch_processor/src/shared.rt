@@ -12,7 +12,7 @@ ghost use Rattle.model_processor.specs.AnyAccounts.{after_handed, after_left, af
 ghost use Rattle.model_processor.specs.AnyAccounts.{after_take};
 ghost use Rattle.model_processor.specs.AnyAccounts.{left_if, on_pass, on_worker, origin_in, pass};
 ghost use Rattle.model_processor.specs.AnyAccounts.{processor, worker, worker_in};
-ghost use Rattle.batch_processor.specs.Views.{after_answer, after_end, ended_of, outcomes_view};
+ghost use Rattle.batch_processor.specs.Views.{after_answer, after_end, outcomes_view};
 ghost use Rattle.batch_processor.specs.Holds.{Asks, InHold, IsBatchOf, IsBatchSize, IsCounted};
 ghost use Rattle.batch_processor.specs.Holds.{IsNamedBatchOf};
 ghost use Rattle.batch_processor.specs.Holds.{IsSettledBatchOf, IsTold, Shuts, has_work, wake_of};
@@ -28,13 +28,12 @@ use crate::hold::{After, Wake};
 use crate::pass::{Flushed, Pass};
 use account_book::{Account, Book, Naming};
 use batch_desk::{Admitted, Batch, Desk, Mark, NamedBatch, SettledBatch, Totals};
-use otlp_span::{Entry, Reason, SpanData, SpanRemains};
+use otlp_span::{Entry, SpanData, SpanRemains};
 use retry_core::Outcome;
 use std::alloc::Allocator;
 use std::marker::Model;
 use std::mem;
 use std::snapshot::Snapshot;
-use trace_api::Ended;
 
 /// What those who wait wait for: whether the worker has work, whatever the moment is; and what
 /// flushes are answered by, whether a batch is out, and whether the worker has left.
@@ -45,12 +44,12 @@ struct Awaited {
     left: bool,
 }
 
-/// What lies under the lock of a processor, until it is closed out, with the book of its accounts.
+/// What the lock of a processor guards, with the book of its accounts.
 /// In contracts it is the queue, whether the worker has left, and the spans that were sent and
 /// aren't freed yet.
 #[derive(Drop)]
 pub(crate) struct Shared<J: Naming, A: Allocator> {
-    pub(crate) desk: Option<Desk<A>>,
+    pub(crate) desk: Desk<A>,
     // Whether the worker has left.
     pub(crate) left: bool,
     // Spans that were sent, which the threads free that end others.
@@ -61,13 +60,13 @@ pub(crate) struct Shared<J: Naming, A: Allocator> {
 
 impl<J: Naming, A: Allocator> Model for Shared<J, A> {
     ghost use Rattle.model_processor.specs.Kept.{IsShared};
-    ghost use Rattle.batch_processor.specs.Holds.{Guarded, desk_of};
+    ghost use Rattle.batch_processor.specs.Holds.{Guarded};
     ghost use Rattle.batch_processor.specs.Views.{setup_view};
 
     ghost Value = { Guarded };
 
     ghost view = { λ s. record {
-      desk = desk_of s.desk;
+      desk = s.desk;
       left = s.left;
       spent = s.spent.items;
     } };
@@ -82,16 +81,10 @@ impl<J: Naming, A: Allocator + Copy> Shared<J, A> {
         ensures out { result.is_out ≡ is_some self.now.desk.out }
         ensures left { result.left ≡ self.now.left }
     {
-        let (has_work, is_out) = match &self.desk {
-            Some(desk) => (
-                desk.due(0) || desk.is_closed() && desk.waiting() == 0,
-                desk.out().is_some(),
-            ),
-            None => (false, false),
-        };
+        let desk = &self.desk;
         Awaited {
-            has_work,
-            is_out,
+            has_work: desk.due(0) || desk.is_closed() && desk.waiting() == 0,
+            is_out: desk.out().is_some(),
             left: self.left,
         }
     }
@@ -115,10 +108,10 @@ impl<J: Naming, A: Allocator + Copy> Shared<J, A> {
         &mut self,
         account: &mut Account<J, AccountState>,
         span: SpanData<A>,
-    ) -> After<(Ended, Option<SpanRemains<A>>, Option<SpanData<A>>)>
+    ) -> After<(Admitted, Option<SpanRemains<A>>, Option<SpanData<A>>)>
         requires { account.old ≡ pass (account_in account.old) }
         ensures hold { InHold self.old (account_in account.old) }
-        ensures answer { result.value.0 ≡ ended_of (admission self.old.desk) }
+        ensures answer { result.value.0 ≡ admission self.old.desk }
         ensures account { account.new ≡ on_pass (after_end result.value.0 span) account.old }
         ensures desk { self.new ≡ record self.old {
           desk = after_admission (admission self.old.desk) span self.old.desk;
@@ -129,7 +122,7 @@ impl<J: Naming, A: Allocator + Copy> Shared<J, A> {
         ensures wake { result.wake ≡ wake_of self.old self.new }
     {
         let was = self.awaited();
-        let (answer, remains) = self.queue(account, span);
+        let (admitted, remains) = self.queue(account, span);
         let spent = match &remains {
             None => self.spent.pop(),
             Some(_) => None,
@@ -137,7 +130,7 @@ impl<J: Naming, A: Allocator + Copy> Shared<J, A> {
         let wake = self.wake(was);
         After {
             wake,
-            value: (answer, remains, spent),
+            value: (admitted, remains, spent),
         }
     }
 
@@ -146,26 +139,24 @@ impl<J: Naming, A: Allocator + Copy> Shared<J, A> {
         &mut self,
         account: &mut Account<J, AccountState>,
         span: SpanData<A>,
-    ) -> (Ended, Option<SpanRemains<A>>)
+    ) -> (Admitted, Option<SpanRemains<A>>)
         requires { account.old ≡ pass (account_in account.old) }
         ensures hold { InHold self.old (account_in account.old) }
-        ensures answer { result.0 ≡ ended_of (admission self.old.desk) }
+        ensures answer { result.0 ≡ admission self.old.desk }
         ensures account { account.new ≡ on_pass (after_end result.0 span) account.old }
         ensures desk { self.new ≡ record self.old {
           desk = after_admission (admission self.old.desk) span self.old.desk;
         } }
         ensures remains { is_none result.1 ≡ is_queued (admission self.old.desk) }
     {
-        self.book.recognize(account);
-        let Some(desk) = &mut self.desk else {
-            unreachable!()
-        };
         let seen = Snapshot::of(&span);
-        let (admitted, remains) = desk.offer(span);
-        let answer = ended_of(admitted);
-        self.book
-            .record::<SpanEnded<A>, Ends>(account, &SpanEnded { span: seen, answer });
-        (answer, remains)
+        let (admitted, remains) = self.desk.offer(span);
+        let ended = SpanEnded {
+            span: seen,
+            admitted,
+        };
+        self.book.record::<SpanEnded<A>, Ends>(account, &ended);
+        (admitted, remains)
     }
 
     /// Leaves the spans of a batch that was sent to those who end others, where half a batch waits
@@ -176,11 +167,7 @@ impl<J: Naming, A: Allocator + Copy> Shared<J, A> {
         ensures spent { IsPermutation
             (spent.old.items ++ self.old.spent) (spent.new.items ++ self.new.spent) }
     {
-        let waiting = match &self.desk {
-            Some(desk) => desk.waiting(),
-            None => 0,
-        };
-        if waiting >= self.setup.config.desk.batch / 2 {
+        if self.desk.waiting() >= self.setup.config.desk.batch / 2 {
             mem::swap(&mut self.spent, spent);
         }
     }
@@ -208,12 +195,8 @@ impl<J: Naming, A: Allocator + Copy> Shared<J, A> {
           desk = record self.old.desk { asked = accepted_count self.old.desk };
         } }
     {
-        self.book.recognize(account);
-        let Some(desk) = &mut self.desk else {
-            unreachable!()
-        };
-        let seen = Snapshot::of(&*desk);
-        let mark = desk.flush();
+        let seen = Snapshot::of(&self.desk);
+        let mark = self.desk.flush();
         self.book
             .record::<Snapshot<Desk<A>>, Flushes>(account, &seen);
         mark
@@ -242,12 +225,8 @@ impl<J: Naming, A: Allocator + Copy> Shared<J, A> {
           desk = record self.old.desk { asked = accepted_count self.old.desk; closed = true };
         } }
     {
-        self.book.recognize(account);
-        let Some(desk) = &mut self.desk else {
-            unreachable!()
-        };
-        let seen = Snapshot::of(&*desk);
-        let mark = desk.shutdown();
+        let seen = Snapshot::of(&self.desk);
+        let mark = self.desk.shutdown();
         self.book
             .record::<Snapshot<Desk<A>>, ShutsDown>(account, &seen);
         mark
@@ -269,11 +248,7 @@ impl<J: Naming, A: Allocator + Copy> Shared<J, A> {
         ensures none { IfNone result (account.new ≡ account.old) }
         ensures unchanged { self.new ≡ self.old }
     {
-        self.book.recognize(account);
-        let Some(desk) = &self.desk else {
-            unreachable!()
-        };
-        if desk.flushed(mark) {
+        if self.desk.flushed(mark) {
             self.book.record::<(), ToldFlushed>(account, &());
             return Some(Ok(Flushed));
         }
@@ -292,10 +267,7 @@ impl<J: Naming, A: Allocator + Copy> Shared<J, A> {
         ensures unchanged { self.new ≡ self.old }
     {
         self.book.recognize(account);
-        let Some(desk) = &self.desk else {
-            unreachable!()
-        };
-        desk.totals()
+        self.desk.totals()
     }
 
     /// A pass pops an entry of the ledger.
@@ -308,11 +280,7 @@ impl<J: Naming, A: Allocator + Copy> Shared<J, A> {
           desk = record self.old.desk { ledger = drop 1 self.old.desk.ledger };
         } }
     {
-        self.book.recognize(account);
-        let Some(desk) = &mut self.desk else {
-            unreachable!()
-        };
-        let entry = desk.pop_entry()?;
+        let entry = self.desk.pop_entry()?;
         self.book.record::<Entry, Pops>(account, &entry);
         Some(entry)
     }
@@ -327,11 +295,7 @@ impl<J: Naming, A: Allocator + Copy> Shared<J, A> {
           desk = record self.old.desk { lost = drop 1 self.old.desk.lost };
         } }
     {
-        self.book.recognize(account);
-        let Some(desk) = &mut self.desk else {
-            unreachable!()
-        };
-        let entry = desk.pop_lost()?;
+        let entry = self.desk.pop_lost()?;
         self.book.record::<Entry, PopsLost>(account, &entry);
         Some(entry)
     }
@@ -351,21 +315,14 @@ impl<J: Naming, A: Allocator + Copy> Shared<J, A> {
         ensures none { IfNone result (account.new ≡ account.old) }
         ensures spent { self.new.spent ≡ self.old.spent }
     {
-        self.book.recognize(account);
-        let Some(desk) = &mut self.desk else {
-            unreachable!()
-        };
-        let batch = desk.take(now)?;
+        let batch = self.desk.take(now)?;
         self.book.record::<Batch<A>, Takes>(account, &batch);
         Some(batch)
     }
 
     /// Whether a batch is due at this moment.
     pub(crate) fn is_due(&self, now: u64) -> bool {
-        match &self.desk {
-            Some(desk) => desk.due(now),
-            None => false,
-        }
+        self.desk.due(now)
     }
 
     /// The worker hands its batch to an exporter, with this body.
@@ -380,12 +337,8 @@ impl<J: Naming, A: Allocator + Copy> Shared<J, A> {
         ensures account { account.new ≡ on_worker (after_handed body.now.items) account.old }
         ensures spent { self.new.spent ≡ self.old.spent }
     {
-        self.book.recognize(account);
-        let Some(desk) = &mut self.desk else {
-            unreachable!()
-        };
-        desk.handed(batch.number());
         self.book.record::<Vec<u8, A>, Hands>(account, body);
+        self.desk.handed(batch.number());
     }
 
     /// The worker drops its batch, which was not handed, and whose spans are named. It leaves by
@@ -422,12 +375,8 @@ impl<J: Naming, A: Allocator + Copy> Shared<J, A> {
           desk = after_names batch.reason batch.entries self.old.desk;
         } }
     {
-        self.book.recognize(account);
-        let Some(desk) = &mut self.desk else {
-            unreachable!()
-        };
         self.book.record::<NamedBatch<A>, Drops>(account, &batch);
-        desk.drop_named(batch);
+        self.desk.drop_named(batch);
     }
 
     /// The worker settles its batch, which was handed, and whose lost spans are named, after these
@@ -478,17 +427,13 @@ impl<J: Naming, A: Allocator + Copy> Shared<J, A> {
           desk = after_loss batch.fate batch.entries self.old.desk;
         } }
     {
-        self.book.recognize(account);
-        let Some(desk) = &mut self.desk else {
-            unreachable!()
-        };
         let seen = Snapshot::of(outcomes);
         let settled = Settled {
             outcomes: seen,
             fate: batch.fate(),
         };
         self.book.record::<Settled<A>, Settles>(account, &settled);
-        desk.settle_named(batch);
+        self.desk.settle_named(batch);
     }
 
     /// The worker leaves, which has none out.
@@ -511,11 +456,7 @@ impl<J: Naming, A: Allocator + Copy> Shared<J, A> {
         ensures no { result ≡ false → account.new ≡ account.old }
         ensures unchanged { self.new ≡ self.old }
     {
-        self.book.recognize(account);
-        let Some(desk) = &self.desk else {
-            unreachable!()
-        };
-        if !desk.is_closed() || desk.waiting() > 0 {
+        if !self.desk.is_closed() || self.desk.waiting() > 0 {
             return false;
         }
         self.book.record::<(), Drains>(account, &());
@@ -531,32 +472,29 @@ impl<J: Naming, A: Allocator + Copy> Shared<J, A> {
         if !leaves {
             return;
         }
-        self.book.recognize(account);
-        let Some(_desk) = &self.desk else {
-            unreachable!()
-        };
         self.book.record::<(), Leaves>(account, &());
         self.left = true;
     }
 
-    /// Takes the desk out, once the processor, the worker and all passes are back.
+    /// Takes the desk out, once the processor, the worker and all passes are back, and leaves the
+    /// spare one.
     pub(crate) fn close<R: Drop>(
         &mut self,
         mut account: Account<J, AccountState>,
         of_worker: Account<J, AccountState>,
         passes: Vec<Pass<J, R, A>, A>,
+        spare: Desk<A>,
     ) -> Desk<A>
         requires processor { account ≡ processor (origin_in account) }
         requires worker { of_worker ≡ worker (origin_in of_worker) (worker_in of_worker) }
         requires all { (origin_in account).passes ≤ vec_len passes }
         ensures origin { origin_in of_worker ≡ origin_in account }
-        ensures accounts { IsAccountOf (origin_in account) result passes.items (worker_in of_worker) }
+        ensures accounts { IsAccountOf (origin_in account) result passes.items
+            (worker_in of_worker) }
         ensures spent { self.new.spent ≡ self.old.spent }
     {
         self.book.recognize(&mut account);
-        let Some(desk) = self.desk.take() else {
-            unreachable!()
-        };
+        let desk = mem::replace(&mut self.desk, spare);
         self.book.close(account);
         self.book.close(of_worker);
         for pass in passes {
@@ -568,16 +506,5 @@ impl<J: Naming, A: Allocator + Copy> Shared<J, A> {
             self.book.close(account);
         }
         desk
-    }
-}
-
-/// The answer to the end of a span that was admitted so.
-fn ended_of(admitted: Admitted) -> Ended
-    ensures { result ≡ ended_of admitted }
-{
-    match admitted {
-        Admitted::Queued(ticket) => Ended::Queued(ticket),
-        Admitted::Full(ticket) => Ended::Dropped(ticket, Reason::QueueFull),
-        Admitted::Late => Ended::Late,
     }
 }

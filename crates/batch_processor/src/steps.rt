@@ -10,6 +10,7 @@ ghost use Rattle.otlp_span.specs.Dropped.{reason_view};
 ghost use Rattle.model_drop.specs.Dropped.{can_drop_batch};
 ghost use Rattle.model_processor.specs.AnyAccounts.{after_drained, after_drop, after_left};
 ghost use Rattle.model_processor.specs.AnyAccounts.{after_settle, left_if, worker};
+ghost use Rattle.batch_desk.specs.Batch.{settled_batch};
 ghost use Rattle.batch_processor.specs.Holds.{IsBatchOf, IsSentBatchOf};
 ghost use Rattle.batch_processor.specs.Working.{IsExported, IsReady, IsWorkingWith, StepsAside};
 ghost use Rattle.batch_processor.specs.Working.{TakesStep, hand_at, to_encode, to_judge, to_retry};
@@ -18,11 +19,10 @@ ghost use Rattle.batch_processor.specs.Working.{to_send, work_in};
 use crate::account::AccountState;
 use crate::clock::Clock;
 use crate::config::Setup;
-use crate::encoder::body_of;
 use crate::lock::{Lock, PAUSE_MS};
 use account_book::{Account, Naming};
-use batch_desk::Batch;
-use otlp_proto::EncodeFault;
+use batch_desk::{Batch, SettledBatch, loss_reason};
+use otlp_proto::{EncodeFault, body_of};
 use otlp_span::{Reason, SpanData};
 use rand_core::Rng;
 use retry_core::{Fate, Next, Outcome, decide};
@@ -97,20 +97,30 @@ impl<J: Naming, R: Wait + time::Clock + Drop, A: Allocator + Copy> Worker<J, R, 
         requires { IsWorkingWith self.old None }
         ensures { StepsAside self.old None self.new result }
     {
-        let Some(batch) = self.lock.take(&self.rt, &mut self.account, now) else {
+        let mut shared = self.lock.shared.lock(&self.rt);
+        let Some(batch) = shared.take(&mut self.account, now) else {
             return None;
         };
         let stage = Stage::ToEncode;
         Some(InHand { batch, stage })
     }
 
-    /// Whether all is drained; if not, a short time has passed, or a batch is due.
+    /// Whether all is drained; if not, and no batch is due at this moment, it waits for a short
+    /// time, or until it is called. It looks and waits by one hold, so that no call is lost.
     pub(crate) fn drained(&mut self, now: u64) -> bool
         ensures yes { IsTrue result
             → self.new ≡ record self.old { account = after_drained self.old.account } }
         ensures no { result ≡ false → self.new ≡ self.old }
     {
-        self.lock.drained(&self.rt, &mut self.account, now)
+        let mut shared = self.lock.shared.lock(&self.rt);
+        if shared.drained(&mut self.account) {
+            return true;
+        }
+        if !shared.is_due(now) {
+            let pause = Duration::from_millis(PAUSE_MS);
+            self.lock.to_do.wait_timeout(&self.rt, shared, pause);
+        }
+        false
     }
 
     /// Goes on with the batch in hand by a step. None is left in hand once it is settled.
@@ -224,7 +234,9 @@ impl<J: Naming, R: Wait + time::Clock + Drop, A: Allocator + Copy> Worker<J, R, 
 
 impl<J: Naming, R: Wait + Drop, A: Allocator + Copy> Worker<J, R, A> {
     /// Settles a batch that was handed, after the outcomes that were judged. The worker leaves by
-    /// the same hold, or it doesn't.
+    /// the same hold, or it doesn't; those who wait are called. In the hold none of its spans is
+    /// freed or named: lost ones are before it, and others are left to those who end spans, or
+    /// freed once it is over.
     fn settle(&mut self, batch: Batch<A>, fate: Fate, leaves: bool)
         requires { IsSentBatchOf (worker self.old.origin self.old.account) batch }
         ensures { self.new ≡ record self.old {
@@ -233,21 +245,17 @@ impl<J: Naming, R: Wait + Drop, A: Allocator + Copy> Worker<J, R, A> {
           outcomes = [];
         } }
     {
-        let spent = mem::replace(&mut self.spent, Vec::new(self.alloc));
-        self.spent = self.lock.settle(
-            &self.rt,
-            &mut self.account,
-            batch,
-            &self.outcomes,
-            fate,
-            leaves,
-            spent,
-        );
+        let mut spent = mem::replace(&mut self.spent, Vec::new(self.alloc));
+        let batch = settled_of(batch, fate, &mut spent);
+        let mut shared = self.lock.shared.lock(&self.rt);
+        let after = shared.settle(&mut self.account, batch, &self.outcomes, leaves, spent);
+        self.spent = self.lock.end(shared, after);
+        self.spent.clear();
         self.outcomes.clear();
     }
 
     /// Drops a batch that was not handed, for this reason. The worker leaves by the same hold, or
-    /// it doesn't.
+    /// it doesn't; those who wait are called. Its spans are freed before the hold.
     fn drop_batch(&mut self, batch: Batch<A>, reason: Reason, leaves: bool)
         requires batch { IsBatchOf (worker self.old.origin self.old.account) batch }
         requires reason { can_drop_batch (reason_view reason) ≡ true }
@@ -255,8 +263,10 @@ impl<J: Naming, R: Wait + Drop, A: Allocator + Copy> Worker<J, R, A> {
           account = left_if leaves (after_drop (reason_view reason) self.old.account);
         } }
     {
-        self.lock
-            .drop_batch(&self.rt, &mut self.account, batch, reason, leaves);
+        let batch = batch.into_named(reason);
+        let mut shared = self.lock.shared.lock(&self.rt);
+        let after = shared.drop_batch(&mut self.account, batch, leaves);
+        self.lock.end(shared, after);
     }
 
     /// Abandons the batch in hand: it is dropped where it was not handed, and else settled. The
@@ -283,11 +293,13 @@ impl<J: Naming, R: Wait + Drop, A: Allocator + Copy> Worker<J, R, A> {
         }
     }
 
-    /// Leaves, where no batch is in hand.
+    /// Leaves, where no batch is in hand, and calls those who wait.
     pub(crate) fn leave(&mut self)
         ensures { self.new ≡ record self.old { account = after_left self.old.account } }
     {
-        self.lock.leave(&self.rt, &mut self.account);
+        let mut shared = self.lock.shared.lock(&self.rt);
+        let after = shared.leave(&mut self.account);
+        self.lock.end(shared, after);
     }
 }
 
@@ -306,6 +318,25 @@ impl<J: Naming, R: Drop, A: Allocator + Copy> Worker<J, R, A> {
             rt: _,
         } = self;
         account
+    }
+}
+
+/// A batch with its fate: where its spans are lost, they are named, and all else of them is freed.
+/// Where they aren't, they are moved to `spent`, or freed where that has no room. It takes no
+/// memory.
+fn settled_of<A: Allocator>(
+    mut batch: Batch<A>,
+    fate: Fate,
+    spent: &mut Vec<SpanData<A>, A>,
+) -> SettledBatch<A>
+    ensures { result ≡ settled_batch (fate_view fate) batch }
+{
+    match loss_reason(fate) {
+        Some(_) => batch.into_settled(fate),
+        None => {
+            batch.clear_into(spent);
+            batch.into_settled(fate)
+        }
     }
 }
 

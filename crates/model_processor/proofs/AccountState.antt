@@ -1,10 +1,10 @@
 -- The same of all accounts in the book.
-use Rattle.std.proofs.Common.{◌≡◌, Bool, List, [], ◌∷◌, sym, refl, ap, ◌∙◌, subst, arith, ◌⊎◌, inl, inr}
+use Rattle.std.proofs.Common.{◌≡◌, Bool, List, [], ◌∷◌, length, sym, refl, ap, ◌∙◌, subst, arith, ◌⊎◌, inl, inr}
 use Rattle.std.specs.Prelude.{Contains, Option, Some, None, filter_map}
 use Rattle.std.specs.List.{AllByRecursion}
 use Rattle.std.proofs.lemmas.List.Elements.{All-from_recursion, All-contains}
 use Rattle.account_book.specs.Accounts.{Replaces}
-use Rattle.account_book.proofs.Facts.{each_map, each_replaced, length_replaced, one_replaced, part_replaced, replaces_told}
+use Rattle.account_book.proofs.Facts.{contains_replaced, each_map, each_replaced, length_replaced, one_replaced, part_replaced, replaces_told}
 use Rattle.model_desk.specs.Desks.{Desk}
 use Rattle.model_processor.specs.Passes.{PassAccount}
 use Rattle.model_processor.specs.Worker.{WorkerAccount}
@@ -13,9 +13,9 @@ use Rattle.model_processor.specs.AnyAccounts.{AnyAccount, account_in, on_pass, o
 use Rattle.model_processor.specs.Kept.{Agrees, IsOf, IsShared, Kept}
 use Rattle.model_processor.proofs.Lists.{part_same}
 
--- what is kept while something lies under the lock
-pub kept_of : (origin : Origin) (left : Bool) (o : Option Desk) (desk : Desk) (holders : List AnyAccount) → IsShared origin left o holders → o ≡ Some desk → Kept origin left desk holders
-kept_of origin left o desk holders inv is = subst (λ x. IsShared origin left x holders) is inv
+-- where no account is open, nothing is said
+pub none_shared : (origin : Origin) (left : Bool) (desk : Desk) (holders : List AnyAccount) → holders ≡ [] → IsShared origin left desk holders
+none_shared origin left desk holders none h there = absurd (let few = there.1 in let e = ap length none in omega arith)
 
 -- ---- the one account of a kind
 
@@ -66,15 +66,20 @@ module _ (origin : Origin) (left : Bool) (desk : Desk) (holders : List AnyAccoun
   pub agrees_there : Agrees desk (pass_accounts holders) (worker_in h)
   agrees_there = subst (Agrees desk (pass_accounts holders)) (sym worker_there) k.agrees
 
--- ---- an account was recognized, and is told something
+-- ---- an account is told something
 
-module _ (origin : Origin) (left : Bool) (desk desk' : Desk) (holders known holders' : List AnyAccount) (h known_h h' : AnyAccount) (k : Kept origin left desk holders) (same : known ≡ holders) (same_h : known_h ≡ h) (r : Replaces known known_h h' holders') (config : desk'.config ≡ desk.config) where
-  pub kept_pass : (f : PassAccount → PassAccount) → h ≡ pass (account_in h) → h' ≡ on_pass f known_h
-      → ((w : WorkerAccount) (new : List PassAccount) → w.left ≡ left → Replaces (pass_accounts holders) (account_in h) (f (account_in h)) new → Agrees desk (pass_accounts holders) w → Agrees desk' new w) → Kept origin left desk' holders'
-  kept_pass f is changed step =
+module _ (origin : Origin) (left : Bool) (desk desk' : Desk) (holders holders' : List AnyAccount) (h h' : AnyAccount) (shared : IsShared origin left desk holders) (r : Replaces holders h h' holders') (config : desk'.config ≡ desk.config) where
+  pub open_there : Contains holders h
+  open_there = contains_replaced holders h h' holders' r
+
+  k : Kept origin left desk holders
+  k = shared h open_there
+
+  pub kept_pass : (f : PassAccount → PassAccount) → h ≡ pass (account_in h) → h' ≡ on_pass f h
+      → ((w : WorkerAccount) (new : List PassAccount) → w.left ≡ left → Replaces (pass_accounts holders) (account_in h) (f (account_in h)) new → Agrees desk (pass_accounts holders) w → Agrees desk' new w) → IsShared origin left desk' holders'
+  kept_pass f is changed step other there =
       let a = pass (account_in h) in let b = pass (f (account_in h)) in
-      let now : known_h ≡ a = same_h ∙ is in
-      let change : Replaces holders a b holders' = replaces_told holders known holders' known_h h' a b same now (changed ∙ ap (on_pass f) now) r in
+      let change : Replaces holders a b holders' = replaces_told holders holders holders' h h' a b refl is (changed ∙ ap (on_pass f) is) r in
       record {
         few = let e = length_replaced holders a b holders' change in let m = k.few in omega arith;
         origins = each_replaced (IsOf origin) holders a b holders' change k.origins tt;
@@ -86,19 +91,18 @@ module _ (origin : Origin) (left : Bool) (desk desk' : Desk) (holders known hold
         agrees = step k.account (pass_accounts holders') k.left_is (part_replaced pass_account holders a b holders' (account_in h) (f (account_in h)) change refl refl) k.agrees;
       }
 
-  pub kept_worker : (f : WorkerAccount → WorkerAccount) (left' : Bool) → ((worker_in h).left ≡ left → (f (worker_in h)).left ≡ left') → h ≡ worker (origin_in h) (worker_in h) → origin_in h ≡ origin → h' ≡ on_worker f known_h
-      → ((passes : List PassAccount) → Agrees desk passes (worker_in h) → Agrees desk' passes (f (worker_in h))) → Kept origin left' desk' holders'
-  kept_worker f left' marks is of changed step =
+  pub kept_worker : (f : WorkerAccount → WorkerAccount) (left' : Bool) → ((worker_in h).left ≡ left → (f (worker_in h)).left ≡ left') → h ≡ worker (origin_in h) (worker_in h) → h' ≡ on_worker f h
+      → ((passes : List PassAccount) → Agrees desk passes (worker_in h) → Agrees desk' passes (f (worker_in h))) → IsShared origin left' desk' holders'
+  kept_worker f left' marks is changed step other there =
       let a = worker (origin_in h) (worker_in h) in let b = worker (origin_in h) (f (worker_in h)) in
-      let now : known_h ≡ a = same_h ∙ is in
-      let change : Replaces holders a b holders' = replaces_told holders known holders' known_h h' a b same now (changed ∙ ap (on_worker f) now) r in
+      let change : Replaces holders a b holders' = replaces_told holders holders holders' h h' a b refl is (changed ∙ ap (on_worker f) is) r in
       let one = one_replaced k.account (worker_in h) (f (worker_in h)) (worker_accounts holders')
       (subst (λ (ws : List WorkerAccount). Replaces ws (worker_in h) (f (worker_in h)) (worker_accounts holders')) k.one_worker
       (part_replaced worker_account holders a b holders' (worker_in h) (f (worker_in h)) change refl refl)) in
       let passes : pass_accounts holders' ≡ pass_accounts holders = part_same pass_account holders a b holders' change refl refl in
       record {
         few = let e = length_replaced holders a b holders' change in let m = k.few in omega arith;
-        origins = each_replaced (IsOf origin) holders a b holders' change k.origins of;
+        origins = each_replaced (IsOf origin) holders a b holders' change k.origins (origin_there origin left desk holders h k open_there is);
         config = config ∙ k.config;
         sizes = k.sizes;
         account = f (worker_in h);

@@ -54,7 +54,7 @@ pass_accounts holders = filter_map pass_account holders
 abbrev pub worker_accounts : List AnyAccount → List WorkerAccount
 worker_accounts holders = filter_map worker_account holders
 
--- what is told to a pass's account, or to the worker's, changes it alone
+-- what a pass's account learns, or the worker's, changes that account alone
 abbrev pub on_pass : (PassAccount → PassAccount) → AnyAccount → AnyAccount
 on_pass f (pass account) = pass (f account)
 on_pass f holder = holder
@@ -63,7 +63,7 @@ abbrev pub on_worker : (WorkerAccount → WorkerAccount) → AnyAccount → AnyA
 on_worker f (worker origin account) = worker origin (f account)
 on_worker f holder = holder
 
--- ---- what a hold of the lock tells the worker
+-- ---- what the worker learns in a critical section
 
 -- a batch was taken
 abbrev pub after_take : ℕ → List SpanData → WorkerAccount → WorkerAccount

@@ -1,6 +1,6 @@
--- How what lies under the lock stands to the accounts. (profile)
+-- How what the lock guards agrees with the accounts. (profile)
 use Rattle.std.specs.Prelude.{◌≡◌, ℕ, ◌+◌, ◌<◌, ◌≤◌, Bool, true, List, [], ◌∷◌, ◌++◌, length, drop}
-use Rattle.std.specs.Prelude.{IsPermutation, Option, Some, None, is_some}
+use Rattle.std.specs.Prelude.{Contains, IsPermutation, Option, Some, None, is_some}
 use Rattle.std.specs.List.{AllByRecursion, range_with_len}
 use Rattle.model_span.specs.Spans.{SpanData}
 use Rattle.model_drop.specs.Dropped.{Entry, queue_full}
@@ -100,10 +100,10 @@ pub record Kept (origin : Origin) (left : Bool) (desk : Desk) (holders : List An
   pub left_is : account.left ≡ left
   pub agrees : Agrees desk (pass_accounts holders) account
 
--- the same, and that no account is left where nothing lies there any more
-abbrev pub IsShared : Origin → Bool → Option Desk → List AnyAccount → Type 0
-IsShared origin left None holders = holders ≡ []
-IsShared origin left (Some desk) holders = Kept origin left desk holders
+-- the same, while an account is open: once none is, nothing is said of what the lock guards
+abbrev pub IsShared : Origin → Bool → Desk → List AnyAccount → Type 0
+IsShared origin left desk holders =
+    (h : AnyAccount) → Contains holders h → Kept origin left desk holders
 
 -- ---- what is reported in the end
 

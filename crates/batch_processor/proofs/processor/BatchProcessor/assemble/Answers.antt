@@ -4,7 +4,7 @@ use Rattle.batch_processor.specs.Views.{setup_view}
 use Rattle.batch_processor.proofs.processor.BatchProcessor.assemble.Goals as goal
 
 pub invariant_of-shared : goal.invariant_of-shared
-invariant_of-shared g c =
+invariant_of-shared g c _ _ =
     let origin = setup_view c.args.setup in let opened = c.in_ok-accounts.accounts.items in
     let few : length opened ≤ c.args.setup.passes = search rules in
     kept_begins origin c.args.desk.last_moment c.args.desk c.named-book.result c.open-account.new.self c.record.new.self c.open-of_worker.new.self c.record-2.new.self c.open_all.new.self opened c.open-account.result c.record.new.account c.open-of_worker.result c.record-2.new.account

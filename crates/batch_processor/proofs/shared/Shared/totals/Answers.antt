@@ -1,17 +1,17 @@
-use Rattle.std.proofs.Common.{sym, subst}
-use Rattle.model_processor.proofs.AccountState.{kept_of}
-use Rattle.batch_processor.specs.Holds.{Counts}
+use Rattle.std.proofs.Common.{List, sym, subst}
+use Rattle.model_processor.specs.AnyAccounts.{AnyAccount}
+use Rattle.model_processor.specs.Kept.{IsShared}
+use Rattle.batch_processor.specs.Holds.{Counts, Guarded}
 use Rattle.batch_processor.specs.Views.{setup_view}
-use Rattle.batch_processor.proofs.Holds.{guarded_some, in_hold}
+use Rattle.batch_processor.proofs.Holds.{known_hold}
 use Rattle.batch_processor.proofs.shared.Shared.totals.Goals as goal
 
 pub returns-clause-counts : goal.returns-clause-counts
 returns-clause-counts g c =
-    let desk = c.in-Some.desk in let origin = setup_view c.self.inside.setup in let left = c.self.inside.left in
-    let kept = kept_of origin left c.self.inside.desk desk c.self.inside.book c.self.invariant c.in-Some.is in
-    let hold = in_hold origin left c.self.inside.desk desk c.self.inside.book c.args.account.now c.args.self.now kept c.recognize.ensures.there c.requires c.self.view_is c.in-Some.is in
+    let origin = setup_view c.self.inside.setup in
+    let hold = known_hold origin c.self.inside.left c.self.inside.desk c.self.inside.book c.args.account.now c.args.self.now c.self.invariant c.recognize.ensures.there c.requires c.self.view_is in
     let e = c.totals.ensures in
-    let counts : Counts desk c.totals.result = record {
+    let counts : Counts c.self.inside.desk c.totals.result = record {
       accepted = e.accepted;
       taken = e.taken;
       handed = e.handed;
@@ -22,5 +22,8 @@ returns-clause-counts g c =
       fates = e.fates;
       closed = e.closed;
     } in
-    let now = guarded_some c.self.inside.desk left desk c.args.self.now c.self.view_is c.in-Some.is in
-    record { hold = hold; counts = rw now counts }
+    record { hold = hold; counts = subst (λ (x : Guarded). Counts x.desk c.totals.result) c.self.view_is counts }
+
+pub invariant_of-self : goal.invariant_of-self
+invariant_of-self g c =
+    subst (λ (hs : List AnyAccount). IsShared (setup_view c.self.inside.setup) c.self.inside.left c.self.inside.desk hs) (sym c.recognize.ensures.book) c.self.invariant
