@@ -7,7 +7,7 @@ use thiserror::Error;
 #[derive(Debug, Clone, Copy, PartialEq, Eq, Error)]
 pub enum StartFault {
     /// It would have no pass, or more than [`MAX_THREADS`](crate::MAX_THREADS).
-    #[error("a service has 1 to 62 passes")]
+    #[error("a service has 1 to 64 passes")]
     BadPasses,
     /// The queue or the batch is 0.
     #[error("a queue and a batch have room for a span")]

@@ -12,7 +12,7 @@ mod worker;
 pub use fault::StartFault;
 pub use service::{MAX_THREADS, PassMissing, Served, Service, Started};
 pub use serving::{Done, serve};
-pub use threads::Work;
+pub use threads::{Room, ServicePass, Work, work_on_all};
 
 #[test]
 fn compiles() {}

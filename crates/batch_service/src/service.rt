@@ -15,8 +15,8 @@ use crate::thread::{self, Worked, WorkerThread};
 use crate::worker::Worker;
 use batch_desk::{Desk, Totals};
 use batch_processor::{
-    Accounts, BatchBlank, BatchConfig, BatchProcessor, Clock, Flushed, Naming, Parts, Pass,
-    SystemClock, WorkEnd, WorkerLeft,
+    Accounts, BatchBlank, BatchConfig, BatchProcessor, Clock, Flushed, MAX_PASSES, Naming, Parts,
+    Pass, SystemClock, WorkEnd, WorkerLeft,
 };
 use name_sink::NameSink;
 use rand::make_rng;
@@ -30,12 +30,11 @@ use std::sync::Wait;
 use std::thread::Threads;
 use std::{fmt, time};
 
-/// The most passes that a service may have. A processor has two more at most, which are the
-/// service's own.
-pub const MAX_THREADS: usize = 62;
+/// The most passes that a service may have, beside the two of its own (profile).
+pub const MAX_THREADS: usize = MAX_PASSES;
 
 // No clause says the number itself.
-const _: () = prove!(MAX_THREADS == 62);
+const _: () = prove!(MAX_THREADS == 64);
 
 /// A batch processor whose worker has a thread of its own (Trace SDK, "Batching processor"). One
 /// that is let go stops nothing: its thread works until the program ends. So a program calls
@@ -144,6 +143,15 @@ where
         ensures count { IfOk result (λ started. vec_len started.passes ≡ passes) }
         ensures passes { IfOk result
             (λ started. AllByRecursion (λ a. a ≡ new_account) started.passes.items) }
+        ensures bad_passes { IsErrOf result StartFault.BadPasses
+            → (passes ≡ 0) ⊎ (MAX_THREADS < passes) }
+        ensures good_passes { IfOk result (λ _. IsThreadCount passes) }
+        ensures zero_size { IsErrOf result StartFault.ZeroSize
+            → (config.desk.queue ≡ 0) ⊎ (config.desk.batch ≡ 0) }
+        ensures batch_above_queue { IsErrOf result StartFault.BatchAboveQueue
+            → config.desk.queue < config.desk.batch }
+        ensures too_large { IsErrOf result StartFault.TooLarge
+            → MAX_QUEUE < config.desk.queue }
     {
         let Ok(rng) = make_rng::<StdRng, R>(&rt) else {
             return Err(StartFault::NoRandomBytes);
@@ -196,7 +204,7 @@ where
             return Err(StartFault::BadPasses);
         }
         let now = clock.now();
-        let parts = BatchProcessor::<J, R>::new(alloc, rt, blank, config, passes + 2, now)?;
+        let parts = BatchProcessor::<J, R>::with_passes(alloc, rt, blank, config, passes + 2, now)?;
         let room = Vec::with_capacity(alloc, passes + 2)?;
         Service::with_parts(rt, parts, exporter, sink, room, passes, clock, rng)
     }

@@ -1,5 +1,6 @@
 //! A whole service: its threads, and what became of their spans.
-ghost use Rattle.std.specs.Prelude.{◌≡◌, IfOk};
+ghost use Rattle.std.specs.Prelude.{◌≡◌, ◌<◌, ◌↔◌, ◌⊎◌, IfOk, IsErrOf, vec_len};
+ghost use Rattle.batch_service.specs.declared.service.TheConstants.{MAX_THREADS};
 ghost use Rattle.batch_service.specs.Service.{EndsServed, new_service, origin_of};
 
 use crate::fault::StartFault;
@@ -40,10 +41,13 @@ where
     S: NameSink + Send + Drop + 'static,
     W: Work + Sync,
     W::Output: Send + Drop,
-    ensures { IfOk result (λ done. EndsServed threads
+    ensures served { IfOk result (λ done. EndsServed threads
         (new_service (origin_of config threads) (E.handed exporter) (S.named sink))
         done.served.desk (E.handed done.served.exporter) (S.named done.served.sink)
         done.served.end) }
+    ensures outputs { IfOk result (λ done. vec_len done.outputs ≡ threads) }
+    ensures bad_passes { IsErrOf result StartFault.BadPasses
+        ↔ ((threads ≡ 0) ⊎ (MAX_THREADS < threads)) }
 {
     let blank = BatchBlank::new();
     serve_as::<Brand, R, E, S, W>(rt, alloc, blank, exporter, sink, config, threads, work)
@@ -68,10 +72,13 @@ where
     W: Work + Sync,
     W::Output: Send + Drop,
     requires { blank ≡ J.name }
-    ensures { IfOk result (λ done. EndsServed threads
+    ensures served { IfOk result (λ done. EndsServed threads
         (new_service (origin_of config threads) (E.handed exporter) (S.named sink))
         done.served.desk (E.handed done.served.exporter) (S.named done.served.sink)
         done.served.end) }
+    ensures outputs { IfOk result (λ done. vec_len done.outputs ≡ threads) }
+    ensures bad_passes { IsErrOf result StartFault.BadPasses
+        ↔ ((threads ≡ 0) ⊎ (MAX_THREADS < threads)) }
 {
     if threads == 0 || threads > MAX_THREADS {
         return Err(StartFault::BadPasses);

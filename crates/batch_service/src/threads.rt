@@ -1,15 +1,61 @@
 //! Threads that each work on a pass of their own.
-ghost use Rattle.std.specs.Prelude.{◌≡◌, ◌≤◌, [], IfOk, IsSome, vec_capacity, vec_len};
+ghost use Rattle.std.specs.Prelude.{◌≡◌, ◌≤◌, [], IfOk, IsSome, Result, vec_capacity, vec_len};
 ghost use Rattle.std.specs.List.{AllByRecursion};
+ghost use Rattle.batch_desk.specs.declared.totals.Totals.{Totals};
+ghost use Rattle.batch_processor.specs.declared.fault.WorkerLeft.{WorkerLeft};
+ghost use Rattle.batch_processor.specs.declared.pass.Flushed.{Flushed};
 ghost use Rattle.batch_service.specs.Room.{IsRoomFor};
 
 use crate::service::MAX_THREADS;
-use batch_processor::{Naming, Pass};
+use batch_desk::Totals;
+use batch_processor::{Flushed, Naming, Pass, WorkerLeft};
 use otlp_span::SpanData;
 use std::alloc::{AllocError, Global};
 use std::sync::Wait;
 use std::thread::{self, Threads};
 use trace_api::EndPass;
+
+/// A thread's way to a service: its spans end on it, and it may ask the processor.
+pub trait ServicePass: EndPass<SpanData> {
+    /// What a flush may answer: the answer, this value before, and this value after.
+    ghost flushes: { Result Flushed WorkerLeft → Self → Self → Type 0 };
+
+    /// What the counts may be at this value.
+    ghost counts: { Totals → Self → Type 0 };
+
+    /// Waits until all spans that were accepted before, on any pass, are handed to the exporter
+    /// and settled, or dropped (Trace SDK, "ForceFlush").
+    ///
+    /// # Errors
+    ///
+    /// `WorkerLeft` where the worker has left, which a service's worker doesn't while its threads
+    /// work.
+    fn flush(&mut self) -> Result<Flushed, WorkerLeft>
+        ensures { flushes result self.old self.new };
+
+    /// The counts of all that came so far, on any pass, with what the worker did: as they are in
+    /// one hold of the lock.
+    fn totals(&mut self) -> Totals
+        ensures counts { counts result self.old }
+        ensures unchanged { self.new ≡ self.old };
+}
+
+impl<J: Naming, R: Wait> ServicePass for Pass<J, R> {
+    ghost use Rattle.batch_processor.specs.Answers.{IsFlushed};
+    ghost use Rattle.batch_processor.specs.Holds.{WasCounted};
+
+    ghost flushes = { IsFlushed };
+
+    ghost counts = { WasCounted };
+
+    fn flush(&mut self) -> Result<Flushed, WorkerLeft> {
+        self.force_flush()
+    }
+
+    fn totals(&mut self) -> Totals {
+        Pass::totals(self)
+    }
+}
 
 /// What each thread of a service does.
 pub trait Work {
@@ -17,19 +63,19 @@ pub trait Work {
     type Output;
 
     /// Does the work of the thread with this number, from 0 on. The thread's spans end on the pass.
-    fn work<P: EndPass<SpanData>>(&self, thread: usize, pass: &mut P) -> Self::Output;
+    fn work<P: ServicePass>(&self, thread: usize, pass: &mut P) -> Self::Output;
 }
 
 /// A thread's pass, and what its work gave, which isn't known before it is done.
 #[derive(Drop)]
-pub(crate) struct Lane<J: Naming, R, T> {
+pub struct Lane<J: Naming, R, T> {
     pass: Pass<J, R>,
     output: Option<T>,
 }
 
-/// Room for what threads need, taken before any of them begins.
+/// Room for what the threads of a service need, taken before any of them begins.
 #[derive(Drop)]
-pub(crate) struct Room<J: Naming, R, T> {
+pub struct Room<J: Naming, R, T> {
     lanes: Vec<Lane<J, R, T>>,
     passes: Vec<Pass<J, R>>,
     outputs: Vec<T>,
@@ -37,7 +83,11 @@ pub(crate) struct Room<J: Naming, R, T> {
 
 impl<J: Naming, R: Drop, T: Drop> Room<J, R, T> {
     /// Room for so many threads.
-    pub(crate) fn new(alloc: Global, threads: usize) -> Result<Room<J, R, T>, AllocError>
+    ///
+    /// # Errors
+    ///
+    /// `AllocError` where memory for it is refused.
+    pub fn new(alloc: Global, threads: usize) -> Result<Room<J, R, T>, AllocError>
         ensures { IfOk result (λ room. IsRoomFor threads room) }
     {
         Ok(Room {
@@ -50,8 +100,10 @@ impl<J: Naming, R: Drop, T: Drop> Room<J, R, T> {
 
 /// Does the work of each pass on a thread of its own, one of which is the caller's. Where a thread
 /// can't be made, the one that was to make it does its work too. Gives the passes back, and what
-/// the work gave.
-pub(crate) fn work_on_all<J, R, W>(
+/// the work gave, both in the order of the passes. A program that does more than one such work on
+/// the passes of a [`Service`](crate::Service), or something between two, calls this;
+/// [`serve`](crate::serve) does all at once.
+pub fn work_on_all<J, R, W>(
     rt: &R,
     room: Room<J, R, W::Output>,
     passes: Vec<Pass<J, R>>,

@@ -1,7 +1,7 @@
 //! What the tests' threads do, and what the services work with.
 use batch_desk::DeskConfig;
 use batch_processor::BatchConfig;
-use batch_service::Work;
+use batch_service::{ServicePass, Work};
 use name_sink::NewestNames;
 use otlp_sampler::AlwaysOn;
 use otlp_span::{Kind, Resource, Scope, SpanData, SpanLimits};
@@ -26,7 +26,7 @@ impl Work for Ends {
     /// where memory was refused.
     type Output = Option<(usize, u64, u64)>;
 
-    fn work<P: EndPass<SpanData>>(&self, thread: usize, pass: &mut P) -> Self::Output {
+    fn work<P: ServicePass>(&self, thread: usize, pass: &mut P) -> Self::Output {
         let (queued, dropped) = end_spans(self.alloc, self.spans, pass)?;
         Some((thread, queued, dropped))
     }

@@ -88,9 +88,9 @@ fn of_a_hundred_thousand_spans_each_is_handed_or_named(rt: HostRuntime) {
 }
 
 #[test]
-fn a_service_has_1_to_62_threads(rt: HostRuntime) {
+fn a_service_has_1_to_64_threads(rt: HostRuntime) {
     let alloc = rt.alloc();
-    for threads in [0, 63] {
+    for threads in [0, 65] {
         let (exporter, sink) = (answered(&rt, alloc, &[]), names(&rt, alloc, 1));
         let work = Ends { alloc, spans: 1 };
         let done = serve(rt, alloc, exporter, sink, config(&rt, 2, 1), threads, &work);
@@ -98,8 +98,8 @@ fn a_service_has_1_to_62_threads(rt: HostRuntime) {
     }
     let (exporter, sink) = (answered(&rt, alloc, &[]), names(&rt, alloc, 1));
     let work = Ends { alloc, spans: 1 };
-    let done = serve(rt, alloc, exporter, sink, config(&rt, 62, 1), 62, &work);
+    let done = serve(rt, alloc, exporter, sink, config(&rt, 64, 1), 64, &work);
     let Done { outputs, served } = done.expect(&rt, "a service");
-    assert_equal(&rt, outputs.len(), 62);
-    assert_equal(&rt, served.desk.totals().handed, 62);
+    assert_equal(&rt, outputs.len(), 64);
+    assert_equal(&rt, served.desk.totals().handed, 64);
 }
