@@ -5,7 +5,9 @@
 #![tactic(auto)]
 
 mod lent;
+mod request;
 mod span;
 
 pub use lent::{KeyValue, ToValue, ValueRef};
+pub use request::{LinkRef, SpanRequest, start_span};
 pub use span::SpanExt;
