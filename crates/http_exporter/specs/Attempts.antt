@@ -15,7 +15,7 @@ use Rattle.http_exporter.specs.declared.failure.Failure.{Failure}
 use Rattle.http_exporter.specs.declared.failure.Failure.TheVariants as failures
 use Rattle.http_exporter.specs.Failures.{failure_of, failure_after_a_stop, IsLast}
 
--- what a link shows: the bytes that it took and those that it has yet to give, where it tells them,
+-- what a link shows: the bytes that it took and those that it has yet to give, where it shows them,
 -- and how often a write and a read failed
 pub record Shown (Link : Type 0) : Type 0 where
   pub contents : Link → Option (List ℕ)

@@ -29,7 +29,7 @@ use std::fmt;
 use std::marker::Model;
 
 /// An exporter that posts each body to a target, over a link of its own, and goes by the reply
-/// (OTLP Specification, "OTLP/HTTP Request", "OTLP/HTTP Response"). It doesn't tell what it was
+/// (OTLP Specification, "OTLP/HTTP Request", "OTLP/HTTP Response"). It doesn't say what it was
 /// handed. In contracts it is an `Exporting`.
 #[derive(Drop)]
 pub struct LinkExporter<D, A: Allocator = Global> {

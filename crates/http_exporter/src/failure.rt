@@ -56,6 +56,13 @@ impl Message {
     {
         self.text.is_empty()
     }
+
+    /// The same text again. It takes no memory.
+    pub fn copy(&self) -> Message
+        ensures { result ≡ self.now }
+    {
+        Message { text: self.text }
+    }
 }
 
 /// Writes the text with a space in place of each control character, so that a terminal shows it and
@@ -103,6 +110,27 @@ pub enum Failure {
         /// Why it did.
         message: Message,
     },
+}
+
+impl Failure {
+    /// The same failure again. It takes no memory.
+    pub fn copy(&self) -> Failure
+        ensures { result ≡ self.now }
+    {
+        match self {
+            Failure::NoConnection => Failure::NoConnection,
+            Failure::WriteStopped => Failure::WriteStopped,
+            Failure::NoReply(fault) => Failure::NoReply(*fault),
+            Failure::Status { status, message } => Failure::Status {
+                status: *status,
+                message: message.copy(),
+            },
+            Failure::Partial { rejected, message } => Failure::Partial {
+                rejected: *rejected,
+                message: message.copy(),
+            },
+        }
+    }
 }
 
 /// Why there is no reply, for a person.

@@ -2,12 +2,13 @@
 
 use crate::tests::equal::assert_equal;
 use crate::tests::fixture::{bytes_of, joined, target, wire};
-use http_exporter::{Dial, Failure, LinkExporter};
+use http_exporter::{Dial, Failure, FailureWatch, LinkExporter, WatchedExporter};
 use otlp_http::{FailingCalls, FailingWire};
 use retry_core::{Outcome, RetryAfter};
 use span_exporter::Exporter;
 use std::alloc::{Allocator, Global};
 use std::process::Abort;
+use std::sync::Wait;
 use test_support::FailingAllocator;
 
 /// A reply that says that all was taken.
@@ -310,6 +311,30 @@ const REJECTED: &[(&[u8], Outcome, &str)] = &[
     ),
 ];
 
+/// Attempts one after the other, each with what comes of it and what a watch then shows: the last
+/// one is delivered, and leaves what was there.
+const WATCHED: &[(u32, Outcome, &str)] = &[
+    (1, Outcome::Delivered, "none"),
+    (2, Outcome::NoReply, "no connection to the collector"),
+    (
+        3,
+        Outcome::NoReply,
+        "no reply came in time, or it could not be read",
+    ),
+    (4, Outcome::NoReply, "the request could not be sent whole"),
+    (5, Outcome::Refused(400), "the collector answered 400: bad"),
+    (
+        6,
+        Outcome::Partial(2),
+        "the collector rejected 2 of the spans: x",
+    ),
+    (
+        7,
+        Outcome::Delivered,
+        "the collector rejected 2 of the spans: x",
+    ),
+];
+
 /// A link that gives `HTTP/1.1 ` and then these bytes.
 fn replies(rt: &impl Abort, alloc: Global, rest: &[u8]) -> Option<FailingWire> {
     let reply = joined(rt, alloc, b"HTTP/1.1 ", rest);
@@ -354,6 +379,40 @@ fn an_exporter_reports_why_it_got_no_reply(rt: HostRuntime) {
     let other = replies(&rt, alloc, b"hello\r\n");
     let text = "the reply has no head that can be read";
     assert_failure(&rt, alloc, other, Outcome::Bad, text);
+}
+
+/// What a watch shows, and `none` where it shows nothing.
+fn watched_text<R: Abort + Wait>(rt: &R, alloc: Global, watch: &FailureWatch) -> String {
+    let text = match &watch.last(rt) {
+        Some(failure) => format!(in alloc; "{failure}"),
+        None => format!(in alloc; "none"),
+    };
+    text.expect(rt, "memory")
+}
+
+#[test]
+fn a_watch_shows_what_the_last_attempt_met_that_failed(rt: HostRuntime) {
+    let alloc = rt.alloc();
+    let rejected = b"200 OK\r\n\r\n\x0a\x05\x08\x02\x12\x01x";
+    let links = vec![in alloc;
+        replies(&rt, alloc, b"200 OK\r\n\r\n"),
+        replies(&rt, alloc, rejected),
+        replies(&rt, alloc, b"400 Bad\r\n\r\nbad"),
+        Some(link(&rt, alloc, GOOD, FailingCalls::Once(0))),
+        Some(link(&rt, alloc, GOOD, FailingCalls::Once(1))),
+        None,
+        replies(&rt, alloc, b"200 OK\r\n\r\n"),
+    ];
+    let plain = exporter(&rt, alloc, alloc, links.expect(&rt, "memory"));
+    let made = WatchedExporter::new(alloc, rt, plain);
+    let (mut exporter, watch) = made.expect(&rt, "memory");
+    for (attempt, wanted, text) in WATCHED {
+        assert_attempt(&rt, &mut exporter, *attempt, *wanted);
+        let found = watched_text(&rt, alloc, &watch);
+        assert_equal(&rt, found.as_str(), *text);
+        let kept = failure_text(&rt, alloc, exporter.exporter());
+        assert_equal(&rt, kept.as_str(), *text);
+    }
 }
 
 /// What comes of an attempt that is refused with a text where this call for memory is refused, what
