@@ -5,6 +5,7 @@ use Rattle.std.specs.Prelude.{Option, Some, None, if◌then◌else◌, nat_le, o
 use Rattle.std.specs.Prelude.{string_bytes}
 use Rattle.std.specs.List.{list_all, slice_split}
 use Rattle.httparse.specs.Grammar.{is_token, trim_ows}
+use Rattle.script_words.specs.Parts.{around_first}
 use Rattle.script_words.specs.Words.{◌>>=◌, bytes_of, each_of, utf8_of}
 
 -- a key and its value, in UTF-8
@@ -31,15 +32,10 @@ pair_of key value =
     if is_token key && list_all is_value_byte value
     then decoded key >>= (λ k. option_map (λ v. (k, v)) (decoded value)) else None
 
--- what is before the first `=` (61), and what comes after it, if there is one
-abbrev pub around_equals : List ℕ → Option (List ℕ × List ℕ)
-around_equals member =
-    option_map (λ i. (take i member, drop (i + 1) member)) (position (λ b. b == 61) member)
-
--- a member of the list, with any spaces and tabs around its key and its value (W3C Baggage,
--- list-member)
+-- a member of the list: what is around its first `=` (61), with any spaces and tabs around its key
+-- and its value (W3C Baggage, list-member)
 unfoldable pub member_of : List ℕ → Option Pair
-member_of member = around_equals member >>= λ parts. pair_of (trim_ows parts.0) (trim_ows parts.1)
+member_of member = around_first 61 member >>= λ parts. pair_of (trim_ows parts.0) (trim_ows parts.1)
 
 -- the members between commas (44), if each of them is a pair (Resource SDK: on an error, none)
 unfoldable pub pairs_of : List ℕ → Option (List Pair)

@@ -8,7 +8,6 @@
 #![tactic(auto)]
 
 mod attributes;
-mod blanks;
 mod fault;
 mod pairs;
 

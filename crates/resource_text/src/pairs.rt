@@ -7,10 +7,9 @@ ghost use Rattle.script_words.specs.Words.{Gives, each_of};
 ghost use Rattle.resource_text.specs.Pairs as spec;
 ghost use Rattle.resource_text.specs.Pairs.{pair_view, pairs_view};
 
-use crate::blanks::trimmed;
 use crate::fault::ResourceFault;
 use httparse::is_token;
-use script_words::{WordFault, parts_of, text};
+use script_words::{WordFault, around_first, parts_of, text, trimmed};
 use std::alloc::Allocator;
 
 /// Whether a byte may be in a value.
@@ -27,14 +26,6 @@ fn are_value_bytes(bytes: &[u8]) -> bool
     ensures { result ≡ list_all spec.is_value_byte bytes.now }
 {
     bytes.iter().all(|byte| is_value_byte(*byte))
-}
-
-/// What comes before the first `=`, and what comes after it.
-fn around_equals(member: &[u8]) -> Option<(&[u8], &[u8])>
-    ensures { option_map (λ p. (p.0.now, p.1.now)) result ≡ spec.around_equals member.now }
-{
-    let equals = member.iter().position(|byte| *byte == b'=')?;
-    Some((&member[..equals], &member[equals + 1..]))
 }
 
 /// The text that a key or a value spells.
@@ -74,7 +65,7 @@ fn read_member<A: Allocator + Copy>(
 ) -> Result<(String<A>, String<A>), WordFault>
     ensures { Gives pair_view result (spec.member_of member.now) }
 {
-    let Some((key, value)) = around_equals(member) else {
+    let Some((key, value)) = around_first(b'=', member) else {
         return Err(WordFault::Bad);
     };
     read_pair(alloc, trimmed(key), trimmed(value))

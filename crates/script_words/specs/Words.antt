@@ -1,4 +1,4 @@
--- What the words of a line stand for: a word is a list of bytes without a space.
+-- What the words of a line mean: a word is a list of bytes without a space.
 use Rattle.std.specs.Prelude.{◌≡◌, ◌≢◌, ◌⊎◌, ◌↔◌, ◌<◌, ◌++◌, ℕ, ◌+◌, ◌-◌, ◌*◌, ◌^◌, ◌==◌, ◌&&◌}
 use Rattle.std.specs.Prelude.{nat_lt, ℤ, pos, neg_ℤ, List, [], ◌∷◌, length, take, drop, position}
 use Rattle.std.specs.Prelude.{Bool, false, if◌then◌else◌, Option, Some, None, option_map, bytes_eq}
@@ -104,11 +104,6 @@ first_byte_of (c ∷ d ∷ e ∷ rest) =
     if c == 37 then option_map (λ b. (b, rest)) (hex_byte d e) else Some (c, d ∷ e ∷ rest)
 
 -- ---- parts of a word
-
--- what is in front of the first colon (58), and what comes after it, if there is one
-abbrev pub around_colon_of : List ℕ → Option (List ℕ × List ℕ)
-around_colon_of word =
-    option_map (λ i. (take i word, drop (i + 1) word)) (position (λ b. b == 58) word)
 
 -- ---- how a text is spelled
 

@@ -8,15 +8,17 @@
 //! stand for themselves, and the whole is UTF-8.
 #![tactic(auto)]
 
+mod parts;
+
 ghost use Rattle.std.specs.Prelude.{◌≡◌, ◌^◌, ◌==◌, map, IfOk, option_map, ok_or, string_bytes};
 ghost use Rattle.script_words.specs.Words.{Gives, each_of, number_below, signed_number, hex_word};
-ghost use Rattle.script_words.specs.Words.{hex_byte, byte_of, around_colon_of, first_byte_of};
+ghost use Rattle.script_words.specs.Words.{hex_byte, byte_of, first_byte_of};
 ghost use Rattle.script_words.specs.Words.{bytes_of, utf8_of, text_of, TextsAreSpelled};
-ghost use Rattle.std.specs.List.{slice_split};
 ghost use Rattle.std.specs.Str.{all_ascii_digits};
 ghost use Rattle.script_words.specs.declared.WordFault.TheVariants.{Bad, OutOfMemory};
 
 use hex::FromHex;
+pub use parts::{around_first, parts_of, trimmed};
 use std::alloc::{AllocError, AllocFailed, Allocator};
 use std::str;
 use thiserror::Error;
@@ -54,23 +56,6 @@ impl<T: Drop> From<AllocFailed<T>> for WordFault {
     fn from(_: AllocFailed<T>) -> WordFault {
         WordFault::OutOfMemory
     }
-}
-
-/// The parts between the bytes that are `separator`: one more than there are such bytes. A part may
-/// be empty.
-///
-/// # Errors
-///
-/// `AllocError` where memory for the list was refused.
-pub fn parts_of<A: Allocator>(
-    alloc: A,
-    bytes: &[u8],
-    separator: u8,
-) -> Result<Vec<&[u8], A>, AllocError>
-    ensures { IfOk result
-        (λ parts. map (λ p. p.now) parts.items ≡ slice_split (λ b. b == separator) bytes.now) }
-{
-    bytes.split(|byte| *byte == separator).collect(alloc)
 }
 
 /// Whether there are decimal digits alone.
@@ -174,15 +159,6 @@ pub fn byte(word: &[u8]) -> Result<u8, WordFault>
         [high, low] => escaped_byte(*high, *low).ok_or(WordFault::Bad),
         _ => Err(WordFault::Bad),
     }
-}
-
-/// What is in front of the first colon of a word, and what comes after it; `None` where there
-/// is no colon.
-pub fn around_colon(word: &[u8]) -> Option<(&[u8], &[u8])>
-    ensures { option_map (λ p. (p.0.now, p.1.now)) result ≡ around_colon_of word.now }
-{
-    let colon = word.iter().position(|byte| *byte == b':')?;
-    Some((&word[..colon], &word[colon + 1..]))
 }
 
 /// The first byte that a word spells, and the word after its spelling.

@@ -4,7 +4,7 @@ use Rattle.std.specs.Prelude.{option_map, bytes_eq, codes}
 use Rattle.model_span.specs.Spans.{Context}
 use Rattle.model_run.specs.Steps.{Parent, root, numbered, given}
 use Rattle.script_words.specs.Words.{◌>>=◌, number_below, hex_bytes, byte_of, text_of}
-use Rattle.script_words.specs.Words.{around_colon_of}
+use Rattle.script_words.specs.Parts.{around_first}
 
 -- ---- what words spell
 
@@ -20,9 +20,9 @@ context_of remote trace span flags state = do
 -- `TRACE:SPAN:FLAGS:STATE`, in which all after the third colon is the state
 unfoldable pub joined_context_of : Bool → List ℕ → Option Context
 joined_context_of remote word = do
-  trace ← around_colon_of word
-  span ← around_colon_of trace.1
-  flags ← around_colon_of span.1
+  trace ← around_first 58 word
+  span ← around_first 58 trace.1
+  flags ← around_first 58 span.1
   context_of remote trace.0 span.0 flags.0 flags.1
 
 -- whether the context after `remote:` or `local:` is remote (Trace API, IsRemote)
@@ -49,4 +49,4 @@ parent_at word (Some (side, context)) = given_of side context
 
 -- the parent that a word spells
 unfoldable pub parent_of : List ℕ → Option Parent
-parent_of word = parent_at word (around_colon_of word)
+parent_of word = parent_at word (around_first 58 word)

@@ -34,7 +34,7 @@ Parses (Ok c) read = (s : Script) × (read ≡ Ok s) × Means c s
 Parses (Err (BadLine n)) read = read ≡ Err n
 Parses (Err OutOfMemory) read = Unit {0}
 
--- the line that an error tells of is there
+-- the line that an error names is there
 abbrev pub TellsLine : List ℕ → ScriptError → Type 0
 TellsLine text (BadLine n) = IsLine text n
 TellsLine text OutOfMemory = Unit {0}

@@ -123,8 +123,8 @@ on_scopes_before n (scope_attribute number p ∷ lines) =
 on_scopes_before n (_ ∷ lines) = on_scopes_before n lines
 
 -- Settings come before steps, the sampler, the limits, the desk and the greatest body are set once
--- at most, scopes are numbered from 0 in their order, and attributes are set on scopes that stand
--- before them.
+-- at most, scopes are numbered from 0 in their order, and attributes are set on scopes that
+-- come before them.
 abbrev pub is_script : List Line → Bool
 is_script lines =
     settings_first lines

@@ -9,7 +9,7 @@ ghost use Rattle.span_script.specs.Contexts.{parent_of, plain_parent_of};
 ghost use Rattle.script_words.specs.declared.WordFault.TheVariants.{Bad};
 
 use otlp_ids::{SpanContext, SpanId, TraceFlags, TraceId};
-use script_words::{WordFault, around_colon, byte, small_number, text};
+use script_words::{WordFault, around_first, byte, small_number, text};
 use std::alloc::Allocator;
 use std::str;
 use trace_history::Parent;
@@ -20,7 +20,7 @@ use trace_history::Parent;
 pub(crate) fn parse_parent<A: Allocator>(alloc: A, word: &[u8]) -> Result<Parent<A>, WordFault>
     ensures { Gives parent_name_view result (parent_of word.now) }
 {
-    match around_colon(word) {
+    match around_first(b':', word) {
         Some((side, context)) => parse_given(alloc, side, context),
         None => parse_plain_parent(word),
     }
@@ -67,9 +67,9 @@ fn parse_joined_context<A: Allocator>(
 ) -> Result<SpanContext<A>, WordFault>
     ensures { Gives context_view result (joined_context_of remote word.now) }
 {
-    let (trace, rest) = around_colon(word).ok_or(WordFault::Bad)?;
-    let (span, rest) = around_colon(rest).ok_or(WordFault::Bad)?;
-    let (flags, state) = around_colon(rest).ok_or(WordFault::Bad)?;
+    let (trace, rest) = around_first(b':', word).ok_or(WordFault::Bad)?;
+    let (span, rest) = around_first(b':', rest).ok_or(WordFault::Bad)?;
+    let (flags, state) = around_first(b':', rest).ok_or(WordFault::Bad)?;
     parse_context(alloc, remote, trace, span, flags, state)
 }
 

@@ -1,6 +1,6 @@
 use Rattle.std.proofs.Common.{◌≡◌, length}
 use Rattle.httparse.specs.Grammar.{skip_ows}
-use Rattle.resource_text.proofs.blanks.without_front_blanks.Given as goal
+use Rattle.script_words.proofs.parts.without_front_blanks.Given as goal
 
 -- what was left out is blank
 abbrev pub invariant-loop-rest : goal.invariant-loop-rest

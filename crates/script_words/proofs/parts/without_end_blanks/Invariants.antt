@@ -1,6 +1,6 @@
 use Rattle.std.proofs.Common.{◌≡◌, length}
-use Rattle.resource_text.specs.Blanks.{without_end_blanks}
-use Rattle.resource_text.proofs.blanks.without_end_blanks.Given as goal
+use Rattle.script_words.specs.Parts.{without_end_blanks}
+use Rattle.script_words.proofs.parts.without_end_blanks.Given as goal
 
 -- what was left out is blank
 abbrev pub invariant-loop-rest : goal.invariant-loop-rest
