@@ -9,7 +9,7 @@ use Rattle.http_wire.specs.Chunks.{IsChunkedBody}
 abbrev pub AreChunks : HeadLimits → List ℕ → List ℕ → Result (List ℕ) HttpFault → Type 0
 AreChunks limits bytes left answer = IsChunkedBody limits bytes (Some left) ⊥ answer
 
--- heads of a reply and of a request that tell of chunks
+-- heads of a reply and of a request that announce chunks
 abbrev pub coded_reply : List ℕ
 coded_reply = codes "HTTP/1.1 200 OK\r\nTransfer-Encoding: chunked\r\n\r\n"
 

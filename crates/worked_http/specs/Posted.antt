@@ -15,7 +15,7 @@ ArePost bytes left post = IsPost usual (Some bytes) (Some left) ⊥ post
 abbrev pub AreNoPost : HeadLimits → List ℕ → List ℕ → PostFault → Type 0
 AreNoPost limits bytes left fault = HasNoPost limits (Some bytes) (Some left) ⊥ fault
 
--- a request's head that tells of three bytes
+-- a request's head that announces three bytes
 abbrev pub three_bytes : List ℕ
 three_bytes = codes "PUT / HTTP/1.1\r\nContent-Length: 3\r\n\r\n"
 

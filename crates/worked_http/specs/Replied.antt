@@ -28,6 +28,6 @@ two_rejected = 10 ∷ 5 ∷ 8 ∷ 2 ∷ 18 ∷ 1 ∷ 120 ∷ []
 abbrev pub continue : List ℕ
 continue = codes "HTTP/1.1 100 Continue\r\n\r\n"
 
--- a reply's head that tells of seven bytes
+-- a reply's head that announces seven bytes
 abbrev pub seven_bytes : List ℕ
 seven_bytes = codes "HTTP/1.1 200 OK\r\nContent-Length: 7\r\n\r\n"

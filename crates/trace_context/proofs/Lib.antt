@@ -1,0 +1,5 @@
+pub mod Added
+pub mod Carried
+pub mod Lists
+pub mod ReadBack
+pub mod Texts
