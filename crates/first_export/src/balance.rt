@@ -1,5 +1,9 @@
 //! What became of spans and of the batches that they went out in.
+use anyhow::Result;
 use std::io::{self, Write};
+use std::process::ExitCode;
+use trace_kit::http::HttpExporter;
+use trace_kit::processor::Served;
 use trace_kit::queue::{DropCounts, FateCounts, Totals};
 
 /// How many spans were dropped, for whatever reason.
@@ -18,7 +22,7 @@ fn write_count<W: Write>(output: &mut W, name: &str, count: u64) -> io::Result<(
 
 /// Writes how many spans were handed to the exporter, and how many of them are lost, how many were
 /// dropped or are left, and how the batches ended.
-pub fn write_balance<W: Write>(output: &mut W, totals: Totals) -> io::Result<()> {
+fn write_counts<W: Write>(output: &mut W, totals: Totals) -> io::Result<()> {
     let fates = totals.fates;
     write_count(output, "spans handed", totals.handed)?;
     write_count(output, "spans lost", totals.lost)?;
@@ -32,7 +36,7 @@ pub fn write_balance<W: Write>(output: &mut W, totals: Totals) -> io::Result<()>
 }
 
 /// Whether each batch was delivered, and there was one.
-pub fn is_delivered(fates: FateCounts) -> bool {
+fn is_delivered(fates: FateCounts) -> bool {
     let by_reply = fates.refused.saturating_add(fates.bad_reply);
     let unsent = fates.given_up.saturating_add(fates.abandoned);
     let failed = fates
@@ -40,4 +44,22 @@ pub fn is_delivered(fates: FateCounts) -> bool {
         .saturating_add(by_reply)
         .saturating_add(unsent);
     fates.delivered > 0 && failed == 0
+}
+
+/// Writes what became of spans and batches, and what the last attempt met that failed. The answer
+/// is the program's status: whether all was delivered.
+pub fn write_balance<W: Write, R, S>(
+    output: &mut W,
+    served: &Served<HttpExporter<R>, S>,
+) -> Result<ExitCode> {
+    let totals = served.desk.totals();
+    write_counts(output, totals)?;
+    if let Some(failure) = served.exporter.last_failure() {
+        writeln!(output, "last failure: {failure}")?;
+    }
+    Ok(if is_delivered(totals.fates) {
+        ExitCode::SUCCESS
+    } else {
+        ExitCode::FAILURE
+    })
 }

@@ -1,14 +1,14 @@
 //! A request for a cart, and the query that it makes.
 use anyhow::Result;
+use rand::make_rng;
 use rand::rngs::StdRng;
-use rand::{Rng, make_rng};
 use std::alloc::Global;
 use std::random::RandomSource;
 use std::sync::Arc;
 use std::time;
-use trace_kit::processor::{Clock, SystemClock, Work};
+use trace_kit::processor::{Clock, ServicePass, SystemClock, Work};
 use trace_kit::trace::{
-    AlwaysOn, EndPass, Kind, Provider, Resource, Scope, SpanData, SpanLimits, Tracer, Value,
+    AlwaysOn, Kind, Provider, Resource, Scope, SpanExt, SpanLimits, SpanRequest, Value, start_span,
 };
 
 /// Traces a request for a cart.
@@ -21,33 +21,28 @@ pub struct Cart<R> {
 impl<R: RandomSource + time::Clock + Copy> Work for Cart<R> {
     type Output = Result<()>;
 
-    /// Traces the request by a provider of its own.
-    fn work<P: EndPass<SpanData>>(&self, _thread: usize, pass: &mut P) -> Result<()> {
-        let alloc = self.alloc;
+    fn work<P: ServicePass>(&self, _thread: usize, pass: &mut P) -> Result<()> {
+        let (alloc, clock) = (self.alloc, SystemClock::new(self.rt));
         let mut rng: StdRng = make_rng(&self.rt)?;
         let provider = Provider::new(AlwaysOn, shop(alloc)?, SpanLimits::default());
-        let scope = Arc::new(alloc, Scope::named(alloc, "checkout")?)?;
-        let clock = SystemClock::new(self.rt);
-        trace_cart(alloc, &clock, &mut rng, &provider.tracer(scope), pass)
-    }
-}
+        let tracer = provider.tracer(Arc::new(alloc, Scope::named(alloc, "checkout")?)?);
 
-/// Traces a request for a cart and the query that it makes.
-fn trace_cart<P: EndPass<SpanData>>(
-    alloc: Global,
-    clock: &impl Clock,
-    rng: &mut impl Rng,
-    tracer: &Tracer<'_, AlwaysOn>,
-    pass: &mut P,
-) -> Result<()> {
-    let (kind, at) = (Kind::Server, clock.now());
-    let mut request = tracer.start_copied(alloc, rng, None, "GET /cart", kind, at)?;
-    let (kind, at) = (Kind::Client, clock.now());
-    let parent = Some(request.context());
-    let mut query = tracer.start_copied(alloc, rng, parent, "SELECT", kind, at)?;
-    query.end(pass, clock.now());
-    request.end(pass, clock.now());
-    Ok(())
+        let start = SpanRequest {
+            kind: Kind::Server,
+            ..SpanRequest::named("GET /cart")
+        };
+        let mut request = start_span(&tracer, alloc, &mut rng, &start, clock.now())?;
+        let start = SpanRequest {
+            kind: Kind::Client,
+            parent: Some(request.context()),
+            ..SpanRequest::named("SELECT")
+        };
+        let mut query = start_span(&tracer, alloc, &mut rng, &start, clock.now())?;
+        query.set("db.rows", 3)?;
+        query.end(pass, clock.now());
+        request.end(pass, clock.now());
+        Ok(())
+    }
 }
 
 /// The resource of a shop's service: what makes the spans.

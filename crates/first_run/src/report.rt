@@ -3,7 +3,7 @@ use anyhow::{Context, Result, ensure};
 use otlp_read::{Request, Span, read_request};
 use std::alloc::Global;
 use std::io::{self, Write};
-use trace_kit::queue::{Desk, DropCounts, Entry, Ledger, Totals};
+use trace_kit::queue::{DropCounts, Entry, NewestNames, Totals};
 use trace_tree::{TreeSpan, arrange, write_tree};
 
 /// How many columns a bar has at most.
@@ -108,11 +108,20 @@ fn write_sum<W: Write>(output: &mut W, ended: u64, totals: Totals) -> Result<()>
     Ok(writeln!(output, "\n")?)
 }
 
-/// Writes the names of spans that weren't delivered, each with the reason.
-fn write_names<W: Write>(output: &mut W, names: &Ledger) -> io::Result<()> {
-    for entry in names.iter() {
-        let (trace, span, reason) = (entry.trace, entry.span, entry.reason);
-        writeln!(output, "  trace {trace}  span {span}  {reason}")?;
+/// Writes the name of a span that wasn't delivered, with the reason.
+fn write_name<W: Write>(output: &mut W, name: &Entry) -> io::Result<()> {
+    let (trace, span, reason) = (name.trace, name.span, name.reason);
+    writeln!(output, "  trace {trace}  span {span}  {reason}")
+}
+
+/// Writes the names of spans that weren't delivered: of those that were dropped, then of those that
+/// were lost.
+fn write_names<W: Write>(output: &mut W, names: &NewestNames) -> io::Result<()> {
+    for name in names.dropped() {
+        write_name(output, name)?;
+    }
+    for name in names.lost() {
+        write_name(output, name)?;
     }
     Ok(())
 }
@@ -128,23 +137,23 @@ fn write_retry<W: Write>(output: &mut W, bodies: &[Vec<u8>]) -> Result<()> {
     Ok(())
 }
 
-/// Writes all: of so many spans that ended, by what the processor came to and the bodies that the
-/// collector has.
+/// Writes all: of so many spans that ended, by the service's counts and names and by the bodies
+/// that the collector has.
 pub fn write_report<W: Write>(
     output: &mut W,
     alloc: Global,
     ended: u64,
-    desk: &Desk,
+    totals: Totals,
+    names: &NewestNames,
     bodies: &[Vec<u8>],
 ) -> Result<()> {
     write_trace(output, alloc, bodies)?;
-    write_sum(output, ended, desk.totals())?;
+    write_sum(output, ended, totals)?;
     writeln!(
         output,
         "Each span that was not delivered is named, with the reason:"
     )?;
-    write_names(output, desk.ledger())?;
-    write_names(output, desk.lost())?;
+    write_names(output, names)?;
     write_retry(output, bodies)?;
     writeln!(
         output,

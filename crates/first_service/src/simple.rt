@@ -1,4 +1,4 @@
-//! A service of four threads over a simple processor.
+//! A program over a simple processor, with a pass for each of four parts of it.
 //!
 //! It encodes each span at its end and hands it over at once, and its lock is held until the
 //! exporter has answered: every other thread whose span ends meanwhile waits. So it is for tests,
@@ -8,26 +8,25 @@ ghost use Rattle.std.specs.Prelude.{◌≡◌};
 use crate::balance::write_balance;
 use crate::names::write_name;
 use crate::requests::serve;
-use crate::threads::serve_all;
 use anyhow::{Context, Result};
 use std::alloc::Global;
 use std::io::{self, Write};
 use std::random::RandomSource;
 use std::sync::Wait;
-use std::thread::Threads;
 use std::time;
 use trace_kit::export::{DEFAULT_MAX_BODY, MemoryExporter, Outcome};
 use trace_kit::processor::{
     Naming, SimpleAccounts, SimpleBlank, SimpleParts, SimplePass, SimpleProcessor,
 };
 
-const THREADS: usize = 4;
+/// How many parts the program has. Each could have a thread of its own.
+const PARTS: usize = 4;
 
-/// How many requests each thread serves.
+/// How many requests each part serves.
 const REQUESTS: u64 = 25;
 
 /// How many spans end before the shutdown.
-const SPANS: u64 = THREADS as u64 * REQUESTS;
+const SPANS: u64 = PARTS as u64 * REQUESTS;
 
 /// Takes the names of lost spans out of the ledger, and writes them.
 fn write_lost<J, R, W>(
@@ -48,7 +47,7 @@ where
     Ok(())
 }
 
-/// What becomes of the spans: those of the threads, of which the first is refused and the second
+/// What becomes of the spans: those of the parts, of which the first is refused and the second
 /// has no reply, and one of each pass that ends after a shutdown. It writes the names of those that
 /// are lost.
 fn accounts_of<J, R, W: Write>(
@@ -58,8 +57,8 @@ fn accounts_of<J, R, W: Write>(
     output: &mut W,
 ) -> Result<SimpleAccounts<MemoryExporter>>
 where
-    J: Naming + Send + Sync + 'static,
-    R: Threads + Wait + RandomSource + time::Clock + Copy + Send + Sync + 'static,
+    J: Naming,
+    R: Wait + RandomSource + time::Clock + Copy + Drop,
     requires { blank ≡ J.name }
 {
     let outcomes = vec![in alloc; Outcome::Refused(400), Outcome::NoReply]?;
@@ -69,11 +68,16 @@ where
         rt,
         blank,
         exporter,
-        THREADS,
+        PARTS,
         DEFAULT_MAX_BODY,
     )?;
-    let SimpleParts { processor, passes } = parts;
-    let mut passes = serve_all(rt, alloc, REQUESTS, passes)?;
+    let SimpleParts {
+        processor,
+        mut passes,
+    } = parts;
+    for pass in &mut passes {
+        serve(&rt, alloc, REQUESTS, pass)?;
+    }
     for pass in &mut passes {
         write_lost(pass, output)?;
         pass.shutdown();
@@ -85,7 +89,7 @@ where
         .context("a pass is missing")
 }
 
-/// Serves requests on threads, and writes what became of their spans.
+/// Serves requests, and writes what became of their spans.
 pub fn write_accounts<J, R, W: Write>(
     rt: R,
     alloc: Global,
@@ -93,8 +97,8 @@ pub fn write_accounts<J, R, W: Write>(
     output: &mut W,
 ) -> Result<()>
 where
-    J: Naming + Send + Sync + 'static,
-    R: Threads + Wait + RandomSource + time::Clock + Copy + Send + Sync + 'static,
+    J: Naming,
+    R: Wait + RandomSource + time::Clock + Copy + Drop,
     requires { blank ≡ J.name }
 {
     let accounts = accounts_of::<J, R, W>(rt, alloc, blank, output)?;

@@ -3,6 +3,3 @@ use Rattle.first_service.proofs.main.Given as goal
 -- the type that stands for a processor's name has the blank's
 abbrev pub ghosts-write_accounts : goal.ghosts-write_accounts
 ghosts-write_accounts g a = record { name = a.blank }
-
-abbrev pub ghosts-run : goal.ghosts-run
-ghosts-run g a = record { name = a.blank }
