@@ -8,6 +8,7 @@ use otlp_value::Value;
 use rand::make_rng;
 use rand::rngs::StdRng;
 use rand_core::Rng;
+use span_ext::SpanExt;
 use std::alloc::Global;
 use std::random::RandomSource;
 use std::sync::Arc;
@@ -22,7 +23,7 @@ const START: u64 = 1_700_000_000_000_000_000;
 const END: u64 = START + 1_000_000;
 
 /// Attributes that a span may have.
-const ATTRIBUTES: [(&str, &str); 5] = [
+pub const ATTRIBUTES: [(&str, &str); 5] = [
     ("http.request.method", "GET"),
     ("url.path", "/cart"),
     ("server.address", "shop.example"),
@@ -106,9 +107,17 @@ impl Times {
 }
 
 /// Sets the first attributes of a span.
-fn set_attributes(alloc: Global, span: &mut Span, count: usize) -> Result<(), OutOfMemory> {
+pub fn set_attributes(alloc: Global, span: &mut Span, count: usize) -> Result<(), OutOfMemory> {
     for (key, text) in ATTRIBUTES.iter().take(count) {
         span.set_attribute(key.to_string(alloc)?, Value::text(alloc, text)?)?;
+    }
+    Ok(())
+}
+
+/// The same by calls that copy what they are lent.
+pub fn set_lent(span: &mut Span, count: usize) -> Result<(), OutOfMemory> {
+    for (key, text) in ATTRIBUTES.iter().take(count) {
+        span.set(key, *text)?;
     }
     Ok(())
 }
@@ -174,14 +183,31 @@ where
     Ok(times)
 }
 
+/// The provider of a thread's spans.
+fn new_provider(alloc: Global) -> Result<Provider<AlwaysOn>> {
+    let resource = Arc::new(alloc, Resource::new(alloc, Vec::new(alloc)))?;
+    Ok(Provider::new(AlwaysOn, resource, SpanLimits::default()))
+}
+
 /// Starts and ends spans, with a provider and a generator of its own.
 pub fn end_spans<R, P>(rt: &R, alloc: Global, load: Load, pass: &mut P) -> Result<Times>
 where
     R: RandomSource + Clock,
     P: EndPass<SpanData>,
 {
-    let resource = Arc::new(alloc, Resource::new(alloc, Vec::new(alloc)))?;
-    let provider = Provider::new(AlwaysOn, resource, SpanLimits::default());
+    let provider = new_provider(alloc)?;
     let tracer = provider.tracer(Arc::new(alloc, Scope::named(alloc, "checkout")?)?);
     run_load(rt, alloc, load, &tracer, pass)
+}
+
+/// Starts so many spans without attributes.
+pub fn start_spans<R: RandomSource>(rt: &R, alloc: Global, count: usize) -> Result<Vec<Span>> {
+    let provider = new_provider(alloc)?;
+    let tracer = provider.tracer(Arc::new(alloc, Scope::named(alloc, "checkout")?)?);
+    let mut rng: StdRng = make_rng(rt)?;
+    let mut spans = Vec::new(alloc);
+    for _span in 0..count {
+        spans.push(start_span(alloc, &mut rng, &tracer, 0)?)?;
+    }
+    Ok(spans)
 }

@@ -1,23 +1,27 @@
-//! Threads end spans on passes of a batch processor whose exporter lets its batches go; prints what
-//! became of the spans, how many bytes bodies of 512 spans have, over 1, 8 and 64 scopes, without
+//! Threads end spans on passes of a service whose exporter lets its batches go; prints what became
+//! of the spans, how many bytes bodies of 512 spans have, over 1, 8 and 64 scopes, without
 //! and with attributes, and the memory that requests take.
 //!
 //! With the argument `measure` it prints how long spans take instead, in nanoseconds: the time of a
 //! thread for each span, and of ends the middle one, the one that a thousandth took longer than,
-//! and the longest; beside them a desk behind a plain mutex, how long its lock is held round what
+//! and the longest; beside them a desk under a plain mutex, how long its lock is held round what
 //! is done with whole batches, what spans take that find a queue full, the processor time of an
-//! idle worker, and a ring of items beside a deque.
+//! idle worker, a ring of items beside a deque, and the calls that set an attribute. It prints too
+//! how many spans are delivered in a second by a service that posts them over loopback.
 //!
 //! With a number of rounds as its argument it prints of the bodies how long a span takes, in
 //! nanoseconds: to be grouped, to be encoded, as a part of a body that is copied, and to be read;
 //! and the same of 5,120 and 51,200 spans, and of empty resources.
 #![tactic(auto)]
 
+mod calls;
+mod collector;
 mod counting;
 mod encoding;
 mod figures;
 mod load;
 mod plain;
+mod posts;
 mod rings;
 mod rows;
 mod tables;

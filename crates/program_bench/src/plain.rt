@@ -1,4 +1,4 @@
-//! A desk behind a plain mutex, without a worker.
+//! A desk under a plain mutex, without a worker.
 use anyhow::{Context, Result};
 use batch_desk::{Admitted, Desk, DeskConfig};
 use batch_processor::Clock;
@@ -46,7 +46,7 @@ fn time_dropped(desk: &mut Desk, clock: &impl Clock) -> Option<u64> {
     Some(dropped.saturating_sub(emptied))
 }
 
-/// What spans go to at their end: a desk behind a mutex.
+/// What spans go to at their end: a desk under a mutex.
 #[derive(Drop)]
 pub struct PlainPass<R> {
     desk: Mutex<Desk>,

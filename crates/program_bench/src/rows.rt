@@ -1,6 +1,7 @@
 //! Lines of what was measured.
 use crate::figures::{Row, Spread};
 use crate::load::Load;
+use crate::posts::Posts;
 use crate::rings::Took;
 use crate::threads::Counts;
 use std::io::{self, Write};
@@ -44,7 +45,7 @@ pub fn write_row<W: Write>(output: &mut W, row: Row) -> io::Result<()> {
     writeln!(output, "{} handed, {} dropped", row.handed, row.dropped)
 }
 
-/// Writes what spans took into a desk behind a plain mutex, and with its batches taken and settled.
+/// Writes what spans took into a desk under a plain mutex, and with its batches taken and settled.
 pub fn write_plain<W: Write>(output: &mut W, load: Load, span: u64, whole: u64) -> io::Result<()> {
     let how = how_of(load);
     let (spans, attributes) = (load.spans, load.attributes);
@@ -92,5 +93,27 @@ pub fn write_refused<W: Write>(
     writeln!(
         output,
         "{items} items find a ring full: {nanos} ns ({refused})"
+    )
+}
+
+/// Writes how many spans were delivered in a second, and what became of all.
+pub fn write_posts<W: Write>(output: &mut W, posts: Posts) -> io::Result<()> {
+    let (rate, ended, unnamed) = (posts.a_second, posts.ended, posts.unnamed());
+    let counts = posts.counts;
+    let (handed, lost) = (counts.handed, counts.lost);
+    let (dropped, left) = (counts.dropped, counts.left);
+    write!(
+        output,
+        "{rate} spans a second delivered by HTTP, {ended} ended, "
+    )?;
+    write!(output, "{handed} handed, {lost} lost, {dropped} dropped, ")?;
+    writeln!(output, "{left} left, {unnamed} unnamed")
+}
+
+/// Writes how long the calls take that set an attribute.
+pub fn write_calls<W: Write>(output: &mut W, handed: u64, lent: u64) -> io::Result<()> {
+    writeln!(
+        output,
+        "an attribute: set_attribute {handed} ns, set {lent} ns"
     )
 }

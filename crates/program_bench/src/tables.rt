@@ -1,9 +1,10 @@
 //! What is printed.
-ghost use Rattle.std.specs.Prelude.{◌≡◌};
-
+use crate::calls::print_calls;
+use crate::counting::CountingExporter;
 use crate::figures::{HoldTimes, Rounds, Spread, median, nanos_since};
 use crate::load::{Load, end_spans};
 use crate::plain::PlainPass;
+use crate::posts::print_posts;
 use crate::rings::{time_deque, time_full_ring, time_ring};
 use crate::rows::{
     write_counts, write_full, write_hold, write_load, write_plain, write_refused, write_row,
@@ -11,11 +12,11 @@ use crate::rows::{
 };
 use crate::threads::{Round, idle_share, run_round};
 use anyhow::Result;
-use batch_processor::{BatchBlank, SystemClock};
+use batch_processor::SystemClock;
 use span_ring::MAX_QUEUE;
 use std::alloc::Global;
 use std::io::Write;
-use std::marker::Brand;
+use std::net::{Net, TcpListener, TcpStream};
 use std::random::RandomSource;
 use std::sync::Wait;
 use std::thread::Threads;
@@ -45,13 +46,12 @@ const FULL: u64 = 2_048;
 /// How long an idle worker is watched, in milliseconds.
 const WATCH_MS: u64 = 2000;
 
-/// A round over a processor of its own.
+/// A round over a service whose exporter lets its batches go.
 fn one_round<R>(rt: R, alloc: Global, threads: usize, load: Load) -> Result<Round>
 where
     R: Threads + Wait + RandomSource + Clock + Copy + Send + Sync + 'static,
 {
-    // `Brand` stands for the name of this one processor, which the types of its passes have.
-    run_round::<Brand, R>(rt, alloc, BatchBlank::new(), threads, load)
+    run_round(rt, alloc, CountingExporter::new(), threads, load)
 }
 
 /// Runs threads for a short time, and prints what became of their spans.
@@ -102,7 +102,7 @@ where
     Ok(())
 }
 
-/// What a batch of spans took of its thread into a desk behind a plain mutex, and to be taken from
+/// What a batch of spans took of its thread into a desk under a plain mutex, and to be taken from
 /// it again, in nanoseconds.
 fn time_batch<R>(rt: &R, alloc: Global, load: Load, pass: &mut PlainPass<R>) -> Result<(u64, u64)>
 where
@@ -133,7 +133,7 @@ where
     ))
 }
 
-/// Prints what spans took into a desk behind a plain mutex, with and without the time in which they
+/// Prints what spans took into a desk under a plain mutex, with and without the time in which they
 /// are taken from it again, in the middle one of some rounds of so many spans.
 fn print_plain_row<R, W: Write>(
     rt: R,
@@ -283,7 +283,8 @@ where
 /// Measures how long spans take, and prints it.
 pub fn print_times<R, W: Write>(rt: R, alloc: Global, output: &mut W) -> Result<()>
 where
-    R: Threads + Wait + RandomSource + CpuClock + Clock + Copy + Send + Sync + 'static,
+    R: Net<Listener = TcpListener, Stream = TcpStream> + CpuClock + Clock,
+    R: Threads + Wait + RandomSource + Copy + Send + Sync + 'static,
 {
     for items in [512usize, 65_536] {
         print_ring_rows(&rt, alloc, output, items)?;
@@ -291,7 +292,9 @@ where
     for attributes in [0usize, 5] {
         print_attributes(rt, alloc, output, attributes)?;
     }
-    let share = idle_share::<Brand, R>(rt, alloc, BatchBlank::new(), WATCH_MS)?;
+    print_calls(&rt, alloc, output)?;
+    print_posts(rt, alloc, output)?;
+    let share = idle_share(rt, alloc, CountingExporter::new(), WATCH_MS)?;
     writeln!(output, "an idle worker: {share} millionths of a processor")?;
     Ok(())
 }

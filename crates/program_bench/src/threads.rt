@@ -1,31 +1,64 @@
-//! Threads over one batch processor.
-ghost use Rattle.std.specs.Prelude.{◌≡◌, None};
-
-use crate::counting::CountingExporter;
+//! Threads over one service.
 use crate::load::{Load, Times, end_spans};
-use anyhow::{Context, Result};
-use batch_desk::DeskConfig;
-use batch_processor::{
-    BatchBlank, BatchConfig, BatchProcessor, Clock, Naming, Parts, Pass, SystemClock, WorkerPass,
-};
-use rand::make_rng;
-use rand::rngs::StdRng;
+use anyhow::Result;
+use batch_desk::Totals;
+use batch_processor::BatchConfig;
+use batch_service::{Done, ServicePass, Work, serve};
+use name_sink::NewestNames;
+use span_exporter::Exporter;
 use std::alloc::Global;
 use std::io;
 use std::random::RandomSource;
 use std::sync::Wait;
-use std::thread::{self, JoinHandle, Threads};
-use std::time::{self, CpuClock, Duration};
+use std::thread::{self, Threads};
+use std::time::{Clock, CpuClock, Duration};
 
 /// What became of spans.
 #[derive(Clone, Copy)]
 pub struct Counts {
     /// How many were handed to the exporter.
     pub handed: u64,
-    /// How many were dropped since the queue was full.
+    /// How many of these are lost: their batch came to nothing.
+    pub lost: u64,
+    /// How many were dropped, for whatever reason.
     pub dropped: u64,
     /// How many are left.
     pub left: u64,
+}
+
+impl Counts {
+    /// Of no span.
+    pub fn none() -> Counts {
+        Counts {
+            handed: 0,
+            lost: 0,
+            dropped: 0,
+            left: 0,
+        }
+    }
+
+    /// These and others.
+    pub fn and(self, other: Counts) -> Counts {
+        Counts {
+            handed: self.handed.saturating_add(other.handed),
+            lost: self.lost.saturating_add(other.lost),
+            dropped: self.dropped.saturating_add(other.dropped),
+            left: self.left.saturating_add(other.left),
+        }
+    }
+
+    /// By what a processor counted.
+    fn new(totals: Totals) -> Counts {
+        let drops = totals.dropped;
+        let by_worker = drops.encode_memory.saturating_add(drops.too_large);
+        let by_worker = by_worker.saturating_add(drops.abandoned);
+        Counts {
+            handed: totals.handed,
+            lost: totals.lost,
+            dropped: drops.queue_full.saturating_add(by_worker),
+            left: totals.left,
+        }
+    }
 }
 
 /// What threads came to.
@@ -37,163 +70,83 @@ pub struct Round {
     pub counts: Counts,
 }
 
-/// The thread of a worker, which gives its pass back.
-type WorkerThread<J, R> = JoinHandle<Result<WorkerPass<J, R>>>;
-
-/// A thread that ends spans, which gives its pass back, and how long it took.
-type PassThread<J, R> = JoinHandle<Result<(Pass<J, R>, Times)>>;
-
-/// Starts a thread that ends spans on this pass, and gives it back, and how long it took.
-fn start<J, R>(rt: R, alloc: Global, load: Load, mut pass: Pass<J, R>) -> Result<PassThread<J, R>>
-where
-    J: Naming + Send + Sync + 'static,
-    R: Threads + Wait + RandomSource + time::Clock + Copy + Send + Sync + 'static,
-{
-    let started = thread::spawn(&rt, move || -> Result<(Pass<J, R>, Times)> {
-        let times = end_spans(&rt, alloc, load, &mut pass)?;
-        Ok((pass, times))
-    });
-    Ok(started?)
-}
-
-/// Starts the thread of the worker, which gives its pass back once all is drained.
-fn start_worker<J, R>(rt: R, mut worker: WorkerPass<J, R>) -> Result<WorkerThread<J, R>>
-where
-    J: Naming + Send + Sync + 'static,
-    R: Threads + Wait + RandomSource + time::Clock + Copy + Send + Sync + 'static,
-    requires { worker.encoded ≡ None }
-{
-    let started = thread::spawn(&rt, move || -> Result<WorkerPass<J, R>> {
-        let mut rng: StdRng = make_rng(&rt)?;
-        let clock = SystemClock::new(rt);
-        worker.work(&mut CountingExporter::new(), &clock, &mut rng, u64::MAX);
-        Ok(worker)
-    });
-    Ok(started?)
-}
-
-/// Starts a thread for each pass.
-fn start_all<J, R>(
+/// Starts and ends the spans of a load on each thread.
+#[derive(Drop)]
+struct Loads<R> {
     rt: R,
     alloc: Global,
     load: Load,
-    passes: Vec<Pass<J, R>>,
-) -> Result<Vec<PassThread<J, R>>>
-where
-    J: Naming + Send + Sync + 'static,
-    R: Threads + Wait + RandomSource + time::Clock + Copy + Send + Sync + 'static,
-{
-    let mut threads = Vec::new(alloc);
-    for pass in passes {
-        threads.push(start(rt, alloc, load, pass)?)?;
-    }
-    Ok(threads)
 }
 
-/// Waits for threads, and gives back their passes, and how long they took.
-fn join_all<J, R>(
+impl<R: RandomSource + Clock> Work for Loads<R> {
+    /// How long a thread took.
+    type Output = Result<Times>;
+
+    fn work<P: ServicePass>(&self, _thread: usize, pass: &mut P) -> Result<Times> {
+        end_spans(&self.rt, self.alloc, self.load, pass)
+    }
+}
+
+/// Ends spans on so many threads of a service, and stops it.
+pub fn run_round<R, E>(
     rt: R,
     alloc: Global,
-    threads: Vec<PassThread<J, R>>,
-) -> Result<(Vec<Pass<J, R>>, Times)>
-where
-    J: Naming + Send + Sync + 'static,
-    R: Threads + Wait + RandomSource + time::Clock + Copy + Send + Sync + 'static,
-{
-    let (mut passes, mut times) = (Vec::new(alloc), Times::new(alloc));
-    for thread in threads {
-        let (pass, took) = thread.join(&rt)?;
-        passes.push(pass)?;
-        times.add(took)?;
-    }
-    Ok((passes, times))
-}
-
-/// Starts the worker of a new processor, and gives back the processor and its passes.
-fn start_processor<J, R>(
-    rt: R,
-    alloc: Global,
-    blank: BatchBlank,
-    threads: usize,
-) -> Result<(BatchProcessor<J, R>, Vec<Pass<J, R>>, WorkerThread<J, R>)>
-where
-    J: Naming + Send + Sync + 'static,
-    R: Threads + Wait + RandomSource + time::Clock + Copy + Send + Sync + 'static,
-    requires { blank ≡ J.name }
-{
-    let now = SystemClock::new(rt).now();
-    let config = BatchConfig::default();
-    let parts = BatchProcessor::<J, R>::new(alloc, rt, blank, config, threads, now)?;
-    let Parts {
-        processor,
-        passes,
-        worker,
-    } = parts;
-    let worker = start_worker(rt, worker)?;
-    Ok((processor, passes, worker))
-}
-
-/// Drains a processor, and says what became of its spans.
-fn drain<J, R>(
-    rt: R,
-    processor: BatchProcessor<J, R>,
-    mut passes: Vec<Pass<J, R>>,
-    worker: WorkerThread<J, R>,
-) -> Result<Counts>
-where
-    J: Naming + Send + Sync + 'static,
-    R: Threads + Wait + RandomSource + time::Clock + Copy + Send + Sync + 'static,
-{
-    if let Some(pass) = passes.first_mut() {
-        pass.shutdown()?;
-    }
-    let worker = worker.join(&rt)?;
-    let closed = processor.close_out(passes, worker).ok();
-    let totals = closed.context("a pass is missing")?.desk.totals();
-    Ok(Counts {
-        handed: totals.handed,
-        dropped: totals.dropped.queue_full,
-        left: totals.left,
-    })
-}
-
-/// Ends spans on so many threads, and drains the processor.
-pub fn run_round<J, R>(
-    rt: R,
-    alloc: Global,
-    blank: BatchBlank,
+    exporter: E,
     threads: usize,
     load: Load,
 ) -> Result<Round>
 where
-    J: Naming + Send + Sync + 'static,
-    R: Threads + Wait + RandomSource + time::Clock + Copy + Send + Sync + 'static,
-    requires { blank ≡ J.name }
+    R: Threads + Wait + RandomSource + Clock + Copy + Send + Sync + 'static,
+    E: Exporter + Send + Drop + 'static,
 {
-    let (processor, passes, worker) = start_processor::<J, R>(rt, alloc, blank, threads)?;
-    let (passes, times) = join_all(rt, alloc, start_all(rt, alloc, load, passes)?)?;
-    let counts = drain(rt, processor, passes, worker)?;
+    let names = NewestNames::new(alloc, 0)?;
+    let config = BatchConfig::default();
+    let loads = Loads { rt, alloc, load };
+    let Done { outputs, served } = serve(rt, alloc, exporter, names, config, threads, &loads)?;
+    let mut times = Times::new(alloc);
+    for took in outputs {
+        times.add(took?)?;
+    }
+    let counts = Counts::new(served.desk.totals());
     Ok(Round { times, counts })
 }
 
-/// The processor time of all threads while this one sleeps for so many milliseconds.
-fn time_asleep<R: CpuClock + time::Clock>(rt: &R, millis: u64) -> io::Result<Duration> {
-    let before = rt.process_cpu_time()?;
-    thread::sleep(rt, Duration::from_millis(millis));
-    Ok(rt.process_cpu_time()?.saturating_sub(before))
+/// Sleeps for so many milliseconds.
+#[derive(Drop)]
+struct Sleeps<R> {
+    rt: R,
+    millis: u64,
 }
 
-/// The processor time that a worker takes while nothing ends, in millionths of the time that it is
-/// watched, which is so many milliseconds.
-pub fn idle_share<J, R>(rt: R, alloc: Global, blank: BatchBlank, watch_ms: u64) -> Result<u64>
+impl<R: CpuClock + Clock> Work for Sleeps<R> {
+    /// The processor time of all threads meanwhile.
+    type Output = io::Result<Duration>;
+
+    fn work<P: ServicePass>(&self, _thread: usize, _pass: &mut P) -> io::Result<Duration> {
+        let before = self.rt.process_cpu_time()?;
+        thread::sleep(&self.rt, Duration::from_millis(self.millis));
+        Ok(self.rt.process_cpu_time()?.saturating_sub(before))
+    }
+}
+
+/// The processor time that the worker of a service takes while nothing ends, in millionths of the
+/// time that it is watched, which is so many milliseconds.
+pub fn idle_share<R, E>(rt: R, alloc: Global, exporter: E, watch_ms: u64) -> Result<u64>
 where
-    J: Naming + Send + Sync + 'static,
-    R: Threads + Wait + RandomSource + CpuClock + time::Clock + Copy + Send + Sync + 'static,
-    requires { blank ≡ J.name }
+    R: Threads + Wait + RandomSource + CpuClock + Clock + Copy + Send + Sync + 'static,
+    E: Exporter + Send + Drop + 'static,
 {
-    let (processor, passes, worker) = start_processor::<J, R>(rt, alloc, blank, 1)?;
-    let used = time_asleep(&rt, watch_ms);
-    drain(rt, processor, passes, worker)?;
+    let names = NewestNames::new(alloc, 0)?;
+    let config = BatchConfig::default();
+    let sleeps = Sleeps {
+        rt,
+        millis: watch_ms,
+    };
+    let Done { outputs, .. } = serve(rt, alloc, exporter, names, config, 1, &sleeps)?;
+    let mut nanos = 0u128;
+    for used in outputs {
+        nanos = nanos.saturating_add(used?.as_nanos());
+    }
     let millis = u128::from(watch_ms.max(1));
-    Ok(u64::try_from(used?.as_nanos() / millis).unwrap_or(u64::MAX))
+    Ok(u64::try_from(nanos / millis).unwrap_or(u64::MAX))
 }

@@ -1,2 +1,1 @@
 mod Causes
-mod Crosses

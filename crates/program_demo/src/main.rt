@@ -5,7 +5,7 @@
 mod args;
 mod batches;
 mod collector;
-mod lanes;
+mod ends;
 mod program;
 mod sums;
 mod tally;

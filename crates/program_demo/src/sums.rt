@@ -3,7 +3,7 @@ ghost use Rattle.std.specs.Prelude.{◌≡◌, ◌≤◌, ◌↔◌, IsTrue};
 ghost use Rattle.program_demo.specs.Balance.{Balances, accounted_for, handed_in};
 
 use crate::tally::Taken;
-use batch_processor::Accounts;
+use batch_desk::Totals;
 use std::io;
 use std::io::Write;
 
@@ -28,9 +28,8 @@ pub(crate) struct Sums {
 }
 
 impl Sums {
-    /// By what the exporter was told, and what the processor came to.
-    pub(crate) fn new(ended: u64, taken: Taken, accounts: &Accounts, collected: u64) -> Sums {
-        let totals = accounts.desk.totals();
+    /// By what the exporter was told, and what the processor counted.
+    pub(crate) fn new(ended: u64, taken: Taken, totals: Totals, collected: u64) -> Sums {
         let drops = totals.dropped;
         let by_worker = drops.encode_memory.saturating_add(drops.too_large);
         let by_worker = by_worker.saturating_add(drops.abandoned);

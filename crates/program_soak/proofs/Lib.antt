@@ -1,2 +1,1 @@
-mod Crosses
 mod SameLosses

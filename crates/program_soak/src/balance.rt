@@ -14,9 +14,9 @@ pub(crate) struct Found {
     pub(crate) delivered: Vec<u64>,
     /// In those of batches that were told to be taken but for some of their spans.
     pub(crate) partial: Vec<u64>,
-    /// In the ledger of lost spans.
+    /// Among the names of lost spans.
     pub(crate) lost: Vec<Loss>,
-    /// In the ledger of dropped spans.
+    /// Among the names of dropped spans.
     pub(crate) dropped: Vec<u64>,
 }
 

@@ -1,5 +1,7 @@
-//! What both sides of the links noted in a round.
+//! What both sides of the links noted in a round, and which spans were named.
 use crate::course::{COURSES, Course};
+use crate::losses::Loss;
+use crate::names::Names;
 use crate::told::{Told, loss_reason};
 use otlp_read::{Request, ResourceSpans, ScopeSpans, Span, read_request};
 use retry_core::Outcome;
@@ -38,29 +40,31 @@ pub(crate) struct Attempt<'a> {
     pub(crate) outcome: Outcome,
 }
 
-/// What both sides of the links noted in a round.
+/// What both sides of the links noted in a round, and the names of spans that weren't delivered.
 #[derive(Drop)]
 pub(crate) struct Book {
     alloc: Global,
     kept: Vec<Kept>,
     batches: Vec<Batch>,
+    names: Names,
     /// How many attempts were of each kind of course.
     pub(crate) courses: [u64; COURSES],
     /// How often a body was kept that had been kept before.
     pub(crate) repeats: u64,
     /// Whether each of those came with the same bytes.
     pub(crate) are_equal: bool,
-    /// Whether memory was refused to one of the sides.
+    /// Whether memory was refused to one of the sides, or for a name.
     pub(crate) is_short: bool,
 }
 
 impl Book {
-    /// Of no attempt.
+    /// Of no attempt, and of no name.
     pub(crate) fn new(alloc: Global) -> Book {
         Book {
             alloc,
             kept: Vec::new(alloc),
             batches: Vec::new(alloc),
+            names: Names::new(alloc),
             courses: [0; COURSES],
             repeats: 0,
             are_equal: true,
@@ -68,7 +72,8 @@ impl Book {
         }
     }
 
-    /// What was noted since the last round. After it the book is that of no attempt.
+    /// What was noted since the last round. After it the book is that of no attempt, and of no
+    /// name.
     pub(crate) fn take(&mut self) -> Book {
         let empty = Book::new(self.alloc);
         mem::replace(self, empty)
@@ -77,6 +82,31 @@ impl Book {
     /// Notes that memory was refused.
     pub(crate) fn lack(&mut self) {
         self.is_short = true;
+    }
+
+    /// Notes the name of a dropped span, by its number.
+    pub(crate) fn name_dropped(&mut self, number: u64) {
+        if self.names.dropped.push(number).is_err() {
+            self.lack();
+        }
+    }
+
+    /// Notes the name of a lost span.
+    pub(crate) fn name_lost(&mut self, loss: Loss) {
+        if self.names.lost.push(loss).is_err() {
+            self.lack();
+        }
+    }
+
+    /// Whether so many names are noted, or memory for more was refused.
+    pub(crate) fn has_names(&self, wanted: u64) -> bool {
+        self.is_short || self.names.count() >= wanted
+    }
+
+    /// The names that were noted, taken out.
+    pub(crate) fn take_names(&mut self) -> Names {
+        let none = Names::new(self.alloc);
+        mem::replace(&mut self.names, none)
     }
 
     /// The collector keeps a body that came in this text. Bodies with the same first span are the

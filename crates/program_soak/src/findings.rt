@@ -7,7 +7,7 @@ use crate::course::COURSES;
 use crate::losses::{Loss, are_named};
 use crate::memory::{WARM_ROUNDS, is_flat};
 use crate::verdict::Verdict;
-use batch_processor::Accounts;
+use batch_desk::Totals;
 use std::alloc::Global;
 use std::io;
 use std::io::Write;
@@ -126,12 +126,8 @@ impl Findings {
     }
 
     /// Compares what the processor counted, and judges the sizes, which may rise by this slack.
-    pub(crate) fn close(&mut self, accounts: &Accounts, slack: u64) {
-        let totals = accounts.desk.totals();
-        let drops = totals.dropped;
-        let by_worker = drops.encode_memory.saturating_add(drops.too_large);
-        let by_worker = by_worker.saturating_add(drops.abandoned);
-        let dropped = drops.queue_full.saturating_add(by_worker);
+    pub(crate) fn close(&mut self, totals: Totals, slack: u64) {
+        let dropped = all_drops(totals);
         let counts = self.counts;
         let taken = counts.delivered.saturating_add(counts.partial);
         let is_empty = totals.left == 0 && totals.late == 0;
@@ -204,6 +200,19 @@ impl Findings {
             "resident kB: first {first}, last {last}, greatest {most}"
         )
     }
+}
+
+/// How many spans a processor counted as dropped, for whatever reason.
+fn all_drops(totals: Totals) -> u64 {
+    let drops = totals.dropped;
+    let by_worker = drops.encode_memory.saturating_add(drops.too_large);
+    let by_worker = by_worker.saturating_add(drops.abandoned);
+    drops.queue_full.saturating_add(by_worker)
+}
+
+/// How many spans it counted as dropped or lost.
+pub(crate) fn all_named(totals: Totals) -> u64 {
+    all_drops(totals).saturating_add(totals.lost)
 }
 
 /// A word for an answer.

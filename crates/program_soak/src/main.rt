@@ -1,22 +1,23 @@
-//! `trace-soak`: threads end spans for as long as the arguments say, a batch processor's worker
-//! posts them over links that fail at random, from a seed, and a collector is at their far side.
+//! `trace-soak`: threads end spans for as long as the arguments say, a service's worker posts
+//! them over links that fail at random, from a seed, and a collector is at their far side.
 //! Round by round, each span that ended has to be found again, and memory has to stay flat.
 #![tactic(auto)]
 
 mod args;
 mod balance;
 mod book;
+mod config;
 mod course;
+mod ends;
 mod exporter;
 mod findings;
-mod lanes;
 mod link;
 mod losses;
 mod memory;
+mod names;
 mod soak;
 mod told;
 mod verdict;
-mod worker;
 
 use crate::soak::trace_soak;
 use std::process::ExitCode;

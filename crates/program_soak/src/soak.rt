@@ -5,19 +5,20 @@ ghost use Rattle.std.specs.Io.KnownBytes.{Keeps};
 use crate::args::SoakArgs;
 use crate::balance::Found;
 use crate::book::Book;
+use crate::config::config;
+use crate::ends::{Ends, end_on_all};
 use crate::exporter::{NoDial, RandomLinks};
-use crate::findings::Findings;
-use crate::lanes::{
-    Lane, deal, end_on_all, flush, make_lanes, passes_of, pop_dropped, pop_lost, shut_down,
-    take_ended,
-};
+use crate::findings::{Findings, all_named};
 use crate::memory::resident;
+use crate::names::{Names, NotedNames, await_names};
 use crate::told::Told;
-use crate::worker::{config, start_worker};
-use batch_processor::{BatchBlank, BatchConfig, BatchProcessor, Clock, Naming, Parts, SystemClock};
+use batch_processor::{BatchBlank, Naming, Pass, SystemClock};
+use batch_service::{Service, Started};
 use http_exporter::LinkExporter;
 use otlp_http::{DEFAULT_PATH, DEFAULT_PORT, Target};
 use program_args::tell_unwritten;
+use rand_core::SeedableRng;
+use rand_pcg::Pcg64;
 use std::alloc::Global;
 use std::io::Write;
 use std::marker::Brand;
@@ -86,6 +87,9 @@ where
     }
 }
 
+/// A service whose worker posts over links that fail at random.
+type Running<J, R> = Service<J, R, RandomLinks<R>, NotedNames<R>>;
+
 /// What all rounds came to. `None` where something can't be had.
 fn run<J, R>(rt: R, alloc: Global, blank: BatchBlank, args: &SoakArgs) -> Option<Findings>
 where
@@ -96,20 +100,20 @@ where
     let book = Arc::new(alloc, Mutex::new(Book::new(alloc))).ok()?;
     let target = Target::new(alloc, "127.0.0.1", DEFAULT_PORT, DEFAULT_PATH).ok()?;
     let posts = LinkExporter::over(alloc, alloc, NoDial, target);
-    let noted = Arc::try_clone(&book).ok()?;
-    let links = RandomLinks::new(rt, alloc, args.seed, posts, noted);
-    let config = config()?;
-    trace::<J, R>(rt, alloc, blank, links, &book, config, args)
+    let links = RandomLinks::new(rt, alloc, args.seed, posts, Arc::try_clone(&book).ok()?);
+    let names = NotedNames::new(rt, Arc::try_clone(&book).ok()?);
+    trace::<J, R>(rt, alloc, blank, links, names, &book, args)
 }
 
-/// Ends the spans of all rounds, and closes the processor out. `None` where something can't be had.
+/// Ends the spans of all rounds on passes of a service, and stops it. `None` where something can't
+/// be had.
 fn trace<J, R>(
     rt: R,
     alloc: Global,
     blank: BatchBlank,
     links: RandomLinks<R>,
+    names: NotedNames<R>,
     book: &Mutex<Book>,
-    config: BatchConfig,
     args: &SoakArgs,
 ) -> Option<Findings>
 where
@@ -117,22 +121,28 @@ where
     R: Files + Threads + Wait + time::Clock + Copy + Send + Sync + 'static,
     requires { blank ≡ J.name }
 {
-    let now = SystemClock::new(rt).now();
-    let parts = BatchProcessor::<J, R>::new(alloc, rt, blank, config, args.threads, now).ok()?;
-    let Parts {
-        processor,
-        passes,
-        worker,
-    } = parts;
-    let mut lanes = make_lanes(alloc, passes)?;
-    let worker = start_worker(rt, links, worker)?;
+    let (clock, rng) = (SystemClock::new(rt), Pcg64::seed_from_u64(0));
+    let (config, threads) = (config()?, args.threads);
+    let started = Running::<J, R>::start_with(
+        alloc, rt, blank, links, names, config, threads, clock, rng,
+    );
+    let Started {
+        mut service,
+        mut passes,
+    } = started.ok()?;
     let mut findings = Findings::new(alloc);
-    let went = rounds(rt, alloc, lanes.as_mut_slice(), book, args, &mut findings);
-    let shut = shut_down(lanes.as_mut_slice());
-    let worker = worker.join(&rt);
-    let accounts = processor.close_out(passes_of(alloc, lanes)?, worker).ok()?;
-    went.and(shut)?;
-    findings.close(&accounts, args.slack);
+    let went = rounds(
+        rt,
+        alloc,
+        &mut service,
+        &mut passes,
+        book,
+        args,
+        &mut findings,
+    );
+    let served = service.stop(passes).ok()?;
+    went?;
+    findings.close(served.desk.totals(), args.slack);
     Some(findings)
 }
 
@@ -140,7 +150,8 @@ where
 fn rounds<J, R>(
     rt: R,
     alloc: Global,
-    lanes: &mut [Lane<J, R>],
+    service: &mut Running<J, R>,
+    passes: &mut Vec<Pass<J, R>>,
     book: &Mutex<Book>,
     args: &SoakArgs,
     findings: &mut Findings,
@@ -149,46 +160,56 @@ where
     J: Naming + Send + Sync + 'static,
     R: Files + Threads + Wait + time::Clock + Copy + Send + Sync + 'static,
 {
-    let (mut left, mut seed) = (args.spans, args.seed);
+    let threads = args.threads as u64;
+    let (mut left, mut seed, mut named) = (args.spans, args.seed, 0u64);
     for _round in 0..args.spans.div_ceil(ROUND) {
         let spans = left.min(ROUND);
-        deal(lanes, spans, seed);
-        end_on_all(rt, alloc, lanes);
-        flush(lanes)?;
-        balance(&rt, alloc, lanes, book, findings)?;
+        let ends = Ends {
+            rt,
+            alloc,
+            threads,
+            seed,
+            spans,
+        };
+        let ended = end_on_all(&rt, alloc, passes, &ends)?;
+        service.flush().ok()?;
+        let all = all_named(service.totals());
+        await_names(&rt, book, all.saturating_sub(named));
+        balance(&rt, alloc, ended.as_slice(), book, findings)?;
         findings.add_size(resident(&rt, alloc)?)?;
+        named = all;
         left = left.saturating_sub(spans);
-        seed = seed.wrapping_add(args.threads as u64);
+        seed = seed.wrapping_add(threads);
     }
     Some(())
 }
 
-/// Balances a round, after its flush, and lets go what was noted. `None` where something can't be
-/// had.
-fn balance<J: Naming, R: Wait>(
+/// Balances a round in which spans with these numbers ended, after its flush, and lets go what was
+/// noted. `None` where something can't be had.
+fn balance<R: Wait>(
     rt: &R,
     alloc: Global,
-    lanes: &mut [Lane<J, R>],
+    ended: &[u64],
     book: &Mutex<Book>,
     findings: &mut Findings,
 ) -> Option<()> {
-    let book = book.lock(rt).take();
+    let mut book = book.lock(rt).take();
     if book.is_short {
         return None;
     }
-    let ended = take_ended(alloc, lanes)?;
-    let Told {
-        delivered,
-        partial,
-        lost,
-        lost_kept,
-    } = book.told().ok()?;
+    let Names { dropped, lost } = book.take_names();
+    let told = book.told().ok()?;
     let found = Found {
-        delivered,
-        partial,
-        lost: pop_lost(alloc, lanes, u64::MAX)?,
-        dropped: pop_dropped(alloc, lanes, u64::MAX)?,
+        delivered: told.delivered,
+        partial: told.partial,
+        lost,
+        dropped,
     };
-    findings.add_losses(alloc, found.lost.as_slice(), lost.as_slice(), lost_kept)?;
-    findings.add(alloc, ended.as_slice(), &found, &book)
+    findings.add_losses(
+        alloc,
+        found.lost.as_slice(),
+        told.lost.as_slice(),
+        told.lost_kept,
+    )?;
+    findings.add(alloc, ended, &found, &book)
 }

@@ -1,6 +1,6 @@
 //! What has to become of the spans of batches, by what the exporter was told of them.
+use crate::config::ATTEMPTS;
 use crate::losses::Loss;
-use crate::worker::ATTEMPTS;
 use otlp_span::Reason;
 use retry_core::Outcome;
 use std::alloc::{AllocError, Global};
