@@ -1,12 +1,17 @@
 //! The tests, a module for each part of what is tested, and what they share.
 
-mod allocator;
 mod calls;
 mod copies;
+mod environment;
 mod equal;
 mod ids;
+mod large;
+mod ratios;
 mod refusals;
 mod samplers;
+mod settings;
+mod short_calls;
+mod short_spans;
 mod spans;
 mod starts;
 mod values;

@@ -1,10 +1,9 @@
 //! What the calls that `call` gives make of a span.
 use crate::tests::equal::{assert_equal, assert_shown};
 use crate::tests::spans::{END, START};
-use otlp_span::{Kind, SpanData};
+use otlp_span::{Kind, Link, SpanData};
 use std::alloc::Allocator;
 use std::process::Abort;
-use trace_api::BodyPass;
 
 /// The event and the exception, as `Debug` shows them.
 const EVENTS: &str = concat!(
@@ -15,13 +14,24 @@ const EVENTS: &str = concat!(
     "dropped_attributes_count: 0 }]",
 );
 
-/// The link, as `Debug` shows it.
-const LINKS: &str = concat!(
-    "[Link { span_context: SpanContext { ",
-    "trace: TraceId([7, 7, 7, 7, 7, 7, 7, 7, 7, 7, 7, 7, 7, 7, 7, 7]), ",
+/// The context of the remote parent, as `Debug` shows it.
+const REMOTE: &str = concat!(
+    "SpanContext { trace: TraceId([7, 7, 7, 7, 7, 7, 7, 7, 7, 7, 7, 7, 7, 7, 7, 7]), ",
     "span: SpanId([25, 26, 27, 28, 29, 30, 31, 32]), flags: TraceFlags(1), remote: true, ",
-    "state: \"k=v\" }, attributes: [(\"k\", Text(\"long\"))], dropped_attributes_count: 0 }]",
+    "state: \"k=v\" }",
 );
+
+/// Asserts that a link leads to the remote parent, and has these attributes.
+pub(crate) fn assert_link<A: Allocator + Copy>(
+    rt: &impl Abort,
+    alloc: A,
+    link: &Link<A>,
+    attributes: &str,
+) {
+    assert_shown(rt, alloc, &link.span_context, REMOTE);
+    assert_shown(rt, alloc, &link.attributes, attributes);
+    assert_equal(rt, link.dropped_attributes_count, 0);
+}
 
 /// Asserts that a span has what it was started with, and what these calls made of it.
 pub(crate) fn assert_called<A: Allocator + Copy>(rt: &impl Abort, alloc: A, span: &SpanData<A>) {
@@ -36,12 +46,7 @@ pub(crate) fn assert_called<A: Allocator + Copy>(rt: &impl Abort, alloc: A, span
     assert_shown(rt, alloc, &span.attributes(), "[(\"a\", Int(1))]");
     assert_equal(rt, span.dropped_attributes_count(), 1);
     assert_shown(rt, alloc, &span.events(), EVENTS);
-    assert_shown(rt, alloc, &span.links(), LINKS);
-}
-
-/// Asserts that the pass has one span, which these calls made.
-pub(crate) fn assert_kept<A: Allocator + Copy>(rt: &impl Abort, alloc: A, pass: &BodyPass<A>) {
-    let spans = pass.spans();
-    assert_eq!(rt; spans.len(), 1);
-    assert_called(rt, alloc, &spans[0]);
+    let links = span.links();
+    assert_eq!(rt; links.len(), 1);
+    assert_link(rt, alloc, &links[0], "[(\"k\", Text(\"long\"))]");
 }

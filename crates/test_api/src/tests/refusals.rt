@@ -1,10 +1,12 @@
 //! Starts of spans, calls on them, and replays of such calls, to which memory is refused once, at
 //! each place in turn.
-use crate::tests::calls::{assert_called, assert_kept};
+use crate::tests::calls::assert_called;
 use crate::tests::equal::assert_equal;
 use crate::tests::spans::{
-    CALLS, END, START, WORDS, call, context, limits, opening, provider, scope, start, words,
+    CALLS, END, START, WORDS, call, limits, only_span, opening, provider, remote, scope, start,
+    words,
 };
+use crate::tests::{short_calls, short_spans};
 use linked_list_allocator::LocalHeap;
 use otlp_ids::OutOfMemory;
 use otlp_sampler::AlwaysOn;
@@ -15,13 +17,38 @@ use std::process::Abort;
 use test_support::FailingAllocator;
 use trace_api::{BodyPass, Ended, Span, StartFault, Tracer};
 
-/// By which of two ways a start and the calls are made.
+/// By which of three ways a start and the calls are made.
 #[derive(Debug, Clone, Copy, PartialEq, Eq)]
 enum Way {
     /// `start`, and each call through `Span::call`.
     Values,
     /// `start_copied`, and each call by the method of its name.
     Names,
+    /// The start and the calls of `short_spans`, which copy what they are lent.
+    Lent,
+}
+
+impl Way {
+    /// How many calls are made.
+    fn calls(self) -> u32 {
+        match self {
+            Way::Values | Way::Names => CALLS,
+            Way::Lent => short_spans::CALLS,
+        }
+    }
+
+    /// The way of a twin, which has the same start and the same calls.
+    fn of_twin(self) -> Way {
+        match self {
+            Way::Values | Way::Names => Way::Values,
+            Way::Lent => Way::Lent,
+        }
+    }
+
+    /// Whether the call of this number may have been made in part where it is refused memory.
+    fn is_in_parts(self, number: u32) -> bool {
+        self == Way::Lent && short_spans::IN_PARTS.contains(&number)
+    }
 }
 
 /// All that a span has, written.
@@ -61,7 +88,7 @@ fn call_by_name<A: Allocator + Copy>(
     Ok(())
 }
 
-/// Makes the call of this number, whose values lie on ample memory.
+/// Makes the call of this number, whose values are on ample memory.
 fn make_call<A: Allocator + Copy>(
     rt: &impl Abort,
     ample: A,
@@ -69,19 +96,20 @@ fn make_call<A: Allocator + Copy>(
     number: u32,
     way: Way,
 ) -> Result<(), OutOfMemory> {
-    let made = call(rt, ample, number);
     match way {
-        Way::Names => call_by_name(span, made),
+        Way::Names => call_by_name(span, call(rt, ample, number)),
         Way::Values => {
+            let made = call(rt, ample, number);
             let mut pass = BodyPass::new(ample, 0).expect(rt, "a pass of no room");
             assert_equal(rt, span.call(&mut pass, made)?, None);
             Ok(())
         }
+        Way::Lent => short_spans::call(span, &remote(rt, ample), number),
     }
 }
 
 /// Makes a call, and where it is refused memory, makes it again. Answers whether it was refused:
-/// the span was then as before, and nothing was kept of the call.
+/// the span was then as before, and nothing was kept of the call, unless it is made in parts.
 fn is_call_refused<A: Allocator + Copy>(
     rt: &impl Abort,
     heap: &LocalHeap,
@@ -94,9 +122,11 @@ fn is_call_refused<A: Allocator + Copy>(
     let used = heap.used();
     let is_refused = make_call(rt, ample, span, number, way).is_err();
     if is_refused {
-        assert_equal(rt, (number, heap.used()), (number, used));
-        let after = shown(rt, ample, span);
-        assert_equal(rt, (number, after.as_str()), (number, before.as_str()));
+        if !way.is_in_parts(number) {
+            assert_equal(rt, (number, heap.used()), (number, used));
+            let after = shown(rt, ample, span);
+            assert_equal(rt, (number, after.as_str()), (number, before.as_str()));
+        }
         make_call(rt, ample, span, number, way).expect(rt, "memory that is not refused again");
     }
     is_refused
@@ -111,7 +141,7 @@ fn start_child<A: Allocator + Copy>(
     memory: A,
     way: Way,
 ) -> Result<Span<A>, StartFault> {
-    let parent = context(rt, ample, 1, "k=v");
+    let parent = remote(rt, ample);
     let mut words = words(rt, ample, &[WORDS[2], 5]);
     let started = match way {
         Way::Values => start(rt, tracer, memory, &mut words, Some(&parent), ample),
@@ -119,6 +149,7 @@ fn start_child<A: Allocator + Copy>(
             let kind = Kind::Server;
             tracer.start_copied(memory, &mut words, Some(&parent), "GET /", kind, START)
         }
+        Way::Lent => short_spans::start(rt, ample, memory, AlwaysOn, &mut words),
     };
     assert_equal(rt, words.next_u64(), 5);
     started
@@ -155,7 +186,7 @@ enum Refused {
 }
 
 /// Makes the calls, and answers which of them was refused memory. After each, also after one that
-/// was refused at first, the span is as its twin, which lies on ample memory.
+/// was refused at first, the span is as its twin, which is on ample memory.
 fn make_calls<A: Allocator + Copy>(
     rt: &impl Abort,
     heap: &LocalHeap,
@@ -165,11 +196,11 @@ fn make_calls<A: Allocator + Copy>(
     way: Way,
 ) -> Refused {
     let mut refused = Refused::Nothing;
-    for number in 0..CALLS {
+    for number in 0..way.calls() {
         if is_call_refused(rt, heap, ample, span, number, way) {
             refused = Refused::Call(number);
         }
-        make_call(rt, ample, twin, number, Way::Values).expect(rt, "memory");
+        make_call(rt, ample, twin, number, way.of_twin()).expect(rt, "memory");
         let (left, right) = (shown(rt, ample, span), shown(rt, ample, twin));
         assert_equal(rt, (number, left.as_str()), (number, right.as_str()));
     }
@@ -184,10 +215,10 @@ fn live_on<A: Allocator + Copy>(
     scarce: A,
     way: Way,
 ) -> Refused {
-    let provider = provider(rt, ample, AlwaysOn);
+    let provider = provider(rt, ample, AlwaysOn, limits());
     let tracer = provider.tracer(scope(rt, ample));
     let (mut span, is_refused) = start_at_last(rt, heap, &tracer, ample, scarce, way);
-    let mut twin = start_child(rt, &tracer, ample, ample, Way::Values).expect(rt, "memory");
+    let mut twin = start_child(rt, &tracer, ample, ample, way.of_twin()).expect(rt, "memory");
     let refused = make_calls(rt, heap, ample, &mut span, &mut twin, way);
     end_and_call(rt, ample, &mut span, way);
     if is_refused { Refused::Start } else { refused }
@@ -197,21 +228,25 @@ fn live_on<A: Allocator + Copy>(
 fn end_and_call<A: Allocator + Copy>(rt: &impl Abort, ample: A, span: &mut Span<A>, way: Way) {
     let mut pass = BodyPass::new(ample, 1).expect(rt, "memory");
     assert_equal(rt, span.end(&mut pass, END), Ended::Queued(0));
-    for number in 0..CALLS {
+    for number in 0..way.calls() {
         make_call(rt, ample, span, number, way).expect(rt, "memory");
     }
     assert_equal(rt, span.end(&mut pass, START), Ended::AlreadyEnded);
-    assert_kept(rt, ample, &pass);
+    let kept = only_span(rt, &pass);
+    match way {
+        Way::Values | Way::Names => assert_called(rt, ample, kept),
+        Way::Lent => short_calls::assert_called(rt, ample, kept),
+    }
 }
 
-/// More calls for memory than a start and the calls make.
-const MOST: u64 = 20;
+/// More calls for memory than a start and the calls, or a replay of them, make.
+const MOST: u64 = 64;
 
 /// How often a start, each call and nothing was refused.
 #[derive(Drop)]
 struct Counts {
     starts: u32,
-    calls: [u32; 7],
+    calls: [u32; 14],
     nothing: u32,
 }
 
@@ -235,7 +270,7 @@ fn refuse_in_turn(rt: &impl Abort, alloc: Global, way: Way) -> Counts {
     let ample = FailingAllocator::new(&heap, u64::MAX);
     let mut counts = Counts {
         starts: 0,
-        calls: [0; 7],
+        calls: [0; 14],
         nothing: 0,
     };
     for fail_index in 0..MOST {
@@ -258,11 +293,19 @@ fn each_growth_of_a_start_and_of_the_calls_is_refused_in_turn(rt: HostRuntime) {
     // A start takes the trace state twice, the slip and the record, and `start_copied` the name. A
     // call takes the room of its list, once, and of its attributes; an exception two keys, the room
     // of its attributes and its name.
-    for (way, starts, nothing) in [(Way::Values, 4, 7), (Way::Names, 5, 6)] {
+    let handed = [1, 2, 4, 2, 0, 0, 0, 0, 0, 0, 0, 0, 0, 0];
+    // The start also takes two keys, a text and the room of the list; and of the link its trace
+    // state, its pairs with a key, what is kept of them, and its room. A call mostly takes a key,
+    // and what its value takes; the list of attributes grows once more.
+    let lent = [12, 2, 1, 1, 1, 2, 3, 1, 3, 1, 8, 1, 1, 1];
+    for (way, starts, calls, nothing) in [
+        (Way::Values, 4, handed, 51),
+        (Way::Names, 5, handed, 50),
+        (Way::Lent, 5 + 4 + 5, lent, 12),
+    ] {
         let counts = refuse_in_turn(&rt, rt.alloc(), way);
         let found = (counts.starts, counts.nothing);
         assert_equal(&rt, (way, found), (way, (starts, nothing)));
-        let calls = [1, 2, 4, 2, 0, 0, 0];
         assert_equal(&rt, counts.calls.as_slice(), calls.as_slice());
     }
 }
@@ -295,7 +338,7 @@ fn each_growth_of_a_replay_is_refused_in_turn(rt: HostRuntime) {
     let heap = LocalHeap::new(rt.alloc(), 65_536).expect(&rt, "memory");
     let ample = FailingAllocator::new(&heap, u64::MAX);
     let mut refused = 0u32;
-    for fail_index in 0..2 * MOST {
+    for fail_index in 0..MOST {
         let scarce = FailingAllocator::new(&heap, fail_index);
         let is_refused = is_replay_refused(&rt, &ample, &scarce);
         assert_equal(

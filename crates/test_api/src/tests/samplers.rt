@@ -6,7 +6,8 @@ ghost use Rattle.otlp_ids.specs.SpanContext.{parent_view};
 ghost use Rattle.otlp_sampler.specs.Sampling.{decision_view};
 
 use crate::tests::equal::assert_equal;
-use otlp_ids::{SpanContext, SpanId, TraceFlags, TraceId};
+use crate::tests::spans::context;
+use otlp_ids::{SpanContext, TraceId};
 use otlp_sampler::{AlwaysOff, AlwaysOn, Decision, ParentBased, Sampler};
 use otlp_span::Kind;
 use std::alloc::Allocator;
@@ -30,14 +31,10 @@ fn ask<S: Sampler, A: Allocator>(
     sampler.should_sample(valid, &TRACE, name, Kind::Internal)
 }
 
-fn context<A: Allocator>(alloc: A, span: u8, remote: bool, flags: u8) -> SpanContext<A> {
-    SpanContext {
-        trace: TRACE,
-        span: SpanId([span; 8]),
-        flags: TraceFlags(flags),
-        remote,
-        state: String::new(alloc),
-    }
+/// What becomes of a root with this trace id.
+pub(crate) fn decision_on<S: Sampler>(sampler: &S, trace: &TraceId) -> Decision {
+    let parent: Option<SpanContext> = None;
+    sampler.should_sample(parent.as_ref(), trace, "a", Kind::Internal)
 }
 
 #[test]
@@ -71,7 +68,8 @@ fn each_of_the_five_decides_for_its_own_parents(rt: HostRuntime) {
         (false, 255, Decision::Drop),
         (false, 0, Decision::RecordAndSample),
     ] {
-        let parent = context(rt.alloc(), 1, remote, flags);
+        let mut parent = context(&rt, rt.alloc(), flags, "");
+        parent.remote = remote;
         assert_equal(
             &rt,
             (flags, ask(&sampler, Some(&parent), "a")),

@@ -1,12 +1,12 @@
 //! What the tests start spans with.
 use otlp_ids::{SpanContext, SpanId, TraceFlags, TraceId};
 use otlp_sampler::Sampler;
-use otlp_span::{Kind, Open, Resource, Scope, SpanCall, SpanLimits, Status};
+use otlp_span::{Kind, Open, Resource, Scope, SpanCall, SpanData, SpanLimits, Status};
 use otlp_value::Value;
 use std::alloc::Allocator;
 use std::process::Abort;
 use std::sync::Arc;
-use trace_api::{Provider, Span, StartFault, Tracer, WordsRng};
+use trace_api::{BodyPass, Provider, Span, StartFault, Tracer, WordsRng};
 
 pub(crate) const TRACE: TraceId = TraceId([1, 2, 3, 4, 5, 6, 7, 8, 9, 10, 11, 12, 13, 14, 15, 16]);
 
@@ -54,13 +54,14 @@ pub(crate) fn limits() -> SpanLimits {
     }
 }
 
-/// A provider whose spans keep one attribute.
+/// A provider whose spans have these limits.
 pub(crate) fn provider<S: Sampler + Drop, A: Allocator + Copy>(
     rt: &impl Abort,
     alloc: A,
     sampler: S,
+    limits: SpanLimits,
 ) -> Provider<S, A> {
-    Provider::new(sampler, resource(rt, alloc), limits())
+    Provider::new(sampler, resource(rt, alloc), limits)
 }
 
 /// The context of a remote parent, with these flags and this trace state.
@@ -79,10 +80,15 @@ pub(crate) fn context<A: Allocator>(
     }
 }
 
+/// The context of a remote parent that is sampled, with a trace state.
+pub(crate) fn remote<A: Allocator>(rt: &impl Abort, alloc: A) -> SpanContext<A> {
+    context(rt, alloc, 1, "k=v")
+}
+
 /// What a child of that parent is opened with.
 pub(crate) fn opening<A: Allocator + Copy>(rt: &impl Abort, alloc: A) -> Open<A> {
     Open {
-        context: context(rt, alloc, 1, "k=v"),
+        context: remote(rt, alloc),
         parent: Some(PARENT),
         parent_remote: true,
         resource: resource(rt, alloc),
@@ -112,12 +118,22 @@ pub(crate) fn start_root<S: Sampler + Drop, A: Allocator + Copy>(
     alloc: A,
     sampler: S,
 ) -> Span<A> {
-    let provider = provider(rt, alloc, sampler);
+    let provider = provider(rt, alloc, sampler, limits());
     let tracer = provider.tracer(scope(rt, alloc));
     let mut words = words(rt, alloc, &WORDS);
     let root: Option<SpanContext<A>> = None;
     let started = start(rt, &tracer, alloc, &mut words, root.as_ref(), alloc);
     started.expect(rt, "a root starts")
+}
+
+/// The span that a pass has, which is its only one.
+pub(crate) fn only_span<'a, A: Allocator>(
+    rt: &impl Abort,
+    pass: &'a BodyPass<A>,
+) -> &'a SpanData<A> {
+    let spans = pass.spans();
+    assert_eq!(rt; spans.len(), 1);
+    &spans[0]
 }
 
 /// How many calls `call` gives.
@@ -135,7 +151,7 @@ pub(crate) fn call<A: Allocator + Copy>(rt: &impl Abort, alloc: A, number: u32) 
         },
         2 => exception(rt, alloc),
         3 => SpanCall::AddLink {
-            span_context: context(rt, alloc, 1, "k=v"),
+            span_context: remote(rt, alloc),
             attributes: pairs(rt, alloc),
         },
         4 => SpanCall::SetAttribute(text(rt, alloc, "b"), Value::Int(2)),

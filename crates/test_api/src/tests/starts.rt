@@ -3,8 +3,8 @@ ghost use Rattle.std.specs.Prelude.{◌≡◌};
 
 use crate::tests::equal::assert_equal;
 use crate::tests::spans::{
-    END, PARENT, PARENT_TRACE, SPAN, TRACE, WORDS, context, provider, scope, start, start_root,
-    text, words,
+    END, PARENT, PARENT_TRACE, SPAN, TRACE, WORDS, context, limits, provider, scope, start,
+    start_root, text, words,
 };
 use otlp_ids::{SpanContext, SpanId, TraceFlags, TraceId};
 use otlp_sampler::{AlwaysOff, AlwaysOn, ParentBased, Sampler};
@@ -92,7 +92,7 @@ fn assert_child<S: Sampler, A: Allocator + Copy>(
 #[test]
 fn a_child_has_the_trace_the_flags_and_the_state_of_its_parent(rt: HostRuntime) {
     let alloc = rt.alloc();
-    let provider = provider(&rt, alloc, ParentBased::new(AlwaysOff));
+    let provider = provider(&rt, alloc, ParentBased::new(AlwaysOff), limits());
     let tracer = provider.tracer(scope(&rt, alloc));
     assert_child(&rt, &tracer, alloc, 2, Ended::NotSampled);
     assert_child(&rt, &tracer, alloc, 3, Ended::Queued(0));
@@ -106,7 +106,7 @@ fn assert_parent<A: Allocator + Copy>(
     parent: Option<SpanContext<A>>,
     kept: (Option<SpanId>, bool),
 ) {
-    let provider = provider(rt, alloc, AlwaysOn);
+    let provider = provider(rt, alloc, AlwaysOn, limits());
     let tracer = provider.tracer(scope(rt, alloc));
     let mut words = words(rt, alloc, &WORDS);
     let started = start(rt, &tracer, alloc, &mut words, parent.as_ref(), alloc);

@@ -16,7 +16,7 @@ enum Making {
     Groups,
     /// The groups and the body, in hexadecimal digits.
     Body,
-    /// The body of groups that stand.
+    /// The body of groups that are there.
     Encoding,
 }
 

@@ -20,14 +20,3 @@ pub(crate) fn assert_shown<A: Allocator>(
     let found = format!(in alloc; "{value:?}").expect(rt, "memory");
     assert_equal(rt, found.as_str(), text);
 }
-
-/// Asserts how what `Debug` shows begins.
-pub(crate) fn assert_begins<A: Allocator>(
-    rt: &impl Abort,
-    alloc: A,
-    value: &impl Debug,
-    front: &str,
-) {
-    let found = format!(in alloc; "{value:?}").expect(rt, "memory");
-    assert_equal(rt, found.as_str().starts_with(front), true);
-}

@@ -1,16 +1,17 @@
-//! Rings and desks that are made, or aren't: for their sizes, and since memory is refused once, at
-//! each place in turn.
+//! Rings, desks and sinks of names that are made, or aren't: for their sizes, and since memory is
+//! refused once, at each place in turn.
 use crate::tests::driver::new_desk;
 use crate::tests::equal::assert_equal;
 use crate::tests::ring::new_ring;
 use batch_desk::DeskConfig;
 use linked_list_allocator::LocalHeap;
+use name_sink::NewestNames;
 use span_ring::{MAX_QUEUE, RingFault, SpanRing};
 use std::alloc::{Allocator, Global};
 use std::process::Abort;
 use test_support::FailingAllocator;
 
-/// More calls for memory than a ring or a desk is made with.
+/// More calls for memory than a ring, a desk or a sink is made with.
 const MOST: u64 = 10;
 
 /// The fault of a ring of these sizes.
@@ -29,15 +30,24 @@ fn desk_fault<A: Allocator + Copy>(alloc: A, queue: usize, batch: usize) -> Opti
     new_desk(alloc, config).err()
 }
 
+/// The fault of a sink for eight names of each kind: want of memory is its only one.
+fn sink_fault<A: Allocator + Copy>(alloc: A) -> Option<RingFault> {
+    match NewestNames::new(alloc, 8) {
+        Ok(_) => None,
+        Err(_) => Some(RingFault::OutOfMemory),
+    }
+}
+
 /// What is made.
 #[derive(Debug, Clone, Copy, PartialEq)]
 enum Made {
     Ring,
     Desk,
+    Sink,
 }
 
-/// Makes a ring or a desk with room for four while each call for memory is refused in turn: nothing
-/// is then kept. Answers how many were.
+/// Makes a ring or a desk with room for four, or a sink, while each call for memory is refused in
+/// turn: nothing is then kept. Answers how many were.
 fn refuse_in_turn(rt: &impl Abort, alloc: Global, made: Made, batch: usize) -> u64 {
     let heap = LocalHeap::new(alloc, 16_384).expect(rt, "memory");
     for fail_index in 0..MOST {
@@ -45,40 +55,34 @@ fn refuse_in_turn(rt: &impl Abort, alloc: Global, made: Made, batch: usize) -> u
         let fault = match made {
             Made::Ring => ring_fault(&scarce, 4, batch),
             Made::Desk => desk_fault(&scarce, 4, batch),
+            Made::Sink => sink_fault(&scarce),
         };
-        assert_equal(
-            rt,
-            ((made, fail_index), heap.used()),
-            ((made, fail_index), 0),
-        );
-        if !scarce.has_failed() {
-            assert_equal(rt, ((made, fail_index), fault), ((made, fail_index), None));
+        let has_failed = scarce.has_failed();
+        let wanted = has_failed.then_some(RingFault::OutOfMemory);
+        let place = (made, fail_index);
+        assert_equal(rt, (place, (fault, heap.used())), (place, (wanted, 0)));
+        if !has_failed {
             return fail_index;
         }
-        assert_equal(
-            rt,
-            ((made, fail_index), fault),
-            ((made, fail_index), Some(RingFault::OutOfMemory)),
-        );
     }
     MOST
 }
 
-// A ring takes the list of segments that wait and that of spare ones, and each segment: as many as
-// the queue fills, and one more. A desk takes a ring.
-
 #[test]
-fn each_growth_of_a_ring_is_refused_in_turn(rt: HostRuntime) {
-    for (batch, want) in [(4, 4), (2, 5), (1, 7)] {
-        let refused = refuse_in_turn(&rt, rt.alloc(), Made::Ring, batch);
-        assert_equal(&rt, (batch, refused), (batch, want));
+fn each_growth_of_what_is_made_is_refused_in_turn(rt: HostRuntime) {
+    // A ring takes the list of segments that wait and that of spare ones, and each segment: as many
+    // as the queue fills, and one more. A desk takes a ring, and a sink room for each kind of name.
+    for (made, batch, want) in [
+        (Made::Ring, 4, 4),
+        (Made::Ring, 2, 5),
+        (Made::Ring, 1, 7),
+        (Made::Desk, 2, 5),
+        (Made::Sink, 0, 2),
+    ] {
+        let place = (made, batch);
+        let refused = refuse_in_turn(&rt, rt.alloc(), made, batch);
+        assert_equal(&rt, (place, refused), (place, want));
     }
-}
-
-#[test]
-fn each_growth_of_a_desk_is_refused_in_turn(rt: HostRuntime) {
-    let refused = refuse_in_turn(&rt, rt.alloc(), Made::Desk, 2);
-    assert_equal(&rt, refused, 5);
 }
 
 #[test]
@@ -96,10 +100,7 @@ fn new_reports_the_first_fault(rt: HostRuntime) {
             ring_fault(rt.alloc(), queue, batch),
             desk_fault(rt.alloc(), queue, batch),
         ];
-        assert_equal(
-            &rt,
-            ((queue, batch), faults),
-            ((queue, batch), [want, want]),
-        );
+        let place = (queue, batch);
+        assert_equal(&rt, (place, faults), (place, [want, want]));
     }
 }

@@ -11,7 +11,7 @@ use std::alloc::Global;
 use std::process::Abort;
 
 /// How often the calls came to each case.
-#[derive(Drop)]
+#[derive(Default, Drop)]
 struct Met {
     /// A span was queued, found the queue full, or was late.
     admissions: [u32; 3],
@@ -394,18 +394,7 @@ fn assert_met(rt: &impl Abort, met: &Met) {
 fn desks_are_as_plain_lists(rt: HostRuntime) {
     let mut draws = Draws {
         state: 10,
-        met: Met {
-            admissions: [0; 3],
-            causes: [0; 8],
-            places: [0; 4],
-            pops: [0; 2],
-            lost_pops: [0; 2],
-            drops: [0; 2],
-            reasons: [0; 3],
-            clears: [0; 5],
-            fates: [0; 6],
-            settles: [0; 2],
-        },
+        met: Met::default(),
     };
     for _ in 0..200 {
         run_desk(&rt, rt.alloc(), &mut draws);

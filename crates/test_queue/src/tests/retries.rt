@@ -7,6 +7,9 @@ use std::process::Abort;
 /// 1994-11-06 08:49:37 UTC, in seconds since 1970.
 const DATE: u64 = 784_111_777;
 
+/// A nanosecond after it.
+const LATE: u64 = 784_111_777_000_000_001;
+
 /// How refused settings are reported.
 const BAD_RETRY: &str =
     "bad retry settings: 1 to 5 attempts, a wait of 1 to 30000 ms, the longest to 300000 ms, \
@@ -63,23 +66,32 @@ fn date(moment: u64) -> Outcome {
     unavailable(RetryAfter::Date(moment))
 }
 
+/// So many seconds before or after the date, in nanoseconds since 1970.
+fn seconds_from_date(seconds: i64) -> u64 {
+    DATE.saturating_add_signed(seconds)
+        .saturating_mul(1_000_000_000)
+}
+
+#[test]
+fn a_date_is_waited_for(rt: HostRuntime) {
+    // By the usual settings; and nearer than the least wait, as far as it, and farther.
+    for (settings, now, moment) in [
+        (USUAL, -2, 0),
+        (PATIENT, -1, 1),
+        (PATIENT, -2, 0),
+        (PATIENT, -7, 0),
+    ] {
+        let place = (settings, now);
+        let next = next_of(&rt, settings, 1, date(DATE), seconds_from_date(now), 0);
+        let wanted = Next::Again(seconds_from_date(moment));
+        assert_equal(&rt, (place, next), (place, wanted));
+    }
+}
+
 #[test]
 fn dates_and_least_waits_are_waited_for(rt: HostRuntime) {
     for (settings, attempt, outcome, now, moment) in [
-        (
-            USUAL,
-            1,
-            date(DATE),
-            784_111_775_000_000_000,
-            784_111_777_000_000_000,
-        ),
-        (
-            USUAL,
-            1,
-            date(DATE),
-            784_111_777_000_000_001,
-            784_111_777_000_000_001,
-        ),
+        (USUAL, 1, date(DATE), LATE, LATE),
         (USUAL, 1, date(u64::MAX), 5, 300_000_000_005),
         // Moments stop at the last one.
         (USUAL, 1, date(u64::MAX), u64::MAX, u64::MAX),
@@ -91,54 +103,26 @@ fn dates_and_least_waits_are_waited_for(rt: HostRuntime) {
         (PATIENT, 1, Outcome::NoReply, 5, 2_000_000_005),
         (PATIENT, 1, seconds(7), 5, 7_000_000_005),
         (PATIENT, 3, Outcome::NoReply, 5, 4_000_000_005),
-        // A date that is nearer than the least wait, as far as it, and farther.
-        (
-            PATIENT,
-            1,
-            date(DATE),
-            784_111_776_000_000_000,
-            784_111_778_000_000_000,
-        ),
-        (
-            PATIENT,
-            1,
-            date(DATE),
-            784_111_775_000_000_000,
-            784_111_777_000_000_000,
-        ),
-        (
-            PATIENT,
-            1,
-            date(DATE),
-            784_111_770_000_000_000,
-            784_111_777_000_000_000,
-        ),
         (MOST_PATIENT, 1, Outcome::NoReply, 5, 300_000_000_005),
         (MOST_PATIENT, 1, seconds(301), 5, 300_000_000_005),
         (MOST_PATIENT, 1, date(DATE), 5, 300_000_000_005),
     ] {
+        let place = (settings, outcome, now);
         let next = next_of(&rt, settings, attempt, outcome, now, 0);
-        assert_equal(
-            &rt,
-            ((settings, outcome, now), next),
-            ((settings, outcome, now), Next::Again(moment)),
-        );
+        assert_equal(&rt, (place, next), (place, Next::Again(moment)));
     }
 }
 
-/// What follows from this outcome at any attempt but the last, and at the last one, at the moment 3
-/// with waits of a millisecond.
-fn follows(outcome: Outcome) -> (Next, Next) {
-    let again = (Next::Again(1_000_003), Next::GiveUp(Cause::Attempts));
-    match outcome {
-        Outcome::Delivered => (Next::Done, Next::Done),
-        Outcome::Partial(rejected) => (Next::Partial(rejected), Next::Partial(rejected)),
-        Outcome::Refused(status) => {
-            let refused = Next::GiveUp(Cause::Refused(status));
-            (refused, refused)
+/// Asserts what follows from this outcome at any attempt but the last, and at the last one, at the
+/// moment 3 with waits of a millisecond.
+fn assert_followed(rt: &impl Abort, outcome: Outcome, before: Next, at_last: Next) {
+    for attempts in [1, 2, 5] {
+        for attempt in 1..=attempts {
+            let next = next_of(rt, (attempts, 1, 1, 0), attempt, outcome, 3, 0);
+            let wanted = if attempt == attempts { at_last } else { before };
+            let place = (outcome, attempts, attempt);
+            assert_equal(rt, (place, next), (place, wanted));
         }
-        Outcome::Bad => (Next::GiveUp(Cause::BadReply), Next::GiveUp(Cause::BadReply)),
-        _ => again,
     }
 }
 
@@ -148,33 +132,19 @@ fn each_outcome_is_followed_at_each_attempt(rt: HostRuntime) {
         status: 429,
         after: None,
     };
-    for outcome in [
-        Outcome::Delivered,
-        Outcome::Partial(2),
-        throttled,
-        Outcome::Refused(400),
-        Outcome::NoReply,
-        Outcome::Bad,
+    let again = Next::Again(1_000_003);
+    let attempts = Next::GiveUp(Cause::Attempts);
+    let refused = Next::GiveUp(Cause::Refused(400));
+    let bad = Next::GiveUp(Cause::BadReply);
+    for (outcome, before, at_last) in [
+        (Outcome::Delivered, Next::Done, Next::Done),
+        (Outcome::Partial(2), Next::Partial(2), Next::Partial(2)),
+        (throttled, again, attempts),
+        (Outcome::Refused(400), refused, refused),
+        (Outcome::NoReply, again, attempts),
+        (Outcome::Bad, bad, bad),
     ] {
-        let (before, at_last) = follows(outcome);
-        for (attempts, attempt) in [
-            (1, 1),
-            (2, 1),
-            (2, 2),
-            (5, 1),
-            (5, 2),
-            (5, 3),
-            (5, 4),
-            (5, 5),
-        ] {
-            let next = next_of(&rt, (attempts, 1, 1, 0), attempt, outcome, 3, 0);
-            let wanted = if attempt == attempts { at_last } else { before };
-            assert_equal(
-                &rt,
-                ((attempts, attempt), next),
-                ((attempts, attempt), wanted),
-            );
-        }
+        assert_followed(&rt, outcome, before, at_last);
     }
 }
 
@@ -211,11 +181,8 @@ fn settings_have_ranges(rt: HostRuntime) {
         ((5, 1000, 300_000, 300_001), false),
         ((5, 1000, 300_000, u32::MAX), false),
     ] {
-        assert_equal(
-            &rt,
-            (settings, is_config(&rt, settings)),
-            (settings, is_good),
-        );
+        let found = is_config(&rt, settings);
+        assert_equal(&rt, (settings, found), (settings, is_good));
     }
 }
 

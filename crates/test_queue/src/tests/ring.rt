@@ -41,7 +41,7 @@ fn give_back<T: Drop, A: Allocator>(rt: &impl Abort, ring: &mut SpanRing<T, A>, 
 }
 
 /// Takes what another thread may have.
-fn assert_send<T: Send>(_: &T) {}
+pub(crate) fn assert_send<T: Send>(_: &T) {}
 
 /// Rings and runs go to another thread where their items do.
 fn assert_both_send<T: Send>(ring: &SpanRing<T>, run: &Run<T>) {

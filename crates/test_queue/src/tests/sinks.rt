@@ -1,21 +1,16 @@
 //! What the names of spans that aren't delivered are given to: a sink that keeps the newest, and
 //! one that writes lines.
 use crate::tests::equal::{assert_equal, assert_shown};
+use crate::tests::ring::assert_send;
 use crate::tests::spans::name;
-use linked_list_allocator::LocalHeap;
 use name_sink::{DEFAULT_NAMES, NameLines, NameSink, NewestNames, ReasonCounts};
 use otlp_span::{Entry, Reason};
-use std::alloc::{Allocator, Global};
+use std::alloc::Allocator;
 use std::collections::vec_deque::Iter;
 use std::io::{self, ErrorKind, Write};
-use std::marker::Send;
 use std::ops::Range;
 use std::process::Abort;
 use std::test::Fail;
-use test_support::FailingAllocator;
-
-/// More calls for memory than a sink is made with.
-const MOST: u64 = 5;
 
 /// More names than a sink keeps where nothing else is said.
 const MANY: u64 = 100_000;
@@ -27,7 +22,8 @@ const OLDER: u64 = 34_464;
 const SHOWN: &str = concat!(
     "NewestNames { most: 1, dropped: [Entry { trace: ",
     "TraceId([1, 1, 1, 1, 1, 1, 1, 1, 1, 1, 1, 1, 1, 1, 1, 1]), ",
-    "span: SpanId([0, 0, 0, 0, 0, 0, 0, 2]), ticket: 2, reason: TooLarge }], lost: [Entry { trace: ",
+    "span: SpanId([0, 0, 0, 0, 0, 0, 0, 2]), ticket: 2, reason: TooLarge }], ",
+    "lost: [Entry { trace: ",
     "TraceId([1, 1, 1, 1, 1, 1, 1, 1, 1, 1, 1, 1, 1, 1, 1, 1]), ",
     "span: SpanId([0, 0, 0, 0, 0, 0, 0, 5]), ticket: 5, reason: GivenUp }], ",
     "older: ReasonCounts { queue_full: 0, encode_memory: 0, too_large: 1, abandoned: 0, ",
@@ -89,9 +85,6 @@ fn the_newest_names_are_kept_within_the_bound(rt: HostRuntime) -> Result<(), Fai
     Ok(())
 }
 
-/// Takes what another thread may have.
-fn assert_send<T: Send>(_: &T) {}
-
 /// A sink goes to another thread.
 fn assert_sink_sends(sink: &NewestNames) {
     assert_send(sink);
@@ -136,36 +129,6 @@ fn older_names_are_counted_by_reason(rt: HostRuntime) -> Result<(), Fail> {
     };
     assert_equal(&rt, sink.older(), older);
     Ok(())
-}
-
-/// Whether a sink for eight names of each kind is made.
-fn is_made<A: Allocator + Copy>(alloc: A) -> bool {
-    NewestNames::new(alloc, 8).is_ok()
-}
-
-/// Makes a sink while each call for memory is refused in turn: nothing is then kept. Answers how
-/// many were.
-fn refuse_in_turn(rt: &impl Abort, alloc: Global) -> u64 {
-    let heap = LocalHeap::new(alloc, 16_384).expect(rt, "memory");
-    for fail_index in 0..MOST {
-        let scarce = FailingAllocator::new(&heap, fail_index);
-        let made = is_made(&scarce);
-        assert_equal(
-            rt,
-            (fail_index, (made, heap.used())),
-            (fail_index, (!scarce.has_failed(), 0)),
-        );
-        if made {
-            return fail_index;
-        }
-    }
-    MOST
-}
-
-#[test]
-fn each_growth_of_a_sink_is_refused_in_turn(rt: HostRuntime) {
-    // Room for the names of dropped spans, and room for those of lost ones.
-    assert_equal(&rt, refuse_in_turn(&rt, rt.alloc()), 2);
 }
 
 /// Compares names with those of spans with consecutive numbers, and answers the number after them.
@@ -256,11 +219,8 @@ fn after_a_write_that_fails_names_are_only_counted(rt: HostRuntime) {
         give_four(&mut sink);
         let failed = sink.error().map(|error| error.kind());
         let wanted = (unwritten > 0).then_some(ErrorKind::BrokenPipe);
-        assert_equal(
-            &rt,
-            (left, (failed, sink.unwritten())),
-            (left, (wanted, unwritten)),
-        );
+        let found = (failed, sink.unwritten());
+        assert_equal(&rt, (left, found), (left, (wanted, unwritten)));
         let written = sink.into_writer().taken;
         let begins = LINES.as_bytes().starts_with(written.as_slice());
         assert_equal(&rt, (begins, written.len()), (true, left));

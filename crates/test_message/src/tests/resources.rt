@@ -1,6 +1,6 @@
 //! Resource attributes as a text.
 
-use crate::equal::{assert_displayed, assert_equal, assert_equal_at};
+use crate::tests::equal::{assert_displayed, assert_equal};
 use otlp_value::Value;
 use resource_text::{ResourceFault, resource_attributes, resource_pairs};
 use std::alloc::Allocator;
@@ -42,7 +42,7 @@ fn texts_are_read_or_refused_as_a_whole(rt: HostRuntime) {
     assert_equal(&rt, fault_in(&rt, rt.alloc(), TEXT, &PAIRS), None);
     for text in ["a=b,c", "=b", "a=b,", "a=b;c", "a=%zz", "a=%ff", "a b=c"] {
         let fault = fault_in(&rt, rt.alloc(), text, &[]);
-        assert_equal_at(&rt, fault, Some(ResourceFault::NotPairs), text);
+        assert_equal(&rt, (text, fault), (text, Some(ResourceFault::NotPairs)));
     }
 }
 

@@ -1,17 +1,12 @@
-//! Worked examples of sampling by a ratio (crate `ratio_sampler`): thresholds, trace ids and texts,
-//! with what becomes of each written out by hand. The checker computes what the definitions make of
-//! them, and compares.
-//!
-//! Each function without an argument is a group of examples. Its clauses are the examples, and it
-//! does nothing when it is called.
-#![tactic(auto)]
+//! Sampling by a ratio: thresholds, trace ids and texts.
 
-ghost use Rattle.std.specs.Prelude.{◌≡◌, ◌+◌, ◌-◌, ◌^◌, [], ◌∷◌, codes, false, true};
+ghost use Rattle.std.specs.Prelude.{◌≡◌, ◌+◌, ◌-◌, ◌^◌, codes, false, true};
 ghost use Rattle.model_span.specs.Sampling as model;
 ghost use Rattle.ratio_sampler.specs.Decimal.{denominator, is_decimal, numerator};
 ghost use Rattle.ratio_sampler.specs.Ratio.{by_threshold, is_sampled_by, random_part};
 ghost use Rattle.ratio_sampler.specs.Ratio.{threshold_of};
-ghost use Rattle.worked_ratio.specs.OtherRules.{go_samples, python_samples};
+ghost use Rattle.worked_settings.specs.OtherRules.{go_samples, python_samples};
+ghost use Rattle.worked_settings.specs.TraceIds.{first_id, second_id};
 
 use otlp_sampler::{ParentBased, Sampler};
 use ratio_sampler::TraceIdRatio;
@@ -35,26 +30,14 @@ pub fn thresholds()
 
 /// The trace ids that W3C Trace Context has as examples ("trace-id").
 pub fn trace_ids()
-    ensures first { random_part (
-        0x4b ∷ 0xf9 ∷ 0x2f ∷ 0x35 ∷ 0x77 ∷ 0xb3 ∷ 0x4d ∷ 0xa6 ∷
-        0xa3 ∷ 0xce ∷ 0x92 ∷ 0x9d ∷ 0x0e ∷ 0x0e ∷ 0x47 ∷ 0x36 ∷ []) ≡ 0xce929d0e0e4736 }
-    ensures second { random_part (
-        0x0a ∷ 0xf7 ∷ 0x65 ∷ 0x19 ∷ 0x16 ∷ 0xcd ∷ 0x43 ∷ 0xdd ∷
-        0x84 ∷ 0x48 ∷ 0xeb ∷ 0x21 ∷ 0x1c ∷ 0x80 ∷ 0x31 ∷ 0x9c ∷ []) ≡ 0x48eb211c80319c }
+    ensures first { random_part first_id ≡ 0xce929d0e0e4736 }
+    ensures second { random_part second_id ≡ 0x48eb211c80319c }
     // The first one at 1/4, and at 1/8.
-    ensures quarter { is_sampled_by 0xc0000000000000 (
-        0x4b ∷ 0xf9 ∷ 0x2f ∷ 0x35 ∷ 0x77 ∷ 0xb3 ∷ 0x4d ∷ 0xa6 ∷
-        0xa3 ∷ 0xce ∷ 0x92 ∷ 0x9d ∷ 0x0e ∷ 0x0e ∷ 0x47 ∷ 0x36 ∷ []) ≡ true }
-    ensures eighth { is_sampled_by 0xe0000000000000 (
-        0x4b ∷ 0xf9 ∷ 0x2f ∷ 0x35 ∷ 0x77 ∷ 0xb3 ∷ 0x4d ∷ 0xa6 ∷
-        0xa3 ∷ 0xce ∷ 0x92 ∷ 0x9d ∷ 0x0e ∷ 0x0e ∷ 0x47 ∷ 0x36 ∷ []) ≡ false }
+    ensures quarter { is_sampled_by 0xc0000000000000 first_id ≡ true }
+    ensures eighth { is_sampled_by 0xe0000000000000 first_id ≡ false }
     // A number is sampled at itself as the threshold, and not at the next one.
-    ensures itself { is_sampled_by 0x48eb211c80319c (
-        0x0a ∷ 0xf7 ∷ 0x65 ∷ 0x19 ∷ 0x16 ∷ 0xcd ∷ 0x43 ∷ 0xdd ∷
-        0x84 ∷ 0x48 ∷ 0xeb ∷ 0x21 ∷ 0x1c ∷ 0x80 ∷ 0x31 ∷ 0x9c ∷ []) ≡ true }
-    ensures next { is_sampled_by 0x48eb211c80319d (
-        0x0a ∷ 0xf7 ∷ 0x65 ∷ 0x19 ∷ 0x16 ∷ 0xcd ∷ 0x43 ∷ 0xdd ∷
-        0x84 ∷ 0x48 ∷ 0xeb ∷ 0x21 ∷ 0x1c ∷ 0x80 ∷ 0x31 ∷ 0x9c ∷ []) ≡ false }
+    ensures itself { is_sampled_by 0x48eb211c80319c second_id ≡ true }
+    ensures next { is_sampled_by 0x48eb211c80319d second_id ≡ false }
 {}
 
 /// The same trace ids by the rules of the Go and of the Python SDK, beside this kit's: the share is
@@ -63,35 +46,17 @@ pub fn trace_ids()
 /// `51e7494e8707239b` and `422475908e4018ce`.
 pub fn other_sdks()
     // 1/4 of 2^63 is 0x2000000000000000, and 1/4 of 2^64 is 0x4000000000000000.
-    ensures quarter_here { is_sampled_by (threshold_of 1 4) (
-        0x4b ∷ 0xf9 ∷ 0x2f ∷ 0x35 ∷ 0x77 ∷ 0xb3 ∷ 0x4d ∷ 0xa6 ∷
-        0xa3 ∷ 0xce ∷ 0x92 ∷ 0x9d ∷ 0x0e ∷ 0x0e ∷ 0x47 ∷ 0x36 ∷ []) ≡ true }
-    ensures quarter_in_go { go_samples 1 4 (
-        0x4b ∷ 0xf9 ∷ 0x2f ∷ 0x35 ∷ 0x77 ∷ 0xb3 ∷ 0x4d ∷ 0xa6 ∷
-        0xa3 ∷ 0xce ∷ 0x92 ∷ 0x9d ∷ 0x0e ∷ 0x0e ∷ 0x47 ∷ 0x36 ∷ []) ≡ false }
-    ensures quarter_in_python { python_samples 1 4 (
-        0x4b ∷ 0xf9 ∷ 0x2f ∷ 0x35 ∷ 0x77 ∷ 0xb3 ∷ 0x4d ∷ 0xa6 ∷
-        0xa3 ∷ 0xce ∷ 0x92 ∷ 0x9d ∷ 0x0e ∷ 0x0e ∷ 0x47 ∷ 0x36 ∷ []) ≡ false }
+    ensures quarter_here { is_sampled_by (threshold_of 1 4) first_id ≡ true }
+    ensures quarter_in_go { go_samples 1 4 first_id ≡ false }
+    ensures quarter_in_python { python_samples 1 4 first_id ≡ false }
     // 9/16 of 2^63 is 0x4800000000000000, and 9/16 of 2^64 is 0x9000000000000000.
-    ensures nine_sixteenths_here { is_sampled_by (threshold_of 9 16) (
-        0x0a ∷ 0xf7 ∷ 0x65 ∷ 0x19 ∷ 0x16 ∷ 0xcd ∷ 0x43 ∷ 0xdd ∷
-        0x84 ∷ 0x48 ∷ 0xeb ∷ 0x21 ∷ 0x1c ∷ 0x80 ∷ 0x31 ∷ 0x9c ∷ []) ≡ false }
-    ensures nine_sixteenths_in_go { go_samples 9 16 (
-        0x0a ∷ 0xf7 ∷ 0x65 ∷ 0x19 ∷ 0x16 ∷ 0xcd ∷ 0x43 ∷ 0xdd ∷
-        0x84 ∷ 0x48 ∷ 0xeb ∷ 0x21 ∷ 0x1c ∷ 0x80 ∷ 0x31 ∷ 0x9c ∷ []) ≡ true }
-    ensures nine_sixteenths_in_python { python_samples 9 16 (
-        0x0a ∷ 0xf7 ∷ 0x65 ∷ 0x19 ∷ 0x16 ∷ 0xcd ∷ 0x43 ∷ 0xdd ∷
-        0x84 ∷ 0x48 ∷ 0xeb ∷ 0x21 ∷ 0x1c ∷ 0x80 ∷ 0x31 ∷ 0x9c ∷ []) ≡ true }
+    ensures nine_sixteenths_here { is_sampled_by (threshold_of 9 16) second_id ≡ false }
+    ensures nine_sixteenths_in_go { go_samples 9 16 second_id ≡ true }
+    ensures nine_sixteenths_in_python { python_samples 9 16 second_id ≡ true }
     // 3/4 of 2^63 is 0x6000000000000000, and 3/4 of 2^64 is 0xc000000000000000.
-    ensures three_quarters_here { is_sampled_by (threshold_of 3 4) (
-        0x4b ∷ 0xf9 ∷ 0x2f ∷ 0x35 ∷ 0x77 ∷ 0xb3 ∷ 0x4d ∷ 0xa6 ∷
-        0xa3 ∷ 0xce ∷ 0x92 ∷ 0x9d ∷ 0x0e ∷ 0x0e ∷ 0x47 ∷ 0x36 ∷ []) ≡ true }
-    ensures three_quarters_in_go { go_samples 3 4 (
-        0x4b ∷ 0xf9 ∷ 0x2f ∷ 0x35 ∷ 0x77 ∷ 0xb3 ∷ 0x4d ∷ 0xa6 ∷
-        0xa3 ∷ 0xce ∷ 0x92 ∷ 0x9d ∷ 0x0e ∷ 0x0e ∷ 0x47 ∷ 0x36 ∷ []) ≡ true }
-    ensures three_quarters_in_python { python_samples 3 4 (
-        0x4b ∷ 0xf9 ∷ 0x2f ∷ 0x35 ∷ 0x77 ∷ 0xb3 ∷ 0x4d ∷ 0xa6 ∷
-        0xa3 ∷ 0xce ∷ 0x92 ∷ 0x9d ∷ 0x0e ∷ 0x0e ∷ 0x47 ∷ 0x36 ∷ []) ≡ true }
+    ensures three_quarters_here { is_sampled_by (threshold_of 3 4) first_id ≡ true }
+    ensures three_quarters_in_go { go_samples 3 4 first_id ≡ true }
+    ensures three_quarters_in_python { python_samples 3 4 first_id ≡ true }
 {}
 
 /// Texts of ratios.

@@ -1,7 +1,8 @@
 //! Settings of an environment, which is a table here.
 ghost use Rattle.std.specs.Prelude.{◌≤◌, length};
 
-use crate::equal::{assert_displayed, assert_equal};
+use crate::tests::equal::assert_equal;
+use crate::tests::settings::assert_fault;
 use otel_settings::settings_of_environment;
 use std::env::FillError;
 use std::rt::Env;
@@ -48,10 +49,9 @@ fn settings_of_a_table(rt: HostRuntime) {
     let settings = settings_of_environment(&(Table, rt.alloc())).expect(&rt, "memory");
     assert_equal(&rt, (settings.desk.queue, settings.desk.batch), (2048, 7));
     assert_equal(&rt, settings.service_name.is_some(), true);
-    assert!(rt; settings.faults.len() == 1);
     let text = "OTEL_BSP_MAX_QUEUE_SIZE: \"\u{FFFD}\" isn't a whole number from 1 to 65536: 2048 \
                 is used instead";
-    assert_displayed(&rt, rt.alloc(), &settings.faults[0], text);
+    assert_fault(&rt, rt.alloc(), &settings, text);
 }
 
 #[test]

@@ -1,53 +1,14 @@
-//! What the tests start spans with, and the calls that they make by number.
-use otlp_ids::{OutOfMemory, SpanContext, SpanId, TraceFlags, TraceId};
+//! A start with attributes and a link, and the calls after it by number, all by `SpanExt`.
+use crate::tests::spans::{START, provider, remote, scope};
+use otlp_ids::{OutOfMemory, SpanContext};
 use otlp_sampler::Sampler;
-use otlp_span::{Kind, Resource, Scope, SpanLimits};
-use span_ext::{KeyValue, SpanExt, ValueRef};
+use otlp_span::{Kind, SpanLimits};
+use span_ext::{KeyValue, LinkRef, SpanExt, SpanRequest, ValueRef, start_span};
 use std::alloc::Allocator;
 use std::process::Abort;
-use std::sync::Arc;
-use trace_api::{Provider, Span, StartFault, WordsRng};
-
-pub(crate) const START: u64 = 1_000;
+use trace_api::{Span, StartFault, WordsRng};
 
 const MISS: u64 = 1_500;
-
-pub(crate) const END: u64 = 2_000;
-
-pub(crate) fn text<A: Allocator>(rt: &impl Abort, alloc: A, text: &str) -> String<A> {
-    String::from_str(alloc, text).expect(rt, "memory")
-}
-
-pub(crate) fn words<A: Allocator>(rt: &impl Abort, alloc: A, words: &[u64]) -> WordsRng<A> {
-    WordsRng::new(Vec::from_slice(alloc, words).expect(rt, "memory"))
-}
-
-/// A provider whose spans have the limits of the standard.
-pub(crate) fn provider<S: Sampler + Drop, A: Allocator + Copy>(
-    rt: &impl Abort,
-    alloc: A,
-    sampler: S,
-) -> Provider<S, A> {
-    let resource = Resource::new(alloc, Vec::new(alloc));
-    let resource = Arc::new(alloc, resource).expect(rt, "memory");
-    Provider::new(sampler, resource, SpanLimits::default())
-}
-
-pub(crate) fn scope<A: Allocator + Copy>(rt: &impl Abort, alloc: A) -> Arc<Scope<A>, A> {
-    let scope = Scope::named(alloc, "library").expect(rt, "memory");
-    Arc::new(alloc, scope).expect(rt, "memory")
-}
-
-/// The context of a remote span, sampled, with a trace state.
-pub(crate) fn remote<A: Allocator>(rt: &impl Abort, alloc: A) -> SpanContext<A> {
-    SpanContext {
-        trace: TraceId([7; 16]),
-        span: SpanId([8; 8]),
-        flags: TraceFlags(1),
-        remote: true,
-        state: text(rt, alloc, "k=v"),
-    }
-}
 
 /// Starts a child of a remote span on this memory, with two attributes and a link. What it is
 /// started with is on ample memory.
@@ -58,17 +19,23 @@ pub(crate) fn start<S: Sampler + Drop, A: Allocator + Copy>(
     sampler: S,
     words: &mut WordsRng<A>,
 ) -> Result<Span<A>, StartFault> {
-    let provider = provider(rt, ample, sampler);
+    let provider = provider(rt, ample, sampler, SpanLimits::default());
     let tracer = provider.tracer(scope(rt, ample));
     let parent = remote(rt, ample);
-    let kind = Kind::Client;
-    let mut query = tracer.start_copied(alloc, words, Some(&parent), "SELECT", kind, START)?;
-    query.set_all(&[
-        KeyValue::new("db.system", &"postgresql"),
-        KeyValue::new("db.rows", &0),
-    ])?;
-    query.link(&parent, &[KeyValue::new("messaging.batch", &7)])?;
-    Ok(query)
+    let request = SpanRequest {
+        kind: Kind::Client,
+        parent: Some(&parent),
+        attributes: &[
+            KeyValue::new("db.system", &"postgresql"),
+            KeyValue::new("db.rows", &0),
+        ],
+        links: &[LinkRef {
+            context: &parent,
+            attributes: &[KeyValue::new("messaging.batch", &7)],
+        }],
+        ..SpanRequest::named("SELECT")
+    };
+    start_span(&tracer, alloc, words, &request, START)
 }
 
 /// Makes some calls, one after the other.

@@ -1,6 +1,7 @@
 //! Large lists, texts and arrays.
-use crate::calls::built;
-use crate::equal::assert_equal;
+use crate::tests::equal::assert_equal;
+use crate::tests::short_calls::built;
+use crate::tests::spans::only_span;
 use otlp_sampler::AlwaysOn;
 use otlp_value::Value;
 use span_ext::{KeyValue, SpanExt};
@@ -51,20 +52,16 @@ fn a_thousand_attributes_are_set_as_the_limits_say(rt: HostRuntime) {
     assert_equal(&rt, span.event("many", 5, pairs.as_slice()), Ok(()));
     let mut pass = BodyPass::new(alloc, 1).expect(&rt, "memory");
     assert_equal(&rt, span.end(&mut pass, 6), Ended::Queued(0));
-    let spans = pass.spans();
-    assert_eq!(rt; spans.len(), 1);
+    let kept = only_span(&rt, &pass);
     // Two keys were there: 126 of the thousand are kept.
-    let kept = (
-        spans[0].attributes().len(),
-        spans[0].dropped_attributes_count(),
-    );
-    assert_equal(&rt, kept, (128, 874));
-    assert_equal(&rt, items_of(spans[0].attributes().first()), Some(MANY));
-    let events = spans[0].events();
+    let counts = (kept.attributes().len(), kept.dropped_attributes_count());
+    assert_equal(&rt, counts, (128, 874));
+    assert_equal(&rt, items_of(kept.attributes().first()), Some(MANY));
+    let events = kept.events();
     assert_eq!(rt; events.len(), 1);
-    let kept = (
+    let counts = (
         events[0].attributes.len(),
         events[0].dropped_attributes_count,
     );
-    assert_equal(&rt, kept, (128, 872));
+    assert_equal(&rt, counts, (128, 872));
 }

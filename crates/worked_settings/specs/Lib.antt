@@ -1,1 +1,2 @@
 pub mod OtherRules
+pub mod TraceIds

@@ -1,9 +1,9 @@
 //! Samplers by a ratio.
 
-use crate::equal::{assert_displayed, assert_equal, assert_equal_at};
-use otlp_ids::{SpanContext, TraceId};
-use otlp_sampler::{Decision, Sampler};
-use otlp_span::Kind;
+use crate::tests::equal::{assert_displayed, assert_equal};
+use crate::tests::samplers::decision_on;
+use otlp_ids::TraceId;
+use otlp_sampler::Decision;
 use ratio_sampler::{RatioFault, TraceIdRatio};
 
 /// The threshold of a ratio, or why it is refused.
@@ -12,12 +12,6 @@ fn threshold_of(ratio: Result<TraceIdRatio, RatioFault>) -> Result<u64, RatioFau
         Ok(ratio) => Ok(ratio.threshold()),
         Err(fault) => Err(fault),
     }
-}
-
-/// What becomes of a root with this trace id.
-fn decision_on(ratio: TraceIdRatio, trace: &TraceId) -> Decision {
-    let parent: Option<SpanContext> = None;
-    ratio.should_sample(parent.as_ref(), trace, "a", Kind::Internal)
 }
 
 #[test]
@@ -31,14 +25,14 @@ fn ratios_as_fractions_and_as_thresholds(rt: HostRuntime) {
         (3, 2, Err(RatioFault::AboveOne)),
     ] {
         let found = threshold_of(TraceIdRatio::of(numerator, denominator));
-        assert_equal_at(&rt, found, wanted, numerator);
+        assert_equal(&rt, (numerator, found), (numerator, wanted));
     }
     for (threshold, wanted) in [
         (1 << 56, Ok(1 << 56)),
         ((1 << 56) + 1, Err(RatioFault::ThresholdTooLarge)),
     ] {
         let found = threshold_of(TraceIdRatio::with_threshold(threshold));
-        assert_equal_at(&rt, found, wanted, threshold);
+        assert_equal(&rt, (threshold, found), (threshold, wanted));
     }
     assert_equal(&rt, TraceIdRatio::default().threshold(), 0);
 }
@@ -55,7 +49,11 @@ fn ratios_as_texts(rt: HostRuntime) {
         ("1e-3", Err(RatioFault::NotANumber)),
         ("1.001", Err(RatioFault::AboveOne)),
     ] {
-        assert_equal_at(&rt, threshold_of(TraceIdRatio::read(text)), wanted, text);
+        assert_equal(
+            &rt,
+            (text, threshold_of(TraceIdRatio::read(text))),
+            (text, wanted),
+        );
     }
 }
 
@@ -83,7 +81,7 @@ fn a_quarter_of_the_numbers_is_sampled(rt: HostRuntime) {
         } else {
             Decision::Drop
         };
-        assert_equal_at(&rt, decision_on(quarter, &trace), wanted, high);
+        assert_equal(&rt, (high, decision_on(&quarter, &trace)), (high, wanted));
     }
     assert_equal(&rt, sampled, 64);
 }

@@ -1,7 +1,8 @@
 //! What each call makes of a span, and that calls which don't count take no memory.
-use crate::equal::{assert_equal, assert_equal_at, assert_shown};
-use crate::spans::{CALLS, END, START, call, remote, start, words};
-use otlp_ids::SpanId;
+use crate::tests::calls::assert_link;
+use crate::tests::equal::{assert_equal, assert_shown};
+use crate::tests::short_spans::{CALLS, call, start};
+use crate::tests::spans::{END, PARENT, START, only_span, remote, words};
 use otlp_sampler::{AlwaysOff, AlwaysOn, Sampler};
 use otlp_span::{Kind, SpanData};
 use std::alloc::Allocator;
@@ -27,13 +28,6 @@ const EVENTS: &str = concat!(
     "dropped_attributes_count: 0 }]",
 );
 
-/// The context that both links lead to, as `Debug` shows it.
-const CONTEXT: &str = concat!(
-    "SpanContext { trace: TraceId([7, 7, 7, 7, 7, 7, 7, 7, 7, 7, 7, 7, 7, 7, 7, 7]), ",
-    "span: SpanId([8, 8, 8, 8, 8, 8, 8, 8]), flags: TraceFlags(1), remote: true, ",
-    "state: \"k=v\" }",
-);
-
 /// Asserts that a span has what it was started with, and what the calls made of it.
 pub(crate) fn assert_called<A: Allocator + Copy>(rt: &impl Abort, alloc: A, span: &SpanData<A>) {
     assert_equal(
@@ -42,7 +36,7 @@ pub(crate) fn assert_called<A: Allocator + Copy>(rt: &impl Abort, alloc: A, span
         ("SELECT cart", Kind::Client),
     );
     assert_equal(rt, (span.start_time(), span.end_time()), (START, END));
-    assert_equal(rt, span.parent_span_id(), Some(SpanId([8; 8])));
+    assert_equal(rt, span.parent_span_id(), Some(PARENT));
     assert_shown(rt, alloc, span.status(), "Error(\"bad\")");
     assert_shown(rt, alloc, &span.attributes(), ATTRIBUTES);
     assert_equal(rt, span.dropped_attributes_count(), 0);
@@ -54,15 +48,8 @@ pub(crate) fn assert_called<A: Allocator + Copy>(rt: &impl Abort, alloc: A, span
 fn assert_linked<A: Allocator + Copy>(rt: &impl Abort, alloc: A, span: &SpanData<A>) {
     let links = span.links();
     assert_eq!(rt; links.len(), 2);
-    assert_shown(rt, alloc, &links[0].span_context, CONTEXT);
-    assert_shown(
-        rt,
-        alloc,
-        &links[0].attributes,
-        "[(\"messaging.batch\", Int(7))]",
-    );
-    assert_shown(rt, alloc, &links[1].span_context, CONTEXT);
-    assert_equal(rt, links[1].attributes.len(), 0);
+    assert_link(rt, alloc, &links[0], "[(\"messaging.batch\", Int(7))]");
+    assert_link(rt, alloc, &links[1], "[]");
 }
 
 /// Starts a span on this memory.
@@ -79,7 +66,7 @@ pub(crate) fn built<S: Sampler + Drop, A: Allocator + Copy>(
 fn call_all<A: Allocator + Copy, B: Allocator>(rt: &impl Abort, alloc: B, span: &mut Span<A>) {
     let to = remote(rt, alloc);
     for number in 0..CALLS {
-        assert_equal_at(rt, call(span, &to, number), Ok(()), number);
+        assert_equal(rt, (number, call(span, &to, number)), (number, Ok(())));
     }
 }
 
@@ -90,9 +77,7 @@ fn each_call_copies_what_it_is_lent(rt: HostRuntime) {
     call_all(&rt, alloc, &mut span);
     let mut pass = BodyPass::new(alloc, 1).expect(&rt, "memory");
     assert_equal(&rt, span.end(&mut pass, END), Ended::Queued(0));
-    let spans = pass.spans();
-    assert_eq!(rt; spans.len(), 1);
-    assert_called(&rt, alloc, &spans[0]);
+    assert_called(&rt, alloc, only_span(&rt, &pass));
 }
 
 /// How many calls for memory all calls make on a span that this sampler decided on.

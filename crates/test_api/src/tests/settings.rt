@@ -1,17 +1,17 @@
 //! Settings of lists of names and values.
 
-use crate::equal::{assert_displayed, assert_equal, assert_equal_at};
+use crate::tests::equal::{assert_displayed, assert_equal};
+use crate::tests::samplers::decision_on;
 use otel_settings::{SamplerName, Settings, Variable, settings_of};
-use otlp_ids::{SpanContext, TraceId};
-use otlp_sampler::{Decision, Sampler};
-use otlp_span::Kind;
+use otlp_ids::TraceId;
+use otlp_sampler::Decision;
 use otlp_value::Value;
-use std::alloc::{AllocError, Allocator};
+use std::alloc::{AllocError, Allocator, Global};
 use std::process::Abort;
 use test_support::FailingAllocator;
 
 /// All that can be set, with two bad values.
-pub(crate) const PAIRS: [(&str, &str); 15] = [
+const PAIRS: [(&str, &str); 15] = [
     ("OTEL_SDK_DISABLED", "TRUE"),
     (
         "OTEL_RESOURCE_ATTRIBUTES",
@@ -31,6 +31,17 @@ pub(crate) const PAIRS: [(&str, &str); 15] = [
     ("OTEL_EXPORTER_OTLP_TRACES_TIMEOUT", ""),
     ("OTHER", "1"),
 ];
+
+/// The settings of these pairs.
+fn settings(rt: &impl Abort, alloc: Global, pairs: &[(&str, &str)]) -> Settings {
+    settings_of(alloc, pairs).expect(rt, "memory")
+}
+
+/// Asserts that settings have one fault, which is reported so.
+pub(crate) fn assert_fault(rt: &impl Abort, alloc: Global, settings: &Settings, text: &str) {
+    assert!(rt; settings.faults.len() == 1);
+    assert_displayed(rt, alloc, &settings.faults[0], text);
+}
 
 /// Compares an attribute, whose value is a text.
 fn assert_attribute<A: Allocator>(
@@ -79,7 +90,7 @@ fn assert_target<A: Allocator>(
 
 #[test]
 fn settings_are_read_variable_by_variable(rt: HostRuntime) {
-    let settings = settings_of(rt.alloc(), &PAIRS).expect(&rt, "memory");
+    let settings = settings(&rt, rt.alloc(), &PAIRS);
     assert_set(&rt, &settings);
     assert_target(&rt, &settings, "collector", 4319, "/base/v1/traces");
     assert_equal(&rt, settings.timeout_ms, 2500);
@@ -102,7 +113,7 @@ fn settings_are_read_variable_by_variable(rt: HostRuntime) {
 
 #[test]
 fn nothing_is_set(rt: HostRuntime) {
-    let settings = settings_of(rt.alloc(), &[]).expect(&rt, "memory");
+    let settings = settings(&rt, rt.alloc(), &[]);
     assert_equal(&rt, settings.faults.len(), 0);
     assert_equal(&rt, settings.resource.len(), 0);
     assert_equal(&rt, settings.disabled, false);
@@ -142,11 +153,10 @@ fn each_bad_value_is_one_fault_that_says_what_is_used(rt: HostRuntime) {
             "a URL such as http://collector:4318: http://localhost:4318/v1/traces",
         ),
     ] {
-        let settings = settings_of(rt.alloc(), &[(name, value)]).expect(&rt, "memory");
-        assert!(rt; settings.faults.len() == 1);
+        let settings = settings(&rt, rt.alloc(), &[(name, value)]);
         let wanted = format!(in rt.alloc(); "{name}: {value:?} isn't {text} is used instead");
         let wanted = wanted.expect(&rt, "memory");
-        assert_displayed(&rt, rt.alloc(), &settings.faults[0], &wanted);
+        assert_fault(&rt, rt.alloc(), &settings, &wanted);
     }
 }
 
@@ -157,9 +167,9 @@ fn a_bad_ratio_is_1_and_a_sampler_without_one_ignores_it(rt: HostRuntime) {
             ("OTEL_TRACES_SAMPLER", name),
             ("OTEL_TRACES_SAMPLER_ARG", "25%"),
         ];
-        let settings = settings_of(rt.alloc(), &pairs).expect(&rt, "memory");
-        assert_equal_at(&rt, settings.faults.len(), count, name);
-        assert_equal_at(&rt, settings.sampler.ratio.threshold(), 0, name);
+        let settings = settings(&rt, rt.alloc(), &pairs);
+        assert_equal(&rt, (name, settings.faults.len()), (name, count));
+        assert_equal(&rt, (name, settings.sampler.ratio.threshold()), (name, 0));
         for fault in &settings.faults {
             assert_equal(&rt, fault.variable, Variable::TracesSamplerArg);
             let text = "OTEL_TRACES_SAMPLER_ARG: \"25%\" isn't a decimal number from 0 to 1: 1.0 \
@@ -173,7 +183,6 @@ fn a_bad_ratio_is_1_and_a_sampler_without_one_ignores_it(rt: HostRuntime) {
 fn samplers_decide_as_their_names_say(rt: HostRuntime) {
     let low = TraceId([1; 16]);
     let high = TraceId([0xff; 16]);
-    let parent: Option<SpanContext> = None;
     for (name, at_low, at_high) in [
         (
             "always_on",
@@ -198,12 +207,11 @@ fn samplers_decide_as_their_names_say(rt: HostRuntime) {
             ("OTEL_TRACES_SAMPLER", name),
             ("OTEL_TRACES_SAMPLER_ARG", "0.5"),
         ];
-        let settings = settings_of(rt.alloc(), &pairs).expect(&rt, "memory");
-        assert_equal_at(&rt, settings.sampler.name.name(), name, name);
+        let settings = settings(&rt, rt.alloc(), &pairs);
+        assert_equal(&rt, (name, settings.sampler.name.name()), (name, name));
         for (trace, wanted) in [(&low, at_low), (&high, at_high)] {
-            let sampler = &settings.sampler;
-            let found = sampler.should_sample(parent.as_ref(), trace, "a", Kind::Internal);
-            assert_equal_at(&rt, found, wanted, name);
+            let found = decision_on(&settings.sampler, trace);
+            assert_equal(&rt, (name, found), (name, wanted));
         }
     }
 }
@@ -215,7 +223,7 @@ fn of_ten_thousand_equal_names_the_last_counts(rt: HostRuntime) {
         pairs.push(("OTEL_SERVICE_NAME", "a")).expect(&rt, "memory");
     }
     pairs.push(("OTEL_SERVICE_NAME", "b")).expect(&rt, "memory");
-    let settings = settings_of(rt.alloc(), &pairs).expect(&rt, "memory");
+    let settings = settings(&rt, rt.alloc(), &pairs);
     assert!(rt; settings.resource.len() == 1);
     assert_attribute(&rt, &settings.resource[0], "service.name", "b");
 }
