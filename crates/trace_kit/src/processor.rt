@@ -13,7 +13,8 @@ pub use batch_processor::{
     Missing, Naming, NewFault, Parts, Pass, SystemClock, WorkEnd, WorkerLeft, WorkerPass,
 };
 pub use batch_service::{
-    Done, MAX_THREADS, PassMissing, Served, Service, StartFault, Started, Work, serve,
+    Done, MAX_THREADS, PassMissing, Room, Served, Service, ServicePass, StartFault, Started, Work,
+    serve, work_on_all,
 };
 pub use simple_processor::{
     Flushed as SimpleFlushed, SimpleAccounts, SimpleBlank, SimpleFault, SimpleMissing, SimpleParts,
