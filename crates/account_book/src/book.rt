@@ -51,7 +51,7 @@ impl<V> Change<V, ()> for Unchanged {
     ghost after = { λ said told. said };
 }
 
-/// A new book of which no type tells yet. In contracts it is its name.
+/// A new book that no type names yet. In contracts it is its name.
 #[derive(Drop)]
 pub struct Blank<V> {
     rows: Rows<(bool, V)>,

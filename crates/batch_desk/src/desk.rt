@@ -276,7 +276,7 @@ impl<A: Allocator> Desk<A> {
     }
 
     /// Counts the spans of the batch with this number as handed to an exporter: it is out, and was
-    /// not handed yet, as `out` tells. From here on they don't enter the ledger of dropped spans
+    /// not handed yet, as `out` says. From here on they don't enter the ledger of dropped spans
     /// (profile).
     pub fn handed(&mut self, number: u64)
         requires { out_state self.old ≡ Some (number, false) }
@@ -350,7 +350,7 @@ impl<A: Allocator> Desk<A> {
         }
     }
 
-    /// Drops this batch, which is out and was not handed, as `is_in_hand` tells: the ledger names
+    /// Drops this batch, which is out and was not handed, as `is_in_hand` says: the ledger names
     /// its spans, in their order, each as dropped for this reason. The reason is one for which a
     /// batch may be dropped (`Reason::can_drop_batch`): not `QueueFull`, which is that of spans
     /// that end where the queue is full, nor one of lost spans (profile). Its spans are freed here;
@@ -365,7 +365,7 @@ impl<A: Allocator> Desk<A> {
     }
 
     /// Drops this batch, whose spans are named (`Batch::into_named`) and which is out and was not
-    /// handed, as `can_drop` tells: its names go onto the ledger, in their order. No span is freed
+    /// handed, as `can_drop` says: its names go onto the ledger, in their order. No span is freed
     /// (profile).
     pub fn drop_named(&mut self, batch: NamedBatch<A>)
         requires { IsNamedOut self.old batch }
@@ -386,7 +386,7 @@ impl<A: Allocator> Desk<A> {
         self.out = None;
     }
 
-    /// Ends this batch, which is out and was handed, as `can_settle` tells. Where the fate means
+    /// Ends this batch, which is out and was handed, as `can_settle` says. Where the fate means
     /// that its spans are lost (`loss_reason`), the second ledger names them, in their order, each
     /// with this reason. Its spans are freed here; under a lock take `settle_named`.
     pub fn settle(&mut self, batch: Batch<A>, fate: Fate)
@@ -399,7 +399,7 @@ impl<A: Allocator> Desk<A> {
     }
 
     /// Ends this batch (`Batch::into_settled`), which is out and was handed, as `can_settle_named`
-    /// tells: the names of its lost spans go onto the second ledger, in their order. No span is
+    /// says: the names of its lost spans go onto the second ledger, in their order. No span is
     /// freed, and no memory is taken (profile).
     pub fn settle_named(&mut self, batch: SettledBatch<A>)
         requires { CanSettle self.old batch.fate batch.number batch.room (length batch.entries) }

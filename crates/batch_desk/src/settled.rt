@@ -12,7 +12,7 @@ use std::alloc::{Allocator, Global};
 use std::marker::Model;
 
 /// Why the spans of a batch with this fate are lost; `None` where they aren't, or where that isn't
-/// known: a partial success doesn't tell which spans were refused (profile).
+/// known: a partial success doesn't say which spans were refused (profile).
 pub fn loss_reason(fate: Fate) -> Option<Reason>
     ensures { option_map reason_view result ≡ events.loss_reason (fate_view fate) }
 {

@@ -2,7 +2,8 @@
 -- head is given by what it says of a text: that no front of it is a head (`none`), that bytes can
 -- follow that make it one (`may`), that none can (`never`), and that its head has more fields than
 -- so many (`exceeds`).
-use Rattle.std.specs.Prelude.{◌≡◌, ℕ, ◌<◌, ◌≤◌, ◌⊎◌, List, length, Option, Some, None, Result, Ok, Err}
+use Rattle.std.specs.Prelude.{◌≡◌, ℕ, ◌<◌, ◌≤◌, ◌⊎◌, List, length, Option, Some, None}
+use Rattle.std.specs.Prelude.{Result, Ok, Err}
 use Rattle.std.specs.Io.KnownBytes.{IsAtEnd}
 use Rattle.httparse.specs.declared.spans.HeaderSpan.{HeaderSpan}
 use Rattle.http_wire.specs.declared.fault.HttpFault.{HttpFault}

@@ -34,7 +34,7 @@ is_chunked [] = false
 is_chunked (value ∷ []) = bytes_eq (lowercase value) (codes "chunked")
 is_chunked (value ∷ another ∷ values) = false
 
--- how far a body goes by the values of Transfer-Encoding, where it stands
+-- how far a body goes by the values of Transfer-Encoding, where the field is there
 abbrev pub framing_by_coding : List (List ℕ) → Framing
 framing_by_coding values = if is_chunked values then chunked else unknown
 
@@ -47,14 +47,14 @@ framing_by_fields otherwise fields =
     else framing_by_length otherwise
     (content_length (values_of (codes "content-length") fields))
 
--- Transfer-Encoding stands, and Content-Length too
+-- both Transfer-Encoding and Content-Length are there
 abbrev pub has_both_framings : List NameAndValue → Bool
 has_both_framings fields =
     nat_lt 0 (length (values_of (codes "transfer-encoding") fields))
     && nat_lt 0 (length (values_of (codes "content-length") fields))
 
--- how far a request's body goes: it isn't known where both fields stand (RFC 9112, section 6.1),
--- and there is none where neither does
+-- how far a request's body goes: it isn't known where both fields are there (RFC 9112, section
+-- 6.1), and there is none where neither is
 abbrev pub request_framing : List NameAndValue → Framing
 request_framing fields =
     if has_both_framings fields then unknown else framing_by_fields empty fields
@@ -99,7 +99,7 @@ IsBody chunked limits taken left failed answer = IsChunkedBody limits taken left
 IsBody to_end limits taken left failed answer = IsBodyToEnd limits.body taken left failed answer
 IsBody unknown limits taken left failed answer = (answer ≡ Err faults.BadLength) × (taken ≡ [])
 
--- how far a body goes, as the code tells it
+-- how far a body goes, as the code says it
 abbrev pub framing_view : DeclaredFraming → Framing
 framing_view Empty = empty
 framing_view (Sized size) = sized size

@@ -1,4 +1,4 @@
--- What the faults of a message tell of the count of failures. (profile)
+-- What the faults of a message say of the count of failures. (profile)
 use Rattle.std.specs.Prelude.{◌≡◌, ℕ, ◌⊎◌, Result, Err}
 use Rattle.http_wire.specs.declared.fault.HttpFault.{HttpFault}
 use Rattle.http_wire.specs.declared.fault.HttpFault.TheVariants as faults

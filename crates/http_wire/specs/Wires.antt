@@ -1,4 +1,4 @@
--- A wire over memory that fails when it is told to.
+-- A wire over memory that fails on request.
 use Rattle.std.specs.Prelude.{ℕ, Bool, false, ◌==◌, nat_le, min, List, length}
 use Rattle.http_wire.specs.declared.wire.FailingCalls.{FailingCalls}
 use Rattle.http_wire.specs.declared.wire.FailingCalls.TheVariants.{Never, Once, From}

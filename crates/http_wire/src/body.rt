@@ -64,7 +64,7 @@ fn is_chunked(kept: &HeaderMap) -> bool
     }
 }
 
-/// How far a body goes by Transfer-Encoding, which stands.
+/// How far a body goes by Transfer-Encoding, which is there.
 fn framing_by_coding(kept: &HeaderMap) -> Framing
     ensures { framing_view result ≡ framing_by_coding
         (map (λ v. v.bytes) (get_all kept.now (codes "transfer-encoding"))) }
@@ -77,9 +77,9 @@ fn framing_by_coding(kept: &HeaderMap) -> Framing
 }
 
 /// How far the body goes of a head with these fields (RFC 9112, section 6.3). Where
-/// Transfer-Encoding stands, the body comes in chunks if that is one field, `chunked` in any case
+/// Transfer-Encoding is there, the body comes in chunks if that is one field, `chunked` in any case
 /// of letters, and else is `Unknown` (other codings, and a list of codings: profile). Where it
-/// doesn't stand, it is what Content-Length says, and `otherwise` where there is none.
+/// isn't there, it is what Content-Length says, and `otherwise` where there is none.
 pub fn framing_by_fields(kept: &HeaderMap, otherwise: Framing) -> Framing
     ensures { (fields : List NameAndValue) → KeepsFields kept.now fields
         → framing_view result ≡ framing_by_fields (framing_view otherwise) fields }
@@ -95,8 +95,8 @@ pub fn framing_by_fields(kept: &HeaderMap, otherwise: Framing) -> Framing
 }
 
 /// How far the body goes of a request with these fields: as [`framing_by_fields`] says, `Unknown`
-/// where both Transfer-Encoding and Content-Length stand (RFC 9112, section 6.1), and `Empty` where
-/// neither does.
+/// where both Transfer-Encoding and Content-Length are there (RFC 9112, section 6.1), and `Empty`
+/// where neither is.
 pub fn request_framing(kept: &HeaderMap) -> Framing
     ensures { (fields : List NameAndValue) → KeepsFields kept.now fields
         → framing_view result ≡ request_framing fields }

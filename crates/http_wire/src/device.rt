@@ -21,7 +21,7 @@ pub struct DeviceFailed;
 /// given a buffer below: [`Counted`] over a `BufReader`. Without one each byte costs a call of the
 /// system.
 pub trait FaultRead {
-    // The bytes that it has left, where it tells them.
+    // The bytes that it has left, where it shows them.
     ghost remaining: { Self → Option (List ℕ) };
 
     // How often it has failed.
@@ -45,7 +45,7 @@ pub trait FaultRead {
 
 /// A writer that counts its failures. The count stops at `u64::MAX` (profile).
 pub trait FaultWrite {
-    // The bytes that it holds, where it tells them.
+    // The bytes that it holds, where it shows them.
     ghost contents: { Self → Option (List ℕ) };
 
     // How often it has failed.
@@ -68,7 +68,7 @@ pub trait FaultWrite {
         ensures counted { CountsFailure result (failures self.old) (failures self.new) };
 }
 
-/// A reader or a writer of `std`, with a count of its failures. Where it tells its bytes, as those
+/// A reader or a writer of `std`, with a count of its failures. Where it shows its bytes, as those
 /// over memory do, so does this. In contracts it is a `CountedDevice`.
 #[derive(Debug, Drop)]
 pub struct Counted<T> {

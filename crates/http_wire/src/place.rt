@@ -38,7 +38,7 @@ impl LinePart {
     }
 }
 
-/// Where in a head one is, by the bytes so far. It tells after which of them they are to be
+/// Where in a head one is, by the bytes so far. It says after which of them they are to be
 /// parsed, so that the time for a head goes by its length and not by its lines: after the first
 /// line that isn't empty, and after an empty line after it, which ends a head (RFC 9112, sections
 /// 2.1 and 2.2). It keeps no bytes.

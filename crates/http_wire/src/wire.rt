@@ -1,4 +1,4 @@
-//! A wire over memory that fails when it is told to.
+//! A wire over memory that fails on request.
 
 ghost use Rattle.std.specs.Prelude.{◌≡◌, ◌≤◌, ◌↔◌, length, min, take, IfOk, IsErr, IsTrue, Some};
 ghost use Rattle.std.specs.Io.{ReadsAtMost, WritesAtMost};
@@ -35,8 +35,8 @@ impl FailingCalls {
 }
 
 /// A reader and a writer over memory, for tests and programs: it gives and takes at most so many
-/// bytes a call, and fails the calls that it is told to fail, as well as writes for which memory is
-/// refused. It tells its bytes. In contracts it is a `Wire`. (profile)
+/// bytes a call, and fails the calls that it has to fail, as well as writes for which memory is
+/// refused. It shows its bytes. In contracts it is a `Wire`. (profile)
 #[derive(Debug, Drop)]
 pub struct FailingWire<A: Allocator = Global> {
     input: Vec<u8, A>,

@@ -63,7 +63,7 @@ Stands too_deep bs = ⊥
 abbrev pub FaultsSayWhatStands : Type 0
 FaultsSayWhatStands = (bs : List ℕ) (f : Fault) → (field bs ≡ Err f) ↔ Stands f bs
 
--- After these fields bytes are left at whose front no field stands, but what the fault says.
+-- After these fields bytes are left that begin with no field, but what the fault says.
 pub record StopsBehind (bs : List ℕ) (fields : List Field) (f : Fault) : Type 0 where
   pub front : List ℕ
   pub rest : List ℕ
@@ -72,7 +72,7 @@ pub record StopsBehind (bs : List ℕ) (fields : List Field) (f : Fault) : Type 
   pub stands : Stands f rest
   pub whole : bs ≡ front ++ rest
 
--- A row with a fault has just the fields before the first place where no field stands, and the
+-- A row with a fault has just the fields before the first place that has no field, and the
 -- fault says what is there. (that the fields before a fault count: profile)
 abbrev pub RowStopsAtTheFault : Type 0
 RowStopsAtTheFault =

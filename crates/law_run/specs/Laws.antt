@@ -210,7 +210,7 @@ moment_by (taken number size) = Some 0
 moment_by (replied number (again moment)) = Some moment
 moment_by _ = None
 
--- the moment from which on the last batch may be sent: at any, until a reply tells one
+-- the moment from which on the last batch may be sent: at any, until a reply says one
 unfoldable pub retry_moment : List Answered → ℕ
 retry_moment before = last_or 0 (filter_map (λ x. moment_by x.answer) before)
 

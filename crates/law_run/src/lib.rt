@@ -50,7 +50,7 @@ pub fn encodings_are_answered()
 {}
 
 /// The attempts of a batch are numbered from 1 on, and are as many as are configured at most, and
-/// so five; none comes before the moment that the last reply told. What follows from a reply is
+/// so five; none comes before the moment that the last reply said. What follows from a reply is
 /// decided by the outcome of the last attempt. (OTLP Specification, Retryable Response Codes,
 /// OTLP/HTTP Throttling)
 pub fn attempts_are_answered()

@@ -97,7 +97,7 @@ last_spans events = batch_spans events (last_batch events)
 abbrev pub last_size : List DeskEvent → ℕ
 last_size events = last_or 0 (batch_sizes events)
 
--- Where the last batch stands: it is not out, or it is and not handed to the exporter, or it is and
+-- Where the last batch is: it is not out, or it is and not handed to the exporter, or it is and
 -- handed.
 pub data Stage : Type 0 where
   not_out in_hand with_exporter : Stage
@@ -162,7 +162,7 @@ drops events = gather entries_by [] events
 
 -- ---- what was lost
 
--- why the spans of a batch with this fate are lost, if they are; a partial success doesn't tell
+-- why the spans of a batch with this fate are lost, if they are; a partial success doesn't say
 -- which spans were refused
 abbrev pub loss_reason : Fate → Option Reason
 loss_reason Fate.delivered = None

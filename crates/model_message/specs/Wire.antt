@@ -116,7 +116,7 @@ row_after skip [] = done []
 row_after (suc skip) (b ∷ bs) = row_after skip bs
 row_after zero (b ∷ bs) = row_from (field (b ∷ bs)) (λ rest. row_after (length bs - length rest) bs)
 
--- The row of fields of a message's bytes: the fields up to the first place where none stands, with
+-- The row of fields of a message's bytes: the fields up to the first place that has none, with
 -- the fault that is there. (Protocol Buffers, Encoding: Message Structure; what is kept before
 -- a fault: profile)
 unfoldable pub row : List ℕ → Reading (List Field)

@@ -58,7 +58,7 @@ abbrev pub wait_ns : RetryConfig → ℕ → Option RetryAfter → ℕ → ℕ �
 wait_ns config attempt after now word =
     max (config.least_ms * 1000000) (asked_ns config attempt after now word)
 
--- the last moment that 64 bits tell (profile)
+-- the last moment that fits 64 bits (profile)
 abbrev pub greatest_moment : ℕ
 greatest_moment = 2 ^ 64 - 1
 

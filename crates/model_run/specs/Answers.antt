@@ -92,7 +92,7 @@ take_answer desk now =
     if is_due desk now && is_none desk.out
     then taken (desk.batches + 1) (min desk.config.batch (length desk.waiting)) else not_taken
 
--- Where the last batch stands: it is out no more, or it is to be encoded, or to be sent, or it was
+-- Where the last batch is: it is out no more, or it is to be encoded, or to be sent, or it was
 -- sent and what came of that is to be judged, or it is to be sent again, from this moment on.
 pub data Progress : Type 0 where
   not_out to_encode to_send : Progress
@@ -166,7 +166,7 @@ reply_answer run before desk now word _ = nothing
 -- ---- all steps
 
 -- what a step can't know beforehand: whether memory is refused to it, and the outcome that the
--- exporter would tell
+-- exporter would show
 pub record Given : Type 0 where
   pub refused : Bool
   pub outcome : Outcome

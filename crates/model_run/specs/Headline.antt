@@ -23,7 +23,7 @@ EachOnce setup history =
     IsPermutation (places (desk_events setup history))
     (numbers_below (length (ended_by setup history)))
 
--- a batch that is out: its number and its spans, where it stands, and how many attempts it had
+-- a batch that is out: its number and its spans, where it is, and how many attempts it had
 pub record PendingBatch : Type 0 where
   pub number : ℕ
   pub spans : List SpanData

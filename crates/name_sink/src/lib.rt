@@ -1,6 +1,6 @@
-//! Where the names of spans that aren't delivered go, once they are popped from the ledgers in which
-//! they waited (profile): [`NameSink`]. [`NewestNames`] keeps the newest of them, and [`NameLines`]
-//! writes a line for each.
+//! Where the names of spans that aren't delivered go, once they are popped from the ledgers in
+//! which they waited (profile): [`NameSink`]. [`NewestNames`] keeps the newest of them, and
+//! [`NameLines`] writes a line for each.
 #![tactic(auto)]
 
 mod counts;

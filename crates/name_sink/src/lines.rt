@@ -114,14 +114,16 @@ impl<W: Write> NameSink for NameLines<W> {
 
     /// Writes the name of a dropped span, if no write has failed, and else only counts it.
     fn take_dropped(&mut self, entry: Entry)
-        ensures { TakesLine W.contents (name_line (codes "dropped") (entry_view entry)) self.old self.new }
+        ensures { TakesLine W.contents (name_line (codes "dropped") (entry_view entry))
+            self.old self.new }
     {
         self.take("dropped", entry);
     }
 
     /// Writes the name of a lost span, if no write has failed, and else only counts it.
     fn take_lost(&mut self, entry: Entry)
-        ensures { TakesLine W.contents (name_line (codes "lost") (entry_view entry)) self.old self.new }
+        ensures { TakesLine W.contents (name_line (codes "lost") (entry_view entry))
+            self.old self.new }
     {
         self.take("lost", entry);
     }

@@ -8,7 +8,7 @@ use otlp_span::Entry;
 /// What the names of spans that aren't delivered are given to, one by one (profile). Who pops them
 /// from the ledgers gives them to a sink, so that they don't fill the memory of the host.
 ///
-/// An `impl` says by its ghost member `named` which names it was given, or that it doesn't tell. No
+/// An `impl` says by its ghost member `named` which names it was given, or that it doesn't say. No
 /// call can fail, and none takes memory that might be refused: a sink that writes or sends names
 /// keeps the error for who asks.
 pub trait NameSink {

@@ -24,7 +24,7 @@ line (word ∷ words) = word ++ 32 ∷ line words
 abbrev pub is_plain : ℕ → Bool
 is_plain byte = is_ascii_alphanumeric byte || list_any (λ c. c == byte) (codes "._-/:")
 
--- a byte stands for itself, or is `%` (37) and two lower case hexadecimal digits
+-- a byte is written as it is, or as `%` (37) and two lower case hexadecimal digits
 abbrev pub byte_word : ℕ → List ℕ
 byte_word byte = if is_plain byte then byte ∷ [] else 37 ∷ encode_lower (byte ∷ [])
 

@@ -7,7 +7,7 @@ ghost use Rattle.otlp_collector.specs.Lines.{byte_word, bytes_word, is_plain, te
 use otlp_ids::OutOfMemory;
 use std::alloc::Allocator;
 
-/// Whether a byte stands for itself: letters, digits, `.`, `_`, `-`, `/` and `:` do.
+/// Whether a byte is written as it is: letters, digits, `.`, `_`, `-`, `/` and `:` do.
 fn is_plain(byte: u8) -> bool
     ensures { result ≡ is_plain byte }
 {

@@ -81,9 +81,9 @@ fn framing_of(status: u16, kept: &HeaderMap) -> Framing
 
 /// Reads a reply, and no byte after it (RFC 9112, sections 2.2, 4, 5 and 6.3). Heads are what
 /// `httparse` reads by default. Heads with a status from 100 to 199 are skipped, 16 at most
-/// (profile). A reply with status 204 or 304 has no body. Where Transfer-Encoding stands, the body
+/// (profile). A reply with status 204 or 304 has no body. With Transfer-Encoding, the body
 /// comes in chunks if that is one field, `chunked` in any case of letters, and else its length
-/// isn't known (profile); where it doesn't stand, the length is what Content-Length says, and where
+/// isn't known (profile); without it, the length is what Content-Length says, and where
 /// there is none, the body goes to the end of the bytes. Of chunks, extensions and trailers are let
 /// go (RFC 9112, section 7.1). A read that failed is not tried again.
 ///
@@ -109,7 +109,7 @@ fn framing_of(status: u16, kept: &HeaderMap) -> Framing
 /// number of digits that fits 64 bits, in one field or in several of equal text; `BadChunk` where a
 /// chunk's line or the trailers are bad or longer than a head may be, the trailers have more fields
 /// than a head may have, or no CR LF comes after a chunk's data; `TooLarge` where the body has
-/// more bytes than the limit, told by Content-Length before any of them is read, and by a chunk's
+/// more bytes than the limit, by Content-Length before any of them is read, and by a chunk's
 /// line before any of its data; `OutOfMemory` where memory for it was refused.
 pub fn read_reply<R: FaultRead, A: Allocator + Copy>(
     alloc: A,

@@ -288,7 +288,7 @@ impl TraceFlags {
         self.0 & 1 != 0
     }
 
-    /// The same flags, but for the sampled flag, which is as told (W3C Trace Context, "sampled
+    /// The same flags, but for the sampled flag, which is as given (W3C Trace Context, "sampled
     /// flag").
     pub fn with_sampled(&self, sampled: bool) -> TraceFlags
         ensures { result.0 ≡ with_sampled_flag sampled self.now.0 }

@@ -8,7 +8,7 @@ use thiserror::Error;
 /// Why a message could not be read. Bytes can have several faults, of which any one is reported.
 #[derive(Error, Debug, Clone, Copy, PartialEq, Eq)]
 pub enum ReadFault {
-    /// A field that doesn't stand, in the message or in one within it that counts.
+    /// A field that can't be read, in the message or in one within it that counts.
     #[error("{0}")]
     Wire(WireFault),
     /// A text that counts is not UTF-8 (Protocol Buffers, Language Guide, "Scalar Value Types").

@@ -24,7 +24,7 @@ use std::alloc::{Allocator, Global};
 use std::marker::Model;
 use std::str;
 
-/// What a collector tells of an export that it took in part (opentelemetry-proto,
+/// What a collector says of an export that it took in part (opentelemetry-proto,
 /// trace_service.proto: ExportTracePartialSuccess).
 #[derive(Debug, Drop)]
 pub struct PartialSuccess<A: Allocator = Global> {

@@ -18,7 +18,7 @@ pub data Cursor : Type 0 where
   -- which bytes, and for how many more there is room
   filled : List ℕ → ℕ → Cursor
 
--- a count of 64 bits, where 2^64 - 1 stands for that many and for more
+-- a count of 64 bits, where 2^64 - 1 means that many and more
 abbrev pub saturated : ℕ → ℕ
 saturated n = min n (2 ^ 64 - 1)
 
@@ -47,12 +47,12 @@ pub record Measures (content : List ℕ) (Whole : Type 0) (len : ℕ) : Type 0 w
   pub size : len ≡ saturated (length content)
   pub whole : Whole
 
--- a field of a table, put after what stands
+-- a field of a table, put after what is there
 pub record Puts (n : ℕ) (s : Shape) (x : ValueOf s) (old new : Cursor) : Type 0 where
   pub bytes : Lays (shape_bytes n s x) old new
   pub whole : IsWhole s x
 
--- the fields of a table, put after what stands
+-- the fields of a table, put after what is there
 pub record PutsAll (t : Table) (r : Message t) (old new : Cursor) : Type 0 where
   pub bytes : Lays (canon t r) old new
   pub whole : IsMessage t r
@@ -71,7 +71,7 @@ IsWholeSpan x = IsMessage Tables.span (span_message x.span)
 abbrev pub span_len : SpanData → ℕ
 span_len x = saturated (length (span_bytes x))
 
--- the lengths of these spans, put after what stands
+-- the lengths of these spans, put after what is there
 pub record AddsLens (spans : List SpanData) (old new : List ℕ) : Type 0 where
   pub lens : new ≡ old ++ map span_len spans
   pub whole : AllByRecursion IsWholeSpan spans

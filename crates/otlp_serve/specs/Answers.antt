@@ -37,7 +37,7 @@ abbrev pub reply_to_fault : PostFault → Option PostReply
 reply_to_fault (Head fault) = reply_by statuses.RequestHeaderFieldsTooLarge fault
 reply_to_fault (Body fault) = reply_by statuses.ContentTooLarge fault
 
--- the bytes before the first of that value, and all where it doesn't stand
+-- the bytes before the first of that value, and all where it isn't there
 abbrev pub before : ℕ → List ℕ → List ℕ
 before stop [] = []
 before stop (byte ∷ bytes) = if byte == stop then [] else byte ∷ before stop bytes

@@ -36,7 +36,7 @@ pub record ComesWith (limits : HeadLimits) (old new : Option (List ℕ)) (head :
   pub valid : IsRequestText limits (print_request head) head
   pub kept : All IsTaken (request_fields head)
 
--- a request's head came, and the whole body that it tells of
+-- a request's head came, and the whole body that it announces
 pub record IsPost (limits : HeadLimits) (old new : Option (List ℕ)) (failed : Type 0)
     (post : HttpPost) : Type 0 where
   pub head : RequestHead
@@ -71,7 +71,7 @@ abbrev pub HasNoPost : HeadLimits → Option (List ℕ) → Option (List ℕ) �
 HasNoPost limits old new failed (Head fault) = HasNoPostHead limits old new failed fault
 HasNoPost limits old new failed (Body fault) = HasNoPostBody limits old new failed fault
 
--- what the fault of a request tells of the count of failures (profile)
+-- what the fault of a request says of the count of failures (profile)
 abbrev pub CountsAtPost : PostFault → ℕ → ℕ → Type 0
 CountsAtPost (Head fault) old new = CountsAtHead fault old new
 CountsAtPost (Body fault) old new = CountsFailedRead {T = List ℕ} (Err fault) old new

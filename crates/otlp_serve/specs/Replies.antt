@@ -33,12 +33,12 @@ reason_of statuses.BadGateway = codes "Bad Gateway"
 reason_of statuses.ServiceUnavailable = codes "Service Unavailable"
 reason_of statuses.GatewayTimeout = codes "Gateway Timeout"
 
--- 405 tells which method is allowed (RFC 9110, section 15.5.6)
+-- 405 says which method is allowed (RFC 9110, section 15.5.6)
 abbrev pub allow_line : ReplyStatus → List ℕ
 allow_line statuses.MethodNotAllowed = line (codes "Allow: POST")
 allow_line _ = []
 
--- the line that tells after how many seconds to try again (RFC 9110, section 10.2.3)
+-- the line that says after how many seconds to try again (RFC 9110, section 10.2.3)
 abbrev pub wait_line : Option ℕ → List ℕ
 wait_line (Some seconds) = line (codes "Retry-After: " ++ decimal seconds)
 wait_line None = []

@@ -40,7 +40,7 @@ pub(crate) fn reply_by(large: ReplyStatus, fault: HttpFault) -> Option<PostReply
     }
 }
 
-/// The bytes before the first of that value, and all where it doesn't stand.
+/// The bytes before the first of that value, and all where it isn't there.
 fn before(text: &[u8], stop: u8) -> &[u8]
     ensures { result.now ≡ model.before stop text.now }
 {

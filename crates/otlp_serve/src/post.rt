@@ -34,7 +34,7 @@ pub struct Post<A: Allocator = Global> {
     /// The fields of its head, under their names in lower case, each value without spaces and tabs
     /// at both ends.
     pub fields: HeaderMap,
-    /// Its body, which is empty where the head tells of none.
+    /// Its body, which is empty where the head announces none.
     pub body: Vec<u8, A>,
 }
 
@@ -130,7 +130,7 @@ fn read_post_head<R: FaultRead, A: Allocator + Copy>(
 /// Reads a request, and no byte after it (RFC 9112, sections 2.2, 3, 5, 6.3 and 7.1). A head is
 /// what `httparse` reads by default. Its body comes in chunks where Transfer-Encoding is one field,
 /// `chunked` in any case of letters; else it has the length that Content-Length says, and there is
-/// none where neither field stands. Of chunks, extensions and trailers are let go. A read that
+/// none where neither field is there. Of chunks, extensions and trailers are let go. A read that
 /// failed is not tried again.
 ///
 /// The head, lines of chunks and trailers are read byte by byte: from a socket without a buffer
@@ -151,11 +151,11 @@ fn read_post_head<R: FaultRead, A: Allocator + Copy>(
 /// is bad, at the end of that.
 ///
 /// `Body` after the head: `BadLength` where Transfer-Encoding is anything but `chunked` (profile),
-/// or stands beside a Content-Length, or where that isn't one number of digits that fits 64 bits,
+/// or is beside a Content-Length, or where that isn't one number of digits that fits 64 bits,
 /// in one field or in several of equal text; `BadChunk` where a chunk's line or the trailers are
 /// bad or longer than a head may be, the trailers have more fields than a head may have, or no CR
-/// LF comes after a chunk's data; `TooLarge` where Content-Length or the sum of the chunks tells
-/// of more bytes than the limit, before any of those that it tells of is read; `Ended` where the
+/// LF comes after a chunk's data; `TooLarge` where Content-Length or the sum of the chunks is
+/// above the limit, before any of the bytes that it counts is read; `Ended` where the
 /// bytes ended before all had come; `Device` where a read failed; `OutOfMemory` where memory for it
 /// was refused.
 pub fn read_post<R: FaultRead, A: Allocator + Copy>(

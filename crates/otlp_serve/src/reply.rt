@@ -29,7 +29,7 @@ fn reason_text<'a>(status: ReplyStatus) -> &'a str
     status.reason()
 }
 
-/// The line that tells which methods are allowed, where the reply has it.
+/// The line that says which methods are allowed, where the reply has it.
 fn allow_line<'a>(status: ReplyStatus) -> &'a str
     ensures { result.now ≡ allow_line status }
 {
@@ -39,7 +39,7 @@ fn allow_line<'a>(status: ReplyStatus) -> &'a str
     }
 }
 
-/// What comes before the number in the line that tells when to try again.
+/// What comes before the number in the line that says when to try again.
 fn wait_name<'a>(seconds: Option<u64>) -> &'a str
     ensures { result.now ≡ (if is_some seconds then codes "Retry-After: " else []) }
 {
@@ -86,7 +86,7 @@ fn reply_pieces<'a>(reply: PostReply, code: &'a str, digits: &'a str) -> [&'a [u
 /// sections 2 and 4; OTLP Specification, "OTLP/HTTP Response"). It goes out in one write where the
 /// writer takes all of it, and takes no memory.
 ///
-/// After Content-Type, Content-Length and Connection stands `Allow: POST` with 405 (RFC 9110,
+/// After Content-Type, Content-Length and Connection comes `Allow: POST` with 405 (RFC 9110,
 /// section 15.5.6), and Retry-After where the reply has one. (which fields: profile)
 ///
 /// # Errors

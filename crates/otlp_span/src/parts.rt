@@ -115,7 +115,7 @@ impl Default for SpanLimits {
 #[derive(Drop)]
 #[derive_where(Debug, PartialEq, Eq, Hash)]
 pub struct Resource<A: Allocator = Global> {
-    /// Its attributes, with distinct keys. They stand as they are: no limit holds for them.
+    /// Its attributes, with distinct keys. They are kept as they are: no limit holds for them.
     pub attributes: Vec<(String<A>, Value<A>), A>,
     /// The schema that the attributes follow, or an empty text.
     pub schema_url: String<A>,
@@ -147,7 +147,7 @@ pub struct Scope<A: Allocator = Global> {
     pub name: String<A>,
     /// Its version, or an empty text.
     pub version: String<A>,
-    /// Its attributes, with distinct keys. They stand as they are: no limit holds for them
+    /// Its attributes, with distinct keys. They are kept as they are: no limit holds for them
     /// (profile).
     pub attributes: Vec<(String<A>, Value<A>), A>,
     /// The schema that its telemetry follows, or an empty text.

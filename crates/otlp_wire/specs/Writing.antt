@@ -29,7 +29,7 @@ pub record IsReachedSize (n size : ℕ) : Type 0 where
 abbrev pub FitsAt : List ℕ → ℕ → List ℕ → Type 0
 FitsAt bytes at out = at + length bytes ≤ length out
 
--- the bytes stand from the place up to the next one, and nothing else is changed
+-- the bytes are written from the place up to the next one, and nothing else is changed
 pub record PutsAt (bytes : List ℕ) (at : ℕ) (old new : List ℕ) (next : ℕ) : Type 0 where
   pub place : next ≡ at + length bytes
   pub front : take next new ≡ take at old ++ bytes

@@ -141,7 +141,7 @@ fn read_field(bytes: &[u8]) -> Result<(Field<'_>, &[u8]), WireFault>
 ///
 /// # Errors
 ///
-/// A `WireFault` in the place of the first field that doesn't stand. Nothing comes after it.
+/// A `WireFault` in the place of the first field that can't be read. Nothing comes after it.
 #[derive(Debug, Drop)]
 pub struct Fields<'a> {
     unread: &'a [u8],

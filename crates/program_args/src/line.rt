@@ -1,4 +1,4 @@
-//! The command line of a program, and what clap is told of it.
+//! The command line of a program, as clap takes it.
 ghost use Rattle.std.specs.Prelude.{◌≡◌, false, IfErr, IfOk};
 ghost use Rattle.clap.specs.Words.{app_of, kind_of, rule_of};
 ghost use Rattle.program_args.specs.Line.{app_of_line, app_of_numbers, flag_rule, rule_of_number};
@@ -66,7 +66,7 @@ impl CommandLine<'_> {
     }
 }
 
-/// What clap is told of a command line.
+/// A command line, as clap takes it.
 pub(crate) fn command<'a>(alloc: Global, line: &CommandLine<'a>) -> Result<Command<'a>, Error>
     ensures app { IfOk result (λ command. app_of command ≡ app_of_line line.now) }
     ensures memory { IfErr result (λ error. kind_of error ≡ ErrorKind.OutOfMemory) }
@@ -92,7 +92,7 @@ fn numbers_command<'a>(alloc: Global, line: &CommandLine<'a>) -> Result<Command<
     Ok(command)
 }
 
-/// What clap is told of an option that takes a number.
+/// An option that takes a number, as clap takes it.
 fn number_arg<'a>(alloc: Global, option: &NumberOption<'a>) -> Arg<'a>
     ensures rule { rule_of result ≡ rule_of_number option.now }
     ensures local { result.global ≡ false }
@@ -105,7 +105,7 @@ fn number_arg<'a>(alloc: Global, option: &NumberOption<'a>) -> Arg<'a>
         .help(option.help)
 }
 
-/// What clap is told of an option that takes none.
+/// An option that takes no number, as clap takes it.
 fn flag_arg<'a>(alloc: Global, flag: &FlagOption<'a>) -> Arg<'a>
     ensures rule { rule_of result ≡ flag_rule flag.now.name.now }
     ensures local { result.global ≡ false }

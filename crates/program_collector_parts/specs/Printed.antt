@@ -13,7 +13,7 @@ use Rattle.otlp_collector.specs.declared.connection.Answered.{Answered}
 use Rattle.otlp_collector.specs.Lines.{spans_text}
 use Rattle.otlp_collector.specs.Printed.{AppendsFront}
 
--- the line that tells the port, up to its end (10)
+-- the line that says the port, up to its end (10)
 abbrev pub listening_line : ℕ → List ℕ
 listening_line port = codes "listening " ++ (decimal port ++ 10 ∷ [])
 
@@ -25,7 +25,7 @@ pub record Outcome : Type 0 where
   pub status : Option ℕ
   pub request : Option (Message Tables.request)
 
--- what became of a connection, as the code tells it
+-- what became of a connection, as the code says it
 abbrev pub outcome_view : {A : Type 0} → Answered A → Outcome
 outcome_view a = record { status = a.status; request = option_map request_view a.request }
 

@@ -55,7 +55,7 @@ pub fn run_collector<R: Net, W: Write, F: Write>(
 ///
 /// The answer is the program's status: 0, or 1 where the port can't be listened at, which is
 /// reported as `cannot listen` on `faults`, or a write failed, which is reported as `cannot write`;
-/// 3 where memory to print was refused, told as `out of memory`. Lines may have gone out then.
+/// 3 where memory to print was refused, reported as `out of memory`. Lines may have gone out then.
 /// Where the fault itself can't be reported it is 1.
 pub fn collect<R: Net, W: Write, F: Write>(
     rt: &R,
@@ -75,7 +75,7 @@ pub fn collect<R: Net, W: Write, F: Write>(
     }
 }
 
-/// Listens, tells the port, and serves the connections.
+/// Listens, prints the port, and serves the connections.
 fn listen_and_serve<R: Net, W: Write>(
     rt: &R,
     alloc: Global,

@@ -18,7 +18,7 @@ command = with_rule (new_app (codes "trace-script")) body_flag
 abbrev pub texts_of : {A : Type 0} → List (String A) → List Text
 texts_of words = map (λ word. string_bytes word) words
 
--- the faults that clap may tell of these words, of which the first is the program's name
+-- the faults that clap may report of these words, of which the first is the program's name
 abbrev pub word_faults : {A : Type 0} → List (String A) → Kinds
 word_faults words = fault_of command (texts_of words)
 
@@ -40,6 +40,6 @@ pub record AskForRun {A : Type 0} (words : List (String A)) : Type 0 where
   pub taken : IsTaken words
   pub unset : flag_in words ≡ Some (codes "false")
 
--- they ask for the text that tells what the program does
+-- they ask for the text that says what the program does
 abbrev pub AskForHelp : {A : Type 0} → List (String A) → Type 0
 AskForHelp words = IsAmong DisplayHelp (word_faults words)

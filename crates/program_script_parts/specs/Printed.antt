@@ -58,7 +58,7 @@ abbrev pub IsTextOf : Bool → Script → List ℕ → Type 0
 IsTextOf true script text = IsBodyLine script text
 IsTextOf false script text = IsRunText script text
 
--- The input's bytes are a script, and this is printed for it. Of an input that doesn't tell its
+-- The input's bytes are a script, and this is printed for it. Of an input that doesn't show its
 -- bytes, some are.
 pub record IsPrinted (body : Bool) (input : Option (List ℕ)) (text : List ℕ) : Type 0 where
   pub bytes : List ℕ

@@ -33,7 +33,7 @@ pub fn read_words(alloc: Global, words: &[String]) -> Result<bool, Error>
     }
 }
 
-/// Prints help, or tells a mistake or refused memory, and answers the status: 0 after help, 2 for
+/// Prints help, or reports a mistake or refused memory, and answers the status: 0 after help, 2 for
 /// a mistake, 3 for memory, or 1 where the text could not be written.
 pub fn tell_words<W: Write, F: Write>(output: &mut W, faults: &mut F, error: &Error) -> u8
     ensures status { result ≤ 3 }

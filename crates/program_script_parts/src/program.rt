@@ -69,8 +69,8 @@ pub fn trace_script<R: Read, W: Write, F: Write>(
 /// which is empty where there is none.
 ///
 /// The answer is the program's status: 0, or 1 where a read or a write failed, 2 where a line is
-/// bad (told as `line N: bad script` on `faults`; nothing is printed), 3 where memory was refused
-/// or the body would be longer than the script's greatest (told as `out of memory` or `too large`;
+/// bad (`line N: bad script` on `faults`; nothing is printed), 3 where memory was refused or the
+/// body would be longer than the script's greatest (`out of memory` or `too large` on `faults`;
 /// nothing is printed). Nothing is reported where it is 0. Where the fault itself can't be reported
 /// it is 1.
 pub fn script<A: Allocator + Copy, R: Read, W: Write, F: Write>(

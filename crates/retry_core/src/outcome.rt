@@ -12,7 +12,7 @@ pub enum RetryAfter {
 /// What came of an attempt. (OTLP Specification, "OTLP/HTTP Response")
 #[derive(Clone, Copy, Debug, PartialEq, Eq)]
 pub enum Outcome {
-    /// The collector took the whole batch, as far as it tells. ("Full Success")
+    /// The collector took the whole batch, as far as it says. ("Full Success")
     Delivered,
     /// It took the batch, but rejected so many spans. ("Partial Success")
     Partial(i64),

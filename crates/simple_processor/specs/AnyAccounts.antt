@@ -3,7 +3,7 @@ use Rattle.std.specs.Prelude.{ℕ, List, filter_map, Option, Some, None}
 use Rattle.span_exporter.specs.Handed.{Handed}
 use Rattle.model_processor.specs.Passes.{PassAccount, new_account}
 
--- What a processor began with: how many passes it has, what its exporter told that it had been
+-- What a processor began with: how many passes it has, what its exporter showed that it had been
 -- handed before, and how many bytes a body may have.
 pub record Origin : Type 0 where
   pub passes : ℕ
@@ -34,7 +34,7 @@ pass_account (pass account) = Some account
 abbrev pub pass_accounts : List AnyAccount → List PassAccount
 pass_accounts holders = filter_map pass_account holders
 
--- what is told to a pass's account changes it alone
+-- what a pass's account learns changes that account alone
 abbrev pub on_pass : (PassAccount → PassAccount) → AnyAccount → AnyAccount
 on_pass f (processor origin) = processor origin
 on_pass f (pass account) = pass (f account)

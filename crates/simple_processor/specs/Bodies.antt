@@ -27,7 +27,7 @@ attempt_of_span span = record {
   meaning = done (grouped_triples (span ∷ []));
 }
 
--- what an exporter tells, so read
+-- what an exporter shows, so read
 abbrev pub attempt_in : Handed → Attempt
 attempt_in h = record { number = h.number; attempt = h.attempt; meaning = body_meaning h.body }
 
@@ -71,7 +71,7 @@ pub record LossesAreTold (bodies : List Handed) (accepted : List SpanData) (lost
   pub told : AreTold handings bodies
   pub names : NamesLosses lost count (losses_of handings) popped
 
--- what an exporter tells that it was handed after what it had told; one that doesn't tell, nothing
+-- what an exporter shows that it was handed since then; of one that shows nothing, nothing
 abbrev pub told_since : Option (List Handed) → Option (List Handed) → List Handed
 told_since (Some had) (Some all) = drop (length had) all
 told_since _ _ = []

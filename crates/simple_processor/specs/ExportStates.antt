@@ -100,7 +100,7 @@ pub record CountsOne (reason : Reason) (old new : drops.DropCounts) : Type 0 whe
   pub others : IsOfEncodings old → IsOfEncodings new
   pub state : (s : State) → with_counts new s ≡ with_drop reason (with_counts old s)
 
--- An exporter that tells has one more attempt, the one of this span, and this came of it.
+-- An exporter that shows its attempts has one more, the one of this span, and this came of it.
 pub record IsSent (max_body : ℕ) (told told' : Option (List Handed)) (span : SpanData)
     (outcome : Outcome) : Type 0 where
   pub body : Handed

@@ -1,4 +1,4 @@
--- How what lies under the lock stands to the accounts. (profile)
+-- How what is under the lock agrees with the accounts. (profile)
 use Rattle.std.specs.Prelude.{◌≡◌, ℕ, ◌+◌, ◌≤◌, List, [], length, map, IsPermutation, Option, Some}
 use Rattle.std.specs.Prelude.{None}
 use Rattle.std.specs.List.{AllByRecursion}
@@ -19,7 +19,7 @@ abbrev pub IsOf : Origin → AnyAccount → Type 0
 IsOf origin (processor said) = said ≡ origin
 IsOf origin (pass account) = Unit {0}
 
--- What the exporter told before and tells now, and what is counted, is what the passes know.
+-- What the exporter showed before and shows now, and what is counted, is what the passes know.
 pub record Agrees (had told : Option (List Handed)) (s : State) (accounts : List PassAccount)
     : Type 0 where
   pub bodies : List Handed
@@ -37,8 +37,8 @@ pub record Agrees (had told : Option (List Handed)) (s : State) (accounts : List
   pub late : CountsLate s.late (ticket_count s) s.closed accounts
 
 -- What the lock keeps of the accounts of a processor that began so.
-pub record Kept (origin : Origin) (told : Option (List Handed)) (s : State) (holders : List AnyAccount)
-    : Type 0 where
+pub record Kept (origin : Origin) (told : Option (List Handed)) (s : State)
+    (holders : List AnyAccount) : Type 0 where
   pub few : length holders ≤ origin.passes + 1
   pub origins : AllByRecursion (IsOf origin) holders
   pub max_body : s.max_body ≡ origin.max_body
@@ -52,8 +52,8 @@ IsShared told state origin (Some export) holders = Kept origin (told export) (st
 
 -- ---- what is reported in the end
 
--- What an exporter that tells was handed since the processor began, one attempt for each span that
--- the passes know as handed.
+-- What an exporter that shows its attempts was handed since the processor began: one attempt for
+-- each span that the passes know as handed.
 pub record IsAccountOf (origin : Origin) (told : Option (List Handed)) (t : Totals)
     (ledger lost : List Entry) (accounts : List PassAccount) : Type 0 where
   pub state : State

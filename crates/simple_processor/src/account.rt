@@ -29,7 +29,7 @@ impl Opening<AccountState> for AccountState {
     ghost first = { pass new_account };
 }
 
-/// The account of a processor that is told nothing yet.
+/// The account of a processor that has learned nothing yet.
 pub(crate) struct NewProcessor;
 
 impl Opening<AccountState> for NewProcessor {

@@ -39,7 +39,7 @@ const _: () = prove!(MAX_PASSES == 64);
 
 /// A simple processor (Trace SDK, "Simple processor"): an exporter that threads share under a lock,
 /// each by a pass of its own. In contracts it is what it began with: how many passes it has, what
-/// its exporter told before, and how many bytes a body may have.
+/// its exporter showed before, and how many bytes a body may have.
 #[derive(Drop)]
 pub struct SimpleProcessor<J: Naming, E: Exporter, R, A: Allocator = Global> {
     shared: Arc<Mutex<Shared<J, E, A>>, A>,
@@ -184,7 +184,7 @@ impl<J: Naming, E: Exporter, R: Wait + Copy, A: Allocator + Copy> SimpleProcesso
             (λ _. self.passes ≤ vec_len passes) (λ _. vec_len passes < self.passes) }
         ensures given_back { IfErr result (λ m. (m.processor ≡ self) × (m.passes ≡ passes)) }
 
-        // What an exporter tells of the time since the processor was made: one attempt for each
+        // What an exporter shows of the time since the processor was made: one attempt for each
         // span that a pass was answered was handed, whose body means this span alone.
         ensures keeps { IfOk result (λ a.
             Gains (told_since self.had (E.handed a.exporter)) self.had (E.handed a.exporter)) }

@@ -15,7 +15,7 @@ abbrev pub handing : ℕ → ℕ → List ℕ → Outcome → List Handed
 handing number attempt body outcome =
     record { number = number; attempt = attempt; body = body; outcome = outcome } ∷ []
 
--- An exporter that tells what it was handed has, after what it had, exactly these. Another tells
+-- An exporter that shows what it was handed has, after what it had, exactly these. Another shows
 -- nothing. (profile)
 abbrev pub Gains : List Handed → Option (List Handed) → Option (List Handed) → Type 0
 Gains more old new = new ≡ option_map (λ had. had ++ more) old

@@ -10,7 +10,7 @@ use retry_core::Outcome;
 /// What batches are handed to (Trace SDK, "Span Exporter"): bodies of requests, whose room is made
 /// beforehand (profile).
 ///
-/// An `impl` says by its ghost member `handed` what it was handed, or that it doesn't tell, and by
+/// An `impl` says by its ghost member `handed` what it was handed, or that it doesn't say, and by
 /// `room` for how many attempts of a body of so many bytes it has room.
 pub trait Exporter {
     ghost handed: { Self → Option (List model.Handed) };

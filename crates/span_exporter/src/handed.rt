@@ -1,8 +1,8 @@
-//! An attempt, as an exporter tells it.
+//! An attempt, as an exporter shows it.
 use retry_core::Outcome;
 use std::alloc::{Allocator, Global};
 
-/// An attempt to send a batch, as an exporter tells it (Trace SDK, "Export(batch)"; numbers:
+/// An attempt to send a batch, as an exporter shows it (Trace SDK, "Export(batch)"; numbers:
 /// profile).
 #[derive(Drop)]
 #[derive_where(Debug, PartialEq, Eq)]

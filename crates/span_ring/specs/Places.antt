@@ -25,10 +25,12 @@ module _ (R : RattleType) where
   abbrev pub places_own : Ptr → ℕ → List R.Denot → ℕ → Fml
   places_own (block_ptr b o) before xs after =
       fsep (small before xs after) (fsep (froom (raw (ty_array (lone R.mir) before)) b o)
-      (fsep (items_own b (before * type_size R + o) xs) (froom (raw (ty_array (lone R.mir) after)) b ((before + length xs) * type_size R + o))))
+      (fsep (items_own b (before * type_size R + o) xs)
+      (froom (raw (ty_array (lone R.mir) after)) b ((before + length xs) * type_size R + o))))
   places_own null_ptr before xs after = ffalse
 
   -- what a `&` to them holds: what one to the items, as a slice, does
   abbrev pub places_lent : Ptr → ℕ → List R.Denot → ℕ → Lft → Fml
-  places_lent (block_ptr b o) before xs after = beside (said (small before xs after)) (elements_shared R xs b (before * type_size R + o))
+  places_lent (block_ptr b o) before xs after =
+      beside (said (small before xs after)) (elements_shared R xs b (before * type_size R + o))
   places_lent null_ptr before xs after = said ffalse

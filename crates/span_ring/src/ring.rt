@@ -168,7 +168,7 @@ impl<T, A: Allocator> SpanRing<T, A> {
 
     /// Takes out the items that waited longest, as many as a batch, or all where fewer wait. `None`
     /// where none waits. While a run is out there is no other, as [`run_out`](SpanRing::run_out)
-    /// tells.
+    /// says.
     pub fn take_run(&mut self) -> Option<Run<T, A>>
         requires { self.old.run_out ≡ false }
         ensures none { IsNone result ↔ (self.old.items ≡ []) }

@@ -2,7 +2,7 @@
 //! their answers.
 //!
 //! A list of steps is all that such a program does (`model_run` has what comes of it). It comes
-//! from a script, or from whatever else tells a program's calls.
+//! from a script, or from whatever else says a program's calls.
 #![tactic(auto)]
 
 mod answer;

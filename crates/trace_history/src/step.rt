@@ -11,7 +11,7 @@ pub enum Parent<A: Allocator = Global> {
     /// None: the span is the root of a trace.
     Root,
     /// The span with this number, counted from 0 by the starts so far. It need not be there: that
-    /// is for whoever runs the steps to tell.
+    /// is for whoever runs the steps to say.
     Span(u32),
     /// A span of elsewhere: of another process where the context is remote. The context may be
     /// invalid.
@@ -56,7 +56,7 @@ pub enum Step<A: Allocator = Global> {
     /// Encodes the batch that was taken.
     Encode,
     /// Hands the encoded batch to the exporter (Trace SDK, "Export"), or hands it over once more,
-    /// from the moment on that its last reply told.
+    /// from the moment on that its last reply said.
     Attempt {
         /// When.
         at: u64,

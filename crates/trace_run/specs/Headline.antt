@@ -15,7 +15,7 @@ use Rattle.law_run.specs.Laws.{DropsNameEnded, LedgerNamesTheDropped}
 use Rattle.otlp_proto.specs.Bodies.{body_bytes}
 use Rattle.span_exporter.specs.Handed.{Handed, Gains}
 
--- the attempt that an exporter tells, without its body
+-- the attempt that an exporter shows, without its body
 abbrev pub told_attempt : Handed → Attempt
 told_attempt handed = record {
   number = handed.number;
@@ -44,7 +44,7 @@ pub record AreAsEnded (setup : Setup) (history : List Answered) : Type 0 where
   pub batches : BatchesAreEnded setup history
   pub named : DropsNameEnded setup history
 
--- An exporter that tells has gained the attempts that the answers speak of.
+-- An exporter that shows its attempts has gained those that the answers speak of.
 pub record IsTold (history : List Answered) (old new : Option (List Handed)) (more : List Handed)
     : Type 0 where
   pub gains : Gains more old new
@@ -74,7 +74,7 @@ abbrev pub IsCanonical : Setup → List Answered → Handed → Type 0
 IsCanonical setup h handed =
     handed.body ≡ body_bytes (groups (batch_spans (desk_events setup h) handed.number))
 
--- So are all that an exporter that tells has gained.
+-- So are all that an exporter that shows its attempts has gained.
 pub record AreCanonical (run : RunConfig) (history : List Answered)
     (old new : Option (List Handed)) : Type 0 where
   pub more : List Handed

@@ -19,8 +19,8 @@ line [] = 10 ∷ []
 line (word ∷ []) = word ++ 10 ∷ []
 line (word ∷ words) = word ++ 32 ∷ line words
 
--- ---- what is told of an answer, after the word of its step; `none` where it is no answer to such
--- a step, or says that there was nothing to do
+-- ---- what is printed of an answer, after the word of its step; `none` where it is no answer to
+-- such a step, or says that there was nothing to do
 
 -- the identifiers of the trace and of the span, or why there are none
 abbrev pub start_words : Answer → List (List ℕ)

@@ -1,4 +1,4 @@
--- Where a step is among those of a run, as far as its line tells it.
+-- Where a step is among those of a run, as far as its line says it.
 use Rattle.std.specs.Prelude.{◌≡◌, List, length}
 use Rattle.model_run.specs.Runs.{Answered}
 use Rattle.model_run.specs.Headline.{attempts}

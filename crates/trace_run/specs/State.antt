@@ -39,14 +39,14 @@ GoesOn meaning stream retry max_body x table desk out table2 desk2 out2 =
     → run.max_body ≡ max_body → Stands meaning stream run h table desk out
     → Stands meaning stream run (h ++ x ∷ []) table2 desk2 out2
 
--- ---- what the exporter tells of a step
+-- ---- what the exporter shows of a step
 
 -- an attempt whose body is that of its batch
 pub record HasItsBody (setup : Setup) (h : List Answered) (handed : Handed) : Type 0 where
   pub means : MeansItsBatch setup h handed
   pub bytes : IsCanonical setup h handed
 
--- an exporter that tells has gained these attempts, each with a body that means this
+-- an exporter that shows its attempts has gained these, each with a body that means this
 pub record TellsAll (told : List Attempt) (means : Handed → Type 0)
     (old new : Option (List Handed)) : Type 0 where
   pub more : List Handed

@@ -46,7 +46,7 @@ impl<A: Allocator> RunReport<A> {
         &self.desk
     }
 
-    /// The batch that is out, if one is. Whether it was handed to the exporter, `Desk::out` tells.
+    /// The batch that is out, if one is. `Desk::out` says whether it was handed to the exporter.
     pub fn out(&self) -> Option<&Batch<A>>
         ensures { option_map (λ batch. batch.now) result ≡ option_map (λ o. o.batch) self.now.out }
     {

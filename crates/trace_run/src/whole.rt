@@ -139,7 +139,7 @@ pub fn run<S: Sampler + Drop, R: Rng + Drop, E: Exporter, A: Allocator + Copy>(
         max_body,
         rng,
     } = config;
-    // It tells that its numbers are those that `RetryConfig::new` takes.
+    // It says that its numbers are those that `RetryConfig::new` takes.
     retry.attempts();
     let mut answers = Vec::with_capacity(alloc, steps.len())?;
     let resource = Arc::new(alloc, resource)?;

@@ -24,7 +24,7 @@ pub fn in_order()
         Step.attempt 0 ∷ Step.attempt 0 ∷ Step.reply 0 0 ∷ Step.reply 0 0 ∷ []) ≡
         encoded 1 70 ∷ nothing ∷ sent 1 1 Outcome.delivered ∷ nothing ∷
         replied 1 Next.done ∷ nothing ∷ [] }
-    // Steps that stand too early or too late.
+    // Steps that come too early or too late.
     ensures no_batch { answers_from 2 (queue_of 4) (first ∷ ends 0 ∷ sends) ≡
         nothing ∷ nothing ∷ nothing ∷ [] }
     ensures not_encoded { answers_from 4 (queue_of 4)

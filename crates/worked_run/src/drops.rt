@@ -25,7 +25,7 @@ pub fn ledgers()
         0 ∷ 4 ∷ [] }
     ensures popped { popped_tickets (five_ends ++ taken 10 2 ∷ dropped too_large ∷ popped ∷ []) ≡
         1 ∷ [] }
-    // What is dropped after a pop stands above what was left.
+    // What is dropped after a pop is above what was left.
     ensures above { ledger_tickets (five_ends ++ ends_full 5 ++ popped ∷ ends_full 6) ≡
         6 ∷ 4 ∷ [] }
     ensures none_to_pop { popped_entries (popped ∷ five_ends) ≡ [] }

@@ -32,7 +32,7 @@ pub fn tickets()
     ensures all { all_tickets both ≡ 0 ∷ 1 ∷ 2 ∷ 3 ∷ [] }
     ensures below { numbers_below 4 ≡ 0 ∷ 1 ∷ 2 ∷ 3 ∷ [] }
     ensures drop { drops first ≡ drop_of_2 ∷ [] }
-    // Two queued tickets stand from the floor 0 up to 2, as many as the queue holds.
+    // Two queued tickets are from the floor 0 up to 2, as many as the queue holds.
     ensures full { count_between 0 2 (all_accepted both) ≡ 2 }
     // From the floor 1 there is one: a drop there would have found room.
     ensures room { count_between 1 2 (all_accepted both) ≡ 1 }

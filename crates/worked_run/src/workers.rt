@@ -71,7 +71,7 @@ pub fn lost()
         (worker_with (out_with (Some (8 ∷ [])) []))) ≡ named names.given_up 3 ∷ [] }
     ensures refused { worker_losses (after_settle (Outcome.refused 400 ∷ []) (Fate.refused 400)
         (worker_with (out_with (Some (8 ∷ [])) []))) ≡ named (names.refused 400) 3 ∷ [] }
-    // A partial success doesn't tell which spans were refused.
+    // A partial success doesn't say which spans were refused.
     ensures partial { worker_losses (after_settle (Outcome.partial (pos 1) ∷ [])
         (Fate.partial (pos 1)) (worker_with (out_with (Some (8 ∷ [])) []))) ≡ [] }
 {}

@@ -21,7 +21,7 @@ ghost use Rattle.worked_trace.specs.Read.{read, faults, read_value, read_pair, i
 ghost use Rattle.worked_trace.specs.Read.{attribute_body};
 ghost use Rattle.worked_trace.specs.Written.{span_bytes, limited_bytes};
 
-/// Varints, tags and lengths, and what stands beside a fault (Protocol Buffers, "Encoding").
+/// Varints, tags and lengths, and what is beside a fault (Protocol Buffers, "Encoding").
 #[tactic(auto, unfolding(crate::specs::Hex::hex, crate::specs::Read::read, crate::specs::Read::faults))]
 pub fn wire()
     // A bad field number is reported before a bad wire type: number 0 with the types 3 and 7.

@@ -23,7 +23,7 @@ pub trait Submessage {
             (S.cursor sink.old) (S.cursor sink.new) };
 }
 
-/// How many bytes its message has; 2^64 - 1 stands for that many and for more.
+/// How many bytes its message has; 2^64 - 1 means that many and more.
 pub fn encoded_len<T: Submessage>(item: &T) -> usize
     ensures { Measures (T.bytes (T.view item.now)) (T.is_whole (T.view item.now)) result }
 {

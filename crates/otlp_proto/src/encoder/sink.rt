@@ -34,7 +34,7 @@ pub trait Sink {
         ensures { Skips len result (cursor self.old) (cursor self.new) };
 }
 
-/// A count of bytes; 2^64 - 1 stands for that many and for more.
+/// A count of bytes; 2^64 - 1 means that many and more.
 #[derive(Drop)]
 pub struct Length(usize);
 
