@@ -1,6 +1,6 @@
 //! Worked examples of requests and replies of OTLP over HTTP (crates `http_wire`, `otlp_http` and
-//! `otlp_serve`), and of the context of a trace in a request (`trace_context`), with texts that were written out by hand. The checker computes what the
-//! definitions make of each, and compares.
+//! `otlp_serve`), and of the context of a trace in a request (`trace_context`), with texts that
+//! were written out by hand. The checker computes what the definitions make of each, and compares.
 //!
 //! Each function is a group of examples. Its clauses are the examples, and it does nothing when it
 //! is called.
