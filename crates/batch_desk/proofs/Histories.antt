@@ -1,15 +1,15 @@
 -- What each call of a desk makes of a history, by what it leaves of the desk.
 use Rattle.std.proofs.Common.{◌≡◌, refl, sym, ap, ◌∙◌, subst, ℕ, ◌+◌, ◌<◌, ◌≤◌, arith, min, Bool, true, false, not, List, [], ◌∷◌, ◌++◌, length, take, drop, Option, Some, None}
-use Rattle.std.specs.Prelude.{map, option_map, reverse, if◌then◌else◌}
-use Rattle.std.proofs.lemmas.List.{take_min, drop_min, length-map}
+use Rattle.std.specs.Prelude.{map, option_map, replicate, reverse, if◌then◌else◌}
+use Rattle.std.proofs.lemmas.List.{append-nil, append_assoc, take_min, drop_min, length-map}
 use Rattle.model_span.specs.Spans.{SpanData}
 use Rattle.model_drop.specs.Dropped.{Entry, Reason, queue_full, entry_of, can_drop_batch}
 use Rattle.model_retry.specs.Retries.{Fate}
-use Rattle.model_desk.specs.Queue.{queued, full, late, flush, shutdown, handed, popped, popped_lost, lost_names}
+use Rattle.model_desk.specs.Queue.{DeskEvent, queued, full, late, flush, shutdown, handed, popped, popped_lost, lost_names}
 use Rattle.model_desk.specs.Desks.{DeskConfig, Desk, OutBatch, Does, DropsSpans, IsDesk, SettlesSpans, TakesSpans, accepted_count, capped, handed_out, is_due, is_in_hand, is_with_exporter, new_desk, out_size, with_drops}
 use Rattle.model_desk.proofs.Events.{new_desk_is, queued_does, full_does, late_does, flush_does, shutdown_does, taken_does, handed_does, dropped_does, settled_does, popped_does, popped_lost_does}
 use Rattle.batch_desk.specs.Counts.{handed_size}
-use Rattle.batch_desk.specs.Desk.{after_drop, after_loss, after_names, after_take, with_next_ticket}
+use Rattle.batch_desk.specs.Desk.{DoesAll, after_drop, after_loss, after_names, after_take, pops_all, with_next_ticket}
 
 pub new_follows : (config : DeskConfig) (made : ℕ) (new : Desk) → new ≡ new_desk config made → IsDesk made [] new
 new_follows config made new e = subst (IsDesk made []) (sym e) (new_desk_is config made)
@@ -57,6 +57,31 @@ module _ (old new : Desk) where
 
   pub popped_lost_follows : new ≡ record old { lost = drop 1 old.lost } → Does popped_lost old new
   popped_lost_follows e = subst (λ d. Does popped_lost old d) (sym e) (popped_lost_does old)
+
+-- ---- all entries are popped
+
+-- an event, and then some more
+does_first : (x : DeskEvent) (more : List DeskEvent) (a b d : Desk) → Does x a b → DoesAll more b d → DoesAll (x ∷ more) a d
+does_first x more a b d first after made events is = subst (λ (es : List DeskEvent). IsDesk made es d) (append_assoc events (x ∷ []) more) (after made (events ++ x ∷ []) (first made events is))
+
+does_none : (a : Desk) → DoesAll [] a a
+does_none a made events is = subst (λ (es : List DeskEvent). IsDesk made es a) (sym (append-nil events)) is
+
+does_then : (xs ys : List DeskEvent) (a b d : Desk) → DoesAll xs a b → DoesAll ys b d → DoesAll (xs ++ ys) a d
+does_then xs ys a b d first after made events is = subst (λ (es : List DeskEvent). IsDesk made es d) (append_assoc events xs ys) (after made (events ++ xs) (first made events is))
+
+pops_ledger : (d : Desk) (es : List Entry) → DoesAll (replicate (length es) popped) (record d { ledger = es }) (record d { ledger = [] })
+pops_ledger d [] = does_none (record d { ledger = [] })
+pops_ledger d (e ∷ es) = does_first popped (replicate (length es) popped) (record d { ledger = e ∷ es }) (record d { ledger = es }) (record d { ledger = [] }) (popped_does (record d { ledger = e ∷ es })) (pops_ledger d es)
+
+pops_losses : (d : Desk) (es : List Entry) → DoesAll (replicate (length es) popped_lost) (record d { lost = es }) (record d { lost = [] })
+pops_losses d [] = does_none (record d { lost = [] })
+pops_losses d (e ∷ es) = does_first popped_lost (replicate (length es) popped_lost) (record d { lost = e ∷ es }) (record d { lost = es }) (record d { lost = [] }) (popped_lost_does (record d { lost = e ∷ es })) (pops_losses d es)
+
+pub drained_follows : (old new : Desk) → new ≡ record old { ledger = []; lost = [] } → DoesAll (pops_all old) old new
+drained_follows old new e =
+    subst (λ d. DoesAll (pops_all old) old d) (sym e)
+    (does_then (replicate (length old.ledger) popped) (replicate (length old.lost) popped_lost) old (record old { ledger = [] }) (record old { ledger = []; lost = [] }) (pops_ledger old old.ledger) (pops_losses (record old { ledger = [] }) old.lost))
 
 -- ---- the batch that is out
 

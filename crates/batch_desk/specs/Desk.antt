@@ -1,13 +1,13 @@
 -- What the calls of a desk answer, and what they leave of it.
 use Rattle.std.specs.Prelude.{◌≡◌, ℕ, ◌+◌, ◌-◌, ◌^◌, ◌==◌, Bool, true, false, if◌then◌else◌, List}
 use Rattle.std.specs.Prelude.{[], ◌∷◌, ◌++◌, length, take, drop, map, reverse, min, Option, None}
-use Rattle.std.specs.Prelude.{Some, option_map}
+use Rattle.std.specs.Prelude.{Some, option_map, replicate}
 use Rattle.model_span.specs.Spans.{SpanData, with_ticket}
 use Rattle.model_drop.specs.Dropped.{Entry, Reason, queue_full, entry_of}
 use Rattle.model_retry.specs.Retries.{Fate}
-use Rattle.model_desk.specs.Queue.{DeskEvent, queued, full, late}
+use Rattle.model_desk.specs.Queue.{DeskEvent, queued, full, late, popped, popped_lost}
 use Rattle.model_desk.specs.Desks.{DeskConfig, Desk, with_drops, with_fate, capped, is_loss}
-use Rattle.model_desk.specs.Desks.{out_size}
+use Rattle.model_desk.specs.Desks.{IsDesk, out_size}
 use Rattle.batch_desk.specs.Batch.{BatchView, NamedView}
 use Rattle.batch_desk.specs.declared.admitted.Admitted.{Admitted}
 use Rattle.batch_desk.specs.declared.admitted.Admitted.TheVariants as admitted
@@ -125,3 +125,16 @@ after_loss fate entries desk = record desk {
   lost_count = desk.lost_count + length entries;
   fates = with_fate fate desk.fates;
 }
+
+-- ---- names
+
+-- each entry of both ledgers is popped
+abbrev pub pops_all : Desk → List DeskEvent
+pops_all desk =
+    replicate (length desk.ledger) popped ++ replicate (length desk.lost) popped_lost
+
+-- Whatever events the desk was the result of, it is now that of these with some more after them.
+abbrev pub DoesAll : List DeskEvent → Desk → Desk → Type 0
+DoesAll more old new =
+    (made : ℕ) (events : List DeskEvent) → IsDesk made events old
+    → IsDesk made (events ++ more) new

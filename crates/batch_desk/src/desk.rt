@@ -15,13 +15,15 @@ ghost use Rattle.otlp_span.specs.Dropped.{entry_view, reason_view};
 ghost use Rattle.retry_core.specs.Retries.{fate_view};
 ghost use Rattle.batch_desk.specs.Desk.{CanSettle, IsNamedOut, IsOut, admission, admission_event};
 ghost use Rattle.batch_desk.specs.Desk.{after_admission, after_drop, after_loss, after_names};
-ghost use Rattle.batch_desk.specs.Desk.{after_take, is_queued, next_batch, out_state};
+ghost use Rattle.batch_desk.specs.Desk.{DoesAll, after_take, is_queued, next_batch, out_state};
+ghost use Rattle.batch_desk.specs.Desk.{pops_all};
 ghost use Rattle.drop_ledger.specs.Counts.{drop_counts_view};
 ghost use Rattle.batch_desk.specs.Views.{config_view, fate_counts_view, out_view};
 
 use crate::admitted::Admitted;
 use crate::batch::Batch;
 use crate::config::DeskConfig;
+use crate::drained::DrainedNames;
 use crate::mark::Mark;
 use crate::named::{NamedBatch, name_span};
 use crate::settled::{SettledBatch, loss_reason};
@@ -32,6 +34,7 @@ use retry_core::Fate;
 use span_ring::{RingFault, SpanRing};
 use std::alloc::{Allocator, Global};
 use std::marker::Model;
+use std::mem;
 
 /// The batch that is out: its number, how many spans it has, and whether it was handed to an
 /// exporter.
@@ -460,6 +463,20 @@ impl<A: Allocator> Desk<A> {
         ensures { result.now ≡ self.now.lost }
     {
         &self.lost
+    }
+
+    /// Takes all entries out of both ledgers, in one step: however many there are, none is looked
+    /// at. The totals still count their spans.
+    pub fn drain_names(&mut self) -> DrainedNames<A>
+        ensures dropped { result.dropped ≡ self.old.ledger }
+        ensures lost { result.lost ≡ self.old.lost }
+        ensures desk { self.new ≡ record self.old { ledger = []; lost = [] } }
+        ensures history { DoesAll (pops_all self.old) self.old self.new }
+    {
+        DrainedNames {
+            dropped: mem::take(&mut self.ledger),
+            lost: mem::take(&mut self.lost),
+        }
     }
 
     /// How many spans wait.

@@ -12,7 +12,7 @@ use Rattle.model_drop.specs.Dropped.{Entry, queue_full, entry_of}
 use Rattle.model_desk.specs.Desks.{Desk, accepted_count, capped, drop_counts, is_flushed, with_drops}
 use Rattle.model_desk.proofs.Events.{counts-more}
 use Rattle.model_processor.specs.Passes as ends_of
-use Rattle.model_processor.specs.Passes.{Asked, Drop, PassAccount, SpanEnd, after_late, after_pop, after_pop_lost, all_dropped, all_popped, all_popped_lost, drop_in, dropped_entries, dropped_entry, entry_in, tickets}
+use Rattle.model_processor.specs.Passes.{Asked, Drop, PassAccount, SpanEnd, after_drain, after_late, after_pop, after_pop_lost, all_dropped, all_popped, all_popped_lost, drop_in, dropped_entries, dropped_entry, entry_in, tickets}
 use Rattle.model_processor.specs.PassClauses.{CountsLate, NamesDrops, NamesLosses}
 use Rattle.model_processor.proofs.PassSteps.{closed_by, closes-last, gives_step, late_step, losses_step, names_step, no_news, none_more, one_news, shut-closes}
 use Rattle.model_processor.specs.Worker.{WorkerAccount, taken_spans, worker_entries, worker_losses}
@@ -204,6 +204,23 @@ module _ (desk : Desk) (w : WorkerAccount) (old new : List PassAccount) (a b : P
         popped = entry ∷ [];
         told = ap (λ (x : PassAccount). x.popped_lost) told;
         taken = subst (λ (es : List Entry). IsPermutation es (desk'.lost ++ entry ∷ [])) (sym first) (IsPermutation-sym (desk'.lost ++ entry ∷ []) (entry ∷ desk'.lost) (IsPermutation-to_front desk'.lost entry));
+        count = refl;
+      }))
+
+  pub drain_agrees : (desk' : Desk) (ds ls : List Entry) → IsPermutation desk.ledger ds → IsPermutation desk.lost ls → desk' ≡ record desk { ledger = []; lost = [] } → b ≡ after_drain ds ls a → Agrees desk' new w
+  drain_agrees desk' ds ls all all_lost is told =
+      let one : KeepsFloor desk.next_ticket desk.waiting (accepted desk w) b.floor b.asked = rw (ap (λ (x : PassAccount). x.floor) told, ap (λ (x : PassAccount). x.asked) told) floor_of in
+      let desk2 = record desk { ledger = []; lost = [] } in
+      subst (λ (d : Desk). Agrees d new w) (sym is)
+      (agrees_pass desk desk2 w old new a b r k [] [] ds (nothing_queued desk.next_ticket)
+      (record { config = refl; waiting = sym (append-nil desk.waiting); out = refl; taken = refl; batches = refl; fates = refl; handed = refl; closed = λ c. (c, refl) })
+      (ap (λ (x : PassAccount). x.ends) told ∙ sym (append-nil a.ends)) (ap (λ (x : PassAccount). x.popped) told) tt all
+      same_counts (same_late (ap (λ (x : PassAccount). x.late) told) (ap (λ (x : PassAccount). x.shutdowns) told)) (still_told (ap (λ (x : PassAccount). x.told_left) told)) (still_above desk.next_ticket desk.waiting (accepted desk w) b.floor b.asked one)
+      tt
+      (record {
+        popped = ls;
+        told = ap (λ (x : PassAccount). x.popped_lost) told;
+        taken = all_lost;
         count = refl;
       }))
 

@@ -82,6 +82,13 @@ abbrev pub after_pop_lost : Entry → PassAccount → PassAccount
 after_pop_lost entry account =
     record account { popped_lost = account.popped_lost ++ entry ∷ [] }
 
+-- the ledgers were drained of these entries: of dropped spans, and of lost ones
+abbrev pub after_drain : List Entry → List Entry → PassAccount → PassAccount
+after_drain drops losses account = record account {
+  popped = account.popped ++ drops;
+  popped_lost = account.popped_lost ++ losses;
+}
+
 -- a flush asked, where this ticket was the next one, and so many spans were accepted
 abbrev pub after_flush : ℕ → ℕ → PassAccount → PassAccount
 after_flush ticket mark account =
