@@ -3,7 +3,7 @@ use Rattle.std.proofs.Common.{◌≡◌, ℕ, zero, suc, ◌+◌, ◌^◌, ◌<�
 use Rattle.std.specs.Prelude.{Contains, IsPermutation, Option, Some, None, Ok, Err, ◌==◌, ◌*◌, ◌&&◌, ◌||◌, nat_le, nat_lt, is_some, if◌then◌else◌, map, reverse, slice_get, option_map}
 use Rattle.std.proofs.lemmas.Bool.{eqb-true, ltb-true}
 use Rattle.std.proofs.lemmas.List.{length-map, length-take}
-use Rattle.std.proofs.lemmas.List.Sorted.{IsPermutation-append_comm}
+use Rattle.std.proofs.lemmas.List.Sorted.{IsPermutation-append_comm, IsPermutation-reverse}
 use Rattle.account_book.specs.Accounts.{Replaces}
 use Rattle.account_book.proofs.Facts.{contains_replaced}
 use Rattle.model_span.specs.Spans.{SpanData, with_ticket}
@@ -136,6 +136,10 @@ lost_first desk desk' entry first is = first_of desk.lost entry first ∙ ap (λ
 
 pub lost_is : (desk desk' : Desk) → desk' ≡ record desk { lost = drop 1 desk.lost } → desk' ≡ record desk { lost = desk'.lost }
 lost_is desk desk' is = is ∙ ap (λ (l : List Entry). record desk { lost = l }) (sym (ap (λ (d : Desk). d.lost) is))
+
+-- entries that were taken are all of them, the other way round too
+pub all_of : (entries taken : List Entry) → taken ≡ entries → IsPermutation entries (reverse taken)
+all_of entries taken is = subst (λ (es : List Entry). IsPermutation es (reverse taken)) is (IsPermutation-reverse taken)
 
 -- ---- what is guarded
 

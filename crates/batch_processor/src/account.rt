@@ -1,7 +1,7 @@
 //! What the accounts of a processor say, and how that changes. No value of it is made.
 use crate::config::Setup;
 use account_book::{Blank, Change, Opening};
-use batch_desk::{Admitted, Batch, Desk, NamedBatch};
+use batch_desk::{Admitted, Batch, Desk, DrainedNames, NamedBatch};
 use otlp_span::{Entry, SpanData};
 use retry_core::{Fate, Outcome};
 use std::alloc::Allocator;
@@ -147,6 +147,18 @@ impl Change<AccountState, Entry> for PopsLost {
     ghost use Rattle.model_processor.specs.AnyAccounts.{on_pass};
 
     ghost after = { λ holder entry. on_pass (after_pop_lost (entry_view entry)) holder };
+}
+
+/// A pass drains the ledgers of these names. It has them the oldest first.
+pub(crate) struct PopsAll;
+
+impl<A: Allocator> Change<AccountState, DrainedNames<A>> for PopsAll {
+    ghost use Rattle.std.specs.Prelude.{reverse};
+    ghost use Rattle.model_processor.specs.Passes.{after_drain};
+    ghost use Rattle.model_processor.specs.AnyAccounts.{on_pass};
+
+    ghost after = { λ holder names. on_pass
+        (after_drain (reverse names.dropped) (reverse names.lost)) holder };
 }
 
 /// The worker takes a batch.

@@ -1,7 +1,7 @@
 //! The passes of a batch processor.
 ghost use Rattle.std.specs.Prelude.{◌≡◌, IfNone, IfSome};
 ghost use Rattle.otlp_span.specs.Dropped.{entry_view};
-ghost use Rattle.model_processor.specs.Passes.{after_pop, after_pop_lost};
+ghost use Rattle.model_processor.specs.Passes.{after_drain, after_pop, after_pop_lost};
 ghost use Rattle.batch_processor.specs.Answers.{IsFlushed, IsShutDown};
 ghost use Rattle.batch_processor.specs.Holds.{WasCounted};
 ghost use Rattle.batch_processor.specs.Views.{ended_of};
@@ -10,7 +10,7 @@ use crate::account::AccountState;
 use crate::fault::WorkerLeft;
 use crate::lock::Lock;
 use account_book::{Account, Naming};
-use batch_desk::{Admitted, Totals};
+use batch_desk::{Admitted, DrainedNames, Totals};
 use otlp_span::{Entry, Reason, SpanData};
 use std::alloc::{Allocator, Global};
 use std::fmt;
@@ -115,6 +115,17 @@ impl<J: Naming, R: Wait, A: Allocator + Copy> Pass<J, R, A> {
     {
         let Pass { lock, account, rt } = self;
         lock.shared.lock(rt).pop_lost(account)
+    }
+
+    /// Takes all names out of both ledgers in one hold of the lock, which is as short for many
+    /// names as for one. It answers them the oldest first; their memory is freed where they are let
+    /// go. No memory is taken. (profile)
+    pub fn drain_names(&mut self) -> DrainedNames<A>
+        ensures { self.new ≡ after_drain result.dropped result.lost self.old }
+    {
+        let Pass { lock, account, rt } = self;
+        let names = lock.shared.lock(rt).drain_names(account);
+        names.reversed()
     }
 }
 

@@ -2,11 +2,12 @@
 ghost use Rattle.std.specs.Prelude.{◌≡◌, ℕ, List, ◌≤◌, ◌&&◌, ◌||◌, not, vec_len, true, false};
 ghost use Rattle.std.specs.Prelude.{option_map, drop, IfSome, IfNone, IsPermutation, IsTrue, Some};
 ghost use Rattle.std.specs.Prelude.{None, [], ◌++◌, IfErr, is_none, is_some, option_to_list};
+ghost use Rattle.std.specs.Prelude.{reverse};
 ghost use Rattle.model_desk.specs.Desks.{accepted_count, is_due};
 ghost use Rattle.batch_desk.specs.Desk.{admission, after_admission, after_loss, after_names};
 ghost use Rattle.batch_desk.specs.Desk.{is_queued};
 ghost use Rattle.otlp_span.specs.Dropped.{entry_view};
-ghost use Rattle.model_processor.specs.Passes.{after_pop, after_pop_lost};
+ghost use Rattle.model_processor.specs.Passes.{after_drain, after_pop, after_pop_lost};
 ghost use Rattle.model_processor.specs.AnyAccounts.{account_in, after_drained, after_drop};
 ghost use Rattle.model_processor.specs.AnyAccounts.{after_handed, after_left, after_settle};
 ghost use Rattle.model_processor.specs.AnyAccounts.{after_take};
@@ -19,15 +20,15 @@ ghost use Rattle.batch_processor.specs.Holds.{IsSettledBatchOf, IsTold, Shuts, h
 ghost use Rattle.model_processor.specs.Kept.{IsAccountOf};
 
 use crate::account::{
-    AccountState, Drains, Drops, Ends, Flushes, Hands, Leaves, Pops, PopsLost, Settled, Settles,
-    ShutsDown, SpanEnded, Takes, ToldFlushed, ToldLeft,
+    AccountState, Drains, Drops, Ends, Flushes, Hands, Leaves, Pops, PopsAll, PopsLost, Settled,
+    Settles, ShutsDown, SpanEnded, Takes, ToldFlushed, ToldLeft,
 };
 use crate::config::Setup;
 use crate::fault::WorkerLeft;
 use crate::hold::{After, Wake};
 use crate::pass::{Flushed, Pass};
 use account_book::{Account, Book, Naming};
-use batch_desk::{Admitted, Batch, Desk, Mark, NamedBatch, SettledBatch, Totals};
+use batch_desk::{Admitted, Batch, Desk, DrainedNames, Mark, NamedBatch, SettledBatch, Totals};
 use otlp_span::{Entry, SpanData, SpanRemains};
 use retry_core::Outcome;
 use std::alloc::Allocator;
@@ -298,6 +299,21 @@ impl<J: Naming, A: Allocator + Copy> Shared<J, A> {
         let entry = self.desk.pop_lost()?;
         self.book.record::<Entry, PopsLost>(account, &entry);
         Some(entry)
+    }
+
+    /// A pass drains both ledgers. However many names there are, none is looked at in the hold.
+    pub(crate) fn drain_names(&mut self, account: &mut Account<J, AccountState>) -> DrainedNames<A>
+        requires { account.old ≡ pass (account_in account.old) }
+        ensures account { account.new ≡ on_pass
+            (after_drain (reverse result.dropped) (reverse result.lost)) account.old }
+        ensures desk { self.new ≡ record self.old {
+          desk = record self.old.desk { ledger = []; lost = [] };
+        } }
+    {
+        let names = self.desk.drain_names();
+        self.book
+            .record::<DrainedNames<A>, PopsAll>(account, &names);
+        names
     }
 
     /// The worker, which has none out, takes the next batch, if it is due.

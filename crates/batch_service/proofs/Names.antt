@@ -1,11 +1,11 @@
 -- What a sink is given, one name after the other, and one turn after the other.
-use Rattle.std.proofs.Common.{◌≡◌, List, [], ◌∷◌, ◌++◌, sym, refl, ap, ◌∙◌}
+use Rattle.std.proofs.Common.{◌≡◌, List, [], ◌∷◌, ◌++◌, sym, refl, ap, ◌∙◌, subst}
 use Rattle.std.specs.Prelude.{Option, Some, None, option_map}
 use Rattle.std.proofs.lemmas.List.{append-nil, append_assoc}
 use Rattle.model_drop.specs.Dropped.{Entry}
-use Rattle.model_processor.specs.Passes.{PassAccount, after_pop, after_pop_lost}
+use Rattle.model_processor.specs.Passes.{PassAccount, after_drain}
 use Rattle.name_sink.specs.Named.{Named, no_names, with_dropped, with_lost}
-use Rattle.batch_service.specs.Working.{GainsNames, GivesNames, after_pops}
+use Rattle.batch_service.specs.Working.{GainsNames, GivesNames, dropped_names, lost_names}
 
 -- names with these after them
 abbrev joined : Named → Named → Named
@@ -23,20 +23,12 @@ pub gains_none : (told : Option Named) → GainsNames no_names told told
 gains_none None = refl
 gains_none (Some had) = ap Some (join_none had)
 
-pops_none : (a : PassAccount) → a ≡ after_pops no_names a
+pops_none : (a : PassAccount) → a ≡ after_drain [] [] a
 pops_none a = sym (ap (λ (xs : List Entry). record a { popped = xs; popped_lost = a.popped_lost ++ [] }) (append-nil a.popped) ∙ ap (λ (ys : List Entry). record a { popped_lost = ys }) (append-nil a.popped_lost))
 
 pub gives_none : (told : Option Named) (account : PassAccount) → GivesNames told told account account
 gives_none told account =
     record { more = no_names; gains = gains_none told; popped = pops_none account }
-
-gains_dropped : (entry : Entry) (told : Option Named) → GainsNames (with_dropped entry no_names) told (option_map (with_dropped entry) told)
-gains_dropped entry None = refl
-gains_dropped entry (Some had) = ap (λ (ys : List Entry). Some (record { dropped = had.dropped ++ entry ∷ []; lost = ys })) (sym (append-nil had.lost))
-
-gains_lost : (entry : Entry) (told : Option Named) → GainsNames (with_lost entry no_names) told (option_map (with_lost entry) told)
-gains_lost entry None = refl
-gains_lost entry (Some had) = ap (λ (xs : List Entry). Some (record { dropped = xs; lost = had.lost ++ entry ∷ [] })) (sym (append-nil had.dropped))
 
 -- ---- one after the other
 
@@ -44,22 +36,68 @@ gains_more : (a b : Named) (x y z : Option Named) → GainsNames a x y → Gains
 gains_more a b None y z first second = second ∙ ap (option_map (λ (had : Named). joined had b)) first
 gains_more a b (Some had) y z first second = second ∙ ap (option_map (λ (all : Named). joined all b)) first ∙ ap Some (join_assoc had a b)
 
-pops_more : (a b : Named) (x : PassAccount) → after_pops b (after_pops a x) ≡ after_pops (joined a b) x
+pops_more : (a b : Named) (x : PassAccount) → after_drain b.dropped b.lost (after_drain a.dropped a.lost x) ≡ after_drain (a.dropped ++ b.dropped) (a.lost ++ b.lost) x
 pops_more a b x = ap (λ (xs : List Entry). record x { popped = xs; popped_lost = (x.popped_lost ++ a.lost) ++ b.lost }) (append_assoc x.popped a.dropped b.dropped) ∙ ap (λ (ys : List Entry). record x { popped = x.popped ++ (a.dropped ++ b.dropped); popped_lost = ys }) (append_assoc x.popped_lost a.lost b.lost)
 
 pub gives_more : (s t u : Option Named) (x y z : PassAccount) → GivesNames s t x y → GivesNames t u y z → GivesNames s u x z
 gives_more s t u x y z first second = record {
   more = joined first.more second.more;
   gains = gains_more first.more second.more s t u first.gains second.gains;
-  popped = second.popped ∙ ap (after_pops second.more) first.popped ∙ pops_more first.more second.more x;
+  popped = second.popped ∙ ap (after_drain second.more.dropped second.more.lost) first.popped ∙ pops_more first.more second.more x;
 }
 
-pub gives_dropped : (entry : Entry) (s t u : Option Named) (x y z : PassAccount) → GivesNames s t x y → z ≡ after_pop entry y → u ≡ option_map (with_dropped entry) t → GivesNames s u x z
-gives_dropped entry s t u x y z first popped given =
-    let pops : after_pop entry y ≡ after_pops (with_dropped entry no_names) y = ap (λ (ys : List Entry). record y { popped = y.popped ++ entry ∷ []; popped_lost = ys }) (sym (append-nil y.popped_lost)) in
-    gives_more s t u x y z first (record { more = with_dropped entry no_names; gains = given ∙ gains_dropped entry t; popped = popped ∙ pops })
+-- ---- name after name
 
-pub gives_lost : (entry : Entry) (s t u : Option Named) (x y z : PassAccount) → GivesNames s t x y → z ≡ after_pop_lost entry y → u ≡ option_map (with_lost entry) t → GivesNames s u x z
-gives_lost entry s t u x y z first popped given =
-    let pops : after_pop_lost entry y ≡ after_pops (with_lost entry no_names) y = ap (λ (xs : List Entry). record y { popped = xs; popped_lost = y.popped_lost ++ entry ∷ [] }) (sym (append-nil y.popped)) in
-    gives_more s t u x y z first (record { more = with_lost entry no_names; gains = given ∙ gains_lost entry t; popped = popped ∙ pops })
+gains_one : (kind : List Entry → Named) (with_one : Entry → Named → Named) → ((e : Entry) (had : Named) → with_one e had ≡ joined had (kind (e ∷ []))) → (e : Entry) (told : Option Named) → GainsNames (kind (e ∷ [])) told (option_map (with_one e) told)
+gains_one kind with_one is e None = refl
+gains_one kind with_one is e (Some had) = ap Some (is e had)
+
+-- Of these names some were given, in order, and these are left.
+pub record GivesFront (kind : List Entry → Named) (names left : List Entry) (told told' : Option Named) : Type 0 where
+  pub given : List Entry
+  pub split : names ≡ given ++ left
+  pub gains : GainsNames (kind given) told told'
+
+module _ (kind : List Entry → Named) (with_one : Entry → Named → Named) (is : (e : Entry) (had : Named) → with_one e had ≡ joined had (kind (e ∷ []))) (none : kind [] ≡ no_names) (join : (es : List Entry) (e : Entry) → joined (kind es) (kind (e ∷ [])) ≡ kind (es ++ e ∷ [])) where
+  front_none : (names : List Entry) (told : Option Named) → GivesFront kind names names told told
+  front_none names told = record { given = []; split = refl; gains = subst (λ (n : Named). GainsNames n told told) (sym none) (gains_none told) }
+
+  front_next : (names left left' : List Entry) (e : Entry) (s t u : Option Named) → left ≡ e ∷ left' → u ≡ option_map (with_one e) t → GivesFront kind names left s t → GivesFront kind names left' s u
+  front_next names left left' e s t u is_left gave so_far =
+      let more : GainsNames (kind (e ∷ [])) t u = gave ∙ gains_one kind with_one is e t in
+      record {
+        given = so_far.given ++ e ∷ [];
+        split = so_far.split ∙ ap (λ (es : List Entry). so_far.given ++ es) is_left ∙ sym (append_assoc so_far.given (e ∷ []) left');
+        gains = subst (λ (n : Named). GainsNames n s u) (join so_far.given e) (gains_more (kind so_far.given) (kind (e ∷ [])) s t u so_far.gains more);
+      }
+
+-- all of them
+pub front_all : (kind : List Entry → Named) (names left : List Entry) (s t : Option Named) → left ≡ [] → GivesFront kind names left s t → GainsNames (kind names) s t
+front_all kind names left s t ended so_far =
+    subst (λ (es : List Entry). GainsNames (kind es) s t) (sym (so_far.split ∙ ap (λ (es : List Entry). so_far.given ++ es) ended ∙ append-nil so_far.given)) so_far.gains
+
+dropped_one : (e : Entry) (had : Named) → with_dropped e had ≡ joined had (dropped_names (e ∷ []))
+dropped_one e had = ap (λ (ys : List Entry). record { dropped = had.dropped ++ e ∷ []; lost = ys }) (sym (append-nil had.lost))
+
+lost_one : (e : Entry) (had : Named) → with_lost e had ≡ joined had (lost_names (e ∷ []))
+lost_one e had = ap (λ (xs : List Entry). record { dropped = xs; lost = had.lost ++ e ∷ [] }) (sym (append-nil had.dropped))
+
+pub dropped_none : (names : List Entry) (told : Option Named) → GivesFront dropped_names names names told told
+dropped_none = front_none dropped_names with_dropped dropped_one refl (λ es e. refl)
+
+pub dropped_next : (names left left' : List Entry) (e : Entry) (s t u : Option Named) → left ≡ e ∷ left' → u ≡ option_map (with_dropped e) t → GivesFront dropped_names names left s t → GivesFront dropped_names names left' s u
+dropped_next = front_next dropped_names with_dropped dropped_one refl (λ es e. refl)
+
+pub lost_none : (names : List Entry) (told : Option Named) → GivesFront lost_names names names told told
+lost_none = front_none lost_names with_lost lost_one refl (λ es e. refl)
+
+pub lost_next : (names left left' : List Entry) (e : Entry) (s t u : Option Named) → left ≡ e ∷ left' → u ≡ option_map (with_lost e) t → GivesFront lost_names names left s t → GivesFront lost_names names left' s u
+lost_next = front_next lost_names with_lost lost_one refl (λ es e. refl)
+
+-- names of both kinds, which a pass drained
+pub gives_both : (ds ls : List Entry) (s t u : Option Named) (x y : PassAccount) → y ≡ after_drain ds ls x → GainsNames (dropped_names ds) s t → GainsNames (lost_names ls) t u → GivesNames s u x y
+gives_both ds ls s t u x y popped first second = record {
+  more = record { dropped = ds; lost = ls };
+  gains = subst (λ (n : Named). GainsNames n s u) (ap (λ (es : List Entry). record { dropped = es; lost = ls }) (append-nil ds)) (gains_more (dropped_names ds) (lost_names ls) s t u first second);
+  popped = popped;
+}

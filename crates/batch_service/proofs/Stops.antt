@@ -2,7 +2,7 @@
 use Rattle.std.proofs.Common.{◌≡◌, ℕ, ◌≤◌, List, [], ◌∷◌, ◌++◌, false, sym, refl, ap, ◌∙◌, subst, arith}
 use Rattle.std.specs.Prelude.{Option, Result, Ok, Err, None}
 use Rattle.model_desk.specs.Desks.{Desk}
-use Rattle.model_processor.specs.Passes.{PassAccount, new_account, after_shutdown}
+use Rattle.model_processor.specs.Passes.{PassAccount, new_account, after_drain, after_shutdown}
 use Rattle.model_processor.specs.Worker.{new_worker}
 use Rattle.model_processor.specs.WorkerClauses.{IsAccounted, Origin, WorksUntilItLeaves, abandon}
 use Rattle.span_exporter.specs.Handed.{Handed, Gains}
@@ -13,7 +13,7 @@ use Rattle.batch_processor.specs.declared.fault.WorkerLeft.{WorkerLeft}
 use Rattle.batch_processor.specs.declared.pass.Flushed.{Flushed}
 use Rattle.batch_processor.specs.declared.worker.WorkEnd.{WorkEnd}
 use Rattle.batch_processor.specs.declared.worker.WorkEnd.TheVariants as ends
-use Rattle.batch_service.specs.Working.{IsDrained, WorksOn, after_pops, state_of}
+use Rattle.batch_service.specs.Working.{IsDrained, WorksOn, state_of}
 use Rattle.batch_service.specs.Service.{EndsNone, IsServed, ServiceView, new_work, popping}
 
 -- a pass that only asks for a shutdown has ended no span
@@ -36,7 +36,7 @@ module _ (view : ServiceView) (passes : List PassAccount) (desk : Desk) (told' :
   served begun_is names_is works drained none once all_is accounts until =
       let on = works.goes_on in
       let more = works.names.more in
-      let popped : names' ≡ popping more = works.names.popped ∙ ap (after_pops more) names_is in
+      let popped : names' ≡ popping more = works.names.popped ∙ ap (after_drain more.dropped more.lost) names_is in
       let attempts : attempts_of work.account ≡ on.more = on.attempts ∙ ap (λ (w : Work). attempts_of w.account ++ on.more) begun_is in
       record {
         worker = work.account;

@@ -1,13 +1,14 @@
 -- Turns, one after the other, and names between them.
 use Rattle.std.proofs.Common.{◌≡◌, List, refl}
 use Rattle.std.specs.Prelude.{Option}
-use Rattle.model_processor.specs.Passes.{PassAccount}
+use Rattle.model_drop.specs.Dropped.{Entry}
+use Rattle.model_processor.specs.Passes.{PassAccount, after_drain}
 use Rattle.span_exporter.specs.Handed.{Handed}
 use Rattle.name_sink.specs.Named.{Named}
 use Rattle.batch_processor.specs.Working.{GoesOn, Work}
 use Rattle.batch_processor.proofs.Turns.{goes_on, goes_quiet}
-use Rattle.batch_service.specs.Working.{GivesNames, ThreadState, WorksOn, state_of}
-use Rattle.batch_service.proofs.Names.{gives_more, gives_none}
+use Rattle.batch_service.specs.Working.{GainsNames, GivesNames, ThreadState, WorksOn, dropped_names, lost_names, state_of}
+use Rattle.batch_service.proofs.Names.{gives_both, gives_more, gives_none}
 
 pub works_none : (s : ThreadState) → WorksOn s s
 works_none s = record {
@@ -21,11 +22,11 @@ works_more a b d first second = record {
   names = gives_more a.named b.named d.named a.names b.names d.names first.names second.names;
 }
 
--- names alone are given, of either kind
-pub gives_only : (handed : Option (List Handed)) (work : Work) (s t u : Option Named) (x y z : PassAccount) → GivesNames s t x y → GivesNames t u y z → WorksOn (state_of handed s work x) (state_of handed u work z)
-gives_only handed work s t u x y z first second = record {
+-- names alone are given, of both kinds
+pub gives_only : (handed : Option (List Handed)) (work : Work) (ds ls : List Entry) (s t u : Option Named) (x y : PassAccount) → y ≡ after_drain ds ls x → GainsNames (dropped_names ds) s t → GainsNames (lost_names ls) t u → WorksOn (state_of handed s work x) (state_of handed u work y)
+gives_only handed work ds ls s t u x y popped first second = record {
   goes_on = goes_quiet handed handed work work refl refl refl refl refl (λ _. refl);
-  names = gives_more s t u x y z first second;
+  names = gives_both ds ls s t u x y popped first second;
 }
 
 -- a turn, and then names

@@ -1,8 +1,8 @@
 -- What the thread of a service's worker does: it sends batches, and gives the names of spans that
 -- aren't delivered to a sink. (Trace SDK, Batching processor; names: profile)
-use Rattle.std.specs.Prelude.{◌≡◌, ◌++◌, List, Option, None, option_map, true}
+use Rattle.std.specs.Prelude.{◌≡◌, [], ◌++◌, List, Option, None, option_map, true}
 use Rattle.model_drop.specs.Dropped.{Entry}
-use Rattle.model_processor.specs.Passes.{PassAccount}
+use Rattle.model_processor.specs.Passes.{PassAccount, after_drain}
 use Rattle.model_processor.specs.Worker.{WorkerAccount}
 use Rattle.name_sink.specs.Named.{Named}
 use Rattle.span_exporter.specs.Handed.{Handed}
@@ -15,18 +15,18 @@ GainsNames more old new = new ≡ option_map (λ (had : Named). record {
   lost = had.lost ++ more.lost;
 }) old
 
--- a pass popped these names, and did nothing else
-abbrev pub after_pops : Named → PassAccount → PassAccount
-after_pops more account = record account {
-  popped = account.popped ++ more.dropped;
-  popped_lost = account.popped_lost ++ more.lost;
-}
+-- names of dropped spans alone, and of lost ones
+abbrev pub dropped_names : List Entry → Named
+dropped_names entries = record { dropped = entries; lost = [] }
+
+abbrev pub lost_names : List Entry → Named
+lost_names entries = record { dropped = []; lost = entries }
 
 -- The names that a pass popped were given to the sink, in order, and the pass did nothing else.
 pub record GivesNames (told told' : Option Named) (old new : PassAccount) : Type 0 where
   pub more : Named
   pub gains : GainsNames more told told'
-  pub popped : new ≡ after_pops more old
+  pub popped : new ≡ after_drain more.dropped more.lost old
 
 -- What a worker's thread has: what its exporter and its sink were given, its worker's pass and the
 -- pass that pops names.

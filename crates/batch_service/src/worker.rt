@@ -1,17 +1,18 @@
 //! What the thread of a service's worker does.
 ghost use Rattle.std.specs.Prelude.{◌≡◌, None, true, false};
 ghost use Rattle.batch_processor.specs.Working.{IsPrepared};
-ghost use Rattle.batch_service.specs.Working.{GivesNames, IsDrained, WorksOn, state_of};
+ghost use Rattle.batch_service.specs.Working.{GainsNames, IsDrained, WorksOn, dropped_names};
+ghost use Rattle.batch_service.specs.Working.{lost_names, state_of};
 
+use batch_desk::DrainedNames;
 use batch_processor::{Clock, Naming, Pass, WorkEnd, WorkerPass};
+use drop_ledger::Ledger;
 use name_sink::NameSink;
 use rand_core::Rng;
 use span_exporter::Exporter;
+use std::alloc::Allocator;
 use std::sync::Wait;
 use std::time;
-
-/// How many names are taken at most between two turns, of dropped and of lost spans each.
-const NAMES_A_TURN: u64 = 4096;
 
 /// What the thread of a service's worker has.
 #[derive(Drop)]
@@ -33,8 +34,8 @@ where
     E: Exporter,
     S: NameSink,
 {
-    /// Sends batches until all is drained. Between two turns it gives the names that the ledgers
-    /// have to the sink, at most so many, and all of them in the end.
+    /// Sends batches until all is drained. Between two turns, and in the end, it gives all names
+    /// that the ledgers have to the sink.
     pub(crate) fn work<C: Clock, G: Rng>(&mut self, clock: &C, rng: &mut G) -> WorkEnd
         requires { IsPrepared (E.room self.old.exporter) self.old.worker }
         ensures works { WorksOn
@@ -45,7 +46,7 @@ where
         ensures drained { result ≡ WorkEnd.Drained → IsDrained self.new.worker.account }
     {
         let end = self.take_turns(clock, rng);
-        self.give_names(u64::MAX);
+        self.give_names();
         end
     }
 
@@ -67,7 +68,7 @@ where
         WorkEnd::TurnsSpent
     }
 
-    /// One turn, and names of each kind.
+    /// One turn, and then the names that the ledgers have.
     #[tactic(auto, using(crate::proofs::Works::turns_then))]
     fn turn<C: Clock, G: Rng>(&mut self, clock: &C, rng: &mut G) -> WorkEnd
         requires { IsPrepared (E.room self.old.exporter) self.old.worker }
@@ -80,12 +81,12 @@ where
         ensures drained { result ≡ WorkEnd.Drained → IsDrained self.new.worker.account }
     {
         let end = self.worker.work(&mut self.exporter, clock, rng, 1);
-        self.give_names(NAMES_A_TURN);
+        self.give_names();
         end
     }
 
-    /// Gives at most so many names of each kind to the sink.
-    fn give_names(&mut self, most: u64)
+    /// Takes all names out of the ledgers, in one hold of the lock, and gives them to the sink.
+    fn give_names(&mut self)
         ensures works { WorksOn
             (state_of (E.handed self.old.exporter) (S.named self.old.sink) self.old.worker
             self.old.names)
@@ -94,41 +95,28 @@ where
         ensures worker { self.new.worker ≡ self.old.worker }
         ensures exporter { self.new.exporter ≡ self.old.exporter }
     {
-        give_dropped(&mut self.names, &mut self.sink, most);
-        give_lost(&mut self.names, &mut self.sink, most);
+        let DrainedNames { dropped, lost } = self.names.drain_names();
+        give_dropped(dropped, &mut self.sink);
+        give_lost(lost, &mut self.sink);
     }
 }
 
-/// Takes at most so many names of dropped spans out of the ledger, and gives them to the sink.
-#[tactic(auto, using(crate::proofs::Names::gives_none, crate::proofs::Names::gives_dropped))]
-fn give_dropped<J, R, S>(pass: &mut Pass<J, R>, sink: &mut S, most: u64)
-where
-    J: Naming,
-    R: Wait,
-    S: NameSink,
-    ensures { GivesNames (S.named sink.old) (S.named sink.new) pass.old pass.new }
+/// Gives these names of dropped spans to the sink, the first one first.
+fn give_dropped<A: Allocator, S: NameSink>(names: Ledger<A>, sink: &mut S)
+    ensures { GainsNames (dropped_names names) (S.named sink.old) (S.named sink.new) }
 {
-    for _ in 0..most {
-        let Some(entry) = pass.pop_entry() else {
-            return;
-        };
+    let mut left = names;
+    while let Some(entry) = left.pop() {
         sink.take_dropped(entry);
     }
 }
 
 /// The same of lost spans.
-#[tactic(auto, using(crate::proofs::Names::gives_none, crate::proofs::Names::gives_lost))]
-fn give_lost<J, R, S>(pass: &mut Pass<J, R>, sink: &mut S, most: u64)
-where
-    J: Naming,
-    R: Wait,
-    S: NameSink,
-    ensures { GivesNames (S.named sink.old) (S.named sink.new) pass.old pass.new }
+fn give_lost<A: Allocator, S: NameSink>(names: Ledger<A>, sink: &mut S)
+    ensures { GainsNames (lost_names names) (S.named sink.old) (S.named sink.new) }
 {
-    for _ in 0..most {
-        let Some(entry) = pass.pop_lost() else {
-            return;
-        };
+    let mut left = names;
+    while let Some(entry) = left.pop() {
         sink.take_lost(entry);
     }
 }

@@ -3,8 +3,8 @@
 //! and another those that are lost: their batch was handed to an exporter and came to nothing, for
 //! the [`Reason`] that [`loss_reason`] gives. Names that are popped go to a [`NameSink`].
 pub use batch_desk::{
-    Admitted, Batch, Desk, DeskConfig, FateCounts, Mark, NamedBatch, SettledBatch, Totals,
-    loss_reason,
+    Admitted, Batch, Desk, DeskConfig, DrainedNames, FateCounts, Mark, NamedBatch, SettledBatch,
+    Totals, loss_reason,
 };
 pub use drop_ledger::{DropCounts, Ledger};
 pub use name_sink::{DEFAULT_NAMES, NameLines, NameSink, NewestNames, ReasonCounts};

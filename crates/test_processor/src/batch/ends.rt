@@ -6,7 +6,7 @@ use crate::batch::neighbors;
 use crate::batch::neighbors::close_out;
 use crate::equal::{assert_equal, assert_equal_at};
 use crate::fixture::{assert_displayed, end, end_in, end_twice, entry};
-use batch_desk::Totals;
+use batch_desk::{DrainedNames, Totals};
 use batch_processor::{
     BatchBlank, BatchConfig, Flushed, MAX_PASSES, Missing, Naming, NewFault, Parts, Pass,
     WorkerLeft,
@@ -55,6 +55,40 @@ fn pop_full<J: Naming, R: Wait + Abort + Copy>(rt: R, alloc: Global, blank: Batc
 #[test]
 fn popped_names_are_no_longer_in_the_ledger(rt: HostRuntime) {
     pop_full::<Brand, HostRuntime>(rt, rt.alloc(), BatchBlank::new());
+}
+
+/// Three of four spans find the queue full. A pass drains their names, the oldest first, and none is
+/// left in the ledger: not for another drain, and not for a pop.
+fn drain_full<J: Naming, R: Wait + Abort + Copy>(rt: R, alloc: Global, blank: BatchBlank)
+    requires { blank ≡ J.name }
+{
+    let Parts {
+        processor,
+        mut passes,
+        worker,
+    } = make::<J, R, Global>(rt, alloc, blank, config(1, 1), 1, 0);
+    queue(&rt, alloc, passes.as_mut_slice(), 0, 1);
+    let pass = passes.first_mut().expect(&rt, "a pass");
+    for ticket in 1..4 {
+        let full = Ended::Dropped(ticket, Reason::QueueFull);
+        assert_equal(&rt, end(&rt, alloc, pass), full);
+    }
+    let DrainedNames { mut dropped, lost } = pass.drain_names();
+    assert_equal(&rt, (dropped.len(), lost.len()), (3, 0));
+    for ticket in 1..4 {
+        let name = entry(ticket, Reason::QueueFull);
+        assert_equal(&rt, dropped.pop(), Some(name));
+    }
+    assert_equal(&rt, pass.drain_names().dropped.len(), 0);
+    assert_equal(&rt, pass.pop_entry(), None);
+    let left = close(rt, alloc, processor, passes, worker);
+    assert_equal(&rt, left.totals.dropped.queue_full, 3);
+    assert_equal(&rt, left.names.len(), 0);
+}
+
+#[test]
+fn drained_names_come_the_oldest_first(rt: HostRuntime) {
+    drain_full::<Brand, HostRuntime>(rt, rt.alloc(), BatchBlank::new());
 }
 
 /// Ends a span that is dropped, asks for all and shuts down, and ends a span twice after that.

@@ -5,7 +5,7 @@ use crate::batch::fixture::{Left, assert_named, close, config, count_spans, make
 use crate::batch::neighbors;
 use crate::equal::{assert_equal, assert_equal_at};
 use crate::fixture::entry;
-use batch_desk::FateCounts;
+use batch_desk::{DrainedNames, FateCounts};
 use batch_processor::{BatchBlank, Naming, NewFault, Parts};
 use linked_list_allocator::LocalHeap;
 use otlp_span::Reason;
@@ -139,8 +139,8 @@ fn spans_that_were_sent_while_none_waits_are_freed_at_once(rt: HostRuntime) {
 }
 
 /// A batch of two spans is handed over and refused, on memory whose calls are counted: to judge
-/// that, to name the spans, to free all else of them and to pop their names takes none. Answers how
-/// many calls there were before.
+/// that, to name the spans, to free all else of them and to drain their names takes none. Answers
+/// how many calls there were before.
 fn lose<J, R, A, B>(
     rt: R,
     heap: &LocalHeap,
@@ -168,9 +168,13 @@ where
     work(rt, alloc, &mut worker, &mut exporter, 0, 1);
     let settled = heap.used();
     let pass = passes.first_mut().expect(&rt, "a pass");
-    for lost in [Some(1), Some(0), None] {
-        let want = lost.map(|ticket| entry(ticket, Reason::Refused(400)));
-        assert_equal(&rt, pass.pop_lost(), want);
+    let DrainedNames {
+        dropped: _,
+        mut lost,
+    } = pass.drain_names();
+    for ticket in [Some(0), Some(1), None] {
+        let want = ticket.map(|ticket| entry(ticket, Reason::Refused(400)));
+        assert_equal(&rt, lost.pop(), want);
     }
     assert_equal(&rt, counting.calls(), calls);
     assert_equal(&rt, (settled < used, heap.used() < settled), (true, true));

@@ -4,8 +4,9 @@ ghost use Rattle.std.specs.Prelude.{◌<◌};
 use crate::tests::driver::{Driver, into_named, into_settled};
 use crate::tests::equal::assert_equal;
 use crate::tests::plain_desk::{Accepted, NUMBER, Plain, lost_by};
-use batch_desk::{Admitted, Batch, DeskConfig, Mark};
-use otlp_span::{Reason, SpanData};
+use batch_desk::{Admitted, Batch, DeskConfig, DrainedNames, Mark};
+use drop_ledger::Ledger;
+use otlp_span::{Entry, Reason, SpanData};
 use retry_core::Fate;
 use std::alloc::Global;
 use std::process::Abort;
@@ -41,6 +42,15 @@ fn count(counts: &mut [u32], place: usize) {
 /// Whether each of these cases was met.
 fn are_met(counts: &[u32]) -> bool {
     counts.iter().all(|count| *count > 0)
+}
+
+/// These are the names, the newest first, of which none is left.
+fn compare_all(rt: &impl Abort, ledger: Ledger, names: &mut Vec<Entry>) {
+    let mut left = ledger;
+    for _ in 0..names.len() {
+        assert_equal(rt, left.pop(), names.pop());
+    }
+    assert_equal(rt, left.pop(), None);
 }
 
 /// Random numbers, the same in each run, and what they led to.
@@ -154,6 +164,12 @@ impl Pair {
         let name = self.plain.lost.pop();
         count(&mut draws.met.lost_pops, usize::from(name.is_some()));
         self.desk.pop_lost(rt, name);
+    }
+
+    fn drain(&mut self, rt: &impl Abort) {
+        let DrainedNames { dropped, lost } = self.desk.desk.drain_names();
+        compare_all(rt, dropped, &mut self.plain.ledger);
+        compare_all(rt, lost, &mut self.plain.lost);
     }
 
     fn take(&mut self, rt: &impl Abort) -> Option<Batch> {
@@ -302,6 +318,7 @@ impl Pair {
                 }
             }
             80..120 => return self.take_or_end(rt, draws, held),
+            120 => self.drain(rt),
             _ => self.admit(rt, draws),
         }
         held

@@ -1,7 +1,13 @@
-use Rattle.batch_service.specs.Working.{GivesNames}
+use Rattle.std.specs.Prelude.{length}
+use Rattle.batch_service.specs.Working.{dropped_names}
+use Rattle.batch_service.proofs.Names.{GivesFront}
 use Rattle.batch_service.proofs.worker.give_dropped.Given as goal
 
 -- what was given so far
-abbrev pub invariant-loop : goal.invariant-loop
-invariant-loop g l =
-    GivesNames (g.S.NameSink.named l.initial.sink) (g.S.NameSink.named l.sink) l.initial.pass l.pass
+abbrev pub invariant-loop-entry : goal.invariant-loop-entry
+invariant-loop-entry g l =
+    GivesFront dropped_names l.initial.left l.left (g.S.NameSink.named l.initial.sink)
+    (g.S.NameSink.named l.sink)
+
+abbrev pub decreases-loop-entry : goal.decreases-loop-entry
+decreases-loop-entry g l = length l.left
