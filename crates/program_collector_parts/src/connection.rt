@@ -2,37 +2,14 @@
 
 ghost use Rattle.std.specs.Prelude.{◌≡◌, ◌≤◌, IfOk, OnErr, OnOk, string_bytes};
 ghost use Rattle.std.specs.Io.KnownBytes.{Appends};
-ghost use Rattle.program_collector_parts.specs.Printed.{HasOutcome, PrintsServed};
-ghost use Rattle.program_collector_parts.specs.Printed.{PrintsServedFront, connection_line};
-ghost use Rattle.program_collector_parts.specs.Printed.{connection_text, outcome_view};
+ghost use Rattle.program_collector_parts.specs.Printed.{PrintsServed, PrintsServedFront};
+ghost use Rattle.program_collector_parts.specs.Printed.{connection_line, connection_text};
+ghost use Rattle.program_collector_parts.specs.Printed.{no_outcome, outcome_view};
 ghost use Rattle.otlp_collector.specs.Printed.{AppendsFront, CountsFailedWrite};
 
 use http_wire::{FaultRead, FaultWrite, HeadLimits, write_pieces};
 use otlp_collector::{Answered, PrintFault, answer, print_spans};
 use std::alloc::{AllocError, Allocator, Global};
-
-/// What became of a connection. One whose reply broke off had no whole reply: that counts as none,
-/// and its request is let go. (profile)
-fn answer_one<R: FaultRead, W: FaultWrite, A: Allocator + Copy>(
-    alloc: A,
-    global: Global,
-    reader: &mut R,
-    writer: &mut W,
-    limits: &HeadLimits,
-) -> Answered<A>
-    requires { limits.now.fields ≤ 64 }
-    ensures { HasOutcome limits.now (R.remaining reader.old) (R.remaining reader.new)
-        (R.failures reader.old) (R.failures reader.new)
-        (W.contents writer.old) (W.contents writer.new) (outcome_view result) }
-{
-    match answer(alloc, global, reader, writer, limits, None) {
-        Ok(answered) => answered,
-        Err(_) => Answered {
-            status: None,
-            request: None,
-        },
-    }
-}
 
 /// The line of the connection with this number, which has this status, or `none`.
 fn line_of<A: Allocator>(
@@ -89,6 +66,29 @@ pub fn print_connection<O: FaultWrite, A: Allocator + Copy>(
     }
 }
 
+/// Prints a connection without a whole reply.
+///
+/// # Errors
+///
+/// As [`print_connection`] has them.
+pub(crate) fn print_none<O: FaultWrite, A: Allocator + Copy>(
+    alloc: A,
+    number: u64,
+    output: &mut O,
+) -> Result<(), PrintFault>
+    ensures ok { OnOk result (Appends (O.contents output.old) (O.contents output.new)
+        (connection_text number no_outcome)) }
+    ensures err { OnErr result (AppendsFront (O.contents output.old) (O.contents output.new)
+        (connection_text number no_outcome)) }
+    ensures counted { CountsFailedWrite result (O.failures output.old) (O.failures output.new) }
+{
+    let answered: Answered<A> = Answered {
+        status: None,
+        request: None,
+    };
+    print_connection(alloc, number, &answered, output)
+}
+
 /// Serves the connection with this number, as [`otlp_collector::answer`] does, and prints it: a
 /// line `connection NUMBER STATUS`, or `connection NUMBER none` where there was no whole reply, and
 /// after it the lines of the spans of its request, if one was taken and answered. (profile)
@@ -120,6 +120,9 @@ pub fn serve<R: FaultRead, W: FaultWrite, O: FaultWrite, A: Allocator + Copy>(
         (O.contents output.old) (O.contents output.new)) }
     ensures counted { CountsFailedWrite result (O.failures output.old) (O.failures output.new) }
 {
-    let answered = answer_one(alloc, global, reader, writer, limits);
-    print_connection(alloc, number, &answered, output)
+    match answer(alloc, global, reader, writer, limits, None) {
+        Ok(answered) => print_connection(alloc, number, &answered, output),
+        // The reply broke off: there was no whole one, and the request is let go. (profile)
+        Err(_) => print_none(alloc, number, output),
+    }
 }

@@ -1,16 +1,15 @@
 //! Connections over TCP.
 
-ghost use Rattle.std.specs.Prelude.{◌≡◌, ◌≤◌, OnOk};
-ghost use Rattle.std.specs.Io.KnownBytes.{Appends};
-ghost use Rattle.program_collector_parts.specs.Printed.{PrintsOne, connection_text, no_outcome};
+ghost use Rattle.std.specs.Prelude.{◌≤◌, [], IfOk, Some};
+ghost use Rattle.program_collector_parts.specs.Printed.{PrintsOne};
 
-use crate::connection::{print_connection, serve};
-use http_wire::{Counted, FaultWrite, HeadLimits};
-use otlp_collector::{Answered, PrintFault};
+use crate::connection::{print_none, serve};
+use http_wire::{Counted, HeadLimits};
+use otlp_collector::PrintFault;
 use std::alloc::Global;
 use std::io;
 use std::io::{BufReader, Read, Write};
-use std::net::{OpenStream, Shutdown};
+use std::net::{OpenListener, OpenStream, Shutdown};
 use std::time::Duration;
 
 /// How long a read or a write of a connection may wait, in milliseconds. (profile)
@@ -30,8 +29,10 @@ struct Link<S> {
 }
 
 impl<S: Read + Write + OpenStream + Drop> Link<S> {
-    /// A connection over this stream. A read or a write that waits for 10 seconds fails.
-    fn new(alloc: Global, stream: S) -> io::Result<Link<S>> {
+    /// The next connection, as soon as there is one. A read or a write that waits for 10 seconds
+    /// fails.
+    fn accept<L: OpenListener<Stream = S>>(alloc: Global, listener: &L) -> io::Result<Link<S>> {
+        let (stream, _) = listener.accept()?;
         let timeout = Some(Duration::from_millis(TIMEOUT_MS));
         stream.set_read_timeout(timeout)?;
         stream.set_write_timeout(timeout)?;
@@ -43,7 +44,7 @@ impl<S: Read + Write + OpenStream + Drop> Link<S> {
         })
     }
 
-    /// Closes the connection so that the reply isn't lost where the client still sends: tells that
+    /// Closes the connection so that the reply isn't lost where the client still sends: says that
     /// nothing more comes, and reads for a while what does (RFC 9112, section 9.6; how long:
     /// profile): until the client closes, a tenth of a second passes without a byte, or 256 reads
     /// of 16,384 bytes at most were made.
@@ -68,43 +69,32 @@ fn linger<S: Read + OpenStream + Drop>(mut stream: S) {
     }
 }
 
-/// Serves the connection with this number over this stream, prints it, and closes it. Where there
-/// is no stream, or it can't be made ready, that is a connection without a reply. (profile)
+/// Accepts the connection with this number, serves it, and closes it: what is printed of it. Where
+/// none is accepted, or it can't be made ready, that is a connection without a reply. The text is
+/// gathered, so that it goes out whole, or not at all where memory is refused. (profile)
 ///
 /// # Errors
 ///
-/// As [`serve`] has them.
-pub(crate) fn serve_stream<S: Read + Write + OpenStream + Drop, O: FaultWrite>(
+/// As [`serve`] has them, and only where memory for the text was refused.
+pub(crate) fn text_of_next<L: OpenListener>(
     alloc: Global,
     number: u64,
-    stream: io::Result<S>,
+    listener: &L,
     limits: &HeadLimits,
-    output: &mut O,
-) -> Result<(), PrintFault>
+) -> Result<Vec<u8>, PrintFault>
+where
+    L::Stream: Read + Write + OpenStream,
     requires { limits.now.fields ≤ 64 }
-    ensures { OnOk result (PrintsOne limits.now number
-        (O.contents output.old) (O.contents output.new)) }
+    ensures { IfOk result (λ text. PrintsOne limits.now number (Some []) (Some text.items)) }
 {
-    let Ok(stream) = stream else {
-        return print_none(alloc, number, output);
-    };
-    let Ok(mut link) = Link::new(alloc, stream) else {
-        return print_none(alloc, number, output);
+    let mut text = Counted::new(Vec::new(alloc));
+    let Ok(mut link) = Link::accept(alloc, listener) else {
+        print_none(alloc, number, &mut text)?;
+        return Ok(text.into_inner());
     };
     let (reader, writer) = (&mut link.reader, &mut link.writer);
-    let printed = serve(alloc, alloc, number, reader, writer, limits, output);
+    let printed = serve(alloc, alloc, number, reader, writer, limits, &mut text);
     link.close();
-    printed
-}
-
-/// Prints a connection without a reply.
-fn print_none<O: FaultWrite>(alloc: Global, number: u64, output: &mut O) -> Result<(), PrintFault>
-    ensures { OnOk result (Appends (O.contents output.old) (O.contents output.new)
-        (connection_text number no_outcome)) }
-{
-    let answered: Answered = Answered {
-        status: None,
-        request: None,
-    };
-    print_connection(alloc, number, &answered, output)
+    printed?;
+    Ok(text.into_inner())
 }

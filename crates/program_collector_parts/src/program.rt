@@ -1,18 +1,17 @@
 //! The program `otlp-collector`, over a runtime and writers.
 
-ghost use Rattle.std.specs.Prelude.{◌≡◌, ◌≢◌, ◌≤◌, ◌⊎◌, [], IfOk, OnOk, Some, codes};
+ghost use Rattle.std.specs.Prelude.{◌≡◌, ◌≢◌, ◌≤◌, ◌⊎◌, IfOk, OnOk, codes};
 ghost use Rattle.std.specs.Io.KnownBytes.{Appends, Keeps};
 ghost use Rattle.program_args.specs.Words.{AskForHelp, IsTaken, number_in};
 ghost use Rattle.program_collector_parts.specs.Command.{command};
-ghost use Rattle.program_collector_parts.specs.Printed.{PrintsAll, PrintsConnections, PrintsOne};
+ghost use Rattle.program_collector_parts.specs.Printed.{PrintsAll, PrintsConnections};
 ghost use Rattle.program_collector_parts.specs.Printed.{collector_limits, listening_line};
 
 use crate::args::CollectorArgs;
 use crate::failure::{Failure, tell};
-use crate::link::serve_stream;
-use http_wire::{Counted, HeadLimits};
+use crate::link::text_of_next;
+use http_wire::HeadLimits;
 use std::alloc::Global;
-use std::io;
 use std::io::{Read, Write};
 use std::net::{Ipv4Addr, Net, OpenListener, OpenStream, TcpListener};
 
@@ -146,7 +145,7 @@ fn print<W: Write>(output: &mut W, text: &[u8]) -> Result<(), Failure>
     }
 }
 
-/// Serves so many connections, the first of which has the number 1.
+/// Serves so many connections, the first of which has the number 1, and prints each.
 fn serve_connections<L: OpenListener, W: Write>(
     alloc: Global,
     listener: &L,
@@ -161,47 +160,11 @@ where
         (W.contents output.old) (W.contents output.new)) }
 {
     for served in 0..count {
-        let stream = match listener.accept() {
-            Ok((stream, _)) => Ok(stream),
-            Err(error) => Err(error),
+        // A text in memory fails only where memory is refused.
+        let Ok(text) = text_of_next(alloc, served + 1, listener, limits) else {
+            return Err(Failure::OutOfMemory);
         };
-        serve_next(alloc, served + 1, stream, limits, output)?;
+        print(output, text.as_slice())?;
     }
     Ok(())
-}
-
-/// Serves the connection with this number, and prints it.
-fn serve_next<S: Read + Write + OpenStream + Drop, W: Write>(
-    alloc: Global,
-    number: u64,
-    stream: io::Result<S>,
-    limits: &HeadLimits,
-    output: &mut W,
-) -> Result<(), Failure>
-    requires { limits.now.fields ≤ 64 }
-    ensures { OnOk result (PrintsOne limits.now number
-        (W.contents output.old) (W.contents output.new)) }
-{
-    let text = text_of_next(alloc, number, stream, limits)?;
-    print(output, text.as_slice())
-}
-
-/// Serves the connection with this number. What is printed of it is gathered first, so that it goes
-/// out in one piece, or not at all where memory is refused. (profile)
-fn text_of_next<S: Read + Write + OpenStream + Drop>(
-    alloc: Global,
-    number: u64,
-    stream: io::Result<S>,
-    limits: &HeadLimits,
-) -> Result<Vec<u8>, Failure>
-    requires { limits.now.fields ≤ 64 }
-    ensures { IfOk result (λ text.
-        PrintsOne limits.now number (Some []) (Some text.items)) }
-{
-    let mut text = Counted::new(Vec::new(alloc));
-    match serve_stream(alloc, number, stream, limits, &mut text) {
-        Ok(()) => Ok(text.into_inner()),
-        // A vector fails only where memory is refused.
-        Err(_) => Err(Failure::OutOfMemory),
-    }
 }
