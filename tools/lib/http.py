@@ -1,6 +1,7 @@
 """HTTP/1.1 as bytes (RFC 9112, sections 3 to 7): requests, replies, and the ends of connections
 that bring them."""
 import contextlib
+import itertools
 import re
 import socket
 import struct
@@ -9,6 +10,7 @@ import time
 
 HOST = "127.0.0.1"
 PATIENCE = 120  # seconds after which an end of a connection gives up
+DRIP = 0.05  # seconds from one byte that drips to the next
 POST = "POST /v1/traces"
 TYPE = "Content-Type: application/x-protobuf\r\n"
 CLOSE = "Connection: close\r\n"
@@ -70,6 +72,15 @@ def break_off(link):
     link.setsockopt(socket.SOL_SOCKET, socket.SO_LINGER, struct.pack("ii", 1, 0))
 
 
+def drip(link, text):
+    """Sends a byte each DRIP seconds, again and again from the first one, until the other end
+    closes."""
+    with contextlib.suppress(OSError):
+        for byte in itertools.cycle(text):
+            link.sendall(bytes([byte]))
+            time.sleep(DRIP)
+
+
 def request_from(link):
     """The bytes of a request, up to the length that its head gives."""
     text, size = b"", None
@@ -89,9 +100,10 @@ class Server:
     """Takes connections one after another, and answers each by the next of the replies, and later
     ones by none.
 
-    A reply is bytes, a function that makes them, `SILENCE`, or None: the connection breaks off. By
-    the way, it goes out "whole", "byte by byte", and then either the connection ends, or it is
-    "breaking off", or "staying" until the other end closes it.
+    A reply is bytes, a pair of bytes, a function that makes them, `SILENCE`, or None: the
+    connection breaks off. The second bytes of a pair drip after the first ones, until the other end
+    closes the connection. By the way, other replies go out "whole", "byte by byte", and then either
+    the connection ends, or it is "breaking off", or "staying" until the other end closes it.
     """
 
     def __init__(self, replies, way):
@@ -131,6 +143,11 @@ class Server:
             return
         if text is SILENCE:
             link.recv(65536)
+            return
+        if isinstance(text, tuple):
+            front, text = text
+            link.sendall(front)
+            drip(link, text)
             return
         for part in [bytes([byte]) for byte in text] if self.way == "byte by byte" else [text]:
             link.sendall(part)

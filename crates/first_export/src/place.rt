@@ -13,7 +13,7 @@ use trace_kit::settings::settings_of_environment;
 pub struct Place {
     /// The collector.
     pub target: Target,
-    /// How long an attempt waits for a connection, and for each read and write, in milliseconds.
+    /// How long an attempt may take, in milliseconds.
     pub timeout_ms: u64,
     /// How many spans wait, and when a batch is due.
     pub config: BatchConfig,

@@ -2,3 +2,4 @@ pub mod Attempts
 pub mod Failures
 pub mod Tcp
 pub mod Buffers
+pub mod Deadlines

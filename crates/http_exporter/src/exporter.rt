@@ -35,7 +35,7 @@ use std::marker::Model;
 pub struct LinkExporter<D, A: Allocator = Global> {
     alloc: A,
     global: Global,
-    dial: D,
+    pub(crate) dial: D,
     target: Target<A>,
     limits: HeadLimits,
     reads_after_a_stop: bool,

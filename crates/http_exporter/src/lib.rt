@@ -5,6 +5,7 @@
 #![tactic(auto)]
 
 mod buffer;
+mod deadline;
 mod dial;
 mod exporter;
 mod failure;
@@ -13,8 +14,9 @@ mod tcp;
 mod watched;
 
 pub use buffer::Buffered;
+pub use deadline::{Countdown, Deadline, Monotonic, RuntimeClock, TimedStream};
 pub use dial::Dial;
 pub use exporter::LinkExporter;
 pub use failure::{Failure, MESSAGE_ROOM, Message};
-pub use tcp::{DEFAULT_EXPORT_TIMEOUT_MS, HttpExporter, TcpDial};
+pub use tcp::{DEFAULT_EXPORT_TIMEOUT_MS, HttpExporter, Socket, TcpDial};
 pub use watched::{FailureWatch, WatchedExporter};

@@ -8,6 +8,7 @@ use retry_core::Outcome;
 use span_exporter::Exporter;
 use std::alloc::Global;
 use std::net::Net;
+use std::time::Clock;
 
 /// How many spans a collector took, as its replies say.
 #[derive(Debug, Clone, Copy, PartialEq, Eq)]
@@ -63,7 +64,7 @@ impl<R> Tally<R> {
     }
 }
 
-impl<R: Net> Exporter for Tally<R> {
+impl<R: Net + Clock + Copy> Exporter for Tally<R> {
     ghost use Rattle.std.specs.Prelude.{◌^◌, None};
 
     ghost handed = { λ _. None };

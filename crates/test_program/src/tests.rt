@@ -2,6 +2,7 @@
 
 mod buffers;
 mod collector;
+mod deadlines;
 mod equal;
 mod exporter;
 mod fixture;

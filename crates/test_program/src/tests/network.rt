@@ -4,12 +4,13 @@
 
 use crate::tests::equal::assert_equal;
 use http_exporter::{DEFAULT_EXPORT_TIMEOUT_MS, Dial, TcpDial};
+use otlp_http::{FaultRead, FaultWrite};
 use program_collector_parts::{CollectorArgs, collect};
 use std::cell::Cell;
 use std::io::{self, ErrorKind, Read, Write};
 use std::net::{Ipv4Addr, Net, OpenListener, OpenStream, Shutdown, SocketAddr};
 use std::os::fd::{AsRawFd, RawFd};
-use std::time::Duration;
+use std::time::{Clock, Duration};
 
 /// What was asked for of a network, and set of its connection.
 #[derive(Drop)]
@@ -19,6 +20,8 @@ struct Settings {
     read: Cell<Option<Duration>>,
     write: Cell<Option<Duration>>,
     is_prompt: Cell<bool>,
+    /// How many seconds have passed by the network's clock.
+    seconds: Cell<u64>,
 }
 
 impl Settings {
@@ -30,6 +33,7 @@ impl Settings {
             read: Cell::new(None),
             write: Cell::new(None),
             is_prompt: Cell::new(false),
+            seconds: Cell::new(0),
         }
     }
 }
@@ -123,8 +127,9 @@ impl AsRawFd for Listener<'_> {
     }
 }
 
-/// A network in which each host has three addresses, of which the last alone takes connections.
-#[derive(Drop)]
+/// A network in which each host has three addresses, of which the last alone takes connections. A
+/// second passes with each reading of its clock.
+#[derive(Clone, Copy)]
 struct Network<'a> {
     settings: &'a Settings,
     text: &'a [u8],
@@ -169,23 +174,61 @@ impl<'a> Net for Network<'a> {
     }
 }
 
+impl Clock for Network<'_> {
+    fn monotonic(&self) -> io::Result<Duration> {
+        let seconds = self.settings.seconds.get();
+        self.settings.seconds.set(seconds.saturating_add(1));
+        Ok(Duration::from_secs(seconds))
+    }
+
+    fn since_1970(&self) -> io::Result<Duration> {
+        Err(io::Error::from(ErrorKind::Unsupported))
+    }
+}
+
+/// A connection, a read and a write get what is left of 30 seconds, of which one passes with each:
+/// the attempt begins at second 1, so the third address is dialed at second 4.
 #[test]
-fn each_address_of_a_host_is_dialed_and_nothing_waits_for_ever(rt: HostRuntime) {
+fn each_address_of_a_host_is_dialed_and_nothing_waits_longer_than_the_attempt(rt: HostRuntime) {
+    let settings = Settings::none();
+    let network = Network {
+        settings: &settings,
+        text: b"abc",
+    };
+    let mut dial = TcpDial::new(network, DEFAULT_EXPORT_TIMEOUT_MS);
+    assert!(rt; dial.dial("elsewhere", 4318).is_none());
+    assert_equal(&rt, settings.dials.get(), 0);
+    let Some(mut link) = dial.dial("collector", 4318) else {
+        assert!(rt; false);
+        return;
+    };
+    assert_equal(&rt, settings.dials.get(), 3);
+    assert_equal(&rt, settings.patience.get(), Some(Duration::from_secs(27)));
+    assert_equal(&rt, settings.is_prompt.get(), true);
+    assert_equal(&rt, link.write(b"abcd").ok(), Some(4));
+    assert_equal(&rt, settings.write.get(), Some(Duration::from_secs(26)));
+    assert_equal(&rt, link.read(&mut [0; 8]).ok(), Some(3));
+    assert_equal(&rt, settings.read.get(), Some(Duration::from_secs(25)));
+    settings.seconds.set(31);
+    assert_equal(&rt, link.write(b"abcd").ok(), None);
+    assert_equal(&rt, link.read(&mut [0; 8]).ok(), None);
+    assert_equal(&rt, settings.write.get(), Some(Duration::from_secs(26)));
+    assert_equal(&rt, FaultRead::failures(&link), 2);
+}
+
+/// A host whose time is over before its third address is dialed gives no connection.
+#[test]
+fn the_time_of_all_addresses_is_that_of_an_attempt(rt: HostRuntime) {
     let settings = Settings::none();
     let network = Network {
         settings: &settings,
         text: b"",
     };
-    let mut dial = TcpDial::new(network, DEFAULT_EXPORT_TIMEOUT_MS);
-    assert!(rt; dial.dial("elsewhere", 4318).is_none());
-    assert_equal(&rt, settings.dials.get(), 0);
-    assert!(rt; dial.dial("collector", 4318).is_some());
-    assert_equal(&rt, settings.dials.get(), 3);
-    let half_a_minute = Some(Duration::from_secs(30));
-    assert_equal(&rt, settings.patience.get(), half_a_minute);
-    assert_equal(&rt, settings.read.get(), half_a_minute);
-    assert_equal(&rt, settings.write.get(), half_a_minute);
-    assert_equal(&rt, settings.is_prompt.get(), true);
+    let mut dial = TcpDial::new(network, DEFAULT_EXPORT_TIMEOUT_MS).within_ms(2500);
+    assert!(rt; dial.dial("collector", 4318).is_none());
+    assert_equal(&rt, settings.dials.get(), 2);
+    let half = Some(Duration::from_millis(500));
+    assert_equal(&rt, settings.patience.get(), half);
 }
 
 #[test]
