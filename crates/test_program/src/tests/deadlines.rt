@@ -3,8 +3,9 @@
 
 use crate::tests::equal::assert_equal;
 use crate::tests::fixture::{bytes_of, target};
-use http_exporter::{Buffered, Countdown, Deadline, Dial, HttpExporter, LinkExporter};
-use http_exporter::{Monotonic, TimedStream};
+use http_exporter::{
+    Buffered, Countdown, Deadline, Dial, HttpExporter, LinkExporter, Monotonic, TimedStream,
+};
 use otlp_http::DeviceFailed;
 use retry_core::Outcome;
 use std::alloc::Global;
@@ -129,9 +130,24 @@ fn attempt(
 /// seconds a request goes out by one write and three reads go: what is read of a reply until then
 /// counts, and the last read is given one second.
 const SLOW_REPLIES: &[(&[u8], usize, Outcome, u32)] = &[
-    (b"HTTP/1.1 200 OK\r\nContent-Length: 0\r\n\r\n", 1, Outcome::NoReply, 3),
-    (b"HTTP/1.1 200 OK\r\nContent-Length: 0\r\n\r\n", 13, Outcome::Delivered, 3),
-    (b"HTTP/1.1 400 No\r\nContent-Length: 9\r\n\r\nabcdefghi", 19, Outcome::Refused(400), 3),
+    (
+        b"HTTP/1.1 200 OK\r\nContent-Length: 0\r\n\r\n",
+        1,
+        Outcome::NoReply,
+        3,
+    ),
+    (
+        b"HTTP/1.1 200 OK\r\nContent-Length: 0\r\n\r\n",
+        13,
+        Outcome::Delivered,
+        3,
+    ),
+    (
+        b"HTTP/1.1 400 No\r\nContent-Length: 9\r\n\r\nabcdefghi",
+        19,
+        Outcome::Refused(400),
+        3,
+    ),
     (
         b"HTTP/1.1 400 No\r\nTransfer-Encoding: chunked\r\n\r\n1\r\na\r\n1\r\nb\r\n0\r\n\r\n",
         20,
