@@ -2,8 +2,8 @@
 //!
 //! A program makes its spans with [`trace`], and hands them to an exporter by [`processor`], or by
 //! [`queue`] and [`export`]; [`propagation`] carries a trace to other services, [`http`] has
-//! exporters to a collector, [`settings`] what the environment sets, [`run`] whole programs as lists
-//! of steps.
+//! exporters to a collector, [`settings`] what the environment sets, [`run`] whole programs as
+//! lists of steps.
 #![tactic(auto)]
 
 pub mod export;
