@@ -1,9 +1,9 @@
-//! Serves requests and prints what became of their spans: first with a simple processor, which hands
-//! over each span at its end, then with a service of four threads, whose worker hands them over in
-//! batches on a thread of its own. Last, spans through
-//! the queue of such a service, driven by hand. Spans that are dropped (`named`) or lost are
-//! printed one by one, each with its ticket, which is its number, and the reason. What the service
-//! comes to while it works is a line on the standard error.
+//! Serves requests and prints what became of their spans: first with a simple processor, which
+//! hands over each span at its end, then with a service of four threads, whose worker hands them
+//! over in batches on a thread of its own. Last, spans through the queue of such a service, driven
+//! by hand. Spans that are dropped (`named`) or lost are printed one by one, each with its ticket,
+//! which is its number, and the reason. What the service comes to while it works is a line on the
+//! standard error.
 #![tactic(auto)]
 
 mod balance;

@@ -15,7 +15,7 @@ use trace_kit::trace::{
     Status, Tracer, Value,
 };
 
-/// The moment that the clock tells, in nanoseconds since 1970.
+/// The moment by the clock, in nanoseconds since 1970.
 fn now(clock: &impl Clock) -> Result<u64> {
     let since = SystemTime::now(clock)?.duration_since(UNIX_EPOCH)?;
     Ok(u64::try_from(since.as_nanos())?)

@@ -32,7 +32,7 @@ impl Failure {
     }
 }
 
-/// Tells a failure and answers its status, or 1 where it can't be reported.
+/// Reports a failure and answers its status, or 1 where it can't be reported.
 pub fn tell<F: Write>(faults: &mut F, failure: Failure) -> u8
     ensures { (result ≡ status_of failure) ⊎ (result ≡ 1) }
 {

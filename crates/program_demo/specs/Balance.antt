@@ -4,11 +4,11 @@ use Rattle.std.specs.Prelude.{◌≡◌, ℕ, ◌+◌, ◌-◌, ◌^◌, min}
 use Rattle.program_demo.specs.declared.sums.Sums.{Sums}
 
 -- how many were handed: delivered, lost, or of batches that were taken in part, as many as a `u64`
--- can tell
+-- can hold
 abbrev pub handed_in : Sums → ℕ
 handed_in sums = min (sums.delivered + sums.lost + sums.partial) (2 ^ 64 - 1)
 
--- how many were handed, dropped or left, as many as a `u64` can tell
+-- how many were handed, dropped or left, as many as a `u64` can hold
 abbrev pub accounted_for : Sums → ℕ
 accounted_for sums = min (sums.delivered + sums.lost + sums.partial + sums.dropped + sums.left)
     (2 ^ 64 - 1)

@@ -55,8 +55,8 @@ where
 /// collector on loopback, whose replies to good bodies are 200, 502, 429 and 200 over and over;
 /// after 502 and 429 it may be tried again at once. Then the processor is shut down and closed
 /// out, and the collector is ended. Prints a line for each, with its number: `ended` (the ends that
-/// were answered `Queued` or `Dropped`), `delivered` (spans of batches that the exporter was told
-/// to be taken whole), `lost` (spans that the processor names as lost), `partial` (spans of batches
+/// were answered `Queued` or `Dropped`), `delivered` (spans of batches that were taken whole, as
+/// the replies say), `lost` (spans that the processor names as lost), `partial` (spans of batches
 /// of which the collector rejected some), `dropped`, `left`, `sum` (of the last five), `balanced`
 /// with `yes` or `no` (whether the sum is what ended), and `collected` (the spans of the distinct
 /// bodies that the collector could read, whatever it replied). (profile)

@@ -13,7 +13,7 @@ use std::io::Write;
 pub(crate) struct Sums {
     /// How many ends were answered that they were queued or dropped.
     pub(crate) ended: u64,
-    /// How many the exporter was told to be taken, in whole batches.
+    /// How many were in batches that were taken whole, as the replies say.
     pub(crate) delivered: u64,
     /// How many are lost: their batch was handed to the exporter, and came to nothing.
     pub(crate) lost: u64,
@@ -28,7 +28,7 @@ pub(crate) struct Sums {
 }
 
 impl Sums {
-    /// By what the exporter was told, and what the processor counted.
+    /// From what the replies said, and what the processor counted.
     pub(crate) fn new(ended: u64, taken: Taken, totals: Totals, collected: u64) -> Sums {
         let drops = totals.dropped;
         let by_worker = drops.encode_memory.saturating_add(drops.too_large);

@@ -18,7 +18,7 @@ pub same-fault : {T E : Type 0} (r : Result T E) (P : E → Type 0) (fault : E) 
 same-fault (Ok x) P fault is p = tt
 same-fault (Err e) P fault is p = rw is p
 
--- a body that can't be made tells of no line
+-- the fault of a body that can't be made names no line
 pub untold : (input : Option (List ℕ)) (fault : EncodeFault) → Explains input (failure_of fault)
 untold input OutOfMemory = tt
 untold input TooLarge = tt

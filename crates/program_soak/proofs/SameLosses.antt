@@ -1,4 +1,4 @@
--- Lost spans that `==` tells to be the same are the same.
+-- Lost spans that `==` finds equal are the same.
 use Rattle.std.proofs.Common.{◌≡◌, ap, ap₂, refl, true, List, [], ◌∷◌}
 use Rattle.std.proofs.lemmas.Bool.{and_parts, eqb-true, false≢true}
 use lib.Pointwise.{pointwise}

@@ -10,9 +10,9 @@ use std::alloc::{AllocError, Global};
 /// Where the spans of a round were found, by their numbers.
 #[derive(Drop)]
 pub(crate) struct Found {
-    /// In the bodies that the collector kept of batches that were told to be taken whole.
+    /// In the bodies that the collector kept of batches that a reply said were taken whole.
     pub(crate) delivered: Vec<u64>,
-    /// In those of batches that were told to be taken but for some of their spans.
+    /// In those of batches that a reply said were taken but for some of their spans.
     pub(crate) partial: Vec<u64>,
     /// Among the names of lost spans.
     pub(crate) lost: Vec<Loss>,

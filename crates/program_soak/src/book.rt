@@ -25,7 +25,7 @@ struct Batch {
     last: Outcome,
 }
 
-/// What the exporter's side of the link tells of an attempt.
+/// What the exporter's side of the link reports of an attempt.
 #[derive(Clone, Copy)]
 pub(crate) struct Attempt<'a> {
     /// The batch's number.
@@ -36,7 +36,7 @@ pub(crate) struct Attempt<'a> {
     pub(crate) course: Course,
     /// Whether the collector kept the body.
     pub(crate) is_kept: bool,
-    /// What came of it, as the exporter tells it.
+    /// What came of it, as the exporter reports it.
     pub(crate) outcome: Outcome,
 }
 
@@ -180,7 +180,7 @@ impl Book {
         Some(kept.spans.as_slice())
     }
 
-    /// Whether each batch whose last attempt was told to be taken was kept.
+    /// Whether each batch was kept whose last reply said that it was taken.
     pub(crate) fn are_delivered_kept(&self) -> bool {
         for batch in &self.batches {
             let is_taken = matches!(&batch.last, Outcome::Delivered | Outcome::Partial(_));

@@ -10,15 +10,15 @@ use std::rt::Files;
 /// How many rounds are the first ones, in which stacks and heaps of threads grow.
 pub(crate) const WARM_ROUNDS: usize = 5;
 
-/// The process's resident size, in kilobytes, as the system tells it (proc(5), VmRSS). `None` where
-/// it doesn't.
+/// The process's resident size, in kilobytes, as the system reports it (proc(5), VmRSS). `None`
+/// where it doesn't.
 pub(crate) fn resident<R: Files>(rt: &R, alloc: Global) -> Option<u64> {
     let file = File::open(rt, "/proc/self/status").ok()?;
     let text = io::read_to_string(alloc, file).ok()?;
     kilobytes(text.as_str())
 }
 
-/// The resident size that such a text tells.
+/// The resident size in such a text.
 fn kilobytes(text: &str) -> Option<u64> {
     for line in text.lines() {
         if let Some(rest) = line.strip_prefix("VmRSS:") {

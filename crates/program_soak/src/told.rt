@@ -1,4 +1,4 @@
-//! What has to become of the spans of batches, by what the exporter was told of them.
+//! What has to become of the spans of batches, by what the replies said of them.
 use crate::config::ATTEMPTS;
 use crate::losses::Loss;
 use otlp_span::Reason;

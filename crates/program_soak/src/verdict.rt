@@ -12,7 +12,7 @@ pub(crate) struct Verdict {
     pub(crate) are_lost_named: bool,
     /// Whether each body that came again was the same.
     pub(crate) are_equal: bool,
-    /// Whether each batch that was told to be taken was kept.
+    /// Whether each batch was kept that a reply said was taken.
     pub(crate) are_delivered_kept: bool,
     /// Whether the processor's own counts are those of what was found.
     pub(crate) are_counted: bool,
