@@ -14,6 +14,8 @@ use Rattle.otlp_http.specs.Replies.{HttpReply}
 use Rattle.http_exporter.specs.declared.failure.Failure.{Failure}
 use Rattle.http_exporter.specs.Failures.{text_in, rejection_by, rejection_of, failure_of_reply, failure_of, failure_after_a_stop, IsLast}
 use Rattle.http_wire.specs.declared.limits.HeadLimits.{HeadLimits}
+use Rattle.http_exporter.specs.Kept as keeping
+use Rattle.http_exporter.specs.Kept.{IsKeptAnswer, IsKeptPost}
 use Rattle.http_exporter.specs.Attempts.{Shown, IsPosted, replied, stopped, replied_after_a_stop, outcome_after_a_stop}
 
 -- bytes that are not UTF-8 say nothing
@@ -90,3 +92,20 @@ pub last_fails : {Link : Type 0} (shown : Shown Link) (limits : HeadLimits) (rea
     IsLast failure before last → HasFailed outcome last
 last_fails shown limits reads text old new outcome None before last posted kept = λ other. absurd (not_some (posted_fails shown limits reads text old new outcome None posted other))
 last_fails shown limits reads text old new outcome (Some failure) before last posted kept = λ _. rw kept.2 refl
+
+-- the same where the link is kept
+answered_fails : {Link : Type 0} (shown : Shown Link) (limits : HeadLimits) (old new : Link) (outcome : Outcome) (failure : Option Failure) (lasts : Bool)
+    → IsKeptAnswer shown limits old new outcome failure lasts → HasFailed outcome failure
+answered_fails shown limits old new outcome failure lasts (keeping.read reply is by_head says failed) = rw (says, failed) (answer_fails (Ok reply))
+answered_fails shown limits old new outcome failure lasts (keeping.none fault is by_head says failed) = rw (says, failed) (answer_fails (Err fault))
+
+kept_fails : {Link : Type 0} (shown : Shown Link) (limits : HeadLimits) (reads : Bool) (text : List ℕ) (old new : Link) (outcome : Outcome) (failure : Option Failure) (lasts : Bool)
+    → IsKeptPost shown limits reads text old new outcome failure lasts → HasFailed outcome failure
+kept_fails shown limits reads text old new outcome failure lasts (keeping.replied sent is_sent answer) = answered_fails shown limits sent new outcome failure lasts answer
+kept_fails shown limits reads text old new outcome failure lasts (keeping.stopped unread is_stopped by_stop says failed) = λ _. rw failed refl
+kept_fails shown limits reads text old new outcome failure lasts (keeping.replied_after_a_stop stop answer read is_stopped is_answer by_stop says failed) = rw (says, failed) (stop_fails answer)
+
+pub last_kept_fails : {Link : Type 0} (shown : Shown Link) (limits : HeadLimits) (reads : Bool) (text : List ℕ) (old new : Link) (outcome : Outcome) (failure : Option Failure) (lasts : Bool) (before last : Option Failure)
+    → IsKeptPost shown limits reads text old new outcome failure lasts → IsLast failure before last → HasFailed outcome last
+last_kept_fails shown limits reads text old new outcome None lasts before last posted is_last = λ other. absurd (not_some (kept_fails shown limits reads text old new outcome None lasts posted other))
+last_kept_fails shown limits reads text old new outcome (Some failure) lasts before last posted is_last = λ _. rw is_last.2 refl

@@ -7,14 +7,17 @@ use Rattle.std.specs.Prelude.{decimal, OnErr, Option, Result, Ok, Err}
 use Rattle.std.specs.Io.KnownBytes.{Appends}
 use Rattle.otlp_http.specs.Address.{Address}
 use Rattle.http_wire.specs.Devices.{one_more}
-use Rattle.otlp_http.specs.Request.{request_head}
+use Rattle.otlp_http.specs.Request.{head_for, kept_head, last_lines, request_head}
+use Rattle.otlp_http.specs.declared.request.Connection.{Connection}
+use Rattle.otlp_http.specs.declared.request.Connection.TheVariants.{Close, KeepAlive}
 use Rattle.http_exporter.specs.Attempts.{Shown, IsSent, IsStopped}
 
 -- how long a head is
-pub length-request_head : (address : Address) (size : ℕ)
-    → length (request_head address size) ≡ 102 + (length address.path + (length address.host + (length (decimal address.port) + length (decimal size))))
-unfolding request_head
-length-request_head address size = simp length-append (omega arith)
+pub length-head_for : (connection : Connection) (address : Address) (size : ℕ)
+    → length (head_for connection address size) ≡ 81 + (length address.path + (length address.host + (length (decimal address.port) + (length (decimal size) + length (last_lines connection)))))
+unfolding request_head kept_head
+length-head_for Close address size = simp length-append (omega arith)
+length-head_for KeepAlive address size = simp length-append (omega arith)
 
 -- a front of a text that reaches into its second piece
 take_behind : (text front rest : List ℕ) (n : ℕ) → text ≡ front ++ rest → take (length front + n) text ≡ front ++ take n rest

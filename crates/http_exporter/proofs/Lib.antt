@@ -2,3 +2,4 @@ pub mod BufferLemmas
 pub mod Crosses
 pub mod FailureLemmas
 pub mod FrontLemmas
+pub mod KeptLemmas

@@ -3,3 +3,4 @@ pub mod Failures
 pub mod Tcp
 pub mod Buffers
 pub mod Deadlines
+pub mod Kept

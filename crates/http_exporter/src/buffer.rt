@@ -5,6 +5,7 @@ ghost use Rattle.std.specs.Io.{ReadsAtMost};
 ghost use Rattle.std.specs.Io.KnownBytes.{Consumes, IsAtEnd, Keeps, prepend_known};
 ghost use Rattle.http_wire.specs.Devices.{CountsFailure};
 
+use crate::kept_link::KeptLink;
 use otlp_http::{DeviceFailed, FaultRead, FaultWrite};
 use std::marker::Model;
 
@@ -13,9 +14,9 @@ const ROOM: usize = 4096;
 
 /// A link that reads through a buffer: a read asks the link below only where the buffer is empty,
 /// and then for as many bytes as the buffer has room for. So a head that is read byte by byte takes
-/// one call of the system. What the buffer takes beyond a message is lost with the link, so each
-/// link carries one reply. Writes go to the link below at once. It takes no memory. In contracts it
-/// is a `BufferedLink`. (profile)
+/// one call of the system. What the buffer takes beyond a reply is lost with the link: it carries
+/// another request only where the buffer is empty. Writes go to the link below at once. It takes no
+/// memory. In contracts it is a `BufferedLink`. (profile)
 #[derive(Drop)]
 pub struct Buffered<L> {
     link: L,
@@ -150,5 +151,15 @@ impl<L: FaultWrite> FaultWrite for Buffered<L> {
 
     fn write(&mut self, buf: &[u8]) -> Result<usize, DeviceFailed> {
         self.link.write(buf)
+    }
+}
+
+impl<L: KeptLink> KeptLink for Buffered<L> {
+    ghost use Rattle.http_exporter.specs.Buffers.{RenewsBuffered};
+
+    ghost renews = { RenewsBuffered L.renews };
+
+    fn renew(&mut self) -> bool {
+        self.unread().is_empty() && self.link.renew()
     }
 }

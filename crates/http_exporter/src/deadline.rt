@@ -1,14 +1,15 @@
 //! Links whose calls end by a moment.
 
-ghost use Rattle.std.specs.Prelude.{◌≡◌, ◌<◌, ◌≤◌, ℕ, List, Option, Some, None, ⊤, IfSome, length};
-ghost use Rattle.std.specs.Prelude.{IfOk, MatchOption};
+ghost use Rattle.std.specs.Prelude.{◌≡◌, ◌<◌, ◌≤◌, ℕ, Bool, List, Option, Some, None, ⊤, IfSome};
+ghost use Rattle.std.specs.Prelude.{IfOk, MatchOption, length};
 ghost use Rattle.std.specs.Duration.{as_nanos};
 ghost use Rattle.std.specs.Io.{ReadsAtMost, WritesAtMost};
 ghost use Rattle.std.specs.Io.KnownBytes.{ReadConsumes, WriteAppends};
 ghost use Rattle.http_wire.specs.Devices.{CountsFailure, one_more};
-ghost use Rattle.http_exporter.specs.Deadlines.{IsTimedCall, moment_after, nanos_of_millis};
-ghost use Rattle.http_exporter.specs.Deadlines.{time_left};
+ghost use Rattle.http_exporter.specs.Deadlines.{IsTimedCall, RestartsTime, moment_after};
+ghost use Rattle.http_exporter.specs.Deadlines.{nanos_of_millis, time_left};
 
+use crate::kept_link::KeptLink;
 use otlp_http::{DeviceFailed, FaultRead, FaultWrite};
 use std::marker::Model;
 use std::time::{self, Duration};
@@ -49,6 +50,7 @@ impl<R: time::Clock> Monotonic for RuntimeClock<R> {
 pub struct Countdown<C> {
     clock: C,
     longest: u64,
+    all: u64,
     end: u64,
 }
 
@@ -57,7 +59,12 @@ impl<C> Model for Countdown<C> {
 
     ghost Value = { CountedDown C };
 
-    ghost view = { λ c. record { clock = c.clock; longest = c.longest; end = c.end } };
+    ghost view = { λ c. record {
+      clock = c.clock;
+      longest = c.longest;
+      all = c.all;
+      end = c.end;
+    } };
 }
 
 impl<C: Monotonic + Drop> Countdown<C> {
@@ -68,19 +75,36 @@ impl<C: Monotonic + Drop> Countdown<C> {
             × C.reads clock (Some now) time.clock × (time ≡ record {
               clock = time.clock;
               longest = nanos_of_millis longest_ms;
+              all = nanos_of_millis all_ms;
               end = moment_after now (nanos_of_millis all_ms);
             })) }
     {
         let now = clock.now()?;
+        let all = all_ms.saturating_mul(1_000_000);
         Some(Countdown {
             clock,
             longest: longest_ms.saturating_mul(1_000_000),
-            end: now.saturating_add(all_ms.saturating_mul(1_000_000)),
+            all,
+            end: now.saturating_add(all),
         })
     }
 }
 
 impl<C: Monotonic> Countdown<C> {
+    /// Starts it again, with as much time as at first. It is left as it is where the clock can't be
+    /// read.
+    pub fn restart(&mut self) -> bool
+        ensures { RestartsTime C.reads self.old result self.new }
+    {
+        match self.clock.now() {
+            Some(now) => {
+                self.end = now.saturating_add(self.all);
+                true
+            }
+            None => false,
+        }
+    }
+
     /// How long a call may take that begins now, in nanoseconds: none where no time is left, or the
     /// clock can't be read. The clock is asked once.
     pub fn left(&mut self) -> u64
@@ -126,6 +150,17 @@ pub trait TimedStream {
         ensures bound { WritesAtMost result buf.now }
         ensures bytes { WriteAppends (contents self.old) (contents self.new) result buf.now }
         ensures timed { takes self.old (as_nanos timeout) self.new };
+}
+
+/// A stream that can say whether it is idle.
+pub trait IdleStream: TimedStream {
+    // From this state, it may say so, or not, and leave that state.
+    ghost idles: { Self → Bool → Self → Type 0 } = { λ _ _ _. ⊤ };
+
+    /// Whether the other end hasn't closed it, and nothing has come that no read gave. It doesn't
+    /// wait, and nothing is read.
+    fn is_idle(&mut self) -> bool
+        ensures { idles self.old result self.new };
 }
 
 /// A link whose calls end by a moment: before each it asks a clock, and gives the stream the time
@@ -247,5 +282,15 @@ impl<S: TimedStream, C: Monotonic> FaultWrite for Deadline<S, C> {
             Ok(n) => Ok(n),
             Err(_) => Err(self.fail()),
         }
+    }
+}
+
+impl<S: IdleStream, C: Monotonic> KeptLink for Deadline<S, C> {
+    ghost use Rattle.http_exporter.specs.Deadlines.{RenewsDeadline};
+
+    ghost renews = { RenewsDeadline C.reads S.idles };
+
+    fn renew(&mut self) -> bool {
+        self.time.restart() && self.stream.is_idle()
     }
 }

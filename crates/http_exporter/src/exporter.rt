@@ -7,19 +7,21 @@ ghost use Rattle.std.specs.Result.{result_map_both};
 ghost use Rattle.retry_core.specs.Retries.{outcome_view};
 ghost use Rattle.model_retry.specs.Retries.{delivered};
 ghost use Rattle.otlp_http.specs.Outcomes.{reply_view};
-ghost use Rattle.otlp_http.specs.Request.{request_text};
+ghost use Rattle.otlp_http.specs.Request.{request_text, text_for};
 ghost use Rattle.otlp_http.specs.Replies.{HttpReply};
 ghost use Rattle.http_wire.specs.declared.fault.HttpFault.{HttpFault};
 ghost use Rattle.http_exporter.specs.declared.failure.Failure.{Failure};
 ghost use Rattle.http_exporter.specs.Failures.{failure_after_a_stop, AreKept, IsLast};
 ghost use Rattle.http_exporter.specs.Attempts.{shown, IsAnswer, IsAttempt, IsPosted};
 ghost use Rattle.http_exporter.specs.Attempts.{outcome_after_a_stop};
+ghost use Rattle.http_exporter.specs.Kept.{IsKeptAnswer, IsKeptPost};
 
 use crate::dial::Dial;
 use crate::failure::{Failure, failure_of};
 use crate::front::send;
 use otlp_http::{
-    FaultRead, FaultWrite, HeadLimits, HttpFault, Reply, Target, outcome_of, read_reply,
+    Connection, FaultRead, FaultWrite, HeadLimits, HttpFault, LastingReply, Reply, Target,
+    outcome_of, read_lasting_reply, read_reply,
 };
 use otlp_ids::OutOfMemory;
 use retry_core::Outcome;
@@ -160,13 +162,56 @@ impl<D, A: Allocator + Copy> LinkExporter<D, A> {
             self.now.limits self.now.reads_after_a_stop (request_text self.now.target body.now)
             link.old link.new (outcome_view result.0) failure × AreKept failure result.1 }
     {
-        match send(link, &self.target, body) {
+        match send(link, &self.target, Connection::Close, body) {
             Ok(()) => {
                 let reply = self.read(link);
                 (outcome_of(&reply), failure_of(&reply))
             }
             Err(_) if self.reads_after_a_stop => self.read_after_a_stop(link),
             Err(_) => (Outcome::NoReply, Some(Failure::WriteStopped)),
+        }
+    }
+
+    /// What comes of a body that is posted over this link, which is kept where it may carry another
+    /// request; what failed, if anything did; and whether it may.
+    pub(crate) fn exchange_kept<L: FaultRead + FaultWrite>(
+        &self,
+        link: &mut L,
+        body: &[u8],
+    ) -> (Outcome, Option<Failure>, bool)
+        ensures { (failure : Option Failure) × IsKeptPost
+            (shown L.contents L.remaining L.FaultWrite.failures L.FaultRead.failures)
+            self.now.limits self.now.reads_after_a_stop
+            (text_for Connection.KeepAlive self.now.target body.now)
+            link.old link.new (outcome_view result.0) failure result.2
+            × AreKept failure result.1 }
+    {
+        match send(link, &self.target, Connection::KeepAlive, body) {
+            Ok(()) => self.read_kept(link),
+            Err(_) if self.reads_after_a_stop => {
+                let (outcome, failure) = self.read_after_a_stop(link);
+                (outcome, failure, false)
+            }
+            Err(_) => (Outcome::NoReply, Some(Failure::WriteStopped), false),
+        }
+    }
+
+    /// What the link then gives, which is kept where it may carry another request.
+    fn read_kept<L: FaultRead + FaultWrite>(&self, link: &mut L) -> (Outcome, Option<Failure>, bool)
+        ensures { (failure : Option Failure) × IsKeptAnswer
+            (shown L.contents L.remaining L.FaultWrite.failures L.FaultRead.failures)
+            self.now.limits link.old link.new (outcome_view result.0) failure result.2
+            × AreKept failure result.1 }
+    {
+        match read_lasting_reply(self.alloc, self.global, link, &self.limits) {
+            Ok(LastingReply { reply, lasts }) => {
+                let reply = Ok(reply);
+                (outcome_of(&reply), failure_of(&reply), lasts)
+            }
+            Err(fault) => {
+                let none: Result<Reply<A>, HttpFault> = Err(fault);
+                (outcome_of(&none), failure_of(&none), false)
+            }
         }
     }
 
@@ -200,8 +245,17 @@ impl<D, A: Allocator + Copy> LinkExporter<D, A> {
 }
 
 impl<D: Dial, A: Allocator + Copy> LinkExporter<D, A> {
+    /// A fresh link to the target's host and port, if one can be had.
+    pub(crate) fn dial(&mut self) -> Option<D::Link>
+        ensures dialed { D.dials self.old.dial self.old.target.host self.old.target.port result
+            self.new.dial }
+        ensures others { self.new ≡ record self.old { dial = self.new.dial } }
+    {
+        self.dial.dial(self.target.host(), self.target.port())
+    }
+
     /// Keeps what an attempt met, if it failed.
-    fn keep(&mut self, failure: Option<Failure>)
+    pub(crate) fn keep(&mut self, failure: Option<Failure>)
         ensures last { (met : Option Failure) → AreKept met failure →
             IsLast met self.old.last_failure self.new.last_failure }
         ensures others { self.new ≡ record self.old { last_failure = self.new.last_failure } }

@@ -2,48 +2,47 @@
 //! body as there is room for, and then the rest of the body.
 
 ghost use Rattle.std.specs.Prelude.{◌≡◌, ◌<◌, ◌≤◌, ◌⊎◌, [], length, take, OnErr, OnOk, Some};
-ghost use Rattle.otlp_http.specs.Request.{request_head, request_text};
+ghost use Rattle.otlp_http.specs.Request.{head_for, text_for};
 ghost use Rattle.http_exporter.specs.Attempts.{shown, IsSent, IsStopped};
 
 use http_wire::{FRONT_ROOM, Front};
 use itoa::Buffer;
-use otlp_http::{DeviceFailed, FaultRead, FaultWrite, Target, write_request};
+use otlp_http::{Connection, DeviceFailed, FaultRead, FaultWrite, Target, write_request_for};
 use std::alloc::Allocator;
 
-/// The bytes of a head that no target and no length change.
+/// The bytes of a head before its last lines that no target and no length change.
 const FIXED: usize = concat!(
     "POST  HTTP/1.1\r\n",
     "Host: :\r\n",
     "Content-Type: application/x-protobuf\r\n",
     "Content-Length: \r\n",
-    "Connection: close\r\n",
-    "\r\n",
 )
 .len();
 
 /// As much of the beginning of the request as there is room for.
-fn front_of<A: Allocator>(target: &Target<A>, body: &[u8]) -> Front
+fn front_of<A: Allocator>(target: &Target<A>, connection: Connection, body: &[u8]) -> Front
     ensures beginning { result.taken
-        ≡ take (length result.taken) (request_text target.now body.now) }
-    ensures whole { (result.taken ≡ request_text target.now body.now)
+        ≡ take (length result.taken) (text_for connection target.now body.now) }
+    ensures whole { (result.taken ≡ text_for connection target.now body.now)
         ⊎ (0 < result.failures) }
 {
     let mut front = Front::new();
-    match write_request(&mut front, target, body) {
+    match write_request_for(&mut front, target, connection, body) {
         Ok(()) => front,
         Err(_) => front,
     }
 }
 
 /// How long the head of a request is, with a body of so many bytes.
-fn head_length<A: Allocator>(target: &Target<A>, size: usize) -> usize
-    ensures { result ≡ length (request_head target.now size) }
+fn head_length<A: Allocator>(target: &Target<A>, connection: Connection, size: usize) -> usize
+    ensures { result ≡ length (head_for connection target.now size) }
 {
     let mut port = Buffer::new();
     let mut digits = Buffer::new();
     let port = port.format(target.port());
     let digits = digits.format(size);
-    FIXED + target.path().len() + target.host().len() + port.len() + digits.len()
+    let last = connection.last_lines().len();
+    FIXED + target.path().len() + target.host().len() + port.len() + digits.len() + last
 }
 
 /// Writes the whole piece.
@@ -65,8 +64,8 @@ fn write_all<L: FaultRead + FaultWrite>(link: &mut L, piece: &[u8]) -> Result<()
     Ok(())
 }
 
-/// Writes the request that carries `body` to the target: in two writes, where the link takes all
-/// that it is given, and in one where the request is small.
+/// Writes the request that carries `body` to the target and asks this of its connection: in two
+/// writes, where the link takes all that it is given, and in one where the request is small.
 ///
 /// # Errors
 ///
@@ -74,23 +73,24 @@ fn write_all<L: FaultRead + FaultWrite>(link: &mut L, piece: &[u8]) -> Result<()
 pub(crate) fn send<L: FaultRead + FaultWrite, A: Allocator>(
     link: &mut L,
     target: &Target<A>,
+    connection: Connection,
     body: &[u8],
 ) -> Result<(), DeviceFailed>
     ensures sent { OnOk result (IsSent
         (shown L.contents L.remaining L.FaultWrite.failures L.FaultRead.failures)
-        (request_text target.now body.now) link.old link.new) }
+        (text_for connection target.now body.now) link.old link.new) }
     ensures stopped { OnErr result (IsStopped
         (shown L.contents L.remaining L.FaultWrite.failures L.FaultRead.failures)
-        (request_text target.now body.now) link.old link.new) }
+        (text_for connection target.now body.now) link.old link.new) }
 {
-    let head = head_length(target, body.len());
+    let head = head_length(target, connection, body.len());
     if head > FRONT_ROOM {
-        return match write_request(link, target, body) {
+        return match write_request_for(link, target, connection, body) {
             Ok(()) => Ok(()),
             Err(_) => Err(DeviceFailed),
         };
     }
-    let front = front_of(target, body);
+    let front = front_of(target, connection, body);
     let front = front.taken();
     let rest = &body[front.len() - head..];
     write_all(link, front)?;

@@ -1,6 +1,7 @@
 //! Batches that are sent over HTTP (OTLP Specification, "OTLP/HTTP"; RFC 9112): an exporter that
 //! posts each body over a link of its own, which a [`Dial`] gives. Over TCP it is the
-//! [`HttpExporter`]. A [`Failure`] says what the last attempt met that failed; a [`FailureWatch`]
+//! [`HttpExporter`]. A [`KeptExporter`] keeps its link for the next body as long as replies let it.
+//! A [`Failure`] says what the last attempt met that failed; a [`FailureWatch`]
 //! says it while the exporter works on another thread.
 #![tactic(auto)]
 
@@ -10,13 +11,17 @@ mod dial;
 mod exporter;
 mod failure;
 mod front;
+mod kept;
+mod kept_link;
 mod tcp;
 mod watched;
 
 pub use buffer::Buffered;
-pub use deadline::{Countdown, Deadline, Monotonic, RuntimeClock, TimedStream};
+pub use deadline::{Countdown, Deadline, IdleStream, Monotonic, RuntimeClock, TimedStream};
 pub use dial::Dial;
 pub use exporter::LinkExporter;
 pub use failure::{Failure, MESSAGE_ROOM, Message};
+pub use kept::KeptExporter;
+pub use kept_link::KeptLink;
 pub use tcp::{DEFAULT_EXPORT_TIMEOUT_MS, HttpExporter, Socket, TcpDial};
 pub use watched::{FailureWatch, WatchedExporter};

@@ -3,13 +3,13 @@
 ghost use Rattle.std.specs.Prelude.{◌≡◌, ◌≤◌, ℕ, false, None};
 
 use crate::buffer::Buffered;
-use crate::deadline::{Countdown, Deadline, RuntimeClock, TimedStream};
+use crate::deadline::{Countdown, Deadline, IdleStream, RuntimeClock, TimedStream};
 use crate::dial::Dial;
 use crate::exporter::LinkExporter;
 use otlp_http::{DeviceFailed, Target};
 use std::alloc::{Allocator, Global};
 use std::fmt;
-use std::io::{Read, Write};
+use std::io::{ErrorKind, Read, Write};
 use std::marker::Model;
 use std::net::{Net, OpenStream, TcpStream, ToSocketAddrs};
 use std::time::{Clock, Duration};
@@ -51,6 +51,17 @@ impl<S: Read + Write + OpenStream> TimedStream for Socket<S> {
             Ok(n) => Ok(n),
             Err(_) => Err(DeviceFailed),
         }
+    }
+}
+
+impl<S: Read + Write + OpenStream> IdleStream for Socket<S> {
+    fn is_idle(&mut self) -> bool {
+        if self.stream.set_nonblocking(true).is_err() {
+            return false;
+        }
+        let peeked = self.stream.peek(&mut [0]);
+        let is_idle = matches!(&peeked, Err(e) if e.kind() == ErrorKind::WouldBlock);
+        self.stream.set_nonblocking(false).is_ok() && is_idle
     }
 }
 

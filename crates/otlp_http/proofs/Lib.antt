@@ -1,2 +1,3 @@
 pub mod FinalLemmas
 pub mod RequestLemmas
+pub mod LastingLemmas

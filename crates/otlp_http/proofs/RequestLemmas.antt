@@ -1,9 +1,11 @@
 -- The text of a request.
-use Rattle.std.proofs.Common.{◌≡◌, ℕ, ◌+◌, List, [], ◌∷◌, ◌++◌, length, ap, sym, ◌∙◌, codes, arith, append_assoc, append-nil, length-append}
+use Rattle.std.proofs.Common.{◌≡◌, ℕ, ◌+◌, List, [], ◌∷◌, ◌++◌, length, ap, sym, ◌∙◌, codes, arith, append_assoc, append-nil, length-append, ◌≤◌, leb-true, refl, subst}
 use Rattle.std.specs.Prelude.{decimal}
 use Rattle.std.specs.List.{concat}
 use Rattle.otlp_http.specs.Address.{Address}
-use Rattle.otlp_http.specs.Request.{request_head, request_text}
+use Rattle.otlp_http.specs.Request.{request_head, kept_head, last_lines, text_for}
+use Rattle.otlp_http.specs.declared.request.Connection.{Connection}
+use Rattle.otlp_http.specs.declared.request.Connection.TheVariants.{Close, KeepAlive}
 
 -- the parts of six lines, one after the other, are the lines
 lines_of_parts : (post path version host_name host colon port type size_name size close end body : List ℕ)
@@ -14,19 +16,31 @@ lines_of_parts : (post path version host_name host colon port type size_name siz
 lines_of_parts post path version host_name host colon port type size_name size close end body = simp append_assoc
 
 -- the pieces that are written are the request
-pub concat_request : (address : Address) (body : List ℕ)
+pub concat_request : (connection : Connection) (address : Address) (body : List ℕ)
     → concat (codes "POST " ∷ address.path ∷ codes " HTTP/1.1\r\nHost: " ∷ address.host ∷ codes ":" ∷ decimal address.port
     ∷ codes "\r\nContent-Type: application/x-protobuf\r\nContent-Length: " ∷ decimal (length body)
-    ∷ codes "\r\nConnection: close\r\n\r\n" ∷ body ∷ []) ≡ request_text address body
-unfolding request_head
-concat_request address body =
+    ∷ codes "\r\n" ∷ last_lines connection ∷ body ∷ []) ≡ text_for connection address body
+unfolding request_head kept_head
+concat_request Close address body =
     lines_of_parts (codes "POST ") address.path (codes " HTTP/1.1") (codes "Host: ") address.host (codes ":")
     (decimal address.port) (codes "Content-Type: application/x-protobuf") (codes "Content-Length: ")
     (decimal (length body)) (codes "Connection: close") (codes "\r\n") (body ++ [])
     ∙ ap (λ rest. request_head address (length body) ++ rest) (append-nil body)
+concat_request KeepAlive address body =
+    lines_of_parts (codes "POST ") address.path (codes " HTTP/1.1") (codes "Host: ") address.host (codes ":")
+    (decimal address.port) (codes "Content-Type: application/x-protobuf") (codes "Content-Length: ")
+    (decimal (length body)) (codes "Connection: keep-alive") (codes "\r\n") (body ++ [])
+    ∙ ap (λ rest. kept_head address (length body) ++ rest) (append-nil body)
+
+-- how long the last two lines are
+last_lines_short : (connection : Connection) → length (last_lines connection) ≤ 26
+last_lines_short Close = leb-true 21 26 refl
+last_lines_short KeepAlive = leb-true 26 26 refl
 
 -- how long the request is
-pub length-request_text : (address : Address) (body : List ℕ)
-    → length (request_text address body) ≡ 102 + (length address.path + (length address.host + (length (decimal address.port) + (length (decimal (length body)) + length body))))
-length-request_text address body =
-    ap length (sym (concat_request address body)) ∙ simp (length-append, append-nil) (omega arith)
+pub length-text_for : (connection : Connection) (address : Address) (body : List ℕ)
+    → length (text_for connection address body) ≤ 107 + (length address.path + (length address.host + (length (decimal address.port) + (length (decimal (length body)) + length body))))
+length-text_for connection address body =
+    let short = last_lines_short connection in
+    subst (λ t. length t ≤ 107 + (length address.path + (length address.host + (length (decimal address.port) + (length (decimal (length body)) + length body)))))
+    (concat_request connection address body) (simp (length-append, append-nil) (omega (arith, short)))

@@ -5,3 +5,4 @@ pub mod Outcomes
 pub mod Parses
 pub mod Replies
 pub mod Request
+pub mod Persistence

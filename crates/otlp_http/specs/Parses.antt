@@ -37,8 +37,8 @@ pub record HasFinalHead (limits : HeadLimits) (old new : Option (List ℕ)) (tex
   pub covers : CoversHead limits text spans found head
   pub final : ¬ (IsInterimStatus found.code)
 
--- a head that isn't interim came after the interim ones, and its fields are kept
-pub record HasKeptHead (limits : HeadLimits) (old new : Option (List ℕ)) (status : ℕ)
+-- a head that isn't interim came after the interim ones, of HTTP/1.MINOR, and its fields are kept
+pub record HasKeptHead (limits : HeadLimits) (old new : Option (List ℕ)) (minor status : ℕ)
     (kept : Entries FieldValue) : Type 0 where
   pub interims : List ResponseHead
   pub head : ResponseHead
@@ -46,5 +46,6 @@ pub record HasKeptHead (limits : HeadLimits) (old new : Option (List ℕ)) (stat
   pub valid : IsHeadText limits (print_response head) head
   pub final : ¬ (IsInterimStatus (status_code head))
   pub taken : All IsTaken (fields_of head)
+  pub version : minor ≡ head.minor
   pub code : status ≡ status_code head
   pub keeps : KeepsFields kept (fields_of head)

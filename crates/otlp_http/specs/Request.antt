@@ -2,17 +2,40 @@
 use Rattle.std.specs.Prelude.{ℕ, List, [], ◌++◌, length, codes, decimal}
 use Rattle.http_wire.specs.Lines.{line}
 use Rattle.otlp_http.specs.Address.{Address}
+use Rattle.otlp_http.specs.declared.request.Connection.{Connection}
+use Rattle.otlp_http.specs.declared.request.Connection.TheVariants.{Close, KeepAlive}
 
--- the request line, the fields, and an empty line; the body has so many bytes
-unfoldable pub request_head : Address → ℕ → List ℕ
-request_head address size =
+-- the request line, and the fields that each request has; the body has so many bytes
+abbrev pub first_lines : Address → ℕ → List ℕ
+first_lines address size =
     line (codes "POST " ++ address.path ++ codes " HTTP/1.1")
     ++ line (codes "Host: " ++ address.host ++ codes ":" ++ decimal address.port)
     ++ line (codes "Content-Type: application/x-protobuf")
     ++ line (codes "Content-Length: " ++ decimal size)
-    ++ line (codes "Connection: close")
-    ++ line []
+
+-- the head of a request whose connection is closed after the reply (RFC 9112, section 9.6)
+unfoldable pub request_head : Address → ℕ → List ℕ
+request_head address size = first_lines address size ++ line (codes "Connection: close") ++ line []
+
+-- the head of a request whose connection is kept (RFC 9112, section 9.3)
+unfoldable pub kept_head : Address → ℕ → List ℕ
+kept_head address size =
+    first_lines address size ++ line (codes "Connection: keep-alive") ++ line []
+
+-- the last two lines of the head of a request that asks this of its connection
+abbrev pub last_lines : Connection → List ℕ
+last_lines Close = line (codes "Connection: close") ++ line []
+last_lines KeepAlive = line (codes "Connection: keep-alive") ++ line []
+
+-- the head of a request that asks this of its connection
+abbrev pub head_for : Connection → Address → ℕ → List ℕ
+head_for Close address size = request_head address size
+head_for KeepAlive address size = kept_head address size
 
 -- the head, and then the body as it is
 abbrev pub request_text : Address → List ℕ → List ℕ
 request_text address body = request_head address (length body) ++ body
+
+-- the same for a request that asks this of its connection
+abbrev pub text_for : Connection → Address → List ℕ → List ℕ
+text_for connection address body = head_for connection address (length body) ++ body

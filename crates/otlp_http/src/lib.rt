@@ -7,6 +7,7 @@
 
 mod head;
 mod outcome;
+mod persistence;
 mod reply;
 mod request;
 mod target;
@@ -16,6 +17,6 @@ pub use http_wire::{
     MOST_FIELDS, Stopped,
 };
 pub use outcome::outcome_of;
-pub use reply::{Reply, read_reply};
-pub use request::write_request;
+pub use reply::{LastingReply, Reply, read_lasting_reply, read_reply};
+pub use request::{Connection, write_request, write_request_for};
 pub use target::{DEFAULT_PATH, DEFAULT_PORT, Target, TargetFault};

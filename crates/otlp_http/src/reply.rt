@@ -7,9 +7,12 @@ ghost use Rattle.http_wire.specs.Devices.{HasFailed};
 ghost use Rattle.http_wire.specs.Faults.{CountsAtHead, CountsFailedRead};
 ghost use Rattle.http_wire.specs.Fields.{KeepsFields, NameAndValue};
 ghost use Rattle.otlp_http.specs.Parses.{HasKeptHead};
+ghost use Rattle.otlp_http.specs.Outcomes.{reply_view};
+ghost use Rattle.otlp_http.specs.Persistence.{lasts_after};
 ghost use Rattle.otlp_http.specs.Replies.{framing_of, HasNoReply, IsReply};
 
 use crate::head::read_final_head;
+use crate::persistence::lasts_with;
 use http_header::HeaderMap;
 use http_wire::{
     FaultRead, Framing, HeadLimits, HttpFault, MOST_FIELDS, framing_by_fields, keep_fields,
@@ -33,16 +36,27 @@ pub struct Reply<A: Allocator = Global> {
     pub body: Result<Vec<u8, A>, HttpFault>,
 }
 
-/// The status and the fields of the first head that isn't interim.
+/// A reply, and whether its connection may carry another request.
+#[derive(Drop)]
+#[derive_where(Debug)]
+pub struct LastingReply<A: Allocator = Global> {
+    /// The reply.
+    pub reply: Reply<A>,
+    /// Whether the connection may carry another request: the reply was read to an end of its own,
+    /// and its head keeps the connection (RFC 9112, section 9.3).
+    pub lasts: bool,
+}
+
+/// The minor version, the status and the fields of the first head that isn't interim.
 fn read_fields<R: FaultRead, A: Allocator>(
     global: Global,
     reader: &mut R,
     limits: &HeadLimits,
     text: &mut Vec<u8, A>,
-) -> Result<(u16, HeaderMap), HttpFault>
+) -> Result<(u8, u16, HeaderMap), HttpFault>
     requires { limits.now.fields ≤ 64 }
     ensures head { IfOk result (λ head. HasKeptHead limits.now (R.remaining reader.old)
-        (R.remaining reader.new) head.0 head.1) }
+        (R.remaining reader.new) head.0 head.1 head.2) }
     ensures none { IfErr result (HasNoReply limits.now (R.remaining reader.old)
         (R.remaining reader.new) (HasFailed (R.failures reader.old) (R.failures reader.new))) }
     ensures counted { IfErr result (λ fault.
@@ -56,7 +70,7 @@ fn read_fields<R: FaultRead, A: Allocator>(
         Err(fault) => return Err(fault),
     };
     match keep_fields(global, text, &spans[..head.headers]) {
-        Ok(kept) => Ok((head.code, kept)),
+        Ok(kept) => Ok((head.version, head.code, kept)),
         Err(fault) => Err(fault),
     }
 }
@@ -132,15 +146,51 @@ pub fn read_reply<R: FaultRead, A: Allocator + Copy>(
     ensures failed { IfErr result (λ fault.
         CountsAtHead fault (R.failures reader.old) (R.failures reader.new)) }
 {
+    match read_lasting_reply(alloc, global, reader, limits) {
+        Ok(LastingReply { reply, lasts: _ }) => Ok(reply),
+        Err(fault) => Err(fault),
+    }
+}
+
+/// Reads a reply, as [`read_reply`] does, and says whether its connection may carry another request
+/// (RFC 9112, sections 6.1, 6.3 and 9.3): its body was had, and has an end of its own; where it
+/// comes by Transfer-Encoding, the version is HTTP/1.1, and there is no Content-Length; and the
+/// version is HTTP/1.1, or there is a Connection, each of which says `keep-alive`, in any case of
+/// letters. A list of options in one Connection is none that keeps (profile).
+///
+/// # Errors
+///
+/// As of [`read_reply`]. The connection carries no other request then.
+pub fn read_lasting_reply<R: FaultRead, A: Allocator + Copy>(
+    alloc: A,
+    global: Global,
+    reader: &mut R,
+    limits: &HeadLimits,
+) -> Result<LastingReply<A>, HttpFault>
+    requires fields { limits.now.fields ≤ 64 }
+    ensures reply { IfOk result (λ read. (is : IsReply limits.now (R.remaining reader.old)
+        (R.remaining reader.new) (HasFailed (R.failures reader.old) (R.failures reader.new))
+        (reply_view read.reply))
+        × (read.lasts ≡ lasts_after is.head (reply_view read.reply).body)) }
+    ensures counted { IfOk result (λ read.
+        CountsFailedRead read.reply.body (R.failures reader.old) (R.failures reader.new)) }
+    ensures no_reply { IfErr result (HasNoReply limits.now (R.remaining reader.old)
+        (R.remaining reader.new) (HasFailed (R.failures reader.old) (R.failures reader.new))) }
+    ensures failed { IfErr result (λ fault.
+        CountsAtHead fault (R.failures reader.old) (R.failures reader.new)) }
+{
     let mut text = Vec::new(alloc);
-    let (status, kept) = match read_fields(global, reader, limits, &mut text) {
+    let (minor, status, kept) = match read_fields(global, reader, limits, &mut text) {
         Ok(head) => head,
         Err(fault) => return Err(fault),
     };
-    let body = read_body(alloc, reader, framing_of(status, &kept), limits);
-    Ok(Reply {
+    let framing = framing_of(status, &kept);
+    let body = read_body(alloc, reader, framing, limits);
+    let lasts = lasts_with(minor, framing, &kept, &body);
+    let reply = Reply {
         status,
         retry_after: retry_after(&kept),
         body,
-    })
+    };
+    Ok(LastingReply { reply, lasts })
 }

@@ -4,23 +4,47 @@ ghost use Rattle.std.specs.Prelude.{◌≡◌, ◌+◌, ◌^◌, ◌<◌, length
 ghost use Rattle.std.specs.Io.KnownBytes.{Appends};
 ghost use Rattle.std.specs.List.{concat};
 ghost use Rattle.http_wire.specs.Devices.{CountsFailure};
-ghost use Rattle.otlp_http.specs.Request.{request_text};
+ghost use Rattle.otlp_http.specs.Request.{last_lines, request_text, text_for};
 
 use crate::target::Target;
 use http_wire::{FaultWrite, Stopped, write_pieces};
 use itoa::Buffer;
 use std::alloc::Allocator;
 
-/// The pieces of the request's text, with the port and the body's length in decimal digits.
+/// What a request asks of its connection (RFC 9110, section 7.6.1; RFC 9112, sections 9.3 and 9.6).
+#[derive(Clone, Copy, Debug, PartialEq, Eq)]
+pub enum Connection {
+    /// That it be closed after the reply.
+    Close,
+    /// That it be kept for further requests.
+    KeepAlive,
+}
+
+impl Connection {
+    /// The last lines of a head: the field of this name, and an empty line.
+    pub fn last_lines(self) -> &'static [u8]
+        ensures { result.now ≡ last_lines self }
+    {
+        match self {
+            Connection::Close => b"Connection: close\r\n\r\n",
+            Connection::KeepAlive => b"Connection: keep-alive\r\n\r\n",
+        }
+    }
+}
+
+/// The pieces of the request's text, with the port and the body's length in decimal digits, and the
+/// last lines of its head.
 fn request_pieces<'a, A: Allocator>(
     target: &'a Target<A>,
     port: &'a str,
     digits: &'a str,
+    last: &'a [u8],
     body: &'a [u8],
-) -> [&'a [u8]; 10]
+) -> [&'a [u8]; 11]
     requires port { port.now ≡ decimal target.now.port }
     requires digits { digits.now ≡ decimal (length body.now) }
-    ensures whole { concat (map (λ p. p.now) result) ≡ request_text target.now body.now }
+    ensures whole { (connection : Connection) → last.now ≡ last_lines connection
+        → concat (map (λ p. p.now) result) ≡ text_for connection target.now body.now }
     ensures short { length target.now.host + length target.now.path < 2 ^ 62 }
 {
     [
@@ -32,14 +56,16 @@ fn request_pieces<'a, A: Allocator>(
         port.as_bytes(),
         b"\r\nContent-Type: application/x-protobuf\r\nContent-Length: ",
         digits.as_bytes(),
-        b"\r\nConnection: close\r\n\r\n",
+        b"\r\n",
+        last,
         body,
     ]
 }
 
-/// Writes the request that carries `body` to the target: a POST with its head and the body, and
-/// nothing else (RFC 9112, sections 3 and 5; OTLP Specification, "OTLP/HTTP Request"; which fields
-/// it has: profile). It takes no memory, and doesn't wait for a reply.
+/// Writes the request that carries `body` to the target, and asks that the connection be closed
+/// after the reply: a POST with its head and the body, and nothing else (RFC 9112, sections 3 and
+/// 5; OTLP Specification, "OTLP/HTTP Request"; which fields it has: profile). It takes no memory,
+/// and doesn't wait for a reply.
 ///
 /// # Errors
 ///
@@ -59,9 +85,34 @@ pub fn write_request<W: FaultWrite, A: Allocator>(
         (take stopped.sent (request_text target.now body.now))) }
     ensures counted { CountsFailure result (W.failures writer.old) (W.failures writer.new) }
 {
+    write_request_for(writer, target, Connection::Close, body)
+}
+
+/// Writes the request that carries `body` to the target, as [`write_request`] does, and asks this
+/// of its connection.
+///
+/// # Errors
+///
+/// As of [`write_request`].
+pub fn write_request_for<W: FaultWrite, A: Allocator>(
+    writer: &mut W,
+    target: &Target<A>,
+    connection: Connection,
+    body: &[u8],
+) -> Result<(), Stopped>
+    ensures ok { OnOk result (Appends (W.contents writer.old) (W.contents writer.new)
+        (text_for connection target.now body.now)) }
+    ensures within { IfErr result (λ stopped.
+        stopped.sent < length (text_for connection target.now body.now)) }
+    ensures stopped { IfErr result (λ stopped.
+        Appends (W.contents writer.old) (W.contents writer.new)
+        (take stopped.sent (text_for connection target.now body.now))) }
+    ensures counted { CountsFailure result (W.failures writer.old) (W.failures writer.new) }
+{
     let mut port = Buffer::new();
     let mut digits = Buffer::new();
     let port = port.format(target.port());
     let digits = digits.format(body.len());
-    write_pieces(writer, &request_pieces(target, port, digits, body))
+    let last = connection.last_lines();
+    write_pieces(writer, &request_pieces(target, port, digits, last, body))
 }

@@ -6,5 +6,6 @@ mod deadlines;
 mod equal;
 mod exporter;
 mod fixture;
+mod kept;
 mod network;
 mod script_memory;

@@ -1,5 +1,5 @@
 use Rattle.std.proofs.Common.{arith, length}
-use Rattle.otlp_http.specs.Request.{request_head}
+use Rattle.otlp_http.specs.Request.{head_for}
 use Rattle.http_exporter.proofs.FrontLemmas.{front_and_rest, on_err, sent_both, stopped_behind}
 use Rattle.http_exporter.proofs.front.send.Goals as goal
 
@@ -9,7 +9,7 @@ returns-clause-sent g c =
     let front = c.front_of-front.ensures in
     let taken = c.taken-front.ensures in
     let room = c.if-head-gt-FRONT_ROOM.false in
-    let is = front_and_rest (request_head c.args.target.now (length body)) body _ _ _ _ c.head_length-head.ensures (omega (arith, room))
+    let is = front_and_rest (head_for c.args.connection c.args.target.now (length body)) body _ _ _ _ c.head_length-head.ensures (omega (arith, room))
     front.beginning front.whole taken.taken taken.full in
     sent_both _ _ _ _ _ _ is c.in_ok-write_all.ensures.sent c.in_ok-write_all-2.ensures.sent
 
@@ -19,7 +19,7 @@ returns-in_err-write_all-2-clause-stopped g c =
     let front = c.front_of-front.ensures in
     let taken = c.taken-front.ensures in
     let room = c.if-head-gt-FRONT_ROOM.false in
-    let is = front_and_rest (request_head c.args.target.now (length body)) body _ _ _ _ c.head_length-head.ensures (omega (arith, room))
+    let is = front_and_rest (head_for c.args.connection c.args.target.now (length body)) body _ _ _ _ c.head_length-head.ensures (omega (arith, room))
     front.beginning front.whole taken.taken taken.full in
     on_err c.from_residual-in_err-write_all-2.result
     (stopped_behind _ _ _ _ _ _ is c.in_ok-write_all.ensures.sent c.in_err-write_all-2.ensures.stopped)

@@ -1,0 +1,25 @@
+use Rattle.std.proofs.Common.{refl, Some}
+use Rattle.http_exporter.specs.declared.failure.Failure.TheVariants.{WriteStopped}
+use Rattle.http_exporter.specs.Kept.{replied, replied_after_a_stop, stopped}
+use Rattle.http_exporter.proofs.exporter.LinkExporter.exchange_kept.Goals as goal
+
+pub returns-in-Ok : goal.returns-in-Ok
+returns-in-Ok g c =
+    let read = c.read_kept.ensures in
+    (read.0, replied c.send.new.link (rw (← c.self.view_is) c.in-Ok.ensures.sent) read.1, read.2)
+
+pub returns-in-Err : goal.returns-in-Err
+returns-in-Err g c =
+    let read = c.read_after_a_stop-outcome.ensures in (
+      _,
+      replied_after_a_stop c.send.new.link read.0 (rw (← c.self.view_is) c.if-self.true)
+          (rw (← c.self.view_is) c.in-Err.ensures.stopped) read.1 refl read.2 refl,
+      read.3,
+    )
+
+pub returns-in-Err-2 : goal.returns-in-Err-2
+returns-in-Err-2 g c = (
+  Some WriteStopped,
+  stopped (rw (← c.self.view_is) c.if-self.false) (rw (← c.self.view_is) c.in-Err-2.ensures.stopped) refl refl refl,
+  (WriteStopped, refl, refl),
+)
