@@ -8,10 +8,7 @@ use denote.Param.Send.{IsSend, sendable}
 use denote.Param.SendFields.{declared_send, variants_send, as_row_send}
 use Rattle.std.below.core.specs.contracts.result.Result as Result
 
--- two values, three, four, five
-pub two_send : (ν : Sym) (S T : RattleType) → IsSend S → IsSend T → IsSend (TupleAt ν (S ∷ T ∷ []))
-two_send ν S T s t = declared_send (type_at ν (S ∷ T ∷ [])) (as_row_send (row_field S) s, (as_row_send (row_field T) t, tt))
-
+-- three values, four, five
 pub three_send : (ν : Sym) (S T U : RattleType) → IsSend S → IsSend T → IsSend U → IsSend (TupleAt ν (S ∷ T ∷ U ∷ []))
 three_send ν S T U s t u =
     declared_send (type_at ν (S ∷ T ∷ U ∷ [])) (as_row_send (row_field S) s, (as_row_send (row_field T) t, (as_row_send (row_field U) u, tt)))

@@ -277,8 +277,8 @@ where
         self.control.force_flush()
     }
 
-    /// The counts of all that came so far, on any pass, with what the worker did: as they are in one
-    /// hold of the lock.
+    /// The counts of all that came so far, on any pass, with what the worker did: as they are in
+    /// one hold of the lock.
     pub fn totals(&mut self) -> Totals
         ensures counts { WasCounted result self.old.control }
         ensures unchanged { self.new ≡ self.old }

@@ -22,7 +22,7 @@ ends_by_itself unknown = false
 abbrev pub has_field : List ℕ → List NameAndValue → Bool
 has_field name fields = nat_lt 0 (length (values_of name fields))
 
--- Transfer-Encoding is of HTTP/1.1, and no Content-Length stands beside it
+-- Transfer-Encoding is of HTTP/1.1, and no Content-Length is beside it
 abbrev pub has_sure_framing : ℕ → List NameAndValue → Bool
 has_sure_framing minor fields =
     if has_field (codes "transfer-encoding") fields

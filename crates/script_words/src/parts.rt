@@ -25,8 +25,8 @@ pub fn parts_of<A: Allocator>(
     bytes.split(|byte| *byte == separator).collect(alloc)
 }
 
-/// What comes before the first byte that is `separator`, and what comes after it; `None` where there
-/// is no such byte.
+/// What comes before the first byte that is `separator`, and what comes after it; `None` where
+/// there is no such byte.
 pub fn around_first(separator: u8, text: &[u8]) -> Option<(&[u8], &[u8])>
     ensures { option_map (λ p. (p.0.now, p.1.now)) result ≡ spec.around_first separator text.now }
 {

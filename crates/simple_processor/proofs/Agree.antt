@@ -20,7 +20,7 @@ use Rattle.simple_processor.specs.AnyAccounts.{Origin, AnyAccount, account_in, o
 use Rattle.simple_processor.specs.Kept.{Agrees, IsOf, IsShared, Kept}
 use Rattle.simple_processor.proofs.Lists.{images_more}
 
--- What a step of one pass does to what lies under the lock, to what the exporter tells and to the
+-- What a step of one pass does to what the lock guards, to what the exporter tells and to the
 -- pass's account: the parts that are more, and how each total goes on.
 pub record Step (told told' : Option (List Handed)) (s s' : State) (a b : PassAccount) : Type 0 where
   pub es : List SpanEnd
@@ -141,7 +141,7 @@ kept_step origin told told' s s' holders holders' a b r k st = record {
   agrees = agrees_step origin.had told told' s s' (pass_accounts holders) (pass_accounts holders') a b (part_replaced pass_account holders (pass a) (pass b) holders' a b r refl refl) k.agrees st;
 }
 
--- what is kept while something lies under the lock
+-- what is kept while the lock guards something
 pub kept_of : {D : Type 0} (told : D → Option (List Handed)) (state : D → State) (origin : Origin) (o : Option D) (export : D) (holders : List AnyAccount) → IsShared told state origin o holders → o ≡ Some export → Kept origin (told export) (state export) holders
 kept_of told state origin o export holders inv is = subst (λ x. IsShared told state origin x holders) is inv
 

@@ -27,7 +27,7 @@ use Rattle.simple_processor.specs.contracts.shared.Shared.TheInside as shared
 encoder_send : IsSend (Encoder.the_row Heap.the_row ghosts)
 encoder_send = search (sendable, data_send, heap.crosses) depth 60 fits 20000
 
--- what lies under the lock, and the lock
+-- what the lock guards, and the lock
 export_send : (E : RattleType) → IsSend E → IsSend (ExportState.the_row E Heap.the_row ghosts)
 export_send E e =
     let fields : FieldsHave IsSend (export.the_type E Heap.the_row ghosts).parts = search (sendable, as_row_send, e, encoder_send, ledger_send, fates.the_send) depth 30 in

@@ -1,4 +1,4 @@
--- What lies under the lock of a simple processor, and what a step makes of it. (Trace SDK, Simple
+-- What the lock of a simple processor guards, and what a step makes of it. (Trace SDK, Simple
 -- processor; tickets, the ledger and counts: profile)
 use Rattle.std.specs.Prelude.{◌≡◌, ℕ, ◌+◌, ◌-◌, ◌^◌, ◌<◌, ◌≤◌, ◌==◌, Bool, true, false, List, []}
 use Rattle.std.specs.Prelude.{◌∷◌, ◌++◌, length, Option, Some, None}

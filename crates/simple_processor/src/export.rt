@@ -1,4 +1,4 @@
-//! What lies under the lock: the exporter, the ledgers and counts.
+//! What the lock guards: the exporter, the ledgers and counts.
 ghost use Rattle.std.specs.Prelude.{◌≡◌, ◌+◌, ◌-◌, ◌^◌, ◌<◌, [], ◌∷◌, length, Some, IfErr, IfOk};
 ghost use Rattle.std.specs.Prelude.{OnErr, option_map, true};
 ghost use Rattle.model_drop.specs.Dropped.{entry_of};

@@ -43,7 +43,7 @@ impl<J: Naming, E: Exporter, R, A: Allocator> Model for SimplePass<J, E, R, A> {
     ghost invariant = { λ p. p.account ≡ pass (account_in p.account) };
 }
 
-/// Writes the name of the type alone: what a pass shares lies under the lock, and isn't looked at.
+/// Writes the name of the type alone: the lock guards what a pass shares, which isn't looked at.
 impl<J: Naming, E: Exporter, R, A: Allocator> fmt::Debug for SimplePass<J, E, R, A> {
     fn fmt<W: fmt::Write>(&self, f: &mut fmt::Formatter<W>) -> fmt::Result {
         f.debug_struct("SimplePass").finish_non_exhaustive()

@@ -60,7 +60,7 @@ impl<J: Naming, E: Exporter, R, A: Allocator> Model for SimpleProcessor<J, E, R,
         × (p.passes ≡ (origin_in p.account).passes) };
 }
 
-/// Writes how many passes there are. What lies under the lock isn't looked at.
+/// Writes how many passes there are. What the lock guards isn't looked at.
 impl<J: Naming, E: Exporter, R, A: Allocator> fmt::Debug for SimpleProcessor<J, E, R, A> {
     fn fmt<W: fmt::Write>(&self, f: &mut fmt::Formatter<W>) -> fmt::Result {
         f.debug_struct("SimpleProcessor")

@@ -19,7 +19,7 @@ use std::marker::Model;
 use std::snapshot::Snapshot;
 use trace_api::Ended;
 
-/// What lies under the lock of a processor, until it is closed out, with the book of its accounts.
+/// What the lock of a processor guards until it is closed out, with the book of its accounts.
 #[derive(Drop)]
 pub(crate) struct Shared<J: Naming, E: Exporter, A: Allocator> {
     pub(crate) export: Option<ExportState<E, A>>,

@@ -6,6 +6,5 @@ mod deadlines;
 mod equal;
 mod exporter;
 mod fixture;
-mod kept;
 mod network;
 mod script_memory;

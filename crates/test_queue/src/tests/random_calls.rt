@@ -4,7 +4,7 @@ ghost use Rattle.std.specs.Prelude.{◌<◌};
 use crate::tests::driver::{Driver, into_named, into_settled};
 use crate::tests::equal::assert_equal;
 use crate::tests::plain_desk::{Accepted, NUMBER, Plain, lost_by};
-use batch_desk::{Admitted, Batch, DeskConfig, DrainedNames, Mark};
+use batch_desk::{Admitted, Batch, DeskConfig, Mark};
 use drop_ledger::Ledger;
 use otlp_span::{Entry, Reason, SpanData};
 use retry_core::Fate;
@@ -45,12 +45,11 @@ fn are_met(counts: &[u32]) -> bool {
 }
 
 /// These are the names, the newest first, of which none is left.
-fn compare_all(rt: &impl Abort, ledger: Ledger, names: &mut Vec<Entry>) {
-    let mut left = ledger;
+fn compare_all(rt: &impl Abort, mut ledger: Ledger, names: &mut Vec<Entry>) {
     for _ in 0..names.len() {
-        assert_equal(rt, left.pop(), names.pop());
+        assert_equal(rt, ledger.pop(), names.pop());
     }
-    assert_equal(rt, left.pop(), None);
+    assert_equal(rt, ledger.pop(), None);
 }
 
 /// Random numbers, the same in each run, and what they led to.
@@ -167,9 +166,9 @@ impl Pair {
     }
 
     fn drain(&mut self, rt: &impl Abort) {
-        let DrainedNames { dropped, lost } = self.desk.desk.drain_names();
-        compare_all(rt, dropped, &mut self.plain.ledger);
-        compare_all(rt, lost, &mut self.plain.lost);
+        let names = self.desk.desk.drain_names();
+        compare_all(rt, names.dropped, &mut self.plain.ledger);
+        compare_all(rt, names.lost, &mut self.plain.lost);
     }
 
     fn take(&mut self, rt: &impl Abort) -> Option<Batch> {
@@ -353,17 +352,6 @@ impl Pair {
         self.desk
             .assert_waiting(rt, self.plain.waiting.len(), is_closed);
     }
-
-    /// All names of both ledgers.
-    fn pop_all(&mut self, rt: &impl Abort, draws: &mut Draws) {
-        for _ in 0..self.plain.ledger.len() {
-            self.pop(rt, draws);
-        }
-        for _ in 0..self.plain.lost.len() {
-            self.pop_lost(rt, draws);
-        }
-        self.compare(rt, draws);
-    }
 }
 
 /// Compares the tickets of spans after the first so many, as far as there are both.
@@ -385,7 +373,8 @@ fn run_desk(rt: &impl Abort, alloc: Global, draws: &mut Draws) {
     if let Some(batch) = held {
         pair.end(rt, draws, batch);
     }
-    pair.pop_all(rt, draws);
+    pair.drain(rt);
+    pair.compare(rt, draws);
 }
 
 /// Asserts that each case was met.

@@ -1,5 +1,4 @@
-//! What the names of spans that aren't delivered are given to: a sink that keeps the newest, and
-//! one that writes lines.
+//! Sinks of names: one that keeps the newest, and one that writes lines.
 use crate::tests::equal::{assert_equal, assert_shown};
 use crate::tests::ring::assert_send;
 use crate::tests::spans::name;

@@ -15,11 +15,11 @@ use std::net::{OpenListener, TcpListener};
 use std::process::Abort;
 use std::time::Duration;
 
-/// A clock that stands.
+/// A clock whose time doesn't pass.
 #[derive(Clone, Copy)]
-struct Standing;
+struct Stopped;
 
-impl Monotonic for Standing {
+impl Monotonic for Stopped {
     fn now(&mut self) -> Option<u64> {
         Some(7)
     }
@@ -77,7 +77,7 @@ struct Dialer<'a> {
 }
 
 impl<'a> Dial for Dialer<'a> {
-    type Link = Buffered<Deadline<Talk<'a>, Standing>>;
+    type Link = Buffered<Deadline<Talk<'a>, Stopped>>;
 
     fn dial(&mut self, _host: &str, _port: u16) -> Option<Self::Link> {
         let next = self.dialed.get();
@@ -93,7 +93,7 @@ impl<'a> Dial for Dialer<'a> {
             left: b"",
             requests: self.requests,
         };
-        let time = Countdown::start(Standing, 1000, 1000)?;
+        let time = Countdown::start(Stopped, 1000, 1000)?;
         Some(Buffered::new(Deadline::new(stream, time)))
     }
 }
