@@ -50,7 +50,7 @@ pub fn exporter<R: Wait + Copy>(
     rt: R,
     alloc: Global,
     progress: &Arc<Progress>,
-) -> Result<(WatchedExporter<Replies<R>, R>, FailureWatch)> {
+) -> Result<(WatchedExporter<LinkExporter<Replies<R>>, R>, FailureWatch)> {
     let dial = Replies::new(rt, alloc, Arc::try_clone(progress)?);
     let target = Target::new(alloc, "collector", DEFAULT_PORT, DEFAULT_PATH)?;
     let exporter = LinkExporter::over(alloc, alloc, dial, target);

@@ -1,5 +1,5 @@
 -- Bytes that are given from the front of a buffer.
-use Rattle.std.proofs.Common.{◌≡◌, ◌<◌, ℕ, zero, suc, [], ◌∷◌, List, ◌++◌, take, drop, length, arith, sym, subst, min, take-append-drop, refl}
+use Rattle.std.proofs.Common.{◌≡◌, ◌<◌, ℕ, zero, suc, [], ◌∷◌, List, take, drop, length, arith, sym, subst, min, take-append-drop, refl}
 use Rattle.std.proofs.KnownBytes.{prepend_known-read}
 use Rattle.std.specs.Prelude.{Option}
 use Rattle.std.specs.Io.KnownBytes.{Consumes, IsAtEnd, Keeps, prepend_known}

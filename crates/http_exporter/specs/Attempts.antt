@@ -105,3 +105,12 @@ pub data IsAttempt {Dial Link : Type 0}
       fresh spent outcome failure
       → IsLast failure old.last_failure new.last_failure
       → IsAttempt dials shown body old new outcome
+
+-- What an attempt does to the exporter: what came of it, and of the exporter only what dials and the
+-- last failure may have changed.
+abbrev pub Attempts : {Dial Link : Type 0}
+    → (Dial → List ℕ → ℕ → Option Link → Dial → Type 0) → Shown Link
+    → Exporting Dial → List ℕ → Outcome → Exporting Dial → Type 0
+Attempts dials shown old body outcome new =
+    IsAttempt dials shown body old new outcome
+    × (new ≡ record old { dial = new.dial; last_failure = new.last_failure })

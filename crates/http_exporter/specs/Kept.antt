@@ -6,7 +6,7 @@ use Rattle.model_retry.specs.Retries.{Outcome, no_reply}
 use Rattle.http_wire.specs.declared.fault.HttpFault.{HttpFault}
 use Rattle.http_wire.specs.declared.limits.HeadLimits.{HeadLimits}
 use Rattle.http_wire.specs.Devices.{HasFailed}
-use Rattle.otlp_http.specs.Outcomes.{outcome_of, outcome_of_reply}
+use Rattle.otlp_http.specs.Outcomes.{outcome_of}
 use Rattle.otlp_http.specs.Persistence.{lasts_after}
 use Rattle.otlp_http.specs.Replies.{HttpReply, HasNoReply, IsReply}
 use Rattle.otlp_http.specs.Request.{text_for}
@@ -87,3 +87,17 @@ pub data IsKeptAttempt {Dial Link : Type 0}
       → new.link ≡ (if lasts then Some spent else None)
       → IsLast failure old.exporter.last_failure new.exporter.last_failure
       → IsKeptAttempt dials renews shown body old new outcome
+
+-- What an attempt does to the exporter: what came of it, and of the exporter only what dials, the
+-- last failure and the link may have changed.
+abbrev pub KeptAttempts : {Dial Link : Type 0}
+    → (Dial → List ℕ → ℕ → Option Link → Dial → Type 0) → (Link → Bool → Link → Type 0)
+    → Shown Link → Keeping Dial Link → List ℕ → Outcome → Keeping Dial Link → Type 0
+KeptAttempts dials renews shown old body outcome new =
+    IsKeptAttempt dials renews shown body old new outcome × (new ≡ record {
+      exporter = record old.exporter {
+        dial = new.exporter.dial;
+        last_failure = new.exporter.last_failure;
+      };
+      link = new.link;
+    })

@@ -19,6 +19,7 @@ ghost use Rattle.http_exporter.specs.Kept.{IsKeptAnswer, IsKeptPost};
 use crate::dial::Dial;
 use crate::failure::{Failure, failure_of};
 use crate::front::send;
+use crate::reports::ReportsFailure;
 use otlp_http::{
     Connection, FaultRead, FaultWrite, HeadLimits, HttpFault, LastingReply, Reply, Target,
     outcome_of, read_lasting_reply, read_reply,
@@ -323,5 +324,22 @@ impl<D: Dial, A: Allocator + Copy> Exporter for LinkExporter<D, A> {
         } }
     {
         self.attempt(body)
+    }
+}
+
+impl<D: Dial, A: Allocator + Copy> ReportsFailure for LinkExporter<D, A> {
+    ghost use Rattle.http_exporter.specs.Attempts.{shown, Attempts};
+
+    ghost attempts = { Attempts D.dials
+        (shown D.Link.contents D.Link.remaining D.Link.FaultWrite.failures D.Link.FaultRead.failures) };
+
+    ghost reported = { λ e. e.last_failure };
+
+    fn attempt(&mut self, body: &[u8]) -> Outcome {
+        LinkExporter::attempt(self, body)
+    }
+
+    fn last_failure(&self) -> Option<&Failure> {
+        LinkExporter::last_failure(self)
     }
 }

@@ -12,6 +12,7 @@ use crate::dial::Dial;
 use crate::exporter::LinkExporter;
 use crate::failure::Failure;
 use crate::kept_link::KeptLink;
+use crate::reports::ReportsFailure;
 use otlp_ids::OutOfMemory;
 use retry_core::Outcome;
 use span_exporter::Exporter;
@@ -162,5 +163,26 @@ where
         } }
     {
         self.attempt(body)
+    }
+}
+
+impl<D: Dial, A: Allocator + Copy> ReportsFailure for KeptExporter<D, A>
+where
+    D::Link: KeptLink,
+{
+    ghost use Rattle.http_exporter.specs.Attempts.{shown};
+    ghost use Rattle.http_exporter.specs.Kept.{KeptAttempts};
+
+    ghost attempts = { KeptAttempts D.dials D.Link.renews
+        (shown D.Link.contents D.Link.remaining D.Link.FaultWrite.failures D.Link.FaultRead.failures) };
+
+    ghost reported = { λ k. k.exporter.last_failure };
+
+    fn attempt(&mut self, body: &[u8]) -> Outcome {
+        KeptExporter::attempt(self, body)
+    }
+
+    fn last_failure(&self) -> Option<&Failure> {
+        self.exporter.last_failure()
     }
 }

@@ -13,6 +13,7 @@ mod failure;
 mod front;
 mod kept;
 mod kept_link;
+mod reports;
 mod tcp;
 mod watched;
 
@@ -23,5 +24,6 @@ pub use exporter::LinkExporter;
 pub use failure::{Failure, MESSAGE_ROOM, Message};
 pub use kept::KeptExporter;
 pub use kept_link::KeptLink;
+pub use reports::ReportsFailure;
 pub use tcp::{DEFAULT_EXPORT_TIMEOUT_MS, HttpExporter, Socket, TcpDial};
 pub use watched::{FailureWatch, WatchedExporter};

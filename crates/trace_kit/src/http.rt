@@ -7,7 +7,7 @@
 pub use http_exporter::{
     Buffered, Countdown, DEFAULT_EXPORT_TIMEOUT_MS, Deadline, Dial, Failure, FailureWatch,
     HttpExporter, IdleStream, KeptExporter, KeptLink, LinkExporter, MESSAGE_ROOM, Message,
-    Monotonic, RuntimeClock, Socket, TcpDial, TimedStream, WatchedExporter,
+    Monotonic, ReportsFailure, RuntimeClock, Socket, TcpDial, TimedStream, WatchedExporter,
 };
 pub use http_wire::{
     Counted, DeviceFailed, FailingCalls, FailingWire, FaultRead, FaultWrite, HeadLimits, HttpFault,

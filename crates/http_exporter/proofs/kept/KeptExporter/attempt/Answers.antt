@@ -1,4 +1,4 @@
-use Rattle.std.proofs.Common.{◌≡◌, if◌then◌else◌, refl, subst, Some, None}
+use Rattle.std.proofs.Common.{refl, subst, Some}
 use Rattle.http_exporter.specs.declared.failure.Failure.TheVariants.{NoConnection}
 use Rattle.http_exporter.specs.Kept.{GetsLink, Keeping}
 use Rattle.http_exporter.proofs.FailureLemmas.{last_kept_fails}
