@@ -1,0 +1,58 @@
+//! Requests, and their spans.
+use super::equal::assert_equal;
+use super::probe::answer;
+use std::test::Fail;
+
+/// Words of a trace and of spans.
+const WORDS: [u64; 6] = [1, 2, 3, 4, 5, 6];
+
+#[test]
+fn each_request_has_a_span_whose_parent_is_what_it_carried(rt: HostRuntime) -> Result<(), Fail> {
+    let input = b"GET /item/7?q=1 HTTP/1.1\r\nHost: h\r\nUser-Agent: t/1\r\n\
+        traceparent: 00-000000000000000000000000000000aa-00000000000000bb-01\r\n\r\n\
+        POST /fails HTTP/1.1\r\nHost: h\r\nContent-Length: 2\r\n\r\nhi";
+    let came = answer(&rt, &WORDS, input)?;
+    let spans = "GET /item/{id} 0000000000000001 of 00000000000000bb \
+        http.request.method=Text(\"GET\") url.path=Text(\"/item/7\") url.scheme=Text(\"http\") \
+        server.address=Text(\"example.org\") server.port=Int(80) \
+        network.protocol.version=Text(\"1.1\") http.route=Text(\"/item/{id}\") \
+        user_agent.original=Text(\"t/1\") http.response.status_code=Int(200)\n\
+        POST /fails 0000000000000004 error \
+        http.request.method=Text(\"POST\") url.path=Text(\"/fails\") url.scheme=Text(\"http\") \
+        server.address=Text(\"example.org\") server.port=Int(80) \
+        network.protocol.version=Text(\"1.1\") http.route=Text(\"/fails\") \
+        http.response.status_code=Int(502) error.type=Text(\"502\")\n";
+    assert_equal(&rt, came.spans.as_str(), spans);
+    assert_equal(&rt, came.given.as_str(), "0000000000000004");
+    assert_equal(&rt, came.untraced, 0);
+    let output = b"HTTP/1.1 200 OK\r\ncontent-length: 2\r\n\r\nhi\
+        HTTP/1.1 502 Bad Gateway\r\ncontent-length: 0\r\n\r\n";
+    assert_equal(&rt, came.output.as_slice(), output.as_slice());
+    Ok(())
+}
+
+#[test]
+fn a_handler_without_memory_is_answered_503(rt: HostRuntime) -> Result<(), Fail> {
+    let came = answer(&rt, &WORDS, b"BREW /memory HTTP/1.0\r\n\r\n")?;
+    let spans = "HTTP 0000000000000003 error \
+        http.request.method=Text(\"_OTHER\") url.path=Text(\"/memory\") \
+        url.scheme=Text(\"http\") server.address=Text(\"example.org\") server.port=Int(80) \
+        network.protocol.version=Text(\"1.0\") http.request.method_original=Text(\"BREW\") \
+        http.response.status_code=Int(503) error.type=Text(\"503\")\n";
+    assert_equal(&rt, came.spans.as_str(), spans);
+    let output =
+        b"HTTP/1.0 503 Service Unavailable\r\ncontent-length: 0\r\nconnection: close\r\n\r\n";
+    assert_equal(&rt, came.output.as_slice(), output.as_slice());
+    Ok(())
+}
+
+#[test]
+fn a_request_without_a_span_is_answered_and_counted(rt: HostRuntime) -> Result<(), Fail> {
+    let came = answer(&rt, &[], b"GET / HTTP/1.1\r\nHost: h\r\n\r\n")?;
+    assert_equal(&rt, came.spans.as_str(), "");
+    assert_equal(&rt, came.given.as_str(), "");
+    assert_equal(&rt, came.untraced, 1);
+    let output = b"HTTP/1.1 200 OK\r\ncontent-length: 2\r\n\r\nhi";
+    assert_equal(&rt, came.output.as_slice(), output.as_slice());
+    Ok(())
+}

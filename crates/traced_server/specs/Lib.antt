@@ -1,0 +1,5 @@
+pub mod Attributes
+pub mod Carried
+pub mod Methods
+pub mod Serves
+pub mod Spans

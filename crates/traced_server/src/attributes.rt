@@ -1,0 +1,105 @@
+//! What a server's span says of its request (Semantic Conventions, "HTTP spans", "HTTP server").
+
+ghost use Rattle.std.specs.Prelude.{◌≡◌, ◌++◌, IfOk, OnOk};
+ghost use Rattle.std.specs.Option.{option_copied};
+ghost use Rattle.http.specs.Request.{head_of};
+ghost use Rattle.span_ext.specs.Lent.{lent_pairs};
+ghost use Rattle.traced_server.specs.Attributes as spec;
+
+use crate::method::{method_value, original_method};
+use crate::start::ServerName;
+use bytes::Bytes;
+use http::{HeaderMap, HeaderValue, Request, Version};
+use http_span::{int_value, text_pair};
+use otlp_ids::OutOfMemory;
+use span_ext::{KeyValue, ValueRef};
+use std::alloc::Global;
+use std::str;
+
+/// The version of HTTP, without its name.
+fn version_text(version: Version) -> &'static str
+    ensures { result.now ≡ spec.version_text version }
+{
+    if version == Version::HTTP_10 {
+        "1.0"
+    } else {
+        "1.1"
+    }
+}
+
+/// The bytes as a text, if they are one.
+fn text_of(bytes: &[u8]) -> Option<&str>
+    ensures { option_copied result ≡ spec.text_of bytes.now }
+{
+    match str::from_utf8(bytes) {
+        Ok(text) => Some(text),
+        Err(_) => None,
+    }
+}
+
+/// What the client calls itself, if it says so in text.
+fn user_agent(headers: &HeaderMap<HeaderValue>) -> Option<&str>
+    ensures { option_copied result ≡ spec.user_agent headers.now }
+{
+    match headers.get("user-agent") {
+        Some(value) => text_of(value.as_bytes()),
+        None => None,
+    }
+}
+
+/// Adds an attribute with a text, if there is one.
+fn push_text<'a>(
+    pairs: &mut Vec<KeyValue<'a>>,
+    key: &'a str,
+    text: Option<&'a str>,
+) -> Result<(), OutOfMemory>
+    ensures { OnOk result (lent_pairs pairs.new.items
+        ≡ lent_pairs pairs.old.items ++ spec.text_pairs key.now (option_copied text.entry)) }
+{
+    let Some(text) = text else {
+        return Ok(());
+    };
+    pairs.push(text_pair(key, text))?;
+    Ok(())
+}
+
+/// The attributes that a span starts with.
+///
+/// # Errors
+///
+/// `OutOfMemory` where memory was refused.
+pub(crate) fn request_pairs<'a>(
+    alloc: Global,
+    request: &'a Request<Bytes>,
+    route: Option<&'a str>,
+    server: &ServerName<'a>,
+) -> Result<Vec<KeyValue<'a>>, OutOfMemory>
+    ensures { IfOk result (λ pairs. lent_pairs pairs.items
+        ≡ spec.request_pairs (head_of request.now) (option_copied route.entry)
+        (spec.server_view server.now)) }
+{
+    let method = request.method().as_str();
+    let mut pairs = vec![in alloc;
+        text_pair("http.request.method", method_value(method)),
+        text_pair("url.path", request.uri().path()),
+        text_pair("url.scheme", "http"),
+        text_pair("server.address", server.address),
+        KeyValue {
+            key: "server.port",
+            value: ValueRef::Int(int_value(server.port))
+        },
+        text_pair("network.protocol.version", version_text(request.version())),
+    ]?;
+    push_text(&mut pairs, "http.route", route)?;
+    push_text(
+        &mut pairs,
+        "http.request.method_original",
+        original_method(method),
+    )?;
+    push_text(
+        &mut pairs,
+        "user_agent.original",
+        user_agent(request.headers()),
+    )?;
+    Ok(pairs)
+}

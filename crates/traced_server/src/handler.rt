@@ -1,0 +1,55 @@
+//! What a program answers requests with.
+
+ghost use Rattle.std.specs.Prelude.{ℕ, List, None, OnErr, OnOk, Option, Some, ⊤};
+ghost use Rattle.std.specs.Option.{option_copied};
+ghost use Rattle.http.specs.declared.request.Request.{Request};
+ghost use Rattle.http_server.specs.declared.response.Response.{Response};
+ghost use Rattle.http_server.specs.Response.{IsBlank};
+ghost use Rattle.model_span.specs.Spans.{Context};
+ghost use Rattle.otlp_ids.specs.SpanContext.{parent_view};
+
+use bytes::Bytes;
+use http::Request;
+use http_server::Response;
+use otlp_ids::SpanContext;
+use std::alloc::AllocError;
+
+/// Answers requests, each within a span. The handler's own spans end on a `P`, which is a pass of
+/// the thread.
+pub trait Handler<P> {
+    /// What the route of a request may be, if it has one. An `impl` says so, if it can say that.
+    ghost routes: { Self → Request (List ℕ) → Option (List ℕ) → Type 0 } = { λ _ _ _. ⊤ };
+
+    /// From the first state and the first pass, with the context of the request's span, this
+    /// response answers the request, or there is none for want of memory, and the second state and
+    /// the second pass are left. An `impl` says so, if it can say that.
+    ghost answers: { Self → P → Request (List ℕ) → Option Context → Option Response → Self → P
+        → Type 0 } = { λ _ _ _ _ _ _ _. ⊤ };
+
+    /// The route that the request is answered by, if there is one: a path with names in place of
+    /// what varies in it, as `/stock/{id}` (Semantic Conventions, "http.route"). The span is named
+    /// by it, so a handler is to have few of them.
+    fn route(&self, request: &Request<Bytes>) -> Option<&str>
+        ensures { routes self.now request.now (option_copied result) };
+
+    /// Fills `response`, which comes as a 200 with no header and no body. `parent` is the context
+    /// of the request's span, for spans of the handler's own, which end on `pass`. There is none
+    /// where the request has no span for want of memory.
+    ///
+    /// # Errors
+    ///
+    /// `AllocError` where memory was refused; the request is then answered by 503. For any other
+    /// fault the handler has a response of its own.
+    fn handle(
+        &mut self,
+        request: &Request<Bytes>,
+        parent: Option<&SpanContext>,
+        pass: &mut P,
+        response: &mut Response,
+    ) -> Result<(), AllocError>
+        requires { IsBlank response.old }
+        ensures ok { OnOk result (answers self.old pass.old request.now (parent_view parent.entry)
+            (Some response.new) self.new pass.new) }
+        ensures err { OnErr result (answers self.old pass.old request.now
+            (parent_view parent.entry) None self.new pass.new) };
+}

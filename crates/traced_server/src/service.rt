@@ -1,0 +1,169 @@
+//! The service that a server calls.
+
+ghost use Rattle.std.specs.Prelude.{◌≡◌, Some, false, option_map, true};
+ghost use Rattle.http_server.specs.Response.{IsBlank};
+ghost use Rattle.model_span.specs.Starts.{HeldSpan};
+ghost use Rattle.otlp_ids.specs.SpanContext.{parent_view};
+ghost use Rattle.http_span.specs.Endings.{ending_calls, ending_view};
+ghost use Rattle.http_span.specs.Ends.{EndsAs};
+ghost use Rattle.traced_server.specs.Attributes.{ending_of, server_view};
+ghost use Rattle.traced_server.specs.Serves.{Answered, serving};
+
+use crate::handler::Handler;
+use crate::start::Tracing;
+use batch_processor::Clock;
+use bytes::Bytes;
+use http::{Request, StatusCode};
+use http_server::{Response, Service};
+use http_span::{Ending, count_untraced, end_span};
+use otlp_ids::SpanContext;
+use otlp_sampler::Sampler;
+use otlp_span::SpanData;
+use rand_core::Rng;
+use std::alloc::{AllocError, Global};
+use trace_api::{EndPass, Span};
+
+/// A handler whose requests have spans, each of which ends on the pass.
+///
+/// It never fails, so each request of a connection that `http_server` reads is answered: a handler
+/// without memory by 503, whose span says so. A request whose span takes memory that is refused is
+/// answered without one, and counted.
+#[derive(Drop)]
+pub struct TracedService<'a, S: Sampler, H, P, R, C> {
+    alloc: Global,
+    tracing: Tracing<'a, S, R, C>,
+    handler: H,
+    pass: &'a mut P,
+    untraced: u64,
+}
+
+impl<'a, S: Sampler, H, P, R, C> TracedService<'a, S, H, P, R, C> {
+    /// A service over this handler, whose spans end on the pass. It takes no memory.
+    pub fn new(
+        alloc: Global,
+        tracing: Tracing<'a, S, R, C>,
+        handler: H,
+        pass: &'a mut P,
+    ) -> TracedService<'a, S, H, P, R, C>
+        ensures same_pass { result.pass.ghost_name ≡ pass.entry.ghost_name }
+        ensures serving { serving result ≡ record {
+          tracer = tracing.entry.tracer;
+          server = server_view tracing.entry.server;
+          rng = tracing.entry.rng;
+          handler = handler;
+          pass = pass.old;
+          untraced = 0;
+        } }
+    {
+        TracedService {
+            alloc,
+            tracing,
+            handler,
+            pass,
+            untraced: 0,
+        }
+    }
+
+    /// How many requests were answered and have no span, since memory for it was refused, or the
+    /// generator gave only zeros. It stops at 2^64 - 1.
+    pub fn untraced(&self) -> u64
+        ensures { result ≡ (serving self.now).untraced }
+    {
+        self.untraced
+    }
+
+    /// The handler.
+    pub fn handler(&self) -> &H
+        ensures { result.now ≡ (serving self.now).handler }
+    {
+        &self.handler
+    }
+}
+
+/// Fills the response: as the handler does, or as 503 where it has no memory.
+fn answer<P, H: Handler<P>>(
+    handler: &mut H,
+    request: &Request<Bytes>,
+    parent: Option<&SpanContext>,
+    pass: &mut P,
+    response: &mut Response,
+)
+    requires { IsBlank response.old }
+    ensures { Answered H.answers handler.old pass.old request.now (parent_view parent.entry)
+        response.new handler.new pass.new }
+{
+    if handler.handle(request, parent, pass, response).is_ok() {
+        return;
+    }
+    response.clear();
+    response.status = StatusCode::SERVICE_UNAVAILABLE;
+}
+
+/// The context of a span, if there is one.
+fn context_of(span: &Option<Span>) -> Option<&SpanContext>
+    ensures { parent_view result ≡ option_map (λ held. held.context) span.now }
+{
+    match span {
+        Some(span) => Some(span.context()),
+        None => None,
+    }
+}
+
+/// What came of a request that is answered by this status: it is an error from 500 to 599 (Semantic
+/// Conventions, "HTTP spans", "Status").
+fn ending_of(status: StatusCode) -> Ending<'static>
+    ensures { ending_view result ≡ ending_of status }
+{
+    let error_type = if status.is_server_error() {
+        Some(status.as_str())
+    } else {
+        None
+    };
+    Ending {
+        status: Some(status.as_u16()),
+        error_type,
+    }
+}
+
+/// Ends the span of a request, if it has one. Whether it has ended.
+fn end<P: EndPass<SpanData>>(span: Option<Span>, status: StatusCode, pass: &mut P, at: u64) -> bool
+    ensures ended { result ≡ true → (held : HeldSpan) × (span ≡ Some held)
+        × EndsAs P.admits (ending_calls (ending_of status)) at held pass.old pass.new }
+    ensures untouched { result ≡ false → pass.new ≡ pass.old }
+{
+    match span {
+        Some(span) => end_span(span, ending_of(status), pass, at).is_ok(),
+        None => false,
+    }
+}
+
+impl<'a, S, H, P, R, C> Service for TracedService<'a, S, H, P, R, C>
+where
+    S: Sampler,
+    H: Handler<P>,
+    P: EndPass<SpanData>,
+    R: Rng,
+    C: Clock,
+{
+    ghost use Rattle.traced_server.specs.Serves.{Serves, serving};
+
+    ghost answers = { λ old request response new. Serves S.meaning R.stream H.routes H.answers
+        P.admits (serving old) request response (serving new) };
+
+    /// Answers a request within its span. It never fails.
+    fn call(
+        &mut self,
+        request: &Request<Bytes>,
+        response: &mut Response,
+    ) -> Result<(), AllocError> {
+        let begun = self.tracing.clock.now();
+        let route = self.handler.route(request);
+        let span = self.tracing.start_if_any(self.alloc, route, request, begun);
+        let parent = context_of(&span);
+        answer(&mut self.handler, request, parent, self.pass, response);
+        let ended = self.tracing.clock.now();
+        let has_ended = end(span, response.status, self.pass, ended);
+        self.untraced = count_untraced(self.untraced, has_ended);
+        Ok(())
+    }
+}
