@@ -1,0 +1,31 @@
+//! Spans as lines.
+use otlp_span::{SpanData, Status};
+use std::alloc::Global;
+use std::fmt::Write;
+use std::test::Fail;
+
+/// Adds the line of a span: its name, its identifier, its parent's, its status, its attributes.
+fn push_span(lines: &mut String, span: &SpanData) -> Result<(), Fail> {
+    let id = span.context().span;
+    write!(lines, "{} {:?} {id}", span.name(), span.kind())?;
+    if let Some(parent) = span.parent_span_id() {
+        write!(lines, " of {parent}")?;
+    }
+    if let Status::Error(_) = span.status() {
+        write!(lines, " error")?;
+    }
+    for (key, value) in span.attributes() {
+        write!(lines, " {key}={value:?}")?;
+    }
+    writeln!(lines)?;
+    Ok(())
+}
+
+/// A line for each span.
+pub(crate) fn lines_of(alloc: Global, spans: &[SpanData]) -> Result<String, Fail> {
+    let mut lines = String::new(alloc);
+    for span in spans {
+        push_span(&mut lines, span)?;
+    }
+    Ok(lines)
+}

@@ -1,0 +1,95 @@
+-- A request that was sent within its span.
+use Rattle.std.proofs.Common.{◌≡◌, refl, sym, ap, subst, ℕ, ◌+◌, List, [], ◌∷◌, map, Bool, true, false, if◌then◌else◌, Option, Some, None, IfSome, option_map, Result, inl, inr, ◌⊎◌}
+use Rattle.std.specs.List.{list_any}
+use Rattle.rand_core.specs.Stream.{Stream}
+use Rattle.http_exporter.specs.Attempts.{Shown}
+use Rattle.http_span.specs.Counts.{counted_requests}
+use Rattle.http_span.specs.Endings.{ending_calls}
+use Rattle.http_span.specs.Ends.{EndsAs}
+use Rattle.model_span.specs.Attributes.{Attribute}
+use Rattle.model_span.specs.Sampling.{SamplerMeaning}
+use Rattle.model_span.specs.Spans.{Call, Context, SpanData, is_end, set_attribute}
+use Rattle.model_span.specs.Starts.{HeldSpan, StartedSpan, held_span}
+use Rattle.otlp_http.specs.Address.{Address}
+use Rattle.otlp_http.specs.Replies.{HttpReply}
+use Rattle.trace_api.specs.Starts.{tracer_view}
+use Rattle.trace_api.specs.declared.pass.Ended.{Ended}
+use Rattle.trace_context.specs.Carriers.{Field}
+use Rattle.traced_client.specs.declared.fault.GetFault.{GetFault}
+use Rattle.traced_client.specs.Exchanges.{IsAsked}
+use Rattle.traced_client.specs.Gets.{CarriesOwn, ClientWith, Gets, IsTraced, IsUntraced, Starts}
+use Rattle.traced_client.specs.Spans.{HasStarted, carried_by, ending_of, request_calls, request_pairs}
+
+-- no attribute is an end
+none-ends : (pairs : List Attribute) → list_any is_end (map set_attribute pairs) ≡ false
+none-ends [] = refl
+none-ends (p ∷ pairs) = none-ends pairs
+
+-- a span keeps the context that it started with
+context-is : (s : StartedSpan) (calls : List Call) (held : HeldSpan) → held ≡ held_span s calls → held.context ≡ s.start.context
+unfolding held_span
+context-is s calls held h = ap (λ (x : HeldSpan). x.context) h
+
+module _ {S R D Link P : Type 0} (meaning : S → SamplerMeaning) (stream : R → Stream) (dials : D → List ℕ → ℕ → Option Link → D → Type 0) (shown : Shown Link) (admits : P → SpanData → Ended → P → Type 0) where
+  -- the span of a request has started
+  starts-is : (old new : ClientWith S R D) (parent : Option Context) (address : Address) (begun : ℕ) (held : HeldSpan)
+      → (h : HasStarted (tracer_view meaning old.tracer) (stream old.rng) (stream new.rng) parent address begun held)
+      → Starts meaning stream dials shown admits old parent h.s new
+  starts-is old new parent address begun held h = record { begun = begun; started = h.started; spent = h.spent }
+
+  -- it carries that span's context
+  carries-own : (old new : ClientWith S R D) (parent : Option Context) (address : Address) (begun : ℕ) (span : Option HeldSpan)
+      → IfSome span (HasStarted (tracer_view meaning old.tracer) (stream old.rng) (stream new.rng) parent address begun)
+      → IfSome (option_map (λ (held : HeldSpan). held.context) span) (CarriesOwn meaning stream dials shown admits old parent new)
+  carries-own old new parent address begun None h = tt
+  carries-own old new parent address begun (Some held) h =
+      (h.s, starts-is old new parent address begun held h, context-is h.s (request_calls address) held h.held)
+
+  -- it has ended
+  traced-is : (old new : ClientWith S R D) (parent : Option Context) (address : Address) (before after : P) (result : Result HttpReply GetFault) (begun at : ℕ) (held : HeldSpan)
+      → HasStarted (tracer_view meaning old.tracer) (stream old.rng) (stream new.rng) parent address begun held
+      → EndsAs admits (ending_calls (ending_of result)) at held before after
+      → new.untraced ≡ old.untraced
+      → IsTraced meaning stream dials shown admits old parent address (Some held.context) before result new after
+  traced-is old new parent address before after result begun at held h e n = record {
+    s = h.s;
+    starts = starts-is old new parent address begun held h;
+    is_carried = ap Some (context-is h.s (request_calls address) held h.held);
+    ended = at;
+    handed = e.value h.s (request_calls address) h.held (none-ends (request_pairs address));
+    untraced = n;
+  }
+
+  -- by whether it has ended
+  pub gets : (old new : ClientWith S R D) (parent : Option Context) (address : Address) (before after : P) (result : Result HttpReply GetFault) (begun at : ℕ) (span : Option HeldSpan) (fields : List Field) (has_ended : Bool)
+      → IfSome span (HasStarted (tracer_view meaning old.tracer) (stream old.rng) (stream new.rng) parent address begun)
+      → fields ≡ carried_by (option_map (λ (held : HeldSpan). held.context) span)
+      → IsAsked dials shown address fields old.dial new.dial result
+      → (has_ended ≡ true → (held : HeldSpan) × (span ≡ Some held) × EndsAs admits (ending_calls (ending_of result)) at held before after)
+      → (has_ended ≡ false → after ≡ before)
+      → new.untraced ≡ (if has_ended then old.untraced else counted_requests (old.untraced + 1))
+      → new.tracer ≡ old.tracer
+      → Gets meaning stream dials shown admits old parent address before result new after
+  gets old new parent address before after result begun at span fields has_ended started carried asked ends none counted tracer = record {
+    context = option_map (λ (held : HeldSpan). held.context) span;
+    asked = subst (λ f. IsAsked dials shown address f old.dial new.dial result) carried asked;
+    traced = by has_ended ends none counted;
+    tracer = tracer;
+  }
+    where
+      with-span : (x : Option HeldSpan) (held : HeldSpan) → x ≡ Some held
+          → IfSome x (HasStarted (tracer_view meaning old.tracer) (stream old.rng) (stream new.rng) parent address begun)
+          → EndsAs admits (ending_calls (ending_of result)) at held before after → new.untraced ≡ old.untraced
+          → IsTraced meaning stream dials shown admits old parent address (option_map (λ (held : HeldSpan). held.context) x) before result new after
+      with-span None held h s e n = cc
+      with-span (Some y) held h s e n =
+          let same : y ≡ held = cc in
+          traced-is old new parent address before after result begun at y s (subst (λ z. EndsAs admits (ending_calls (ending_of result)) at z before after) (sym same) e) n
+
+      by : (b : Bool) → (b ≡ true → (held : HeldSpan) × (span ≡ Some held) × EndsAs admits (ending_calls (ending_of result)) at held before after)
+          → (b ≡ false → after ≡ before)
+          → new.untraced ≡ (if b then old.untraced else counted_requests (old.untraced + 1))
+          → IsTraced meaning stream dials shown admits old parent address (option_map (λ (held : HeldSpan). held.context) span) before result new after
+          ⊎ IsUntraced meaning stream dials shown admits old parent (option_map (λ (held : HeldSpan). held.context) span) before new after
+      by true e u n = let h = e refl in inl (with-span span h.0 h.1 started h.2 n)
+      by false e u n = inr (record { carried = carries-own old new parent address begun span started; untouched = u refl; untraced = n })

@@ -1,0 +1,3 @@
+mod Started
+mod Sent
+mod Got

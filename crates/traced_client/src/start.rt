@@ -1,0 +1,166 @@
+//! How a request begins: its span, and the fields that carry the span's context.
+
+ghost use Rattle.std.specs.Prelude.{◌≡◌, IfOk, IfSome, option_map, string_bytes};
+ghost use Rattle.otlp_ids.specs.SpanContext.{context_view, parent_view};
+ghost use Rattle.span_ext.specs.Lent.{lent_pairs};
+ghost use Rattle.trace_api.specs.Starts.{tracer_view};
+ghost use Rattle.trace_context.specs.Carriers.{outgoing};
+ghost use Rattle.trace_context.specs.Pairs.{fields_view};
+ghost use Rattle.traced_client.specs.Spans as spec;
+ghost use Rattle.traced_client.specs.Spans.{HasStarted, StartsClient, carried_by};
+
+use crate::request::Field;
+use http_span::{int_value, text_pair};
+use itoa::Buffer;
+use otlp_http::Target;
+use otlp_ids::{OutOfMemory, SpanContext};
+use otlp_sampler::Sampler;
+use otlp_span::Kind;
+use rand_core::Rng;
+use span_ext::{KeyValue, SpanRequest, ValueRef, start_span};
+use std::alloc::Global;
+use trace_api::{Span, StartFault, Tracer};
+use trace_context::inject;
+
+/// How a request begins.
+#[derive(Drop)]
+pub(crate) struct Begun {
+    /// Its span, if it has one.
+    pub(crate) span: Option<Span>,
+    /// The fields that carry the span's context.
+    pub(crate) fields: Vec<Field>,
+}
+
+/// Where a request goes, as one text (RFC 3986, section 3).
+fn full_url(alloc: Global, target: &Target) -> Result<String, OutOfMemory>
+    ensures { IfOk result (λ url. string_bytes url ≡ spec.full_url target.now) }
+{
+    let mut port = Buffer::new();
+    let port = port.format(target.port());
+    let mut url = String::from_str(alloc, "http://")?;
+    url.push_str(target.host())?;
+    url.push_str(":")?;
+    url.push_str(port)?;
+    url.push_str(target.path())?;
+    Ok(url)
+}
+
+/// The attributes that a span starts with (Semantic Conventions, "HTTP spans", "HTTP client").
+fn request_pairs<'a>(target: &'a Target, url: &'a str) -> [KeyValue<'a>; 5]
+    requires { url.now ≡ spec.full_url target.now }
+    ensures { lent_pairs result ≡ spec.request_pairs target.now }
+{
+    [
+        text_pair("http.request.method", "GET"),
+        text_pair("server.address", target.host()),
+        KeyValue {
+            key: "server.port",
+            value: ValueRef::Int(int_value(target.port())),
+        },
+        text_pair("url.full", url),
+        text_pair("network.protocol.version", "1.1"),
+    ]
+}
+
+/// Starts a span of the kind client, with these attributes.
+fn start_with<S: Sampler, R: Rng>(
+    alloc: Global,
+    tracer: &Tracer<'_, S>,
+    rng: &mut R,
+    parent: Option<&SpanContext>,
+    attributes: &[KeyValue<'_>],
+    at: u64,
+) -> Result<Span, StartFault>
+    ensures { IfOk result (StartsClient (tracer_view S.meaning tracer.now)
+        (R.stream rng.old) (R.stream rng.new) (parent_view parent.entry)
+        (lent_pairs attributes.now) at) }
+{
+    let asked = SpanRequest {
+        name: "GET",
+        kind: Kind::Client,
+        parent,
+        attributes,
+        links: &[],
+    };
+    start_span(tracer, alloc, rng, &asked, at)
+}
+
+/// Starts the span of a GET of the target, at a moment in nanoseconds since 1970.
+///
+/// # Errors
+///
+/// `NoRandomness` as of `Tracer::start`, `OutOfMemory` where memory was refused.
+fn start<S: Sampler, R: Rng>(
+    alloc: Global,
+    tracer: &Tracer<'_, S>,
+    rng: &mut R,
+    parent: Option<&SpanContext>,
+    target: &Target,
+    at: u64,
+) -> Result<Span, StartFault>
+    ensures { IfOk result (HasStarted (tracer_view S.meaning tracer.now)
+        (R.stream rng.old) (R.stream rng.new) (parent_view parent.entry) target.now at) }
+{
+    let url = full_url(alloc, target)?;
+    let attributes = request_pairs(target, &url);
+    start_with(alloc, tracer, rng, parent, &attributes, at)
+}
+
+/// The fields that carry a context.
+fn fields_of(alloc: Global, context: &SpanContext) -> Result<Vec<Field>, OutOfMemory>
+    ensures { IfOk result (λ fields. fields_view fields.items
+        ≡ outgoing (context_view context.now)) }
+{
+    let mut fields = Vec::new(alloc);
+    inject(alloc, context, &mut fields)?;
+    Ok(fields)
+}
+
+/// Starts the span, and makes the fields that carry its context.
+///
+/// # Errors
+///
+/// As of [`start`].
+fn start_carried<S: Sampler, R: Rng>(
+    alloc: Global,
+    tracer: &Tracer<'_, S>,
+    rng: &mut R,
+    parent: Option<&SpanContext>,
+    target: &Target,
+    at: u64,
+) -> Result<(Span, Vec<Field>), StartFault>
+    ensures started { IfOk result (λ made. HasStarted (tracer_view S.meaning tracer.now)
+        (R.stream rng.old) (R.stream rng.new) (parent_view parent.entry) target.now at made.0) }
+    ensures carried { IfOk result (λ made. fields_view made.1.items ≡ outgoing made.0.context) }
+{
+    let span = start(alloc, tracer, rng, parent, target, at)?;
+    let fields = fields_of(alloc, span.context())?;
+    Ok((span, fields))
+}
+
+/// Begins a GET of the target, at a moment in nanoseconds since 1970. It has a span, a child of the
+/// parent, if there is memory for that and for the fields, and the generator gives identifiers.
+pub(crate) fn begin<S: Sampler, R: Rng>(
+    alloc: Global,
+    tracer: &Tracer<'_, S>,
+    rng: &mut R,
+    parent: Option<&SpanContext>,
+    target: &Target,
+    at: u64,
+) -> Begun
+    ensures started { IfSome result.span (HasStarted (tracer_view S.meaning tracer.now)
+        (R.stream rng.old) (R.stream rng.new) (parent_view parent.entry) target.now at) }
+    ensures carried { fields_view result.fields.items
+        ≡ carried_by (option_map (λ held. held.context) result.span) }
+{
+    match start_carried(alloc, tracer, rng, parent, target, at) {
+        Ok((span, fields)) => Begun {
+            span: Some(span),
+            fields,
+        },
+        Err(_) => Begun {
+            span: None,
+            fields: Vec::new(alloc),
+        },
+    }
+}
