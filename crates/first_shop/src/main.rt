@@ -1,0 +1,141 @@
+//! Two services that share traces: a made-up shop whose `GET /cart` asks its other service's
+//! `GET /stock/ID`. Each has four threads and a port of its own on loopback, and both export to a
+//! collector in the same process. Prints one trace, which both have spans of, and what became of
+//! all spans of either.
+//!
+//! Without arguments it makes its own requests, and prints the same in each run. With a number it
+//! prints its ports, and ends after so many requests of others to the first service.
+#![tactic(auto)]
+
+mod cart;
+mod clock;
+mod collector;
+mod customer;
+mod report;
+mod site;
+mod stock;
+
+use anyhow::{Context, Result};
+use cart::CartWork;
+use clock::StepClock;
+use collector::Collector;
+use report::{Balance, write_report};
+use site::{Site, THREADS, config};
+use std::alloc::Global;
+use std::env;
+use std::net::{Net, TcpListener, TcpStream};
+use std::random::RandomSource;
+use std::sync::{Arc, Wait};
+use std::thread::{self, Threads};
+use std::time::{Clock, Duration};
+use stock::StockWork;
+use trace_kit::http::{DEFAULT_EXPORT_TIMEOUT_MS, DEFAULT_PATH, HttpExporter, Target};
+use trace_kit::processor::{Done, Work, serve};
+use trace_kit::queue::{DEFAULT_NAMES, NewestNames};
+
+/// How many carts the program asks for itself.
+const CARTS: u64 = 6;
+
+/// How often it looks whether enough requests came, and for how long, in milliseconds.
+const LOOKS: u64 = 12_000;
+
+const LOOK_MS: u64 = 10;
+
+/// Serves a service with its threads, and gives what became of its spans.
+fn run<R, W>(rt: R, alloc: Global, collector: u16, site: &Site<R>, work: &W) -> Result<Balance>
+where
+    R: Net<Listener = TcpListener, Stream = TcpStream>,
+    R: Threads + Wait + RandomSource + Clock + Copy + Send + Sync + 'static,
+    W: Work<Output = Result<()>> + Sync,
+{
+    let target = Target::new(alloc, "127.0.0.1", collector, DEFAULT_PATH)?;
+    let exporter = HttpExporter::new(alloc, rt, target, DEFAULT_EXPORT_TIMEOUT_MS);
+    let names = NewestNames::new(alloc, DEFAULT_NAMES)?;
+    let Done { outputs, served } = serve(rt, alloc, exporter, names, config(), THREADS, work)?;
+    for output in outputs {
+        output?;
+    }
+    Ok(Balance {
+        name: site.name().to_string(alloc)?,
+        answered: site.answered(),
+        untraced: site.untraced(),
+        ended: site.ended(),
+        totals: served.desk.totals(),
+    })
+}
+
+/// Asks for each service's health, and for carts, one after the other.
+fn ask<R>(rt: &R, alloc: Global, cart: u16, stock: u16) -> Result<()>
+where
+    R: Net<Listener = TcpListener, Stream = TcpStream>,
+{
+    customer::get(rt, alloc, stock, "/healthz")?;
+    for _ in 0..CARTS {
+        customer::get(rt, alloc, cart, "/cart")?;
+    }
+    customer::get(rt, alloc, cart, "/healthz")?;
+    Ok(())
+}
+
+/// Waits until so many requests were answered, for two minutes at most.
+fn wait_for<R: Clock>(rt: &R, site: &Site<R>, requests: u64) {
+    for _ in 0..LOOKS {
+        if site.answered() >= requests {
+            return;
+        }
+        let _ = thread::sleep(rt, Duration::from_millis(LOOK_MS));
+    }
+}
+
+/// How many requests of others are waited for, if the program was told so.
+fn asked_for(rt: &HostRuntime) -> Result<Option<u64>> {
+    let Some(word) = env::args(rt)?.nth(1) else {
+        return Ok(None);
+    };
+    let requests = word
+        .parse::<u64>()
+        .ok()
+        .context("the argument is a number of requests")?;
+    Ok(Some(requests))
+}
+
+fn main(rt: HostRuntime) -> Result<()> {
+    let alloc = rt.alloc();
+    let requests = asked_for(&rt)?;
+    let collector = Collector::start(&rt, alloc)?;
+    let to = collector.port();
+    let clock = Arc::new(alloc, StepClock::new())?;
+    let stock = Site::listen(rt, alloc, "stock", Arc::try_clone(&clock)?)?;
+    let stock = Arc::new(alloc, stock)?;
+    let cart = Arc::new(alloc, Site::listen(rt, alloc, "cart", clock)?)?;
+
+    let site = Arc::try_clone(&stock)?;
+    let stock_thread = thread::spawn(&rt, move || {
+        let work = StockWork {
+            site: Arc::try_clone(&site)?,
+        };
+        run(rt, alloc, to, &site, &work)
+    })?;
+    let (site, port) = (Arc::try_clone(&cart)?, stock.port());
+    let cart_thread = thread::spawn(&rt, move || {
+        let work = CartWork {
+            site: Arc::try_clone(&site)?,
+            stock: port,
+        };
+        run(rt, alloc, to, &site, &work)
+    })?;
+
+    match requests {
+        None => ask(&rt, alloc, cart.port(), stock.port())?,
+        Some(requests) => {
+            println!(rt; "cart {} stock {}", cart.port(), stock.port())?;
+            wait_for(&rt, &cart, requests);
+        }
+    }
+    cart.stop()?;
+    let cart = cart_thread.join(&rt)?;
+    stock.stop()?;
+    let stock = stock_thread.join(&rt)?;
+    let bodies = collector.stop(&rt)?;
+    write_report(&mut rt.stdout(), alloc, &bodies, &[cart, stock]).context("not all was printed")
+}
