@@ -11,5 +11,6 @@ mod resources;
 mod responses;
 mod rows;
 mod samples;
+mod standard_cases;
 mod trees;
 mod wire;
