@@ -184,7 +184,7 @@ where
 }
 
 /// The provider of a thread's spans.
-fn new_provider(alloc: Global) -> Result<Provider<AlwaysOn>> {
+pub fn new_provider(alloc: Global) -> Result<Provider<AlwaysOn>> {
     let resource = Arc::new(alloc, Resource::new(alloc, Vec::new(alloc)))?;
     Ok(Provider::new(AlwaysOn, resource, SpanLimits::default()))
 }

@@ -6,8 +6,10 @@
 //! thread for each span, and of ends the middle one, the one that a thousandth took longer than,
 //! and the longest; beside them a desk under a plain mutex, how long its lock is held round what
 //! is done with whole batches, what spans take that find a queue full, the processor time of an
-//! idle worker, a ring of items beside a deque, and the calls that set an attribute. It prints too
-//! how many spans are delivered in a second by a service that posts them over loopback.
+//! idle worker, a ring of items beside a deque, the calls that set an attribute, the field of a
+//! context, and a request with a span beside one without. It prints too how long an export of a
+//! small body takes over loopback, and how many spans are delivered in a second by a service that
+//! posts them there: over a new connection each, and over a kept one.
 //!
 //! With a number of rounds as its argument it prints of the bodies how long a span takes, in
 //! nanoseconds: to be grouped, to be encoded, as a part of a body that is copied, and to be read;
@@ -22,6 +24,7 @@ mod figures;
 mod load;
 mod plain;
 mod posts;
+mod requests;
 mod rings;
 mod rows;
 mod tables;

@@ -1,7 +1,7 @@
 //! Lines of what was measured.
 use crate::figures::{Row, Spread};
 use crate::load::Load;
-use crate::posts::Posts;
+use crate::posts::{Posts, Way};
 use crate::rings::Took;
 use crate::threads::Counts;
 use std::io::{self, Write};
@@ -97,17 +97,47 @@ pub fn write_refused<W: Write>(
 }
 
 /// Writes how many spans were delivered in a second, and what became of all.
-pub fn write_posts<W: Write>(output: &mut W, posts: Posts) -> io::Result<()> {
+pub fn write_posts<W: Write>(output: &mut W, way: Way, posts: Posts) -> io::Result<()> {
+    let how = way.words();
     let (rate, ended, unnamed) = (posts.a_second, posts.ended, posts.unnamed());
     let counts = posts.counts;
     let (handed, lost) = (counts.handed, counts.lost);
     let (dropped, left) = (counts.dropped, counts.left);
+    write!(output, "{rate} spans a second delivered over {how}, ")?;
     write!(
         output,
-        "{rate} spans a second delivered by HTTP, {ended} ended, "
+        "{} ns of processor time each, {ended} ended, ",
+        posts.cpu
     )?;
     write!(output, "{handed} handed, {lost} lost, {dropped} dropped, ")?;
     writeln!(output, "{left} left, {unnamed} unnamed")
+}
+
+/// Writes how long the field of a context takes to be written and to be read.
+pub fn write_headers<W: Write>(output: &mut W, written: u64, read: u64) -> io::Result<()> {
+    writeln!(
+        output,
+        "a traceparent: written {written} ns, read {read} ns"
+    )
+}
+
+/// Writes how long a request takes without a span and with one.
+pub fn write_requests<W: Write>(output: &mut W, plain: u64, traced: u64) -> io::Result<()> {
+    writeln!(
+        output,
+        "a request: {plain} ns without a span, {traced} ns with one"
+    )
+}
+
+/// Writes how long an export of a small body took, and how many weren't delivered.
+pub fn write_exports<W: Write>(
+    output: &mut W,
+    way: Way,
+    nanos: u64,
+    failed: u64,
+) -> io::Result<()> {
+    let how = way.words();
+    writeln!(output, "an export over {how}: {nanos} ns ({failed} failed)")
 }
 
 /// Writes how long the calls take that set an attribute.

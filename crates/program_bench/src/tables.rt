@@ -5,6 +5,7 @@ use crate::figures::{HoldTimes, Rounds, Spread, median, nanos_since};
 use crate::load::{Load, end_spans};
 use crate::plain::PlainPass;
 use crate::posts::print_posts;
+use crate::requests::print_requests;
 use crate::rings::{time_deque, time_full_ring, time_ring};
 use crate::rows::{
     write_counts, write_full, write_hold, write_load, write_plain, write_refused, write_row,
@@ -293,6 +294,7 @@ where
         print_attributes(rt, alloc, output, attributes)?;
     }
     print_calls(&rt, alloc, output)?;
+    print_requests(rt, alloc, output)?;
     print_posts(rt, alloc, output)?;
     let share = idle_share(rt, alloc, CountingExporter::new(), WATCH_MS)?;
     writeln!(output, "an idle worker: {share} millionths of a processor")?;
