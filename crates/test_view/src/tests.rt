@@ -1,0 +1,5 @@
+//! The tests, a module for each crate, and what they share.
+
+mod equal;
+mod store;
+mod text;

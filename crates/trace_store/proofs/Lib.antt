@@ -1,0 +1,4 @@
+pub mod Puts
+pub mod Sums
+pub mod Evictions
+pub mod PartLemmas

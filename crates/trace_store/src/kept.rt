@@ -1,0 +1,179 @@
+//! Traces, and what is counted of them.
+
+ghost use Rattle.std.specs.Prelude.{◌≡◌, ◌+◌, ◌≤◌, ◌<◌, ◌↔◌, ◌++◌, ◌∷◌, [], ℕ, List, IfOk, IsTrue};
+ghost use Rattle.std.specs.Prelude.{OnErr, OnOk, length};
+ghost use Rattle.trace_store.specs.Stores.{AreNewest, AreWithin, IsAccounted};
+ghost use Rattle.std.specs.List.Sorted.{IsPermutation};
+ghost use Rattle.trace_store.specs.Traces.{span_count, with_parts, with_spans};
+
+use crate::parts::{Part, add_all, byte_total, span_total};
+use crate::size::{SpanSize, known_size, total_size};
+use crate::traces::{Traces, add, take_oldest};
+use lru::LruCache;
+use std::alloc::{AllocError, Allocator};
+use std::collections::LinkedList;
+use std::hash::BuildHasher;
+use std::marker::Model;
+
+/// How many spans are received at most.
+const MOST: u64 = (1 << 63) - 1;
+
+/// How much is kept at most.
+#[derive(Debug, Clone, Copy, PartialEq, Eq)]
+pub struct Limits {
+    /// How many spans.
+    pub max_spans: u64,
+    /// How many bytes their sizes come to.
+    pub max_bytes: u64,
+}
+
+/// Traces, and what is counted of them.
+#[derive(Drop)]
+pub(crate) struct Kept<S: SpanSize, H: BuildHasher, A: Allocator> {
+    traces: Traces<S, H, A>,
+    bytes: u64,
+    received: u64,
+    evicted: u64,
+}
+
+impl<S: SpanSize, H: BuildHasher, A: Allocator> Model for Kept<S, H, A> {
+    ghost use Rattle.std.specs.Prelude.{◌≡◌, ◌+◌, ◌<◌, ◌^◌};
+    ghost use Rattle.trace_store.specs.Stores as model;
+    ghost use Rattle.trace_store.specs.Traces.{byte_count, span_count};
+
+    ghost Value = { model.Kept S };
+
+    ghost view = { λ k. record {
+      traces = k.traces.entries;
+      received = k.received;
+      evicted = k.evicted;
+    } };
+
+    ghost invariant = { λ k. (k.received ≡ span_count k.traces.entries + k.evicted)
+        × (k.received < 2 ^ 63)
+        × (k.bytes ≡ byte_count S.size_of k.traces.entries) };
+}
+
+impl<S: SpanSize + Drop, H: BuildHasher + Drop, A: Allocator + Copy> Kept<S, H, A> {
+    /// No trace.
+    pub(crate) fn new(alloc: A, hasher: H) -> Result<Kept<S, H, A>, AllocError>
+        ensures { IfOk result (λ kept. kept ≡ record { traces = []; received = 0; evicted = 0 }) }
+    {
+        let traces = LruCache::unbounded_with_hasher(alloc, hasher)?;
+        Ok(Kept {
+            traces,
+            bytes: 0,
+            received: 0,
+            evicted: 0,
+        })
+    }
+
+    /// The traces.
+    pub(crate) fn traces(&self) -> &Traces<S, H, A>
+        ensures { result.now.entries ≡ self.now.traces }
+    {
+        &self.traces
+    }
+
+    /// How many spans were received.
+    pub(crate) fn received(&self) -> u64
+        ensures { result ≡ self.now.received }
+    {
+        self.received
+    }
+
+    /// How many of them were evicted.
+    pub(crate) fn evicted(&self) -> u64
+        ensures { result ≡ self.now.evicted }
+    {
+        self.evicted
+    }
+
+    /// Whether the traces are within limits.
+    fn is_within(&self, limits: Limits) -> bool
+        ensures value { IsTrue result
+            ↔ AreWithin S.size_of limits.max_spans limits.max_bytes self.now.traces }
+        ensures accounted { IsAccounted self.now }
+    {
+        self.received - self.evicted <= limits.max_spans && self.bytes <= limits.max_bytes
+    }
+
+    /// Receives spans of a trace, which is then the newest.
+    pub(crate) fn insert(&mut self, trace: u128, spans: LinkedList<S, A>) -> Result<(), AllocError>
+        ensures ok { OnOk result (self.new ≡ record self.old {
+          traces = with_spans self.old.traces trace spans;
+          received = self.old.received + length spans;
+        }) }
+        ensures err { OnErr result (self.new ≡ self.old) }
+    {
+        let count = spans.len() as u64;
+        if MOST - self.received < count {
+            return Err(AllocError);
+        }
+        let Some(size) = total_size(&spans) else {
+            return Err(AllocError);
+        };
+        let Some(bytes) = self.bytes.checked_add(size) else {
+            return Err(AllocError);
+        };
+        add(&mut self.traces, trace, spans)?;
+        self.bytes = bytes;
+        self.received += count;
+        Ok(())
+    }
+
+    /// Receives spans of several traces together: all or none.
+    pub(crate) fn insert_all(&mut self, parts: Vec<Part<S, A>, A>) -> Result<(), AllocError>
+        ensures ok { OnOk result ((order : List (ℕ × List S)) × IsPermutation parts.items order
+            × (self.new ≡ record self.old {
+              traces = with_parts self.old.traces order;
+              received = self.old.received + span_count parts.items;
+            })) }
+        ensures err { OnErr result (self.new ≡ self.old) }
+    {
+        let Some(count) = span_total(&parts) else {
+            return Err(AllocError);
+        };
+        if MOST - self.received < count {
+            return Err(AllocError);
+        }
+        let Some(size) = byte_total(&parts) else {
+            return Err(AllocError);
+        };
+        let Some(bytes) = self.bytes.checked_add(size) else {
+            return Err(AllocError);
+        };
+        add_all(&mut self.traces, parts)?;
+        self.bytes = bytes;
+        self.received += count;
+        Ok(())
+    }
+
+    /// Evicts the oldest trace.
+    fn evict_oldest(&mut self)
+        requires { 0 < length self.old.traces }
+        ensures received { self.new.received ≡ self.old.received }
+        ensures oldest { (oldest : ℕ × List S)
+            × (self.old.traces ≡ self.new.traces ++ oldest ∷ [])
+            × (self.new.evicted ≡ self.old.evicted + length oldest.1) }
+    {
+        let Some(spans) = take_oldest(&mut self.traces) else {
+            return;
+        };
+        self.evicted += spans.len() as u64;
+        self.bytes -= known_size(&spans);
+    }
+
+    /// Evicts the oldest traces until the others are within limits.
+    pub(crate) fn evict(&mut self, limits: Limits)
+        ensures newest { AreNewest S.size_of limits.max_spans limits.max_bytes
+            self.old.traces self.new.traces }
+        ensures within { AreWithin S.size_of limits.max_spans limits.max_bytes self.new.traces }
+        ensures received { self.new.received ≡ self.old.received }
+        ensures accounted { IsAccounted self.new }
+    {
+        while !self.is_within(limits) {
+            self.evict_oldest();
+        }
+    }
+}

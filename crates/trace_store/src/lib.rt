@@ -1,0 +1,18 @@
+//! The newest traces of those that were received, within bounds.
+//!
+//! A `TraceStore` keeps spans by the trace that they belong to, whatever a span is. It holds so
+//! many spans at most, and so many bytes: where there are more, the trace that got a span least
+//! recently goes whole, and its spans are counted. So each span that was received is kept or
+//! counted as evicted, at every moment.
+#![tactic(auto)]
+
+mod kept;
+mod parts;
+mod size;
+mod store;
+mod traces;
+
+pub use kept::Limits;
+pub use parts::Part;
+pub use size::SpanSize;
+pub use store::TraceStore;
