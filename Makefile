@@ -25,6 +25,7 @@ test: docs ## The gate: every proof from nothing, wrong bodies, tests and runs (
 	tools/collector-runs
 	tools/demo-runs
 	tools/export-runs
+	tools/shop-runs
 	tools/hostile-bodies
 	tools/wont-compile
 
