@@ -3,8 +3,7 @@
 //! a caller sees it: types, the names of faults, refused memory. Which bytes mean which spans
 //! is compared by runs of the programs: stored ones, in examples/runs, of those that are written,
 //! and those of tools/hostile-bodies of those that are read. And the tree that `trace_tree` makes
-//! of the spans that were read; the texts of `trace_context` and `resource_text`; and the allocator
-//! of `test_support`.
+//! of the spans that were read; the texts of `resource_text`; and the allocator of `test_support`.
 #![tactic(auto)]
 
 #[cfg(test)]

@@ -2,8 +2,6 @@
 
 mod allocator;
 mod bodies;
-mod carriers;
-mod contexts;
 mod equal;
 mod exports;
 mod requests;
@@ -11,6 +9,5 @@ mod resources;
 mod responses;
 mod rows;
 mod samples;
-mod standard_cases;
 mod trees;
 mod wire;
