@@ -1,6 +1,7 @@
-//! Tests of services whose requests have spans, over public calls alone. The crate has no items of
-//! its own.
+//! Worked examples and tests of services whose requests have spans. The tests go by public calls
+//! alone.
 #![tactic(auto)]
 
 #[cfg(test)]
 mod tests;
+pub mod worked;
