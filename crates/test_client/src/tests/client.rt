@@ -124,7 +124,8 @@ fn each_request_has_a_span_of_its_own_whose_context_it_carries(
 /// How the line of each span begins that is an error.
 const BEGINS: &str = "GET Client 0000000000000003 error http.request.method=Text(\"GET\") \
     server.address=Text(\"shop.example\") server.port=Int(8080) \
-    url.full=Text(\"http://shop.example:8080/items?page=2\") network.protocol.version=Text(\"1.1\")";
+    url.full=Text(\"http://shop.example:8080/items?page=2\") \
+    network.protocol.version=Text(\"1.1\")";
 
 /// What a far side does, what the client answers, and how the line of the span ends.
 const ERRORS: &[(Does, &str, &str)] = &[

@@ -59,7 +59,7 @@ impl<P> Handler<P> for Probe {
 pub(crate) struct Came {
     /// What it wrote.
     pub(crate) output: Vec<u8>,
-    /// A line for each span: its name, its identifier, its parent's, its status, and its attributes.
+    /// A line for each span: its name, its identifier and its parent's, its status, its attributes.
     pub(crate) spans: String,
     /// The span of the context that the handler was given last.
     pub(crate) given: String,
