@@ -5,7 +5,7 @@ use Rattle.std.proofs.lemmas.List.{append-nil, append_assoc}
 use Rattle.model_drop.specs.Dropped.{Entry}
 use Rattle.model_processor.specs.Passes.{PassAccount, after_drain}
 use Rattle.name_sink.specs.Named.{Named, no_names, with_dropped, with_lost}
-use Rattle.batch_service.specs.Working.{GainsNames, GivesNames, dropped_names, lost_names}
+use Rattle.batch_service.specs.Working.{GainsNames, GivesNames, both_names, dropped_names, lost_names}
 
 -- names with these after them
 abbrev joined : Named → Named → Named
@@ -94,10 +94,10 @@ lost_none = front_none lost_names with_lost lost_one refl (λ es e. refl)
 pub lost_next : (names left left' : List Entry) (e : Entry) (s t u : Option Named) → left ≡ e ∷ left' → u ≡ option_map (with_lost e) t → GivesFront lost_names names left s t → GivesFront lost_names names left' s u
 lost_next = front_next lost_names with_lost lost_one refl (λ es e. refl)
 
--- names of both kinds, which a pass drained
-pub gives_both : (ds ls : List Entry) (s t u : Option Named) (x y : PassAccount) → y ≡ after_drain ds ls x → GainsNames (dropped_names ds) s t → GainsNames (lost_names ls) t u → GivesNames s u x y
-gives_both ds ls s t u x y popped first second = record {
-  more = record { dropped = ds; lost = ls };
-  gains = subst (λ (n : Named). GainsNames n s u) (ap (λ (es : List Entry). record { dropped = es; lost = ls }) (append-nil ds)) (gains_more (dropped_names ds) (lost_names ls) s t u first second);
-  popped = popped;
-}
+-- names of both kinds, those of dropped spans first
+pub gains_both : (ds ls : List Entry) (s t u : Option Named) → GainsNames (dropped_names ds) s t → GainsNames (lost_names ls) t u → GainsNames (both_names ds ls) s u
+gains_both ds ls s t u first second = subst (λ (n : Named). GainsNames n s u) (ap (λ (es : List Entry). record { dropped = es; lost = ls }) (append-nil ds)) (gains_more (dropped_names ds) (lost_names ls) s t u first second)
+
+-- the same, which a pass drained
+pub gives_both : (ds ls : List Entry) (s u : Option Named) (x y : PassAccount) → y ≡ after_drain ds ls x → GainsNames (both_names ds ls) s u → GivesNames s u x y
+gives_both ds ls s u x y popped gains = record { more = both_names ds ls; gains = gains; popped = popped }

@@ -7,7 +7,7 @@ use Rattle.span_exporter.specs.Handed.{Handed}
 use Rattle.name_sink.specs.Named.{Named}
 use Rattle.batch_processor.specs.Working.{GoesOn, Work}
 use Rattle.batch_processor.proofs.Turns.{goes_on, goes_quiet}
-use Rattle.batch_service.specs.Working.{GainsNames, GivesNames, ThreadState, WorksOn, dropped_names, lost_names, state_of}
+use Rattle.batch_service.specs.Working.{GainsNames, ThreadState, WorksOn, both_names, state_of}
 use Rattle.batch_service.proofs.Names.{gives_both, gives_more, gives_none}
 
 pub works_none : (s : ThreadState) → WorksOn s s
@@ -23,10 +23,10 @@ works_more a b d first second = record {
 }
 
 -- names alone are given, of both kinds
-pub gives_only : (handed : Option (List Handed)) (work : Work) (ds ls : List Entry) (s t u : Option Named) (x y : PassAccount) → y ≡ after_drain ds ls x → GainsNames (dropped_names ds) s t → GainsNames (lost_names ls) t u → WorksOn (state_of handed s work x) (state_of handed u work y)
-gives_only handed work ds ls s t u x y popped first second = record {
+pub gives_only : (handed : Option (List Handed)) (work : Work) (ds ls : List Entry) (s u : Option Named) (x y : PassAccount) → y ≡ after_drain ds ls x → GainsNames (both_names ds ls) s u → WorksOn (state_of handed s work x) (state_of handed u work y)
+gives_only handed work ds ls s u x y popped gains = record {
   goes_on = goes_quiet handed handed work work refl refl refl refl refl (λ _. refl);
-  names = gives_both ds ls s t u x y popped first second;
+  names = gives_both ds ls s u x y popped gains;
 }
 
 -- a turn, and then names

@@ -1,3 +1,4 @@
 pub mod Working
 pub mod Service
 pub mod Room
+pub mod Naming

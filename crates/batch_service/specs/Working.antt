@@ -15,7 +15,10 @@ GainsNames more old new = new ≡ option_map (λ (had : Named). record {
   lost = had.lost ++ more.lost;
 }) old
 
--- names of dropped spans alone, and of lost ones
+-- names of dropped spans and of lost ones, and of each kind alone
+abbrev pub both_names : List Entry → List Entry → Named
+both_names dropped lost = record { dropped = dropped; lost = lost }
+
 abbrev pub dropped_names : List Entry → Named
 dropped_names entries = record { dropped = entries; lost = [] }
 

@@ -3,6 +3,8 @@
 #![tactic(auto)]
 
 mod fault;
+mod give;
+mod naming;
 mod service;
 mod serving;
 mod thread;
@@ -10,6 +12,7 @@ mod threads;
 mod worker;
 
 pub use fault::StartFault;
+pub use naming::{NAMED_TOGETHER, NamingPass};
 pub use service::{MAX_THREADS, PassMissing, Served, Service, Started};
 pub use serving::{Done, serve};
 pub use threads::{Room, ServicePass, Work, work_on_all};

@@ -1,13 +1,15 @@
 //! Threads that each work on a pass of their own.
-ghost use Rattle.std.specs.Prelude.{◌≡◌, ◌≤◌, [], IfOk, IsSome, Result, vec_capacity, vec_len};
+ghost use Rattle.std.specs.Prelude.{◌≡◌, ◌≤◌, List, [], IfOk, IsSome, Result, vec_capacity};
+ghost use Rattle.std.specs.Prelude.{vec_len};
 ghost use Rattle.std.specs.List.{AllByRecursion};
+ghost use Rattle.model_drop.specs.Dropped.{Entry};
 ghost use Rattle.batch_desk.specs.declared.totals.Totals.{Totals};
 ghost use Rattle.batch_processor.specs.declared.fault.WorkerLeft.{WorkerLeft};
 ghost use Rattle.batch_processor.specs.declared.pass.Flushed.{Flushed};
 ghost use Rattle.batch_service.specs.Room.{IsRoomFor};
 
 use crate::service::MAX_THREADS;
-use batch_desk::Totals;
+use batch_desk::{DrainedNames, Totals};
 use batch_processor::{Flushed, Naming, Pass, WorkerLeft};
 use otlp_span::SpanData;
 use std::alloc::{AllocError, Global};
@@ -22,6 +24,10 @@ pub trait ServicePass: EndPass<SpanData> {
 
     /// What the counts may be at this value.
     ghost counts: { Totals → Self → Type 0 };
+
+    /// What taking all names may do: those of dropped spans and those of lost ones, the oldest
+    /// first, this value before, and this value after.
+    ghost drains: { List Entry → List Entry → Self → Self → Type 0 };
 
     /// Waits until all spans that were accepted before, on any pass, are handed to the exporter
     /// and settled, or dropped (Trace SDK, "ForceFlush").
@@ -38,9 +44,17 @@ pub trait ServicePass: EndPass<SpanData> {
     fn totals(&mut self) -> Totals
         ensures counts { counts result self.old }
         ensures unchanged { self.new ≡ self.old };
+
+    /// Takes the names of all spans that aren't delivered, on any pass, out of the ledgers, in one
+    /// hold of the lock, which is as short for many names as for one. It answers them the oldest
+    /// first; their memory is freed where they are let go. (profile)
+    fn drain_names(&mut self) -> DrainedNames
+        ensures { drains result.dropped result.lost self.old self.new };
 }
 
 impl<J: Naming, R: Wait> ServicePass for Pass<J, R> {
+    ghost use Rattle.std.specs.Prelude.{◌≡◌};
+    ghost use Rattle.model_processor.specs.Passes.{after_drain};
     ghost use Rattle.batch_processor.specs.Answers.{IsFlushed};
     ghost use Rattle.batch_processor.specs.Holds.{WasCounted};
 
@@ -48,12 +62,18 @@ impl<J: Naming, R: Wait> ServicePass for Pass<J, R> {
 
     ghost counts = { WasCounted };
 
+    ghost drains = { λ dropped lost old new. new ≡ after_drain dropped lost old };
+
     fn flush(&mut self) -> Result<Flushed, WorkerLeft> {
         self.force_flush()
     }
 
     fn totals(&mut self) -> Totals {
         Pass::totals(self)
+    }
+
+    fn drain_names(&mut self) -> DrainedNames {
+        Pass::drain_names(self)
     }
 }
 

@@ -1,16 +1,13 @@
 //! What the thread of a service's worker does.
 ghost use Rattle.std.specs.Prelude.{◌≡◌, None, true, false};
 ghost use Rattle.batch_processor.specs.Working.{IsPrepared};
-ghost use Rattle.batch_service.specs.Working.{GainsNames, IsDrained, WorksOn, dropped_names};
-ghost use Rattle.batch_service.specs.Working.{lost_names, state_of};
+ghost use Rattle.batch_service.specs.Working.{IsDrained, WorksOn, state_of};
 
-use batch_desk::DrainedNames;
+use crate::give::give_names;
 use batch_processor::{Clock, Naming, Pass, WorkEnd, WorkerPass};
-use drop_ledger::Ledger;
 use name_sink::NameSink;
 use rand_core::Rng;
 use span_exporter::Exporter;
-use std::alloc::Allocator;
 use std::sync::Wait;
 use std::time;
 
@@ -95,28 +92,7 @@ where
         ensures worker { self.new.worker ≡ self.old.worker }
         ensures exporter { self.new.exporter ≡ self.old.exporter }
     {
-        let DrainedNames { dropped, lost } = self.names.drain_names();
-        give_dropped(dropped, &mut self.sink);
-        give_lost(lost, &mut self.sink);
-    }
-}
-
-/// Gives these names of dropped spans to the sink, the first one first.
-fn give_dropped<A: Allocator, S: NameSink>(names: Ledger<A>, sink: &mut S)
-    ensures { GainsNames (dropped_names names) (S.named sink.old) (S.named sink.new) }
-{
-    let mut left = names;
-    while let Some(entry) = left.pop() {
-        sink.take_dropped(entry);
-    }
-}
-
-/// The same of lost spans.
-fn give_lost<A: Allocator, S: NameSink>(names: Ledger<A>, sink: &mut S)
-    ensures { GainsNames (lost_names names) (S.named sink.old) (S.named sink.new) }
-{
-    let mut left = names;
-    while let Some(entry) = left.pop() {
-        sink.take_lost(entry);
+        let names = self.names.drain_names();
+        give_names(names, &mut self.sink);
     }
 }

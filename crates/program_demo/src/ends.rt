@@ -1,7 +1,8 @@
 //! The spans that each thread ends.
 
 use batch_processor::{Clock, SystemClock};
-use batch_service::{ServicePass, Work};
+use batch_service::{NamingPass, ServicePass, Work};
+use name_sink::NewestNames;
 use otlp_sampler::AlwaysOn;
 use otlp_span::{Kind, Resource, Scope, SpanData, SpanLimits};
 use rand_core::{Rng, SeedableRng};
@@ -25,11 +26,14 @@ impl<R: time::Clock + Copy> Work for Ends<R> {
     /// How many spans were queued or dropped. `None` where memory was refused.
     type Output = Option<u64>;
 
-    /// Ends the spans, of a provider and a generator of their own.
+    /// Ends the spans, of a provider and a generator of their own. The names of those that are
+    /// dropped are let go, on this thread too.
     fn work<P: ServicePass>(&self, thread: usize, pass: &mut P) -> Option<u64> {
         let seed = self.seed.wrapping_add(thread as u64);
         let clock = SystemClock::new(self.rt);
-        end_spans(self.alloc, &clock, seed, pass, self.spans)
+        let names = NewestNames::new(self.alloc, 0).ok()?;
+        let mut pass = NamingPass::new(pass, names);
+        end_spans(self.alloc, &clock, seed, &mut pass, self.spans)
     }
 }
 

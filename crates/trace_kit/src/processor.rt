@@ -13,8 +13,8 @@ pub use batch_processor::{
     Missing, Naming, NewFault, Parts, Pass, SystemClock, WorkEnd, WorkerLeft, WorkerPass,
 };
 pub use batch_service::{
-    Done, MAX_THREADS, PassMissing, Room, Served, Service, ServicePass, StartFault, Started, Work,
-    serve, work_on_all,
+    Done, MAX_THREADS, NamingPass, PassMissing, Room, Served, Service, ServicePass, StartFault,
+    Started, Work, serve, work_on_all,
 };
 pub use simple_processor::{
     Flushed as SimpleFlushed, SimpleAccounts, SimpleBlank, SimpleFault, SimpleMissing, SimpleParts,

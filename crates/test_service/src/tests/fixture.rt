@@ -1,7 +1,7 @@
 //! What the tests' threads do, and what the services work with.
 use batch_desk::DeskConfig;
 use batch_processor::BatchConfig;
-use batch_service::{ServicePass, Work};
+use batch_service::{NamingPass, ServicePass, Work};
 use name_sink::NewestNames;
 use otlp_sampler::AlwaysOn;
 use otlp_span::{Kind, Resource, Scope, SpanData, SpanLimits};
@@ -29,6 +29,26 @@ impl Work for Ends {
     fn work<P: ServicePass>(&self, thread: usize, pass: &mut P) -> Self::Output {
         let (queued, dropped) = end_spans(self.alloc, self.spans, pass)?;
         Some((thread, queued, dropped))
+    }
+}
+
+/// Each thread ends so many spans, and gives names to a sink of its own.
+#[derive(Drop)]
+pub(crate) struct EndsAndNames {
+    pub(crate) alloc: Global,
+    pub(crate) spans: u64,
+}
+
+impl Work for EndsAndNames {
+    /// How many of the thread's spans were dropped, and how many names its sink was given, of
+    /// which it keeps none. `None` where memory was refused.
+    type Output = Option<(u64, u64)>;
+
+    fn work<P: ServicePass>(&self, _thread: usize, pass: &mut P) -> Self::Output {
+        let sink = NewestNames::new(self.alloc, 0).ok()?;
+        let mut naming = NamingPass::new(pass, sink);
+        let (_, dropped) = end_spans(self.alloc, self.spans, &mut naming)?;
+        Some((dropped, naming.into_sink().older().queue_full))
     }
 }
 

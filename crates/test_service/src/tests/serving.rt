@@ -1,6 +1,6 @@
 //! Whole services.
 use crate::tests::equal::assert_equal;
-use crate::tests::fixture::{Ends, answered, config, names};
+use crate::tests::fixture::{Ends, EndsAndNames, answered, config, names};
 use batch_processor::WorkEnd;
 use batch_service::{Done, StartFault, serve};
 use otlp_span::Reason;
@@ -84,6 +84,27 @@ fn of_a_hundred_thousand_spans_each_is_handed_or_named(rt: HostRuntime) {
         kept.saturating_add(served.sink.older().queue_full),
         dropped,
     );
+    assert_equal(&rt, served.desk.ledger().len(), 0);
+}
+
+#[test]
+fn the_threads_that_drop_spans_name_them(rt: HostRuntime) {
+    let alloc = rt.alloc();
+    let (exporter, sink) = (answered(&rt, alloc, &[]), names(&rt, alloc, 0));
+    let work = EndsAndNames {
+        alloc,
+        spans: 25_000,
+    };
+    let done = serve(rt, alloc, exporter, sink, config(&rt, 2, 1), 4, &work);
+    let Done { outputs, served } = done.expect(&rt, "a service");
+    let (mut dropped, mut named) = (0u64, served.sink.older().queue_full);
+    for output in &outputs {
+        let (of_thread, of_sink) = output.expect(&rt, "memory");
+        dropped = dropped.saturating_add(of_thread);
+        named = named.saturating_add(of_sink);
+    }
+    assert_equal(&rt, named, dropped);
+    assert_equal(&rt, served.desk.totals().dropped.queue_full, dropped);
     assert_equal(&rt, served.desk.ledger().len(), 0);
 }
 

@@ -3,4 +3,4 @@ use Rattle.batch_service.proofs.worker.Worker.give_names.Goals as goal
 
 pub returns-clause-works : goal.returns-clause-works
 returns-clause-works g c =
-    gives_only _ _ _ _ _ _ _ _ _ c.drain_names-dropped.ensures c.give_dropped.ensures c.give_lost.ensures
+    gives_only _ _ _ _ _ _ _ _ c.drain_names-names.ensures c.give_names.ensures

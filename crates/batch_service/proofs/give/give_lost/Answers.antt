@@ -1,5 +1,5 @@
 use Rattle.batch_service.proofs.Names.{lost_next}
-use Rattle.batch_service.proofs.worker.give_lost.Goals as goal
+use Rattle.batch_service.proofs.give.give_lost.Goals as goal
 
 pub loop-entry-preserved : goal.loop-entry-preserved
 loop-entry-preserved g c =

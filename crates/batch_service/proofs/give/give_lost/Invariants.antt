@@ -1,7 +1,7 @@
 use Rattle.std.specs.Prelude.{length}
 use Rattle.batch_service.specs.Working.{lost_names}
 use Rattle.batch_service.proofs.Names.{GivesFront}
-use Rattle.batch_service.proofs.worker.give_lost.Given as goal
+use Rattle.batch_service.proofs.give.give_lost.Given as goal
 
 -- what was given so far
 abbrev pub invariant-loop-entry : goal.invariant-loop-entry
