@@ -1,12 +1,12 @@
 //! What requests are answered.
 
-ghost use Rattle.std.specs.Prelude.{◌≡◌, codes, map};
+ghost use Rattle.std.specs.Prelude.{◌≡◌, [], codes, map};
 ghost use Rattle.std.specs.List.{list_all};
 ghost use Rattle.http_header.specs.HeaderMap.{get_all};
 ghost use Rattle.httparse.specs.Grammar.{is_ows};
 ghost use Rattle.otlp_serve.specs.Answers as model;
 ghost use Rattle.otlp_serve.specs.Answers.{is_for_traces, is_plain, is_protobuf, is_same_word};
-ghost use Rattle.otlp_serve.specs.Answers.{plain_reply, reply_by, without_end_blanks};
+ghost use Rattle.otlp_serve.specs.Answers.{plain_reply, refusal_of, reply_by, without_end_blanks};
 
 use crate::reply::PostReply;
 use crate::status::ReplyStatus;
@@ -79,14 +79,14 @@ fn is_same_word(word: &[u8], other: &[u8]) -> bool
 }
 
 /// The path of a target is that of traces.
-pub(crate) fn is_for_traces(target: &[u8]) -> bool
+fn is_for_traces(target: &[u8]) -> bool
     ensures { result ≡ is_for_traces target.now }
 {
     before(target, b'?') == b"/v1/traces".as_slice()
 }
 
 /// Whether the first Content-Type is that of OTLP's messages.
-pub(crate) fn is_protobuf(fields: &HeaderMap) -> bool
+fn is_protobuf(fields: &HeaderMap) -> bool
     ensures { result
         ≡ is_protobuf (map (λ v. v.bytes) (get_all fields.now (codes "content-type"))) }
 {
@@ -108,9 +108,31 @@ fn are_identity(mut values: ValueIter<'_, HeaderValue>) -> bool
 
 /// Whether no Content-Encoding says that the body was encoded.
 #[tactic(auto, using(crate::proofs::AnswerLemmas::plain_map))]
-pub(crate) fn is_plain(fields: &HeaderMap) -> bool
+fn is_plain(fields: &HeaderMap) -> bool
     ensures { result
         ≡ is_plain (map (λ v. v.bytes) (get_all fields.now (codes "content-encoding"))) }
 {
     are_identity(fields.get_all("content-encoding").iter())
+}
+
+/// What a request with this method, target and fields is answered that a collector refuses, and none
+/// where it is for it: as `Post::refusal`, for requests that another reader has read.
+pub fn refusal_of(method: &str, target: &[u8], fields: &HeaderMap) -> Option<PostReply>
+    ensures { result ≡ refusal_of (record {
+      method = method.now;
+      target = target.now;
+      fields = fields.now;
+      body = [];
+    }) }
+{
+    if !is_for_traces(target) {
+        return Some(plain_reply(ReplyStatus::NotFound));
+    }
+    if method != "POST" {
+        return Some(plain_reply(ReplyStatus::MethodNotAllowed));
+    }
+    if !(is_protobuf(fields) && is_plain(fields)) {
+        return Some(plain_reply(ReplyStatus::UnsupportedMediaType));
+    }
+    None
 }

@@ -11,6 +11,7 @@ mod post;
 mod reply;
 mod status;
 
+pub use answer::refusal_of;
 pub use fault::PostFault;
 pub use http_wire::{
     Counted, DeviceFailed, FaultRead, FaultWrite, HeadLimits, HttpFault, MOST_FIELDS, Stopped,

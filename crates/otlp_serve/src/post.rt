@@ -9,11 +9,10 @@ ghost use Rattle.otlp_serve.specs.Answers.{refusal_of};
 ghost use Rattle.otlp_serve.specs.Parses.{HasKeptRequest};
 ghost use Rattle.otlp_serve.specs.Posts.{post_view, CountsAtPost, HasNoPost, HasNoPostHead, IsPost};
 
-use crate::answer::{is_for_traces, is_plain, is_protobuf, plain_reply};
+use crate::answer::refusal_of;
 use crate::fault::PostFault;
 use crate::head::RequestHeads;
 use crate::reply::PostReply;
-use crate::status::ReplyStatus;
 use http_head::read_head;
 use http_header::HeaderMap;
 use http_wire::{
@@ -48,16 +47,7 @@ impl<A: Allocator> Post<A> {
     pub fn refusal(&self) -> Option<PostReply>
         ensures { result ≡ refusal_of (post_view self.now) }
     {
-        if !is_for_traces(self.target.as_bytes()) {
-            return Some(plain_reply(ReplyStatus::NotFound));
-        }
-        if self.method.as_str() != "POST" {
-            return Some(plain_reply(ReplyStatus::MethodNotAllowed));
-        }
-        if !(is_protobuf(&self.fields) && is_plain(&self.fields)) {
-            return Some(plain_reply(ReplyStatus::UnsupportedMediaType));
-        }
-        None
+        refusal_of(self.method.as_str(), self.target.as_bytes(), &self.fields)
     }
 }
 
