@@ -4,7 +4,9 @@
 //! all spans of either.
 //!
 //! Without arguments it makes its own requests, and prints the same in each run. With a number it
-//! prints its ports, and ends after so many requests of others to the first service.
+//! prints its ports, and ends after so many requests of others to the first service. With `to` and
+//! a port, it makes its own requests, and exports to the collector at this port of loopback, as to
+//! `trace-view`.
 #![tactic(auto)]
 
 mod cart;
@@ -19,7 +21,7 @@ use anyhow::{Context, Result};
 use cart::CartWork;
 use clock::StepClock;
 use collector::Collector;
-use report::{Balance, write_report};
+use report::{Balance, write_balances, write_report};
 use site::{Site, THREADS, config};
 use std::alloc::Global;
 use std::env;
@@ -87,23 +89,45 @@ fn wait_for<R: Clock>(rt: &R, site: &Site<R>, requests: u64) {
     }
 }
 
-/// How many requests of others are waited for, if the program was told so.
-fn asked_for(rt: &HostRuntime) -> Result<Option<u64>> {
-    let Some(word) = env::args(rt)?.nth(1) else {
-        return Ok(None);
+/// What the arguments ask for.
+#[derive(Clone, Copy)]
+enum Asked {
+    /// Requests of the program's own, and a collector of its own.
+    Nothing,
+    /// A collector of its own, and to wait for so many requests of others.
+    Requests(u64),
+    /// Requests of its own, and the collector at this port.
+    To(u16),
+}
+
+/// What the arguments ask for.
+fn asked_for(rt: &HostRuntime) -> Result<Asked> {
+    let mut words = env::args(rt)?.skip(1);
+    let Some(word) = words.next() else {
+        return Ok(Asked::Nothing);
     };
-    let requests = word
-        .parse::<u64>()
-        .ok()
-        .context("the argument is a number of requests")?;
-    Ok(Some(requests))
+    if word.as_str() == "to" {
+        let port = words.next().context("after `to` comes a port")?;
+        let port = port.parse::<u16>().ok();
+        return Ok(Asked::To(port.context("after `to` comes a port")?));
+    }
+    let requests = word.parse::<u64>().ok();
+    let requests = requests.context("the argument is a number of requests, or `to` and a port")?;
+    Ok(Asked::Requests(requests))
 }
 
 fn main(rt: HostRuntime) -> Result<()> {
     let alloc = rt.alloc();
-    let requests = asked_for(&rt)?;
-    let collector = Collector::start(&rt, alloc)?;
-    let to = collector.port();
+    let asked = asked_for(&rt)?;
+    let collector = match asked {
+        Asked::To(_) => None,
+        _ => Some(Collector::start(&rt, alloc)?),
+    };
+    let to = match (asked, &collector) {
+        (Asked::To(port), _) => port,
+        (_, Some(collector)) => collector.port(),
+        _ => 0,
+    };
     let clock = Arc::new(alloc, StepClock::new())?;
     let stock = Site::listen(rt, alloc, "stock", Arc::try_clone(&clock)?)?;
     let stock = Arc::new(alloc, stock)?;
@@ -125,17 +149,24 @@ fn main(rt: HostRuntime) -> Result<()> {
         run(rt, alloc, to, &site, &work)
     })?;
 
-    match requests {
-        None => ask(&rt, alloc, cart.port(), stock.port())?,
-        Some(requests) => {
+    match asked {
+        Asked::Requests(requests) => {
             println!(rt; "cart {} stock {}", cart.port(), stock.port())?;
             wait_for(&rt, &cart, requests);
         }
+        _ => ask(&rt, alloc, cart.port(), stock.port())?,
     }
     cart.stop()?;
     let cart = cart_thread.join(&rt)?;
     stock.stop()?;
     let stock = stock_thread.join(&rt)?;
-    let bodies = collector.stop(&rt)?;
-    write_report(&mut rt.stdout(), alloc, &bodies, &[cart, stock]).context("not all was printed")
+    let balances = [cart, stock];
+    match collector {
+        Some(collector) => {
+            let bodies = collector.stop(&rt)?;
+            write_report(&mut rt.stdout(), alloc, &bodies, &balances)
+        }
+        None => write_balances(&mut rt.stdout(), &balances),
+    }
+    .context("not all was printed")
 }

@@ -187,6 +187,14 @@ fn write_balance<W: Write>(output: &mut W, balance: &Balance) -> Result<()> {
     Ok(())
 }
 
+/// Writes what became of the spans of each service.
+pub fn write_balances<W: Write>(output: &mut W, balances: &[Balance]) -> Result<()> {
+    for balance in balances {
+        write_balance(output, balance)?;
+    }
+    Ok(())
+}
+
 /// Writes all, by the bodies that the collector has, and by what the services say.
 pub fn write_report<W: Write>(
     output: &mut W,
@@ -204,8 +212,5 @@ pub fn write_report<W: Write>(
     )?;
     writeln!(output, "{whole} of the traces are whole. One of them:\n")?;
     write_trace(output, alloc, &spans)?;
-    for balance in balances {
-        write_balance(output, balance)?;
-    }
-    Ok(())
+    write_balances(output, balances)
 }
