@@ -1,0 +1,4 @@
+pub mod Groups
+pub mod SizeSteps
+pub mod Placing
+pub mod Yielded

@@ -1,0 +1,4 @@
+pub mod Keys
+pub mod Sizes
+pub mod Requests
+pub mod Parts
