@@ -1,0 +1,6 @@
+//! The tests, a module for each page, and what they share.
+
+mod equal;
+mod list;
+mod made;
+mod trace;

@@ -1,0 +1,93 @@
+-- The page of a trace.
+use Rattle.std.specs.Prelude.{◌≡◌, ℕ, ◌-◌, Bool, List, [], length, map, All, AllPairs, codes}
+use Rattle.std.specs.Prelude.{string_bytes}
+use Rattle.std.specs.Borrow.{Bor}
+use Rattle.std.specs.Int.{w128, to_be_bytes}
+use Rattle.trace_tree.specs.Order.{ArePlaces}
+use Rattle.trace_tree.specs.Rows.{AreInOrder, EachAfter, HangsInTree, IsPlace}
+use Rattle.trace_tree.specs.declared.span.Row.{Row}
+use Rattle.trace_tree.specs.declared.span.TreeSpan.{TreeSpan}
+use Rattle.view_span.specs.declared.span.ViewSpan.{ViewSpan}
+use Rattle.view_pages.specs.Html.{Html, Markup, Number, Digits, ◌▹◌, each}
+use Rattle.view_pages.specs.Rows.{page_rows, row_html}
+use Rattle.view_pages.specs.Spans.{frame_of, is_error}
+use Rattle.view_pages.specs.Times.{duration}
+
+-- what the tree needs of a span: its identifiers, its name, when it ran, and whether it is an error
+abbrev pub tree_view : TreeSpan → List ℕ × (List ℕ × (List ℕ × (ℕ × (ℕ × Bool))))
+tree_view s = (
+  s.span_id.now,
+  (
+    s.parent_span_id.now,
+    (
+      s.name.now,
+      (s.start_time_unix_nano, (s.end_time_unix_nano, s.is_error)),
+    ),
+  ),
+)
+
+abbrev pub span_view : {A : Type 0} → Bor (ViewSpan A)
+    → List ℕ × (List ℕ × (List ℕ × (ℕ × (ℕ × Bool))))
+span_view s = (
+  s.now.span.span_id.items,
+  (
+    s.now.span.parent_span_id.items,
+    (
+      string_bytes s.now.span.name,
+      (
+        s.now.span.start_time_unix_nano,
+        (s.now.span.end_time_unix_nano, is_error s.now.span),
+      ),
+    ),
+  ),
+)
+
+-- these are the spans of the tree
+abbrev pub AreTreeSpans : {A : Type 0} → List (Bor (ViewSpan A)) → List TreeSpan → Type 0
+AreTreeSpans spans tree = map tree_view tree ≡ map span_view spans
+
+-- The rows of a trace: each span is in one row, under its parent where that is in the list and no
+-- cycle forbids it, and those of one parent are by their start.
+pub record AreRows {A : Type 0} (spans : List (Bor (ViewSpan A))) (rows : List Row) : Type 0 where
+  pub each_once : ArePlaces (length spans) (map (λ (r : Row). r.index) rows)
+  pub tree : List TreeSpan
+  pub of_spans : AreTreeSpans spans tree
+  pub placed : All (λ (r : Row). IsPlace tree r.index r.place) rows
+  pub nested : EachAfter (HangsInTree tree) [] rows
+  pub ordered : AllPairs (AreInOrder tree) rows
+
+-- what each page begins with, up to its title
+unfoldable pub start_html : Html
+start_html = Markup (codes "<!doctype html><html lang='en'><meta charset='utf-8'>")
+    ▹ Markup (codes "<meta name='viewport' content='width=device-width,initial-scale=1'>")
+    ▹ Markup (codes "<link rel='stylesheet' href='/style.css'><title>")
+
+-- the title of the page of a trace
+unfoldable pub title_html : List ℕ → Html
+title_html trace =
+    start_html ▹ Markup (codes "Trace ") ▹ Digits trace
+    ▹ Markup (codes "</title><header><a href='/'>All traces</a><h1>Trace <code>")
+    ▹ Digits trace ▹ Markup (codes "</code></h1>")
+
+-- how many spans a trace has, how long it took, and where it is shown as text
+unfoldable pub counts_html : List ℕ → ℕ → ℕ → Html
+counts_html trace count took =
+    Markup (codes "<p>") ▹ Number count ▹ Markup (codes " spans in ") ▹ duration took
+    ▹ Markup (codes ". <a href='/trace/") ▹ Digits trace
+    ▹ Markup (codes ".txt'>As text</a></p></header><main><ol class='rows'>")
+
+-- the time from the earliest start to the latest end
+abbrev pub whole_of : {A : Type 0} → List (Bor (ViewSpan A)) → ℕ
+whole_of spans = (frame_of spans).until - (frame_of spans).from
+
+-- what is said of a trace above its rows
+unfoldable pub head_html : {A : Type 0} → ℕ → List (Bor (ViewSpan A)) → Html
+head_html trace spans =
+    title_html (to_be_bytes w128 trace)
+    ▹ counts_html (to_be_bytes w128 trace) (length spans) (whole_of spans)
+
+-- the page of a trace: what is said of it, and its rows
+unfoldable pub trace_html : {A : Type 0} → ℕ → List (Bor (ViewSpan A)) → List Row → Html
+trace_html trace spans rows =
+    head_html trace spans ▹ each row_html (page_rows spans rows)
+    ▹ Markup (codes "</ol></main></html>")

@@ -1,0 +1,135 @@
+//! What is said of a span: its service, when it ran, and what is remarked.
+
+ghost use Rattle.std.specs.Prelude.{◌≡◌, ◌<◌, ◌^◌, ◌-◌, fold, option_copied, string_bytes};
+ghost use Rattle.std.specs.Borrow.{Bor};
+ghost use Rattle.otlp_read.specs.Values.{any_value_view};
+ghost use Rattle.view_pages.specs.Spans as spec;
+
+use crate::times::Frame;
+use otlp_read::{AnyValue, Span};
+use std::alloc::Allocator;
+use view_span::ViewSpan;
+
+/// The text of a value, if it is one.
+fn text_in<A: Allocator>(value: &AnyValue<A>) -> Option<&str>
+    ensures { option_copied result ≡ spec.text_in (any_value_view value.now) }
+{
+    match value {
+        AnyValue::Text(text) => Some(text),
+        _ => None,
+    }
+}
+
+/// The name of the service, if this attribute says it.
+fn service_value<A: Allocator>(pair: &(String<A>, AnyValue<A>)) -> Option<&str>
+    ensures { option_copied result ≡ spec.service_value pair.now }
+{
+    let (key, value) = pair;
+    if key.as_str() == "service.name" {
+        text_in(value)
+    } else {
+        None
+    }
+}
+
+/// The name of the service that the first attribute says.
+#[tactic(auto, unfolding(crate::specs::Spans::service_in))]
+fn service_in<A: Allocator>(attributes: &[(String<A>, AnyValue<A>)]) -> &str
+    ensures { result.now ≡ spec.service_in attributes.now }
+{
+    for pair in attributes {
+        match service_value(pair) {
+            Some(name) => return name,
+            None => {}
+        }
+    }
+    "unknown_service"
+}
+
+/// The service that made a span, by the attribute `service.name` of its resource; where that has
+/// none, `unknown_service` (OpenTelemetry semantic conventions, "Service").
+pub(crate) fn service_of<A: Allocator>(span: &ViewSpan<A>) -> &str
+    ensures { result.now ≡ spec.service_of span.now }
+{
+    service_in(&span.resource.resource.attributes)
+}
+
+/// The colour of a service, of eight.
+#[tactic(auto, unfolding(crate::specs::Spans::colour_of))]
+fn colour_of(name: &str) -> u64
+    ensures { result ≡ spec.colour_of name.now }
+{
+    let mut hash: u64 = 7;
+    for byte in name.as_bytes() {
+        hash = (hash * 33 + u64::from(*byte)) % 1_000_003;
+    }
+    hash % 8
+}
+
+/// The colour of the service that made a span, of eight.
+pub(crate) fn service_colour<A: Allocator>(span: &ViewSpan<A>) -> u64
+    ensures { result ≡ spec.colour_of (spec.service_of span.now) }
+{
+    colour_of(service_of(span))
+}
+
+/// Whether the status of a span is an error (opentelemetry-proto, trace.proto: Status).
+pub(crate) fn is_error<A: Allocator>(span: &Span<A>) -> bool
+    ensures { result ≡ spec.is_error span.now }
+{
+    span.status.code == 2
+}
+
+/// Whether a span ends before it starts.
+pub(crate) fn ends_early<A: Allocator>(span: &Span<A>) -> bool
+    ensures { result ≡ spec.ends_early span.now }
+{
+    span.end_time_unix_nano < span.start_time_unix_nano
+}
+
+/// The end of a span, or its start where that is later.
+pub(crate) fn end_of<A: Allocator>(span: &Span<A>) -> u64
+    ensures { result ≡ spec.end_of span.now }
+{
+    span.start_time_unix_nano.max(span.end_time_unix_nano)
+}
+
+/// How long a span took, in nanoseconds: 0 where it ends before it starts.
+pub(crate) fn time_of<A: Allocator>(span: &Span<A>) -> u64
+    ensures { result ≡ spec.time_of span.now }
+{
+    span.end_time_unix_nano
+        .saturating_sub(span.start_time_unix_nano)
+}
+
+/// The earliest start of some spans.
+fn earliest_start<A: Allocator>(spans: &[&ViewSpan<A>]) -> u64
+    ensures { result ≡ fold spec.earlier (2 ^ 64 - 1) spans.now }
+{
+    let mut earliest = u64::MAX;
+    for span in spans {
+        earliest = earliest.min(span.span.start_time_unix_nano);
+    }
+    earliest
+}
+
+/// The latest end of some spans.
+fn latest_end<A: Allocator>(spans: &[&ViewSpan<A>]) -> u64
+    ensures { result ≡ fold spec.later 0 spans.now }
+{
+    let mut latest = 0;
+    for span in spans {
+        latest = latest.max(end_of(&span.span));
+    }
+    latest
+}
+
+/// The time from the earliest start to the latest end of some spans.
+pub(crate) fn frame_of<A: Allocator>(spans: &[&ViewSpan<A>]) -> Frame
+    ensures { result ≡ spec.frame_of spans.now }
+{
+    Frame {
+        from: earliest_start(spans),
+        until: latest_end(spans),
+    }
+}

@@ -1,0 +1,24 @@
+//! The pages that show traces.
+//!
+//! A page is appended to a text. Nothing here opens a file or a socket, or keeps anything: spans
+//! come in, and a page for a browser goes out. Each text that came from outside is written so that
+//! a browser reads exactly that text, and no part of it as markup.
+#![tactic(auto)]
+
+mod facts;
+mod filter;
+mod html;
+mod list;
+mod page;
+mod panel;
+mod row;
+mod style;
+mod summary;
+mod times;
+mod value;
+
+pub use filter::{Filter, FilterFault};
+pub use list::{write_list_page, write_notice_page};
+pub use page::{write_trace_page, write_trace_text};
+pub use style::STYLE;
+pub use summary::{Summary, summary_of};

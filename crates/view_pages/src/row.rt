@@ -1,0 +1,297 @@
+//! The rows of the page of a trace.
+
+ghost use Rattle.std.specs.Prelude.{◌≡◌, ◌++◌, OnOk, slice_get, string_bytes};
+ghost use Rattle.view_pages.specs.Html.{each, html_bytes};
+ghost use Rattle.view_pages.specs.Rows.{bad_html, bar_html, class_html, depth_html, is_cycle};
+ghost use Rattle.view_pages.specs.Rows.{is_orphan, label_html, level_of, page_row, page_rows};
+ghost use Rattle.view_pages.specs.Rows.{remark_html, remarks_html, row_html, span_html, span_rest};
+ghost use Rattle.view_pages.specs.Rows.{tag_html, tick_html, time_html, width_of};
+
+use crate::facts::{end_of, ends_early, frame_of, is_error, service_colour, service_of, time_of};
+use crate::html::{push_digits, push_markup, push_number, push_text};
+use crate::panel::push_panel;
+use crate::times::{Frame, push_duration, share_of};
+use otlp_ids::OutOfMemory;
+use otlp_read::{Event, Span};
+use std::alloc::Allocator;
+use trace_tree::{Place, Row};
+use view_span::ViewSpan;
+
+/// Appends words where something holds.
+#[tactic(auto, unfolding(crate::specs::Html::html_bytes, crate::specs::Rows::remark_html))]
+fn push_remark<A: Allocator>(
+    out: &mut String<A>,
+    holds: bool,
+    words: &str,
+) -> Result<(), OutOfMemory>
+    ensures { OnOk result (string_bytes out.new
+        ≡ string_bytes out.old ++ html_bytes (remark_html holds words.now)) }
+{
+    if !holds {
+        return Ok(());
+    }
+    push_markup(out, " <em>")?;
+    push_markup(out, words)?;
+    push_markup(out, "</em>")
+}
+
+/// Whether the parent of a span isn't in the list.
+fn is_orphan(place: Place) -> bool
+    ensures { result ≡ is_orphan place }
+{
+    match place {
+        Place::Orphan => true,
+        Place::Root | Place::Child | Place::Cycle => false,
+    }
+}
+
+/// Whether a span is its own ancestor.
+fn is_cycle(place: Place) -> bool
+    ensures { result ≡ is_cycle place }
+{
+    match place {
+        Place::Cycle => true,
+        Place::Root | Place::Child | Place::Orphan => false,
+    }
+}
+
+/// Appends what is remarked of a span.
+fn push_remarks<A: Allocator>(
+    out: &mut String<A>,
+    span: &Span<A>,
+    place: Place,
+) -> Result<(), OutOfMemory>
+    ensures { OnOk result (string_bytes out.new
+        ≡ string_bytes out.old ++ html_bytes (remarks_html span.now place)) }
+{
+    push_remark(out, is_error(span), "error")?;
+    push_remark(out, is_orphan(place), "parent not received")?;
+    push_remark(out, is_cycle(place), "cycle")?;
+    push_remark(out, ends_early(span), "ends before it starts")
+}
+
+/// Appends a mark of a row with an error.
+#[tactic(auto, unfolding(crate::specs::Html::html_bytes, crate::specs::Rows::bad_html))]
+fn push_bad<A: Allocator>(out: &mut String<A>, bad: bool) -> Result<(), OutOfMemory>
+    ensures { OnOk result (string_bytes out.new
+        ≡ string_bytes out.old ++ html_bytes (bad_html bad)) }
+{
+    if bad {
+        push_markup(out, " bad")
+    } else {
+        Ok(())
+    }
+}
+
+/// Appends the colour of the service, and the identifier by which links come to the row.
+fn push_class<A: Allocator + Copy>(
+    out: &mut String<A>,
+    span: &ViewSpan<A>,
+) -> Result<(), OutOfMemory>
+    ensures { OnOk result (string_bytes out.new
+        ≡ string_bytes out.old ++ html_bytes (class_html span.now)) }
+{
+    push_markup(out, "' class='row c")?;
+    push_number(out, service_colour(span))?;
+    push_bad(out, is_error(&span.span))?;
+    push_markup(out, "' id='s-")?;
+    push_digits(out, &span.span.span_id)
+}
+
+/// A depth, counted from 1.
+fn level_of(depth: usize) -> u64
+    ensures { result ≡ level_of depth }
+{
+    (depth as u64).saturating_add(1)
+}
+
+/// Appends how deep a row is.
+fn push_depth<A: Allocator>(out: &mut String<A>, depth: usize) -> Result<(), OutOfMemory>
+    ensures { OnOk result (string_bytes out.new
+        ≡ string_bytes out.old ++ html_bytes (depth_html depth)) }
+{
+    push_markup(out, "' aria-level='")?;
+    push_number(out, level_of(depth))?;
+    push_markup(out, "' style='--d:")?;
+    push_number(out, depth as u64)
+}
+
+/// How wide the bar of a span is, in ten thousandths of the time of its trace.
+fn width_of<A: Allocator>(span: &Span<A>, frame: Frame) -> u64
+    ensures { result ≡ width_of span.now frame }
+{
+    let start = share_of(frame, span.start_time_unix_nano);
+    share_of(frame, end_of(span)).saturating_sub(start)
+}
+
+/// Appends where the bar of a span begins, and how wide it is.
+fn push_bar<A: Allocator>(
+    out: &mut String<A>,
+    span: &Span<A>,
+    frame: Frame,
+) -> Result<(), OutOfMemory>
+    ensures { OnOk result (string_bytes out.new
+        ≡ string_bytes out.old ++ html_bytes (bar_html span.now frame)) }
+{
+    push_markup(out, ";--s:")?;
+    push_number(out, share_of(frame, span.start_time_unix_nano))?;
+    push_markup(out, ";--w:")?;
+    push_number(out, width_of(span, frame))?;
+    push_markup(out, "'>")
+}
+
+/// Appends the name of a span, its service and what is remarked.
+fn push_label<A: Allocator>(
+    out: &mut String<A>,
+    span: &ViewSpan<A>,
+    place: Place,
+) -> Result<(), OutOfMemory>
+    ensures { OnOk result (string_bytes out.new
+        ≡ string_bytes out.old ++ html_bytes (label_html span.now place)) }
+{
+    push_markup(out, "<details><summary><span class='label'><b>")?;
+    push_text(out, &span.span.name)?;
+    push_markup(out, "</b> <small>")?;
+    push_text(out, service_of(span))?;
+    push_markup(out, "</small>")?;
+    push_remarks(out, &span.span, place)
+}
+
+/// Appends where an event is.
+fn push_tick<A: Allocator>(
+    out: &mut String<A>,
+    frame: Frame,
+    event: &Event<A>,
+) -> Result<(), OutOfMemory>
+    ensures { OnOk result (string_bytes out.new
+        ≡ string_bytes out.old ++ html_bytes (tick_html frame event.now)) }
+{
+    push_markup(out, "<i class='tick' style='--t:")?;
+    push_number(out, share_of(frame, event.time_unix_nano))?;
+    push_markup(out, "'></i>")
+}
+
+/// Appends where events are.
+#[tactic(auto, unfolding(crate::specs::Html::html_bytes))]
+fn push_ticks<A: Allocator>(
+    out: &mut String<A>,
+    frame: Frame,
+    events: &[Event<A>],
+) -> Result<(), OutOfMemory>
+    ensures { OnOk result (string_bytes out.new
+        ≡ string_bytes out.old ++ html_bytes (each (tick_html frame) events.now)) }
+{
+    for event in events {
+        push_tick(out, frame, event)?;
+    }
+    Ok(())
+}
+
+/// Appends the bar of a span, with a tick for each event, and how long the span took.
+fn push_time<A: Allocator>(
+    out: &mut String<A>,
+    span: &Span<A>,
+    frame: Frame,
+) -> Result<(), OutOfMemory>
+    ensures { OnOk result (string_bytes out.new
+        ≡ string_bytes out.old ++ html_bytes (time_html span.now frame)) }
+{
+    push_markup(out, "</span><span class='time'><i class='bar'></i>")?;
+    push_ticks(out, frame, &span.events)?;
+    push_markup(out, "</span><span class='took'>")?;
+    push_duration(out, time_of(span))?;
+    push_markup(out, "</span></summary><div class='panel'>")
+}
+
+/// Appends what is in the tag of a row.
+fn push_tag<A: Allocator + Copy>(
+    out: &mut String<A>,
+    span: &ViewSpan<A>,
+    depth: usize,
+    frame: Frame,
+) -> Result<(), OutOfMemory>
+    ensures { OnOk result (string_bytes out.new
+        ≡ string_bytes out.old ++ html_bytes (tag_html span.now depth frame)) }
+{
+    push_class(out, span)?;
+    push_depth(out, depth)?;
+    push_bar(out, &span.span, frame)
+}
+
+/// Appends the rest of the row of a span.
+fn push_span<A: Allocator + Copy>(
+    out: &mut String<A>,
+    span: &ViewSpan<A>,
+    row: &Row,
+    frame: Frame,
+) -> Result<(), OutOfMemory>
+    ensures { OnOk result (string_bytes out.new
+        ≡ string_bytes out.old ++ html_bytes (span_html span.now row.now frame)) }
+{
+    push_tag(out, span, row.depth, frame)?;
+    push_label(out, span, row.place)?;
+    push_time(out, &span.span, frame)?;
+    push_panel(out, span)?;
+    push_markup(out, "</div></details></li>")
+}
+
+/// Appends the rest of a row, if its span is in the list.
+#[tactic(auto, unfolding(crate::specs::Html::html_bytes))]
+fn push_rest<A: Allocator + Copy>(
+    out: &mut String<A>,
+    spans: &[&ViewSpan<A>],
+    row: &Row,
+    frame: Frame,
+) -> Result<(), OutOfMemory>
+    ensures { OnOk result (string_bytes out.new ≡ string_bytes out.old
+        ++ html_bytes (span_rest (slice_get spans.now row.now.index) row.now frame)) }
+{
+    match spans.get(row.index) {
+        Some(span) => push_span(out, span, row, frame),
+        None => Ok(()),
+    }
+}
+
+/// Appends a row.
+fn push_row<A: Allocator + Copy>(
+    out: &mut String<A>,
+    spans: &[&ViewSpan<A>],
+    row: &Row,
+    frame: Frame,
+) -> Result<(), OutOfMemory>
+    ensures { OnOk result (string_bytes out.new ≡ string_bytes out.old
+        ++ html_bytes (row_html (page_row spans.now frame row.now))) }
+{
+    push_markup(out, "<li data-row='")?;
+    push_number(out, row.index as u64)?;
+    push_rest(out, spans, row, frame)
+}
+
+/// Appends rows in this time.
+#[tactic(auto, unfolding(crate::specs::Html::html_bytes))]
+fn push_each_row<A: Allocator + Copy>(
+    out: &mut String<A>,
+    spans: &[&ViewSpan<A>],
+    rows: &[Row],
+    frame: Frame,
+) -> Result<(), OutOfMemory>
+    ensures { OnOk result (string_bytes out.new ≡ string_bytes out.old
+        ++ html_bytes (each (λ row. row_html (page_row spans.now frame row)) rows.now)) }
+{
+    for row in rows {
+        push_row(out, spans, row, frame)?;
+    }
+    Ok(())
+}
+
+/// Appends a row for each of these.
+pub(crate) fn push_rows<A: Allocator + Copy>(
+    out: &mut String<A>,
+    spans: &[&ViewSpan<A>],
+    rows: &[Row],
+) -> Result<(), OutOfMemory>
+    ensures { OnOk result (string_bytes out.new
+        ≡ string_bytes out.old ++ html_bytes (each row_html (page_rows spans.now rows.now))) }
+{
+    push_each_row(out, spans, rows, frame_of(spans))
+}

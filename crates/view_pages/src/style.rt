@@ -1,0 +1,80 @@
+//! How the pages look.
+
+/// The stylesheet of all pages, served as `/style.css` with the type `text/css; charset=utf-8`. It
+/// has a light and a dark theme, by what the browser prefers.
+pub const STYLE: &str = "
+:root { color-scheme: light dark; --back: #fff; --text: #1b2430; --soft: #566173; --line: #e2e7ee;
+  --card: #f5f7fa; --link: #0b57c4; --bad: #b3261e; --bad-back: #fbe9e7;
+  --c0: #3b74d9; --c1: #0e8a6b; --c2: #b5620c; --c3: #8a52cf; --c4: #c23a7c; --c5: #16829a;
+  --c6: #6c7a12; --c7: #9a5b45; }
+@media (prefers-color-scheme: dark) {
+  :root { --back: #12161d; --text: #e6eaf0; --soft: #a2adbd; --line: #2a313c; --card: #1a2029;
+    --link: #8ab8ff; --bad: #ff9b90; --bad-back: #40211f;
+    --c0: #6f9df0; --c1: #3fb894; --c2: #e0964a; --c3: #b18bea; --c4: #e87db0; --c5: #4bb4cb;
+    --c6: #a9b84b; --c7: #cc9682; }
+}
+* { box-sizing: border-box; }
+body { margin: 0; background: var(--back); color: var(--text);
+  font: 14px/1.45 system-ui, 'Segoe UI', 'DejaVu Sans', sans-serif; }
+header { padding: 0.9rem 1.25rem 0.6rem; border-bottom: 1px solid var(--line); }
+h1 { margin: 0.15rem 0; font-size: 1.2rem; overflow-wrap: anywhere; }
+header p { margin: 0.2rem 0; color: var(--soft); }
+a { color: var(--link); }
+code, dd, .took, pre { font-family: ui-monospace, 'DejaVu Sans Mono', monospace; }
+code, dd { font-size: 0.92em; }
+b, dt, dd, h5, td { unicode-bidi: isolate; }
+.rows { list-style: none; margin: 0; padding: 0 0 2rem; }
+.row { border-bottom: 1px solid var(--line); content-visibility: auto;
+  contain-intrinsic-size: auto 30px; }
+.row:target > details > summary { outline: 2px solid var(--link); outline-offset: -2px; }
+.c0 { --c: var(--c0); } .c1 { --c: var(--c1); } .c2 { --c: var(--c2); } .c3 { --c: var(--c3); }
+.c4 { --c: var(--c4); } .c5 { --c: var(--c5); } .c6 { --c: var(--c6); } .c7 { --c: var(--c7); }
+summary { display: grid; grid-template-columns: minmax(14rem, 36%) 1fr 5.5rem; gap: 0.75rem;
+  align-items: center; min-height: 29px; padding: 0 1.25rem; cursor: pointer; list-style: none; }
+summary::-webkit-details-marker { display: none; }
+summary:hover, details[open] > summary { background: var(--card); }
+summary:focus-visible { outline: 2px solid var(--link); outline-offset: -2px; }
+.label { margin-left: calc(min(var(--d), 24) * 0.9rem); padding-left: 0.5rem;
+  border-left: 4px solid var(--c); display: flex; gap: 0.45rem; align-items: baseline;
+  overflow: hidden; white-space: nowrap; }
+.label b { font-weight: 600; min-width: 3rem; overflow: hidden; text-overflow: ellipsis; }
+.label small { color: var(--soft); min-width: 0; flex: 0 9 auto; overflow: hidden;
+  text-overflow: ellipsis; }
+.label em { flex: none; }
+em { font-style: normal; font-size: 0.82em; padding: 0.05rem 0.4rem; border-radius: 0.6rem;
+  color: var(--bad); background: var(--bad-back); }
+.time { position: relative; height: 15px; background-image: linear-gradient(90deg,
+  var(--line) 1px, transparent 1px); background-size: 25% 100%; }
+.bar { position: absolute; top: 2px; bottom: 2px; left: min(calc(var(--s) * 0.01%), 100% - 3px);
+  width: calc(var(--w) * 0.01%); min-width: 3px; border-radius: 3px; background: var(--c); }
+.bad .bar { background: repeating-linear-gradient(135deg, var(--bad) 0 6px, var(--c) 6px 9px); }
+.tick { position: absolute; top: 0; bottom: 0; width: 2px; background: var(--text);
+  left: min(calc(var(--t) * 0.01%), 100% - 2px); }
+.took { text-align: right; color: var(--soft); white-space: nowrap; }
+.panel { margin: 0.1rem 1.25rem 0.9rem; padding: 0.5rem 1rem 0.8rem; background: var(--card);
+  border-left: 4px solid var(--c); border-radius: 0 6px 6px 0; overflow-wrap: anywhere; }
+h4 { margin: 0.8rem 0 0.25rem; font-size: 0.95rem; } h5 { margin: 0.4rem 0 0.1rem;
+  font-size: 0.9rem; font-weight: 600; }
+h5 small { color: var(--soft); font-weight: 400; }
+h4:has(+ dl:empty):not(:has(em), :has(+ dl + p)), h4:not(:has(em)):not(:has(+ dl, + h5)), p:empty,
+dl:empty { display: none; }
+dl { display: grid; grid-template-columns: minmax(6rem, max-content) 1fr; gap: 0.1rem 1rem;
+  margin: 0; }
+dt { color: var(--soft); } dd { margin: 0; white-space: pre-wrap; }
+.panel p { margin: 0.2rem 0; color: var(--soft); } ul { margin: 0; padding-left: 1.1rem; }
+dl dl { border-left: 1px solid var(--line); padding-left: 0.6rem; }
+form { display: flex; flex-wrap: wrap; gap: 0.5rem 1rem; align-items: end; margin: 0.5rem 0; }
+label { display: grid; gap: 0.1rem; color: var(--soft); font-size: 0.85rem; }
+input, button { font: inherit; color: var(--text); background: var(--back); padding: 0.25rem 0.5rem;
+  border: 1px solid var(--soft); border-radius: 5px; }
+table { border-collapse: collapse; width: 100%; } th { text-align: left; color: var(--soft);
+  font-weight: 500; } td, th { padding: 0.35rem 1.25rem; border-bottom: 1px solid var(--line); }
+tr:hover td { background: var(--card); }
+@media (max-width: 640px) {
+  summary { grid-template-columns: 1fr 5.5rem; padding: 0.25rem 0.75rem; gap: 0.2rem 0.5rem; }
+  .label { grid-column: 1 / 3; margin-left: calc(min(var(--d), 12) * 0.5rem); }
+  header, td, th { padding-left: 0.75rem; padding-right: 0.75rem; }
+  .panel { margin: 0 0.5rem 0.6rem; }
+  dl { grid-template-columns: 1fr; } dd { padding-left: 0.75rem; }
+}
+";
