@@ -1,0 +1,3 @@
+mod apart;
+mod equal;
+mod texts;

@@ -1,0 +1,15 @@
+use Rattle.std.proofs.Common.{◌++◌, ◌∙◌, ap, codes}
+use Rattle.view_json.specs.Lists.{name_members}
+use Rattle.view_json.specs.Members.{hex_member}
+use Rattle.view_json.proofs.Chains.{behind}
+use Rattle.view_json.proofs.list.push_names.Goals as goal
+
+pub returns-clause-tokens : goal.returns-clause-tokens
+unfolding name_members
+returns-clause-tokens g c =
+    let s0 = c.args.out.now.tokens in
+    let s1 = c.push_hex.new.out.tokens in
+    let s2 = c.push_text.new.out.tokens in
+    behind s0 s2 c.push_text-2.new.out.tokens _ _
+    (behind s0 s1 s2 _ _ (c.in_ok-push_hex.ensures.tokens ∙ ap (λ l. s0 ++ hex_member (codes "traceId") l) c.to_be_bytes.ensures) c.in_ok-push_text.ensures.tokens)
+    c.in_ok-push_text-2.ensures.tokens

@@ -1,0 +1,37 @@
+-- The list of traces, and what is counted, in JSON. (profile)
+use Rattle.std.specs.Prelude.{ℕ, List, [], ◌∷◌, ◌++◌, codes}
+use Rattle.std.specs.Int.{w128, to_be_bytes}
+use Rattle.std.specs.List.{flat_map}
+use Rattle.json.specs.Token.{Token, begin_array, begin_object, end_array, end_object, key}
+use Rattle.view_json.specs.declared.list.TraceLine.{TraceLine}
+use Rattle.view_json.specs.declared.list.Stats.{Stats}
+use Rattle.view_json.specs.Members.{hex_member, long_member, number_member, text_member}
+
+-- what a trace of the list is called
+unfoldable pub name_members : TraceLine → List Token
+name_members line = hex_member (codes "traceId") (to_be_bytes w128 line.trace)
+    ++ text_member (codes "service") line.service.now
+    ++ text_member (codes "name") line.name.now
+
+-- its time, and what is counted of it
+unfoldable pub count_members : TraceLine → List Token
+count_members line = long_member (codes "startTimeUnixNano") line.start_time_unix_nano
+    ++ long_member (codes "endTimeUnixNano") line.end_time_unix_nano
+    ++ number_member (codes "spans") line.spans
+    ++ number_member (codes "errors") line.errors
+
+-- a trace of the list
+unfoldable pub line_tokens : TraceLine → List Token
+line_tokens line = begin_object ∷ (name_members line ++ count_members line ++ end_object ∷ [])
+
+-- the list
+unfoldable pub lines_tokens : List TraceLine → List Token
+lines_tokens lines = begin_object ∷ key (codes "traces") ∷ begin_array
+    ∷ (flat_map line_tokens lines ++ end_array ∷ end_object ∷ [])
+
+-- what is counted
+unfoldable pub stats_tokens : Stats → List Token
+stats_tokens stats = begin_object ∷ (number_member (codes "received") stats.received
+    ++ number_member (codes "kept") stats.kept
+    ++ number_member (codes "evicted") stats.evicted
+    ++ number_member (codes "traces") stats.traces ++ end_object ∷ [])
