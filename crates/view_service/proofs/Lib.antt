@@ -1,0 +1,4 @@
+mod Fields
+mod Received
+mod Strips
+mod Sums

@@ -1,0 +1,29 @@
+-- What it means that parts of a request are kept.
+use Rattle.std.specs.Prelude.{◌≡◌, ℕ, ◌+◌, List, MatchOption, None, Option, nat_eq}
+use Rattle.std.specs.List.{AllZip}
+use Rattle.std.specs.Map.{lookup}
+use Rattle.std.specs.List.Sorted.{IsPermutation}
+use Rattle.trace_store.specs.Stores.{AreNewest, Store}
+use Rattle.trace_store.specs.Traces.{span_count, spans_of, with_parts}
+
+-- A store has received the parts, and keeps the newest traces within its limits.
+pub record KeepsParts {S : Type 0} (size : S → ℕ) (old : Store S) (parts : List (ℕ × List S))
+    (new : Store S) : Type 0 where
+  pub received : new.kept.received ≡ old.kept.received + span_count parts
+  pub order : List (ℕ × List S)
+  pub is_order : IsPermutation parts order
+  pub newest : AreNewest size old.max_spans old.max_bytes (with_parts old.kept.traces order)
+      new.kept.traces
+  pub max_spans : new.max_spans ≡ old.max_spans
+  pub max_bytes : new.max_bytes ≡ old.max_bytes
+
+-- Who has kept so many spans in a store that others share has kept these too.
+abbrev pub CountsParts : {S : Type 0} → ℕ → List (ℕ × List S) → ℕ → Type 0
+CountsParts old parts new = new ≡ old + span_count parts
+
+-- Of a trace that a store keeps, copies of its spans are lent, in the order in which they came; and
+-- nothing of any other.
+abbrev pub LendsCopies : {S : Type 0} → (S → S → Type 0) → Store S → ℕ → Option (List S) → Type 0
+LendsCopies is_clone store trace found = MatchOption found
+    (lookup (nat_eq trace) store.kept.traces ≡ None)
+    (λ copies. AllZip is_clone (spans_of store.kept.traces trace) copies)
