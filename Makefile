@@ -6,7 +6,7 @@ PREFIX ?= $(HOME)/.local
 help: ## List the targets
 	@grep -E '^[a-z]+:.*##' Makefile | sed -E 's/:.*## /: /'
 
-run: ## Build the first program without its proof, and run it (a minute)
+run: ## Build the first programs without their proofs, and run them; a page to open (three minutes)
 	tools/run-first
 
 tour: ## Build the other programs and run them, each with a word on what it shows
@@ -26,6 +26,7 @@ test: docs ## The gate: every proof from nothing, wrong bodies, tests and runs (
 	tools/demo-runs
 	tools/export-runs
 	tools/shop-runs
+	tools/view-runs
 	tools/hostile-bodies
 	tools/wont-compile
 

@@ -1,0 +1,14 @@
+//! The program `trace-view`, over a runtime and writers: it receives spans by OTLP, keeps the
+//! newest traces, and shows them in a browser.
+#![tactic(auto)]
+
+mod address;
+mod args;
+mod failure;
+mod peer;
+mod peers;
+mod program;
+
+pub use args::ViewArgs;
+pub use peer::{Peer, Turn};
+pub use program::run_view;
