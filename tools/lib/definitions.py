@@ -63,7 +63,7 @@ def definitions_in(text):
         if line.startswith("use ") and not found:
             head = head or " ".join(words)
         is_mutual = line.endswith("mutual") or is_mutual and line[:1] in ("", " ")
-        if here and (is_mutual or not line.startswith("  pub ")):
+        if here and (is_mutual or here[1] or not line.startswith("  pub ")):
             parts = parts_of(lines[at + 1 :], here[1]) if here[1] else []
             found.append(Definition(here[2], " ".join(words), here[1] or "", parts, set()))
         if found and not line.startswith(("use ", "pub use ")):
