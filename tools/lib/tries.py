@@ -16,6 +16,9 @@ OWN = re.compile(
 )
 
 
+PATIENCE = 10  # seconds in which a run ends that is asked to
+
+
 def is_ours(line):
     """Whether a line of a run is not what the toolchain says of one that goes well."""
     return not OWN.match(line)
@@ -40,7 +43,12 @@ class Try:
 
     def __exit__(self, *_):
         if self.process.poll() is None:
-            os.killpg(self.process.pid, signal.SIGKILL)
+            # The toolchain ends the program, which has a group of its own, if it is asked to end.
+            os.killpg(self.process.pid, signal.SIGTERM)
+            try:
+                self.process.communicate(timeout=PATIENCE)
+            except subprocess.TimeoutExpired:
+                os.killpg(self.process.pid, signal.SIGKILL)
         self.process.communicate()
 
     def lines(self):
