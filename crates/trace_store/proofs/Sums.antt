@@ -1,6 +1,6 @@
 -- What is counted of traces.
 use Rattle.std.proofs.Common.{◌≡◌, ℕ, ◌+◌, ◌-◌, ◌<◌, ◌≤◌, List, [], ◌∷◌, ◌++◌, length, take, map, nat_eq, Option, Some, None, refl, sym, ◌∙◌, ap, arith}
-use Rattle.std.specs.Prelude.{sum_by, slice_get, unwrap_or, option_map}
+use Rattle.std.specs.Prelude.{MatchOption, sum_by, slice_get, unwrap_or, option_map}
 use Rattle.std.specs.Map.{lookup, remove_entry, values_of}
 use Rattle.std.proofs.lemmas.List.{take_more, map-append, length-append}
 use Rattle.std.proofs.lemmas.List.Sums.{sum_by-append}
@@ -21,7 +21,7 @@ last_split es e h =
     ∙ take_more es (length es - 1) e within
     ∙ ap (λ x. take (length es - 1) es ++ x ∷ []) (get_or_from_slice_get es (length es - 1) e e h)
 
-pub no_last : {T : Type 0} (es : List T) → slice_get es (length es - 1) ≡ None → es ≡ []
+no_last : {T : Type 0} (es : List T) → slice_get es (length es - 1) ≡ None → es ≡ []
 no_last [] h = refl
 no_last (e ∷ es) h =
     let within : length (e ∷ es) - 1 < length (e ∷ es) = omega arith in
@@ -29,12 +29,20 @@ no_last (e ∷ es) h =
     cc
 
 -- what was popped was the last
-pub popped : {S : Type 0} (c after : LruCache ℕ (List S)) (k : ℕ) (spans : List S)
+popped : {S : Type 0} (c after : LruCache ℕ (List S)) (k : ℕ) (spans : List S)
     → slice_get c.entries (length c.entries - 1) ≡ Some (k, spans)
     → after ≡ lru_cache (take (length c.entries - 1) c.entries) c.cap
     → c.entries ≡ after.entries ++ (k, spans) ∷ []
 popped c after k spans last popping =
     last_split c.entries (k, spans) last ∙ ap (λ x. x ++ (k, spans) ∷ []) (sym (ap (λ x. x.entries) popping))
+
+-- what was popped, if there was any
+pub oldest_of : {S : Type 0} (c after : LruCache ℕ (List S)) (o : Option (ℕ × List S))
+    → o ≡ slice_get c.entries (length c.entries - 1)
+    → after ≡ lru_cache (take (length c.entries - 1) c.entries) c.cap
+    → MatchOption o (c.entries ≡ []) (λ oldest. c.entries ≡ after.entries ++ oldest ∷ [])
+oldest_of c after None none popping = no_last c.entries (sym none)
+oldest_of c after (Some oldest) some popping = popped c after oldest.0 oldest.1 (sym some) popping
 
 pub sum_last : {S : Type 0} (f : List S → ℕ) (es left : List (ℕ × List S)) (k : ℕ) (spans : List S)
     → es ≡ left ++ (k, spans) ∷ []

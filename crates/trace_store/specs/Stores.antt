@@ -1,13 +1,16 @@
 -- What a store of traces is.
-use Rattle.std.specs.Prelude.{◌≡◌, ℕ, ◌+◌, ◌≤◌, List, [], ◌∷◌, ◌++◌}
-use Rattle.trace_store.specs.Traces.{byte_count, span_count}
+use Rattle.std.specs.Prelude.{◌≡◌, ℕ, ◌+◌, ◌-◌, ◌^◌, ◌≤◌, List, [], ◌∷◌, ◌++◌, length, min, reverse}
+use Rattle.circular_buffer.specs.Buffer.{keep_last}
+use Rattle.trace_store.specs.Traces.{byte_count, span_count, traces_of}
 
 -- The traces that are kept, the newest first; how many spans were received, and how many of them
--- were evicted.
+-- were evicted; how many traces were evicted, and which ones last, in the order in which they went.
 pub record Kept (S : Type 0) : Type 0 where
   pub traces : List (ℕ × List S)
   pub received : ℕ
   pub evicted : ℕ
+  pub evicted_traces : ℕ
+  pub last_evicted : List ℕ
 
 -- The same, and how many spans and bytes are kept at most.
 pub record Store (S : Type 0) : Type 0 where
@@ -33,3 +36,20 @@ pub record AreNewest {S : Type 0} (size : S → ℕ) (spans bytes : ℕ) (all ne
   pub split : all ≡ newest ++ older
   pub needed : (next : ℕ × List S) (others : List (ℕ × List S)) → older ≡ next ∷ others
       → ¬ AreWithin size spans bytes (newest ++ next ∷ [])
+
+-- At most 1,000 of the traces that went are named, and 2^64 - 1 counted.
+abbrev pub IsBounded : {S : Type 0} → Kept S → Type 0
+IsBounded kept = (length kept.last_evicted ≤ 1000) × (kept.evicted_traces ≤ 2 ^ 64 - 1)
+
+-- These traces went, the first of them last. They are counted, and the last 1,000 of all that went
+-- are named.
+pub record AreNamed {S : Type 0} (old new : Kept S) (older : List (ℕ × List S)) : Type 0 where
+  pub count : new.evicted_traces ≡ min (old.evicted_traces + length older) (2 ^ 64 - 1)
+  pub names : new.last_evicted
+      ≡ keep_last 1000 (old.last_evicted ++ reverse (traces_of older))
+
+-- Of all traces those that aren't kept went.
+pub record Evicts {S : Type 0} (all : List (ℕ × List S)) (old new : Kept S) : Type 0 where
+  pub older : List (ℕ × List S)
+  pub split : all ≡ new.traces ++ older
+  pub named : AreNamed old new older

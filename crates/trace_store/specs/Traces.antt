@@ -1,7 +1,11 @@
 -- What traces are: each an identifier and the spans of that trace, in the order in which they came.
 -- The trace that got a span last is the first.
-use Rattle.std.specs.Prelude.{◌≡◌, ℕ, ◌≤◌, List, [], ◌∷◌, ◌++◌, length, nat_eq, sum_by, unwrap_or}
+use Rattle.std.specs.Prelude.{◌≡◌, ℕ, ◌≤◌, List, [], ◌∷◌, ◌++◌, length, map, nat_eq, sum_by, unwrap_or}
 use Rattle.std.specs.Map.{lookup, remove_entry, values_of}
+
+-- the identifiers of traces
+abbrev pub traces_of : {S : Type 0} → List (ℕ × List S) → List ℕ
+traces_of traces = map (λ entry. entry.0) traces
 
 -- the spans of a trace
 abbrev pub spans_of : {S : Type 0} → List (ℕ × List S) → ℕ → List S

@@ -1,14 +1,17 @@
 //! Traces, and what is counted of them.
 
 ghost use Rattle.std.specs.Prelude.{◌≡◌, ◌+◌, ◌≤◌, ◌<◌, ◌↔◌, ◌++◌, ◌∷◌, [], ℕ, List, IfOk, IsTrue};
-ghost use Rattle.std.specs.Prelude.{OnErr, OnOk, length};
-ghost use Rattle.trace_store.specs.Stores.{AreNewest, AreWithin, IsAccounted};
+ghost use Rattle.std.specs.Prelude.{OnErr, OnOk, ◌-◌, ◌^◌, length, min};
+ghost use Rattle.circular_buffer.specs.Buffer.{keep_last};
+ghost use Rattle.trace_store.specs.Stores.{AreNewest, AreWithin, Evicts, IsAccounted};
+ghost use Rattle.trace_store.specs.Stores.{IsBounded};
 ghost use Rattle.std.specs.List.Sorted.{IsPermutation};
 ghost use Rattle.trace_store.specs.Traces.{span_count, with_parts, with_spans};
 
 use crate::parts::{Part, add_all, byte_total, span_total};
 use crate::size::{SpanSize, known_size, total_size};
 use crate::traces::{Traces, add, take_oldest};
+use circular_buffer::HeapCircularBuffer;
 use lru::LruCache;
 use std::alloc::{AllocError, Allocator};
 use std::collections::LinkedList;
@@ -17,6 +20,9 @@ use std::marker::Model;
 
 /// How many spans are received at most.
 const MOST: u64 = (1 << 63) - 1;
+
+/// Of how many traces that were evicted it is known which they are.
+const NAMED: usize = 1_000;
 
 /// How much is kept at most.
 #[derive(Debug, Clone, Copy, PartialEq, Eq)]
@@ -34,10 +40,12 @@ pub(crate) struct Kept<S: SpanSize, H: BuildHasher, A: Allocator> {
     bytes: u64,
     received: u64,
     evicted: u64,
+    evicted_traces: u64,
+    last_evicted: HeapCircularBuffer<u128, A>,
 }
 
 impl<S: SpanSize, H: BuildHasher, A: Allocator> Model for Kept<S, H, A> {
-    ghost use Rattle.std.specs.Prelude.{◌≡◌, ◌+◌, ◌<◌, ◌^◌};
+    ghost use Rattle.std.specs.Prelude.{◌≡◌, ◌+◌, ◌<◌, ◌≤◌, ◌^◌, length};
     ghost use Rattle.trace_store.specs.Stores as model;
     ghost use Rattle.trace_store.specs.Traces.{byte_count, span_count};
 
@@ -47,24 +55,38 @@ impl<S: SpanSize, H: BuildHasher, A: Allocator> Model for Kept<S, H, A> {
       traces = k.traces.entries;
       received = k.received;
       evicted = k.evicted;
+      evicted_traces = k.evicted_traces;
+      last_evicted = k.last_evicted.items;
     } };
 
     ghost invariant = { λ k. (k.received ≡ span_count k.traces.entries + k.evicted)
         × (k.received < 2 ^ 63)
-        × (k.bytes ≡ byte_count S.size_of k.traces.entries) };
+        × (k.bytes ≡ byte_count S.size_of k.traces.entries)
+        × (k.last_evicted.capacity ≡ 1000)
+        × (length k.last_evicted.items ≤ 1000)
+        × (k.evicted_traces < 2 ^ 64) };
 }
 
 impl<S: SpanSize + Drop, H: BuildHasher + Drop, A: Allocator + Copy> Kept<S, H, A> {
     /// No trace.
     pub(crate) fn new(alloc: A, hasher: H) -> Result<Kept<S, H, A>, AllocError>
-        ensures { IfOk result (λ kept. kept ≡ record { traces = []; received = 0; evicted = 0 }) }
+        ensures { IfOk result (λ kept. kept ≡ record {
+          traces = [];
+          received = 0;
+          evicted = 0;
+          evicted_traces = 0;
+          last_evicted = [];
+        }) }
     {
         let traces = LruCache::unbounded_with_hasher(alloc, hasher)?;
+        let last_evicted = HeapCircularBuffer::with_capacity(alloc, NAMED)?;
         Ok(Kept {
             traces,
             bytes: 0,
             received: 0,
             evicted: 0,
+            evicted_traces: 0,
+            last_evicted,
         })
     }
 
@@ -89,11 +111,26 @@ impl<S: SpanSize + Drop, H: BuildHasher + Drop, A: Allocator + Copy> Kept<S, H, 
         self.evicted
     }
 
+    /// How many traces were evicted.
+    pub(crate) fn evicted_traces(&self) -> u64
+        ensures { result ≡ self.now.evicted_traces }
+    {
+        self.evicted_traces
+    }
+
+    /// The traces that were evicted last, the last of them last.
+    pub(crate) fn last_evicted(&self) -> &HeapCircularBuffer<u128, A>
+        ensures { result.now.items ≡ self.now.last_evicted }
+    {
+        &self.last_evicted
+    }
+
     /// Whether the traces are within limits.
     fn is_within(&self, limits: Limits) -> bool
         ensures value { IsTrue result
             ↔ AreWithin S.size_of limits.max_spans limits.max_bytes self.now.traces }
         ensures accounted { IsAccounted self.now }
+        ensures bounded { IsBounded self.now }
     {
         self.received - self.evicted <= limits.max_spans && self.bytes <= limits.max_bytes
     }
@@ -155,25 +192,32 @@ impl<S: SpanSize + Drop, H: BuildHasher + Drop, A: Allocator + Copy> Kept<S, H, 
         ensures received { self.new.received ≡ self.old.received }
         ensures oldest { (oldest : ℕ × List S)
             × (self.old.traces ≡ self.new.traces ++ oldest ∷ [])
-            × (self.new.evicted ≡ self.old.evicted + length oldest.1) }
+            × (self.new.evicted ≡ self.old.evicted + length oldest.1)
+            × (self.new.evicted_traces ≡ min (self.old.evicted_traces + 1) (2 ^ 64 - 1))
+            × (self.new.last_evicted ≡ keep_last 1000 (self.old.last_evicted ++ oldest.0 ∷ [])) }
     {
-        let Some(spans) = take_oldest(&mut self.traces) else {
+        let Some((trace, spans)) = take_oldest(&mut self.traces) else {
             return;
         };
         self.evicted += spans.len() as u64;
         self.bytes -= known_size(&spans);
+        self.evicted_traces = self.evicted_traces.saturating_add(1);
+        self.last_evicted.push_back(trace);
     }
 
     /// Evicts the oldest traces until the others are within limits.
     pub(crate) fn evict(&mut self, limits: Limits)
         ensures newest { AreNewest S.size_of limits.max_spans limits.max_bytes
             self.old.traces self.new.traces }
+        ensures named { Evicts self.old.traces self.old self.new }
         ensures within { AreWithin S.size_of limits.max_spans limits.max_bytes self.new.traces }
         ensures received { self.new.received ≡ self.old.received }
         ensures accounted { IsAccounted self.new }
     {
-        while !self.is_within(limits) {
+        let mut is_within = self.is_within(limits);
+        while !is_within {
             self.evict_oldest();
+            is_within = self.is_within(limits);
         }
     }
 }

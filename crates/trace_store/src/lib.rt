@@ -2,8 +2,8 @@
 //!
 //! A `TraceStore` keeps spans by the trace that they belong to, whatever a span is. It holds so
 //! many spans at most, and so many bytes: where there are more, the trace that got a span least
-//! recently goes whole, and its spans are counted. So each span that was received is kept or
-//! counted as evicted, at every moment.
+//! recently goes whole. Its spans are counted, and the last 1,000 of such traces are named. So each
+//! span that was received is kept or counted as evicted, at every moment.
 #![tactic(auto)]
 
 mod kept;

@@ -5,12 +5,13 @@ ghost use Rattle.std.specs.Prelude.{OnErr, OnOk, length, nat_eq, option_copied};
 ghost use Rattle.std.specs.List.Sorted.{IsPermutation};
 ghost use Rattle.std.specs.Map.{lookup};
 ghost use Rattle.std.specs.List.{AllZip};
-ghost use Rattle.trace_store.specs.Stores.{AreNewest, AreWithin, IsAccounted};
+ghost use Rattle.trace_store.specs.Stores.{AreNewest, AreWithin, Evicts, IsAccounted};
 ghost use Rattle.trace_store.specs.Traces.{span_count, spans_of, with_parts, with_spans};
 
 use crate::kept::{Kept, Limits};
 use crate::parts::Part;
 use crate::size::SpanSize;
+use circular_buffer::HeapCircularBuffer;
 use lru::Iter;
 use std::alloc::{AllocError, Allocator};
 use std::collections::LinkedList;
@@ -53,7 +54,13 @@ impl<S: SpanSize + Drop, H: BuildHasher + Drop, A: Allocator + Copy> TraceStore<
     /// `AllocError` if memory was refused.
     pub fn new(alloc: A, hasher: H, limits: Limits) -> Result<TraceStore<S, H, A>, AllocError>
         ensures { IfOk result (λ store. store ≡ record {
-          kept = record { traces = []; received = 0; evicted = 0 };
+          kept = record {
+            traces = [];
+            received = 0;
+            evicted = 0;
+            evicted_traces = 0;
+            last_evicted = [];
+          };
           max_spans = limits.max_spans;
           max_bytes = limits.max_bytes;
         }) }
@@ -65,7 +72,7 @@ impl<S: SpanSize + Drop, H: BuildHasher + Drop, A: Allocator + Copy> TraceStore<
     /// Receives spans of a trace, at least one. They come after those that it has, and the trace
     /// is the newest then. Where the store holds too much with them, the oldest traces go whole,
     /// as few as will do: the oldest is the one that got a span least recently. The spans' own
-    /// trace goes too, if it alone is too much.
+    /// trace goes too, if it alone is too much. Traces that go are counted and named.
     ///
     /// # Errors
     ///
@@ -77,6 +84,8 @@ impl<S: SpanSize + Drop, H: BuildHasher + Drop, A: Allocator + Copy> TraceStore<
             (self.new.kept.received ≡ self.old.kept.received + length spans) }
         ensures newest { OnOk result (AreNewest S.size_of self.old.max_spans self.old.max_bytes
             (with_spans self.old.kept.traces trace spans) self.new.kept.traces) }
+        ensures named { OnOk result (Evicts (with_spans self.old.kept.traces trace spans)
+            self.old.kept self.new.kept) }
         ensures accounted { IsAccounted self.new.kept }
         ensures within { AreWithin S.size_of self.new.max_spans self.new.max_bytes
             self.new.kept.traces }
@@ -103,7 +112,8 @@ impl<S: SpanSize + Drop, H: BuildHasher + Drop, A: Allocator + Copy> TraceStore<
         ensures newest { OnOk result
             ((order : List (ℕ × List S)) × IsPermutation parts.items order
             × AreNewest S.size_of self.old.max_spans self.old.max_bytes
-            (with_parts self.old.kept.traces order) self.new.kept.traces) }
+            (with_parts self.old.kept.traces order) self.new.kept.traces
+            × Evicts (with_parts self.old.kept.traces order) self.old.kept self.new.kept) }
         ensures accounted { IsAccounted self.new.kept }
         ensures within { AreWithin S.size_of self.new.max_spans self.new.max_bytes
             self.new.kept.traces }
@@ -161,6 +171,20 @@ impl<S: SpanSize + Drop, H: BuildHasher + Drop, A: Allocator + Copy> TraceStore<
         ensures { result ≡ self.now.kept.evicted }
     {
         self.kept.evicted()
+    }
+
+    /// How many traces were evicted, or 2^64 - 1 where that is more.
+    pub fn evicted_traces(&self) -> u64
+        ensures { result ≡ self.now.kept.evicted_traces }
+    {
+        self.kept.evicted_traces()
+    }
+
+    /// The identifiers of the traces that were evicted last, 1,000 at most: the last one last.
+    pub fn last_evicted(&self) -> &HeapCircularBuffer<u128, A>
+        ensures { result.now.items ≡ self.now.kept.last_evicted }
+    {
+        self.kept.last_evicted()
     }
 
     /// How many spans are kept.

@@ -74,13 +74,9 @@ pub(crate) fn add<S: Drop, H: BuildHasher, A: Allocator + Copy>(
 /// Takes out the oldest trace, which is the last.
 pub(crate) fn take_oldest<S, H: BuildHasher, A: Allocator>(
     traces: &mut Traces<S, H, A>,
-) -> Option<LinkedList<S, A>>
+) -> Option<(u128, LinkedList<S, A>)>
     ensures { MatchOption result (traces.old.entries ≡ [])
-        (λ spans. (trace : ℕ)
-        × (traces.old.entries ≡ traces.new.entries ++ (trace, spans) ∷ [])) }
+        (λ oldest. traces.old.entries ≡ traces.new.entries ++ oldest ∷ []) }
 {
-    match traces.pop_lru() {
-        Some((_, spans)) => Some(spans),
-        None => None,
-    }
+    traces.pop_lru()
 }

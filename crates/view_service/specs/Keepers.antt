@@ -3,10 +3,11 @@ use Rattle.std.specs.Prelude.{◌≡◌, ℕ, ◌+◌, List, MatchOption, None, 
 use Rattle.std.specs.List.{AllZip}
 use Rattle.std.specs.Map.{lookup}
 use Rattle.std.specs.List.Sorted.{IsPermutation}
-use Rattle.trace_store.specs.Stores.{AreNewest, Store}
+use Rattle.trace_store.specs.Stores.{AreNewest, Evicts, Store}
 use Rattle.trace_store.specs.Traces.{span_count, spans_of, with_parts}
 
--- A store has received the parts, and keeps the newest traces within its limits.
+-- A store has received the parts, and keeps the newest traces within its limits. Those that went are
+-- counted and named.
 pub record KeepsParts {S : Type 0} (size : S → ℕ) (old : Store S) (parts : List (ℕ × List S))
     (new : Store S) : Type 0 where
   pub received : new.kept.received ≡ old.kept.received + span_count parts
@@ -14,6 +15,7 @@ pub record KeepsParts {S : Type 0} (size : S → ℕ) (old : Store S) (parts : L
   pub is_order : IsPermutation parts order
   pub newest : AreNewest size old.max_spans old.max_bytes (with_parts old.kept.traces order)
       new.kept.traces
+  pub named : Evicts (with_parts old.kept.traces order) old.kept new.kept
   pub max_spans : new.max_spans ≡ old.max_spans
   pub max_bytes : new.max_bytes ≡ old.max_bytes
 

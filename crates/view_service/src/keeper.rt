@@ -1,6 +1,7 @@
 //! What keeps received spans.
 
 ghost use Rattle.std.specs.Prelude.{◌≡◌, ℕ, ◌<◌, ◌≤◌, All, IfOk, List, OnErr, OnOk, Option, length, ⊤};
+ghost use Rattle.std.specs.Prelude.{reverse};
 
 use std::alloc::{AllocError, Global};
 use std::collections::LinkedList;
@@ -16,6 +17,8 @@ pub struct Counts {
     pub evicted: u64,
     /// How many traces are kept.
     pub traces: u64,
+    /// How many traces were evicted.
+    pub evicted_traces: u64,
 }
 
 /// The spans of a trace, as they are lent.
@@ -56,6 +59,13 @@ pub trait TraceKeeper<S> {
     fn copy(&self, trace: u128) -> Result<Option<LinkedList<S>>, AllocError>
         ensures { IfOk result (lends self.now trace) };
 
+    /// The traces that were evicted last, the last one first: 1,000 at most.
+    ///
+    /// # Errors
+    ///
+    /// `AllocError` where memory was refused.
+    fn last_evicted(&self, alloc: Global) -> Result<Vec<u128>, AllocError>;
+
     /// How many spans were received and evicted.
     fn counts(&self) -> Counts
         ensures { result.evicted ≤ result.received };
@@ -82,6 +92,25 @@ where
     Ok(newest)
 }
 
+/// The traces that a store evicted last, the last one first.
+///
+/// # Errors
+///
+/// `AllocError` where memory was refused.
+pub(crate) fn last_evicted_of<S, H>(
+    alloc: Global,
+    store: &TraceStore<S, H, Global>,
+) -> Result<Vec<u128>, AllocError>
+where
+    S: SpanSize + Drop,
+    H: BuildHasher + Drop,
+    ensures { IfOk result (λ names. names.items ≡ reverse store.now.kept.last_evicted) }
+{
+    let mut names = store.last_evicted().to_vec(alloc)?;
+    names.reverse();
+    Ok(names)
+}
+
 /// What a store counts.
 pub(crate) fn counts_of<S, H>(store: &TraceStore<S, H, Global>) -> Counts
 where
@@ -91,11 +120,13 @@ where
     ensures received { result.received ≡ store.now.kept.received }
     ensures evicted { result.evicted ≡ store.now.kept.evicted }
     ensures traces { result.traces ≡ length store.now.kept.traces }
+    ensures evicted_traces { result.evicted_traces ≡ store.now.kept.evicted_traces }
 {
     Counts {
         received: store.received(),
         evicted: store.evicted(),
         traces: store.iter().len() as u64,
+        evicted_traces: store.evicted_traces(),
     }
 }
 
@@ -125,11 +156,18 @@ impl<S: SpanSize + Clone + Drop, H: BuildHasher + Drop> TraceKeeper<S>
         TraceStore::copy(self, trace)
     }
 
+    fn last_evicted(&self, alloc: Global) -> Result<Vec<u128>, AllocError>
+        ensures { IfOk result (λ names. names.items ≡ reverse self.now.kept.last_evicted) }
+    {
+        last_evicted_of(alloc, self)
+    }
+
     fn counts(&self) -> Counts
         ensures below { result.evicted ≤ result.received }
         ensures received { result.received ≡ self.now.kept.received }
         ensures evicted { result.evicted ≡ self.now.kept.evicted }
         ensures traces { result.traces ≡ length self.now.kept.traces }
+        ensures evicted_traces { result.evicted_traces ≡ self.now.kept.evicted_traces }
     {
         counts_of(self)
     }

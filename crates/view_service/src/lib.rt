@@ -16,7 +16,7 @@ mod tally;
 
 pub use account_book::{Blank, Naming};
 pub use keeper::{Counts, Lent, TraceKeeper};
-pub use pages::{Pages, Totals};
+pub use pages::{Pages, Totals, TraceForm};
 pub use route::{Route, route_of};
 pub use service::ViewService;
 pub use shared::{KeptSpans, SharedKeeper, SpansKept, share};

@@ -62,10 +62,11 @@ where
     K: TraceKeeper<Arc<ViewSpan>>,
     P: Pages<Arc<ViewSpan>>,
 {
-    ghost use Rattle.view_service.specs.Serves.{Serves, keeper_of};
+    ghost use Rattle.view_service.specs.Serves.{Serves, keeper_of, pages_of};
 
     ghost answers = { λ old request response new.
-        Serves K.keeps (keeper_of old) request response (keeper_of new) };
+        Serves K.keeps K.lends P.draws (pages_of old) (keeper_of old) request response
+            (keeper_of new) };
 
     fn call(
         &mut self,

@@ -5,7 +5,7 @@ ghost use Rattle.std.specs.Prelude.{sum, vec_len};
 ghost use Rattle.std.specs.List.{AllByRecursion};
 ghost use Rattle.trace_store.specs.Traces.{span_count};
 
-use crate::keeper::{Counts, Lent, TraceKeeper, copy_newest, counts_of};
+use crate::keeper::{Counts, Lent, TraceKeeper, copy_newest, counts_of, last_evicted_of};
 use account_book::{Account, Blank, Book, Change, Naming, Opening};
 use std::alloc::{AllocError, Global};
 use std::collections::LinkedList;
@@ -178,6 +178,10 @@ where
 
     fn copy(&self, trace: u128) -> Result<Option<LinkedList<S>>, AllocError> {
         self.lock.lock(&self.rt).store.copy(trace)
+    }
+
+    fn last_evicted(&self, alloc: Global) -> Result<Vec<u128>, AllocError> {
+        last_evicted_of(alloc, &self.lock.lock(&self.rt).store)
     }
 
     fn counts(&self) -> Counts {

@@ -1,6 +1,6 @@
 //! Requests for pages.
 
-ghost use Rattle.std.specs.Prelude.{◌≡◌, ◌≢◌, ◌++◌, IfOk, IsTrue, OnOk, false, true};
+ghost use Rattle.std.specs.Prelude.{◌≡◌, ◌≢◌, ◌++◌, [], IfOk, IsTrue, OnOk, false, true};
 ghost use Rattle.http.specs.Request.{head_of};
 ghost use Rattle.http_header.specs.FieldValue.{is_visible_text};
 ghost use Rattle.http_server.specs.Response.{IsBlank, fields_of};
@@ -8,10 +8,11 @@ ghost use Rattle.view_service.specs.Receives.{path_of};
 ghost use Rattle.view_service.specs.Routes.{Names};
 ghost use Rattle.view_service.specs.Shows as spec;
 ghost use Rattle.view_service.specs.Shows.{Answers, FitsRoute, IsNotAllowed, IsPage};
-ghost use Rattle.view_service.specs.Shows.{format_fields};
+ghost use Rattle.view_service.specs.Shows.{ShowsRoute, ShowsTrace, format_fields};
+ghost use Rattle.view_span.specs.Keys.{trace_key};
 
 use crate::keeper::TraceKeeper;
-use crate::pages::{Pages, Totals};
+use crate::pages::{Pages, Totals, TraceForm};
 use crate::reply::add_field;
 use crate::route::{Route, route_of};
 use crate::tally::Tallies;
@@ -104,6 +105,17 @@ fn put(out: &mut Vec<u8>, text: &str) -> Result<(), AllocError> {
     Ok(out.extend_from_slice(text.as_bytes())?)
 }
 
+/// How the route of a trace shows it.
+fn form_of(route: Route) -> TraceForm
+    ensures { result ≡ spec.form_of route }
+{
+    match route {
+        Route::TraceText(_) => TraceForm::Text,
+        Route::ApiTrace(_) => TraceForm::Json,
+        _ => TraceForm::Page,
+    }
+}
+
 /// Makes a blank response a page.
 fn fill_page(
     response: &mut Response,
@@ -112,7 +124,7 @@ fn fill_page(
     body: Vec<u8>,
 ) -> Result<(), AllocError>
     requires { IsBlank response.old }
-    ensures { OnOk result (IsPage status format response.new) }
+    ensures { OnOk result (IsPage status format body.items response.new) }
 {
     response.status = status;
     add_format(response, format)?;
@@ -195,7 +207,7 @@ fn answer_page(
     body: Vec<u8>,
 ) -> Result<(), AllocError>
     requires { IsBlank response.old }
-    ensures { OnOk result (IsPage (spec.status_of shown) (spec.format_as shown route)
+    ensures { OnOk result (IsPage (spec.status_of shown) (spec.format_as shown route) body.items
         response.new) }
 {
     fill_page(response, shown.status(), shown.format(route), body)
@@ -244,26 +256,30 @@ where
         }
     }
 
-    /// Writes a trace, if it is kept: as a page, as a text or for programs, as the route says.
+    /// Writes a trace in a form, if it is kept.
     fn write_trace(
         &self,
         out: &mut Vec<u8>,
-        route: Route,
+        form: TraceForm,
         trace: TraceId,
     ) -> Result<Shown, AllocError>
-        ensures { IfOk result (λ shown. shown ≢ Shown.BadQuery) }
+        requires { out.old.items ≡ [] }
+        ensures { IfOk result (λ shown. ShowsTrace K.lends P.draws self.now.keeper.now
+            self.now.pages.now form (trace_key trace.0) shown out.new.items) }
     {
         let trace = trace_key(&trace.0);
         let Some(spans) = self.keeper.copy(trace)? else {
             self.pages.missing(out)?;
             return Ok(Shown::Missing);
         };
-        match route {
-            Route::TraceText(_) => self.pages.trace_text(out, trace, &spans)?,
-            Route::ApiTrace(_) => self.pages.api_trace(out, &spans)?,
-            _ => self.pages.trace(out, trace, &spans)?,
-        }
+        self.pages.trace(out, form, trace, &spans)?;
         Ok(Shown::Page)
+    }
+
+    /// Writes what is counted.
+    fn write_stats(&self, out: &mut Vec<u8>) -> Result<(), AllocError> {
+        let last_evicted = self.keeper.last_evicted(self.alloc)?;
+        self.pages.stats(out, &self.totals(), &last_evicted)
     }
 
     /// Writes the list of traces, for programs.
@@ -278,7 +294,7 @@ where
             Route::Style => put(out, self.pages.style()),
             Route::Script => put(out, self.pages.script()),
             Route::Metrics => self.pages.metrics(out, &self.totals()),
-            Route::ApiStats => self.pages.stats(out, &self.totals()),
+            Route::ApiStats => self.write_stats(out),
             Route::ApiTraces => self.write_api_traces(out),
             _ => put(out, "ok\n"),
         }
@@ -286,12 +302,15 @@ where
 
     /// Writes what a route names.
     fn write(&self, out: &mut Vec<u8>, route: Route, query: &str) -> Result<Shown, AllocError>
-        ensures { IfOk result (FitsRoute route) }
+        requires { out.old.items ≡ [] }
+        ensures fits { IfOk result (FitsRoute route) }
+        ensures shows { IfOk result (λ shown. ShowsRoute K.lends P.draws self.now.keeper.now
+            self.now.pages.now route shown out.new.items) }
     {
         match route {
             Route::List => self.write_list(out, query),
             Route::Trace(trace) | Route::TraceText(trace) | Route::ApiTrace(trace) => {
-                self.write_trace(out, route, trace)
+                self.write_trace(out, form_of(route), trace)
             }
             Route::Unknown => self.write_missing(out),
             _ => {
@@ -312,8 +331,8 @@ where
         response: &mut Response,
     ) -> Result<(), AllocError>
         requires { IsBlank response.old }
-        ensures { OnOk result (Answers (head_of request.now).method
-            (path_of request.now) response.new) }
+        ensures { OnOk result (Answers K.lends P.draws self.now.keeper.now self.now.pages.now
+            (head_of request.now).method (path_of request.now) response.new) }
     {
         let route = route_in(request);
         if is_refused(request, route) {

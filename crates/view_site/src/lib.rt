@@ -3,6 +3,7 @@
 #![tactic(auto)]
 
 mod lists;
+mod script;
 mod site;
 
 pub use site::Site;

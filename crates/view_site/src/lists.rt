@@ -1,5 +1,8 @@
 //! Traces, as a list has them.
 
+ghost use Rattle.std.specs.Prelude.{IfOk};
+ghost use Rattle.view_site.specs.Drawn.{AreLent};
+
 use std::alloc::{AllocError, Global};
 use std::collections::LinkedList;
 use std::sync::Arc;
@@ -12,7 +15,9 @@ use view_span::ViewSpan;
 pub(crate) fn lend(
     alloc: Global,
     spans: &LinkedList<Arc<ViewSpan>>,
-) -> Result<Vec<&ViewSpan>, AllocError> {
+) -> Result<Vec<&ViewSpan>, AllocError>
+    ensures { IfOk result (λ lent. AreLent spans.now lent.items) }
+{
     let mut lent = Vec::new(alloc);
     for span in spans.iter() {
         let span: &ViewSpan = span;

@@ -1,16 +1,20 @@
 //! The site.
 
-use crate::lists::{lend, line_of, lines_of, summaries_of};
+ghost use Rattle.std.specs.Prelude.{◌≡◌, ◌++◌, OnOk, IsOk, List, ℕ, string_bytes};
+ghost use Rattle.view_site.specs.Drawn.{DrawsJson, DrawsPage, DrawsText, Draws};
+
+use crate::lists::{lend, lines_of, summaries_of};
+use crate::script::SCRIPT;
 use std::alloc::{AllocError, Global};
 use std::collections::LinkedList;
 use std::sync::Arc;
-use view_json::{Refused, Stats, write_metrics, write_stats, write_traces};
+use view_json::{Refused, Stats, write_metrics, write_stats, write_trace, write_traces};
 use view_pages::{
-    Filter, FilterFault, STYLE, summary_of, write_list_page, write_notice_page, write_trace_page,
+    Filter, FilterFault, STYLE, write_list_page, write_notice_page, write_trace_page,
     write_trace_text,
 };
-use view_service::{Lent, Pages, Totals};
-use view_span::{ViewSpan, trace_key};
+use view_service::{Lent, Pages, Totals, TraceForm};
+use view_span::ViewSpan;
 
 /// The pages of `view_pages`, and the answers for programs of `view_json`.
 #[derive(Clone, Copy, Debug)]
@@ -33,6 +37,7 @@ fn stats_of(totals: &Totals) -> Stats {
         kept: spans.received.saturating_sub(spans.evicted),
         evicted: spans.evicted,
         traces: spans.traces,
+        evicted_traces: spans.evicted_traces,
     }
 }
 
@@ -58,14 +63,65 @@ fn put<E: Drop>(
     out: &mut Vec<u8>,
     text: &String,
     written: Result<(), E>,
-) -> Result<(), AllocError> {
+) -> Result<(), AllocError>
+    ensures written { OnOk result (IsOk written) }
+    ensures bytes { OnOk result (out.new.items ≡ out.old.items ++ string_bytes text.now) }
+{
     if written.is_err() {
         return Err(AllocError);
     }
     Ok(out.extend_from_slice(text.as_bytes())?)
 }
 
+/// Appends the page of a trace.
+fn put_page(
+    alloc: Global,
+    out: &mut Vec<u8>,
+    trace: u128,
+    spans: &LinkedList<Arc<ViewSpan>>,
+) -> Result<(), AllocError>
+    ensures { OnOk result ((page : List ℕ) × (out.new.items ≡ out.old.items ++ page)
+        × DrawsPage trace spans.now page) }
+{
+    let lent = lend(alloc, spans)?;
+    let mut text = String::new(alloc);
+    let written = write_trace_page(&mut text, trace, &lent);
+    put(out, &text, written)
+}
+
+/// Appends a trace as a text.
+fn put_text(
+    alloc: Global,
+    out: &mut Vec<u8>,
+    spans: &LinkedList<Arc<ViewSpan>>,
+) -> Result<(), AllocError>
+    ensures { OnOk result ((page : List ℕ) × (out.new.items ≡ out.old.items ++ page)
+        × DrawsText spans.now page) }
+{
+    let lent = lend(alloc, spans)?;
+    let mut text = String::new(alloc);
+    let written = write_trace_text(&mut text, &lent);
+    put(out, &text, written)
+}
+
+/// Appends a trace in OTLP's JSON.
+fn put_json(
+    alloc: Global,
+    out: &mut Vec<u8>,
+    spans: &LinkedList<Arc<ViewSpan>>,
+) -> Result<(), AllocError>
+    ensures { OnOk result ((page : List ℕ) × (out.new.items ≡ out.old.items ++ page)
+        × DrawsJson spans.now page) }
+{
+    let text = write_trace(alloc, spans)?;
+    Ok(out.extend_from_slice(&text)?)
+}
+
 impl Pages<Arc<ViewSpan>> for Site {
+    ghost use Rattle.view_site.specs.Drawn.{Draws};
+
+    ghost draws = { λ _ form trace spans page. Draws form trace spans page };
+
     fn list(
         &self,
         out: &mut Vec<u8>,
@@ -92,25 +148,18 @@ impl Pages<Arc<ViewSpan>> for Site {
     fn trace(
         &self,
         out: &mut Vec<u8>,
+        form: TraceForm,
         trace: u128,
         spans: &LinkedList<Arc<ViewSpan>>,
-    ) -> Result<(), AllocError> {
-        let lent = lend(self.alloc, spans)?;
-        let mut text = String::new(self.alloc);
-        let written = write_trace_page(&mut text, trace, &lent);
-        put(out, &text, written)
-    }
-
-    fn trace_text(
-        &self,
-        out: &mut Vec<u8>,
-        _trace: u128,
-        spans: &LinkedList<Arc<ViewSpan>>,
-    ) -> Result<(), AllocError> {
-        let lent = lend(self.alloc, spans)?;
-        let mut text = String::new(self.alloc);
-        let written = write_trace_text(&mut text, &lent);
-        put(out, &text, written)
+    ) -> Result<(), AllocError>
+        ensures { OnOk result ((page : List ℕ) × (out.new.items ≡ out.old.items ++ page)
+            × Draws form trace spans.now page) }
+    {
+        match form {
+            TraceForm::Page => put_page(self.alloc, out, trace, spans),
+            TraceForm::Text => put_text(self.alloc, out, spans),
+            TraceForm::Json => put_json(self.alloc, out, spans),
+        }
     }
 
     fn missing(&self, out: &mut Vec<u8>) -> Result<(), AllocError> {
@@ -126,7 +175,7 @@ impl Pages<Arc<ViewSpan>> for Site {
     }
 
     fn script(&self) -> &'static str {
-        "// No page needs a script.\n"
+        SCRIPT
     }
 
     fn api_traces(
@@ -140,26 +189,13 @@ impl Pages<Arc<ViewSpan>> for Site {
         Ok(out.extend_from_slice(&text)?)
     }
 
-    fn api_trace(
+    fn stats(
         &self,
         out: &mut Vec<u8>,
-        spans: &LinkedList<Arc<ViewSpan>>,
+        totals: &Totals,
+        last_evicted: &[u128],
     ) -> Result<(), AllocError> {
-        let lent = lend(self.alloc, spans)?;
-        let summary = match lent.first() {
-            Some(first) => summary_of(trace_key(&first.span.trace_id), &lent),
-            None => None,
-        };
-        let mut lines = Vec::new(self.alloc);
-        if let Some(summary) = &summary {
-            lines.push(line_of(summary))?;
-        }
-        let text = write_traces(self.alloc, &lines)?;
-        Ok(out.extend_from_slice(&text)?)
-    }
-
-    fn stats(&self, out: &mut Vec<u8>, totals: &Totals) -> Result<(), AllocError> {
-        let text = write_stats(self.alloc, &stats_of(totals))?;
+        let text = write_stats(self.alloc, &stats_of(totals), last_evicted)?;
         Ok(out.extend_from_slice(&text)?)
     }
 

@@ -1,6 +1,7 @@
 -- The spans of a request, as they are kept.
 use Rattle.std.proofs.Common.{◌≡◌, refl, sym, ap, ap₂, subst, ◌∙◌, ℕ, ◌<◌, ◌+◌, List, [], ◌∷◌, ◌++◌, map, length, arith, append_assoc, append-nil}
-use Rattle.std.specs.Prelude.{All, IfOk, Result, Ok, Err}
+use Rattle.std.specs.Option.{option_eq}
+use Rattle.std.specs.Prelude.{◌-◌, ◌^◌, All, IfOk, if◌then◌else◌, min, nat_eq, Option, Some, None, Result, Ok, Err}
 use Rattle.std.specs.Arc.{arc_value}
 use Rattle.std.specs.List.{flat_map}
 use Rattle.std.specs.List.Sorted.{IsPermutation}
@@ -14,33 +15,46 @@ use Rattle.otlp_read.specs.declared.span.Span.{Span}
 use Rattle.view_span.specs.declared.span.ViewResource.{ViewResource}
 use Rattle.view_span.specs.declared.span.ViewScope.{ViewScope}
 use Rattle.view_span.specs.declared.span.ViewSpan.{ViewSpan}
-use Rattle.view_span.specs.Keys.{trace_key}
 use Rattle.view_span.specs.Parts.{entries_of, entries_of_part}
+use Rattle.view_span.specs.Sizes.{at_most_64_bits, resource_bytes, scope_bytes}
 use Rattle.otlp_read.specs.declared.request.ResourceSpans.{ResourceSpans}
 use Rattle.otlp_read.specs.declared.request.ScopeSpans.{ScopeSpans}
-use Rattle.view_span.specs.Requests.{Placed, IsOfOneTrace, in_scope, key_of, keyed, keyed_of, placed_of, spans_of_parts, spans_of_resource, spans_of_scope}
+use Rattle.view_span.specs.Requests.{Placed, IsOfOneTrace, key_of, keyed, keyed_of, placed_after, placed_of, share_of, spans_of_parts, spans_of_resource, spans_of_scope, trace_of}
 
 -- a span that was put under its resource and its scope
-pub placed : {A : Type 0} (kept : Arc (ViewSpan A) A) (span : Span A) (r r' : Arc (ViewResource A) A) (s s' : Arc (ViewScope A) A) (key : ℕ) (id : List ℕ)
-    → arc_value kept ≡ record { span = span; resource = r; scope = s } → arc_value r ≡ arc_value r' → arc_value s ≡ arc_value s' → key ≡ trace_key id → id ≡ span.trace_id.items
-    → (key, placed_of kept) ≡ keyed (record { resource = arc_value r'; scope = arc_value s'; span = span })
-placed {A} kept span r r' s s' key id is same_r same_s number same_id =
-    let shown : placed_of kept ≡ record { resource = arc_value r'; scope = arc_value s'; span = span } =
-    ap (λ (v : ViewSpan A). let p : Placed A = record { resource = arc_value v.resource; scope = arc_value v.scope; span = v.span } in p) is
-    ∙ ap (λ x. let p : Placed A = record { resource = x; scope = arc_value s; span = span } in p) same_r
-    ∙ ap (λ x. let p : Placed A = record { resource = arc_value r'; scope = x; span = span } in p) same_s in
-    ap₂ (λ k (p : Placed A). (k, p)) (number ∙ ap trace_key same_id) shown
+pub placed : {A : Type 0} (kept : Arc (ViewSpan A) A) (span : Span A) (r r' : Arc (ViewResource A) A) (s s' : Arc (ViewScope A) A) (shared : ℕ)
+    → arc_value kept ≡ record { span = span; resource = r; scope = s; shared = shared } → arc_value r ≡ arc_value r' → arc_value s ≡ arc_value s'
+    → placed_of kept ≡ record { resource = arc_value r'; scope = arc_value s'; span = span; shared = shared }
+placed {A} kept span r r' s s' shared is same_r same_s =
+    ap (λ (v : ViewSpan A). let p : Placed A = record { resource = arc_value v.resource; scope = arc_value v.scope; span = v.span; shared = v.shared } in p) is
+    ∙ ap (λ x. let p : Placed A = record { resource = x; scope = arc_value s; span = span; shared = shared } in p) same_r
+    ∙ ap (λ x. let p : Placed A = record { resource = arc_value r'; scope = x; span = span; shared = shared } in p) same_s
 
 -- one more of a list that is kept
-pub kept_more : {A : Type 0} (old new : List (ℕ × Arc (ViewSpan A) A)) (key : ℕ) (kept : Arc (ViewSpan A) A) (p : Placed A) → new ≡ old ++ (key, kept) ∷ [] → (key, placed_of kept) ≡ keyed p → keyed_of new ≡ keyed_of old ++ keyed p ∷ []
-kept_more old new key kept p push is = ap keyed_of push ∙ map-append (λ e. (e.0, placed_of e.1)) old ((key, kept) ∷ []) ∙ ap (λ e. keyed_of old ++ e ∷ []) is
+pub kept_more : {A : Type 0} (old new : List (ℕ × Arc (ViewSpan A) A)) (key : ℕ) (kept : Arc (ViewSpan A) A) (p : Placed A) → new ≡ old ++ (key, kept) ∷ [] → placed_of kept ≡ p → keyed_of new ≡ keyed_of old ++ (key, p) ∷ []
+kept_more old new key kept p push is = ap keyed_of push ∙ map-append (λ e. (e.0, placed_of e.1)) old ((key, kept) ∷ []) ∙ ap (λ e. keyed_of old ++ (key, e) ∷ []) is
 
--- one more of those that are done
-pub one_pushed : {X Y Z : Type 0} (k : Y → Z) (f : X → Y) (start old new : List Z) (done : List X) (x : X)
-    → old ≡ start ++ map k (map f done) → new ≡ old ++ k (f x) ∷ [] → new ≡ start ++ map k (map f (done ++ x ∷ []))
-one_pushed k f start old new done x before push =
-    push ∙ ap (λ l. l ++ k (f x) ∷ []) before ∙ append_assoc start (map k (map f done)) (k (f x) ∷ [])
-    ∙ ap (λ l. start ++ l) (sym (ap (map k) (map-append f done (x ∷ [])) ∙ map-append k (map f done) (f x ∷ [])))
+-- what is counted with the next one
+pub counted : {A : Type 0} (r : ViewResource A) (s made : ViewScope A) (before : Option ℕ) (trace size own bytes shared : ℕ)
+    → size ≡ at_most_64_bits (resource_bytes r) → own ≡ at_most_64_bits (scope_bytes made) → s ≡ made → bytes ≡ min (size + own) (2 ^ 64 - 1)
+    → shared ≡ (if option_eq nat_eq before (Some trace) then 0 else bytes) → shared ≡ share_of r s before trace
+counted r s made before trace size own bytes shared first second is sum share =
+    let all : bytes ≡ at_most_64_bits (resource_bytes r + scope_bytes s) = omega (arith, first, second, ap scope_bytes is, sum) in
+    share ∙ ap (λ n. if option_eq nat_eq before (Some trace) then 0 else n) all
+
+-- the next of those that are left was appended
+pub next_placed : {A : Type 0} (r : ViewResource A) (s : ViewScope A) (before : Option ℕ) (rest rest' : List (Span A)) (x : Span A) (old new whole : List (ℕ × Placed A)) (trace shared : ℕ)
+    → old ++ map keyed (placed_after r s before rest) ≡ whole → rest ≡ x ∷ rest' → trace ≡ trace_of x → shared ≡ share_of r s before trace
+    → new ≡ old ++ (trace, record { resource = r; scope = s; span = x; shared = shared }) ∷ []
+    → new ++ map keyed (placed_after r s (Some trace) rest') ≡ whole
+next_placed {A} r s before rest rest' x old new whole trace shared inv next same share push =
+    let q : ℕ → Placed A = λ n. record { resource = r; scope = s; span = x; shared = n } in
+    let one : (trace, q shared) ∷ map keyed (placed_after r s (Some trace) rest') ≡ map keyed (placed_after r s before rest) =
+    ap₂ (λ t n. (t, q n) ∷ map keyed (placed_after r s (Some t) rest')) same (share ∙ ap (share_of r s before) same)
+    ∙ sym (ap (λ l. map keyed (placed_after r s before l)) next) in
+    ap (λ l. l ++ map keyed (placed_after r s (Some trace) rest')) push
+    ∙ append_assoc old ((trace, q shared) ∷ []) (map keyed (placed_after r s (Some trace) rest'))
+    ∙ ap (λ l. old ++ l) one ∙ inv
 
 pub some_pushed : {X Y Z : Type 0} (k : Y → Z) (f : X → List Y) (start old new : List Z) (done : List X) (x : X)
     → old ≡ start ++ map k (flat_map f done) → new ≡ old ++ map k (f x) → new ≡ start ++ map k (flat_map f (done ++ x ∷ []))
@@ -49,11 +63,12 @@ some_pushed k f start old new done x before push =
     ∙ ap (λ l. start ++ l) (sym (ap (map k) (flat_map-append f done (x ∷ []) ∙ ap (λ l. flat_map f done ++ l) (append-nil (f x))) ∙ map-append k (flat_map f done) (f x)))
 
 -- the spans of a scope are done
-pub scope_done : {A : Type 0} (start now : List (ℕ × Placed A)) (r : ViewResource A) (s : ViewScope A) (group : ScopeSpans A) (done : List (Span A))
-    → now ≡ start ++ map keyed (map (in_scope r s) done) → done ≡ group.spans.items → s ≡ record { scope = group.scope; schema_url = group.schema_url }
+pub scope_done : {A : Type 0} (start now : List (ℕ × Placed A)) (r : ViewResource A) (s : ViewScope A) (before : Option ℕ) (group : ScopeSpans A) (rest : List (Span A))
+    → now ++ map keyed (placed_after r s before rest) ≡ start ++ map keyed (placed_after r s None group.spans.items) → rest ≡ [] → s ≡ record { scope = group.scope; schema_url = group.schema_url }
     → now ≡ start ++ map keyed (spans_of_scope r group)
-scope_done start now r s group done h ends is =
-    h ∙ ap (λ l. start ++ map keyed (map (in_scope r s) l)) ends ∙ ap (λ x. start ++ map keyed (map (in_scope r x) group.spans.items)) is
+scope_done start now r s before group rest h ends is =
+    sym (append-nil now) ∙ ap (λ l. now ++ map keyed (placed_after r s before l)) (sym ends)
+    ∙ h ∙ ap (λ x. start ++ map keyed (placed_after r x None group.spans.items)) is
 
 -- those of a resource
 pub resource_done : {A : Type 0} (start now : List (ℕ × Placed A)) (r : ViewResource A) (group : ResourceSpans A) (done : List (ScopeSpans A))

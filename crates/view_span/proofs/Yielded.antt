@@ -5,7 +5,7 @@ use Rattle.std.proofs.Common.{◌≡◌, sym, ap, ◌∙◌, ℕ, List, [], ◌�
 pub next_of : {X : Type 0} (done rest rest' all : List X) (x : X) → done ++ rest ≡ all → rest ≡ x ∷ rest' → done ++ x ∷ rest' ≡ all
 next_of done rest rest' all x h next = ap (λ l. done ++ l) (sym next) ∙ h
 
-none_left : {X : Type 0} (rest : List X) (n : ℕ) → n ≡ 0 → n ≡ length rest → rest ≡ []
+pub none_left : {X : Type 0} (rest : List X) (n : ℕ) → n ≡ 0 → n ≡ length rest → rest ≡ []
 none_left [] n z h = refl
 none_left (x ∷ rest) n z h = absurd (omega arith)
 

@@ -5,6 +5,8 @@ use Rattle.otlp_read.specs.declared.any_value.AnyValue.TheOpen.{AnyValue-F}
 use Rattle.otlp_read.specs.declared.span.Event.{Event}
 use Rattle.otlp_read.specs.declared.span.Link.{Link}
 use Rattle.otlp_read.specs.declared.span.Span.{Span}
+use Rattle.view_span.specs.declared.span.ViewResource.{ViewResource}
+use Rattle.view_span.specs.declared.span.ViewScope.{ViewScope}
 
 -- at most what 64 bits hold
 abbrev pub at_most_64_bits : ℕ → ℕ
@@ -47,8 +49,18 @@ abbrev pub texts_bytes : {A : Type 0} → Span A → ℕ
 texts_bytes span = vec_len span.trace_id + vec_len span.span_id + string_len span.trace_state
     + vec_len span.parent_span_id + string_len span.name + string_len span.status.message
 
--- A span: 768 bytes, for itself, its places in lists and its share of a resource and a scope, and
--- those of its identifiers, texts, attributes, events and links. (profile)
+-- A resource: 256 bytes, and those of its attributes and its schema URL. (profile)
+abbrev pub resource_bytes : {A : Type 0} → ViewResource A → ℕ
+resource_bytes r = 256 + string_len r.schema_url + sum_by pair_bytes r.resource.attributes.items
+
+-- A scope: 256 bytes, and those of its name, its version, its attributes and its schema URL.
+-- (profile)
+abbrev pub scope_bytes : {A : Type 0} → ViewScope A → ℕ
+scope_bytes s = 256 + string_len s.scope.name + string_len s.scope.version
+    + string_len s.schema_url + sum_by pair_bytes s.scope.attributes.items
+
+-- A span: 768 bytes, for itself and its places in lists, and those of its identifiers, texts,
+-- attributes, events and links. (profile)
 abbrev pub span_bytes : {A : Type 0} → Span A → ℕ
 span_bytes span = 768 + texts_bytes span + sum_by pair_bytes span.attributes.items
     + sum_by event_bytes span.events.items + sum_by link_bytes span.links.items

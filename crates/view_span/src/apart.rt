@@ -1,15 +1,19 @@
 //! A request, taken apart.
 
 ghost use Rattle.std.specs.Prelude.{◌≡◌, ℕ, ◌<◌, ◌∷◌, [], ◌++◌, All, IfOk, OnOk, length, map};
+ghost use Rattle.std.specs.Option.{option_eq};
+ghost use Rattle.std.specs.Prelude.{Some, if◌then◌else◌, nat_eq};
 ghost use Rattle.std.specs.Arc.{arc_value};
 ghost use Rattle.std.specs.List.Sorted.{IsPermutation, IsStrictlyIncreasing};
 ghost use Rattle.view_span.specs.Parts.{keys_of};
-ghost use Rattle.view_span.specs.Requests.{IsOfOneTrace, key_of, keyed_of, keyed, placed_of};
+ghost use Rattle.view_span.specs.Requests.{IsOfOneTrace, keyed_of, keyed};
 ghost use Rattle.view_span.specs.Requests.{spans_of_parts, spans_of_request, spans_of_resource};
 ghost use Rattle.view_span.specs.Requests.{spans_of_scope};
+ghost use Rattle.view_span.specs.Sizes.{at_most_64_bits, resource_bytes};
 
 use crate::group::group;
 use crate::key::trace_key;
+use crate::size::{resource_size, scope_size};
 use crate::span::{ViewResource, ViewScope, ViewSpan};
 use otlp_read::{Request, ResourceSpans, ScopeSpans, Span};
 use std::alloc::{AllocError, Allocator};
@@ -19,21 +23,31 @@ use trace_store::Part;
 /// A span, with the number of its trace.
 type Keyed<A> = (u128, Arc<ViewSpan<A>, A>);
 
-/// Appends a span.
+/// How many bytes of what a span shares are counted with it, after a span of this trace, if there
+/// was one.
+fn share_of(bytes: u64, before: Option<u128>, trace: u128) -> u64
+    ensures { result ≡ if option_eq nat_eq before (Some trace) then 0 else bytes }
+{
+    if before == Some(trace) { 0 } else { bytes }
+}
+
+/// Appends a span of this trace, with which so many bytes are counted of what it shares.
 fn push_span<A: Allocator + Copy>(
     found: &mut Vec<Keyed<A>, A>,
     resource: &Arc<ViewResource<A>, A>,
     scope: &Arc<ViewScope<A>, A>,
     span: Span<A>,
+    trace: u128,
+    shared: u64,
 ) -> Result<(), AllocError>
     ensures { OnOk result (keyed_of found.new.items ≡ keyed_of found.old.items
-        ++ keyed (record {
+        ++ (trace, record {
           resource = arc_value resource.now;
           scope = arc_value scope.now;
           span = span;
+          shared = shared;
         }) ∷ []) }
 {
-    let key = trace_key(&span.trace_id);
     let resource = Arc::try_clone(resource)?;
     let scope = Arc::try_clone(scope)?;
     let kept = Arc::new(
@@ -42,17 +56,20 @@ fn push_span<A: Allocator + Copy>(
             span,
             resource,
             scope,
+            shared,
         },
     )?;
-    Ok(found.push((key, kept))?)
+    Ok(found.push((trace, kept))?)
 }
 
-/// Appends the spans of a scope.
+/// Appends the spans of a scope, whose resource takes so many bytes.
 fn push_scope<A: Allocator + Copy>(
     found: &mut Vec<Keyed<A>, A>,
     resource: &Arc<ViewResource<A>, A>,
+    size: u64,
     group: ScopeSpans<A>,
 ) -> Result<(), AllocError>
+    requires { size ≡ at_most_64_bits (resource_bytes (arc_value resource.now)) }
     ensures { OnOk result (keyed_of found.new.items ≡ keyed_of found.old.items
         ++ map keyed (spans_of_scope (arc_value resource.now) group)) }
 {
@@ -61,9 +78,15 @@ fn push_scope<A: Allocator + Copy>(
         spans,
         schema_url,
     } = group;
-    let scope = Arc::new(*found.allocator(), ViewScope { scope, schema_url })?;
+    let scope = ViewScope { scope, schema_url };
+    let bytes = size.saturating_add(scope_size(&scope));
+    let scope = Arc::new(*found.allocator(), scope)?;
+    let mut before = None;
     for span in spans {
-        push_span(found, resource, &scope, span)?;
+        let trace = trace_key(&span.trace_id);
+        let shared = share_of(bytes, before, trace);
+        push_span(found, resource, &scope, span, trace, shared)?;
+        before = Some(trace);
     }
     Ok(())
 }
@@ -81,15 +104,14 @@ fn push_resource<A: Allocator + Copy>(
         scope_spans,
         schema_url,
     } = group;
-    let resource = Arc::new(
-        *found.allocator(),
-        ViewResource {
-            resource,
-            schema_url,
-        },
-    )?;
+    let resource = ViewResource {
+        resource,
+        schema_url,
+    };
+    let size = resource_size(&resource);
+    let resource = Arc::new(*found.allocator(), resource)?;
     for scope_group in scope_spans {
-        push_scope(found, &resource, scope_group)?;
+        push_scope(found, &resource, size, scope_group)?;
     }
     Ok(())
 }
@@ -113,7 +135,9 @@ fn all_spans<A: Allocator + Copy>(
 /// Takes a request apart into the spans of each trace: a part for each trace that it has spans of,
 /// with at least one span, in the order of the traces' numbers. The spans of all parts are those of
 /// the request, each once and with its own resource and scope, which it shares with the others that
-/// came under them. (opentelemetry-proto, trace.proto: ResourceSpans, ScopeSpans)
+/// came under them. (opentelemetry-proto, trace.proto: ResourceSpans, ScopeSpans) The bytes of what
+/// is shared are counted with the first of those spans of a scope that follow each other and are of
+/// one trace: so they are counted for each trace that keeps them. (profile)
 ///
 /// It takes steps in proportion to n log n for n spans.
 ///

@@ -2,9 +2,10 @@
 
 ghost use Rattle.std.specs.Prelude.{◌≡◌, sum, sum_by};
 ghost use Rattle.view_span.specs.Sizes.{at_most_64_bits, event_bytes, link_bytes, pair_bytes};
-ghost use Rattle.view_span.specs.Sizes.{span_bytes, texts_bytes, value_bytes};
+ghost use Rattle.view_span.specs.Sizes.{resource_bytes, scope_bytes, span_bytes, texts_bytes};
+ghost use Rattle.view_span.specs.Sizes.{value_bytes};
 
-use crate::span::ViewSpan;
+use crate::span::{ViewResource, ViewScope, ViewSpan};
 use otlp_read::{AnyValue, Event, Link, Span};
 use std::alloc::Allocator;
 use trace_store::SpanSize;
@@ -21,9 +22,12 @@ const EVENT: u64 = 128;
 /// What a link takes besides its identifiers, its state and its attributes.
 const LINK: u64 = 192;
 
-/// What a span takes besides what is counted of it, with its places in lists and its share of a
-/// resource and a scope.
+/// What a span takes besides what is counted of it, with its places in lists.
 const SPAN: u64 = 768;
+
+/// What a resource takes besides its attributes and its schema URL, and a scope besides its texts
+/// and its attributes.
+const SHARED: u64 = 256;
 
 /// The sum of sizes, or the largest number of 64 bits.
 fn sum_of(sizes: &[u64]) -> u64
@@ -140,16 +144,37 @@ fn span_size<A: Allocator>(span: &Span<A>) -> u64
     sum_of(&[SPAN, texts, attributes, events, links])
 }
 
-/// A span takes 768 bytes, which count itself, its places in lists and its share of its resource
-/// and its scope, and the bytes of its identifiers, texts, attributes, events and links: 64 and 48
-/// for each pair and each value, 128 for an event and 192 for a link. It is 2^64 - 1 where it would
-/// be more. (profile)
+/// How many bytes a resource takes.
+pub(crate) fn resource_size<A: Allocator>(resource: &ViewResource<A>) -> u64
+    ensures { result ≡ at_most_64_bits (resource_bytes resource.now) }
+{
+    let url = resource.schema_url.len() as u64;
+    let attributes = pairs_size(&resource.resource.attributes);
+    sum_of(&[SHARED, url, attributes])
+}
+
+/// How many bytes a scope takes.
+pub(crate) fn scope_size<A: Allocator>(scope: &ViewScope<A>) -> u64
+    ensures { result ≡ at_most_64_bits (scope_bytes scope.now) }
+{
+    let name = scope.scope.name.len() as u64;
+    let version = scope.scope.version.len() as u64;
+    let url = scope.schema_url.len() as u64;
+    let attributes = pairs_size(&scope.scope.attributes);
+    sum_of(&[SHARED, name, version, url, attributes])
+}
+
+/// A span takes 768 bytes, which count itself and its places in lists, and the bytes of its
+/// identifiers, texts, attributes, events and links: 64 and 48 for each pair and each value, 128
+/// for an event and 192 for a link; and what is counted with it of its resource and its scope. It
+/// is 2^64 - 1 where it would be more. (profile)
 impl<A: Allocator> SpanSize for ViewSpan<A> {
+    ghost use Rattle.std.specs.Prelude.{◌+◌};
     ghost use Rattle.view_span.specs.Sizes.{at_most_64_bits, span_bytes};
 
-    ghost size_of = { λ kept. at_most_64_bits (span_bytes kept.span) };
+    ghost size_of = { λ kept. at_most_64_bits (span_bytes kept.span + kept.shared) };
 
     fn size(&self) -> u64 {
-        span_size(&self.span)
+        span_size(&self.span).saturating_add(self.shared)
     }
 }

@@ -32,4 +32,6 @@ pub struct ViewSpan<A: Allocator = Global> {
     pub resource: Arc<ViewResource<A>, A>,
     /// The scope that made it.
     pub scope: Arc<ViewScope<A>, A>,
+    /// How many bytes of the resource and the scope are counted as this span's.
+    pub shared: u64,
 }

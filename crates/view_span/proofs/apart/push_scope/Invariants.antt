@@ -1,11 +1,11 @@
 use Rattle.std.proofs.Common.{◌≡◌, ◌++◌, map}
 use Rattle.std.specs.Arc.{arc_value}
-use Rattle.view_span.specs.Requests.{in_scope, keyed, keyed_of}
+use Rattle.std.specs.Prelude.{None}
+use Rattle.view_span.specs.Requests.{keyed, keyed_of, placed_after}
 use Rattle.view_span.proofs.apart.push_scope.Given as goal
 
--- the spans so far are appended
+-- with those that are left, the spans are all of the scope
 abbrev pub invariant-loop-span : goal.invariant-loop-span
-invariant-loop-span g l = record {
-  rest : l.yielded ++ l.span-iterator.rest.items ≡ l.fn.group.spans.items;
-  found : keyed_of l.found.items ≡ keyed_of l.fn.found.items ++ map keyed (map (in_scope (arc_value l.resource) (arc_value l.scope)) l.yielded);
-}
+invariant-loop-span g l =
+    keyed_of l.found.items ++ map keyed (placed_after (arc_value l.resource) (arc_value l.scope) l.before l.span-iterator.rest.items)
+    ≡ keyed_of l.fn.found.items ++ map keyed (placed_after (arc_value l.resource) (arc_value l.scope) None l.fn.group.spans.items)

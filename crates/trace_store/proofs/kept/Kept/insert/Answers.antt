@@ -12,4 +12,4 @@ invariant_of-self-2 g c =
     let entries = ap (λ x. x.entries) c.in_ok-add.ensures.ok in
     let counted = ap span_count entries ∙ with_count c.self.inside.traces.entries c.args.trace c.args.spans in
     let sized = ap (byte_count g.S.SpanSize.size_of) entries ∙ with_bytes g.S.SpanSize.size_of c.self.inside.traces.entries c.args.trace c.args.spans in
-    (omega (arith, counted, c.self.invariant.0), omega arith, omega (arith, sized, c.self.invariant.2))
+    (omega (arith, counted, c.self.invariant.0), omega arith, omega (arith, sized, c.self.invariant.2), c.self.invariant.3, c.self.invariant.4, c.self.invariant.5)

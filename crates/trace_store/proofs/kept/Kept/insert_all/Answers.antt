@@ -22,4 +22,7 @@ invariant_of-self-2 g c =
       omega (arith, count, counted, same_count, c.in-Some.ensures, c.self.invariant.0),
       omega (arith, c.in-Some.ensures),
       omega (arith, size, sized, same_size, c.in-Some-byte_total.ensures, c.in-Some-checked_add.ensures, c.self.invariant.2),
+      c.self.invariant.3,
+      c.self.invariant.4,
+      c.self.invariant.5,
     )

@@ -9,4 +9,10 @@ returns-then-is_refused g c =
 pub returns : goal.returns
 returns g c =
     Answers.shown c.route_in-route.result c.route_in-route.ensures (c.is_refused.ensures.allowed c.if-is_refused.false)
-    (record { became = c.in_ok-shown.shown; fits = c.in_ok-shown.ensures; is = c.in_ok-answer_page.ensures })
+    (record {
+      became = c.in_ok-shown.shown;
+      fits = c.in_ok-shown.ensures.fits;
+      body = _;
+      is = c.in_ok-answer_page.ensures;
+      shows = c.in_ok-shown.ensures.shows;
+    })
