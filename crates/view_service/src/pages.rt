@@ -34,6 +34,8 @@ pub enum TraceForm {
 ///
 /// Where memory is refused, each answers `AllocError`.
 pub trait Pages<S> {
+    ghost use Rattle.view_service.specs.declared.pages.TraceForm.{TraceForm};
+
     // A trace with these spans is shown so in this form. An `impl` says so, if it can say that.
     ghost draws: { Self → TraceForm → ℕ → List S → List ℕ → Type 0 } = { λ _ _ _ _ _. ⊤ };
 
