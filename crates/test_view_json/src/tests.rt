@@ -1,3 +1,6 @@
 mod apart;
 mod equal;
+mod refused;
+mod spans;
 mod texts;
+mod traces;

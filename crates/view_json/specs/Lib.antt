@@ -1,3 +1,5 @@
-pub mod Members
+pub mod Seen
+pub mod Values
+pub mod Spans
 pub mod Lists
 pub mod Metrics

@@ -1,11 +1,12 @@
 -- The list of traces, and what is counted, in JSON. (profile)
-use Rattle.std.specs.Prelude.{ℕ, List, [], ◌∷◌, ◌++◌, codes}
+use Rattle.std.specs.Prelude.{ℕ, List, [], ◌∷◌, ◌++◌, codes, map}
 use Rattle.std.specs.Int.{w128, to_be_bytes}
 use Rattle.std.specs.List.{flat_map}
-use Rattle.json.specs.Token.{Token, begin_array, begin_object, end_array, end_object, key}
+use Rattle.hex.specs.Hex.{encode_lower}
+use Rattle.json.specs.Token.{Token, begin_array, begin_object, end_array, end_object, key, string}
 use Rattle.view_json.specs.declared.list.TraceLine.{TraceLine}
 use Rattle.view_json.specs.declared.list.Stats.{Stats}
-use Rattle.view_json.specs.Members.{hex_member, long_member, number_member, text_member}
+use Rattle.view_json.specs.Seen.{hex_member, long_member, number_member, text_member}
 
 -- what a trace of the list is called
 unfoldable pub name_members : TraceLine → List Token
@@ -29,9 +30,27 @@ unfoldable pub lines_tokens : List TraceLine → List Token
 lines_tokens lines = begin_object ∷ key (codes "traces") ∷ begin_array
     ∷ (flat_map line_tokens lines ++ end_array ∷ end_object ∷ [])
 
--- what is counted
-unfoldable pub stats_tokens : Stats → List Token
-stats_tokens stats = begin_object ∷ (number_member (codes "received") stats.received
+-- what is counted of spans
+unfoldable pub span_counts : Stats → List Token
+span_counts stats = number_member (codes "received") stats.received
     ++ number_member (codes "kept") stats.kept
     ++ number_member (codes "evicted") stats.evicted
-    ++ number_member (codes "traces") stats.traces ++ end_object ∷ [])
+
+-- what is counted of traces
+unfoldable pub trace_counts : Stats → List Token
+trace_counts stats = number_member (codes "traces") stats.traces
+    ++ number_member (codes "evictedTraces") stats.evicted_traces
+
+-- the identifier of a trace: its 16 bytes in hexadecimal
+abbrev pub trace_token : ℕ → Token
+trace_token trace = string (encode_lower (to_be_bytes w128 trace))
+
+-- the traces that were evicted last
+unfoldable pub evicted_member : List ℕ → List Token
+evicted_member traces = key (codes "lastEvicted") ∷ begin_array
+    ∷ (map trace_token traces ++ end_array ∷ [])
+
+-- what is counted, and the traces that were evicted last
+unfoldable pub stats_tokens : Stats → List ℕ → List Token
+stats_tokens stats last_evicted = begin_object ∷ (span_counts stats ++ trace_counts stats
+    ++ evicted_member last_evicted ++ end_object ∷ [])

@@ -26,20 +26,26 @@ refused_text refused = codes "trace_view_requests_refused_total{status=" ++ 34 �
     ++ decimal refused.status ++ 34 ∷ [] ++ sample_text (codes "}") refused.requests
 
 -- the metrics of the spans
-unfoldable pub stats_text : Stats → List ℕ
-stats_text stats =
+unfoldable pub span_metrics : Stats → List ℕ
+span_metrics stats =
     metric_text (codes "trace_view_spans_received_total") (codes "Spans that were received.")
     (codes "counter") stats.received
     ++ metric_text (codes "trace_view_spans_kept") (codes "Spans that are kept.")
     (codes "gauge") stats.kept
     ++ metric_text (codes "trace_view_spans_evicted_total") (codes "Spans that were evicted.")
     (codes "counter") stats.evicted
-    ++ metric_text (codes "trace_view_traces_kept") (codes "Traces that are kept.")
+
+-- the metrics of the traces
+unfoldable pub trace_metrics : Stats → List ℕ
+trace_metrics stats =
+    metric_text (codes "trace_view_traces_kept") (codes "Traces that are kept.")
     (codes "gauge") stats.traces
+    ++ metric_text (codes "trace_view_traces_evicted_total") (codes "Traces that were evicted.")
+    (codes "counter") stats.evicted_traces
 
 -- all metrics
 unfoldable pub metrics_text : Stats → List Refused → ℕ → List ℕ
-metrics_text stats refused connections = stats_text stats
+metrics_text stats refused connections = span_metrics stats ++ trace_metrics stats
     ++ metric_text (codes "trace_view_connections_total") (codes "Connections that were taken.")
     (codes "counter") connections
     ++ help_text (codes "trace_view_requests_refused_total") (codes "Requests that were refused.")

@@ -1,12 +1,19 @@
 //! Traces and counts for programs: as JSON, and as Prometheus reads them.
 //!
-//! `write_traces` writes a list of traces as JSON, `write_stats` what is counted, and
-//! `write_metrics` the same as text for Prometheus.
+//! `write_trace` writes a trace as OTLP's JSON has it (opentelemetry-proto, "JSON Protobuf
+//! Encoding"), `write_traces` a list of traces, `write_stats` what is counted, and `write_metrics`
+//! the same as text for Prometheus. What a reader of JSON sees of the first three is what the
+//! definitions say.
 #![tactic(auto)]
 
 mod field;
 mod list;
 mod metrics;
+mod part;
+mod span;
+mod trace;
+mod value;
 
 pub use list::{Stats, TraceLine, write_stats, write_traces};
 pub use metrics::{Refused, write_metrics};
+pub use trace::write_trace;

@@ -1,10 +1,11 @@
 //! The list of traces, and what is counted.
 
-ghost use Rattle.std.specs.Prelude.{◌≡◌, ◌++◌, IfOk, OnOk};
+ghost use Rattle.std.specs.Prelude.{◌≡◌, ◌∷◌, [], ◌++◌, IfOk, OnOk, map};
 ghost use Rattle.std.specs.List.{flat_map};
 ghost use Rattle.json.specs.Lex.{tokens};
-ghost use Rattle.view_json.specs.Lists.{count_members, line_tokens, lines_tokens, name_members};
-ghost use Rattle.view_json.specs.Lists.{stats_tokens};
+ghost use Rattle.view_json.specs.Lists.{count_members, evicted_member, line_tokens, lines_tokens};
+ghost use Rattle.view_json.specs.Lists.{name_members, span_counts, stats_tokens, trace_counts};
+ghost use Rattle.view_json.specs.Lists.{trace_token};
 
 use crate::field::{begin, begin_list, end, end_list, push_hex, push_long, push_number, push_text};
 use json::Writer;
@@ -40,6 +41,8 @@ pub struct Stats {
     pub evicted: u64,
     /// How many traces are kept.
     pub traces: u64,
+    /// How many traces were evicted.
+    pub evicted_traces: u64,
 }
 
 /// Writes what a trace of the list is called.
@@ -128,22 +131,96 @@ pub fn write_traces<A: Allocator + Copy>(
     Ok(out.into_inner())
 }
 
-/// What is counted, as JSON (profile): an object with the numbers `received`, `kept`, `evicted` and
-/// `traces`.
+/// Writes what is counted of spans.
+#[tactic(auto, unfolding(crate::specs::Lists::span_counts))]
+fn push_span_counts<A: Allocator>(out: &mut Writer<A>, stats: &Stats) -> Result<(), AllocError>
+    ensures tokens { OnOk result (out.new.tokens ≡ out.old.tokens ++ span_counts stats.now) }
+    ensures before { out.new.before ≡ out.old.before }
+{
+    push_number(out, "received", stats.received)?;
+    push_number(out, "kept", stats.kept)?;
+    push_number(out, "evicted", stats.evicted)?;
+    Ok(())
+}
+
+/// Writes what is counted of traces.
+#[tactic(auto, unfolding(crate::specs::Lists::trace_counts))]
+fn push_trace_counts<A: Allocator>(out: &mut Writer<A>, stats: &Stats) -> Result<(), AllocError>
+    ensures tokens { OnOk result (out.new.tokens ≡ out.old.tokens ++ trace_counts stats.now) }
+    ensures before { out.new.before ≡ out.old.before }
+{
+    push_number(out, "traces", stats.traces)?;
+    push_number(out, "evictedTraces", stats.evicted_traces)?;
+    Ok(())
+}
+
+/// Writes the identifier of a trace.
+fn push_trace<A: Allocator + Copy>(
+    alloc: A,
+    out: &mut Writer<A>,
+    trace: u128,
+) -> Result<(), AllocError>
+    ensures tokens { OnOk result (out.new.tokens ≡ out.old.tokens ++ trace_token trace ∷ []) }
+    ensures before { out.new.before ≡ out.old.before }
+{
+    let digits = hex::encode(alloc, &trace.to_be_bytes())?;
+    out.string(&digits)?;
+    Ok(())
+}
+
+/// Writes the identifiers of traces.
+fn push_traces<A: Allocator + Copy>(
+    alloc: A,
+    out: &mut Writer<A>,
+    traces: &[u128],
+) -> Result<(), AllocError>
+    ensures tokens { OnOk result (out.new.tokens ≡ out.old.tokens ++ map trace_token traces.now) }
+    ensures before { out.new.before ≡ out.old.before }
+{
+    for trace in traces {
+        push_trace(alloc, out, *trace)?;
+    }
+    Ok(())
+}
+
+/// Writes the identifiers of the traces that were evicted last.
+#[tactic(auto, unfolding(crate::specs::Lists::evicted_member))]
+fn push_evicted<A: Allocator + Copy>(
+    alloc: A,
+    out: &mut Writer<A>,
+    traces: &[u128],
+) -> Result<(), AllocError>
+    ensures tokens { OnOk result (out.new.tokens ≡ out.old.tokens ++ evicted_member traces.now) }
+    ensures before { out.new.before ≡ out.old.before }
+{
+    begin_list(out, "lastEvicted")?;
+    push_traces(alloc, out, traces)?;
+    end_list(out)?;
+    Ok(())
+}
+
+/// What is counted, as JSON (profile): an object with the numbers `received`, `kept` and `evicted`
+/// of spans, and `traces` and `evictedTraces` of traces, and with the array `lastEvicted` of the
+/// traces of `last_evicted`, in its order: their identifiers, each 32 hexadecimal digits in lower
+/// case. The caller puts the trace that was evicted last first.
 ///
 /// # Errors
 ///
 /// `AllocError` where the text could not be stored.
 #[tactic(auto, unfolding(crate::specs::Lists::stats_tokens))]
-pub fn write_stats<A: Allocator + Copy>(alloc: A, stats: &Stats) -> Result<Vec<u8, A>, AllocError>
-    ensures { IfOk result (λ text. tokens text.items ≡ stats_tokens stats.now) }
+pub fn write_stats<A: Allocator + Copy>(
+    alloc: A,
+    stats: &Stats,
+    last_evicted: &[u128],
+) -> Result<Vec<u8, A>, AllocError>
+    ensures { IfOk result (λ text. tokens text.items
+        ≡ stats_tokens stats.now last_evicted.now) }
 {
     let mut out = Writer::new(Vec::new(alloc));
     begin(&mut out)?;
-    push_number(&mut out, "received", stats.received)?;
-    push_number(&mut out, "kept", stats.kept)?;
-    push_number(&mut out, "evicted", stats.evicted)?;
-    push_number(&mut out, "traces", stats.traces)?;
+    push_span_counts(&mut out, stats)?;
+    push_trace_counts(&mut out, stats)?;
+    push_evicted(alloc, &mut out, last_evicted)?;
     end(&mut out)?;
     Ok(out.into_inner())
 }

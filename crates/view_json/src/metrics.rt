@@ -3,7 +3,7 @@
 ghost use Rattle.std.specs.Prelude.{◌≡◌, ◌++◌, OnOk, string_bytes};
 ghost use Rattle.std.specs.List.{flat_map};
 ghost use Rattle.view_json.specs.Metrics.{help_text, metric_text, metrics_text, refused_text};
-ghost use Rattle.view_json.specs.Metrics.{sample_text, stats_text, type_text};
+ghost use Rattle.view_json.specs.Metrics.{sample_text, span_metrics, trace_metrics, type_text};
 
 use crate::list::Stats;
 use std::alloc::{AllocError, Allocator};
@@ -102,9 +102,10 @@ fn push_all_refused<A: Allocator>(
 }
 
 /// Appends the metrics of the spans.
-#[tactic(auto, unfolding(crate::specs::Metrics::stats_text))]
-fn push_stats<A: Allocator>(out: &mut String<A>, stats: &Stats) -> Result<(), AllocError>
-    ensures { OnOk result (string_bytes out.new ≡ string_bytes out.old ++ stats_text stats.now) }
+#[tactic(auto, unfolding(crate::specs::Metrics::span_metrics))]
+fn push_span_metrics<A: Allocator>(out: &mut String<A>, stats: &Stats) -> Result<(), AllocError>
+    ensures { OnOk result (string_bytes out.new
+        ≡ string_bytes out.old ++ span_metrics stats.now) }
 {
     let received = "trace_view_spans_received_total";
     push_metric(
@@ -129,6 +130,15 @@ fn push_stats<A: Allocator>(out: &mut String<A>, stats: &Stats) -> Result<(), Al
         "counter",
         stats.evicted,
     )?;
+    Ok(())
+}
+
+/// Appends the metrics of the traces.
+#[tactic(auto, unfolding(crate::specs::Metrics::trace_metrics))]
+fn push_trace_metrics<A: Allocator>(out: &mut String<A>, stats: &Stats) -> Result<(), AllocError>
+    ensures { OnOk result (string_bytes out.new
+        ≡ string_bytes out.old ++ trace_metrics stats.now) }
+{
     push_metric(
         out,
         "trace_view_traces_kept",
@@ -136,12 +146,20 @@ fn push_stats<A: Allocator>(out: &mut String<A>, stats: &Stats) -> Result<(), Al
         "gauge",
         stats.traces,
     )?;
+    let evicted = "trace_view_traces_evicted_total";
+    push_metric(
+        out,
+        evicted,
+        "Traces that were evicted.",
+        "counter",
+        stats.evicted_traces,
+    )?;
     Ok(())
 }
 
 /// Appends what is counted, as Prometheus reads it (Prometheus, "Exposition formats", text format
-/// 0.0.4): the spans that were received, are kept and were evicted, the traces that are kept, the
-/// connections that were taken, and the requests that were refused, by status.
+/// 0.0.4): the spans that were received, are kept and were evicted, the traces that are kept and
+/// were evicted, the connections that were taken, and the requests that were refused, by status.
 ///
 /// # Errors
 ///
@@ -156,7 +174,8 @@ pub fn write_metrics<A: Allocator>(
     ensures { OnOk result (string_bytes out.new
         ≡ string_bytes out.old ++ metrics_text stats.now refused.now connections) }
 {
-    push_stats(out, stats)?;
+    push_span_metrics(out, stats)?;
+    push_trace_metrics(out, stats)?;
     let taken = "trace_view_connections_total";
     push_metric(
         out,

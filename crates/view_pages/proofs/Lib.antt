@@ -1,5 +1,10 @@
 pub mod Drawn
 pub mod Each
+pub mod Lacks
 pub mod Parts
+pub mod Reading
+pub mod Repeats
+pub mod Rowless
 pub mod Services
 pub mod Shown
+pub mod Shows

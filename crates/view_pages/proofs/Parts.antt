@@ -1,5 +1,5 @@
 -- The bytes of parts, one after another.
-use Rattle.std.proofs.Common.{◌≡◌, refl, sym, ap, subst, ◌∙◌, ℕ, List, [], ◌++◌, append_assoc, Result, Ok, Err, OnOk}
+use Rattle.std.proofs.Common.{◌≡◌, refl, sym, ap, subst, ◌∙◌, ℕ, List, [], ◌++◌, append_assoc, Result, OnOk}
 use Rattle.view_pages.specs.Html.{Html, Nothing, ◌▹◌, html_bytes}
 
 -- of two, one after the other

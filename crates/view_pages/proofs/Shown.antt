@@ -1,5 +1,5 @@
 -- What is written of values, case by case.
-use Rattle.std.proofs.Common.{◌≡◌, refl, sym, ap, subst, ◌∙◌, ℕ, ℤ, ◌+◌, ◌<◌, length, length-append, append_assoc, arith, Result, OnOk, true, false, List, [], ◌∷◌, ◌++◌, map, codes, String, Vec}
+use Rattle.std.proofs.Common.{◌≡◌, refl, sym, ap, subst, ◌∙◌, ℕ, ℤ, ◌<◌, length, length-append, append_assoc, arith, Result, OnOk, true, false, List, [], ◌∷◌, ◌++◌, codes, String, Vec}
 use Rattle.std.specs.String.{string_bytes}
 use Rattle.model_message.specs.AnyValue.{as_values, as_pairs}
 use Rattle.otlp_read.specs.declared.any_value.AnyValue.{AnyValue, Empty, Text, Bool as Truth, Int, Double, Array, Pairs, Bytes}

@@ -2,6 +2,8 @@ pub mod Html
 pub mod Lists
 pub mod Pages
 pub mod Panels
+pub mod Reading
+pub mod Repeats
 pub mod Rows
 pub mod Spans
 pub mod Times

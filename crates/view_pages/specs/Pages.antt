@@ -60,7 +60,8 @@ pub record AreRows {A : Type 0} (spans : List (Bor (ViewSpan A))) (rows : List R
 unfoldable pub start_html : Html
 start_html = Markup (codes "<!doctype html><html lang='en'><meta charset='utf-8'>")
     ▹ Markup (codes "<meta name='viewport' content='width=device-width,initial-scale=1'>")
-    ▹ Markup (codes "<link rel='stylesheet' href='/style.css'><title>")
+    ▹ Markup (codes "<link rel='stylesheet' href='/style.css'>")
+    ▹ Markup (codes "<script src='/view.js' defer></script><title>")
 
 -- the title of the page of a trace
 unfoldable pub title_html : List ℕ → Html

@@ -1,10 +1,9 @@
 -- What the panel of a span says.
-use Rattle.std.specs.Prelude.{ℕ, ◌-◌, ◌==◌, nat_lt, if◌then◌else◌, ℤ, pos, negsuc, List, [], ◌∷◌}
+use Rattle.std.specs.Prelude.{ℕ, ◌-◌, ◌==◌, nat_lt, if◌then◌else◌, ℤ, pos, negsuc, List}
 use Rattle.std.specs.Prelude.{String, codes, string_bytes}
 use Rattle.std.specs.Arc.{arc_value}
 use Rattle.std.specs.Int.{w32, to_be_bytes}
 use Rattle.otlp_read.specs.declared.any_value.AnyValue.{AnyValue as Received}
-use Rattle.otlp_read.specs.declared.resource.InstrumentationScope.{InstrumentationScope}
 use Rattle.otlp_read.specs.declared.span.Event.{Event}
 use Rattle.otlp_read.specs.declared.span.Link.{Link}
 use Rattle.otlp_read.specs.declared.span.Span.{Span}
@@ -12,7 +11,6 @@ use Rattle.view_span.specs.declared.span.ViewResource.{ViewResource}
 use Rattle.view_span.specs.declared.span.ViewScope.{ViewScope}
 use Rattle.view_span.specs.declared.span.ViewSpan.{ViewSpan}
 use Rattle.view_pages.specs.Html.{Html, Nothing, Markup, Text, Number, Signed, Digits, ◌▹◌, each}
-use Rattle.view_pages.specs.Spans.{end_of}
 use Rattle.view_pages.specs.Times.{duration}
 use Rattle.view_pages.specs.Values.{pair_html}
 

@@ -10,8 +10,10 @@ use Rattle.trace_tree.specs.declared.span.Row.{Row}
 use Rattle.view_span.specs.declared.span.ViewSpan.{ViewSpan}
 use Rattle.view_pages.specs.Html.{Html, Nothing, Markup, Text, Number, Digits, ◌▹◌, each}
 use Rattle.view_pages.specs.Panels.{panel_html}
+use Rattle.view_pages.specs.Repeats.{mark_of}
 use Rattle.view_pages.specs.Spans.{colour_of, end_of, ends_early, frame_of, is_error, service_of, time_of}
 use Rattle.view_pages.specs.Times.{duration, share_of}
+use Rattle.view_pages.specs.declared.repeat.Mark.{Mark}
 use Rattle.view_pages.specs.declared.times.Frame.{Frame}
 
 -- words that are said where something holds
@@ -32,22 +34,27 @@ is_cycle Orphan = false
 is_cycle Cycle = true
 
 -- what is remarked of a span
-unfoldable pub remarks_html : {A : Type 0} → Span A → Place → Html
-remarks_html span place =
+unfoldable pub remarks_html : {A : Type 0} → Span A → Place → Bool → Html
+remarks_html span place is_repeated =
     remark_html (is_error span) (codes "error")
     ▹ remark_html (is_orphan place) (codes "parent not received")
     ▹ remark_html (is_cycle place) (codes "cycle")
     ▹ remark_html (ends_early span) (codes "ends before it starts")
+    ▹ remark_html is_repeated (codes "identifier is repeated")
 
 -- a mark of a row with an error
 unfoldable pub bad_html : Bool → Html
 bad_html bad = if bad then Markup (codes " bad") else Nothing
 
--- the colour of the service, and the identifier by which links come here
-unfoldable pub class_html : {A : Type 0} → ViewSpan A → Html
-class_html s =
-    Markup (codes "' class='row c") ▹ Number (colour_of (service_of s))
-    ▹ bad_html (is_error s.span) ▹ Markup (codes "' id='s-") ▹ Digits s.span.span_id.items
+-- the identifier by which links come here: the first span of the list that has it gets it
+unfoldable pub id_html : Bool → List ℕ → Html
+id_html is_first id = if is_first then Markup (codes "' id='s-") ▹ Digits id else Nothing
+
+-- the colour of the service, and the identifier
+unfoldable pub class_html : {A : Type 0} → ViewSpan A → Bool → Html
+class_html s is_first =
+    Markup (codes " class='row c") ▹ Number (colour_of (service_of s))
+    ▹ bad_html (is_error s.span) ▹ id_html is_first s.span.span_id.items
 
 -- a depth, counted from 1
 abbrev pub level_of : ℕ → ℕ
@@ -71,11 +78,11 @@ bar_html span frame =
     ▹ Number (width_of span frame) ▹ Markup (codes "'>")
 
 -- the name of the span, its service and what is remarked
-unfoldable pub label_html : {A : Type 0} → ViewSpan A → Place → Html
-label_html s place =
+unfoldable pub label_html : {A : Type 0} → ViewSpan A → Place → Bool → Html
+label_html s place is_repeated =
     Markup (codes "<details><summary><span class='label'><b>")
     ▹ Text (string_bytes s.span.name) ▹ Markup (codes "</b> <small>") ▹ Text (service_of s)
-    ▹ Markup (codes "</small>") ▹ remarks_html s.span place
+    ▹ Markup (codes "</small>") ▹ remarks_html s.span place is_repeated
 
 -- where an event is, in ten thousandths
 unfoldable pub tick_html : {A : Type 0} → Frame → Event A → Html
@@ -93,19 +100,26 @@ time_html span frame =
     ▹ Markup (codes "</span></summary><div class='panel'>")
 
 -- what is in the tag of a row
-unfoldable pub tag_html : {A : Type 0} → ViewSpan A → ℕ → Frame → Html
-tag_html s depth frame = class_html s ▹ depth_html depth ▹ bar_html s.span frame
+unfoldable pub tag_html : {A : Type 0} → ViewSpan A → ℕ → Bool → Frame → Html
+tag_html s depth is_first frame =
+    class_html s is_first ▹ depth_html depth ▹ bar_html s.span frame
 
 -- the rest of the row of a span
-unfoldable pub span_html : {A : Type 0} → ViewSpan A → Row → Frame → Html
-span_html s row frame =
-    tag_html s row.depth frame ▹ label_html s row.place ▹ time_html s.span frame ▹ panel_html s
+unfoldable pub span_html : {A : Type 0} → ViewSpan A → Row → Mark → Frame → Html
+span_html s row mark frame =
+    tag_html s row.depth mark.is_first frame ▹ label_html s row.place mark.is_repeated
+    ▹ time_html s.span frame ▹ panel_html s
     ▹ Markup (codes "</div></details></li>")
 
+-- what is said of the identifier of the span in this row
+abbrev pub row_mark : {A : Type 0} → List (Bor (ViewSpan A)) → Bor (ViewSpan A) → Row → Mark
+row_mark spans s row = mark_of spans s.now.span.span_id.items row.index
+
 -- of a span that is in the list
-abbrev pub span_rest : {A : Type 0} → Option (Bor (ViewSpan A)) → Row → Frame → Html
-span_rest None row frame = Nothing
-span_rest (Some s) row frame = span_html s.now row frame
+abbrev pub span_rest : {A : Type 0} → List (Bor (ViewSpan A)) → Option (Bor (ViewSpan A)) → Row
+    → Frame → Html
+span_rest spans None row frame = Nothing
+span_rest spans (Some s) row frame = span_html s.now row (row_mark spans s row) frame
 
 -- A row of a page: the place in the list of the span that it shows, and what is in it.
 pub record PageRow : Type 0 where
@@ -115,12 +129,13 @@ pub record PageRow : Type 0 where
 abbrev pub page_row : {A : Type 0} → List (Bor (ViewSpan A)) → Frame → Row → PageRow
 page_row spans frame row = record {
   place = row.index;
-  content = span_rest (slice_get spans row.index) row frame;
+  content = span_rest spans (slice_get spans row.index) row frame;
 }
 
 -- a row begins with the place of its span
 unfoldable pub row_html : PageRow → Html
-row_html row = Markup (codes "<li data-row='") ▹ Number row.place ▹ row.content
+row_html row =
+    Markup (codes "<li data-row='") ▹ Number row.place ▹ Markup (codes "'") ▹ row.content
 
 -- a row for each of these
 abbrev pub page_rows : {A : Type 0} → List (Bor (ViewSpan A)) → List Row → List PageRow

@@ -1,7 +1,7 @@
 -- What is said of a span: its service, when it ran, and what is remarked.
-use Rattle.std.specs.Prelude.{ℕ, ◌+◌, ◌-◌, ◌*◌, ◌%◌, ◌^◌, min, max, Bool, true, false, ◌&&◌, ◌==◌}
+use Rattle.std.specs.Prelude.{ℕ, ◌+◌, ◌-◌, ◌*◌, ◌%◌, ◌^◌, min, max, Bool, false, ◌==◌}
 use Rattle.std.specs.Prelude.{nat_lt, if◌then◌else◌, ℤ, pos, negsuc, Option, Some, None, unwrap_or}
-use Rattle.std.specs.Prelude.{List, [], ◌∷◌, String, map, fold, codes, string_bytes}
+use Rattle.std.specs.Prelude.{List, [], ◌∷◌, String, fold, codes, string_bytes}
 use Rattle.std.specs.Arc.{arc_value}
 use Rattle.std.specs.Borrow.{Bor}
 use Rattle.std.specs.Str.{bytes_eq}

@@ -1,11 +1,11 @@
 -- The attributes of a panel, and their values.
-use Rattle.std.specs.Prelude.{ℕ, Bool, true, false, List, [], ◌∷◌, String, codes, string_bytes}
+use Rattle.std.specs.Prelude.{ℕ, true, false, List, String, codes, string_bytes}
 use Rattle.std.specs.Int.{w64, to_be_bytes}
 use Rattle.model_message.specs.AnyValue.{AnyValue, AnyValues, KeyValues, none, no_values, value}
 use Rattle.model_message.specs.AnyValue.{no_pairs, pair}
 use Rattle.otlp_read.specs.declared.any_value.AnyValue.{AnyValue as Received}
 use Rattle.otlp_read.specs.Values.{any_value_view}
-use Rattle.view_pages.specs.Html.{Html, Nothing, Markup, Text, Signed, Digits, ◌▹◌, each}
+use Rattle.view_pages.specs.Html.{Html, Nothing, Markup, Text, Signed, Digits, ◌▹◌}
 
 -- a double by its 64 bits
 abbrev pub double_html : ℕ → Html

@@ -11,6 +11,7 @@ mod html;
 mod list;
 mod page;
 mod panel;
+mod repeat;
 mod row;
 mod style;
 mod summary;

@@ -1,12 +1,14 @@
 //! The page of a trace.
 
-ghost use Rattle.std.specs.Prelude.{◌≡◌, ◌++◌, List, IfOk, OnOk, string_bytes};
+ghost use Rattle.std.specs.Prelude.{◌≡◌, ℕ, ◌++◌, List, length, IfOk, OnOk, string_bytes};
 ghost use Rattle.std.specs.Borrow.{Bor};
 ghost use Rattle.trace_tree.specs.Lines.{tree_text};
+ghost use Rattle.trace_tree.specs.Order.{ArePlaces};
 ghost use Rattle.trace_tree.specs.declared.span.Row.{Row as TreeRow};
 ghost use Rattle.view_pages.specs.Html.{html_bytes};
 ghost use Rattle.view_pages.specs.Pages.{AreRows, AreTreeSpans, counts_html, head_html, span_view};
 ghost use Rattle.view_pages.specs.Pages.{start_html, title_html, trace_html, tree_view, whole_of};
+ghost use Rattle.view_pages.specs.Reading.{places_in};
 
 use crate::facts::{frame_of, is_error};
 use crate::html::{push_digits, push_markup, push_number};
@@ -60,7 +62,8 @@ pub(crate) fn push_start<A: Allocator>(out: &mut String<A>) -> Result<(), OutOfM
         out,
         "<meta name='viewport' content='width=device-width,initial-scale=1'>",
     )?;
-    push_markup(out, "<link rel='stylesheet' href='/style.css'><title>")
+    push_markup(out, "<link rel='stylesheet' href='/style.css'>")?;
+    push_markup(out, "<script src='/view.js' defer></script><title>")
 }
 
 /// Appends the title of the page of a trace.
@@ -138,11 +141,13 @@ fn push_page<A: Allocator + Copy>(
 /// Appends the page of a trace (profile): a row for each of these spans, in the order of
 /// `trace_tree::arrange`, each with its name, its service, a bar in the time from the earliest
 /// start to the latest end, and how long it took. An error, a parent that was not received, a
-/// cycle of parents and an end before the start are said in words. The rest of what is known of a
-/// span is in a panel that opens at the row.
+/// cycle of parents, an end before the start and an identifier that another span has are said in
+/// words; links lead to the first span in the list that has an identifier. The rest of what is
+/// known of a span is in a panel that opens at the row.
 ///
 /// Each text of a span is written so that a browser reads exactly that text, and no part of it as
-/// markup.
+/// markup. So the rows that are read of the page, each by its `<li data-row='`, show each span of
+/// the list once, whatever the spans say.
 ///
 /// Its steps are about as many as the spans times the logarithm of that, and the parts of all
 /// spans.
@@ -155,9 +160,12 @@ pub fn write_trace_page<A: Allocator + Copy>(
     trace: u128,
     spans: &[&ViewSpan<A>],
 ) -> Result<(), OutOfMemory>
-    ensures { OnOk result ((rows : List TreeRow) × AreRows spans.now rows
+    ensures written { OnOk result ((rows : List TreeRow) × AreRows spans.now rows
         × (string_bytes out.new
         ≡ string_bytes out.old ++ html_bytes (trace_html trace spans.now rows))) }
+    ensures read_back { OnOk result ((page : List ℕ)
+        × (string_bytes out.new ≡ string_bytes out.old ++ page)
+        × ArePlaces (length spans.now) (places_in page)) }
 {
     let alloc = *out.allocator();
     let tree = tree_spans(alloc, spans)?;

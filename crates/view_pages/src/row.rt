@@ -2,18 +2,22 @@
 
 ghost use Rattle.std.specs.Prelude.{◌≡◌, ◌++◌, OnOk, slice_get, string_bytes};
 ghost use Rattle.view_pages.specs.Html.{each, html_bytes};
-ghost use Rattle.view_pages.specs.Rows.{bad_html, bar_html, class_html, depth_html, is_cycle};
-ghost use Rattle.view_pages.specs.Rows.{is_orphan, label_html, level_of, page_row, page_rows};
-ghost use Rattle.view_pages.specs.Rows.{remark_html, remarks_html, row_html, span_html, span_rest};
+ghost use Rattle.view_pages.specs.Repeats.{AreUses};
+ghost use Rattle.view_pages.specs.Rows.{bad_html, bar_html, class_html, depth_html, id_html};
+ghost use Rattle.view_pages.specs.Rows.{is_cycle, is_orphan, label_html, level_of, page_row};
+ghost use Rattle.view_pages.specs.Rows.{page_rows, remark_html, remarks_html, row_html};
+ghost use Rattle.view_pages.specs.Rows.{span_html, span_rest};
 ghost use Rattle.view_pages.specs.Rows.{tag_html, tick_html, time_html, width_of};
 
 use crate::facts::{end_of, ends_early, frame_of, is_error, service_colour, service_of, time_of};
 use crate::html::{push_digits, push_markup, push_number, push_text};
 use crate::panel::push_panel;
+use crate::repeat::{Mark, Use, mark_of, uses_of};
 use crate::times::{Frame, push_duration, share_of};
 use otlp_ids::OutOfMemory;
 use otlp_read::{Event, Span};
 use std::alloc::Allocator;
+use std::collections::BTreeMap;
 use trace_tree::{Place, Row};
 use view_span::ViewSpan;
 
@@ -60,14 +64,16 @@ fn push_remarks<A: Allocator>(
     out: &mut String<A>,
     span: &Span<A>,
     place: Place,
+    is_repeated: bool,
 ) -> Result<(), OutOfMemory>
     ensures { OnOk result (string_bytes out.new
-        ≡ string_bytes out.old ++ html_bytes (remarks_html span.now place)) }
+        ≡ string_bytes out.old ++ html_bytes (remarks_html span.now place is_repeated)) }
 {
     push_remark(out, is_error(span), "error")?;
     push_remark(out, is_orphan(place), "parent not received")?;
     push_remark(out, is_cycle(place), "cycle")?;
-    push_remark(out, ends_early(span), "ends before it starts")
+    push_remark(out, ends_early(span), "ends before it starts")?;
+    push_remark(out, is_repeated, "identifier is repeated")
 }
 
 /// Appends a mark of a row with an error.
@@ -83,19 +89,36 @@ fn push_bad<A: Allocator>(out: &mut String<A>, bad: bool) -> Result<(), OutOfMem
     }
 }
 
-/// Appends the colour of the service, and the identifier by which links come to the row.
+/// Appends the identifier by which links come to the row, if its span is the first that has it.
+#[tactic(auto, unfolding(crate::specs::Html::html_bytes, crate::specs::Rows::id_html))]
+fn push_id<A: Allocator + Copy>(
+    out: &mut String<A>,
+    is_first: bool,
+    id: &[u8],
+) -> Result<(), OutOfMemory>
+    ensures { OnOk result (string_bytes out.new
+        ≡ string_bytes out.old ++ html_bytes (id_html is_first id.now)) }
+{
+    if !is_first {
+        return Ok(());
+    }
+    push_markup(out, "' id='s-")?;
+    push_digits(out, id)
+}
+
+/// Appends the colour of the service, and the identifier.
 fn push_class<A: Allocator + Copy>(
     out: &mut String<A>,
     span: &ViewSpan<A>,
+    is_first: bool,
 ) -> Result<(), OutOfMemory>
     ensures { OnOk result (string_bytes out.new
-        ≡ string_bytes out.old ++ html_bytes (class_html span.now)) }
+        ≡ string_bytes out.old ++ html_bytes (class_html span.now is_first)) }
 {
-    push_markup(out, "' class='row c")?;
+    push_markup(out, " class='row c")?;
     push_number(out, service_colour(span))?;
     push_bad(out, is_error(&span.span))?;
-    push_markup(out, "' id='s-")?;
-    push_digits(out, &span.span.span_id)
+    push_id(out, is_first, &span.span.span_id)
 }
 
 /// A depth, counted from 1.
@@ -145,16 +168,17 @@ fn push_label<A: Allocator>(
     out: &mut String<A>,
     span: &ViewSpan<A>,
     place: Place,
+    is_repeated: bool,
 ) -> Result<(), OutOfMemory>
     ensures { OnOk result (string_bytes out.new
-        ≡ string_bytes out.old ++ html_bytes (label_html span.now place)) }
+        ≡ string_bytes out.old ++ html_bytes (label_html span.now place is_repeated)) }
 {
     push_markup(out, "<details><summary><span class='label'><b>")?;
     push_text(out, &span.span.name)?;
     push_markup(out, "</b> <small>")?;
     push_text(out, service_of(span))?;
     push_markup(out, "</small>")?;
-    push_remarks(out, &span.span, place)
+    push_remarks(out, &span.span, place, is_repeated)
 }
 
 /// Appends where an event is.
@@ -208,12 +232,13 @@ fn push_tag<A: Allocator + Copy>(
     out: &mut String<A>,
     span: &ViewSpan<A>,
     depth: usize,
+    is_first: bool,
     frame: Frame,
 ) -> Result<(), OutOfMemory>
     ensures { OnOk result (string_bytes out.new
-        ≡ string_bytes out.old ++ html_bytes (tag_html span.now depth frame)) }
+        ≡ string_bytes out.old ++ html_bytes (tag_html span.now depth is_first frame)) }
 {
-    push_class(out, span)?;
+    push_class(out, span, is_first)?;
     push_depth(out, depth)?;
     push_bar(out, &span.span, frame)
 }
@@ -223,13 +248,14 @@ fn push_span<A: Allocator + Copy>(
     out: &mut String<A>,
     span: &ViewSpan<A>,
     row: &Row,
+    mark: Mark,
     frame: Frame,
 ) -> Result<(), OutOfMemory>
     ensures { OnOk result (string_bytes out.new
-        ≡ string_bytes out.old ++ html_bytes (span_html span.now row.now frame)) }
+        ≡ string_bytes out.old ++ html_bytes (span_html span.now row.now mark frame)) }
 {
-    push_tag(out, span, row.depth, frame)?;
-    push_label(out, span, row.place)?;
+    push_tag(out, span, row.depth, mark.is_first, frame)?;
+    push_label(out, span, row.place, mark.is_repeated)?;
     push_time(out, &span.span, frame)?;
     push_panel(out, span)?;
     push_markup(out, "</div></details></li>")
@@ -240,14 +266,19 @@ fn push_span<A: Allocator + Copy>(
 fn push_rest<A: Allocator + Copy>(
     out: &mut String<A>,
     spans: &[&ViewSpan<A>],
+    uses: &BTreeMap<&[u8], Use, A>,
     row: &Row,
     frame: Frame,
 ) -> Result<(), OutOfMemory>
+    requires { AreUses spans.now uses.now }
     ensures { OnOk result (string_bytes out.new ≡ string_bytes out.old
-        ++ html_bytes (span_rest (slice_get spans.now row.now.index) row.now frame)) }
+        ++ html_bytes (span_rest spans.now (slice_get spans.now row.now.index) row.now frame)) }
 {
     match spans.get(row.index) {
-        Some(span) => push_span(out, span, row, frame),
+        Some(span) => {
+            let mark = mark_of(uses, &span.span.span_id, row.index);
+            push_span(out, span, row, mark, frame)
+        }
         None => Ok(()),
     }
 }
@@ -256,15 +287,18 @@ fn push_rest<A: Allocator + Copy>(
 fn push_row<A: Allocator + Copy>(
     out: &mut String<A>,
     spans: &[&ViewSpan<A>],
+    uses: &BTreeMap<&[u8], Use, A>,
     row: &Row,
     frame: Frame,
 ) -> Result<(), OutOfMemory>
+    requires { AreUses spans.now uses.now }
     ensures { OnOk result (string_bytes out.new ≡ string_bytes out.old
         ++ html_bytes (row_html (page_row spans.now frame row.now))) }
 {
     push_markup(out, "<li data-row='")?;
     push_number(out, row.index as u64)?;
-    push_rest(out, spans, row, frame)
+    push_markup(out, "'")?;
+    push_rest(out, spans, uses, row, frame)
 }
 
 /// Appends rows in this time.
@@ -272,14 +306,16 @@ fn push_row<A: Allocator + Copy>(
 fn push_each_row<A: Allocator + Copy>(
     out: &mut String<A>,
     spans: &[&ViewSpan<A>],
+    uses: &BTreeMap<&[u8], Use, A>,
     rows: &[Row],
     frame: Frame,
 ) -> Result<(), OutOfMemory>
+    requires { AreUses spans.now uses.now }
     ensures { OnOk result (string_bytes out.new ≡ string_bytes out.old
         ++ html_bytes (each (λ row. row_html (page_row spans.now frame row)) rows.now)) }
 {
     for row in rows {
-        push_row(out, spans, row, frame)?;
+        push_row(out, spans, uses, row, frame)?;
     }
     Ok(())
 }
@@ -293,5 +329,6 @@ pub(crate) fn push_rows<A: Allocator + Copy>(
     ensures { OnOk result (string_bytes out.new
         ≡ string_bytes out.old ++ html_bytes (each row_html (page_rows spans.now rows.now))) }
 {
-    push_each_row(out, spans, rows, frame_of(spans))
+    let uses = uses_of(*out.allocator(), spans)?;
+    push_each_row(out, spans, &uses, rows, frame_of(spans))
 }

@@ -67,6 +67,8 @@ form { display: flex; flex-wrap: wrap; gap: 0.5rem 1rem; align-items: end; margi
 label { display: grid; gap: 0.1rem; color: var(--soft); font-size: 0.85rem; }
 input, button { font: inherit; color: var(--text); background: var(--back); padding: 0.25rem 0.5rem;
   border: 1px solid var(--soft); border-radius: 5px; }
+.fold { flex: none; padding: 0 0.2rem; border: 0; background: none; cursor: pointer; }
+output { color: var(--soft); }
 table { border-collapse: collapse; width: 100%; } th { text-align: left; color: var(--soft);
   font-weight: 500; } td, th { padding: 0.35rem 1.25rem; border-bottom: 1px solid var(--line); }
 tr:hover td { background: var(--card); }

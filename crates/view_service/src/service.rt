@@ -66,7 +66,7 @@ where
 
     ghost answers = { λ old request response new.
         Serves K.keeps K.lends P.draws (pages_of old) (keeper_of old) request response
-            (keeper_of new) };
+        (keeper_of new) };
 
     fn call(
         &mut self,

@@ -59,11 +59,7 @@ fn refused(status: u16, requests: u64) -> Refused {
 }
 
 /// Appends a text that could be written.
-fn put<E: Drop>(
-    out: &mut Vec<u8>,
-    text: &String,
-    written: Result<(), E>,
-) -> Result<(), AllocError>
+fn put<E: Drop>(out: &mut Vec<u8>, text: &String, written: Result<(), E>) -> Result<(), AllocError>
     ensures written { OnOk result (IsOk written) }
     ensures bytes { OnOk result (out.new.items ≡ out.old.items ++ string_bytes text.now) }
 {

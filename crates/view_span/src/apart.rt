@@ -41,12 +41,15 @@ fn push_span<A: Allocator + Copy>(
     shared: u64,
 ) -> Result<(), AllocError>
     ensures { OnOk result (keyed_of found.new.items ≡ keyed_of found.old.items
-        ++ (trace, record {
-          resource = arc_value resource.now;
-          scope = arc_value scope.now;
-          span = span;
-          shared = shared;
-        }) ∷ []) }
+        ++ (
+          trace,
+          record {
+            resource = arc_value resource.now;
+            scope = arc_value scope.now;
+            span = span;
+            shared = shared;
+          },
+        ) ∷ []) }
 {
     let resource = Arc::try_clone(resource)?;
     let scope = Arc::try_clone(scope)?;

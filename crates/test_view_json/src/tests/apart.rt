@@ -92,6 +92,32 @@ fn a_part_has_the_spans_of_its_trace(rt: HostRuntime) -> Result<(), Fail> {
     Ok(())
 }
 
+/// What is counted with each span of what it shares, by the number of each trace.
+fn shares<A: Allocator + Copy>(alloc: A, spans: Vec<Span<A>, A>) -> Result<String<A>, AllocError> {
+    let parts = take_apart(alloc, request(alloc, spans)?)?;
+    let mut text = String::new(alloc);
+    for (key, kept) in &parts {
+        write!(text, "{key}:")?;
+        for span in kept.iter() {
+            let shared = span.shared;
+            write!(text, "{shared} ")?;
+        }
+    }
+    Ok(text)
+}
+
+#[test]
+fn each_trace_has_what_its_spans_share_counted(rt: HostRuntime) -> Result<(), Fail> {
+    let mut spans = Vec::new(rt.alloc());
+    spans.push(span(rt.alloc(), 7, "a")?)?;
+    spans.push(span(rt.alloc(), 7, "b")?)?;
+    spans.push(span(rt.alloc(), 3, "c")?)?;
+    spans.push(span(rt.alloc(), 7, "d")?)?;
+    let text = shares(rt.alloc(), spans)?;
+    assert_equal(&rt, text.as_str(), "3:525 7:525 0 525 ");
+    Ok(())
+}
+
 #[test]
 fn a_request_without_spans_has_no_part(rt: HostRuntime) -> Result<(), Fail> {
     let text = names(rt.alloc(), Vec::new(rt.alloc()))?;

@@ -1,6 +1,6 @@
 use Rattle.std.proofs.Common.{◌++◌, ◌∙◌, ap, codes}
 use Rattle.view_json.specs.Lists.{name_members}
-use Rattle.view_json.specs.Members.{hex_member}
+use Rattle.view_json.specs.Seen.{hex_member}
 use Rattle.view_json.proofs.Chains.{behind}
 use Rattle.view_json.proofs.list.push_names.Goals as goal
 

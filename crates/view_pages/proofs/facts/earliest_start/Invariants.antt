@@ -1,4 +1,4 @@
-use Rattle.std.proofs.Common.{◌≡◌, ◌-◌, ◌^◌, fold, take, drop}
+use Rattle.std.proofs.Common.{◌≡◌, ◌-◌, ◌^◌, fold, drop}
 use Rattle.view_pages.specs.Spans as spec
 use Rattle.view_pages.proofs.facts.earliest_start.Given as goal
 

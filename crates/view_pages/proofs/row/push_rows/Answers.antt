@@ -1,6 +1,6 @@
 use Rattle.std.proofs.Common.{◌∙◌, ap, sym}
 use Rattle.view_pages.specs.Html.{each}
-use Rattle.view_pages.specs.Rows.{page_row, page_rows, row_html}
+use Rattle.view_pages.specs.Rows.{page_row, row_html}
 use Rattle.view_pages.specs.Spans.{frame_of}
 use Rattle.view_pages.proofs.Each.{each_map}
 use Rattle.view_pages.proofs.Parts.{same_ok}

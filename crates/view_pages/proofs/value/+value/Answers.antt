@@ -1,7 +1,7 @@
 use Rattle.std.proofs.Common.{sym, ap, ◌∙◌, true, false, codes, string_bytes, arith}
 use Rattle.otlp_read.specs.declared.any_value.AnyValue.{Empty, Text, Bool as Truth, Int, Double, Array, Pairs, Bytes}
-use Rattle.view_pages.specs.Html.{Html, Markup, Text as TextPart, Signed, ◌▹◌, each, html_bytes}
-use Rattle.view_pages.specs.Values.{any_html, item_html, pair_html, double_html, bytes_html}
+use Rattle.view_pages.specs.Html.{Markup, Text as TextPart, Signed}
+use Rattle.view_pages.specs.Values.{item_html, pair_html, double_html, bytes_html}
 use Rattle.view_pages.proofs.Each.{each_more, part_within}
 use Rattle.view_pages.proofs.Shown.{html-Empty, html-Text, html-true, html-false, html-Int, html-Double, html-Bytes, html-Array, html-Pairs, array_html, list_html, told_call, array_longer, pairs_longer, item_longer, value_shorter, pair_behind}
 use Rattle.view_pages.proofs.value.+value.Goals as goal

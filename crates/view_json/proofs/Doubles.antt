@@ -1,0 +1,45 @@
+-- How doubles are seen.
+use Rattle.std.proofs.Common.{◌≡◌, refl, sym, ap, ◌∙◌, ℕ, ◌%◌, ◌^◌, true, false, List, [], ◌∷◌, ◌++◌, codes}
+use Rattle.std.specs.Prelude.{OnOk, Result, Ok, Err, Some, is_nan, from_bits, nat_lt}
+use Rattle.std.specs.Float.{Float, binary64, float_is_finite, is_sign_negative, nan, inf, fin}
+use Rattle.fast_float.specs.Parse.{parse_float}
+use Rattle.std.proofs.lemmas.List.{map-append}
+use lib.Ieee.Bits.{nan_bits_is, nan_bits_above}
+use lib.Ieee.{is_nan as nan_test}
+use Rattle.json.specs.Token.{Token, number, string}
+use Rattle.view_json.specs.Seen.{Other, Number, float_seen, seen, seen_of}
+
+pub nan_at : (bits : ℕ) → is_nan (from_bits binary64 bits) ≡ nat_lt 0x7ff0_0000_0000_0000 (bits % 2 ^ 63)
+nan_at bits = sym (nan_bits_is binary64 bits) ∙ nan_bits_above binary64 bits
+
+pub nan_seen : (x : Float) → is_nan x ≡ true → Other (string (codes "NaN")) ≡ float_seen x
+unfolding nan_test
+nan_seen nan h = refl
+nan_seen (inf s) h = cc
+nan_seen (fin s m e) h = cc
+
+pub minus_seen : (x : Float) → is_nan x ≡ false → float_is_finite x ≡ false → is_sign_negative x ≡ true → Other (string (codes "-Infinity")) ≡ float_seen x
+unfolding nan_test float_is_finite is_sign_negative
+minus_seen nan h f n = cc
+minus_seen (inf true) h f n = refl
+minus_seen (inf false) h f n = cc
+minus_seen (fin s m e) h f n = cc
+
+pub plus_seen : (x : Float) → is_nan x ≡ false → float_is_finite x ≡ false → is_sign_negative x ≡ false → Other (string (codes "Infinity")) ≡ float_seen x
+unfolding nan_test float_is_finite is_sign_negative
+plus_seen nan h f n = cc
+plus_seen (inf true) h f n = cc
+plus_seen (inf false) h f n = refl
+plus_seen (fin s m e) h f n = cc
+
+finite_seen : (x : Float) → float_is_finite x ≡ true → Number (Some x) ≡ float_seen x
+unfolding float_is_finite
+finite_seen nan f = cc
+finite_seen (inf s) f = cc
+finite_seen (fin s m e) f = refl
+
+-- a number that was written
+pub number_written : {T E : Type 0} (r : Result T E) (old new : List Token) (x : Float) → float_is_finite x ≡ true
+    → OnOk r ((s : List ℕ) × (new ≡ old ++ number s ∷ []) × (parse_float binary64 s ≡ Some x)) → OnOk r (seen new ≡ seen old ++ float_seen x ∷ [])
+number_written (Ok u) old new x f (s, h, p) = ap seen h ∙ map-append seen_of old (number s ∷ []) ∙ ap (λ y. seen old ++ y ∷ []) (ap Number p ∙ finite_seen x f)
+number_written (Err e) old new x f h = tt
