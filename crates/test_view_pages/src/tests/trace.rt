@@ -57,7 +57,27 @@ fn each_span_has_a_row(rt: HostRuntime) -> Result<(), Fail> {
     assert_has(&rt, &page, "<em>cycle</em>");
     assert_has(&rt, &page, "<em>ends before it starts</em>");
     assert_has(&rt, &page, "<em>error</em>");
+    assert_has(&rt, &page, "<script src='/view.js' defer></script><title>");
     assert_has(&rt, &page, "<p>7 spans in 100.00 ms.");
+    Ok(())
+}
+
+#[test]
+fn a_repeated_identifier_is_said(rt: HostRuntime) -> Result<(), Fail> {
+    let page = page(rt.alloc(), all().as_slice())?;
+    assert_equal(&rt, count_of(&page, "<em>identifier is repeated</em>"), 2);
+    assert_equal(&rt, count_of(&page, "id='s-0000000000000002'"), 1);
+    assert_equal(&rt, count_of(&page, "' id='s-"), 6);
+    assert_has(
+        &rt,
+        &page,
+        "<li data-row='1' class='row c3 bad' id='s-0000000000000002' aria-level='2'",
+    );
+    assert_has(
+        &rt,
+        &page,
+        "<li data-row='6' class='row c3 bad' aria-level='2'",
+    );
     Ok(())
 }
 
@@ -70,7 +90,7 @@ fn no_text_is_markup(rt: HostRuntime) -> Result<(), Fail> {
         "<b>&lt;/b&gt;&lt;script&gt;alert(&quot;1&quot; &amp; &#39;2&#39;)",
     );
     for part in [
-        "<script", "<event>", "<scope>", "<why>", "<url>", "<1>", "shop<", "all<", "=<",
+        "<script>", "<event>", "<scope>", "<why>", "<url>", "<1>", "shop<", "all<", "=<",
     ] {
         assert_lacks(&rt, &page, part);
     }
@@ -125,11 +145,45 @@ fn the_text_of_a_trace_has_a_line_for_each_span(rt: HostRuntime) -> Result<(), F
 fn a_large_trace_is_drawn(rt: HostRuntime) -> Result<(), Fail> {
     let alloc = rt.alloc();
     let mut all = Vec::new(alloc);
-    for id in 1..1001u32 {
-        all.push(made(id, id / 2, "part", id, 2000))?;
+    for id in 1..10001u32 {
+        all.push(made(id, id / 2, "part", id, 20000))?;
     }
     let page = page(alloc, &all)?;
-    assert_equal(&rt, count_of(&page, "<li data-row='"), 1000);
+    assert_equal(&rt, count_of(&page, "<li data-row='"), 10000);
+    assert_equal(&rt, count_of(&page, "identifier is repeated"), 0);
+    Ok(())
+}
+
+/// A part of a long name: 32 bytes of UTF-8.
+const PART: &str = "</b><script>\"&'\u{202e}\u{2066}<li data='0";
+
+/// A name of so many such parts.
+fn long_name(alloc: Global, count: usize) -> Result<String, OutOfMemory> {
+    let mut name = String::new(alloc);
+    for _ in 0..count {
+        name.push_str(PART)?;
+    }
+    Ok(name)
+}
+
+#[test]
+fn a_long_name_is_text(rt: HostRuntime) -> Result<(), Fail> {
+    let alloc = rt.alloc();
+    let name = long_name(alloc, 2048)?;
+    assert_equal(&rt, name.len(), 65536);
+    let long = Made {
+        id: 1,
+        parent: 0,
+        name: &name,
+        start: 0,
+        end: 1,
+        is_error: false,
+    };
+    let page = page(alloc, [long].as_slice())?;
+    let shown = "&lt;/b&gt;&lt;script&gt;&quot;&amp;&#39;\u{202e}\u{2066}&lt;li data=&#39;0";
+    assert_equal(&rt, count_of(&page, shown), 2048);
+    assert_equal(&rt, count_of(&page, "<script>"), 0);
+    assert_equal(&rt, count_of(&page, "<li data"), 1);
     Ok(())
 }
 
@@ -142,8 +196,11 @@ fn is_drawn(alloc: Global, index: u64) -> (bool, bool) {
 
 #[test]
 fn each_refusal_of_memory_is_said(rt: HostRuntime) {
-    for index in 0..150 {
+    let mut is_done = false;
+    for index in 0..1000 {
         let (drawn, refused) = is_drawn(rt.alloc(), index);
         assert_equal(&rt, drawn, !refused);
+        is_done = is_done || drawn;
     }
+    assert_equal(&rt, is_done, true);
 }

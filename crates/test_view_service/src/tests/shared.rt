@@ -26,17 +26,17 @@ impl SpanSize for Digit {
 type Hasher = BuildHasherDefault<FoldHasher>;
 
 /// Two keepers of a store of so many spans at most.
-struct Pair<J: Naming, R> {
+struct Keepers<J: Naming, R> {
     first: SharedKeeper<J, Digit, Hasher, R>,
     second: SharedKeeper<J, Digit, Hasher, R>,
 }
 
-fn pair<J: Naming, R: Copy>(
+fn two_keepers<J: Naming, R: Copy>(
     rt: R,
     alloc: Global,
     blank: Blank<SpansKept>,
     max_spans: u64,
-) -> Result<Pair<J, R>, AllocError>
+) -> Result<Keepers<J, R>, AllocError>
     requires { blank ≡ J.name }
 {
     let limits = Limits {
@@ -46,7 +46,7 @@ fn pair<J: Naming, R: Copy>(
     let store = TraceStore::new(alloc, BuildHasherDefault::new(), limits)?;
     let mut keepers = share::<J, Digit, Hasher, R>(rt, alloc, store, blank, 2)?;
     match (keepers.pop(), keepers.pop()) {
-        (Some(second), Some(first)) => Ok(Pair { first, second }),
+        (Some(second), Some(first)) => Ok(Keepers { first, second }),
         _ => Err(AllocError),
     }
 }
@@ -112,10 +112,10 @@ fn run<J: Naming, R: Wait + Copy>(
 ) -> Result<[(Counts, (u64, u64, u128)); 2], AllocError>
     requires { blank ≡ J.name }
 {
-    let Pair {
+    let Keepers {
         mut first,
         mut second,
-    } = pair::<J, R>(rt, alloc, blank, max_spans)?;
+    } = two_keepers::<J, R>(rt, alloc, blank, max_spans)?;
     keep(&mut first, alloc, 1, 1)?;
     keep(&mut second, alloc, 1, 2)?;
     keep(&mut first, alloc, 2, 3)?;

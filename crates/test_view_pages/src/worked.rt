@@ -1,0 +1,59 @@
+//! Worked examples of what a page says, with values that were written out by hand. The checker
+//! computes what the definitions make of each, and compares.
+//!
+//! Each function is a group of examples. Its clauses are the examples, and it does nothing when it
+//! is called.
+
+ghost use Rattle.std.specs.Prelude.{◌≡◌, ◌-◌, ◌^◌, [], ◌∷◌, true, false, codes};
+ghost use Rattle.view_pages.specs.Html.{html_bytes};
+ghost use Rattle.view_pages.specs.Reading.{number_in, places_in};
+ghost use Rattle.view_pages.specs.Rows.{bad_html, depth_html, id_html, level_of, remark_html};
+ghost use Rattle.view_pages.specs.Spans.{colour_of, service_in};
+ghost use Rattle.view_pages.specs.Times.{duration, share_of};
+
+/// The rows that are read of a page.
+pub fn readings()
+    ensures empty { places_in [] ≡ [] }
+    ensures none { places_in (codes "<ol class='rows'><li>1</li></ol>") ≡ [] }
+    ensures two { places_in
+        (codes "<ol><li data-row='1' class='row'><b>a</b></li><li data-row='0'></li></ol>")
+        ≡ 1 ∷ 0 ∷ [] }
+    ensures twice { places_in (codes "<li data-row='12'><li data-row='12'>") ≡ 12 ∷ 12 ∷ [] }
+    ensures text { places_in (codes "<b>&lt;li data-row=&#39;7&#39;&gt;</b>") ≡ [] }
+    ensures no_tag { places_in (codes "<b>li data-row='7'</b>") ≡ [] }
+    ensures other { places_in (codes "<li data-row=7><li data-rows='7'>< li data-row='7'>") ≡ [] }
+    ensures number { number_in (codes "1024' class='row'") ≡ 1024 }
+{}
+
+/// When something is, and how long it took.
+pub fn times()
+    ensures quarter { share_of (record { from = 100; until = 300 }) 150 ≡ 2500 }
+    ensures start { share_of (record { from = 100; until = 300 }) 100 ≡ 0 }
+    ensures before { share_of (record { from = 100; until = 300 }) 7 ≡ 0 }
+    ensures after { share_of (record { from = 100; until = 300 }) 301 ≡ 10000 }
+    ensures no_time { share_of (record { from = 100; until = 100 }) 100 ≡ 0 }
+    ensures nanoseconds { html_bytes (duration 999) ≡ codes "999 ns" }
+    ensures microseconds { html_bytes (duration 1_500) ≡ codes "1.50 us" }
+    ensures milliseconds { html_bytes (duration 12_345_678) ≡ codes "12.34 ms" }
+    ensures seconds { html_bytes (duration 61_000_000_000) ≡ codes "61.00 s" }
+{}
+
+/// What a row says.
+pub fn rows()
+    ensures top { level_of 0 ≡ 1 }
+    ensures deepest { level_of (2 ^ 64 - 1) ≡ 2 ^ 64 - 1 }
+    ensures depth { html_bytes (depth_html 3) ≡ codes "' aria-level='4' style='--d:3" }
+    ensures remark { html_bytes (remark_html true (codes "cycle")) ≡ codes " <em>cycle</em>" }
+    ensures no_remark { html_bytes (remark_html false (codes "cycle")) ≡ [] }
+    ensures bad { html_bytes (bad_html true) ≡ codes " bad" }
+    ensures again { html_bytes (id_html false (1 ∷ 255 ∷ [])) ≡ [] }
+{}
+
+/// What is said of a service.
+pub fn services()
+    ensures unknown { service_in {A = Unit {0}} [] ≡ codes "unknown_service" }
+    ensures no_name { colour_of [] ≡ 7 }
+    ensures one { colour_of (codes "a") ≡ 0 }
+    ensures two { colour_of (codes "ab") ≡ 2 }
+    ensures markup { colour_of (codes "shop<") ≡ 3 }
+{}
