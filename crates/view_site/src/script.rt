@@ -61,7 +61,8 @@ pub(crate) const SCRIPT: &str = "'use strict';
 
   const search = document.createElement('input');
   search.type = 'search';
-  search.placeholder = 'name, service, attribute';
+  search.placeholder = 'any text of a span';
+  search.size = 24;
   const label = document.createElement('label');
   label.append('Search', search);
   const all = document.createElement('button');
