@@ -8,7 +8,7 @@ ghost use Rattle.std.specs.Prelude.{◌≡◌, ◌-◌, ◌^◌, [], ◌∷◌, 
 ghost use Rattle.view_pages.specs.Html.{html_bytes};
 ghost use Rattle.view_pages.specs.Reading.{number_in, places_in};
 ghost use Rattle.view_pages.specs.Rows.{bad_html, depth_html, id_html, level_of, remark_html};
-ghost use Rattle.view_pages.specs.Spans.{colour_of, service_in};
+ghost use Rattle.view_pages.specs.Spans.{service_in};
 ghost use Rattle.view_pages.specs.Times.{duration, share_of};
 
 /// The rows that are read of a page.
@@ -51,9 +51,5 @@ pub fn rows()
 
 /// What is said of a service.
 pub fn services()
-    ensures unknown { service_in {A = Unit {0}} [] ≡ codes "unknown_service" }
-    ensures no_name { colour_of [] ≡ 7 }
-    ensures one { colour_of (codes "a") ≡ 0 }
-    ensures two { colour_of (codes "ab") ≡ 2 }
-    ensures markup { colour_of (codes "shop<") ≡ 3 }
+    ensures { service_in {A = Unit {0}} [] ≡ codes "unknown_service" }
 {}

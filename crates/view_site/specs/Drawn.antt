@@ -32,6 +32,7 @@ DrawsText {A} spans page = (lent : List (Bor (ViewSpan A))) × AreLent spans len
 abbrev pub DrawsJson : {A : Type 0} → List (Arc (ViewSpan A) A) → List ℕ → Type 0
 DrawsJson spans page = seen (tokens page) ≡ trace_seen spans
 
+-- a trace with these spans, in this form
 abbrev pub Draws : {A : Type 0} → TraceForm → ℕ → List (Arc (ViewSpan A) A) → List ℕ → Type 0
 Draws forms.Page trace spans page = DrawsPage trace spans page
 Draws forms.Text trace spans page = DrawsText spans page
