@@ -1,12 +1,12 @@
 //! The store.
 
-ghost use Rattle.std.specs.Prelude.{◌≡◌, ◌+◌, ◌<◌, ℕ, List, [], All, IfOk, MatchOption, None};
+ghost use Rattle.std.specs.Prelude.{◌≡◌, ◌+◌, ◌<◌, ℕ, List, [], All, IfOk, MatchOption, None, Some};
 ghost use Rattle.std.specs.Prelude.{OnErr, OnOk, length, nat_eq, option_copied};
 ghost use Rattle.std.specs.List.Sorted.{IsPermutation};
 ghost use Rattle.std.specs.Map.{lookup};
 ghost use Rattle.std.specs.List.{AllZip};
 ghost use Rattle.trace_store.specs.Stores.{AreNewest, AreWithin, Evicts, IsAccounted};
-ghost use Rattle.trace_store.specs.Traces.{span_count, spans_of, with_parts, with_spans};
+ghost use Rattle.trace_store.specs.Traces.{span_count, with_parts, with_spans};
 
 use crate::kept::{Kept, Limits};
 use crate::parts::Part;
@@ -143,7 +143,9 @@ impl<S: SpanSize + Drop, H: BuildHasher + Drop, A: Allocator + Copy> TraceStore<
         S: Clone,
         ensures { IfOk result (λ found. MatchOption found
             (lookup (nat_eq trace) self.now.kept.traces ≡ None)
-            (λ copies. AllZip S.is_clone (spans_of self.now.kept.traces trace) copies)) }
+            (λ copies. (spans : List S)
+            × (lookup (nat_eq trace) self.now.kept.traces ≡ Some spans)
+            × AllZip S.is_clone spans copies)) }
     {
         match self.get(trace) {
             Some(spans) => Ok(Some(spans.clone()?)),

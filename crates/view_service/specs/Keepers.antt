@@ -1,10 +1,10 @@
 -- What it means that parts of a request are kept.
-use Rattle.std.specs.Prelude.{◌≡◌, ℕ, ◌+◌, List, MatchOption, None, Option, nat_eq}
+use Rattle.std.specs.Prelude.{◌≡◌, ℕ, ◌+◌, List, MatchOption, None, Option, Some, nat_eq}
 use Rattle.std.specs.List.{AllZip}
 use Rattle.std.specs.Map.{lookup}
 use Rattle.std.specs.List.Sorted.{IsPermutation}
 use Rattle.trace_store.specs.Stores.{AreNewest, Evicts, Store}
-use Rattle.trace_store.specs.Traces.{span_count, spans_of, with_parts}
+use Rattle.trace_store.specs.Traces.{span_count, with_parts}
 
 -- A store has received the parts, and keeps the newest traces within its limits. Those that went are
 -- counted and named.
@@ -26,6 +26,7 @@ CountsParts old parts new = new ≡ old + span_count parts
 -- Of a trace that a store keeps, copies of its spans are lent, in the order in which they came; and
 -- nothing of any other.
 abbrev pub LendsCopies : {S : Type 0} → (S → S → Type 0) → Store S → ℕ → Option (List S) → Type 0
-LendsCopies is_clone store trace found = MatchOption found
+LendsCopies {S} is_clone store trace found = MatchOption found
     (lookup (nat_eq trace) store.kept.traces ≡ None)
-    (λ copies. AllZip is_clone (spans_of store.kept.traces trace) copies)
+    (λ copies. (spans : List S) × (lookup (nat_eq trace) store.kept.traces ≡ Some spans)
+    × AllZip is_clone spans copies)
