@@ -4,9 +4,10 @@
 //! Each function is a group of examples. Its clauses are the examples, and it does nothing when it
 //! is called. A span is a number here, which is also its size.
 
-ghost use Rattle.std.specs.Prelude.{◌≡◌, ◌∷◌, [], ℕ};
+ghost use Rattle.std.specs.Prelude.{◌≡◌, ◌∷◌, ◌++◌, [], ℕ, reverse};
+ghost use Rattle.circular_buffer.specs.Buffer.{keep_last};
 ghost use Rattle.trace_store.specs.Traces.{byte_count, span_count, spans_of, with_parts};
-ghost use Rattle.trace_store.specs.Traces.{with_spans};
+ghost use Rattle.trace_store.specs.Traces.{traces_of, with_spans};
 
 /// Spans come after those of their trace, which is then the newest.
 pub fn traces()
@@ -20,4 +21,12 @@ pub fn traces()
     ensures none { spans_of {S = ℕ} ((1, 10 ∷ []) ∷ []) 2 ≡ [] }
     ensures count { span_count {S = ℕ} ((2, 20 ∷ 21 ∷ []) ∷ (1, 10 ∷ []) ∷ []) ≡ 3 }
     ensures bytes { byte_count {S = ℕ} (λ n. n) ((2, 20 ∷ 21 ∷ []) ∷ (1, 10 ∷ []) ∷ []) ≡ 51 }
+{}
+
+/// The traces that went are named after those that went before: the oldest of them first.
+pub fn names()
+    ensures traces { traces_of {S = ℕ} ((2, 20 ∷ 21 ∷ []) ∷ (1, 10 ∷ []) ∷ []) ≡ 2 ∷ 1 ∷ [] }
+    ensures after { keep_last {X = ℕ} 1000 (9 ∷ [] ++ reverse (traces_of {S = ℕ}
+        ((2, 20 ∷ []) ∷ (1, 10 ∷ []) ∷ []))) ≡ 9 ∷ 1 ∷ 2 ∷ [] }
+    ensures last { keep_last {X = ℕ} 2 (9 ∷ 1 ∷ 2 ∷ []) ≡ 1 ∷ 2 ∷ [] }
 {}

@@ -1,36 +1,18 @@
 //! A request that is taken apart.
 use crate::tests::equal::assert_equal;
-use otlp_read::{InstrumentationScope, Request, Resource, ResourceSpans, ScopeSpans, Span, Status};
+use crate::tests::spans::span as plain_span;
+use otlp_read::{InstrumentationScope, Request, Resource, ResourceSpans, ScopeSpans, Span};
 use std::alloc::{AllocError, Allocator};
 use std::test::Fail;
-use trace_store::SpanSize;
 use view_span::{take_apart, trace_key};
 
 /// A span of the trace whose identifier has this last byte.
 fn span<A: Allocator + Copy>(alloc: A, trace: u8, name: &str) -> Result<Span<A>, AllocError> {
     let mut id = [0u8; 16];
     id[15] = trace;
-    Ok(Span {
-        trace_id: Vec::from_slice(alloc, &id)?,
-        span_id: Vec::from_slice(alloc, &[1; 8])?,
-        trace_state: String::new(alloc),
-        parent_span_id: Vec::new(alloc),
-        name: String::from_str(alloc, name)?,
-        kind: 2,
-        start_time_unix_nano: 1,
-        end_time_unix_nano: 2,
-        attributes: Vec::new(alloc),
-        dropped_attributes_count: 0,
-        events: Vec::new(alloc),
-        dropped_events_count: 0,
-        links: Vec::new(alloc),
-        dropped_links_count: 0,
-        status: Status {
-            message: String::new(alloc),
-            code: 0,
-        },
-        flags: 0,
-    })
+    let mut span = plain_span(alloc, name)?;
+    span.trace_id = Vec::from_slice(alloc, &id)?;
+    Ok(span)
 }
 
 /// A request of spans of one scope.
