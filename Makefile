@@ -1,13 +1,14 @@
 .DEFAULT_GOAL := help
-.PHONY: help run tour quick test docs times install check format clean
+.PHONY: help run tour quick test audit docs times install check format clean
 
 PREFIX ?= $(HOME)/.local
+PORT ?= 4318
 
 help: ## List the targets
 	@grep -E '^[a-z]+:.*##' Makefile | sed -E 's/:.*## /: /'
 
-run: ## Build the first programs without their proofs, and run them; a page to open (three minutes)
-	tools/run-first
+run: ## Build two programs without their proofs, and show a trace; PORT=4318 is where (two minutes)
+	@tools/run-first $(PORT)
 
 tour: ## Build the other programs and run them, each with a word on what it shows
 	tools/tour
@@ -15,12 +16,14 @@ tour: ## Build the other programs and run them, each with a word on what it show
 quick: docs ## The documents, and tests and programs before their proofs (some minutes)
 	tools/quick
 
-# The documents, every proof from nothing, wrong bodies, tests, programs, stored runs, hostile
-# bodies, and what must not compile.
+# The documents, every proof from nothing, wrong bodies (those that this commit chooses), tests,
+# programs, stored runs, hostile bodies, and what must not compile.
 test: docs ## The gate: every proof from nothing, wrong bodies, tests and runs (tens of minutes)
 	rt ci
+	tools/lib-test
 	tools/wrong-bodies
 	tools/wrong-bodies-test
+	tools/run-runs
 	tools/runs
 	tools/collector-runs
 	tools/demo-runs
@@ -29,6 +32,9 @@ test: docs ## The gate: every proof from nothing, wrong bodies, tests and runs (
 	tools/view-runs
 	tools/hostile-bodies
 	tools/wont-compile
+
+audit: ## All wrong bodies, after make test; before each version (half an hour)
+	tools/wrong-bodies --all
 
 docs: ## Compare the documents and the wrong bodies with the sources
 	tools/check-docs
