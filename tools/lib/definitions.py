@@ -6,7 +6,7 @@ import textwrap
 from lib.clauses import cited_names
 from lib.crates import groups_of, uses_of
 
-PAGE, FRAME = "docs/DEFINITIONS.md", "docs/definitions.in.md"
+PAGE, FRAME = "out/DEFINITIONS.md", "docs/definitions.in.md"
 WIDTH = 120
 DEFINITION = re.compile(
     r" *(?:(?:pattern )?(?:abbrev|unfoldable) )?pub (?:(record|data) )?([\w']+)(?=[ :])"
