@@ -36,8 +36,9 @@ test: docs ## The gate: every proof from nothing, wrong bodies, tests and runs (
 audit: ## All wrong bodies, after make test; before each version (half an hour)
 	tools/wrong-bodies --all
 
-docs: ## Compare the documents with the sources, and write out/DEFINITIONS.md
+docs: ## Compare the documents with the sources, and write out/DEFINITIONS.md and out/PROMISES.md
 	tools/definitions
+	tools/promises
 	tools/check-docs
 
 times: ## The gate, and what each crate took of the processors
