@@ -1,5 +1,5 @@
 -- What is written of a context, as it is read.
-use Rattle.std.proofs.Common.{◌≡◌, ℕ, suc, ◌-◌, ◌/◌, ◌%◌, ◌<◌, Bool, true, false, List, [], ◌∷◌, ◌++◌, length, slice_index, slice_range, Some, refl, sym, ap, ◌∙◌, append_assoc, arith, codes, length-append, IsTrue}
+use Rattle.std.proofs.Common.{◌≡◌, ℕ, zero, suc, ◌+◌, ◌-◌, ◌/◌, ◌%◌, ◌<◌, Bool, true, false, List, [], ◌∷◌, ◌++◌, length, slice_index, slice_range, Some, refl, sym, ap, ◌∙◌, append_assoc, arith, codes, length-append, IsTrue}
 use Rattle.std.proofs.lemmas.List.{take_at, drop_at, append-nil}
 use Rattle.std.proofs.lemmas.List.Folds.{list_all_at}
 use Rattle.std.proofs.lemmas.Bool.{and_parts}
@@ -7,7 +7,6 @@ use Rattle.std.specs.List.{list_all}
 use Rattle.hex.specs.Hex.{IsBytes, encode_lower, encode_with, lower_digits}
 use Rattle.hex.proofs.HexLemmas.{decode_sized-encode_lower, length-encode_with}
 use Rattle.hex.proofs.OnLiterals.{hex_on_literals}
-use Rattle.model_span.specs.Identifiers.{has_sampled_flag}
 use Rattle.model_span.specs.Spans.{Context, is_id, is_valid}
 use Rattle.trace_context.specs.Digits.{is_lower_digit, lower_bytes}
 use Rattle.trace_context.specs.Traceparent.{has_dashes, id_in, is_version, kept_flags, remote_context, span_of, trace_of, traceparent, version_of}
@@ -127,9 +126,14 @@ version_spelled : lower_bytes 1 (codes "00") ≡ Some (0 ∷ [])
 unfolding lower_bytes is_lower_digit hex_on_literals
 version_spelled = refl
 
-flag_set : lower_bytes 1 (codes "01") ≡ Some (1 ∷ [])
+-- two digits, of which the first is `0` and the second at most `3`
+small_spelled : (k : ℕ) → k < 4 → lower_bytes 1 (48 ∷ (48 + k) ∷ []) ≡ Some (k ∷ [])
 unfolding lower_bytes is_lower_digit hex_on_literals
-flag_set = refl
+small_spelled zero below = refl
+small_spelled (suc zero) below = refl
+small_spelled (suc (suc zero)) below = refl
+small_spelled (suc (suc (suc zero))) below = refl
+small_spelled (suc (suc (suc (suc k)))) below = absurd (omega arith)
 
 -- the flags that go out, by the flags
 record Flags (flags : ℕ) : Type 0 where
@@ -138,11 +142,8 @@ record Flags (flags : ℕ) : Type 0 where
 
 flags_spelled : (flags : ℕ) → Flags flags
 flags_spelled flags =
-    let by : (b : Bool) → has_sampled_flag flags ≡ b → Flags flags = elim [
-      | true ↦ λ e. let one : flags % 2 ≡ 1 = grind arith in record { size = rw e refl; spells = rw (e, one) flag_set }
-      | false ↦ λ e. let none : flags % 2 ≡ 0 = grind arith in record { size = rw e refl; spells = rw (e, none) version_spelled }
-    ] in
-    by (has_sampled_flag flags) refl
+    let below : flags % 4 < 4 = omega arith in
+    record { size = refl; spells = small_spelled (flags % 4) below }
 
 kept_twice : (flags : ℕ) → kept_flags (kept_flags flags) ≡ kept_flags flags
 kept_twice flags = omega arith

@@ -1,15 +1,13 @@
 -- The field `traceparent`, as it is written. (W3C Trace Context, Traceparent Header)
-use Rattle.std.specs.Prelude.{◌≡◌, ℕ, IsTrue, List, [], ◌∷◌, ◌++◌, length, codes}
-use Rattle.std.specs.Prelude.{Some, true, if◌then◌else◌}
-use Rattle.model_span.specs.Identifiers.{has_sampled_flag}
+use Rattle.std.specs.Prelude.{◌≡◌, ℕ, ◌+◌, IsTrue, List, [], ◌∷◌, ◌++◌, length, codes, Some, true}
 use Rattle.hex.specs.Hex.{IsBytes, encode_lower}
 use Rattle.model_span.specs.Spans.{Context, is_valid}
 use Rattle.trace_context.specs.Traceparent.{kept_flags, traceparent}
 
--- the flags that go out: only whether the span is sampled (W3C Trace Context, trace-flags, Other
--- Flags: they are set to zero)
+-- the flags that go out, as two digits, from `00` to `03`: a `0` (48), and the digit of the flags
+-- that are kept (W3C Trace Context level 2, trace-flags, Other Flags: they are set to zero)
 abbrev pub flags_text : ℕ → List ℕ
-flags_text flags = if has_sampled_flag flags then codes "01" else codes "00"
+flags_text flags = 48 ∷ (48 + kept_flags flags) ∷ []
 
 -- Version 00, the trace id, the parent id and the flags, with a dash (45) between each two. (W3C
 -- Trace Context, version-format)

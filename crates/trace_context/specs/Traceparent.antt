@@ -28,10 +28,10 @@ has_dashes text =
 unfoldable pub is_version : ℕ → ℕ → Bool
 is_version len version = not (version == 255) && (not (version == 0) || len == 55)
 
--- the flags that are kept: only whether the span is sampled (W3C Trace Context, trace-flags, Other
--- Flags)
+-- the flags that are kept: whether the span is sampled (1), and whether the trace id is random (2)
+-- (W3C Trace Context level 2, trace-flags, Sampled flag, Random Trace ID Flag, Other Flags)
 abbrev pub kept_flags : ℕ → ℕ
-kept_flags flags = flags % 2
+kept_flags flags = flags % 4
 
 -- the version at its place, if the text may have it
 unfoldable pub version_of : List ℕ → Option ℕ

@@ -57,7 +57,8 @@ fn read_span(text: &[u8]) -> Option<SpanId>
 ///
 /// Version 00 is 55 bytes long; a later one may go on after a dash, and what follows doesn't count.
 /// Digits are in lower case, version `ff` isn't one, and identifiers of zeros alone are invalid. Of
-/// the flags only [`TraceFlags::sampled`] is kept. The context is remote.
+/// the flags two are kept: 01, [`TraceFlags::sampled`], and 02, that the trace id is random (W3C
+/// Trace Context level 2, "Random Trace ID Flag"). The context is remote.
 #[tactic(auto, unfolding(crate::specs::Traceparent::traceparent))]
 pub fn read_traceparent<A: Allocator>(alloc: A, text: &[u8]) -> Option<SpanContext<A>>
     ensures { option_map context_view result ≡ spec.traceparent text.now }
@@ -72,7 +73,7 @@ pub fn read_traceparent<A: Allocator>(alloc: A, text: &[u8]) -> Option<SpanConte
     Some(SpanContext {
         trace,
         span,
-        flags: TraceFlags(flags % 2),
+        flags: TraceFlags(flags % 4),
         remote: true,
         state: String::new(alloc),
     })

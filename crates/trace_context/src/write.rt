@@ -12,11 +12,12 @@ use std::alloc::Allocator;
 fn flag_digits(flags: TraceFlags) -> [u8; 2]
     ensures { result ≡ flags_text flags.0 }
 {
-    if flags.sampled() { *b"01" } else { *b"00" }
+    [b'0', b'0' + flags.0 % 4]
 }
 
 /// Writes the `traceparent` of a context: version 00, the trace id, the span id and the flags, of
-/// which only the sampled flag goes out (W3C Trace Context, "Traceparent Header", "trace-flags").
+/// which the sampled flag, 01, and the random flag, 02, go out (W3C Trace Context level 2,
+/// "Traceparent Header", "trace-flags").
 pub fn write_traceparent<A: Allocator>(context: &SpanContext<A>, out: &mut [u8; 55])
     ensures { out.new ≡ traceparent_text (context_view context.now) }
 {
@@ -34,7 +35,7 @@ pub fn write_traceparent<A: Allocator>(context: &SpanContext<A>, out: &mut [u8; 
 }
 
 /// What [`write_traceparent`] writes of a valid context, [`crate::read_traceparent`] reads as that
-/// context, with the sampled flag alone of its flags and without its trace state.
+/// context, with the sampled and the random flag alone of its flags and without its trace state.
 pub fn traceparents_are_read_back()
     ensures { TraceparentsAreReadBack }
 {}

@@ -33,15 +33,16 @@ fn may_be(place: usize, byte: u8) -> bool {
 }
 
 /// What is written of the good text with another byte: its version is 00, and of its flags only the
-/// last bit is left.
+/// last two bits are left.
 fn expected(place: usize, byte: u8) -> [u8; 55] {
     let mut text = GOOD;
     match place {
         0 | 1 | 53 => {}
-        54 => text[54] = if byte.is_ascii_digit() == (byte % 2 == 1) {
-            b'1'
-        } else {
-            b'0'
+        54 => text[54] = match byte {
+            b'0' | b'4' | b'8' | b'c' => b'0',
+            b'1' | b'5' | b'9' | b'd' => b'1',
+            b'2' | b'6' | b'a' | b'e' => b'2',
+            _ => b'3',
         },
         _ if place < 55 => text[place] = byte,
         _ => {}

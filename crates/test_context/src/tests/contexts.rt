@@ -6,9 +6,9 @@ use std::process::Abort;
 use test_support::FailingAllocator;
 use trace_context::{read_traceparent, read_tracestate, write_traceparent};
 
-/// Texts that are read (W3C Trace Context, "Examples of HTTP traceparent Headers"; its test suite),
-/// and what is written of the context that they give.
-const READ: [(&str, &str); 5] = [
+/// Texts that are read (W3C Trace Context level 2, "Examples of HTTP traceparent Headers",
+/// "trace-flags"; its test suite), and what is written of the context that they give.
+const READ: [(&str, &str); 8] = [
     (
         "00-4bf92f3577b34da6a3ce929d0e0e4736-00f067aa0ba902b7-01",
         "00-4bf92f3577b34da6a3ce929d0e0e4736-00f067aa0ba902b7-01",
@@ -16,10 +16,22 @@ const READ: [(&str, &str); 5] = [
     (
         "00-4bf92f3577b34da6a3ce929d0e0e4736-00f067aa0ba902b7-00",
         "00-4bf92f3577b34da6a3ce929d0e0e4736-00f067aa0ba902b7-00",
+    ),
+    (
+        "00-12345678901234567890123456789012-1234567890123456-02",
+        "00-12345678901234567890123456789012-1234567890123456-02",
+    ),
+    (
+        "00-12345678901234567890123456789012-1234567890123456-03",
+        "00-12345678901234567890123456789012-1234567890123456-03",
     ),
     (
         "00-12345678901234567890123456789012-1234567890123456-ff",
-        "00-12345678901234567890123456789012-1234567890123456-01",
+        "00-12345678901234567890123456789012-1234567890123456-03",
+    ),
+    (
+        "00-12345678901234567890123456789012-1234567890123456-fc",
+        "00-12345678901234567890123456789012-1234567890123456-00",
     ),
     (
         "cc-12345678901234567890123456789012-1234567890123456-01",
