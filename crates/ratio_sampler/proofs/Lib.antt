@@ -1,3 +1,4 @@
 pub mod Decimals
 pub mod Shares
 pub mod Identifiers
+pub mod Exponents

@@ -1,12 +1,12 @@
 -- How many numbers a ratio samples.
-use Rattle.std.proofs.Common.{◌≡◌, ℕ, zero, suc, ◌+◌, ◌-◌, ◌*◌, ◌/◌, ◌^◌, ◌<◌, ◌≤◌, max, cond, List, refl, sym, ap, ◌∙◌, inl, inr, arith, get_or, length, le-div_iff_mul-le, le_of_mul-le-mul_right, mul-le-mul_right, div-mul-le_self}
+use Rattle.std.proofs.Common.{◌≡◌, ℕ, zero, suc, ◌+◌, ◌-◌, ◌*◌, ◌/◌, ◌^◌, ◌<◌, ◌≤◌, max, cond, inl, inr, arith, le-div_iff_mul-le, le_of_mul-le-mul_right, mul-le-mul_right, div-mul-le_self}
 use Rattle.std.proofs.Math.Nat.{div-le_of_le-mul, mul-div_cancel_left, zero-div}
 use Rattle.std.specs.Prelude.{nat_le}
 use Rattle.std.specs.List.{count_by, range_with_len}
 use Rattle.std.proofs.lemmas.Bool.{cases_lt, cond-false, cond-true, le-leb, lt-leb, leb-true}
 use Rattle.std.proofs.lemmas.List.Sums.{sum_by-cons}
-use Rattle.ratio_sampler.specs.Ratio.{is_sampled_by, random_part, share, threshold_of}
-use Rattle.ratio_sampler.specs.Laws.{AllAreSampled, GreaterRatiosSampleMore, IsTraceId, NoneAreSampled, ShareIsExact, sampled_below}
+use Rattle.ratio_sampler.specs.Ratio.{random_part, share, threshold_of}
+use Rattle.ratio_sampler.specs.Laws.{AllAreSampled, GreaterRatiosSampleMore, NoneAreSampled, ShareIsExact, sampled_below}
 use Rattle.ratio_sampler.proofs.Identifiers.{random_part-lt}
 
 -- a ratio samples no more than all numbers

@@ -6,7 +6,7 @@ ghost use Rattle.ratio_sampler.specs.Decimal.{denominator, is_decimal, numerator
 ghost use Rattle.ratio_sampler.specs.Ratio.{by_threshold, is_sampled_by, random_part};
 ghost use Rattle.ratio_sampler.specs.Ratio.{threshold_of};
 
-use crate::decimal::{count_of, is_decimal, split_at_point};
+use crate::decimal::{count_of, is_decimal};
 use crate::fault::RatioFault;
 use otlp_ids::{SpanContext, TraceId};
 use otlp_sampler::{Decision, Sampler};
@@ -88,14 +88,16 @@ impl TraceIdRatio {
     }
 
     /// The ratio that a decimal text writes, as OTEL_TRACES_SAMPLER_ARG has it: digits with at most
-    /// one point before, among or after them, as in `0.1`, `1`, `1.0`, `.5` and `0` (OpenTelemetry
-    /// Environment Variable Specification, "OTEL_TRACES_SAMPLER_ARG"; the form: profile). The text
-    /// may have any length. Its number is taken exactly, and is rounded once, as in `of`.
+    /// one point before, among or after them, as in `0.1`, `1`, `1.0`, `.5` and `0`, and after them
+    /// an exponent of ten, if there is one: `e` or `E`, at most one sign, and digits, as in `1e-3`,
+    /// `2.5E-1` and `0.01e+2` (OpenTelemetry Environment Variable Specification,
+    /// "OTEL_TRACES_SAMPLER_ARG"; the form: profile). The text and its exponent may have any
+    /// length. Its number is taken exactly, and is rounded once, as in `of`.
     ///
     /// # Errors
     ///
     /// `Empty` where the text is empty, else `NotANumber` where it has another form (also one with
-    /// a sign, a blank or an exponent), else `AboveOne` where its number is above 1.
+    /// a blank, or with a sign before the number), else `AboveOne` where its number is above 1.
     pub fn read(text: &str) -> Result<TraceIdRatio, RatioFault>
         ensures value { IfOk result (λ ratio.
             ratio ≡ threshold_of (numerator text.now) (denominator text.now)) }
@@ -110,11 +112,11 @@ impl TraceIdRatio {
         if text.is_empty() {
             return Err(RatioFault::Empty);
         }
-        let (whole, fraction) = split_at_point(text);
-        if !is_decimal(whole, fraction) {
+        let bytes = text.as_bytes();
+        if !is_decimal(bytes) {
             return Err(RatioFault::NotANumber);
         }
-        let Some(count) = count_of(whole, fraction) else {
+        let Some(count) = count_of(bytes) else {
             return Err(RatioFault::AboveOne);
         };
         Ok(TraceIdRatio {
