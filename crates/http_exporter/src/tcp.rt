@@ -134,10 +134,19 @@ impl<R> TcpDial<R> {
     }
 }
 
+/// A host as it is looked up: an IPv6 address without its brackets, and any other as it is.
+fn without_brackets(host: &str) -> &str {
+    match host.strip_prefix("[") {
+        Some(rest) => rest.strip_suffix("]").unwrap_or(host),
+        None => host,
+    }
+}
+
 impl<R: Net + Clock + Copy> TcpDial<R> {
     /// A connection to the first of the host's addresses that takes one in the time that is left.
     fn connect(&self, host: &str, port: u16, time: &mut Time<R>) -> Option<R::Stream> {
-        for address in (host, port).to_socket_addrs(&self.rt).ok()? {
+        let name = without_brackets(host);
+        for address in (name, port).to_socket_addrs(&self.rt).ok()? {
             let left = time.left();
             if left == 0 {
                 return None;

@@ -1,10 +1,8 @@
 -- What is known of a request that arrives.
-use Rattle.std.proofs.Common.{◌≡◌, ℕ, nat_lt, List, ◌++◌, length, refl, ap, subst, ◌∙◌, inl, inr, arith, Option, Some}
-use Rattle.std.specs.List.{list_all}
-use Rattle.std.proofs.lemmas.Bool.{and_parts}
+use Rattle.std.proofs.Common.{◌≡◌, ℕ, List, ◌++◌, length, refl, ap, subst, ◌∙◌, inl, inr, arith, Option, Some}
 use Rattle.http_wire.specs.declared.limits.HeadLimits.{HeadLimits}
 use Rattle.http_wire.specs.Devices.{HasFailed}
-use Rattle.otlp_http.specs.Address.{Address, is_host_byte}
+use Rattle.otlp_http.specs.Address.{Address}
 use Rattle.otlp_http.specs.Request.{request_text}
 use Rattle.law_export.specs.Delivery.{Arrives, IsAllowed, IsForTraces}
 use Rattle.law_export.proofs.Bytes.{host_bytes}
@@ -22,10 +20,9 @@ never_failed failed = elim failed [ inl more ↦ omega (arith, more) | inr full 
 pub sends : (limits : HeadLimits) (address : Address) (body : List ℕ) (old : Option (List ℕ)) (before after : ℕ)
     → Arrives limits address body old before after → Sends limits address.host address.port body
 sends limits address body old before after a =
-    let host = (and_parts (nat_lt 0 (length address.host)) (list_all is_host_byte address.host) a.address_is.target.host).1 in
     let port = a.address_is.port in
     record {
-      visible = host_bytes address.host host;
+      visible = host_bytes address.host a.address_is.target.host;
       fits = omega (arith, port);
       allowed = subst (λ to. IsAllowed limits to body) (written_out address a.address_is) a.allowed;
     }

@@ -1,7 +1,8 @@
 -- Visible bytes, of which hosts, numbers and the names of a request are made.
-use Rattle.std.proofs.Common.{◌≡◌, ℕ, ◌<◌, ◌^◌, Bool, true, false, ◌&&◌, nat_lt, IsTrue, List, [], ◌∷◌, length, reverse, refl, sym, subst, arith}
+use Rattle.std.proofs.Common.{◌≡◌, ℕ, zero, suc, ◌+◌, ◌-◌, ◌==◌, ◌<◌, ◌≤◌, ◌^◌, Bool, true, false, ◌&&◌, nat_lt, IsTrue, List, [], ◌∷◌, length, take, slice_index, reverse, refl, sym, subst, arith, inl, inr}
 use Rattle.std.specs.Prelude.{All, nat_le, decimal}
-use Rattle.std.specs.List.{list_all}
+use Rattle.std.specs.List.{list_all, list_any}
+use Rattle.std.proofs.lemmas.Bool.{and_parts, eqb-true, leb-true, or_cases}
 use Rattle.std.specs.Char.{is_ascii_digit}
 use Rattle.std.specs.Str.Parse.{AllDigits, digits_value}
 use Rattle.std.proofs.lemmas.Bool.Decides.{nat_tests}
@@ -11,7 +12,7 @@ use Rattle.std.proofs.lemmas.List.Sums.{AllPass-from_list_all}
 use Rattle.httparse.specs.Grammar.{AllPass, is_ows, is_value_byte, skip_ows, trim_ows}
 use Rattle.httparse.proofs.TrimLemmas.{AllPass-reverse, trim_ows_space}
 use Rattle.http_wire.specs.Fields.{is_length}
-use Rattle.otlp_http.specs.Address.{is_host_byte}
+use Rattle.otlp_http.specs.Address.{inside, is_address, is_address_byte, is_colon, is_host, is_host_byte, is_literal, is_name}
 
 -- from `!` to `~`
 abbrev pub is_visible : ℕ → Bool
@@ -38,10 +39,49 @@ trimmed bytes are = trim_ows_space bytes (stays bytes are) (stays (reverse bytes
 
 -- ---- which bytes are
 
-pub host_bytes : (host : List ℕ) → list_all is_host_byte host ≡ true → AreVisible host
-host_bytes host are =
+pub name_bytes : (host : List ℕ) → list_all is_host_byte host ≡ true → AreVisible host
+name_bytes host are =
     All-weaker (λ b. IsTrue (is_host_byte b)) (λ b. IsTrue (is_visible b)) (λ b is. grind (arith, nat_tests)) host
     (AllPass-from_list_all is_host_byte host are)
+
+address_byte : (b : ℕ) → is_address_byte b ≡ true → is_visible b ≡ true
+address_byte b is = grind (arith, nat_tests)
+
+bracket_byte : (b : ℕ) → b ≡ 93 → is_visible b ≡ true
+bracket_byte b is = rw is refl
+
+-- so many bytes of an address, and then a `]`
+closed_bytes : (bytes : List ℕ) (n : ℕ) → length bytes ≡ n + 1 → list_all is_address_byte (take n bytes) ≡ true → slice_index bytes n ≡ 93
+    → AreVisible bytes
+closed_bytes [] n len are last = All-nil (λ b. IsTrue (is_visible b))
+closed_bytes (b ∷ []) zero len are last = All-cons (λ x. IsTrue (is_visible x)) b [] (bracket_byte b last) (All-nil (λ x. IsTrue (is_visible x)))
+closed_bytes (b ∷ c ∷ bytes) zero len are last = absurd (omega (arith, len))
+closed_bytes (b ∷ bytes) (suc n) len are last =
+    let parts = and_parts (is_address_byte b) (list_all is_address_byte (take n bytes)) are in
+    All-cons (λ x. IsTrue (is_visible x)) b bytes (address_byte b parts.0) (closed_bytes bytes n (omega (arith, len)) parts.1 last)
+
+literal_bytes : (host : List ℕ) → is_literal host ≡ true → AreVisible host
+literal_bytes [] is = All-nil (λ b. IsTrue (is_visible b))
+literal_bytes (b ∷ rest) is =
+    let host : List ℕ = b ∷ rest in
+    let ends = and_parts (nat_le 3 (length host) && slice_index host 0 == 91 && slice_index host (length host - 1) == 93) (is_address (inside host)) is in
+    let last = and_parts (nat_le 3 (length host) && slice_index host 0 == 91) (slice_index host (length host - 1) == 93) ends.0 in
+    let first = and_parts (nat_le 3 (length host)) (slice_index host 0 == 91) last.0 in
+    let long : 3 ≤ length host = leb-true 3 (length host) first.0 in
+    let all = and_parts (list_any is_colon (inside host)) (list_all is_address_byte (inside host)) ends.1 in
+    let n : ℕ = length rest - 1 in
+    let place : length host - 1 ≡ suc n = omega (arith, long) in
+    let count : length host - 1 - 1 ≡ n = omega (arith, long) in
+    let begins : is_visible b ≡ true = rw (eqb-true b 91 first.1) refl in
+    All-cons (λ x. IsTrue (is_visible x)) b rest begins
+    (closed_bytes rest n (omega (arith, long)) (subst (λ k. list_all is_address_byte (take k rest) ≡ true) count all.1)
+    (subst (λ k. slice_index host k ≡ 93) place (eqb-true (slice_index host (length host - 1)) 93 last.1)))
+
+pub host_bytes : (host : List ℕ) → is_host host ≡ true → AreVisible host
+host_bytes host is = elim (or_cases (is_name host) (is_literal host) is) [
+  | inl name ↦ name_bytes host (and_parts (nat_lt 0 (length host)) (list_all is_host_byte host) name).1
+  | inr literal ↦ literal_bytes host literal
+]
 
 digits_are : (bytes : List ℕ) → AllDigits 10 bytes → AreVisible bytes
 digits_are [] are = All-nil (λ b. IsTrue (is_visible b))

@@ -1,8 +1,8 @@
 -- Where a request goes (RFC 9110, sections 4.2 and 7.2; which hosts and paths are taken: profile).
-use Rattle.std.specs.Prelude.{ℕ, ◌+◌, ◌^◌, ◌<◌, Bool, false, ◌&&◌, ◌||◌, ◌==◌, nat_le, nat_lt, List}
-use Rattle.std.specs.Prelude.{[], ◌∷◌, length, IsTrue}
-use Rattle.std.specs.Char.{is_ascii_alphanumeric}
-use Rattle.std.specs.List.{list_all}
+use Rattle.std.specs.Prelude.{ℕ, ◌+◌, ◌-◌, ◌^◌, ◌<◌, Bool, false, ◌&&◌, ◌||◌, ◌==◌, nat_le, nat_lt}
+use Rattle.std.specs.Prelude.{List, [], ◌∷◌, length, slice_index, slice_range, IsTrue}
+use Rattle.std.specs.Char.{is_ascii_alphanumeric, is_ascii_hexdigit}
+use Rattle.std.specs.List.{list_all, list_any}
 
 -- a host, a port and a path, each text as its bytes
 pub record Address : Type 0 where
@@ -10,13 +10,39 @@ pub record Address : Type 0 where
   pub port : ℕ
   pub path : List ℕ
 
--- an ASCII letter, a digit, `.` or `-`
+-- an ASCII letter, a digit, `.`, `-` or `_`, which names of containers have
 abbrev pub is_host_byte : ℕ → Bool
-is_host_byte byte = is_ascii_alphanumeric byte || (byte == 46 || byte == 45)
+is_host_byte byte = is_ascii_alphanumeric byte || (byte == 46 || (byte == 45 || byte == 95))
 
--- one byte at least, each of them such a one
+-- a name, or an address of four numbers: one byte at least, each of them such a one
+abbrev pub is_name : List ℕ → Bool
+is_name host = nat_lt 0 (length host) && list_all is_host_byte host
+
+-- `:`
+abbrev pub is_colon : ℕ → Bool
+is_colon byte = byte == 58
+
+-- a hexadecimal digit, `:` or `.` (RFC 3986, section 3.2.2, IPv6address)
+abbrev pub is_address_byte : ℕ → Bool
+is_address_byte byte = is_ascii_hexdigit byte || (byte == 58 || byte == 46)
+
+-- the bytes of an IPv6 address, with a `:` among them (its form: profile)
+abbrev pub is_address : List ℕ → Bool
+is_address text = list_any is_colon text && list_all is_address_byte text
+
+-- what comes after the first byte and before the last
+abbrev pub inside : List ℕ → List ℕ
+inside host = slice_range host 1 (length host - 1)
+
+-- an IPv6 address between `[` and `]` (RFC 3986, section 3.2.2, IP-literal)
+abbrev pub is_literal : List ℕ → Bool
+is_literal host =
+    nat_le 3 (length host) && slice_index host 0 == 91 && slice_index host (length host - 1) == 93
+    && is_address (inside host)
+
+-- a name, an address of four numbers, or one of IPv6 in brackets (RFC 3986, section 3.2.2)
 abbrev pub is_host : List ℕ → Bool
-is_host host = nat_lt 0 (length host) && list_all is_host_byte host
+is_host host = is_name host || is_literal host
 
 -- a visible ASCII byte, from `!` to `~`
 abbrev pub is_path_byte : ℕ → Bool

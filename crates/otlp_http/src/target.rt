@@ -1,9 +1,10 @@
 //! Where requests go.
 
 ghost use Rattle.std.specs.Prelude.{◌≡◌, ◌+◌, ◌^◌, ◌<◌, ◌↔◌, false, length, IfOk, IsErrOf, IsTrue};
-ghost use Rattle.std.specs.List.{list_all};
+ghost use Rattle.std.specs.List.{list_all, list_any};
 ghost use Rattle.otlp_http.specs.declared.target.TargetFault.TheVariants as faults;
-ghost use Rattle.otlp_http.specs.Address.{is_host, is_host_byte, is_path, is_path_byte};
+ghost use Rattle.otlp_http.specs.Address.{is_address, is_address_byte, is_colon, is_host};
+ghost use Rattle.otlp_http.specs.Address.{is_host_byte, is_literal, is_name, is_path, is_path_byte};
 
 use std::alloc::{AllocError, Allocator, Global};
 use std::marker::Model;
@@ -23,8 +24,9 @@ pub const DEFAULT_PATH: &str = "/v1/traces";
 /// Why a target is refused.
 #[derive(Error, Debug, Clone, Copy, PartialEq, Eq)]
 pub enum TargetFault {
-    /// The host is empty, or has a byte that is no ASCII letter, digit, `.` or `-`.
-    #[error("bad host: a host is letters, digits, dots and dashes")]
+    /// The host is empty, or has a byte that is no ASCII letter, digit, `.`, `-` or `_`, and is no
+    /// IPv6 address in brackets.
+    #[error("bad host: a host is letters, digits, dots, dashes and underscores, or [IPv6 address]")]
     BadHost,
     /// The path doesn't begin with `/`, or has a byte that isn't visible ASCII.
     #[error("bad path: a path is a slash and visible characters")]
@@ -75,7 +77,44 @@ impl<A: Allocator> Model for Target<A> {
 fn are_host_bytes(bytes: &[u8]) -> bool
     ensures { result ≡ list_all is_host_byte bytes.now }
 {
-    bytes.iter().all(|b| b.is_ascii_alphanumeric() || (*b == b'.' || *b == b'-'))
+    bytes.iter().all(|b| b.is_ascii_alphanumeric() || (*b == b'.' || (*b == b'-' || *b == b'_')))
+}
+
+/// Whether this is a name, or an address of four numbers.
+fn is_name(host: &[u8]) -> bool
+    ensures { result ≡ is_name host.now }
+{
+    !host.is_empty() && are_host_bytes(host)
+}
+
+/// Whether there is a `:`.
+fn has_colon(text: &[u8]) -> bool
+    ensures { result ≡ list_any is_colon text.now }
+{
+    text.iter().any(|b| *b == b':')
+}
+
+/// Whether each byte may be in an IPv6 address.
+fn are_address_bytes(text: &[u8]) -> bool
+    ensures { result ≡ list_all is_address_byte text.now }
+{
+    text.iter()
+        .all(|b| b.is_ascii_hexdigit() || (*b == b':' || *b == b'.'))
+}
+
+/// Whether these are the bytes of an IPv6 address.
+fn is_address(text: &[u8]) -> bool
+    ensures { result ≡ is_address text.now }
+{
+    has_colon(text) && are_address_bytes(text)
+}
+
+/// Whether this is an IPv6 address in brackets.
+fn is_literal(host: &[u8]) -> bool
+    ensures { result ≡ is_literal host.now }
+{
+    let len = host.len();
+    len >= 3 && host[0] == b'[' && host[len - 1] == b']' && is_address(&host[1..len - 1])
 }
 
 /// Whether each byte may be in a path.
@@ -89,7 +128,7 @@ fn are_path_bytes(bytes: &[u8]) -> bool
 fn is_host(host: &str) -> bool
     ensures { result ≡ is_host host.now }
 {
-    !host.is_empty() && are_host_bytes(host.as_bytes())
+    is_name(host.as_bytes()) || is_literal(host.as_bytes())
 }
 
 /// Whether this is a path.
@@ -108,10 +147,11 @@ impl<A: Allocator + Copy> Target<A> {
     ///
     /// # Errors
     ///
-    /// The first that holds: `BadHost` where the host is empty or has a byte that is no ASCII
-    /// letter, digit, `.` or `-` (profile); `BadPath` where the path doesn't begin with `/` or has
-    /// a byte that isn't from `!` to `~` (profile); `OutOfMemory` where one of them could not be
-    /// stored.
+    /// The first that holds: `BadHost` where the host is neither a name or an address of four
+    /// numbers, of ASCII letters, digits, `.`, `-` and `_`, one byte at least, nor an IPv6 address
+    /// in brackets, as `[::1]` (RFC 3986, section 3.2.2; of the address only the bytes are tested:
+    /// profile); `BadPath` where the path doesn't begin with `/` or has a byte that isn't from `!`
+    /// to `~` (profile); `OutOfMemory` where one of them could not be stored.
     pub fn new(alloc: A, host: &str, port: u16, path: &str) -> Result<Target<A>, TargetFault>
         ensures value { IfOk result (λ t.
             t ≡ record { host = host.now; port = port; path = path.now }) }
@@ -139,7 +179,7 @@ impl<A: Allocator + Copy> Target<A> {
 }
 
 impl<A: Allocator> Target<A> {
-    /// The host: a name, or an address of four numbers.
+    /// The host: a name, an address of four numbers, or an IPv6 address in brackets.
     pub fn host(&self) -> &str
         ensures value { result.now ≡ self.now.host }
         ensures valid { IsTrue (is_host result.now) }

@@ -1,8 +1,8 @@
 //! What is read and written of the fields that carry the context of a trace.
 
 ghost use Rattle.std.specs.Prelude.{◌≡◌, [], ◌∷◌, Some, None, codes, true, false};
-ghost use Rattle.trace_context.specs.Traceparent.{traceparent};
-ghost use Rattle.trace_context.specs.Outgoing.{traceparent_text};
+ghost use Rattle.trace_context.specs.Traceparent.{kept_flags, traceparent};
+ghost use Rattle.trace_context.specs.Outgoing.{flags_text, traceparent_text};
 ghost use Rattle.trace_context.specs.Tracestate.{tracestate};
 
 /// Texts of `traceparent` (W3C Trace Context, "Examples of HTTP traceparent Headers", "Versioning
@@ -24,7 +24,7 @@ pub fn traceparents()
       flags = 254;
       remote = false;
       state = codes "a=1";
-    }) ≡ codes "00-4bf92f3577b34da6a3ce929d0e0e4736-00f067aa0ba902b7-00" }
+    }) ≡ codes "00-4bf92f3577b34da6a3ce929d0e0e4736-00f067aa0ba902b7-02" }
     ensures short { traceparent (codes "00-4bf92f3577b34da6a3ce929d0e0e4736-00f067aa0ba902b7-0")
         ≡ None }
     ensures long { traceparent (codes "00-4bf92f3577b34da6a3ce929d0e0e4736-00f067aa0ba902b7-01-")
@@ -39,6 +39,20 @@ pub fn traceparents()
         (codes "00-4bf92f3577b34da6a3ce929d0e0e4736-0000000000000000-01") ≡ None }
     ensures no_dash { traceparent
         (codes "cc-4bf92f3577b34da6a3ce929d0e0e4736-00f067aa0ba902b7-01.more") ≡ None }
+{}
+
+/// Flags that are kept: sampled (01) and random (02), and no others (W3C Trace Context level 2,
+/// "trace-flags").
+pub fn flags()
+    ensures none { kept_flags 0 ≡ 0 }
+    ensures sampled { kept_flags 1 ≡ 1 }
+    ensures random { kept_flags 2 ≡ 2 }
+    ensures both { kept_flags 3 ≡ 3 }
+    ensures other { kept_flags 4 ≡ 0 }
+    ensures others { kept_flags 0xfc ≡ 0 }
+    ensures all { kept_flags 0xff ≡ 3 }
+    ensures text { flags_text 0xff ≡ codes "03" }
+    ensures no_others { flags_text 0xfd ≡ codes "01" }
 {}
 
 /// Values of `tracestate` (W3C Trace Context, "Examples of tracestate HTTP Headers").

@@ -32,7 +32,8 @@ fn faults_of_messages_are_displayed(rt: HostRuntime) {
 #[test]
 fn faults_of_targets_and_devices_are_displayed(rt: HostRuntime) {
     let alloc = rt.alloc();
-    let text = "bad host: a host is letters, digits, dots and dashes";
+    let text =
+        "bad host: a host is letters, digits, dots, dashes and underscores, or [IPv6 address]";
     assert_displayed(&rt, alloc, TargetFault::BadHost, text);
     let text = "bad path: a path is a slash and visible characters";
     assert_displayed(&rt, alloc, TargetFault::BadPath, text);
