@@ -2,4 +2,5 @@ pub mod LastOf
 pub mod LastPairs
 pub mod Ratios
 pub mod Urls
+pub mod Words
 mod Resources

@@ -4,25 +4,43 @@ use Rattle.std.specs.Prelude.{ℕ, Bool, true, false, not, ◌&&◌, ◌==◌, L
 use Rattle.std.specs.Prelude.{drop, Option, Some, None, is_some, codes, if◌then◌else◌, nat_eq}
 use Rattle.std.specs.Prelude.{option_and_then, option_map, unwrap_or}
 use Rattle.std.specs.Option.{option_or}
-use Rattle.std.specs.List.{list_all, before_first, after_first, starts_with, ends_with}
+use Rattle.std.specs.List.{list_all, list_any, before_first, after_first, starts_with, ends_with}
 use Rattle.otlp_http.specs.Address.{Address, is_host, is_path}
 use Rattle.otel_settings.specs.declared.variable.Variable.{Variable}
 use Rattle.otel_settings.specs.declared.variable.Variable.TheVariants as variables
 use Rattle.otel_settings.specs.declared.fault.Instead.{Instead}
 use Rattle.otel_settings.specs.declared.fault.Instead.TheVariants as instead
 use Rattle.otel_settings.specs.Pairs.{Pairs, text_set}
-use Rattle.otel_settings.specs.Readings.{number_in}
+use Rattle.otel_settings.specs.Readings.{is_word, number_in}
 use Rattle.otel_settings.specs.Faults.{Fault, read_by, faults_by}
 
--- what comes after `http://`, the only scheme (profile: no `https://`)
+-- what comes after this text, if it is at the front
+unfoldable pub after_text : List ℕ → List ℕ → Option (List ℕ)
+after_text front text =
+    if starts_with nat_eq text front then Some (drop (length front) text) else None
+
+-- What comes after the first colon (58) of a URL, whose scheme is what comes before it (RFC 3986,
+-- section 3.1).
+abbrev pub after_colon : List ℕ → List ℕ
+after_colon url = after_first (λ b. b == 58) url
+
+-- whether the scheme is `http`, in letters of either case (profile: no `https`)
+abbrev pub is_http : List ℕ → Bool
+is_http url = is_word (codes "http") (before_first (λ b. b == 58) url)
+
+-- what comes after `http://`
 unfoldable pub after_scheme : List ℕ → Option (List ℕ)
-after_scheme url =
-    if starts_with nat_eq url (codes "http://") then Some (drop 7 url) else None
+after_scheme url = if is_http url then after_text (codes "//") (after_colon url) else None
 
 -- a port of 1 to 65,535, or 80 where none is named (RFC 9110, section 4.2.1)
 abbrev pub port_of : List ℕ → Option ℕ
 port_of [] = Some 80
 port_of (digit ∷ digits) = number_in 1 65535 (digit ∷ digits)
+
+-- the port that follows an address in brackets: nothing, or a colon and digits
+abbrev pub port_after : List ℕ → Option ℕ
+port_after [] = Some 80
+port_after (byte ∷ bytes) = option_and_then port_of (after_text (codes ":") (byte ∷ bytes))
 
 -- `v1/traces` relative to a base path, which is ended by a `/`
 unfoldable pub traces_path : List ℕ → List ℕ
@@ -35,32 +53,71 @@ abbrev pub request_path : Bool → List ℕ → List ℕ
 request_path true path = traces_path path
 request_path false path = path
 
--- neither `?` (63) nor `#` (35), which begin a query and a fragment
-abbrev pub is_plain : ℕ → Bool
-is_plain byte = not (byte == 63) && not (byte == 35)
+-- a path with a query after it, if that isn't empty (RFC 3986, section 3.4)
+abbrev pub with_query : List ℕ → List ℕ → List ℕ
+with_query path [] = path
+with_query path (byte ∷ query) = (path ++ codes "?") ++ (byte ∷ query)
 
--- a place without query and fragment, if a target may have its host and its path
+-- the path of requests, for traces or as a base of all signals, and its query (that a base keeps its
+-- query: profile)
+unfoldable pub target_path : Bool → List ℕ → List ℕ → List ℕ
+target_path is_base path query = with_query (request_path is_base path) query
+
+-- no `#` (35), which begins a fragment (RFC 9112, section 3.2: a request has none)
+abbrev pub is_plain : ℕ → Bool
+is_plain byte = not (byte == 35)
+
+-- a place without a fragment, if a target may have its host and its path
 unfoldable pub allowed : Address → Option Address
 allowed address =
     if list_all is_plain address.path && is_host address.host && is_path address.path
     then Some address else None
 
--- What comes before the first `/` (47) of a URL without its scheme is its host, and after a colon
--- (58) its port. What comes after the `/` is its path, without that `/`.
+-- Of a URL without its scheme, what comes after the first `?` is its query. (RFC 3986, section 3.4)
+abbrev pub before_query : List ℕ → List ℕ
+before_query rest = before_first (λ b. b == 63) rest
+
+abbrev pub query_of : List ℕ → List ℕ
+query_of rest = after_first (λ b. b == 63) rest
+
+-- Of what comes before that, the part before the first `/` (47) is the authority, and what comes
+-- after the `/` is the path, without that `/`. (RFC 3986, section 3)
 abbrev pub authority_of : List ℕ → List ℕ
-authority_of rest = before_first (λ b. b == 47) rest
+authority_of rest = before_first (λ b. b == 47) (before_query rest)
 
 abbrev pub path_of : List ℕ → List ℕ
-path_of rest = 47 ∷ after_first (λ b. b == 47) rest
+path_of rest = 47 ∷ after_first (λ b. b == 47) (before_query rest)
+
+-- whether an authority begins with a `[`, as one with an IPv6 address does
+abbrev pub is_bracketed : List ℕ → Bool
+is_bracketed authority = starts_with nat_eq authority (codes "[")
+
+-- `]`
+abbrev pub is_end : ℕ → Bool
+is_end byte = byte == 93
+
+-- The host: with a bracket up to the first `]`, and without one up to the first colon. (RFC 3986,
+-- sections 3.2.2 and 3.2.3; that there is no user: profile)
+unfoldable pub host_of : List ℕ → List ℕ
+host_of authority =
+    if is_bracketed authority then before_first is_end authority ++ codes "]"
+    else before_first (λ b. b == 58) authority
+
+-- the port that comes after the host; none where a bracket stays open
+unfoldable pub port_in : List ℕ → Option ℕ
+port_in authority =
+    if is_bracketed authority
+    then (if list_any is_end authority then port_after (after_first is_end authority) else None)
+    else port_of (after_first (λ b. b == 58) authority)
 
 -- the place that a URL without its scheme names
 abbrev pub place_of : Bool → List ℕ → Option Address
 place_of is_base rest =
     option_and_then (λ port. allowed (record {
-      host = before_first (λ b. b == 58) (authority_of rest);
+      host = host_of (authority_of rest);
       port = port;
-      path = request_path is_base (path_of rest);
-    })) (port_of (after_first (λ b. b == 58) (authority_of rest)))
+      path = target_path is_base (path_of rest) (query_of rest);
+    })) (port_in (authority_of rest))
 
 -- the place that a URL names, for traces or as a base of all signals
 unfoldable pub endpoint : Bool → List ℕ → Option Address

@@ -6,5 +6,6 @@ pub mod Readings
 pub mod Samplers
 pub mod Resources
 pub mod Endpoints
+pub mod Unsupported
 pub mod Settings
 pub mod SettingsView

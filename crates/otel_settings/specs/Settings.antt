@@ -15,6 +15,7 @@ use Rattle.otel_settings.specs.declared.sampler.NamedSampler.{NamedSampler}
 use Rattle.otel_settings.specs.Samplers.{sampler_of, sampler_faults}
 use Rattle.otel_settings.specs.Resources.{resource_of, resource_faults}
 use Rattle.otel_settings.specs.Endpoints.{target_of, target_faults}
+use Rattle.otel_settings.specs.Unsupported.{unsupported_faults}
 use Rattle.otel_settings.specs.Pairs.{Pairs, text_set}
 use Rattle.otel_settings.specs.Readings.{boolean, number_in}
 use Rattle.otel_settings.specs.Faults.{Fault, read_by, faults_by}
@@ -166,7 +167,9 @@ all_faults pairs =
     let first : List Fault = resource_faults (disabled_faults pairs) pairs in
     let queue : List Fault = desk_faults (sampler_faults first pairs) pairs in
     let export : List Fault = export_timeout_faults queue pairs in
-    timeout_faults (target_faults (limit_faults export pairs) pairs) pairs
+    let sending : List Fault =
+    timeout_faults (target_faults (limit_faults export pairs) pairs) pairs in
+    unsupported_faults sending pairs
 
 -- What the names and values set, variable by variable. (Environment Variable Specification)
 unfoldable pub settings_of : Pairs → Settings

@@ -2,7 +2,7 @@
 
 ghost use Rattle.std.specs.Prelude.{◌≡◌, ◌++◌, ◌<◌, ◌==◌, ◌∷◌, IfOk, OnOk, codes, nat_eq};
 ghost use Rattle.std.specs.Prelude.{option_map, string_bytes};
-ghost use Rattle.std.specs.List.{after_first, before_first, ends_with, list_all};
+ghost use Rattle.std.specs.List.{after_first, before_first, ends_with, list_all, list_any};
 ghost use Rattle.otel_settings.specs.Pairs.{pairs_view};
 ghost use Rattle.otel_settings.specs.Faults.{faults_view};
 ghost use Rattle.otel_settings.specs.Endpoints as endpoints;
@@ -28,11 +28,23 @@ fn around(text: &str, mark: char) -> (&str, &str)
     }
 }
 
-/// What comes after `http://`.
+/// What comes after this text, if it is at the front.
+fn after_text<'a>(front: &str, text: &'a str) -> Option<&'a str>
+    ensures { option_map (λ t. t.now) result ≡ endpoints.after_text front.now text.now }
+{
+    text.strip_prefix(front)
+}
+
+/// What comes after `http://`, whose letters may be of either case.
+#[tactic(auto, unfolding(crate::specs::Endpoints::after_scheme))]
 fn after_scheme(url: &str) -> Option<&str>
     ensures { option_map (λ t. t.now) result ≡ endpoints.after_scheme url.now }
 {
-    url.strip_prefix("http://")
+    let (scheme, rest) = around(url, ':');
+    if !scheme.eq_ignore_ascii_case("http") {
+        return None;
+    }
+    after_text("//", rest)
 }
 
 /// A port, 80 where none is named.
@@ -46,11 +58,66 @@ fn port_of(digits: &str) -> Option<u16>
     Some(port as u16)
 }
 
-/// Whether there is no `?` and no `#`.
+/// The port that follows an address in brackets, 80 where nothing does.
+fn port_after(tail: &str) -> Option<u16>
+    ensures { result ≡ endpoints.port_after tail.now }
+{
+    if tail.is_empty() {
+        return Some(80);
+    }
+    port_of(after_text(":", tail)?)
+}
+
+/// Whether the first byte is a `[`.
+fn is_bracketed(authority: &str) -> bool
+    ensures { result ≡ endpoints.is_bracketed authority.now }
+{
+    authority.starts_with("[")
+}
+
+/// Whether there is a `]`.
+fn is_closed(authority: &[u8]) -> bool
+    ensures { result ≡ list_any endpoints.is_end authority.now }
+{
+    authority.iter().any(|b| *b == b']')
+}
+
+/// The host of an authority.
+#[tactic(auto, unfolding(crate::specs::Endpoints::host_of))]
+fn host_in<A: Allocator>(alloc: A, authority: &str) -> Result<String<A>, AllocError>
+    ensures { IfOk result (λ host. string_bytes host ≡ endpoints.host_of authority.now) }
+{
+    if is_bracketed(authority) {
+        let (address, _) = around(authority, ']');
+        let mut host = String::from_str(alloc, address)?;
+        host.push_str("]")?;
+        return Ok(host);
+    }
+    let (name, _) = around(authority, ':');
+    String::from_str(alloc, name)
+}
+
+/// The port of an authority.
+#[tactic(auto, unfolding(crate::specs::Endpoints::port_in))]
+fn port_in(authority: &str) -> Option<u16>
+    ensures { result ≡ endpoints.port_in authority.now }
+{
+    if is_bracketed(authority) {
+        if !is_closed(authority.as_bytes()) {
+            return None;
+        }
+        let (_, tail) = around(authority, ']');
+        return port_after(tail);
+    }
+    let (_, digits) = around(authority, ':');
+    port_of(digits)
+}
+
+/// Whether there is no `#`.
 fn is_plain(path: &[u8]) -> bool
     ensures { result ≡ list_all is_plain path.now }
 {
-    path.iter().all(|b| *b != b'?' && *b != b'#')
+    path.iter().all(|b| *b != b'#')
 }
 
 /// Whether the last byte is a `/`.
@@ -81,6 +148,34 @@ fn request_path<A: Allocator>(alloc: A, tail: &str, is_base: bool) -> Result<Str
     if is_base {
         add_traces(&mut path)?;
     }
+    Ok(path)
+}
+
+/// Adds a query, unless it is empty.
+fn add_query<A: Allocator>(path: &mut String<A>, query: &str) -> Result<(), AllocError>
+    ensures { OnOk result (string_bytes path.new
+        ≡ endpoints.with_query (string_bytes path.old) query.now) }
+{
+    if query.is_empty() {
+        return Ok(());
+    }
+    path.push_str("?")?;
+    path.push_str(query)
+}
+
+/// The path of requests, with its query.
+#[tactic(auto, unfolding(crate::specs::Endpoints::target_path))]
+fn target_path<A: Allocator>(
+    alloc: A,
+    tail: &str,
+    is_base: bool,
+    query: &str,
+) -> Result<String<A>, AllocError>
+    ensures { IfOk result (λ path.
+        string_bytes path ≡ endpoints.target_path is_base (47 ∷ tail.now) query.now) }
+{
+    let mut path = request_path(alloc, tail, is_base)?;
+    add_query(&mut path, query)?;
     Ok(path)
 }
 
@@ -117,13 +212,14 @@ fn target_at<A: Allocator + Copy>(
     let Some(rest) = after_scheme(url) else {
         return Ok(None)
     };
-    let (authority, tail) = around(rest, '/');
-    let (host, digits) = around(authority, ':');
-    let Some(port) = port_of(digits) else {
+    let (place, query) = around(rest, '?');
+    let (authority, tail) = around(place, '/');
+    let Some(port) = port_in(authority) else {
         return Ok(None)
     };
-    let path = request_path(alloc, tail, is_base)?;
-    allowed_target(alloc, host, port, path.as_str())
+    let host = host_in(alloc, authority)?;
+    let path = target_path(alloc, tail, is_base, query)?;
+    allowed_target(alloc, host.as_str(), port, path.as_str())
 }
 
 /// The target that a variable names, if it is set and read. What is set and not read is a fault

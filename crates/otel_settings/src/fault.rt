@@ -27,6 +27,18 @@ pub enum Instead {
     DefaultEndpoint,
     /// What this variable says, or its default if it says nothing.
     Variable(Variable),
+    /// The exporter `otlp`.
+    Otlp,
+    /// The propagator `tracecontext`.
+    TraceContext,
+    /// The protocol `http/protobuf`.
+    HttpProtobuf,
+    /// No compression.
+    NoCompression,
+    /// HTTP without TLS.
+    PlainHttp,
+    /// Requests without these fields.
+    NoHeaders,
 }
 
 impl fmt::Display for Instead {
@@ -40,12 +52,18 @@ impl fmt::Display for Instead {
             Instead::RatioOne => f.write_str("1.0"),
             Instead::DefaultEndpoint => f.write_str("http://localhost:4318/v1/traces"),
             Instead::Variable(variable) => write!(f, "what {variable} says"),
+            Instead::Otlp => f.write_str("otlp"),
+            Instead::TraceContext => f.write_str("tracecontext"),
+            Instead::HttpProtobuf => f.write_str("http/protobuf"),
+            Instead::NoCompression => f.write_str("no compression"),
+            Instead::PlainHttp => f.write_str("HTTP without TLS"),
+            Instead::NoHeaders => f.write_str("a request without them"),
         }
     }
 }
 
-/// A value that can't be read. It counts as unset (OpenTelemetry Specification, "Environment
-/// Variable Specification", on each type of value).
+/// A value that can't be read, or that asks for what the kit doesn't have. It counts as unset
+/// (OpenTelemetry Specification, "Environment Variable Specification", on each type of value).
 #[derive(Drop)]
 #[derive_where(Debug, PartialEq, Eq)]
 pub struct SettingFault<A: Allocator = Global> {
@@ -57,11 +75,38 @@ pub struct SettingFault<A: Allocator = Global> {
     pub instead: Instead,
 }
 
+/// The scheme of a URL over TLS.
+const TLS_SCHEME: &str = "https:";
+
+impl<A: Allocator> SettingFault<A> {
+    /// Whether the value is an endpoint that is reached over TLS.
+    fn asks_for_tls(&self) -> bool {
+        let variable = self.variable;
+        let scheme = self.text.as_bytes().get(..TLS_SCHEME.len());
+        matches!(
+            variable,
+            Variable::OtlpEndpoint | Variable::OtlpTracesEndpoint
+        ) && scheme.is_some_and(|scheme| scheme.eq_ignore_ascii_case(TLS_SCHEME.as_bytes()))
+    }
+}
+
+/// Says the variable, its value, and what is used instead. Of a variable whose value may be a
+/// secret, as of headers and keys, the value isn't said.
 impl<A: Allocator> fmt::Display for SettingFault<A> {
     fn fmt<W: fmt::Write>(&self, f: &mut fmt::Formatter<W>) -> fmt::Result {
         let variable = self.variable;
         let text = self.text.as_str();
         let instead = self.instead;
+        if variable.is_unsupported() {
+            return write!(f, "{variable} isn't supported: {instead} is used instead");
+        }
+        if self.asks_for_tls() {
+            return write!(
+                f,
+                "{variable}: {text:?} needs TLS, which isn't supported: {instead} is used \
+                instead; name a proxy on this machine that has TLS, as http://localhost:4318"
+            );
+        }
         let form = variable.form();
         write!(
             f,

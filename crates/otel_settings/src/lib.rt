@@ -5,7 +5,8 @@
 //! those of the process. They are a function of the list, variable by variable: of equal names the
 //! last counts, and a variable that isn't set, or whose value is empty, leaves its default. A value
 //! that can't be read leaves the default, too, and is once in the list of faults, with its variable
-//! and with what is used instead.
+//! and with what is used instead. So is a value that asks for what the kit doesn't have, as another
+//! protocol, TLS and headers.
 #![tactic(auto)]
 
 mod endpoint;
@@ -17,6 +18,7 @@ mod read;
 mod resource;
 mod sampler;
 mod settings;
+mod unsupported;
 mod variable;
 
 pub use environment::settings_of_environment;

@@ -13,6 +13,7 @@ use crate::fault::{Instead, SettingFault};
 use crate::read::{read_boolean, read_number, read_text};
 use crate::resource::read_resource;
 use crate::sampler::{NamedSampler, read_sampler};
+use crate::unsupported::note_unsupported;
 use crate::variable::Variable;
 use batch_desk::DeskConfig;
 use otlp_http::Target;
@@ -48,7 +49,8 @@ pub struct Settings<A: Allocator = Global> {
     /// How long a request to the collector may take, in milliseconds: 10,000 by default. 0 is no
     /// limit.
     pub timeout_ms: u32,
-    /// The values that can't be read, in the order of [`Variable`].
+    /// The values that can't be read, or that ask for what the kit doesn't have, in the order of
+    /// [`Variable`].
     pub faults: Vec<SettingFault<A>, A>,
 }
 
@@ -202,8 +204,8 @@ fn read_timeout<A: Allocator + Copy>(
 }
 
 /// The settings that these names and values make, variable by variable. Of equal names the last
-/// counts, and an empty value counts as unset. A value that can't be read leaves its default, and
-/// is once in the list of faults.
+/// counts, and an empty value counts as unset. A value that can't be read, or that asks for what the
+/// kit doesn't have, leaves its default, and is once in the list of faults.
 ///
 /// # Errors
 ///
@@ -233,6 +235,7 @@ pub fn settings_of<A: Allocator + Copy>(
     let limits = read_limits(alloc, &mut faults, pairs)?;
     let target = read_target(alloc, &mut faults, pairs)?;
     let timeout_ms = read_timeout(alloc, &mut faults, pairs)?;
+    note_unsupported(alloc, &mut faults, pairs)?;
     Ok(Settings {
         disabled: disabled.unwrap_or(false),
         resource,

@@ -53,11 +53,39 @@ pub enum Variable {
     /// `OTEL_EXPORTER_OTLP_TRACES_TIMEOUT`: how long a request with spans may take, in
     /// milliseconds.
     OtlpTracesTimeout,
+    /// `OTEL_TRACES_EXPORTER`: which exporter is used; there is `otlp` alone.
+    TracesExporter,
+    /// `OTEL_PROPAGATORS`: which fields carry a context; there is `tracecontext` alone.
+    Propagators,
+    /// `OTEL_EXPORTER_OTLP_PROTOCOL`: how requests are written; there is `http/protobuf` alone.
+    OtlpProtocol,
+    /// `OTEL_EXPORTER_OTLP_TRACES_PROTOCOL`: the same for spans.
+    OtlpTracesProtocol,
+    /// `OTEL_EXPORTER_OTLP_COMPRESSION`: how bodies are compressed; there is `none` alone.
+    OtlpCompression,
+    /// `OTEL_EXPORTER_OTLP_TRACES_COMPRESSION`: the same for spans.
+    OtlpTracesCompression,
+    /// `OTEL_EXPORTER_OTLP_CERTIFICATE`: whom TLS trusts; there is no TLS.
+    OtlpCertificate,
+    /// `OTEL_EXPORTER_OTLP_TRACES_CERTIFICATE`: the same for spans.
+    OtlpTracesCertificate,
+    /// `OTEL_EXPORTER_OTLP_CLIENT_KEY`: the key of the client; there is no TLS.
+    OtlpClientKey,
+    /// `OTEL_EXPORTER_OTLP_TRACES_CLIENT_KEY`: the same for spans.
+    OtlpTracesClientKey,
+    /// `OTEL_EXPORTER_OTLP_CLIENT_CERTIFICATE`: whom the client is; there is no TLS.
+    OtlpClientCertificate,
+    /// `OTEL_EXPORTER_OTLP_TRACES_CLIENT_CERTIFICATE`: the same for spans.
+    OtlpTracesClientCertificate,
+    /// `OTEL_EXPORTER_OTLP_HEADERS`: fields of each request; there are none of a program's own.
+    OtlpHeaders,
+    /// `OTEL_EXPORTER_OTLP_TRACES_HEADERS`: the same for spans.
+    OtlpTracesHeaders,
 }
 
 impl Variable {
     /// All of them, in the order in which their faults are listed.
-    pub const ALL: [Variable; 21] = [
+    pub const ALL: [Variable; 35] = [
         Variable::SdkDisabled,
         Variable::ResourceAttributes,
         Variable::ServiceName,
@@ -79,6 +107,20 @@ impl Variable {
         Variable::OtlpTracesEndpoint,
         Variable::OtlpTimeout,
         Variable::OtlpTracesTimeout,
+        Variable::TracesExporter,
+        Variable::Propagators,
+        Variable::OtlpProtocol,
+        Variable::OtlpTracesProtocol,
+        Variable::OtlpCompression,
+        Variable::OtlpTracesCompression,
+        Variable::OtlpCertificate,
+        Variable::OtlpTracesCertificate,
+        Variable::OtlpClientKey,
+        Variable::OtlpTracesClientKey,
+        Variable::OtlpClientCertificate,
+        Variable::OtlpTracesClientCertificate,
+        Variable::OtlpHeaders,
+        Variable::OtlpTracesHeaders,
     ];
 
     /// What its value is, in words, as a fault says it.
@@ -96,8 +138,31 @@ impl Variable {
             Variable::OtlpEndpoint | Variable::OtlpTracesEndpoint => {
                 "a URL such as http://collector:4318"
             }
+            Variable::TracesExporter => "otlp, the only exporter here",
+            Variable::Propagators => "tracecontext, the only propagator here",
+            Variable::OtlpProtocol | Variable::OtlpTracesProtocol => {
+                "http/protobuf, the only protocol here"
+            }
+            Variable::OtlpCompression | Variable::OtlpTracesCompression => {
+                "none, since nothing is compressed here"
+            }
             _ => "a whole number from 0 to 4294967295",
         }
+    }
+
+    /// Whether it asks for what isn't there, whatever its value is.
+    pub(crate) fn is_unsupported(self) -> bool {
+        matches!(
+            self,
+            Variable::OtlpCertificate
+                | Variable::OtlpTracesCertificate
+                | Variable::OtlpClientKey
+                | Variable::OtlpTracesClientKey
+                | Variable::OtlpClientCertificate
+                | Variable::OtlpTracesClientCertificate
+                | Variable::OtlpHeaders
+                | Variable::OtlpTracesHeaders
+        )
     }
 
     /// The name that it has in the environment.
@@ -127,6 +192,20 @@ impl Variable {
             Variable::OtlpTracesEndpoint => "OTEL_EXPORTER_OTLP_TRACES_ENDPOINT",
             Variable::OtlpTimeout => "OTEL_EXPORTER_OTLP_TIMEOUT",
             Variable::OtlpTracesTimeout => "OTEL_EXPORTER_OTLP_TRACES_TIMEOUT",
+            Variable::TracesExporter => "OTEL_TRACES_EXPORTER",
+            Variable::Propagators => "OTEL_PROPAGATORS",
+            Variable::OtlpProtocol => "OTEL_EXPORTER_OTLP_PROTOCOL",
+            Variable::OtlpTracesProtocol => "OTEL_EXPORTER_OTLP_TRACES_PROTOCOL",
+            Variable::OtlpCompression => "OTEL_EXPORTER_OTLP_COMPRESSION",
+            Variable::OtlpTracesCompression => "OTEL_EXPORTER_OTLP_TRACES_COMPRESSION",
+            Variable::OtlpCertificate => "OTEL_EXPORTER_OTLP_CERTIFICATE",
+            Variable::OtlpTracesCertificate => "OTEL_EXPORTER_OTLP_TRACES_CERTIFICATE",
+            Variable::OtlpClientKey => "OTEL_EXPORTER_OTLP_CLIENT_KEY",
+            Variable::OtlpTracesClientKey => "OTEL_EXPORTER_OTLP_TRACES_CLIENT_KEY",
+            Variable::OtlpClientCertificate => "OTEL_EXPORTER_OTLP_CLIENT_CERTIFICATE",
+            Variable::OtlpTracesClientCertificate => "OTEL_EXPORTER_OTLP_TRACES_CLIENT_CERTIFICATE",
+            Variable::OtlpHeaders => "OTEL_EXPORTER_OTLP_HEADERS",
+            Variable::OtlpTracesHeaders => "OTEL_EXPORTER_OTLP_TRACES_HEADERS",
         }
     }
 }

@@ -72,6 +72,11 @@ pub fn texts()
     ensures zero { numerator (codes "0") ≡ 0 }
     ensures leading_zeros { numerator (codes "000.1") ≡ 1 }
     ensures leading_zeros_of { denominator (codes "000.1") ≡ 10 }
+    // 2.5E-1 is 25 / 10 / 10, and 0.01e+2 is 1 * 100 / 100.
+    ensures lowered { numerator (codes "2.5E-1") ≡ 25 }
+    ensures lowered_of { denominator (codes "2.5E-1") ≡ 100 }
+    ensures raised { numerator (codes "0.01e+2") ≡ 100 }
+    ensures raised_of { denominator (codes "0.01e+2") ≡ 100 }
 {}
 
 /// Which texts are decimal numbers.
@@ -86,7 +91,14 @@ pub fn forms()
     ensures two_points { is_decimal (codes "0.2.5") ≡ false }
     ensures sign { is_decimal (codes "-0.5") ≡ false }
     ensures plus { is_decimal (codes "+0.5") ≡ false }
-    ensures exponent { is_decimal (codes "1e-3") ≡ false }
+    ensures exponent { is_decimal (codes "1e-3") ≡ true }
+    ensures exponent_in_capitals { is_decimal (codes "1E3") ≡ true }
+    ensures exponent_with_plus { is_decimal (codes "1.5e+3") ≡ true }
+    ensures exponent_without_digits { is_decimal (codes "1e") ≡ false }
+    ensures exponent_of_a_sign { is_decimal (codes "1e-") ≡ false }
+    ensures exponent_with_point { is_decimal (codes "1e0.5") ≡ false }
+    ensures exponent_alone { is_decimal (codes "e3") ≡ false }
+    ensures two_exponents { is_decimal (codes "1e2E3") ≡ false }
     ensures blank { is_decimal (codes " 1") ≡ false }
     ensures comma { is_decimal (codes "0,5") ≡ false }
 {}

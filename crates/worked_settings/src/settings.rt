@@ -10,6 +10,8 @@ ghost use Rattle.otel_settings.specs.Resources.{resource_faults, resource_of};
 ghost use Rattle.model_span.specs.Attributes.{text};
 ghost use Rattle.otel_settings.specs.Samplers.{ratio, sampler, sampler_faults, sampler_of};
 ghost use Rattle.otel_settings.specs.Endpoints.{endpoint};
+ghost use Rattle.otel_settings.specs.Unsupported.{form_faults, header_faults, selection_faults};
+ghost use Rattle.otel_settings.specs.Unsupported.{tls_faults};
 ghost use Rattle.otel_settings.specs.Settings.{desk_of, desk_faults};
 
 /// A variable is set to the value of its last pair, unless that is empty.
@@ -69,7 +71,8 @@ pub fn ratios()
     ensures above { ratio (codes "1.01") ≡ None }
     ensures minus { ratio (codes "-0.25") ≡ None }
     ensures percent { ratio (codes "25%") ≡ None }
-    ensures exponent { ratio (codes "1e-1") ≡ None }
+    ensures exponent { ratio (codes "1e-1") ≡ Some 0xe6666666666667 }
+    ensures exponent_without_digits { ratio (codes "1e-") ≡ None }
 {}
 
 /// A sampler and its argument. One that takes no ratio ignores the argument, a bad one too; and
@@ -123,7 +126,7 @@ pub fn resources()
 {}
 
 /// URLs of collectors: the standard's examples, and some that can't be read.
-#[tactic(auto, unfolding(otel_settings::specs::Endpoints::endpoint, otel_settings::specs::Endpoints::after_scheme, otel_settings::specs::Endpoints::traces_path, otel_settings::specs::Endpoints::allowed, otel_settings::specs::Readings::number_in, script_words::specs::Words::number_below))]
+#[tactic(auto, unfolding(otel_settings::specs::Endpoints::endpoint, otel_settings::specs::Endpoints::after_scheme, otel_settings::specs::Endpoints::after_text, otel_settings::specs::Endpoints::host_of, otel_settings::specs::Endpoints::port_in, otel_settings::specs::Endpoints::target_path, otel_settings::specs::Endpoints::traces_path, otel_settings::specs::Endpoints::allowed, otel_settings::specs::Readings::number_in, script_words::specs::Words::number_below))]
 pub fn endpoints()
     ensures base { endpoint true (codes "http://collector:4318") ≡ Some
         (record { host = codes "collector"; port = 4318; path = codes "/v1/traces" }) }
@@ -139,8 +142,67 @@ pub fn endpoints()
     ensures no_scheme { endpoint true (codes "collector:4318") ≡ None }
     ensures no_host { endpoint true (codes "http://:4318") ≡ None }
     ensures large_port { endpoint true (codes "http://collector:65536") ≡ None }
-    ensures query { endpoint false (codes "http://collector/t?a=b") ≡ None }
     ensures user { endpoint false (codes "http://me@collector/t") ≡ None }
+{}
+
+/// The parts of URLs: schemes in capitals, names of containers, addresses of IPv6, and queries.
+#[tactic(auto, unfolding(otel_settings::specs::Endpoints::endpoint, otel_settings::specs::Endpoints::after_scheme, otel_settings::specs::Endpoints::after_text, otel_settings::specs::Endpoints::host_of, otel_settings::specs::Endpoints::port_in, otel_settings::specs::Endpoints::target_path, otel_settings::specs::Endpoints::traces_path, otel_settings::specs::Endpoints::allowed, otel_settings::specs::Readings::number_in, script_words::specs::Words::number_below))]
+pub fn parts_of_endpoints()
+    ensures capitals { endpoint false (codes "HTTP://my_collector/") ≡ Some
+        (record { host = codes "my_collector"; port = 80; path = codes "/" }) }
+    ensures loopback { endpoint true (codes "http://[::1]:4318") ≡ Some
+        (record { host = codes "[::1]"; port = 4318; path = codes "/v1/traces" }) }
+    ensures no_port { endpoint false (codes "http://[fe80::1]/t") ≡ Some
+        (record { host = codes "[fe80::1]"; port = 80; path = codes "/t" }) }
+    ensures query { endpoint false (codes "http://collector/t?a=b/c:d") ≡ Some
+        (record { host = codes "collector"; port = 80; path = codes "/t?a=b/c:d" }) }
+    ensures base_with_query { endpoint true (codes "http://collector?a=b") ≡ Some
+        (record { host = codes "collector"; port = 80; path = codes "/v1/traces?a=b" }) }
+    ensures empty_query { endpoint false (codes "http://collector/t?") ≡ Some
+        (record { host = codes "collector"; port = 80; path = codes "/t" }) }
+    ensures open_bracket { endpoint false (codes "http://[::1") ≡ None }
+    ensures no_bracket { endpoint false (codes "http://::1") ≡ None }
+    ensures after_bracket { endpoint false (codes "http://[::1]4318") ≡ None }
+    ensures fragment { endpoint false (codes "http://collector/t#a") ≡ None }
+    ensures fragment_of_query { endpoint false (codes "http://collector/t?a#b") ≡ None }
+    ensures one_slash { endpoint false (codes "http:/collector") ≡ None }
+    ensures tls { endpoint false (codes "HTTPS://collector") ≡ None }
+{}
+
+/// Variables that ask for what there isn't: each other value is a fault.
+#[tactic(auto, unfolding(otel_settings::specs::Unsupported::other_faults, otel_settings::specs::Unsupported::selection_faults, otel_settings::specs::Unsupported::form_faults, otel_settings::specs::Unsupported::tls_faults, otel_settings::specs::Unsupported::header_faults, otel_settings::specs::Pairs::text_set, otel_settings::specs::Pairs::last_of, otel_settings::specs::Variables::name_of))]
+pub fn unsupported()
+    ensures unset { form_faults [] [] ≡ [] }
+    ensures only { form_faults []
+        ((codes "OTEL_EXPORTER_OTLP_PROTOCOL", codes "HTTP/Protobuf") ∷ []) ≡ [] }
+    ensures other { form_faults []
+        ((codes "OTEL_EXPORTER_OTLP_PROTOCOL", codes "grpc") ∷ [])
+        ≡ record {
+          variable = variables.OtlpProtocol;
+          text = codes "grpc";
+          instead = instead.HttpProtobuf;
+        } ∷ [] }
+    ensures propagators { selection_faults []
+        ((codes "OTEL_PROPAGATORS", codes "tracecontext,baggage") ∷ [])
+        ≡ record {
+          variable = variables.Propagators;
+          text = codes "tracecontext,baggage";
+          instead = instead.TraceContext;
+        } ∷ [] }
+    ensures headers { header_faults []
+        ((codes "OTEL_EXPORTER_OTLP_TRACES_HEADERS", codes "a=b") ∷ [])
+        ≡ record {
+          variable = variables.OtlpTracesHeaders;
+          text = codes "a=b";
+          instead = instead.NoHeaders;
+        } ∷ [] }
+    ensures certificate { tls_faults []
+        ((codes "OTEL_EXPORTER_OTLP_CERTIFICATE", codes "a.pem") ∷ [])
+        ≡ record {
+          variable = variables.OtlpCertificate;
+          text = codes "a.pem";
+          instead = instead.PlainHttp;
+        } ∷ [] }
 {}
 
 /// The queue's settings: a queue above 65,536 is a fault, and a batch is never above the queue.

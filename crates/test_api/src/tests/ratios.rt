@@ -46,7 +46,25 @@ fn ratios_as_texts(rt: HostRuntime) {
         (".5", Ok(0x80_0000_0000_0000)),
         ("0", Ok(1 << 56)),
         ("", Err(RatioFault::Empty)),
-        ("1e-3", Err(RatioFault::NotANumber)),
+        // A thousandth of 2^56 is 72057594037927.9.
+        ("1e-3", Ok((1 << 56) - 72_057_594_037_927)),
+        ("2.5E-1", Ok(0xc0_0000_0000_0000)),
+        ("25e-2", Ok(0xc0_0000_0000_0000)),
+        ("0.005e+2", Ok(0x80_0000_0000_0000)),
+        ("1e0", Ok(0)),
+        ("100e-00000000000000000000002", Ok(0)),
+        ("0e5", Ok(1 << 56)),
+        ("9e-99999999999999999999999", Ok(1 << 56)),
+        ("0.0e99999999999999999999999", Ok(1 << 56)),
+        ("0.1e99999999999999999999999", Err(RatioFault::AboveOne)),
+        ("1e1", Err(RatioFault::AboveOne)),
+        ("0.11e1", Err(RatioFault::AboveOne)),
+        ("1e", Err(RatioFault::NotANumber)),
+        ("e-3", Err(RatioFault::NotANumber)),
+        ("1e--3", Err(RatioFault::NotANumber)),
+        ("1e-3e", Err(RatioFault::NotANumber)),
+        ("1e.5", Err(RatioFault::NotANumber)),
+        ("-1e-3", Err(RatioFault::NotANumber)),
         ("1.001", Err(RatioFault::AboveOne)),
     ] {
         assert_equal(
@@ -92,7 +110,7 @@ fn why_a_ratio_is_refused(rt: HostRuntime) {
         (RatioFault::Empty, "no ratio: the text is empty"),
         (
             RatioFault::NotANumber,
-            "bad ratio: it is a decimal number such as 0.25, without a sign or an exponent",
+            "bad ratio: it is a decimal number such as 0.25 or 1e-3, without a sign before it",
         ),
         (RatioFault::AboveOne, "bad ratio: it is above 1"),
         (

@@ -106,8 +106,9 @@ fn settings_are_read_variable_by_variable(rt: HostRuntime) {
         &rt,
         rt.alloc(),
         &settings.faults[1],
-        "OTEL_EXPORTER_OTLP_TRACES_ENDPOINT: \"https://collector\" isn't a URL such as \
-         http://collector:4318: what OTEL_EXPORTER_OTLP_ENDPOINT says is used instead",
+        "OTEL_EXPORTER_OTLP_TRACES_ENDPOINT: \"https://collector\" needs TLS, which isn't \
+         supported: what OTEL_EXPORTER_OTLP_ENDPOINT says is used instead; name a proxy on this \
+         machine that has TLS, as http://localhost:4318",
     );
 }
 
@@ -152,9 +153,43 @@ fn each_bad_value_is_one_fault_that_says_what_is_used(rt: HostRuntime) {
             "collector:4318",
             "a URL such as http://collector:4318: http://localhost:4318/v1/traces",
         ),
+        (
+            "OTEL_TRACES_EXPORTER",
+            "none",
+            "otlp, the only exporter here: otlp",
+        ),
+        (
+            "OTEL_PROPAGATORS",
+            "b3",
+            "tracecontext, the only propagator here: tracecontext",
+        ),
+        (
+            "OTEL_EXPORTER_OTLP_TRACES_PROTOCOL",
+            "grpc",
+            "http/protobuf, the only protocol here: http/protobuf",
+        ),
+        (
+            "OTEL_EXPORTER_OTLP_COMPRESSION",
+            "gzip",
+            "none, since nothing is compressed here: no compression",
+        ),
     ] {
         let settings = settings(&rt, rt.alloc(), &[(name, value)]);
         let wanted = format!(in rt.alloc(); "{name}: {value:?} isn't {text} is used instead");
+        let wanted = wanted.expect(&rt, "memory");
+        assert_fault(&rt, rt.alloc(), &settings, &wanted);
+    }
+}
+
+/// What may be secret isn't said.
+#[test]
+fn of_headers_and_keys_the_value_is_not_said(rt: HostRuntime) {
+    for (name, text) in [
+        ("OTEL_EXPORTER_OTLP_HEADERS", "a request without them"),
+        ("OTEL_EXPORTER_OTLP_CLIENT_KEY", "HTTP without TLS"),
+    ] {
+        let settings = settings(&rt, rt.alloc(), &[(name, "secret")]);
+        let wanted = format!(in rt.alloc(); "{name} isn't supported: {text} is used instead");
         let wanted = wanted.expect(&rt, "memory");
         assert_fault(&rt, rt.alloc(), &settings, &wanted);
     }
