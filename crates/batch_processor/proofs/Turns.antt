@@ -546,3 +546,44 @@ turn_goes told told' room old new h h0 h1 h2 work view was is step =
 
 pub turn_ready : (told told' : Option (List Handed)) (room : ℕ → ℕ) (old new : WorkerState) (h0 h1 h2 : Option Hand) → h2 ≡ h1 → TakesStep told told' room old h0 new h1 → IsReady room new h2
 turn_ready told told' room old new h0 h1 h2 is step = subst (IsReady room new) (sym is) step.ready
+
+-- ---- a step that leaves the exporter alone, whatever that is
+
+always_room : (work : Work) → IsPrepared (λ _. work.origin.retry.attempts) work
+always_room work = by_body work.encoded
+  where
+    by_body : (encoded : Option (List ℕ)) → HasRoom work.origin.retry (λ _. work.origin.retry.attempts) encoded (outcomes_out work.account.out)
+    by_body None = tt
+    by_body (Some body) = omega arith
+
+pub aside_step : (old new : WorkerState) (h h' : Option Hand) → StepsAside old h new h' → (told : Option (List Handed)) → TakesStep told told (λ _. old.origin.retry.attempts) old h new h'
+aside_step old new h h' step told = step told (λ _. old.origin.retry.attempts) (always_room (work_in old h))
+
+-- ---- where no outcome is to be judged, each led to another attempt
+
+abbrev EachOutLeadsOn : WorkerState → Option OutBatch → Type 0
+EachOutLeadsOn state out = IfSome out (λ (b : OutBatch). EachLeadsOn state.origin.retry 1 b.outcomes)
+
+judged_by : (state : WorkerState) (outcomes : List Outcome) (out : Option OutBatch) → EachLeadsOn state.origin.retry 1 outcomes → EachOutLeadsOn state (with_outcomes outcomes out)
+judged_by state outcomes None each = tt
+judged_by state outcomes (Some b) each = each
+
+pub pass_judged : (left : Bool) (state : WorkerState) (hand : Option Hand) → IsPassWith left state hand → in_hand [] pending_at hand ≡ [] → EachOutLeadsOn state (work_in state hand).account.out
+pass_judged false state hand p none =
+    judged_by state (state.outcomes ++ in_hand [] pending_at hand) state.account.out
+    (subst (EachLeadsOn state.origin.retry 1) (sym (ap (λ (os : List Outcome). state.outcomes ++ os) none ∙ append-nil state.outcomes)) (p.works refl).again)
+pass_judged true state hand p none =
+    subst (λ (o : Option OutBatch). EachOutLeadsOn state (with_outcomes (state.outcomes ++ in_hand [] pending_at hand) o)) (sym (p.has_left refl).batches.none_out) tt
+
+-- ---- a pass with a batch in hand hasn't left
+
+pub pass_working : (left : Bool) (state : WorkerState) (hand : Hand) → IsPassWith left state (Some hand) → IsWorkingWith state (Some hand)
+pass_working false state hand p = p.works refl
+pass_working true state hand p = absurd (let none : Some hand ≡ None = (p.has_left refl).none in cc)
+
+-- the same after a step that leaves the exporter alone
+pub aside_pass : (left : Bool) (old new : WorkerState) (hand : Hand) (h h' : Option Hand) → IsPassWith left old (Some hand) → StepsAside old (Some hand) new h → h' ≡ h → IsPassWith left new h'
+aside_pass left old new hand h h' p step is =
+    let k = pass_working left old hand p in
+    let ready = turn_ready None None (λ _. old.origin.retry.attempts) old new (Some hand) h h' is (aside_step old new (Some hand) h step None) in
+    pass_works left new h' (sym p.left_is ∙ k.here) ready.works

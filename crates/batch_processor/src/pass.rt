@@ -2,7 +2,7 @@
 ghost use Rattle.std.specs.Prelude.{◌≡◌, IfNone, IfSome};
 ghost use Rattle.otlp_span.specs.Dropped.{entry_view};
 ghost use Rattle.model_processor.specs.Passes.{after_drain, after_pop, after_pop_lost};
-ghost use Rattle.batch_processor.specs.Answers.{IsFlushed, IsShutDown};
+ghost use Rattle.batch_processor.specs.Answers.{AsksShutdown, IsFlushed, IsShutDown};
 ghost use Rattle.batch_processor.specs.Holds.{WasCounted};
 ghost use Rattle.batch_processor.specs.Views.{ended_of};
 
@@ -85,6 +85,17 @@ impl<J: Naming, R: Wait, A: Allocator + Copy> Pass<J, R, A> {
         let after = shared.shutdown(account);
         let mark = lock.end(shared, after);
         lock.wait(rt, account, mark)
+    }
+
+    /// Admits no span any more, on any pass, as `shutdown` does, and doesn't wait: the worker goes on
+    /// with those that wait. (Trace SDK, "Shutdown"; that it doesn't wait: profile)
+    pub fn begin_shutdown(&mut self)
+        ensures { AsksShutdown self.old self.new }
+    {
+        let Pass { lock, account, rt } = self;
+        let mut shared = lock.shared.lock(rt);
+        let asked = shared.shutdown(account);
+        lock.end(shared, asked);
     }
 
     /// The counts of all that came so far, on any pass, with what the worker did: as they are in

@@ -101,6 +101,9 @@ impl<J: Naming, R: Wait + Drop, A: Allocator + Copy> BatchProcessor<J, R, A> {
         // A batch that is out is abandoned, and that is the worker's final account.
         ensures accounts { IfOk result
             (λ a. IsAccounted self a.desk passes.items (abandon worker.account)) }
+        // No batch is out then, and a batch has room for a span.
+        ensures none_out { IfOk result (λ a. a.desk.out ≡ None) }
+        ensures room { IfOk result (λ a. 1 ≤ a.desk.config.batch) }
     {
         if passes.len() < self.setup.passes {
             return Err(Missing {

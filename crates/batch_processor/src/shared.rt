@@ -507,6 +507,7 @@ impl<J: Naming, A: Allocator + Copy> Shared<J, A> {
         ensures origin { origin_in of_worker ≡ origin_in account }
         ensures accounts { IsAccountOf (origin_in account) result passes.items
             (worker_in of_worker) }
+        ensures room { 1 ≤ result.config.batch }
         ensures spent { self.new.spent ≡ self.old.spent }
     {
         self.book.recognize(&mut account);

@@ -13,8 +13,8 @@ ghost use Rattle.model_processor.specs.AnyAccounts.{after_settle, left_if, worke
 ghost use Rattle.batch_desk.specs.Batch.{settled_batch};
 ghost use Rattle.batch_processor.specs.Holds.{IsBatchOf, IsSentBatchOf};
 ghost use Rattle.batch_processor.specs.Working.{IsExported, IsReady, IsWorkingWith, StepsAside};
-ghost use Rattle.batch_processor.specs.Working.{TakesStep, hand_at, to_encode, to_judge, to_retry};
-ghost use Rattle.batch_processor.specs.Working.{to_send, work_in};
+ghost use Rattle.batch_processor.specs.Working.{TakesStep, hand_at, in_hand, pending_at, to_encode};
+ghost use Rattle.batch_processor.specs.Working.{to_judge, to_retry, to_send, work_in};
 
 use crate::account::AccountState;
 use crate::clock::Clock;
@@ -204,6 +204,36 @@ impl<J: Naming, R: Wait + time::Clock + Drop, A: Allocator + Copy> Worker<J, R, 
         export(batch, body, attempt, exporter)
     }
 
+    /// Judges what the last attempt of the batch in hand came to, where that isn't done. Else it
+    /// stays in hand as it is.
+    pub(crate) fn judge_pending<C: Clock, G: Rng>(
+        &mut self,
+        hand: InHand<A>,
+        clock: &C,
+        rng: &mut G,
+    ) -> Option<InHand<A>>
+        requires { IsWorkingWith self.old (Some hand) }
+        ensures step { StepsAside self.old (Some hand) self.new result }
+        ensures judged { in_hand [] pending_at result ≡ [] }
+    {
+        let InHand { batch, stage } = hand;
+        match stage {
+            Stage::ToJudge { body, outcome } => self.judge(batch, body, outcome, clock, rng),
+            Stage::ToEncode => {
+                let stage = Stage::ToEncode;
+                Some(InHand { batch, stage })
+            }
+            Stage::ToSend { body } => {
+                let stage = Stage::ToSend { body };
+                Some(InHand { batch, stage })
+            }
+            Stage::ToRetry { body, from } => {
+                let stage = Stage::ToRetry { body, from };
+                Some(InHand { batch, stage })
+            }
+        }
+    }
+
     /// Judges what an attempt came to: the batch is to be sent again, or it is settled.
     fn judge<C: Clock, G: Rng>(
         &mut self,
@@ -215,8 +245,9 @@ impl<J: Naming, R: Wait + time::Clock + Drop, A: Allocator + Copy> Worker<J, R, 
     ) -> Option<InHand<A>>
         requires { IsWorkingWith self.old
             (hand_at batch (to_judge body.items (outcome_view outcome))) }
-        ensures { StepsAside self.old
+        ensures step { StepsAside self.old
             (hand_at batch (to_judge body.items (outcome_view outcome))) self.new result }
+        ensures judged { in_hand [] pending_at result ≡ [] }
     {
         let attempt = self.outcomes.len() as u32 + 1;
         self.outcomes.push_reserved(outcome);

@@ -1,9 +1,11 @@
 //! The worker's pass: turns of work, and what becomes of a batch in hand where it is let go.
-ghost use Rattle.std.specs.Prelude.{◌≡◌, IfOk, IsTrue, None, true, false};
+ghost use Rattle.std.specs.Prelude.{◌≡◌, List, Option, IfOk, IfSome, IsTrue, None, true, false};
 ghost use Rattle.model_retry.specs.Waits.{IsRetryConfig};
 ghost use Rattle.model_processor.specs.Worker.{new_worker};
-ghost use Rattle.model_processor.specs.WorkerClauses.{EndByWork, WorksUntilItLeaves, abandon};
+ghost use Rattle.model_processor.specs.WorkerClauses.{EachLeadsOn, EndByWork, WorksUntilItLeaves};
+ghost use Rattle.model_processor.specs.WorkerClauses.{abandon};
 ghost use Rattle.model_processor.specs.AnyAccounts.{after_left, worker};
+ghost use Rattle.span_exporter.specs.Handed.{Handed};
 ghost use Rattle.batch_processor.specs.Views.{setup_view};
 ghost use Rattle.batch_processor.specs.Working.{GoesOn, IsPrepared};
 
@@ -160,6 +162,28 @@ impl<J: Naming, R: Wait + time::Clock + Drop, A: Allocator + Copy> WorkerPass<J,
         };
         keep(in_hand, worker.step(hand, exporter, clock, rng));
         false
+    }
+}
+
+impl<J: Naming, R: Wait + time::Clock + Drop, A: Allocator + Copy> WorkerPass<J, R, A> {
+    /// Judges what the last attempt of the batch in hand came to, where that isn't done: the batch
+    /// is settled by it, or is to be sent again. Nothing is sent. It is for who ends work before
+    /// all is drained, so that no reply that came is left out. (profile)
+    pub fn judge<C: Clock, G: Rng>(&mut self, clock: &C, rng: &mut G)
+        ensures goes_on { (told : Option (List Handed)) → GoesOn told told self.old self.new }
+        // No outcome of the batch that is out settles it.
+        ensures judged { IfSome self.new.account.out
+            (λ batch. EachLeadsOn self.new.origin.retry 1 batch.outcomes) }
+    {
+        let WorkerPass {
+            worker,
+            in_hand,
+            left: _,
+        } = self;
+        let Some(hand) = in_hand.take() else {
+            return;
+        };
+        keep(in_hand, worker.judge_pending(hand, clock, rng));
     }
 }
 

@@ -1,5 +1,5 @@
 -- What is so at each place of a list is so of each element.
-use Rattle.std.proofs.Common.{ℕ, zero, suc, ◌<◌, List, [], ◌∷◌, length, take, drop, ◌++◌, ◌≡◌, slice_index_or, arith}
+use Rattle.std.proofs.Common.{ℕ, suc, ◌<◌, List, [], ◌∷◌, length, take, drop, ◌++◌, ◌≡◌, slice_index_or, arith}
 use Rattle.std.proofs.lemmas.Grind.{common_steps}
 use Rattle.std.specs.List.{AllByRecursion}
 

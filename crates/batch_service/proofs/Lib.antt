@@ -3,3 +3,4 @@ mod Names
 mod Stops
 mod Works
 mod Each
+mod GivenUp

@@ -1,9 +1,8 @@
 -- What a service comes to, by what its thread promised and what its processor came to.
-use Rattle.std.proofs.Common.{◌≡◌, ℕ, ◌≤◌, List, [], ◌∷◌, ◌++◌, false, sym, refl, ap, ◌∙◌, subst, arith}
+use Rattle.std.proofs.Common.{◌≡◌, ℕ, ◌≤◌, List, [], ◌∷◌, ◌++◌, sym, ap, ◌∙◌, subst, arith}
 use Rattle.std.specs.Prelude.{Option, Result, Ok, Err, None}
 use Rattle.model_desk.specs.Desks.{Desk}
 use Rattle.model_processor.specs.Passes.{PassAccount, new_account, after_drain, after_shutdown}
-use Rattle.model_processor.specs.Worker.{new_worker}
 use Rattle.model_processor.specs.WorkerClauses.{IsAccounted, Origin, WorksUntilItLeaves, abandon}
 use Rattle.span_exporter.specs.Handed.{Handed, Gains}
 use Rattle.name_sink.specs.Named.{Named}
@@ -13,8 +12,9 @@ use Rattle.batch_processor.specs.declared.fault.WorkerLeft.{WorkerLeft}
 use Rattle.batch_processor.specs.declared.pass.Flushed.{Flushed}
 use Rattle.batch_processor.specs.declared.worker.WorkEnd.{WorkEnd}
 use Rattle.batch_processor.specs.declared.worker.WorkEnd.TheVariants as ends
-use Rattle.batch_service.specs.Working.{IsDrained, WorksOn, state_of}
-use Rattle.batch_service.specs.Service.{EndsNone, IsServed, ServiceView, new_work, popping}
+use Rattle.batch_service.specs.Working.{IsDrained, NoneSettles, WorksOn, state_of}
+use Rattle.batch_service.specs.Rest.{GivesUp}
+use Rattle.batch_service.specs.Service.{EndsNone, IsServed, IsStopped, ServiceView, new_work, popping}
 
 -- a pass that only asks for a shutdown has ended no span
 none_after : (answer : Result Flushed WorkerLeft) (ticket mark : ℕ) (account : PassAccount) → EndsNone account → EndsNone (after_answer answer (after_shutdown ticket mark account))
@@ -32,8 +32,8 @@ pub shuts_once : (answer : Result Flushed WorkerLeft) (ticket mark : ℕ) (old n
 shuts_once answer ticket mark old new is = subst (λ (a : PassAccount). 1 ≤ a.shutdowns) (sym is) (more_after answer ticket mark old)
 
 module _ (view : ServiceView) (passes : List PassAccount) (desk : Desk) (told' : Option (List Handed)) (named' : Option Named) (begun work : Work) (names names' control : PassAccount) (end : WorkEnd) (all : List PassAccount) where
-  pub served : begun ≡ new_work view.origin → names ≡ new_account → WorksOn (state_of view.handed view.named begun names) (state_of told' named' work names') → (end ≡ ends.Drained → IsDrained work.account) → EndsNone control → 1 ≤ control.shutdowns → all ≡ passes ++ control ∷ names' ∷ [] → IsAccounted view.origin desk all (abandon work.account) → WorksUntilItLeaves view.origin work.account → IsServed view passes desk told' named' end
-  served begun_is names_is works drained none once all_is accounts until =
+  pub served : begun ≡ new_work view.origin → names ≡ new_account → WorksOn (state_of view.handed view.named begun names) (state_of told' named' work names') → (end ≡ ends.Drained → IsDrained work.account) → NoneSettles work → EndsNone control → 1 ≤ control.shutdowns → all ≡ passes ++ control ∷ names' ∷ [] → IsAccounted view.origin desk all (abandon work.account) → WorksUntilItLeaves view.origin work.account → IsServed view passes desk told' named' end
+  served begun_is names_is works drained settles none once all_is accounts until =
       let on = works.goes_on in
       let more = works.names.more in
       let popped : names' ≡ popping more = works.names.popped ∙ ap (after_drain more.dropped more.lost) names_is in
@@ -50,4 +50,35 @@ module _ (view : ServiceView) (passes : List PassAccount) (desk : Desk) (told' :
         sent = subst (λ (xs : List Handed). Gains xs view.handed told') (sym attempts) on.gains;
         given = works.names.gains;
         drained = drained;
+        none_settles = subst (λ (o : Origin). NoneSettles (record { origin = o; account = work.account; encoded = None })) (on.origin ∙ ap (λ (w : Work). w.origin) begun_is) settles;
       }
+
+-- what a service comes to doesn't ask what its own pass knew before
+pub same_service : (view view' : ServiceView) (passes : List PassAccount) (desk : Desk) (told : Option (List Handed)) (named : Option Named) (end : WorkEnd) → view' ≡ record view { control = view'.control } → IsServed view' passes desk told named end → IsServed view passes desk told named end
+same_service view view' passes desk told named end is came =
+    let s : IsServed (record view { control = view'.control }) passes desk told named end = subst (λ (v : ServiceView). IsServed v passes desk told named end) is came in
+    record {
+      worker = s.worker;
+      control = s.control;
+      names = s.names;
+      accounts = s.accounts;
+      works = s.works;
+      own = s.own;
+      shut = s.shut;
+      stays = s.stays;
+      sent = s.sent;
+      given = s.given;
+      drained = s.drained;
+      none_settles = s.none_settles;
+    }
+
+-- what is left is given up then
+pub stopped : (view : ServiceView) (passes : List PassAccount) (desk desk' : Desk) (told : Option (List Handed)) (named named' : Option Named) (end : WorkEnd) → IsServed view passes desk told named end → GivesUp desk desk' named named' → IsStopped view passes desk' told named' end
+stopped view passes desk desk' told named named' end was rest = record { closed = desk; named_before = named; served = was; rest = rest }
+
+-- a pass that began a shutdown has ended no span
+pub begins_none : (ticket mark : ℕ) (old new : PassAccount) → new ≡ after_shutdown ticket mark old → EndsNone old → EndsNone new
+begins_none ticket mark old new is e = subst EndsNone (sym is) (record { ends = e.ends; popped = e.popped; popped_lost = e.popped_lost; late = e.late })
+
+pub begins_once : (ticket mark : ℕ) (old new : PassAccount) → new ≡ after_shutdown ticket mark old → 1 ≤ new.shutdowns
+begins_once ticket mark old new is = subst (λ (a : PassAccount). 1 ≤ a.shutdowns) (sym is) (omega arith)

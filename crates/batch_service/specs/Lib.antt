@@ -1,4 +1,6 @@
 pub mod Working
+pub mod Limits
+pub mod Rest
 pub mod Service
 pub mod Room
 pub mod Naming

@@ -1,5 +1,5 @@
 -- Room that is taken before any thread begins.
-use Rattle.std.specs.Prelude.{◌≡◌, ℕ, ◌≤◌, [], vec_capacity, vec_len}
+use Rattle.std.specs.Prelude.{◌≡◌, ℕ, ◌≤◌, [], vec_capacity}
 use Rattle.batch_service.specs.declared.threads.Room.{Room}
 
 -- There is room for so many threads, and nothing in it yet.

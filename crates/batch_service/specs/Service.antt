@@ -18,7 +18,8 @@ use Rattle.batch_processor.specs.declared.worker.WorkEnd.TheVariants as ends
 use Rattle.batch_service.specs.declared.fault.StartFault.{StartFault}
 use Rattle.batch_service.specs.declared.fault.StartFault.TheVariants as starts
 use Rattle.batch_service.specs.declared.service.TheConstants.{MAX_THREADS}
-use Rattle.batch_service.specs.Working.{GainsNames, IsDrained}
+use Rattle.batch_service.specs.Working.{GainsNames, IsDrained, NoneSettles}
+use Rattle.batch_service.specs.Rest.{GivesUp}
 
 -- why a service is not started, where its processor isn't made
 abbrev pub start_fault : NewFault → StartFault
@@ -72,7 +73,8 @@ popping names = record new_account { popped = names.dropped; popped_lost = names
 -- `named`, and whose work ended so: the processor is accounted for by the passes that came back, by
 -- the service's own, and by the worker, which never left. Its attempts, in order, are what the
 -- exporter was handed, and the names that were popped are what the sink was given. The service's
--- pass shut the processor down, so no span is admitted any more.
+-- pass shut the processor down, so no span is admitted any more. Where a batch is out, since the
+-- work had no time or no turn left, no reply that came settles it.
 pub record IsServed (service : ServiceView) (passes : List PassAccount) (desk : Desk)
     (handed : Option (List Handed)) (named : Option Named) (end : WorkEnd) : Type 0 where
   pub worker : WorkerAccount
@@ -87,6 +89,11 @@ pub record IsServed (service : ServiceView) (passes : List PassAccount) (desk : 
   pub sent : Gains (attempts_of worker) service.handed handed
   pub given : GainsNames names service.named named
   pub drained : end ≡ ends.Drained → IsDrained worker
+  pub none_settles : NoneSettles (record {
+    origin = service.origin;
+    account = worker;
+    encoded = None;
+  })
 
 -- The same, of a service that had so many threads, whatever their passes know.
 pub record EndsServed (threads : ℕ) (service : ServiceView) (desk : Desk)
@@ -94,3 +101,20 @@ pub record EndsServed (threads : ℕ) (service : ServiceView) (desk : Desk)
   pub passes : List PassAccount
   pub count : length passes ≡ threads
   pub served : IsServed service passes desk handed named end
+
+-- What a service comes to that is stopped within a time: when its worker ended it came to this, as
+-- by a stop; then what was left in its queue was given up, and all names that the ledgers still had
+-- were given to the sink.
+pub record IsStopped (service : ServiceView) (passes : List PassAccount) (desk : Desk)
+    (handed : Option (List Handed)) (named : Option Named) (end : WorkEnd) : Type 0 where
+  pub closed : Desk
+  pub named_before : Option Named
+  pub served : IsServed service passes closed handed named_before end
+  pub rest : GivesUp closed desk named_before named
+
+-- The same, of a service that had so many threads, whatever their passes know.
+pub record EndsStopped (threads : ℕ) (service : ServiceView) (desk : Desk)
+    (handed : Option (List Handed)) (named : Option Named) (end : WorkEnd) : Type 0 where
+  pub passes : List PassAccount
+  pub count : length passes ≡ threads
+  pub stopped : IsStopped service passes desk handed named end

@@ -1,9 +1,10 @@
 -- What the thread of a service's worker does: it sends batches, and gives the names of spans that
 -- aren't delivered to a sink. (Trace SDK, Batching processor; names: profile)
-use Rattle.std.specs.Prelude.{◌≡◌, [], ◌++◌, List, Option, None, option_map, true}
+use Rattle.std.specs.Prelude.{◌≡◌, [], ◌++◌, List, Option, None, IfSome, option_map, true}
 use Rattle.model_drop.specs.Dropped.{Entry}
 use Rattle.model_processor.specs.Passes.{PassAccount, after_drain}
-use Rattle.model_processor.specs.Worker.{WorkerAccount}
+use Rattle.model_processor.specs.Worker.{OutBatch, WorkerAccount}
+use Rattle.model_processor.specs.WorkerClauses.{EachLeadsOn}
 use Rattle.name_sink.specs.Named.{Named}
 use Rattle.span_exporter.specs.Handed.{Handed}
 use Rattle.batch_processor.specs.Working.{Work, GoesOn}
@@ -52,3 +53,9 @@ state_of handed named work names =
 pub record IsDrained (account : WorkerAccount) : Type 0 where
   pub drained : account.drained ≡ true
   pub none_out : account.out ≡ None
+
+-- Of the batch that is out, if one is, no outcome settles it: each leads to another attempt.
+abbrev pub NoneSettles : Work → Type 0
+NoneSettles work =
+    IfSome work.account.out
+    (λ (b : OutBatch). EachLeadsOn work.origin.retry 1 b.outcomes)

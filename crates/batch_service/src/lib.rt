@@ -4,7 +4,9 @@
 
 mod fault;
 mod give;
+mod limit;
 mod naming;
+mod rest;
 mod service;
 mod serving;
 mod thread;
@@ -14,7 +16,7 @@ mod worker;
 pub use fault::StartFault;
 pub use naming::{NAMED_TOGETHER, NamingPass};
 pub use service::{MAX_THREADS, PassMissing, Served, Service, Started};
-pub use serving::{Done, serve};
+pub use serving::{Done, serve, serve_within};
 pub use threads::{Room, ServicePass, Work, work_on_all};
 
 #[test]

@@ -1,16 +1,18 @@
 //! A batch processor whose worker has a thread of its own.
 ghost use Rattle.std.specs.Prelude.{◌≡◌, ◌≢◌, ◌+◌, ◌<◌, ◌≤◌, ◌↔◌, ◌⊎◌, ◌++◌, [], IfErr, IfOk};
-ghost use Rattle.std.specs.Prelude.{IsErrOf, MatchResult, vec_capacity, vec_len};
+ghost use Rattle.std.specs.Prelude.{IsErrOf, MatchResult, None, vec_capacity, vec_len};
 ghost use Rattle.std.specs.List.{AllByRecursion};
 ghost use Rattle.model_processor.specs.Passes.{new_account};
 ghost use Rattle.span_ring.specs.declared.ring.TheConstants.{MAX_QUEUE};
 ghost use Rattle.batch_processor.specs.Answers.{IsFlushed};
 ghost use Rattle.batch_processor.specs.Holds.{WasCounted};
-ghost use Rattle.batch_service.specs.Service.{IsServed, IsThreadCount, new_service, new_work};
-ghost use Rattle.batch_service.specs.Service.{origin_of};
+ghost use Rattle.batch_service.specs.Service.{IsServed, IsStopped, IsThreadCount, new_service};
+ghost use Rattle.batch_service.specs.Service.{new_work, origin_of};
 ghost use Rattle.batch_service.specs.declared.service.TheConstants.{MAX_THREADS};
 
 use crate::fault::StartFault;
+use crate::limit::{self, Limit, moment_after};
+use crate::rest::give_up;
 use crate::thread::{self, Worked, WorkerThread};
 use crate::worker::Worker;
 use batch_desk::{Desk, Totals};
@@ -23,7 +25,7 @@ use rand::make_rng;
 use rand::rngs::StdRng;
 use rand_core::Rng;
 use span_exporter::Exporter;
-use std::alloc::Global;
+use std::alloc::{AllocError, Global};
 use std::marker::Model;
 use std::random::RandomSource;
 use std::sync::Wait;
@@ -48,6 +50,8 @@ pub struct Service<J: Naming, R: Wait + Drop, E: Exporter, S: NameSink> {
     passes: Vec<Pass<J, R>>,
     /// How many passes others have.
     threads: usize,
+    /// Up to when the worker may begin attempts.
+    limit: Limit,
     rt: R,
 }
 
@@ -99,8 +103,34 @@ pub struct Served<E, S> {
     pub exporter: E,
     /// What the names were given to.
     pub sink: S,
-    /// How the work ended: `Drained`, but after 2^64 - 1 turns.
+    /// How the work ended: `Drained`, but where the time of [`Service::stop_within`] was up before,
+    /// or after 2^64 - 1 turns.
     pub end: WorkEnd,
+}
+
+/// What a service takes memory for beside its processor.
+#[derive(Drop)]
+struct Reserved<J: Naming, R> {
+    /// Room for its own passes, and those that come back.
+    passes: Vec<Pass<J, R>>,
+    /// Up to when the worker may begin attempts, for the service and for the worker.
+    limit: Limit,
+    of_worker: Limit,
+}
+
+impl<J: Naming, R: Drop> Reserved<J, R> {
+    /// With room for so many passes.
+    fn new(alloc: Global, passes: usize) -> Result<Reserved<J, R>, AllocError>
+        ensures none { IfOk result (λ reserved. reserved.passes.items ≡ []) }
+        ensures room { IfOk result (λ reserved. passes ≤ vec_capacity reserved.passes) }
+    {
+        let limit = Limit::new(alloc)?;
+        Ok(Reserved {
+            passes: Vec::with_capacity(alloc, passes)?,
+            of_worker: limit.try_clone()?,
+            limit,
+        })
+    }
 }
 
 /// A pass is missing: all that was to be stopped, as it was.
@@ -205,8 +235,8 @@ where
         }
         let now = clock.now();
         let parts = BatchProcessor::<J, R>::with_passes(alloc, rt, blank, config, passes + 2, now)?;
-        let room = Vec::with_capacity(alloc, passes + 2)?;
-        Service::with_parts(rt, parts, exporter, sink, room, passes, clock, rng)
+        let reserved = Reserved::new(alloc, passes + 2)?;
+        Service::with_parts(rt, parts, exporter, sink, reserved, passes, clock, rng)
     }
 
     /// The service of these parts, with room for all passes.
@@ -215,7 +245,7 @@ where
         parts: Parts<J, R>,
         exporter: E,
         sink: S,
-        room: Vec<Pass<J, R>>,
+        reserved: Reserved<J, R>,
         threads: usize,
         clock: C,
         rng: G,
@@ -227,8 +257,8 @@ where
         requires origin { parts.processor.passes ≡ threads + 2 }
         requires passes { AllByRecursion (λ a. a ≡ new_account) parts.passes.items }
         requires worker { parts.worker ≡ new_work parts.processor }
-        requires none { room.items ≡ [] }
-        requires room { threads + 2 ≤ vec_capacity room }
+        requires none { reserved.passes.items ≡ [] }
+        requires room { threads + 2 ≤ vec_capacity reserved.passes }
         ensures service { IfOk result (λ started. started.service
             ≡ new_service parts.processor (E.handed exporter) (S.named sink)) }
         ensures count { IfOk result (λ started. vec_len started.passes ≡ threads) }
@@ -244,11 +274,18 @@ where
         let (Some(control), Some(names)) = (passes.pop(), passes.pop()) else {
             unreachable!()
         };
+        let Reserved {
+            passes: room,
+            limit,
+            of_worker,
+        } = reserved;
         let worker = Worker {
             worker,
             names,
             exporter,
             sink,
+            limit: of_worker,
+            rt,
         };
         let Some(thread) = thread::start(rt, worker, clock, rng) else {
             return Err(StartFault::NoThread);
@@ -259,6 +296,7 @@ where
             thread,
             passes: room,
             threads,
+            limit,
             rt,
         };
         Ok(Started { service, passes })
@@ -290,11 +328,13 @@ where
     /// and settled, or dropped, the worker's thread ends, and the processor is closed out. (Trace
     /// SDK, "Shutdown")
     ///
+    /// It takes as long as the exporter does. [`Service::stop_within`] has an end.
+    ///
     /// # Errors
     ///
     /// `PassMissing` exactly where not all its passes are handed in; it gives all back, as it was,
     /// and the service works on.
-    pub fn stop(self, passes: Vec<Pass<J, R>>) -> Result<Served<E, S>, PassMissing<J, R, E, S>>
+    pub fn stop(mut self, passes: Vec<Pass<J, R>>) -> Result<Served<E, S>, PassMissing<J, R, E, S>>
         ensures missing { MatchResult result
             (λ _. vec_len passes + 2 ≡ self.origin.passes)
             (λ _. vec_len passes + 2 ≢ self.origin.passes) }
@@ -309,22 +349,77 @@ where
                 passes,
             });
         }
+        // Whether the worker had left is known once its thread has ended.
+        let _ = self.control.shutdown();
+        Ok(self.end(passes))
+    }
+
+    /// Stops the service in a time: no span is admitted any more, and the worker goes on for `ms`
+    /// milliseconds at most, by the runtime's monotonic clock; it ends sooner where all is drained.
+    /// From then on no attempt is begun. One that is under way ends by its exporter's own time, so
+    /// all ends in `ms` milliseconds, the time of one attempt and some milliseconds more. Where the
+    /// clock can't be read, it is as for 0 milliseconds. (Trace SDK, "Shutdown", which may have a
+    /// timeout; what becomes of the rest: profile)
+    ///
+    /// Where all was drained, it is as [`Service::stop`]. What isn't delivered by then is named,
+    /// and the sink is given each name: the spans of a batch that was handed are lost, as
+    /// `LeftHanded`, and those of one that wasn't, and those that wait, are dropped, as
+    /// `Abandoned`. The queue and both ledgers are empty then.
+    ///
+    /// # Errors
+    ///
+    /// `PassMissing` exactly where not all its passes are handed in; it gives all back, as it was,
+    /// and the service works on.
+    pub fn stop_within(
+        mut self,
+        passes: Vec<Pass<J, R>>,
+        ms: u64,
+    ) -> Result<Served<E, S>, PassMissing<J, R, E, S>>
+        ensures missing { MatchResult result
+            (λ _. vec_len passes + 2 ≡ self.origin.passes)
+            (λ _. vec_len passes + 2 ≢ self.origin.passes) }
+        ensures given_back { IfErr result
+            (λ m. (m.service ≡ self) × (m.passes ≡ passes)) }
+        ensures stopped { IfOk result (λ s. IsStopped self passes.items s.desk
+            (E.handed s.exporter) (S.named s.sink) s.end) }
+    {
+        if self.threads != passes.len() {
+            let service = self;
+            return Err(PassMissing { service, passes });
+        }
+        self.limit.set(moment_after(limit::now(&self.rt), ms));
+        self.control.begin_shutdown();
+        let mut served = self.end(passes);
+        give_up(&mut served.desk, &mut served.sink);
+        Ok(served)
+    }
+
+    /// Waits until the worker's thread has ended, and closes the processor out, which is shut down.
+    fn end(self, passes: Vec<Pass<J, R>>) -> Served<E, S>
+        requires all { vec_len passes + 2 ≡ self.origin.passes }
+        requires shut { 1 ≤ self.control.shutdowns }
+        ensures served { IsServed self passes.items result.desk
+            (E.handed result.exporter) (S.named result.sink) result.end }
+        ensures none_out { result.desk.out ≡ None }
+        ensures room { 1 ≤ result.desk.config.batch }
+    {
         let Service {
             processor,
-            mut control,
+            control,
             thread,
             passes: mut all,
             threads: _,
+            limit: _,
             rt,
         } = self;
-        // Whether the worker had left is known once its thread has ended.
-        let _ = control.shutdown();
         let Worked { worker, end } = thread.join(&rt);
         let Worker {
             worker,
             names,
             exporter,
             sink,
+            limit: _,
+            rt: _,
         } = worker;
         gather(&mut all, passes);
         all.push_reserved(control);
@@ -332,12 +427,12 @@ where
         let Ok(Accounts { desk }) = processor.close_out(all, worker) else {
             unreachable!()
         };
-        Ok(Served {
+        Served {
             desk,
             exporter,
             sink,
             end,
-        })
+        }
     }
 }
 

@@ -1,7 +1,7 @@
 //! The thread of a service's worker, and what it promises of what it gives back.
 ghost use Rattle.std.specs.Prelude.{◌≡◌, IfSome};
 ghost use Rattle.batch_processor.specs.Working.{IsPrepared};
-ghost use Rattle.batch_service.specs.Working.{IsDrained, WorksOn, state_of};
+ghost use Rattle.batch_service.specs.Working.{IsDrained, NoneSettles, WorksOn, state_of};
 
 use crate::worker::Worker;
 use batch_processor::{Clock, Naming, WorkEnd};
@@ -36,7 +36,7 @@ where
 {
     ghost use Rattle.std.specs.Prelude.{◌≡◌};
     ghost use Rattle.batch_processor.specs.declared.worker.WorkEnd.TheVariants as ends;
-    ghost use Rattle.batch_service.specs.Working.{IsDrained, WorksOn, state_of};
+    ghost use Rattle.batch_service.specs.Working.{IsDrained, NoneSettles, WorksOn, state_of};
 
     ghost kept_by = { λ p worked.
         WorksOn
@@ -44,7 +44,8 @@ where
         p.worker.value.worker p.worker.value.names)
         (state_of (E.handed worked.worker.exporter) (S.named worked.worker.sink)
         worked.worker.worker worked.worker.names)
-        × (worked.end ≡ ends.Drained → IsDrained worked.worker.worker.account) };
+        × ((worked.end ≡ ends.Drained → IsDrained worked.worker.worker.account)
+        × NoneSettles worked.worker.worker) };
 }
 
 /// The thread of a service's worker.
@@ -83,7 +84,8 @@ where
                 worker.names)
                 (state_of (E.handed result.worker.exporter) (S.named result.worker.sink)
                 result.worker.worker result.worker.names)
-                × (result.end ≡ WorkEnd.Drained → IsDrained result.worker.worker.account) }
+                × ((result.end ≡ WorkEnd.Drained → IsDrained result.worker.worker.account)
+                × NoneSettles result.worker.worker) }
         {
             let end = worker.work(&clock, &mut rng);
             Worked { worker, end }

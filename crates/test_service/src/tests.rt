@@ -4,3 +4,4 @@ mod equal;
 mod fixture;
 mod serving;
 mod starting;
+mod stopping;

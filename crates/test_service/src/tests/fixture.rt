@@ -3,15 +3,18 @@ use batch_desk::DeskConfig;
 use batch_processor::BatchConfig;
 use batch_service::{NamingPass, ServicePass, Work};
 use name_sink::NewestNames;
+use otlp_ids::OutOfMemory;
 use otlp_sampler::AlwaysOn;
 use otlp_span::{Kind, Resource, Scope, SpanData, SpanLimits};
 use rand_core::SeedableRng;
 use rand_pcg::Pcg64;
 use retry_core::{Outcome, RetryConfig};
-use span_exporter::MemoryExporter;
+use span_exporter::{Exporter, MemoryExporter};
 use std::alloc::Global;
 use std::process::Abort;
-use std::sync::Arc;
+use std::sync::{Arc, Wait};
+use std::thread;
+use std::time::{Clock, Duration};
 use trace_api::{EndPass, Ended, Provider};
 
 /// Each thread ends so many spans.
@@ -98,4 +101,28 @@ pub(crate) fn answered(rt: &impl Abort, alloc: Global, outcomes: &[Outcome]) -> 
 /// A sink that keeps so many names of each kind.
 pub(crate) fn names(rt: &impl Abort, alloc: Global, most: usize) -> NewestNames {
     NewestNames::new(alloc, most).expect(rt, "memory")
+}
+
+/// Delivers each batch, and takes so many milliseconds for it.
+#[derive(Drop)]
+pub(crate) struct Slow<R> {
+    pub(crate) rt: R,
+    pub(crate) ms: u64,
+}
+
+impl<R: Wait + Clock> Exporter for Slow<R> {
+    ghost use Rattle.std.specs.Prelude.{None, ◌^◌, ◌-◌};
+
+    ghost handed = { λ _. None };
+
+    ghost room = { λ _ _. 2 ^ 32 - 1 };
+
+    fn prepare(&mut self, _size: usize, _attempts: u32) -> Result<(), OutOfMemory> {
+        Ok(())
+    }
+
+    fn export(&mut self, _number: u64, _attempt: u32, _body: &[u8]) -> Outcome {
+        thread::sleep(&self.rt, Duration::from_millis(self.ms));
+        Outcome::Delivered
+    }
 }

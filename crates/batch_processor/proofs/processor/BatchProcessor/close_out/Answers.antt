@@ -2,7 +2,7 @@ use Rattle.std.proofs.Common.{◌≡◌, ap, ◌∙◌, sym, subst}
 use Rattle.model_processor.specs.Batches.{EndByWork, Origin, WorksUntilItLeaves, abandon}
 use Rattle.model_processor.specs.AnyAccounts.{origin_in, worker_in}
 use Rattle.model_processor.specs.Worker.{WorkerAccount}
-use Rattle.model_processor.specs.Kept.{IsAccountOf}
+use Rattle.model_processor.specs.Kept.{IsAccountOf, shown_out}
 use Rattle.model_processor.proofs.Closing.{accounted}
 use Rattle.batch_processor.proofs.processor.BatchProcessor.close_out.Goals as goal
 
@@ -21,3 +21,8 @@ returns-clause-accounts g c =
     accounted c.args.self desk passes final
     (subst (λ (o : Origin). IsAccountOf o desk passes final) said (subst (λ (w : WorkerAccount). IsAccountOf (origin_in c.self.inside.account) desk passes w) is c.close-desk.ensures.accounts))
     (subst (λ (o : Origin). EndByWork o final) same c.abandon-of_worker.ensures.by_work)
+
+pub returns-clause-none_out : goal.returns-clause-none_out
+returns-clause-none_out g c =
+    let is : worker_in c.abandon-of_worker.result ≡ abandon c.args.worker.account = ap worker_in c.abandon-of_worker.ensures.account in
+    c.close-desk.ensures.accounts.agrees.batches.out ∙ ap (λ (w : WorkerAccount). shown_out w.out) is

@@ -17,8 +17,8 @@ settle-requires g c =
     let o = outcome_view c.args.outcome in let body = c.args.body.items in
     subst (λ (s : WorkerState). IsSentBatchOf (worker s.origin s.account) c.args.batch) (sym c.self.view_is) (handed_out c.args.self.now c.args.batch (to_judge body o) body c.requires refl)
 
-pub returns-in-Again : goal.returns-in-Again
-returns-in-Again g c =
+pub returns-in-Again-clause-step : goal.returns-in-Again-clause-step
+returns-in-Again-clause-step g c =
     let s = c.args.self.now in let o = outcome_view c.args.outcome in let now = c.now.result in let word = c.next_u64.result in
     let count : 1 + length s.outcomes ≡ c.len.result + 1 = let l = length-map c.self.inside.outcomes.items outcome_view in let v = ap (λ (x : WorkerState). length x.outcomes) c.self.view_is in let e = c.len.ensures in omega arith in
     let next : next_after s.origin.retry (1 + length s.outcomes) o now word ≡ again c.in-Again.from =
@@ -28,8 +28,8 @@ returns-in-Again g c =
     again_step s c.args.batch c.args.body.items o now word c.requires (state_of origin w (outcomes_view c.push_reserved.new.self.items)) c.in-Again.from next
     (ap (λ (xs : List model.Outcome). state_of origin w xs) more ∙ ap (λ (x : WorkerState). record x { outcomes = x.outcomes ++ o ∷ [] }) c.self.view_is)
 
-pub returns : goal.returns
-returns g c =
+pub returns-clause-step : goal.returns-clause-step
+returns-clause-step g c =
     let s = c.args.self.now in let o = outcome_view c.args.outcome in let now = c.now.result in let word = c.next_u64.result in let fate = fate_view c.unwrap-fate.result in
     let count : 1 + length s.outcomes ≡ c.len.result + 1 = let l = length-map c.self.inside.outcomes.items outcome_view in let v = ap (λ (x : WorkerState). length x.outcomes) c.self.view_is in let e = c.len.ensures in omega arith in
     let next : next_after s.origin.retry (1 + length s.outcomes) o now word ≡ next_view c.decide-next.result =

@@ -1,24 +1,15 @@
-use Rattle.std.proofs.Common.{ap, List, ◌≡◌, ◌∙◌, ◌++◌, ◌∷◌, []}
-use Rattle.std.proofs.lemmas.List.{append_assoc}
-use Rattle.model_processor.specs.Passes.{PassAccount}
-use Rattle.batch_service.proofs.Stops.{served, shuts_none, shuts_once}
+use Rattle.std.proofs.Common.{refl}
+use Rattle.batch_service.proofs.Stops.{same_service, shuts_none, shuts_once}
 use Rattle.batch_service.proofs.service.Service.stop.Goals as goal
+
+pub end-requires-clause-shut : goal.end-requires-clause-shut
+end-requires-clause-shut g c κs within = shuts_once c.shutdown.result c.shutdown.ensures.asked.desk.next_ticket _ c.self.inside.control c.shutdown.new.self c.shutdown.ensures.account
+
+pub invariant_of-self : goal.invariant_of-self
+invariant_of-self g c =
+    let inv = c.self.invariant in
+    (shuts_none c.shutdown.result c.shutdown.ensures.asked.desk.next_ticket _ c.self.inside.control c.shutdown.new.self c.shutdown.ensures.account inv.0, inv.1)
 
 pub returns-clause-served : goal.returns-clause-served
 returns-clause-served g c =
-    let inside = c.self.inside in
-    let begun = inside.thread.promise.worker.value in
-    let ended = c.join-worker.result.worker in
-    let kept = c.join-worker.ensures in
-    let inv = c.self.invariant in
-    let control = c.shutdown.new.self in
-    let none = shuts_none c.shutdown.result c.shutdown.ensures.asked.desk.next_ticket _ inside.control control c.shutdown.ensures.account inv.0 in
-    let once = shuts_once c.shutdown.result c.shutdown.ensures.asked.desk.next_ticket _ inside.control control c.shutdown.ensures.account in
-    let passes = c.args.passes.items in
-    let all = c.push_reserved-2.new.self.items in
-    let gathered = c.gather.ensures.items ∙ ap (λ (xs : List PassAccount). xs ++ passes) inv.1.1.1.0 in
-    let with_control = c.push_reserved.ensures.items ∙ ap (λ (xs : List PassAccount). xs ++ control ∷ []) gathered in
-    let is : all ≡ passes ++ control ∷ ended.names ∷ [] = c.push_reserved-2.ensures.items ∙ ap (λ (xs : List PassAccount). xs ++ ended.names ∷ []) with_control ∙ append_assoc passes (control ∷ []) (ended.names ∷ []) in
-    rw (← c.self.view_is)
-    (served _ passes c.in-Ok.field-0.desk _ _ begun.worker ended.worker begun.names ended.names control c.join-worker.result.end all
-    inv.1.0 inv.1.1.0 kept.0 kept.1 none once is c.in-Ok.ensures.accounts c.in-Ok.ensures.works)
+    rw (← c.self.view_is) (same_service _ _ _ _ _ _ _ refl c.end.ensures.served)

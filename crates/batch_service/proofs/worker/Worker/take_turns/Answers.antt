@@ -6,8 +6,8 @@ loop-turn-init g c = (c.requires, works_none _)
 
 pub loop-turn-preserved : goal.loop-turn-preserved
 loop-turn-preserved g c =
-    (c.turn.ensures.prepared, works_more _ _ _ c.loop-turn.invariant.1 c.turn.ensures.works)
+    (c.turn_at.ensures.prepared, works_more _ _ _ c.loop-turn.invariant.1 c.turn_at.ensures.works)
 
-pub returns-then-eq-clause-works : goal.returns-then-eq-clause-works
-returns-then-eq-clause-works g c =
-    works_more _ _ _ c.loop-turn.invariant.1 c.turn.ensures.works
+pub returns-in-Some-clause-works : goal.returns-in-Some-clause-works
+returns-in-Some-clause-works g c =
+    works_more _ _ _ c.loop-turn.invariant.1 c.turn_at.ensures.works
