@@ -106,8 +106,9 @@ class Server:
     the connection ends, or it is "breaking off", or "staying" until the other end closes it.
     """
 
-    def __init__(self, replies, way):
-        self.listener = socket.create_server((HOST, 0))
+    def __init__(self, replies, way, host=HOST):
+        family = socket.AF_INET6 if ":" in host else socket.AF_INET
+        self.listener = socket.create_server((host, 0), family=family)
         self.port = self.listener.getsockname()[1]
         self.replies, self.way = replies, way
         self.requests, self.moments = [], []

@@ -4,7 +4,7 @@ use std::io::{self, Write};
 use std::process::ExitCode;
 use trace_kit::http::HttpExporter;
 use trace_kit::processor::Served;
-use trace_kit::queue::{DropCounts, FateCounts, Totals};
+use trace_kit::queue::{DropCounts, Totals};
 
 /// How many spans were dropped, for whatever reason.
 fn all_drops(drops: DropCounts) -> u64 {
@@ -35,15 +35,19 @@ fn write_counts<W: Write>(output: &mut W, totals: Totals) -> io::Result<()> {
     write_count(output, "batches given up", fates.given_up)
 }
 
-/// Whether each batch was delivered, and there was one.
-fn is_delivered(fates: FateCounts) -> bool {
+/// Whether no span was dropped, lost or left, and each batch was delivered.
+fn is_delivered(totals: Totals) -> bool {
+    let fates = totals.fates;
+    let spans = all_drops(totals.dropped)
+        .saturating_add(totals.lost)
+        .saturating_add(totals.left);
     let by_reply = fates.refused.saturating_add(fates.bad_reply);
     let unsent = fates.given_up.saturating_add(fates.abandoned);
     let failed = fates
         .partial
         .saturating_add(by_reply)
         .saturating_add(unsent);
-    fates.delivered > 0 && failed == 0
+    spans == 0 && failed == 0
 }
 
 /// Writes what became of spans and batches, and what the last attempt met that failed. The answer
@@ -57,7 +61,7 @@ pub fn write_balance<W: Write, R, S>(
     if let Some(failure) = served.exporter.last_failure() {
         writeln!(output, "last failure: {failure}")?;
     }
-    Ok(if is_delivered(totals.fates) {
+    Ok(if is_delivered(totals) {
         ExitCode::SUCCESS
     } else {
         ExitCode::FAILURE

@@ -7,8 +7,9 @@ use std::random::RandomSource;
 use std::sync::Arc;
 use std::time;
 use trace_kit::processor::{Clock, ServicePass, SystemClock, Work};
+use trace_kit::settings::NamedSampler;
 use trace_kit::trace::{
-    AlwaysOn, Kind, Provider, Resource, Scope, SpanExt, SpanLimits, SpanRequest, Value, start_span,
+    KeyValue, Kind, Provider, Scope, Span, SpanContext, SpanExt, SpanRequest, start_span,
 };
 
 /// Traces a request for a cart.
@@ -16,6 +17,8 @@ use trace_kit::trace::{
 pub struct Cart<R> {
     pub rt: R,
     pub alloc: Global,
+    /// What the spans are made with.
+    pub provider: Provider<NamedSampler>,
 }
 
 impl<R: RandomSource + time::Clock + Copy> Work for Cart<R> {
@@ -24,8 +27,8 @@ impl<R: RandomSource + time::Clock + Copy> Work for Cart<R> {
     fn work<P: ServicePass>(&self, _thread: usize, pass: &mut P) -> Result<()> {
         let (alloc, clock) = (self.alloc, SystemClock::new(self.rt));
         let mut rng: StdRng = make_rng(&self.rt)?;
-        let provider = Provider::new(AlwaysOn, shop(alloc)?, SpanLimits::default());
-        let tracer = provider.tracer(Arc::new(alloc, Scope::named(alloc, "checkout")?)?);
+        let scope = Arc::new(alloc, Scope::named(alloc, "checkout")?)?;
+        let tracer = self.provider.tracer(scope);
 
         let start = SpanRequest {
             kind: Kind::Server,
@@ -38,19 +41,18 @@ impl<R: RandomSource + time::Clock + Copy> Work for Cart<R> {
             ..SpanRequest::named("SELECT")
         };
         let mut query = start_span(&tracer, alloc, &mut rng, &start, clock.now())?;
-        query.set("db.rows", 3)?;
+        describe(&mut query, request.context(), clock.now())?;
         query.end(pass, clock.now());
         request.end(pass, clock.now());
         Ok(())
     }
 }
 
-/// The resource of a shop's service: what makes the spans.
-fn shop(alloc: Global) -> Result<Arc<Resource>> {
-    let service = (
-        "service.name".to_string(alloc)?,
-        Value::text(alloc, "shop")?,
-    );
-    let resource = Resource::new(alloc, vec![in alloc; service]?);
-    Ok(Arc::new(alloc, resource)?)
+/// Says what the query did, and for which request.
+fn describe(query: &mut Span, request: &SpanContext, now: u64) -> Result<()> {
+    query.set("db.rows", 3)?;
+    query.set("db.system", "postgresql")?;
+    query.event("row read", now, &[KeyValue::new("db.row", &1)])?;
+    query.link(request, &[KeyValue::new("cart.items", &3)])?;
+    Ok(())
 }

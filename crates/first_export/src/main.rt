@@ -1,8 +1,9 @@
 //! Records two spans and exports them over TCP: to the collector at a host and a port, which are
-//! the arguments, or else to the one that the environment names. Prints what became of the spans,
-//! and of the batch that they went out in, and what the last attempt met that failed; the status is
-//! 0 where the collector took it. The names of spans that were dropped or lost go to the standard
-//! error, since their identifiers are random.
+//! the arguments, or else as the environment says, which also names the resource, the sampler and
+//! the limits, or that tracing is off. Prints what became of the spans, and of the batch that they
+//! went out in, and what the last attempt met that failed; the status is 0 where the collector took
+//! it, and where no span is sampled or tracing is off. The names of spans that were dropped or lost
+//! go to the standard error, since their identifiers are random.
 #![tactic(auto)]
 
 mod balance;
@@ -26,6 +27,10 @@ fn main(rt: HostRuntime) -> Result<ExitCode> {
         writeln!(rt.stderr(), "usage: first_export [HOST PORT]")?;
         return Ok(ExitCode::from(2));
     };
+    if place.is_off {
+        writeln!(rt.stdout(), "OTEL_SDK_DISABLED is true: no span is made")?;
+        return Ok(ExitCode::SUCCESS);
+    }
     let exporter = HttpExporter::new(alloc, rt, place.target, place.timeout_ms);
     let exporter = exporter.reading_after_a_stop();
     // A batch is sent five times at most, with short waits.
@@ -34,7 +39,11 @@ fn main(rt: HostRuntime) -> Result<ExitCode> {
         ..place.config
     };
     let names = NameLines::new(rt.stderr());
-    let cart = Cart { rt, alloc };
+    let cart = Cart {
+        rt,
+        alloc,
+        provider: place.provider,
+    };
     let Done { outputs, served } = serve(rt, alloc, exporter, names, config, 1, &cart)?;
     for output in outputs {
         output?;

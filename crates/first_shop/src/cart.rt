@@ -1,6 +1,6 @@
 //! The service that a customer asks, which asks the other one.
 use crate::clock::Reader;
-use crate::site::Site;
+use crate::site::{ShopSampler, Site, is_sampled};
 use crate::stock::scope;
 use anyhow::{Context, Result};
 use bytes::{BufMut, Bytes};
@@ -15,7 +15,7 @@ use std::sync::Arc;
 use std::time::Clock;
 use trace_kit::http::{Target, TcpDial};
 use trace_kit::processor::{ServicePass, Work};
-use trace_kit::trace::{AlwaysOn, EndPass, SpanContext, SpanData};
+use trace_kit::trace::{EndPass, SpanContext, SpanData};
 use traced_client::{Client, ClientParts};
 use traced_server::{Handler, ServerName, TracedService, Tracing};
 
@@ -26,7 +26,7 @@ const TIMEOUT_MS: u64 = 5_000;
 #[derive(Drop)]
 struct Cart<'a, R> {
     site: &'a Site<R>,
-    client: Client<'a, AlwaysOn, StdRng, Reader<'a>, TcpDial<R>>,
+    client: Client<'a, ShopSampler, StdRng, Reader<'a>, TcpDial<R>>,
     /// The port of the other service.
     stock: u16,
 }
@@ -45,7 +45,7 @@ impl<'a, R: Net + Clock + Copy> Cart<'a, R> {
             return Err(AllocError);
         };
         let reply = self.client.get(parent, &target, pass);
-        self.site.count_span();
+        self.site.count_span(is_sampled(parent));
         match reply {
             Ok(reply) if reply.status == 200 => match &reply.body {
                 Ok(body) => response.body.put_slice(body),
@@ -77,7 +77,7 @@ impl<'a, R: Net + Clock + Copy, P: EndPass<SpanData>> Handler<P> for Cart<'a, R>
         pass: &mut P,
         response: &mut Response,
     ) -> Result<(), AllocError> {
-        let number = self.site.count_request();
+        let number = self.site.count_request(is_sampled(parent));
         match request.uri().path() {
             "/healthz" => response.body.put_slice(b"ok\n"),
             "/cart" => self.show(number, parent, pass, response),

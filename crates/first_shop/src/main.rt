@@ -5,8 +5,10 @@
 //!
 //! Without arguments it makes its own requests, and prints the same in each run. With a number it
 //! prints its ports, and ends after so many requests of others to the first service. With `to` and
-//! a port, it makes its own requests, and exports to the collector at this port of loopback, as to
-//! `trace-view`.
+//! a port, it waits until something listens at this port of loopback, for two minutes at most,
+//! makes its own requests, and exports to the collector there, as to `trace-view`. It ends whatever
+//! that does: each service exports for 5 seconds at most once it is stopped, and an attempt takes 5
+//! seconds at most.
 #![tactic(auto)]
 
 mod cart;
@@ -25,14 +27,14 @@ use report::{Balance, write_balances, write_report};
 use site::{Site, THREADS, config};
 use std::alloc::Global;
 use std::env;
-use std::net::{Net, TcpListener, TcpStream};
+use std::net::{Ipv4Addr, Net, TcpListener, TcpStream};
 use std::random::RandomSource;
 use std::sync::{Arc, Wait};
 use std::thread::{self, Threads};
 use std::time::{Clock, Duration};
 use stock::StockWork;
-use trace_kit::http::{DEFAULT_EXPORT_TIMEOUT_MS, DEFAULT_PATH, HttpExporter, Target};
-use trace_kit::processor::{Done, Work, serve};
+use trace_kit::http::{DEFAULT_PATH, HttpExporter, Target};
+use trace_kit::processor::{Done, Work, serve_within};
 use trace_kit::queue::{DEFAULT_NAMES, NewestNames};
 
 /// How many carts the program asks for itself.
@@ -43,6 +45,13 @@ const LOOKS: u64 = 12_000;
 
 const LOOK_MS: u64 = 10;
 
+/// How long an attempt to export may take, in milliseconds.
+const EXPORT_MS: u64 = 5_000;
+
+/// How long a service goes on exporting once it is stopped, in milliseconds. An attempt that is
+/// under way then has its own time.
+const STOP_MS: u64 = 5_000;
+
 /// Serves a service with its threads, and gives what became of its spans.
 fn run<R, W>(rt: R, alloc: Global, collector: u16, site: &Site<R>, work: &W) -> Result<Balance>
 where
@@ -51,9 +60,18 @@ where
     W: Work<Output = Result<()>> + Sync,
 {
     let target = Target::new(alloc, "127.0.0.1", collector, DEFAULT_PATH)?;
-    let exporter = HttpExporter::new(alloc, rt, target, DEFAULT_EXPORT_TIMEOUT_MS);
+    let exporter = HttpExporter::new(alloc, rt, target, EXPORT_MS);
     let names = NewestNames::new(alloc, DEFAULT_NAMES)?;
-    let Done { outputs, served } = serve(rt, alloc, exporter, names, config(), THREADS, work)?;
+    let Done { outputs, served } = serve_within(
+        rt,
+        alloc,
+        exporter,
+        names,
+        config(),
+        THREADS,
+        work,
+        STOP_MS,
+    )?;
     for output in outputs {
         output?;
     }
@@ -83,6 +101,19 @@ where
 fn wait_for<R: Clock>(rt: &R, site: &Site<R>, requests: u64) {
     for _ in 0..LOOKS {
         if site.answered() >= requests {
+            return;
+        }
+        let _ = thread::sleep(rt, Duration::from_millis(LOOK_MS));
+    }
+}
+
+/// Waits until something listens at a port of loopback, for two minutes at most.
+fn wait_for_listener<R>(rt: &R, port: u16)
+where
+    R: Net<Listener = TcpListener, Stream = TcpStream> + Clock,
+{
+    for _ in 0..LOOKS {
+        if TcpStream::connect(rt, (Ipv4Addr::LOCALHOST, port)).is_ok() {
             return;
         }
         let _ = thread::sleep(rt, Duration::from_millis(LOOK_MS));
@@ -124,7 +155,10 @@ fn main(rt: HostRuntime) -> Result<()> {
         _ => Some(Collector::start(&rt, alloc)?),
     };
     let to = match (asked, &collector) {
-        (Asked::To(port), _) => port,
+        (Asked::To(port), _) => {
+            wait_for_listener(&rt, port);
+            port
+        }
         (_, Some(collector)) => collector.port(),
         _ => 0,
     };

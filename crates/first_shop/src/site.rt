@@ -12,7 +12,7 @@ use std::sync::atomic::{AtomicBool, AtomicU64, Ordering};
 use std::time::Duration;
 use trace_kit::processor::{BatchConfig, Clock};
 use trace_kit::queue::DeskConfig;
-use trace_kit::trace::{AlwaysOn, Provider, Resource, SpanLimits, Value};
+use trace_kit::trace::{AlwaysOn, ParentBased, Provider, Resource, SpanContext, SpanLimits, Value};
 
 /// How many threads a service has.
 pub const THREADS: usize = 4;
@@ -29,6 +29,18 @@ pub fn config() -> BatchConfig {
             delay_ms: 100,
         },
         ..BatchConfig::default()
+    }
+}
+
+/// What samples the spans: the parent, and without one each is sampled.
+pub type ShopSampler = ParentBased<AlwaysOn>;
+
+/// Whether the spans of a request are sampled: by the context of its own span, or by none where the
+/// request is untraced, so that each span in it is a root.
+pub fn is_sampled(parent: Option<&SpanContext>) -> bool {
+    match parent {
+        Some(context) => context.flags.sampled(),
+        None => true,
     }
 }
 
@@ -85,28 +97,31 @@ impl<R> Site<R> {
         Reader { clock: &self.clock }
     }
 
-    /// What its spans are made with: they are all sampled, and have the service's name.
-    pub fn provider(&self) -> Result<Provider<AlwaysOn>> {
+    /// What its spans are made with: the sampler, and the service's name.
+    pub fn provider(&self) -> Result<Provider<ShopSampler>> {
         let name = (
             "service.name".to_string(self.alloc)?,
             Value::text(self.alloc, &self.name)?,
         );
         let resource = Resource::new(self.alloc, vec![in self.alloc; name]?);
         let resource = Arc::new(self.alloc, resource)?;
-        Ok(Provider::new(AlwaysOn, resource, SpanLimits::default()))
+        let sampler = ParentBased::new(AlwaysOn);
+        Ok(Provider::new(sampler, resource, SpanLimits::default()))
     }
 
-    /// Counts a request, whose span is going to end, and gives its number, from 1 on.
-    pub fn count_request(&self) -> u64 {
-        self.count_span();
+    /// Counts a request, and its span, which is going to end, if it is sampled, and gives the
+    /// request's number, from 1 on.
+    pub fn count_request(&self, is_sampled: bool) -> u64 {
+        self.count_span(is_sampled);
         self.answered
             .fetch_add(1, Ordering::SeqCst)
             .saturating_add(1)
     }
 
-    /// Counts another span that is going to end.
-    pub fn count_span(&self) {
-        self.ended.fetch_add(1, Ordering::SeqCst);
+    /// Counts another span that is going to end, if it is sampled.
+    pub fn count_span(&self, is_sampled: bool) {
+        self.ended
+            .fetch_add(u64::from(is_sampled), Ordering::SeqCst);
     }
 
     /// Counts requests that were answered without a span.
@@ -124,7 +139,7 @@ impl<R> Site<R> {
         self.untraced.load(Ordering::SeqCst)
     }
 
-    /// How many spans have ended.
+    /// How many sampled spans have ended.
     pub fn ended(&self) -> u64 {
         let ended = self.ended.load(Ordering::SeqCst);
         ended.saturating_sub(self.untraced())

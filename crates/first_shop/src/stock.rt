@@ -1,6 +1,6 @@
 //! The service that knows how much there is of an item.
 use crate::clock::Reader;
-use crate::site::Site;
+use crate::site::{ShopSampler, Site, is_sampled};
 use anyhow::{Context, Result};
 use bytes::{BufMut, Bytes};
 use http::{Request, StatusCode};
@@ -13,8 +13,8 @@ use std::random::RandomSource;
 use std::sync::Arc;
 use trace_kit::processor::{Clock, ServicePass, Work};
 use trace_kit::trace::{
-    AlwaysOn, EndPass, KeyValue, Kind, Scope, Span, SpanContext, SpanData, SpanExt, SpanRequest,
-    Tracer, start_span,
+    EndPass, KeyValue, Kind, Scope, Span, SpanContext, SpanData, SpanExt, SpanRequest, Tracer,
+    start_span,
 };
 use traced_server::{Handler, ServerName, TracedService, Tracing};
 
@@ -39,7 +39,7 @@ fn count_of(item: u64) -> Option<u64> {
 #[derive(Drop)]
 struct Stock<'s, 't, R> {
     site: &'s Site<R>,
-    tracer: Tracer<'t, AlwaysOn>,
+    tracer: Tracer<'t, ShopSampler>,
     rng: StdRng,
 }
 
@@ -87,7 +87,7 @@ impl<R> Stock<'_, '_, R> {
         if let Ok(mut span) = started {
             describe(&mut span, clock, item, count);
             span.end(pass, clock.now());
-            self.site.count_span();
+            self.site.count_span(is_sampled(parent));
         }
         count
     }
@@ -112,7 +112,7 @@ impl<R, P: EndPass<SpanData>> Handler<P> for Stock<'_, '_, R> {
         pass: &mut P,
         response: &mut Response,
     ) -> Result<(), AllocError> {
-        self.site.count_request();
+        self.site.count_request(is_sampled(parent));
         let path = request.uri().path();
         if path == "/healthz" {
             return response.body.put_slice(b"ok\n");
