@@ -30,7 +30,8 @@ use Rattle.clap.proofs.WalkLemmas.{one_text-rows}
 use Rattle.program_args.specs.declared.line.CommandLine.{CommandLine}
 use Rattle.program_args.specs.declared.line.FlagOption.{FlagOption}
 use Rattle.program_args.specs.declared.line.NumberOption.{NumberOption}
-use Rattle.program_args.specs.Line.{app_of_line, app_of_numbers, app_with, are_distinct, has_own_names, with_flag}
+use Rattle.program_args.specs.declared.line.TextOption.{TextOption}
+use Rattle.program_args.specs.Line.{app_of_line, app_of_options, app_with, are_distinct, has_own_names, with_flag}
 use Rattle.program_args.specs.Words.{IsValid}
 use Rattle.program_args.proofs.Simple.{EachOption, app-is, each-at, each-rule, number-rule-at, number-within-rules, rules_with}
 
@@ -205,22 +206,22 @@ first-arg : (xs : List Arg) → 0 < length xs → Arg
 first-arg [] lt = absurd (omega (arith, lt))
 first-arg (x ∷ xs) lt = x
 
-pub are-valid : (cmd : Command) (m : ArgMatches) (program : Text) (os : List NumberOption) (f : Option FlagOption) → app_of cmd ≡ with_flag (app_of_numbers program os) f
-    → are_distinct (codes "help" ∷ codes "version" ∷ [] ∷ map (λ (r : Rule). r.id) (with_flag (app_of_numbers program os) f).top.rules) ≡ true → IsParsedFrom cmd m → All (IsValid (rows_of (found_of m))) os
-are-valid cmd m program os f is own p k o lt =
-    let rules = rules_with os f in
-    let app : app_of cmd ≡ app_with program rules = is ∙ app-is program os f in
-    let own_names = subst (λ (a : App). are_distinct (codes "help" ∷ codes "version" ∷ [] ∷ map (λ (r : Rule). r.id) a.top.rules) ≡ true) (app-is program os f) own in
-    let each = each-rule os f in
-    let few = number-within-rules os f k lt in
+pub are-valid : (cmd : Command) (m : ArgMatches) (program : Text) (os : List NumberOption) (ts : List TextOption) (f : Option FlagOption) → app_of cmd ≡ with_flag (app_of_options program os ts) f
+    → are_distinct (codes "help" ∷ codes "version" ∷ [] ∷ map (λ (r : Rule). r.id) (with_flag (app_of_options program os ts) f).top.rules) ≡ true → IsParsedFrom cmd m → All (IsValid (rows_of (found_of m))) os
+are-valid cmd m program os ts f is own p k o lt =
+    let rules = rules_with os ts f in
+    let app : app_of cmd ≡ app_with program rules = is ∙ app-is program os ts f in
+    let own_names = subst (λ (a : App). are_distinct (codes "help" ∷ codes "version" ∷ [] ∷ map (λ (r : Rule). r.id) a.top.rules) ≡ true) (app-is program os ts f) own in
+    let each = each-rule os ts f in
+    let few = number-within-rules os ts f k lt in
     let long : length (args_of cmd) ≡ length rules = same-length cmd program rules app each own_names in
     let d = first-arg (args_of cmd) (omega (arith, long, few)) in
-    let at = rule-at cmd program rules app each own_names k d few ∙ number-rule-at os f k o (rule_of d) lt in
+    let at = rule-at cmd program rules app each own_names k d few ∙ number-rule-at os ts f k o (rule_of d) lt in
     let name = slice_index_or os k o in
     if-some (one_of name.name.now (rows_of (found_of m))) (IsUnsignedIn name.least name.most) (λ t e.
     is-within cmd program rules app each own_names m p k d few name.least name.most (ap (λ (r : Rule). r.parser) at) t
     (ap (one_text (found_of m)) (ap (λ (r : Rule). r.id) at) ∙ (one_text-rows (found_of m) name.name.now ∙ e)))
 
 pub all-valid : (cmd : Command) (line : CommandLine) (r : Result ArgMatches Error) → app_of cmd ≡ app_of_line line → IsTrue (has_own_names line) → IfOk r (IsParsedFrom cmd) → IfOk r (λ m. All (IsValid (rows_of (found_of m))) line.numbers.now)
-all-valid cmd line (Ok m) is own parsed = are-valid cmd m line.program.now line.numbers.now line.flag is own parsed
+all-valid cmd line (Ok m) is own parsed = are-valid cmd m line.program.now line.numbers.now line.texts.now line.flag is own parsed
 all-valid cmd line (Err e) is own parsed = tt

@@ -12,9 +12,11 @@ use Rattle.program_args.specs.declared.fault.ArgFault.{ArgFault}
 cause-at : {A : Type 0} (app : App) (words : List (String A)) (k : ErrorKind) (e : Error) → (k ≡ kinds.OutOfMemory) ⊎ IsAmong k (word_faults app words) → IsCause app words (fault_at k e)
 cause-at app words kinds.DisplayHelp e (inl memory) = cc
 cause-at app words kinds.DisplayHelp e (inr among) = among
+cause-at app words kinds.DisplayVersion e (inl memory) = cc
+cause-at app words kinds.DisplayVersion e (inr among) = among
 cause-at app words kinds.OutOfMemory e h = tt
 cause-at app words k e (inl memory) = cc
-cause-at app words k e (inr among) = (k, among, λ same. cc)
+cause-at app words k e (inr among) = (k, among, λ same. cc, λ same. cc)
 
 -- the fault that an error of clap is has its cause
 pub cause-of : {A T : Type 0} (app : App) (words : List (String A)) (e : Error) (r : Result T ArgFault) → HasKind (word_faults app words) e → IsErrAnd r (λ f. f ≡ fault_of_error e) → IfErr r (IsCause app words)

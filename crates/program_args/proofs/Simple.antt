@@ -1,10 +1,10 @@
 -- A command line is one of which clap says what it takes.
 use Rattle.std.proofs.Common.{◌≡◌, ◌∙◌, ◌<◌, ◌++◌, ◌&&◌, ◌||◌, ap, ℕ, suc, Bool, true, false, not, List, [], ◌∷◌, length, Option, Some, None, refl, sym, arith, map}
-use Rattle.std.proofs.Common.{◌+◌, subst, take, zero}
+use Rattle.std.proofs.Common.{◌+◌, append_assoc, append-nil, length-append, subst, take, zero}
 use Rattle.std.specs.Prelude.{Err, IfOk, Ok, Result, String}
 use Rattle.std.specs.List.{list_all, list_any, slice_index_or}
 use Rattle.std.proofs.lemmas.List.{get_or-map, get_or_append_left, length-map, length_push, map_more}
-use Rattle.clap.specs.Simple.{App, HasMatchesOf, app_of, filled, filled_from, help_rule, index_after, is_simple, matches_of, with_index, with_rule}
+use Rattle.clap.specs.Simple.{App, HasMatchesOf, app_of, filled, filled_from, help_rule, index_after, is_simple, matches_of, version_rule, with_index, with_rule}
 use Rattle.clap.specs.Faults.{fault_of, is_simple_and_free}
 use Rattle.clap.specs.Kinds.{FailsBy}
 use Rattle.clap.specs.Matches.{found_of}
@@ -15,10 +15,11 @@ use Rattle.clap.specs.declared.parser.matches.ArgMatches.{ArgMatches}
 use Rattle.program_args.specs.declared.line.CommandLine.{CommandLine}
 use Rattle.program_args.specs.declared.line.FlagOption.{FlagOption}
 use Rattle.program_args.specs.declared.line.NumberOption.{NumberOption}
-use Rattle.program_args.specs.Line.{app_of_line, app_of_numbers, app_with, flag_rule, rule_of_number, with_flag}
+use Rattle.program_args.specs.declared.line.TextOption.{TextOption}
+use Rattle.program_args.specs.Line.{app_of_line, app_of_numbers, app_of_options, app_with, flag_rule, rule_of_number, rule_of_text, text_rule, with_flag}
 use Rattle.program_args.specs.Words.{texts_of, word_faults}
 
--- ---- options of the two kinds
+-- ---- options of the three kinds
 
 -- an option after whose filling in clap's rules are still plain
 pub record IsOptionRule (rule : Rule) : Type 0 where
@@ -34,15 +35,34 @@ EachOption (rule ∷ rules) = IsOptionRule rule × EachOption rules
 number-is : (o : NumberOption) → IsOptionRule (rule_of_number o)
 number-is o = record { simple = refl; simple_filled = λ i. refl; free_filled = λ i. refl; single = λ n i. refl }
 
+-- of a text that may be there once, or often
+text-is : (o : TextOption) → IsOptionRule (rule_of_text o)
+text-is o = by o.is_repeatable
+  where
+    by : (often : Bool) → IsOptionRule (text_rule o.name.now often)
+    by true = record { simple = refl; simple_filled = λ i. refl; free_filled = λ i. refl; single = λ n i. refl }
+    by false = record { simple = refl; simple_filled = λ i. refl; free_filled = λ i. refl; single = λ n i. refl }
+
 flag-is : (name : Text) → IsOptionRule (flag_rule name)
 flag-is name = record { simple = refl; simple_filled = λ i. refl; free_filled = λ i. refl; single = λ n i. refl }
 
 help-is : IsOptionRule help_rule
 help-is = record { simple = refl; simple_filled = λ i. refl; free_filled = λ i. refl; single = λ n i. refl }
 
+version-is : IsOptionRule version_rule
+version-is = record { simple = refl; simple_filled = λ i. refl; free_filled = λ i. refl; single = λ n i. refl }
+
 each-push : (rules : List Rule) (rule : Rule) → EachOption rules → IsOptionRule rule → EachOption (rules ++ rule ∷ [])
 each-push [] rule each is = (is, tt)
 each-push (r ∷ rules) rule each is = (each.0, each-push rules rule each.1 is)
+
+each-both : (some more : List Rule) → EachOption some → EachOption more → EachOption (some ++ more)
+each-both [] more each others = others
+each-both (r ∷ some) more each others = (each.0, each-both some more each.1 others)
+
+each-text : (ts : List TextOption) → EachOption (map rule_of_text ts)
+each-text [] = tt
+each-text (t ∷ ts) = (text-is t, each-text ts)
 
 each-number : (os : List NumberOption) → EachOption (map rule_of_number os)
 each-number [] = tt
@@ -79,14 +99,18 @@ filled-single : (n i : ℕ) (rules : List Rule) → EachOption rules → list_an
 filled-single n i [] each = refl
 filled-single n i (r ∷ rules) each = neither _ _ (each.0.single n i) (filled-single n (index_after i r) rules each.1)
 
+-- the options, and the two that clap adds
+each-with : (rules : List Rule) → EachOption rules → EachOption ((rules ++ help_rule ∷ []) ++ version_rule ∷ [])
+each-with rules each = each-push (rules ++ help_rule ∷ []) version_rule (each-push rules help_rule each help-is) version-is
+
 pub simple-with : (program : Text) (rules : List Rule) → EachOption rules → is_simple (app_with program rules) ≡ true
 simple-with program rules each =
-    let all : EachOption (rules ++ help_rule ∷ []) = each-push rules help_rule each help-is in
+    let all = each-with rules each in
     both _ _ (both _ _ (all-simple rules each) refl) (both _ _ (both _ _ (filled-simple 1 _ all) (ap not (filled-single _ 1 _ all))) refl)
 
 pub free-with : (program : Text) (rules : List Rule) → EachOption rules → is_simple_and_free (app_with program rules) ≡ true
 free-with program rules each =
-    let all : EachOption (rules ++ help_rule ∷ []) = each-push rules help_rule each help-is in
+    let all = each-with rules each in
     both _ _ (simple-with program rules each) (both _ _ (filled-free 1 _ all) refl)
 
 -- ---- those of a command line
@@ -95,49 +119,70 @@ free-with program rules each =
 pub numbers-more : (program : Text) (os : List NumberOption) (i : ℕ) (o : NumberOption) → i < length os → with_rule (app_of_numbers program (take i os)) (rule_of_number (slice_index_or os i o)) ≡ app_of_numbers program (take (i + 1) os)
 numbers-more program os i o lt = ap (app_with program) (sym (map_more rule_of_number os i o lt))
 
-abbrev pub rules_with : List NumberOption → Option FlagOption → List Rule
-rules_with os None = map rule_of_number os
-rules_with os (Some f) = map rule_of_number os ++ flag_rule f.name.now ∷ []
+pub texts-more : (program : Text) (os : List NumberOption) (ts : List TextOption) (i : ℕ) (t : TextOption) → i < length ts
+    → with_rule (app_of_options program os (take i ts)) (rule_of_text (slice_index_or ts i t)) ≡ app_of_options program os (take (i + 1) ts)
+texts-more program os ts i t lt =
+    let ns = map rule_of_number os in
+    ap (app_with program) (append_assoc ns (map rule_of_text (take i ts)) (rule_of_text (slice_index_or ts i t) ∷ []) ∙ ap (λ (rs : List Rule). ns ++ rs) (sym (map_more rule_of_text ts i t lt)))
 
-pub app-is : (program : Text) (os : List NumberOption) (f : Option FlagOption) → with_flag (app_of_numbers program os) f ≡ app_with program (rules_with os f)
-app-is program os None = refl
-app-is program os (Some f) = refl
+-- before the first of them
+pub texts-none : (program : Text) (os : List NumberOption) (ts : List TextOption) → app_of_options program os (take 0 ts) ≡ app_of_numbers program os
+texts-none program os ts = ap (app_with program) (append-nil (map rule_of_number os))
 
-pub each-rule : (os : List NumberOption) (f : Option FlagOption) → EachOption (rules_with os f)
-each-rule os None = each-number os
-each-rule os (Some f) = each-push (map rule_of_number os) (flag_rule f.name.now) (each-number os) (flag-is f.name.now)
+abbrev pub rules_with : List NumberOption → List TextOption → Option FlagOption → List Rule
+rules_with os ts None = map rule_of_number os ++ map rule_of_text ts
+rules_with os ts (Some f) = (map rule_of_number os ++ map rule_of_text ts) ++ flag_rule f.name.now ∷ []
 
-pub number-rule-at : (os : List NumberOption) (f : Option FlagOption) (k : ℕ) (o : NumberOption) (r : Rule) → k < length os → slice_index_or (rules_with os f) k r ≡ rule_of_number (slice_index_or os k o)
-number-rule-at os None k o r lt = get_or-map rule_of_number os k o r lt
-number-rule-at os (Some f) k o r lt =
+pub app-is : (program : Text) (os : List NumberOption) (ts : List TextOption) (f : Option FlagOption) → with_flag (app_of_options program os ts) f ≡ app_with program (rules_with os ts f)
+app-is program os ts None = refl
+app-is program os ts (Some f) = refl
+
+each-option : (os : List NumberOption) (ts : List TextOption) → EachOption (map rule_of_number os ++ map rule_of_text ts)
+each-option os ts = each-both (map rule_of_number os) (map rule_of_text ts) (each-number os) (each-text ts)
+
+pub each-rule : (os : List NumberOption) (ts : List TextOption) (f : Option FlagOption) → EachOption (rules_with os ts f)
+each-rule os ts None = each-option os ts
+each-rule os ts (Some f) = each-push (map rule_of_number os ++ map rule_of_text ts) (flag_rule f.name.now) (each-option os ts) (flag-is f.name.now)
+
+number-option-at : (os : List NumberOption) (rules : List Rule) (k : ℕ) (o : NumberOption) (r : Rule) → k < length os → slice_index_or (map rule_of_number os ++ rules) k r ≡ rule_of_number (slice_index_or os k o)
+number-option-at os rules k o r lt =
     let long = length-map os rule_of_number in
-    get_or_append_left (map rule_of_number os) (flag_rule f.name.now ∷ []) r k (omega (arith, long, lt)) ∙ get_or-map rule_of_number os k o r lt
+    get_or_append_left (map rule_of_number os) rules r k (omega (arith, long, lt)) ∙ get_or-map rule_of_number os k o r lt
 
-pub number-within-rules : (os : List NumberOption) (f : Option FlagOption) (k : ℕ) → k < length os → k < length (rules_with os f)
-number-within-rules os None k lt =
+pub number-rule-at : (os : List NumberOption) (ts : List TextOption) (f : Option FlagOption) (k : ℕ) (o : NumberOption) (r : Rule) → k < length os → slice_index_or (rules_with os ts f) k r ≡ rule_of_number (slice_index_or os k o)
+number-rule-at os ts None k o r lt = number-option-at os (map rule_of_text ts) k o r lt
+number-rule-at os ts (Some f) k o r lt =
     let long = length-map os rule_of_number in
-    omega (arith, long, lt)
-number-within-rules os (Some f) k lt =
+    let longer = length-append (map rule_of_number os) (map rule_of_text ts) in
+    get_or_append_left (map rule_of_number os ++ map rule_of_text ts) (flag_rule f.name.now ∷ []) r k (omega (arith, long, longer, lt)) ∙ number-option-at os (map rule_of_text ts) k o r lt
+
+pub number-within-rules : (os : List NumberOption) (ts : List TextOption) (f : Option FlagOption) (k : ℕ) → k < length os → k < length (rules_with os ts f)
+number-within-rules os ts None k lt =
     let long = length-map os rule_of_number in
-    let longer = length_push (map rule_of_number os) (flag_rule f.name.now) in
+    let longer = length-append (map rule_of_number os) (map rule_of_text ts) in
     omega (arith, long, longer, lt)
+number-within-rules os ts (Some f) k lt =
+    let long = length-map os rule_of_number in
+    let longer = length-append (map rule_of_number os) (map rule_of_text ts) in
+    let longest = length_push (map rule_of_number os ++ map rule_of_text ts) (flag_rule f.name.now) in
+    omega (arith, long, longer, longest, lt)
 
 -- ---- what clap says of a command of these options
 
 module _ {A : Type 0} (cmd : Command) (line : CommandLine) (words : List (String A)) (r : Result ArgMatches Error) (is : app_of cmd ≡ app_of_line line) where
   abbrev rules : List Rule
-  rules = rules_with line.numbers.now line.flag
+  rules = rules_with line.numbers.now line.texts.now line.flag
 
   same : app_of cmd ≡ app_with line.program.now rules
-  same = is ∙ app-is line.program.now line.numbers.now line.flag
+  same = is ∙ app-is line.program.now line.numbers.now line.texts.now line.flag
 
   pub faults-are : (is_simple_and_free (app_of cmd) ≡ true → FailsBy (fault_of (app_of cmd) (texts_of words)) r) → FailsBy (word_faults (app_of_line line) words) r
   faults-are kinds =
-      subst (λ (a : App). FailsBy (fault_of a (texts_of words)) r) is (kinds (ap is_simple_and_free same ∙ free-with line.program.now rules (each-rule line.numbers.now line.flag)))
+      subst (λ (a : App). FailsBy (fault_of a (texts_of words)) r) is (kinds (ap is_simple_and_free same ∙ free-with line.program.now rules (each-rule line.numbers.now line.texts.now line.flag)))
 
   pub rows-are : IfOk r (HasMatchesOf (app_of cmd) (texts_of words)) → IfOk r (λ m. rows_of (found_of m) ≡ matches_of (app_of_line line) (texts_of words))
   rows-are matches = by r matches
     where
       by : (x : Result ArgMatches Error) → IfOk x (HasMatchesOf (app_of cmd) (texts_of words)) → IfOk x (λ m. rows_of (found_of m) ≡ matches_of (app_of_line line) (texts_of words))
-      by (Ok m) has = (has (ap is_simple same ∙ simple-with line.program.now rules (each-rule line.numbers.now line.flag))).0 ∙ ap (λ (a : App). matches_of a (texts_of words)) is
+      by (Ok m) has = (has (ap is_simple same ∙ simple-with line.program.now rules (each-rule line.numbers.now line.texts.now line.flag))).0 ∙ ap (λ (a : App). matches_of a (texts_of words)) is
       by (Err e) has = tt

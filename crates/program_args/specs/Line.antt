@@ -1,14 +1,15 @@
 -- The command line of a program, as clap reads it.
-use Rattle.std.specs.Prelude.{◌&&◌, ◌∷◌, [], List, ℕ, Bool, true, not, Option, Some, None, map}
-use Rattle.std.specs.Prelude.{codes, nat_le}
+use Rattle.std.specs.Prelude.{◌&&◌, ◌++◌, ◌∷◌, [], List, ℕ, Bool, true, not, Option, Some, None}
+use Rattle.std.specs.Prelude.{if◌then◌else◌, codes, map, nat_le}
 use Rattle.std.specs.List.{list_all, list_any}
 use Rattle.std.specs.Str.{bytes_eq}
 use Rattle.clap.specs.Words.{App, Rule, Text, new_app, new_rule, with_rule}
-use Rattle.clap.specs.declared.builder.ArgAction.TheVariants.{Set, SetTrue}
+use Rattle.clap.specs.declared.builder.ArgAction.TheVariants.{Append, Set, SetTrue}
 use Rattle.clap.specs.declared.builder.value_parser.ValueParser.TheVariants.{Unsigned}
 use Rattle.program_args.specs.declared.line.CommandLine.{CommandLine}
 use Rattle.program_args.specs.declared.line.FlagOption.{FlagOption}
 use Rattle.program_args.specs.declared.line.NumberOption.{NumberOption}
+use Rattle.program_args.specs.declared.line.TextOption.{TextOption}
 
 -- an option of this name that takes a number in decimal digits, from `least` to `most`
 abbrev pub number_rule : Text → ℕ → ℕ → Rule
@@ -19,6 +20,14 @@ number_rule name least most = record (new_rule name) {
   parser = Some (Unsigned least most);
 }
 
+-- an option of this name that takes a text, once or as often as it is there
+abbrev pub text_rule : Text → Bool → Rule
+text_rule name is_repeatable = record (new_rule name) {
+  long = Some name;
+  action = Some (if is_repeatable then Append else Set);
+  value_names = 1;
+}
+
 -- an option of this name that is there or not
 abbrev pub flag_rule : Text → Rule
 flag_rule name = record (new_rule name) { long = Some name; action = Some SetTrue }
@@ -26,14 +35,21 @@ flag_rule name = record (new_rule name) { long = Some name; action = Some SetTru
 abbrev pub rule_of_number : NumberOption → Rule
 rule_of_number option = number_rule option.name.now option.least option.most
 
--- the command of a program of this name, with these options
+abbrev pub rule_of_text : TextOption → Rule
+rule_of_text option = text_rule option.name.now option.is_repeatable
+
+-- the command of a program of this name, with these options, and `--version`
 abbrev pub app_with : Text → List Rule → App
 app_with program rules = record (new_app program) {
-  top = record (new_app program).top { rules = rules };
+  top = record (new_app program).top { rules = rules; has_version = true };
 }
 
 abbrev pub app_of_numbers : Text → List NumberOption → App
 app_of_numbers program numbers = app_with program (map rule_of_number numbers)
+
+abbrev pub app_of_options : Text → List NumberOption → List TextOption → App
+app_of_options program numbers texts =
+    app_with program (map rule_of_number numbers ++ map rule_of_text texts)
 
 abbrev pub with_flag : App → Option FlagOption → App
 with_flag app None = app
@@ -41,7 +57,8 @@ with_flag app (Some flag) = with_rule app (flag_rule flag.name.now)
 
 -- the command of a command line
 abbrev pub app_of_line : CommandLine → App
-app_of_line line = with_flag (app_of_numbers line.program.now line.numbers.now) line.flag
+app_of_line line =
+    with_flag (app_of_options line.program.now line.numbers.now line.texts.now) line.flag
 
 -- no text is there twice
 abbrev pub are_distinct : List Text → Bool

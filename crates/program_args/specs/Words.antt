@@ -1,15 +1,17 @@
 -- What words mean to a command, of which the first is the program's name.
-use Rattle.std.specs.Prelude.{◌≡◌, ◌≢◌, ◌<◌, ◌≤◌, ℕ, ◌^◌, ⊤, Bool, true, false, List, [], ◌∷◌}
-use Rattle.std.specs.Prelude.{Option, Some, String, map, string_bytes, codes, IfSome}
+use Rattle.std.specs.Prelude.{◌≡◌, ◌≢◌, ◌<◌, ◌≤◌, ◌⊎◌, ℕ, ◌^◌, ⊤, Bool, true, false, List, []}
+use Rattle.std.specs.Prelude.{◌∷◌, Some, String, Vec, map, string_bytes, codes, IfSome}
+use Rattle.std.specs.Prelude.{unwrap_or}
 use Rattle.std.specs.Option.{option_map_or}
 use Rattle.std.specs.Str.Parse.{IsNumeral, digits_value, without_leading_plus}
 use Rattle.clap.specs.Words.{App, IsAmong, IsUnsignedIn, Kinds, Row, Text, fault_of, matches_of}
-use Rattle.clap.specs.Words.{one_of}
+use Rattle.clap.specs.Words.{all_of, one_of}
 use Rattle.clap.specs.declared.error.ErrorKind.{ErrorKind}
-use Rattle.clap.specs.declared.error.ErrorKind.TheVariants.{DisplayHelp}
+use Rattle.clap.specs.declared.error.ErrorKind.TheVariants.{DisplayHelp, DisplayVersion}
 use Rattle.program_args.specs.declared.fault.ArgFault.{ArgFault}
 use Rattle.program_args.specs.declared.fault.ArgFault.TheVariants as faults
 use Rattle.program_args.specs.declared.line.NumberOption.{NumberOption}
+use Rattle.program_args.specs.declared.line.TextOption.{TextOption}
 
 abbrev pub texts_of : {A : Type 0} → List (String A) → List Text
 texts_of words = map (λ word. string_bytes word) words
@@ -26,14 +28,23 @@ IsTaken app words = word_faults app words ≡ []
 abbrev pub AskForHelp : {A : Type 0} → App → List (String A) → Type 0
 AskForHelp app words = IsAmong DisplayHelp (word_faults app words)
 
--- clap refuses them, for another reason than that they ask for help
+-- they ask for the program's version
+abbrev pub AskForVersion : {A : Type 0} → App → List (String A) → Type 0
+AskForVersion app words = IsAmong DisplayVersion (word_faults app words)
+
+-- they ask for a text in place of a run
+abbrev pub AskForText : {A : Type 0} → App → List (String A) → Type 0
+AskForText app words = AskForHelp app words ⊎ AskForVersion app words
+
+-- clap refuses them, for another reason than that they ask for help or the version
 abbrev pub AreFaulty : {A : Type 0} → App → List (String A) → Type 0
-AreFaulty app words =
-    (kind : ErrorKind) × IsAmong kind (word_faults app words) × (kind ≢ DisplayHelp)
+AreFaulty app words = (kind : ErrorKind) × IsAmong kind (word_faults app words)
+    × (kind ≢ DisplayHelp) × (kind ≢ DisplayVersion)
 
 -- why the words ask for no run; memory may be refused at any words
 abbrev pub IsCause : {A : Type 0} → App → List (String A) → ArgFault → Type 0
 IsCause app words (faults.Help text) = AskForHelp app words
+IsCause app words (faults.Version text) = AskForVersion app words
 IsCause app words (faults.Mistake text) = AreFaulty app words
 IsCause app words faults.OutOfMemory = ⊤
 
@@ -59,6 +70,24 @@ number_in app name default words = number_of_option name default (matches_of app
 -- the same of each option
 abbrev pub numbers_in : {A : Type 0} → App → List NumberOption → List (String A) → List ℕ
 numbers_in app options words = map (number_by (matches_of app (texts_of words))) options
+
+-- the texts of an option in what clap found: none where it isn't there
+abbrev pub texts_of_option : Text → List Row → List Text
+texts_of_option name rows = unwrap_or (all_of name rows) []
+
+abbrev pub texts_by : List Row → TextOption → List Text
+texts_by rows option = texts_of_option option.name.now rows
+
+-- the texts that the words give an option, in their order
+abbrev pub texts_given : {A : Type 0} → App → Text → List (String A) → List Text
+texts_given app name words = texts_of_option name (matches_of app (texts_of words))
+
+-- the same of each option
+abbrev pub texts_in : {A : Type 0} → App → List TextOption → List (String A) → List (List Text)
+texts_in app options words = map (texts_by (matches_of app (texts_of words))) options
+
+abbrev pub each_texts : {A B : Type 0} → List (Vec (String A) B) → List (List Text)
+each_texts lists = map (λ words. texts_of words.items) lists
 
 abbrev pub IsWithin : ℕ → ℕ → ℕ → Type 0
 IsWithin least most number = (least ≤ number) × (number ≤ most)

@@ -17,8 +17,11 @@ pub enum ArgFault {
     /// They ask for help, which is the text.
     #[error("{0}")]
     Help(Error),
-    /// A word isn't known, an option is twice or without its number, a number is none or out of
-    /// its range, or numbers don't go together.
+    /// They ask for the version, which is the text: the program's name and `VERSION`.
+    #[error("{0}")]
+    Version(Error),
+    /// A word isn't known, an option is twice or without what it takes, a number is none or out of
+    /// its range, or options don't go together.
     #[error("{0}")]
     Mistake(Error),
     /// Memory was refused.
@@ -32,6 +35,7 @@ impl From<Error> for ArgFault {
     fn from(error: Error) -> ArgFault {
         match error.kind() {
             ErrorKind::DisplayHelp => ArgFault::Help(error),
+            ErrorKind::DisplayVersion => ArgFault::Version(error),
             ErrorKind::OutOfMemory => ArgFault::OutOfMemory,
             _ => ArgFault::Mistake(error),
         }
@@ -47,16 +51,16 @@ impl From<AllocError> for ArgFault {
 }
 
 impl ArgFault {
-    /// Prints help, or reports a mistake or refused memory. Answers the program's status: 0 after
-    /// help, 2 for a mistake, 3 for memory, or 1 where the text can't be written. Help that can't
-    /// be written is reported as `cannot write`.
+    /// Prints help or the version, or reports a mistake or refused memory. Answers the program's
+    /// status: 0 after help or the version, 2 for a mistake, 3 for memory, or 1 where the text
+    /// can't be written. Help or a version that can't be written is reported as `cannot write`.
     pub fn tell<W: Write, F: Write>(&self, output: &mut W, faults: &mut F) -> u8
         ensures status { (result ≡ status_of self.now) ⊎ (result ≡ 1) }
         ensures quiet { result ≡ 2 → Keeps (W.contents output.old) (W.contents output.new) }
         ensures untold { result ≡ 0 → Keeps (F.contents faults.old) (F.contents faults.new) }
     {
         match self {
-            ArgFault::Help(text) => match print_text(output, text) {
+            ArgFault::Help(text) | ArgFault::Version(text) => match print_text(output, text) {
                 Ok(()) => 0,
                 Err(_) => tell_unwritten(faults),
             },

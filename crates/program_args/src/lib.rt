@@ -1,5 +1,5 @@
-//! The command line of a program whose options take numbers: it is read by clap's rules, and why it
-//! asks for no run is reported, with the status that the program ends with.
+//! The command line of a program whose options take numbers and texts: it is read by clap's rules,
+//! and why it asks for no run is reported, with the status that the program ends with.
 #![tactic(auto)]
 
 mod fault;
@@ -7,5 +7,5 @@ mod line;
 mod read;
 
 pub use fault::{ArgFault, tell_unwritten};
-pub use line::{CommandLine, FlagOption, NumberOption};
+pub use line::{CommandLine, FlagOption, NumberOption, TextOption, VERSION};
 pub use read::OptionValues;

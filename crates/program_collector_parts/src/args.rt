@@ -56,13 +56,17 @@ const MAX_BODY: NumberOption<'static> = NumberOption {
     help: "The most bytes of a request's body [default: 16777216]",
 };
 
+/// The options, in the order of help.
+const NUMBERS: [NumberOption<'static>; 3] = [PORT, COUNT, MAX_BODY];
+
 impl CollectorArgs {
     /// Reads the words of the command line, of which the first is the program's name. An option
     /// that they don't name has its default.
     ///
     /// # Errors
     ///
-    /// A mistake, a number past its bounds among them, a request for help, or refused memory.
+    /// A mistake, a number past its bounds among them, a request for help or for the version, or
+    /// refused memory.
     pub fn read(alloc: Global, words: &[String]) -> Result<CollectorArgs, ArgFault>
         ensures taken { IfOk result (λ _. IsTaken command words.now) }
         ensures port { IfOk result (λ args.
@@ -73,11 +77,11 @@ impl CollectorArgs {
             args.max_body ≡ number_in command (codes "max-body") 16_777_216 words.now) }
         ensures refused { IfErr result (IsCause command words.now) }
     {
-        let numbers = [PORT, COUNT, MAX_BODY];
         let line = CommandLine {
             program: "otlp-collector",
             about: "Serves OTLP/HTTP on 127.0.0.1, and prints the spans that it takes",
-            numbers: &numbers,
+            numbers: &NUMBERS,
+            texts: &[],
             flag: None,
         };
         let found = line.read(alloc, words)?;

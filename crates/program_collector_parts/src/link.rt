@@ -10,16 +10,21 @@ use std::alloc::Global;
 use std::io;
 use std::io::{BufReader, Read, Write};
 use std::net::{OpenListener, OpenStream, Shutdown};
-use std::time::Duration;
+use std::time::{Clock, Duration};
 
 /// How long a read or a write of a connection may wait, in milliseconds. (profile)
 const TIMEOUT_MS: u64 = 10_000;
 
-/// How long a read may wait after the reply, in milliseconds. (profile)
-const LINGER_MS: u64 = 100;
+/// How long the client's end is waited for after the reply, where no byte comes, in milliseconds.
+/// (profile)
+const SILENCE_MS: u64 = 100;
 
-/// How often a connection is read after the reply. (profile)
-const MOST_LINGERING_READS: u32 = 256;
+/// How long what still comes is read after the reply, in milliseconds. (profile)
+const LINGER_MS: u64 = 2_000;
+
+/// How often a connection is read after the reply, 16,384 bytes at most each time: 16 MiB in all.
+/// (profile)
+const MOST_LINGERING_READS: u32 = 1_024;
 
 /// A connection: what comes is read through a buffer, and the reply goes out at once.
 #[derive(Drop)]
@@ -46,26 +51,53 @@ impl<S: Read + Write + OpenStream + Drop> Link<S> {
 
     /// Closes the connection so that the reply isn't lost where the client still sends: says that
     /// nothing more comes, and reads for a while what does (RFC 9112, section 9.6; how long:
-    /// profile): until the client closes, a tenth of a second passes without a byte, or 256 reads
-    /// of 16,384 bytes at most were made.
-    fn close(self) {
+    /// profile): until the client closes, a tenth of a second passes in which no first byte comes,
+    /// or 2 seconds have passed or 16 MiB were read.
+    fn close(self, clock: &impl Clock) {
         let Link { reader: _, writer } = self;
-        linger(writer.into_inner());
+        linger(clock, writer.into_inner());
     }
 }
 
+/// The moment now, in milliseconds since a start of the clock's own, if it can be read.
+fn now_ms(clock: &impl Clock) -> Option<u64> {
+    let since_start = clock.monotonic().ok()?;
+    u64::try_from(since_start.as_millis()).ok()
+}
+
 /// Reads for a while what comes after the reply.
-fn linger<S: Read + OpenStream + Drop>(mut stream: S) {
-    let timeout = Some(Duration::from_millis(LINGER_MS));
-    if stream.shutdown(Shutdown::Write).is_err() || stream.set_read_timeout(timeout).is_err() {
+fn linger<S: Read + OpenStream + Drop>(clock: &impl Clock, mut stream: S) {
+    let Some(start_ms) = now_ms(clock) else {
+        return;
+    };
+    if stream.shutdown(Shutdown::Write).is_err() {
         return;
     }
+    let mut wait_ms = SILENCE_MS;
     let mut buf = [0; 16_384];
     for _ in 0..MOST_LINGERING_READS {
-        match stream.read(&mut buf) {
-            Ok(0) | Err(_) => return,
-            Ok(_) => {}
+        if !reads_within(&mut stream, &mut buf, wait_ms) {
+            return;
         }
+        let Some(now_ms) = now_ms(clock) else {
+            return;
+        };
+        wait_ms = LINGER_MS.saturating_sub(now_ms.saturating_sub(start_ms));
+        if wait_ms == 0 {
+            return;
+        }
+    }
+}
+
+/// Whether more bytes come within so many milliseconds. They are thrown away.
+fn reads_within<S: Read + OpenStream>(stream: &mut S, buf: &mut [u8], wait_ms: u64) -> bool {
+    let timeout = Some(Duration::from_millis(wait_ms));
+    if stream.set_read_timeout(timeout).is_err() {
+        return false;
+    }
+    match stream.read(buf) {
+        Ok(count) => count > 0,
+        Err(_) => false,
     }
 }
 
@@ -77,6 +109,7 @@ fn linger<S: Read + OpenStream + Drop>(mut stream: S) {
 ///
 /// As [`serve`] has them, and only where memory for the text was refused.
 pub(crate) fn text_of_next<L: OpenListener>(
+    clock: &impl Clock,
     alloc: Global,
     number: u64,
     listener: &L,
@@ -94,7 +127,7 @@ where
     };
     let (reader, writer) = (&mut link.reader, &mut link.writer);
     let printed = serve(alloc, alloc, number, reader, writer, limits, &mut text);
-    link.close();
+    link.close(clock);
     printed?;
     Ok(text.into_inner())
 }

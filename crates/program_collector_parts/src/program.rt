@@ -2,7 +2,7 @@
 
 ghost use Rattle.std.specs.Prelude.{◌≡◌, ◌≢◌, ◌≤◌, ◌⊎◌, IfOk, OnOk, codes};
 ghost use Rattle.std.specs.Io.KnownBytes.{Appends, Keeps};
-ghost use Rattle.program_args.specs.Words.{AskForHelp, IsTaken, number_in};
+ghost use Rattle.program_args.specs.Words.{AskForText, IsTaken, number_in};
 ghost use Rattle.program_collector_parts.specs.Command.{command};
 ghost use Rattle.program_collector_parts.specs.Printed.{PrintsAll, PrintsConnections};
 ghost use Rattle.program_collector_parts.specs.Printed.{collector_limits, listening_line};
@@ -14,14 +14,16 @@ use http_wire::HeadLimits;
 use std::alloc::Global;
 use std::io::{Read, Write};
 use std::net::{Ipv4Addr, Net, OpenListener, OpenStream, TcpListener};
+use std::time::Clock;
 
 /// The program `otlp-collector`, whose words are those of its command line, the program's name
-/// first: it serves as they ask for, as [`collect`] does. Where they ask for help it is printed,
-/// with the status 0. A mistake is reported on `faults`, with the status 2, and nothing is printed.
+/// first: it serves as they ask for, as [`collect`] does. Where they ask for help or the version it
+/// is printed, with the status 0. A mistake is reported on `faults`, with the status 2, and nothing
+/// is printed.
 ///
 /// The answer is the program's status: 0, or 1 where the port can't be listened at or a write
 /// failed, 2 where the words are bad, 3 where memory was refused.
-pub fn run_collector<R: Net, W: Write, F: Write>(
+pub fn run_collector<R: Net + Clock, W: Write, F: Write>(
     rt: &R,
     alloc: Global,
     words: &[String],
@@ -29,7 +31,7 @@ pub fn run_collector<R: Net, W: Write, F: Write>(
     faults: &mut F,
 ) -> u8
     ensures status { result ≤ 3 }
-    ensures asked { result ≡ 0 → IsTaken command words.now ⊎ AskForHelp command words.now }
+    ensures asked { result ≡ 0 → IsTaken command words.now ⊎ AskForText command words.now }
     ensures printed { IsTaken command words.now → result ≡ 0 → PrintsAll
         (number_in command (codes "port") 4318 words.now)
         (number_in command (codes "count") 1 words.now)
@@ -50,13 +52,14 @@ pub fn run_collector<R: Net, W: Write, F: Write>(
 /// reply. For each it prints `connection NUMBER STATUS`, with `none` where there was no whole
 /// reply, and the lines of the spans of its request, if one was taken. What is printed of a
 /// connection is flushed before the next one is accepted. A client that is silent for 10 seconds
-/// is not waited for. (profile)
+/// is not waited for. What a client still sends after its reply, as the rest of a body that was
+/// refused, is read for 2 seconds or 16 MiB at most, so that the reply arrives. (profile)
 ///
 /// The answer is the program's status: 0, or 1 where the port can't be listened at, which is
 /// reported as `cannot listen` on `faults`, or a write failed, which is reported as `cannot write`;
 /// 3 where memory to print was refused, reported as `out of memory`. Lines may have gone out then.
 /// Where the fault itself can't be reported it is 1.
-pub fn collect<R: Net, W: Write, F: Write>(
+pub fn collect<R: Net + Clock, W: Write, F: Write>(
     rt: &R,
     alloc: Global,
     args: CollectorArgs,
@@ -75,7 +78,7 @@ pub fn collect<R: Net, W: Write, F: Write>(
 }
 
 /// Listens, prints the port, and serves the connections.
-fn listen_and_serve<R: Net, W: Write>(
+fn listen_and_serve<R: Net + Clock, W: Write>(
     rt: &R,
     alloc: Global,
     args: CollectorArgs,
@@ -90,6 +93,7 @@ fn listen_and_serve<R: Net, W: Write>(
     let port = port_of(&listener, args.port)?;
     print_port(alloc, port, output)?;
     serve_connections(
+        rt,
         alloc,
         &listener,
         args.count,
@@ -147,6 +151,7 @@ fn print<W: Write>(output: &mut W, text: &[u8]) -> Result<(), Failure>
 
 /// Serves so many connections, the first of which has the number 1, and prints each.
 fn serve_connections<L: OpenListener, W: Write>(
+    clock: &impl Clock,
     alloc: Global,
     listener: &L,
     count: u64,
@@ -161,7 +166,7 @@ where
 {
     for served in 0..count {
         // A text in memory fails only where memory is refused.
-        let Ok(text) = text_of_next(alloc, served + 1, listener, limits) else {
+        let Ok(text) = text_of_next(clock, alloc, served + 1, listener, limits) else {
             return Err(Failure::OutOfMemory);
         };
         print(output, text.as_slice())?;

@@ -14,12 +14,14 @@ use Rattle.program_demo.specs.Command.{HaveLargeBatch, IsCause, batch_in, comman
 pub cause-of : {A T : Type 0} (words : List (String A)) (r : Result T ArgFault) → IfErr r (given.IsCause command words) → IfErr r (IsCause words)
 cause-of words (Ok value) cause = tt
 cause-of words (Err (faults.Help text)) cause = cause
+cause-of words (Err (faults.Version text)) cause = cause
 cause-of words (Err (faults.Mistake text)) cause = inl cause
 cause-of words (Err faults.OutOfMemory) cause = tt
 
 -- and so is that of a batch that is too large
 pub cause-of-batch : {A : Type 0} (words : List (String A)) (fault : ArgFault) → IsMistake fault → HaveLargeBatch words → IsCause words fault
 cause-of-batch words (faults.Help text) mistake large = absurd mistake
+cause-of-batch words (faults.Version text) mistake large = absurd mistake
 cause-of-batch words (faults.Mistake text) mistake large = inr large
 cause-of-batch words faults.OutOfMemory mistake large = tt
 

@@ -2,7 +2,7 @@
 use Rattle.std.specs.Prelude.{◌≡◌, ◌⊎◌, ◌<◌, ◌≤◌, ℕ, ◌^◌, ◌-◌, ⊤, List, [], ◌∷◌, String, codes}
 use Rattle.clap.specs.Words.{App}
 use Rattle.program_args.specs.Line.{app_with, number_rule}
-use Rattle.program_args.specs.Words.{AreFaulty, AskForHelp, IsTaken, number_in}
+use Rattle.program_args.specs.Words.{AreFaulty, AskForHelp, AskForVersion, IsTaken, number_in}
 use Rattle.program_args.specs.declared.fault.ArgFault.{ArgFault}
 use Rattle.program_args.specs.declared.fault.ArgFault.TheVariants as faults
 use Rattle.program_demo.specs.declared.args.DemoArgs.{DemoArgs}
@@ -43,5 +43,6 @@ AreMistaken words = AreFaulty command words ⊎ HaveLargeBatch words
 -- why the words ask for no run; memory may be refused at any words
 abbrev pub IsCause : {A : Type 0} → List (String A) → ArgFault → Type 0
 IsCause words (faults.Help text) = AskForHelp command words
+IsCause words (faults.Version text) = AskForVersion command words
 IsCause words (faults.Mistake text) = AreMistaken words
 IsCause words faults.OutOfMemory = ⊤

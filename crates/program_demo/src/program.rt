@@ -1,7 +1,7 @@
 //! The program `trace-demo`.
 ghost use Rattle.std.specs.Prelude.{◌≡◌, ◌≤◌, ◌⊎◌};
 ghost use Rattle.std.specs.Io.KnownBytes.{Keeps};
-ghost use Rattle.program_args.specs.Words.{AskForHelp};
+ghost use Rattle.program_args.specs.Words.{AskForText};
 ghost use Rattle.program_demo.specs.Command.{AreMistaken, AskForRun, command};
 
 use crate::args::DemoArgs;
@@ -25,8 +25,9 @@ use std::thread::Threads;
 use std::time;
 
 /// The program `trace-demo`, whose words are those of its command line, the program's name first.
-/// Where they ask for a run it is done, as by `demo`. Where they ask for help it is printed, with
-/// the status 0. A mistake is reported on `faults`, with the status 2, and refused memory with 3.
+/// Where they ask for a run it is done, as by `demo`. Where they ask for help or the version it is
+/// printed, with the status 0. A mistake is reported on `faults`, with the status 2, and refused
+/// memory with 3.
 pub fn trace_demo<R, W, F>(
     rt: R,
     alloc: Global,
@@ -40,7 +41,7 @@ where
     W: Write,
     F: Write,
     ensures status { result ≤ 3 }
-    ensures asked { result ≡ 0 → AskForRun words.items ⊎ AskForHelp command words.items }
+    ensures asked { result ≡ 0 → AskForRun words.items ⊎ AskForText command words.items }
     ensures mistake { result ≡ 2 → AreMistaken words.items }
     ensures quiet { result ≡ 2 → Keeps (W.contents output.old) (W.contents output.new) }
     ensures untold { result ≡ 0 → Keeps (F.contents faults.old) (F.contents faults.new) }

@@ -66,9 +66,9 @@ impl DemoArgs {
     ///
     /// # Errors
     ///
-    /// `Help` where the words ask for it. `Mistake` where a word isn't known, an option is twice or
-    /// without its number, a number is none or out of its range, or the batch is larger than the
-    /// queue. `OutOfMemory` where memory was refused.
+    /// `Help` and `Version` where the words ask for them. `Mistake` where a word isn't known, an
+    /// option is twice or without its number, a number is none or out of its range, or the batch is
+    /// larger than the queue. `OutOfMemory` where memory was refused.
     pub fn read(words: Vec<String>) -> Result<DemoArgs, ArgFault>
         ensures taken { IfOk result (λ _. IsTaken command words.items) }
         ensures values { IfOk result (IsAskedBy words.items) }
@@ -86,11 +86,11 @@ fn read_words(alloc: Global, words: &[String]) -> Result<DemoArgs, ArgFault>
     ensures in_range { IfOk result (λ a. IsInRange a.threads a.spans a.queue a.batch) }
     ensures refused { IfErr result (IsCause words.now) }
 {
-    let numbers = NUMBERS;
     let line = CommandLine {
         program: "trace-demo",
         about: "Ends spans on threads, and posts them to a collector of its own",
-        numbers: &numbers,
+        numbers: &NUMBERS,
+        texts: &[],
         flag: None,
     };
     let found = line.read(alloc, words)?;

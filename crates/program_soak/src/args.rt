@@ -63,6 +63,18 @@ const NUMBERS: [NumberOption<'static>; 4] = [
     },
 ];
 
+/// The command line.
+const LINE: CommandLine<'static> = CommandLine {
+    program: "trace-soak",
+    about: ABOUT,
+    numbers: &NUMBERS,
+    texts: &[],
+    flag: Some(FlagOption {
+        name: "verbose",
+        help: "Report counts on standard error",
+    }),
+};
+
 impl SoakArgs {
     /// Reads the words of the command line, of which the first is the program's name: `--spans`,
     /// `--threads`, `--seed` and `--slack`, each with a number after it, and `--verbose`. Numbers
@@ -70,25 +82,15 @@ impl SoakArgs {
     ///
     /// # Errors
     ///
-    /// `Help` where the words ask for it. `Mistake` where a word isn't known, one is twice, or
-    /// a number is none or out of its range. `OutOfMemory` where memory was refused.
+    /// `Help` and `Version` where the words ask for them. `Mistake` where a word isn't known, one
+    /// is twice, or a number is none or out of its range. `OutOfMemory` where memory was refused.
     pub fn read(alloc: Global, words: &[String]) -> Result<SoakArgs, ArgFault>
         ensures taken { IfOk result (λ _. IsTaken command words.now) }
         ensures verbose { IfOk result (λ args.
             IsSetBy command (codes "verbose") words.now args.verbose) }
         ensures refused { IfErr result (IsCause command words.now) }
     {
-        let numbers = NUMBERS;
-        let line = CommandLine {
-            program: "trace-soak",
-            about: ABOUT,
-            numbers: &numbers,
-            flag: Some(FlagOption {
-                name: "verbose",
-                help: "Report counts on standard error",
-            }),
-        };
-        let found = line.read(alloc, words)?;
+        let found = LINE.read(alloc, words)?;
         Ok(SoakArgs {
             spans: found.numbers[0],
             threads: found.numbers[1] as usize,

@@ -32,8 +32,9 @@ use std::time;
 const ROUND: u64 = 2_500;
 
 /// The program `trace-soak`, whose words are those of its command line, the program's name first.
-/// Where they ask for a run it is done, as by `soak`. Where they ask for help it is printed, with
-/// the status 0. A mistake is reported on `faults`, with the status 2, and refused memory with 3.
+/// Where they ask for a run it is done, as by `soak`. Where they ask for help or the version it is
+/// printed, with the status 0. A mistake is reported on `faults`, with the status 2, and refused
+/// memory with 3.
 pub fn trace_soak<R, W, F>(
     rt: R,
     alloc: Global,

@@ -13,6 +13,7 @@ use std::io;
 use std::io::Write;
 use std::net::Net;
 use std::process::Abort;
+use std::time::Clock;
 use test_support::FailingAllocator;
 
 /// A request of one span, whose fields come from the last to the first, with an unknown one among
@@ -322,7 +323,12 @@ fn command_line(rt: &impl Abort, alloc: Global, words: &str) -> Vec<String> {
 }
 
 /// What the program answers to these words, its name among them, where its output fails so.
-fn status_of(rt: &(impl Abort + Net), alloc: Global, words: &str, output: (usize, bool)) -> u8 {
+fn status_of(
+    rt: &(impl Abort + Clock + Net),
+    alloc: Global,
+    words: &str,
+    output: (usize, bool),
+) -> u8 {
     let line = command_line(rt, alloc, words);
     let (left, flushes) = output;
     let mut output = FailingWriter { left, flushes };

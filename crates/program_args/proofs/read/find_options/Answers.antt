@@ -1,4 +1,3 @@
-use Rattle.clap.specs.Matches.{found_of}
 use Rattle.program_args.proofs.Bounds.{all-valid}
 use Rattle.program_args.proofs.Simple.{faults-are, rows-are}
 use Rattle.program_args.proofs.read.find_options.Goals as goal
