@@ -1,5 +1,6 @@
 //! The tests, a module for each crate, and what they share.
 
+mod bodies;
 mod equal;
 mod store;
 mod text;

@@ -1,13 +1,14 @@
-//! Worked examples of what a store of traces is, with values that were written out by hand. The
-//! checker computes what the definitions make of each, and compares.
+//! Worked examples of what a store of traces is and of what a request takes, with values that were
+//! written out by hand. The checker computes what the definitions make of each, and compares.
 //!
 //! Each function is a group of examples. Its clauses are the examples, and it does nothing when it
-//! is called. A span is a number here, which is also its size.
+//! is called. A span of a store is a number here, which is also its size.
 
-ghost use Rattle.std.specs.Prelude.{◌≡◌, ◌∷◌, ◌++◌, [], ℕ, reverse};
+ghost use Rattle.std.specs.Prelude.{◌≡◌, ◌+◌, ◌*◌, ◌∷◌, ◌++◌, [], ℕ, reverse};
 ghost use Rattle.circular_buffer.specs.Buffer.{keep_last};
 ghost use Rattle.trace_store.specs.Traces.{byte_count, span_count, spans_of, with_parts};
 ghost use Rattle.trace_store.specs.Traces.{traces_of, with_spans};
+ghost use Rattle.test_view.specs.Bodies.{size_of};
 
 /// Spans come after those of their trace, which is then the newest.
 pub fn traces()
@@ -29,4 +30,39 @@ pub fn names()
     ensures after { keep_last {X = ℕ} 1000 (9 ∷ [] ++ reverse (traces_of {S = ℕ}
         ((2, 20 ∷ []) ∷ (1, 10 ∷ []) ∷ []))) ≡ 9 ∷ 1 ∷ 2 ∷ [] }
     ensures last { keep_last {X = ℕ} 2 (9 ∷ 1 ∷ 2 ∷ []) ≡ 1 ∷ 2 ∷ [] }
+{}
+
+/// What the reading of a request takes (opentelemetry-proto, trace_service.proto:
+/// ExportTraceServiceRequest).
+#[tactic(auto, unfolding(crate::specs::Bodies::size_of))]
+pub fn bodies()
+    ensures nothing { size_of [] ≡ 0 }
+    // A resource.
+    ensures resource { size_of (0x0a ∷ 0x00 ∷ []) ≡ 256 }
+    // A scope of a resource.
+    ensures scope { size_of (0x0a ∷ 0x02 ∷ 0x12 ∷ 0x00 ∷ []) ≡ 512 }
+    // Two spans without a field.
+    ensures spans { size_of (
+        0x0a ∷ 0x06 ∷ 0x12 ∷ 0x04 ∷ 0x12 ∷ 0x00 ∷ 0x12 ∷ 0x00 ∷ []
+        ) ≡ 256 + 256 + 2 * 768 }
+    // A span with a name of two bytes.
+    ensures name { size_of (
+        0x0a ∷ 0x08 ∷ 0x12 ∷ 0x06 ∷ 0x12 ∷ 0x04 ∷ 0x2a ∷ 0x02 ∷ 0x61 ∷ 0x62 ∷ []
+        ) ≡ 256 + 256 + 768 + 2 }
+    // An event of the name `e`, with a pair whose key is `k`.
+    ensures event { size_of (
+        0x0a ∷ 0x10 ∷ 0x12 ∷ 0x0e ∷ 0x12 ∷ 0x0c ∷ 0x5a ∷ 0x0a ∷ 0x12 ∷ 0x01 ∷ 0x65 ∷ 0x1a ∷
+        0x05 ∷ 0x0a ∷ 0x01 ∷ 0x6b ∷ 0x12 ∷ 0x00 ∷ []
+        ) ≡ 256 + 256 + 768 + 128 + 1 + 112 + 1 }
+    // A link with a pair whose value is a list of two truth values.
+    ensures link { size_of (
+        0x0a ∷ 0x14 ∷ 0x12 ∷ 0x12 ∷ 0x12 ∷ 0x10 ∷ 0x6a ∷ 0x0e ∷ 0x22 ∷ 0x0c ∷ 0x12 ∷ 0x0a ∷
+        0x2a ∷ 0x08 ∷ 0x0a ∷ 0x02 ∷ 0x10 ∷ 0x01 ∷ 0x0a ∷ 0x02 ∷ 0x10 ∷ 0x00 ∷ []
+        ) ≡ 256 + 256 + 768 + 192 + 112 + 48 + 2 * 48 }
+    // A field that is a number, and one that is unknown.
+    ensures number { size_of (0x08 ∷ 0x01 ∷ 0x12 ∷ 0x02 ∷ 0x0a ∷ 0x00 ∷ []) ≡ 0 }
+    // A resource, and then a length that goes past the end.
+    ensures cut_off { size_of (0x0a ∷ 0x00 ∷ 0x0a ∷ 0x05 ∷ 0x12 ∷ []) ≡ 256 }
+    // A group, which can't be read.
+    ensures group { size_of (0x0b ∷ 0x0a ∷ 0x00 ∷ []) ≡ 0 }
 {}

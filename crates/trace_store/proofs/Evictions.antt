@@ -1,9 +1,9 @@
 -- Which traces are left.
-use Rattle.std.proofs.Common.{◌≡◌, ℕ, ◌+◌, ◌-◌, ◌^◌, ◌<◌, ◌≤◌, List, [], ◌∷◌, ◌++◌, drop, length, reverse, refl, sym, ◌∙◌, ap, subst, arith, append-nil, append_assoc}
+use Rattle.std.proofs.Common.{◌≡◌, ℕ, ◌+◌, ◌-◌, ◌^◌, ◌<◌, ◌≤◌, List, [], ◌∷◌, ◌++◌, drop, length, reverse, sym, ◌∙◌, ap, subst, arith, append-nil, append_assoc}
 use Rattle.std.proofs.lemmas.List.{drop-append-le, drop-drop, length-append, length-drop, reverse-append}
 use Rattle.std.specs.Prelude.{min}
 use Rattle.circular_buffer.specs.Buffer.{keep_last}
-use Rattle.trace_store.specs.Stores.{AreNamed, AreNewest, AreWithin, Evicts, Kept}
+use Rattle.trace_store.specs.Stores.{AreNewest, AreWithin, Evicts, Kept}
 use Rattle.trace_store.specs.Traces.{traces_of}
 
 pub all_newest : {S : Type 0} (size : S → ℕ) (spans bytes : ℕ) (all : List (ℕ × List S)) → AreNewest size spans bytes all all

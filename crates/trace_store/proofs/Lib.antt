@@ -2,3 +2,5 @@ pub mod Puts
 pub mod Sums
 pub mod Evictions
 pub mod PartLemmas
+pub mod Digests
+pub mod Rooms

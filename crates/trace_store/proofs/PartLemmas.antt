@@ -1,5 +1,5 @@
 -- What adding parts makes of traces.
-use Rattle.std.proofs.Common.{◌≡◌, ℕ, ◌+◌, ◌-◌, ◌<◌, ◌≤◌, Bool, true, false, cond, List, [], ◌∷◌, ◌++◌, length, take, drop, nat_eq, Option, Some, None, IsSome, refl, sym, ◌∙◌, ap, subst, inl, inr, eqb-true, append_assoc, append-nil, arith}
+use Rattle.std.proofs.Common.{◌≡◌, ℕ, ◌+◌, ◌-◌, ◌<◌, ◌≤◌, true, false, cond, List, [], ◌∷◌, ◌++◌, length, take, drop, nat_eq, Option, Some, None, IsSome, refl, sym, ◌∙◌, ap, subst, inl, inr, eqb-true, append_assoc, arith}
 use Rattle.std.proofs.lemmas.Bool.{cases_Bool}
 use Rattle.std.proofs.lemmas.List.{drop_at, length-append, map-append, take-append-drop, take_more}
 use Rattle.std.proofs.lemmas.List.Sums.{sum_by-append}

@@ -1,5 +1,5 @@
 -- What is counted of traces.
-use Rattle.std.proofs.Common.{◌≡◌, ℕ, ◌+◌, ◌-◌, ◌<◌, ◌≤◌, List, [], ◌∷◌, ◌++◌, length, take, map, nat_eq, Option, Some, None, refl, sym, ◌∙◌, ap, arith}
+use Rattle.std.proofs.Common.{◌≡◌, ℕ, ◌+◌, ◌-◌, ◌<◌, ◌≤◌, List, [], ◌∷◌, ◌++◌, length, take, nat_eq, Option, Some, None, refl, sym, ◌∙◌, ap, arith}
 use Rattle.std.specs.Prelude.{MatchOption, sum_by, slice_get, unwrap_or, option_map}
 use Rattle.std.specs.Map.{lookup, remove_entry, values_of}
 use Rattle.std.proofs.lemmas.List.{take_more, map-append, length-append}

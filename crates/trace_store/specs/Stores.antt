@@ -1,5 +1,6 @@
 -- What a store of traces is.
-use Rattle.std.specs.Prelude.{◌≡◌, ℕ, ◌+◌, ◌-◌, ◌^◌, ◌≤◌, List, [], ◌∷◌, ◌++◌, length, min, reverse}
+use Rattle.std.specs.Prelude.{◌≡◌, ◌⊎◌, ℕ, ◌+◌, ◌-◌, ◌^◌, ◌<◌, ◌≤◌, List, [], ◌∷◌, ◌++◌, length}
+use Rattle.std.specs.Prelude.{min, reverse}
 use Rattle.circular_buffer.specs.Buffer.{keep_last}
 use Rattle.trace_store.specs.Traces.{byte_count, span_count, traces_of}
 
@@ -53,3 +54,13 @@ pub record Evicts {S : Type 0} (all : List (ℕ × List S)) (old new : Kept S) :
   pub older : List (ℕ × List S)
   pub split : all ≡ new.traces ++ older
   pub named : AreNamed old new older
+
+-- These are the newest of all traces: the older ones take at least so many bytes together, or none
+-- is left. With one trace fewer they would take less.
+pub record MakesRoom {S : Type 0} (size : S → ℕ) (bytes : ℕ) (all newest : List (ℕ × List S))
+    : Type 0 where
+  pub older : List (ℕ × List S)
+  pub split : all ≡ newest ++ older
+  pub enough : (bytes ≤ byte_count size older) ⊎ (newest ≡ [])
+  pub needed : (next : ℕ × List S) (others : List (ℕ × List S)) → older ≡ next ∷ others
+      → byte_count size others < bytes

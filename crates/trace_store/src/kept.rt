@@ -1,15 +1,17 @@
 //! Traces, and what is counted of them.
 
 ghost use Rattle.std.specs.Prelude.{◌≡◌, ◌+◌, ◌≤◌, ◌<◌, ◌↔◌, ◌++◌, ◌∷◌, [], ℕ, List, IfOk, IsTrue};
-ghost use Rattle.std.specs.Prelude.{OnErr, OnOk, ◌-◌, ◌^◌, length, min};
+ghost use Rattle.std.specs.Prelude.{◌⊎◌, OnErr, OnOk, ◌-◌, ◌^◌, length, min};
 ghost use Rattle.circular_buffer.specs.Buffer.{keep_last};
 ghost use Rattle.trace_store.specs.Stores.{AreNewest, AreWithin, Evicts, IsAccounted};
-ghost use Rattle.trace_store.specs.Stores.{IsBounded};
+ghost use Rattle.trace_store.specs.Stores.{IsBounded, MakesRoom};
 ghost use Rattle.std.specs.List.Sorted.{IsPermutation};
-ghost use Rattle.trace_store.specs.Traces.{span_count, with_parts, with_spans};
+ghost use Rattle.trace_store.specs.Traces.{byte_count, span_count, with_parts, with_spans};
 
+use crate::fold::Digest;
 use crate::parts::{Part, add_all, byte_total, span_total};
 use crate::size::{SpanSize, known_size, total_size};
+use crate::spans::Trace;
 use crate::traces::{Traces, add, take_oldest};
 use circular_buffer::HeapCircularBuffer;
 use lru::LruCache;
@@ -35,8 +37,8 @@ pub struct Limits {
 
 /// Traces, and what is counted of them.
 #[derive(Drop)]
-pub(crate) struct Kept<S: SpanSize, H: BuildHasher, A: Allocator> {
-    traces: Traces<S, H, A>,
+pub(crate) struct Kept<S: SpanSize, D: Digest<S>, H: BuildHasher, A: Allocator> {
+    traces: Traces<S, D, H, A>,
     bytes: u64,
     received: u64,
     evicted: u64,
@@ -44,7 +46,7 @@ pub(crate) struct Kept<S: SpanSize, H: BuildHasher, A: Allocator> {
     last_evicted: HeapCircularBuffer<u128, A>,
 }
 
-impl<S: SpanSize, H: BuildHasher, A: Allocator> Model for Kept<S, H, A> {
+impl<S: SpanSize, D: Digest<S>, H: BuildHasher, A: Allocator> Model for Kept<S, D, H, A> {
     ghost use Rattle.std.specs.Prelude.{◌≡◌, ◌+◌, ◌<◌, ◌≤◌, ◌^◌, length};
     ghost use Rattle.trace_store.specs.Stores as model;
     ghost use Rattle.trace_store.specs.Traces.{byte_count, span_count};
@@ -67,9 +69,14 @@ impl<S: SpanSize, H: BuildHasher, A: Allocator> Model for Kept<S, H, A> {
         × (k.evicted_traces < 2 ^ 64) };
 }
 
-impl<S: SpanSize + Drop, H: BuildHasher + Drop, A: Allocator + Copy> Kept<S, H, A> {
+impl<S: SpanSize + Drop, D: Digest<S>, H: BuildHasher + Drop, A: Allocator + Copy> Kept<
+    S,
+    D,
+    H,
+    A,
+> {
     /// No trace.
-    pub(crate) fn new(alloc: A, hasher: H) -> Result<Kept<S, H, A>, AllocError>
+    pub(crate) fn new(alloc: A, hasher: H) -> Result<Kept<S, D, H, A>, AllocError>
         ensures { IfOk result (λ kept. kept ≡ record {
           traces = [];
           received = 0;
@@ -91,7 +98,7 @@ impl<S: SpanSize + Drop, H: BuildHasher + Drop, A: Allocator + Copy> Kept<S, H, 
     }
 
     /// The traces.
-    pub(crate) fn traces(&self) -> &Traces<S, H, A>
+    pub(crate) fn traces(&self) -> &Traces<S, D, H, A>
         ensures { result.now.entries ≡ self.now.traces }
     {
         &self.traces
@@ -153,7 +160,8 @@ impl<S: SpanSize + Drop, H: BuildHasher + Drop, A: Allocator + Copy> Kept<S, H, 
         let Some(bytes) = self.bytes.checked_add(size) else {
             return Err(AllocError);
         };
-        add(&mut self.traces, trace, spans)?;
+        let part = Trace::new(spans)?;
+        add(&mut self.traces, trace, part)?;
         self.bytes = bytes;
         self.received += count;
         Ok(())
@@ -196,11 +204,12 @@ impl<S: SpanSize + Drop, H: BuildHasher + Drop, A: Allocator + Copy> Kept<S, H, 
             × (self.new.evicted_traces ≡ min (self.old.evicted_traces + 1) (2 ^ 64 - 1))
             × (self.new.last_evicted ≡ keep_last 1000 (self.old.last_evicted ++ oldest.0 ∷ [])) }
     {
-        let Some((trace, spans)) = take_oldest(&mut self.traces) else {
+        let Some((trace, oldest)) = take_oldest(&mut self.traces) else {
             return;
         };
+        let spans = oldest.spans();
         self.evicted += spans.len() as u64;
-        self.bytes -= known_size(&spans);
+        self.bytes -= known_size(spans);
         self.evicted_traces = self.evicted_traces.saturating_add(1);
         self.last_evicted.push_back(trace);
     }
@@ -219,5 +228,49 @@ impl<S: SpanSize + Drop, H: BuildHasher + Drop, A: Allocator + Copy> Kept<S, H, 
             self.evict_oldest();
             is_within = self.is_within(limits);
         }
+    }
+
+    /// How many bytes the spans of the traces take.
+    fn byte_count(&self) -> u64
+        ensures { result ≡ byte_count S.size_of self.now.traces }
+    {
+        self.bytes
+    }
+
+    /// How many traces there are.
+    fn trace_count(&self) -> usize
+        ensures { result ≡ length self.now.traces }
+    {
+        self.traces.len()
+    }
+
+    /// Whether traces that took so many bytes gave up at least so many, or all.
+    fn has_given(&self, before: u64, bytes: u64) -> bool
+        requires { byte_count S.size_of self.now.traces ≤ before }
+        ensures value { IsTrue result ↔ (
+            (bytes ≤ before - byte_count S.size_of self.now.traces) ⊎ (self.now.traces ≡ [])) }
+        ensures accounted { IsAccounted self.now }
+        ensures bounded { IsBounded self.now }
+    {
+        self.traces.is_empty() || before - self.bytes >= bytes
+    }
+
+    /// Evicts the oldest traces until they come to at least so many bytes, or none is left, and
+    /// answers how many went.
+    pub(crate) fn make_room(&mut self, bytes: u64) -> u64
+        ensures room { MakesRoom S.size_of bytes self.old.traces self.new.traces }
+        ensures named { Evicts self.old.traces self.old self.new }
+        ensures count { result + length self.new.traces ≡ length self.old.traces }
+        ensures received { self.new.received ≡ self.old.received }
+        ensures accounted { IsAccounted self.new }
+    {
+        let before = self.byte_count();
+        let count = self.trace_count();
+        let mut is_done = self.has_given(before, bytes);
+        while !is_done {
+            self.evict_oldest();
+            is_done = self.has_given(before, bytes);
+        }
+        (count - self.trace_count()) as u64
     }
 }

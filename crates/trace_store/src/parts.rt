@@ -7,7 +7,9 @@ ghost use Rattle.lru.specs.LruCache.{lru_cache};
 ghost use Rattle.trace_store.specs.Parts.{AddsPart, ArePartway, AreThere};
 ghost use Rattle.trace_store.specs.Traces.{byte_count, span_count, with_parts};
 
+use crate::fold::Digest;
 use crate::size::{SpanSize, total_size};
+use crate::spans::Trace;
 use crate::traces::{Traces, add_to, put_new};
 use std::alloc::{AllocError, Allocator};
 use std::collections::LinkedList;
@@ -15,6 +17,9 @@ use std::hash::BuildHasher;
 
 /// A trace, and spans of it.
 pub type Part<S, A> = (u128, LinkedList<S, A>);
+
+/// The same, with the digest of the spans.
+type DigestedPart<S, D, A> = (u128, Trace<S, D, A>);
 
 /// How many spans are in parts, if that is below 2^64.
 pub(crate) fn span_total<S, A: Allocator>(parts: &[Part<S, A>]) -> Option<u64>
@@ -41,7 +46,10 @@ pub(crate) fn byte_total<S: SpanSize, A: Allocator>(parts: &[Part<S, A>]) -> Opt
 }
 
 /// Takes out the newest traces, so many.
-fn take_back<S: Drop, H: BuildHasher, A: Allocator>(traces: &mut Traces<S, H, A>, count: usize)
+fn take_back<S: Drop, D: Digest<S>, H: BuildHasher, A: Allocator>(
+    traces: &mut Traces<S, D, H, A>,
+    count: usize,
+)
     ensures { traces.new ≡ lru_cache (drop count traces.old.entries) traces.old.cap }
 {
     for _ in 0..count {
@@ -50,9 +58,9 @@ fn take_back<S: Drop, H: BuildHasher, A: Allocator>(traces: &mut Traces<S, H, A>
 }
 
 /// Adds a part if its trace is new, and else puts it to the others.
-fn add_part<S: Drop, H: BuildHasher, A: Allocator + Copy>(
-    traces: &mut Traces<S, H, A>,
-    others: &mut Vec<Part<S, A>, A>,
+fn add_part<S: Drop, D: Digest<S>, H: BuildHasher, A: Allocator + Copy>(
+    traces: &mut Traces<S, D, H, A>,
+    others: &mut Vec<DigestedPart<S, D, A>, A>,
     part: Part<S, A>,
 ) -> Result<(), AllocError>
     requires { vec_len others.old < vec_capacity others.old }
@@ -63,6 +71,7 @@ fn add_part<S: Drop, H: BuildHasher, A: Allocator + Copy>(
     ensures room { vec_capacity others.new ≡ vec_capacity others.old }
 {
     let (trace, spans) = part;
+    let spans = Trace::new(spans)?;
     if traces.contains(&trace) {
         others.push_reserved((trace, spans));
         return Ok(());
@@ -71,10 +80,10 @@ fn add_part<S: Drop, H: BuildHasher, A: Allocator + Copy>(
 }
 
 /// Adds the parts whose traces are new, and answers the others.
-fn add_new<S: Drop, H: BuildHasher, A: Allocator + Copy>(
-    traces: &mut Traces<S, H, A>,
+fn add_new<S: Drop, D: Digest<S>, H: BuildHasher, A: Allocator + Copy>(
+    traces: &mut Traces<S, D, H, A>,
     parts: Vec<Part<S, A>, A>,
-) -> Result<Vec<Part<S, A>, A>, AllocError>
+) -> Result<Vec<DigestedPart<S, D, A>, A>, AllocError>
     ensures ok { IfOk result (λ others.
         ArePartway traces.old.entries parts.items traces.new.entries others.items) }
     ensures err { OnErr result (traces.new ≡ traces.old) }
@@ -93,9 +102,9 @@ fn add_new<S: Drop, H: BuildHasher, A: Allocator + Copy>(
 }
 
 /// Adds parts whose traces are there.
-fn add_others<S: Drop, H: BuildHasher, A: Allocator + Copy>(
-    traces: &mut Traces<S, H, A>,
-    parts: Vec<Part<S, A>, A>,
+fn add_others<S: Drop, D: Digest<S>, H: BuildHasher, A: Allocator + Copy>(
+    traces: &mut Traces<S, D, H, A>,
+    parts: Vec<DigestedPart<S, D, A>, A>,
 )
     requires there { AreThere traces.old.entries parts.items }
     requires fits { span_count traces.old.entries + span_count parts.items < 2 ^ 63 }
@@ -108,8 +117,8 @@ fn add_others<S: Drop, H: BuildHasher, A: Allocator + Copy>(
 }
 
 /// Adds parts: those of new traces first.
-pub(crate) fn add_all<S: Drop, H: BuildHasher, A: Allocator + Copy>(
-    traces: &mut Traces<S, H, A>,
+pub(crate) fn add_all<S: Drop, D: Digest<S>, H: BuildHasher, A: Allocator + Copy>(
+    traces: &mut Traces<S, D, H, A>,
     parts: Vec<Part<S, A>, A>,
 ) -> Result<(), AllocError>
     requires { span_count traces.old.entries + span_count parts.items < 2 ^ 63 }

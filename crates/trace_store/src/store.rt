@@ -6,11 +6,14 @@ ghost use Rattle.std.specs.List.Sorted.{IsPermutation};
 ghost use Rattle.std.specs.Map.{lookup};
 ghost use Rattle.std.specs.List.{AllZip};
 ghost use Rattle.trace_store.specs.Stores.{AreNewest, AreWithin, Evicts, IsAccounted};
+ghost use Rattle.trace_store.specs.Stores.{MakesRoom};
 ghost use Rattle.trace_store.specs.Traces.{span_count, with_parts, with_spans};
 
+use crate::fold::Digest;
 use crate::kept::{Kept, Limits};
 use crate::parts::Part;
 use crate::size::SpanSize;
+use crate::spans::Trace;
 use circular_buffer::HeapCircularBuffer;
 use lru::Iter;
 use std::alloc::{AllocError, Allocator};
@@ -23,14 +26,15 @@ use std::marker::Model;
 ///
 /// Identifiers come from outside, so the hasher is the caller's: `RandomState` for a service that
 /// anyone may send to. What is to be read while others write is kept by shared owners: a store of
-/// `Arc<T>` lends a trace by `copy`, which copies the owners and no span.
+/// `Arc<T>` lends a trace by `copy`, which copies the owners and no span. With each trace it keeps
+/// a digest of its spans, a `D`.
 #[derive(Drop)]
-pub struct TraceStore<S: SpanSize, H: BuildHasher, A: Allocator> {
-    kept: Kept<S, H, A>,
+pub struct TraceStore<S: SpanSize, D: Digest<S>, H: BuildHasher, A: Allocator> {
+    kept: Kept<S, D, H, A>,
     limits: Limits,
 }
 
-impl<S: SpanSize, H: BuildHasher, A: Allocator> Model for TraceStore<S, H, A> {
+impl<S: SpanSize, D: Digest<S>, H: BuildHasher, A: Allocator> Model for TraceStore<S, D, H, A> {
     ghost use Rattle.trace_store.specs.Stores as model;
     ghost use Rattle.trace_store.specs.Stores.{AreWithin, IsAccounted};
 
@@ -46,13 +50,18 @@ impl<S: SpanSize, H: BuildHasher, A: Allocator> Model for TraceStore<S, H, A> {
         × AreWithin S.size_of s.limits.max_spans s.limits.max_bytes s.kept.traces };
 }
 
-impl<S: SpanSize + Drop, H: BuildHasher + Drop, A: Allocator + Copy> TraceStore<S, H, A> {
+impl<S: SpanSize + Drop, D: Digest<S>, H: BuildHasher + Drop, A: Allocator + Copy> TraceStore<
+    S,
+    D,
+    H,
+    A,
+> {
     /// A store without traces, which keeps no more than the limits say.
     ///
     /// # Errors
     ///
     /// `AllocError` if memory was refused.
-    pub fn new(alloc: A, hasher: H, limits: Limits) -> Result<TraceStore<S, H, A>, AllocError>
+    pub fn new(alloc: A, hasher: H, limits: Limits) -> Result<TraceStore<S, D, H, A>, AllocError>
         ensures { IfOk result (λ store. store ≡ record {
           kept = record {
             traces = [];
@@ -126,11 +135,29 @@ impl<S: SpanSize + Drop, H: BuildHasher + Drop, A: Allocator + Copy> TraceStore<
         Ok(())
     }
 
+    /// Gives up the oldest traces, as few as will do, until their spans come to at least so many
+    /// bytes or no trace is left, and answers how many traces went. They are counted and named as
+    /// evicted ones. So a caller that is refused memory gets some back.
+    pub fn make_room(&mut self, bytes: u64) -> u64
+        ensures room { MakesRoom S.size_of bytes self.old.kept.traces self.new.kept.traces }
+        ensures named { Evicts self.old.kept.traces self.old.kept self.new.kept }
+        ensures count { result + length self.new.kept.traces ≡ length self.old.kept.traces }
+        ensures received { self.new.kept.received ≡ self.old.kept.received }
+        ensures accounted { IsAccounted self.new.kept }
+        ensures max_spans { self.new.max_spans ≡ self.old.max_spans }
+        ensures max_bytes { self.new.max_bytes ≡ self.old.max_bytes }
+    {
+        self.kept.make_room(bytes)
+    }
+
     /// The spans of a trace, in the order in which they came, if it is kept.
     pub fn get(&self, trace: u128) -> Option<&LinkedList<S, A>>
         ensures { option_copied result ≡ lookup (nat_eq trace) self.now.kept.traces }
     {
-        self.kept.traces().peek(&trace)
+        match self.kept.traces().peek(&trace) {
+            Some(kept) => Some(kept.spans()),
+            None => None,
+        }
     }
 
     /// Copies of the spans of a trace, in the order in which they came, if it is kept.
@@ -153,8 +180,9 @@ impl<S: SpanSize + Drop, H: BuildHasher + Drop, A: Allocator + Copy> TraceStore<
         }
     }
 
-    /// The traces that are kept, the newest first: each an identifier and the trace's spans.
-    pub fn iter(&self) -> Iter<'_, u128, LinkedList<S, A>>
+    /// The traces that are kept, the newest first: each an identifier, and the trace's spans with
+    /// their digest.
+    pub fn iter(&self) -> Iter<'_, u128, Trace<S, D, A>>
         ensures { result ≡ self.now.kept.traces }
     {
         self.kept.traces().iter()

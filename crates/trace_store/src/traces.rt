@@ -6,19 +6,20 @@ ghost use Rattle.std.specs.Map.{lookup};
 ghost use Rattle.lru.specs.LruCache.{lru_cache};
 ghost use Rattle.trace_store.specs.Traces.{spans_of, with_spans};
 
+use crate::fold::Digest;
+use crate::spans::Trace;
 use lru::LruCache;
 use std::alloc::{AllocError, Allocator};
-use std::collections::LinkedList;
 use std::hash::BuildHasher;
 
-/// The spans of each trace, in the order in which they came.
-pub(crate) type Traces<S, H, A> = LruCache<u128, LinkedList<S, A>, H, A>;
+/// The spans of each trace, in the order in which they came, with their digest.
+pub(crate) type Traces<S, D, H, A> = LruCache<u128, Trace<S, D, A>, H, A>;
 
 /// Adds spans to a trace that is there.
-pub(crate) fn add_to<S: Drop, H: BuildHasher, A: Allocator + Copy>(
-    traces: &mut Traces<S, H, A>,
+pub(crate) fn add_to<S: Drop, D: Digest<S>, H: BuildHasher, A: Allocator + Copy>(
+    traces: &mut Traces<S, D, H, A>,
     trace: u128,
-    mut spans: LinkedList<S, A>,
+    spans: Trace<S, D, A>,
 ) -> Result<(), AllocError>
     requires there { IsSome (lookup (nat_eq trace) traces.old.entries) }
     requires fits { length (spans_of traces.old.entries trace) + length spans < 2 ^ 63 }
@@ -26,20 +27,20 @@ pub(crate) fn add_to<S: Drop, H: BuildHasher, A: Allocator + Copy>(
         ≡ lru_cache (with_spans traces.old.entries trace spans) traces.old.cap }
     ensures never { IsOk result }
 {
-    let empty = LinkedList::new(*traces.allocator());
+    let empty = Trace::empty(*traces.allocator());
     let Some(mut kept) = traces.put(trace, empty)? else {
         return Err(AllocError);
     };
-    kept.append(&mut spans)?;
+    kept.append(spans);
     traces.put(trace, kept)?;
     Ok(())
 }
 
 /// Puts a trace that isn't there.
-pub(crate) fn put_new<S: Drop, H: BuildHasher, A: Allocator + Copy>(
-    traces: &mut Traces<S, H, A>,
+pub(crate) fn put_new<S: Drop, D: Digest<S>, H: BuildHasher, A: Allocator + Copy>(
+    traces: &mut Traces<S, D, H, A>,
     trace: u128,
-    spans: LinkedList<S, A>,
+    spans: Trace<S, D, A>,
 ) -> Result<(), AllocError>
     requires { lookup (nat_eq trace) traces.old.entries ≡ None }
     ensures ok { OnOk result (traces.new
@@ -54,10 +55,10 @@ pub(crate) fn put_new<S: Drop, H: BuildHasher, A: Allocator + Copy>(
 }
 
 /// Adds spans to their trace, which is then the first.
-pub(crate) fn add<S: Drop, H: BuildHasher, A: Allocator + Copy>(
-    traces: &mut Traces<S, H, A>,
+pub(crate) fn add<S: Drop, D: Digest<S>, H: BuildHasher, A: Allocator + Copy>(
+    traces: &mut Traces<S, D, H, A>,
     trace: u128,
-    spans: LinkedList<S, A>,
+    spans: Trace<S, D, A>,
 ) -> Result<(), AllocError>
     requires fits { length (spans_of traces.old.entries trace) + length spans < 2 ^ 63 }
     ensures ok { OnOk result (traces.new
@@ -72,9 +73,9 @@ pub(crate) fn add<S: Drop, H: BuildHasher, A: Allocator + Copy>(
 }
 
 /// Takes out the oldest trace, which is the last.
-pub(crate) fn take_oldest<S, H: BuildHasher, A: Allocator>(
-    traces: &mut Traces<S, H, A>,
-) -> Option<(u128, LinkedList<S, A>)>
+pub(crate) fn take_oldest<S, D: Digest<S>, H: BuildHasher, A: Allocator>(
+    traces: &mut Traces<S, D, H, A>,
+) -> Option<(u128, Trace<S, D, A>)>
     ensures { MatchOption result (traces.old.entries ≡ [])
         (λ oldest. traces.old.entries ≡ traces.new.entries ++ oldest ∷ []) }
 {

@@ -1,12 +1,12 @@
 -- The spans of a request, as they are kept.
-use Rattle.std.proofs.Common.{◌≡◌, refl, sym, ap, ap₂, subst, ◌∙◌, ℕ, ◌<◌, ◌+◌, List, [], ◌∷◌, ◌++◌, map, length, arith, append_assoc, append-nil}
+use Rattle.std.proofs.Common.{◌≡◌, refl, sym, ap, ap₂, subst, ◌∙◌, ℕ, ◌+◌, List, [], ◌∷◌, ◌++◌, map, length, arith, append_assoc, append-nil}
 use Rattle.std.specs.Option.{option_eq}
 use Rattle.std.specs.Prelude.{◌-◌, ◌^◌, All, IfOk, if◌then◌else◌, min, nat_eq, Option, Some, None, Result, Ok, Err}
 use Rattle.std.specs.Arc.{arc_value}
 use Rattle.std.specs.List.{flat_map}
 use Rattle.std.specs.List.Sorted.{IsPermutation}
 use Rattle.std.specs.declared.sync.Arc.{Arc}
-use Rattle.std.proofs.Math.ListN.{get_or, get_or-append, get_or-map}
+use Rattle.std.proofs.Math.ListN.{get_or-append, get_or-map}
 use Rattle.std.proofs.lemmas.List.{length-append, map-append, get_or-append-add}
 use Rattle.std.proofs.lemmas.List.Elements.{All-cons, All-map, All-nil}
 use Rattle.std.proofs.lemmas.List.Sorted.{All-permutation, IsPermutation-map}

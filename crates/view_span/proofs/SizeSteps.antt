@@ -1,5 +1,5 @@
 -- How many bytes values take, case by case.
-use Rattle.std.proofs.Common.{◌≡◌, refl, take, sym, ap, ◌∙◌, ℕ, ◌+◌, ◌*◌, ◌-◌, ◌^◌, ◌<◌, ◌≤◌, List, [], ◌∷◌, map, String, Vec, rules, arith, length}
+use Rattle.std.proofs.Common.{◌≡◌, refl, take, sym, ap, ◌∙◌, ℕ, ◌+◌, ◌*◌, ◌<◌, ◌≤◌, List, [], ◌∷◌, map, String, Vec, rules, arith, length}
 use Rattle.std.specs.Prelude.{sum, sum_by, string_len}
 use Rattle.std.proofs.Math.ListN.{get_or}
 use Rattle.std.proofs.lemmas.List.Sums.{sum-map, sum_by-cons, sum_by_more, get_or-le-sum_by}

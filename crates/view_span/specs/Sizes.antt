@@ -1,5 +1,5 @@
 -- How many bytes a span takes.
-use Rattle.std.specs.Prelude.{ℕ, ◌+◌, ◌-◌, ◌^◌, List, String, map, min, string_len, sum, sum_by, vec_len}
+use Rattle.std.specs.Prelude.{ℕ, ◌+◌, ◌-◌, ◌^◌, String, min, string_len, sum, sum_by, vec_len}
 use Rattle.otlp_read.specs.declared.any_value.AnyValue.{AnyValue, fold-AnyValue}
 use Rattle.otlp_read.specs.declared.any_value.AnyValue.TheOpen.{AnyValue-F}
 use Rattle.otlp_read.specs.declared.span.Event.{Event}

@@ -21,7 +21,7 @@ impl SpanSize for Digit {
     }
 }
 
-type Store<A> = TraceStore<Digit, BuildHasherDefault<FoldHasher>, A>;
+type Store<A> = TraceStore<Digit, (), BuildHasherDefault<FoldHasher>, A>;
 
 fn store<A: Allocator + Copy>(
     alloc: A,
@@ -76,8 +76,8 @@ fn receive_both<A: Allocator + Copy>(
 /// The spans that are kept, as digits, the newest trace first.
 fn digits<A: Allocator + Copy>(store: &Store<A>) -> u64 {
     let mut digits = 0u64;
-    for (_, spans) in store.iter() {
-        for span in spans.iter() {
+    for (_, trace) in store.iter() {
+        for span in trace.spans().iter() {
             digits = digits.wrapping_mul(10).wrapping_add(span.0);
         }
     }
@@ -120,6 +120,36 @@ fn the_oldest_trace_goes_whole(rt: HostRuntime) -> Result<(), Fail> {
             (max_spans, max_bytes, found),
             (max_spans, max_bytes, expected),
         );
+    }
+    Ok(())
+}
+
+/// What is seen of a store of three traces of one, two and two spans, 50 bytes in all, that gave up
+/// traces until they came to so many bytes, and how many traces went.
+fn roomy<A: Allocator + Copy>(
+    alloc: A,
+    bytes: u64,
+) -> Result<(u64, (u64, (u64, u64, u64))), AllocError> {
+    let mut store = store(alloc, 9, 99)?;
+    for (trace, digit) in [(1, 1), (2, 2), (1, 3), (3, 4), (3, 5)] {
+        receive(&mut store, alloc, trace, digit)?;
+    }
+    let went = store.make_room(bytes);
+    Ok((went, seen(&store)))
+}
+
+#[test]
+fn the_oldest_traces_are_given_up_until_there_is_room(rt: HostRuntime) -> Result<(), Fail> {
+    for (bytes, expected) in [
+        (0, (0, (45_132, (5, 0, 5)))),
+        (1, (1, (4513, (5, 1, 4)))),
+        (10, (1, (4513, (5, 1, 4)))),
+        (11, (2, (45, (5, 3, 2)))),
+        (31, (3, (0, (5, 5, 0)))),
+        (99, (3, (0, (5, 5, 0)))),
+    ] {
+        let found = roomy(rt.alloc(), bytes)?;
+        assert_equal(&rt, (bytes, found), (bytes, expected));
     }
     Ok(())
 }

@@ -1,4 +1,4 @@
-use Rattle.std.proofs.Common.{◌≡◌, ◌++◌, ◌∙◌, ap, arith, sym}
+use Rattle.std.proofs.Common.{◌++◌, ◌∙◌, ap, arith, sym}
 use Rattle.lru.specs.LruCache.{lru_cache}
 use Rattle.trace_store.specs.Traces.{with_parts}
 use Rattle.trace_store.proofs.PartLemmas.{partway_count, with_parts_append}

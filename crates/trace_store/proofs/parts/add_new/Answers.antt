@@ -1,4 +1,4 @@
-use Rattle.std.proofs.Common.{◌≡◌, ◌∷◌, [], ◌∙◌, ap, arith, length, sym}
+use Rattle.std.proofs.Common.{◌∷◌, [], ◌∙◌, ap, arith, sym}
 use Rattle.std.proofs.lemmas.List.{length-append}
 use Rattle.trace_store.proofs.PartLemmas.{on_err, on_ok, one_other, one_partway, taken_back, yields_step}
 use Rattle.trace_store.proofs.parts.add_new.Goals as goal

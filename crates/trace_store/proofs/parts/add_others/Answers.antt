@@ -1,4 +1,4 @@
-use Rattle.std.proofs.Common.{◌≡◌, ◌∷◌, [], ◌∙◌, ap, arith, length, subst, sym}
+use Rattle.std.proofs.Common.{◌∷◌, [], ◌∙◌, ap, arith, length, subst, sym}
 use Rattle.lru.specs.LruCache.{lru_cache}
 use Rattle.trace_store.specs.Parts.{AreThere}
 use Rattle.trace_store.specs.Traces.{span_count, with_spans}

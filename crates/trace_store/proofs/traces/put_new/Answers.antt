@@ -1,4 +1,4 @@
-use Rattle.std.proofs.Common.{◌≡◌, ◌<◌, ◌∙◌, ap, arith, length}
+use Rattle.std.proofs.Common.{◌<◌, ◌∙◌, ap, arith, length}
 use Rattle.lru.specs.LruCache.{lru_cache}
 use Rattle.trace_store.proofs.Puts.{put_absent}
 use Rattle.trace_store.proofs.traces.put_new.Goals as goal

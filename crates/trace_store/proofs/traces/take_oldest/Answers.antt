@@ -1,4 +1,3 @@
-use Rattle.std.proofs.Common.{sym}
 use Rattle.trace_store.proofs.Sums.{oldest_of}
 use Rattle.trace_store.proofs.traces.take_oldest.Goals as goal
 

@@ -1,4 +1,4 @@
-use Rattle.std.proofs.Common.{◌≡◌, ◌+◌, ap, arith, length, ◌∙◌}
+use Rattle.std.proofs.Common.{ap, arith, length, ◌∙◌}
 use Rattle.std.specs.Prelude.{sum_by}
 use Rattle.trace_store.specs.Traces.{byte_count, span_count}
 use Rattle.trace_store.proofs.PartLemmas.{order_sum, with_parts_bytes, with_parts_count}

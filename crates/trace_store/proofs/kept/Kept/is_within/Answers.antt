@@ -1,4 +1,4 @@
-use Rattle.std.proofs.Common.{◌≤◌, arith, subst}
+use Rattle.std.proofs.Common.{arith, subst}
 use Rattle.trace_store.specs.Stores.{IsBounded}
 use Rattle.trace_store.proofs.kept.Kept.is_within.Goals as goal
 

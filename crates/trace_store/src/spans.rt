@@ -1,0 +1,73 @@
+//! The spans of a trace, with their digest.
+
+ghost use Rattle.std.specs.Prelude.{◌≡◌, ◌+◌, ◌^◌, ◌<◌, ◌++◌, [], IfOk, length};
+
+use crate::fold::{Digest, digest_of};
+use std::alloc::{AllocError, Allocator};
+use std::collections::LinkedList;
+use std::marker::Model;
+
+/// The spans of a trace, in the order in which they came, with the digest of them. A clause sees
+/// the spans.
+#[derive(Drop)]
+pub struct Trace<S, D: Digest<S>, A: Allocator> {
+    spans: LinkedList<S, A>,
+    digest: D,
+}
+
+impl<S, D: Digest<S>, A: Allocator> Model for Trace<S, D, A> {
+    ghost use Rattle.std.specs.Prelude.{◌≡◌, List};
+
+    ghost Value = { List S };
+
+    ghost view = { λ t. t.spans };
+
+    ghost invariant = { λ t. t.digest ≡ D.digest_of t.spans };
+}
+
+impl<S, D: Digest<S>, A: Allocator> Trace<S, D, A> {
+    /// The spans, in the order in which they came.
+    pub fn spans(&self) -> &LinkedList<S, A>
+        ensures { result.now ≡ self.now }
+    {
+        &self.spans
+    }
+
+    /// The digest of the spans.
+    pub fn digest(&self) -> &D
+        ensures { result.now ≡ D.digest_of self.now }
+    {
+        &self.digest
+    }
+}
+
+impl<S: Drop, D: Digest<S>, A: Allocator + Copy> Trace<S, D, A> {
+    /// A trace without spans.
+    pub(crate) fn empty(alloc: A) -> Trace<S, D, A>
+        ensures { result ≡ [] }
+    {
+        Trace {
+            spans: LinkedList::new(alloc),
+            digest: D::empty(),
+        }
+    }
+
+    /// A trace with these spans.
+    pub(crate) fn new(spans: LinkedList<S, A>) -> Result<Trace<S, D, A>, AllocError>
+        ensures { IfOk result (λ trace. trace ≡ spans) }
+    {
+        let digest = digest_of(&spans)?;
+        Ok(Trace { spans, digest })
+    }
+
+    /// Adds more spans, after those that it has.
+    pub(crate) fn append(&mut self, more: Trace<S, D, A>)
+        requires { length self.old + length more < 2 ^ 63 }
+        ensures { self.new ≡ self.old ++ more }
+    {
+        let Trace { mut spans, digest } = more;
+        if self.spans.append(&mut spans).is_ok() {
+            self.digest.append(digest);
+        }
+    }
+}
