@@ -3,4 +3,6 @@
 mod equal;
 mod list;
 mod made;
+mod rows;
+mod services;
 mod trace;

@@ -5,9 +5,11 @@
 //! is called.
 
 ghost use Rattle.std.specs.Prelude.{◌≡◌, ◌-◌, ◌^◌, [], ◌∷◌, true, false, codes};
+ghost use Rattle.view_pages.specs.Dates.{moment_html};
 ghost use Rattle.view_pages.specs.Html.{html_bytes};
 ghost use Rattle.view_pages.specs.Reading.{number_in, places_in};
 ghost use Rattle.view_pages.specs.Rows.{bad_html, depth_html, id_html, level_of, remark_html};
+ghost use Rattle.view_pages.specs.Services.{colour_of, with_name};
 ghost use Rattle.view_pages.specs.Spans.{service_in};
 ghost use Rattle.view_pages.specs.Times.{duration, share_of};
 
@@ -38,6 +40,19 @@ pub fn times()
     ensures seconds { html_bytes (duration 61_000_000_000) ≡ codes "61.00 s" }
 {}
 
+/// Dates and times, in UTC.
+pub fn dates()
+    ensures first { html_bytes (moment_html 0) ≡ codes "1970-01-01T00:00:00.000000000Z" }
+    ensures leap { html_bytes (moment_html 951_825_599_000_000_001)
+        ≡ codes "2000-02-29T11:59:59.000000001Z" }
+    ensures plain { html_bytes (moment_html 1_790_000_000_123_456_789)
+        ≡ codes "2026-09-21T14:13:20.123456789Z" }
+    ensures century { html_bytes (moment_html 4_107_542_400_000_000_000)
+        ≡ codes "2100-03-01T00:00:00.000000000Z" }
+    ensures last { html_bytes (moment_html (2 ^ 64 - 1))
+        ≡ codes "2554-07-21T23:34:33.709551615Z" }
+{}
+
 /// What a row says.
 pub fn rows()
     ensures top { level_of 0 ≡ 1 }
@@ -51,5 +66,8 @@ pub fn rows()
 
 /// What is said of a service.
 pub fn services()
-    ensures { service_in {A = Unit {0}} [] ≡ codes "unknown_service" }
+    ensures names { with_name (codes "a" ∷ codes "b" ∷ []) (codes "a") ≡ codes "a" ∷ codes "b" ∷ [] }
+    ensures more { with_name (codes "a" ∷ []) (codes "b") ≡ codes "a" ∷ codes "b" ∷ [] }
+    ensures colour { colour_of (codes "a" ∷ codes "b" ∷ []) (codes "b") ≡ 1 }
+    ensures none { service_in {A = Unit {0}} [] ≡ codes "unknown_service" }
 {}

@@ -1,3 +1,4 @@
 pub mod Views
 pub mod Chains
-pub mod Doubles
+pub mod Cut
+mod Doubles

@@ -1,5 +1,7 @@
 -- The list of traces, and what is counted, in JSON. (profile)
-use Rattle.std.specs.Prelude.{ℕ, List, [], ◌∷◌, ◌++◌, codes, map}
+use Rattle.std.specs.Prelude.{ℕ, Bool, nat_lt, if◌then◌else◌, Option, Some, None, List, [], ◌∷◌}
+use Rattle.std.specs.Prelude.{◌++◌, length, codes, map}
+use Rattle.std.specs.Fmt.{take_chars}
 use Rattle.std.specs.Int.{w128, to_be_bytes}
 use Rattle.std.specs.List.{flat_map}
 use Rattle.hex.specs.Hex.{encode_lower}
@@ -8,11 +10,19 @@ use Rattle.view_json.specs.declared.list.TraceLine.{TraceLine}
 use Rattle.view_json.specs.declared.list.Stats.{Stats}
 use Rattle.view_json.specs.Seen.{hex_member, long_member, number_member, text_member}
 
+-- that a text is only the beginning of a longer one: '…' (U+2026) in UTF-8
+abbrev pub mark : Bool → List ℕ
+mark is_longer = if is_longer then 0xE2 ∷ 0x80 ∷ 0xA6 ∷ [] else []
+
+-- a text of the list: its first 120 characters, and a mark where it has more
+unfoldable pub short : List ℕ → List ℕ
+short text = take_chars 120 text ++ mark (nat_lt (length (take_chars 120 text)) (length text))
+
 -- what a trace of the list is called
 unfoldable pub name_members : TraceLine → List Token
 name_members line = hex_member (codes "traceId") (to_be_bytes w128 line.trace)
-    ++ text_member (codes "service") line.service.now
-    ++ text_member (codes "name") line.name.now
+    ++ text_member (codes "service") (short line.service.now)
+    ++ text_member (codes "name") (short line.name.now)
 
 -- its time, and what is counted of it
 unfoldable pub count_members : TraceLine → List Token
@@ -50,7 +60,12 @@ unfoldable pub evicted_member : List ℕ → List Token
 evicted_member traces = key (codes "lastEvicted") ∷ begin_array
     ∷ (map trace_token traces ++ end_array ∷ [])
 
+-- how many bytes are pending, where that is known
+unfoldable pub pending_member : Option ℕ → List Token
+pending_member None = []
+pending_member (Some bytes) = number_member (codes "pendingBytes") bytes
+
 -- what is counted, and the traces that were evicted last
 unfoldable pub stats_tokens : Stats → List ℕ → List Token
 stats_tokens stats last_evicted = begin_object ∷ (span_counts stats ++ trace_counts stats
-    ++ evicted_member last_evicted ++ end_object ∷ [])
+    ++ pending_member stats.pending_bytes ++ evicted_member last_evicted ++ end_object ∷ [])

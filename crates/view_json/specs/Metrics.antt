@@ -1,8 +1,8 @@
 -- What is counted, as Prometheus reads it. (Prometheus, "Exposition formats", text format 0.0.4)
-use Rattle.std.specs.Prelude.{ℕ, List, [], ◌∷◌, ◌++◌, codes, decimal}
+use Rattle.std.specs.Prelude.{ℕ, Option, Some, None, List, [], ◌∷◌, ◌++◌, codes, decimal}
 use Rattle.std.specs.List.{flat_map}
 use Rattle.view_json.specs.declared.list.Stats.{Stats}
-use Rattle.view_json.specs.declared.metrics.Refused.{Refused}
+use Rattle.view_json.specs.declared.metrics.Answered.{Answered}
 
 -- what a metric is: a line, with a line feed (10) at its end
 unfoldable pub help_text : List ℕ → List ℕ → List ℕ
@@ -20,10 +20,10 @@ sample_text name n = name ++ codes " " ++ decimal n ++ 10 ∷ []
 unfoldable pub metric_text : List ℕ → List ℕ → List ℕ → ℕ → List ℕ
 metric_text name help type n = help_text name help ++ type_text name type ++ sample_text name n
 
--- how many requests were refused with a status, whose number is between two `"` (34)
-unfoldable pub refused_text : Refused → List ℕ
-refused_text refused = codes "trace_view_requests_refused_total{status=" ++ 34 ∷ []
-    ++ decimal refused.status ++ 34 ∷ [] ++ sample_text (codes "}") refused.requests
+-- how many answers had a status, whose number is between two `"` (34)
+unfoldable pub answered_text : Answered → List ℕ
+answered_text answered = codes "trace_view_answers_total{status=" ++ 34 ∷ []
+    ++ decimal answered.status ++ 34 ∷ [] ++ sample_text (codes "}") answered.answers
 
 -- the metrics of the spans
 unfoldable pub span_metrics : Stats → List ℕ
@@ -43,11 +43,23 @@ trace_metrics stats =
     ++ metric_text (codes "trace_view_traces_evicted_total") (codes "Traces that were evicted.")
     (codes "counter") stats.evicted_traces
 
+-- how many bytes are pending, where that is known
+unfoldable pub pending_metric : Option ℕ → List ℕ
+pending_metric None = []
+pending_metric (Some bytes) = metric_text (codes "trace_view_pending_bytes")
+    (codes "Bytes of requests and answers that are pending.") (codes "gauge") bytes
+
+-- the answers, status by status
+unfoldable pub answer_metrics : List Answered → List ℕ
+answer_metrics answered =
+    help_text (codes "trace_view_answers_total") (codes "Answers, by their status.")
+    ++ type_text (codes "trace_view_answers_total") (codes "counter")
+    ++ flat_map answered_text answered
+
 -- all metrics
-unfoldable pub metrics_text : Stats → List Refused → ℕ → List ℕ
-metrics_text stats refused connections = span_metrics stats ++ trace_metrics stats
+unfoldable pub metrics_text : Stats → List Answered → ℕ → List ℕ
+metrics_text stats answered connections = span_metrics stats ++ trace_metrics stats
+    ++ pending_metric stats.pending_bytes
     ++ metric_text (codes "trace_view_connections_total") (codes "Connections that were taken.")
     (codes "counter") connections
-    ++ help_text (codes "trace_view_requests_refused_total") (codes "Requests that were refused.")
-    ++ type_text (codes "trace_view_requests_refused_total") (codes "counter")
-    ++ flat_map refused_text refused
+    ++ answer_metrics answered

@@ -15,5 +15,5 @@ mod trace;
 mod value;
 
 pub use list::{Stats, TraceLine, write_stats, write_traces};
-pub use metrics::{Refused, write_metrics};
+pub use metrics::{Answered, write_metrics};
 pub use trace::write_trace;

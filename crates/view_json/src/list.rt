@@ -1,11 +1,14 @@
 //! The list of traces, and what is counted.
 
-ghost use Rattle.std.specs.Prelude.{◌≡◌, ◌∷◌, [], ◌++◌, IfOk, OnOk, map};
+ghost use Rattle.std.specs.Prelude.{◌≡◌, ◌∷◌, [], ◌++◌, IfOk, OnOk, map, string_bytes};
+ghost use Rattle.std.specs.Fmt.{take_chars};
 ghost use Rattle.std.specs.List.{flat_map};
 ghost use Rattle.json.specs.Lex.{tokens};
+ghost use Rattle.view_json.specs.Lists as spec;
 ghost use Rattle.view_json.specs.Lists.{count_members, evicted_member, line_tokens, lines_tokens};
-ghost use Rattle.view_json.specs.Lists.{name_members, span_counts, stats_tokens, trace_counts};
-ghost use Rattle.view_json.specs.Lists.{trace_token};
+ghost use Rattle.view_json.specs.Lists.{name_members, pending_member, span_counts, stats_tokens};
+ghost use Rattle.view_json.specs.Lists.{trace_counts, trace_token};
+ghost use Rattle.view_json.specs.Seen.{text_member};
 
 use crate::field::{begin, begin_list, end, end_list, push_hex, push_long, push_number, push_text};
 use json::Writer;
@@ -43,6 +46,45 @@ pub struct Stats {
     pub traces: u64,
     /// How many traces were evicted.
     pub evicted_traces: u64,
+    /// How many bytes are pending, where that is known: of requests that arrive or are read, and of
+    /// answers that wait to go out.
+    pub pending_bytes: Option<u64>,
+}
+
+/// The first 120 characters of a text.
+#[tactic(auto, using(crate::proofs::Cut::cut_text))]
+fn front_of<A: Allocator>(alloc: A, text: &str) -> Result<String<A>, AllocError>
+    ensures { IfOk result (λ front. string_bytes front ≡ take_chars 120 text.now) }
+{
+    format!(in alloc; "{text:.120}")
+}
+
+/// The first 120 characters of a text, and a mark where it has more. Its memory doesn't grow with
+/// the text.
+#[tactic(auto, unfolding(crate::specs::Lists::short))]
+fn short<A: Allocator>(alloc: A, text: &str) -> Result<String<A>, AllocError>
+    ensures { IfOk result (λ short. string_bytes short ≡ spec.short text.now) }
+{
+    let mut front = front_of(alloc, text)?;
+    if front.len() < text.len() {
+        front.push_str("…")?;
+    }
+    Ok(front)
+}
+
+/// Writes a member whose value is a text that is cut.
+fn push_short<A: Allocator + Copy>(
+    alloc: A,
+    out: &mut Writer<A>,
+    name: &str,
+    text: &str,
+) -> Result<(), AllocError>
+    ensures tokens { OnOk result (out.new.tokens
+        ≡ out.old.tokens ++ text_member name.now (spec.short text.now)) }
+    ensures before { out.new.before ≡ out.old.before }
+{
+    let short = short(alloc, text)?;
+    push_text(out, name, &short)
 }
 
 /// Writes what a trace of the list is called.
@@ -56,8 +98,8 @@ fn push_names<A: Allocator + Copy>(
     ensures before { out.new.before ≡ out.old.before }
 {
     push_hex(alloc, out, "traceId", &line.trace.to_be_bytes())?;
-    push_text(out, "service", line.service)?;
-    push_text(out, "name", line.name)?;
+    push_short(alloc, out, "service", line.service)?;
+    push_short(alloc, out, "name", line.name)?;
     Ok(())
 }
 
@@ -110,7 +152,8 @@ fn push_lines<A: Allocator + Copy>(
 /// The list of traces as JSON (profile): an object whose member `traces` has an object for each
 /// trace, in order, with the members `traceId` (hexadecimal), `service`, `name`,
 /// `startTimeUnixNano` and `endTimeUnixNano` (nanoseconds since 1970, their digits as a text),
-/// `spans` and `errors` (numbers).
+/// `spans` and `errors` (numbers). Of a service and of a name the first 120 characters are written,
+/// and `…` after them where there are more.
 ///
 /// # Errors
 ///
@@ -199,10 +242,23 @@ fn push_evicted<A: Allocator + Copy>(
     Ok(())
 }
 
+/// Writes how many bytes are pending, where that is known.
+#[tactic(auto, unfolding(crate::specs::Lists::pending_member))]
+fn push_pending<A: Allocator>(out: &mut Writer<A>, bytes: Option<u64>) -> Result<(), AllocError>
+    ensures tokens { OnOk result (out.new.tokens ≡ out.old.tokens ++ pending_member bytes) }
+    ensures before { out.new.before ≡ out.old.before }
+{
+    match bytes {
+        Some(bytes) => push_number(out, "pendingBytes", bytes),
+        None => Ok(()),
+    }
+}
+
 /// What is counted, as JSON (profile): an object with the numbers `received`, `kept` and `evicted`
-/// of spans, and `traces` and `evictedTraces` of traces, and with the array `lastEvicted` of the
-/// traces of `last_evicted`, in its order: their identifiers, each 32 hexadecimal digits in lower
-/// case. The caller puts the trace that was evicted last first.
+/// of spans, with `traces` and `evictedTraces` of traces, with `pendingBytes` where that is known,
+/// and with the array `lastEvicted` of the traces of `last_evicted`, in its order: by their
+/// identifiers, each 32 hexadecimal digits in lower case. The caller puts the trace that was evicted
+/// last first.
 ///
 /// # Errors
 ///
@@ -220,6 +276,7 @@ pub fn write_stats<A: Allocator + Copy>(
     begin(&mut out)?;
     push_span_counts(&mut out, stats)?;
     push_trace_counts(&mut out, stats)?;
+    push_pending(&mut out, stats.pending_bytes)?;
     push_evicted(alloc, &mut out, last_evicted)?;
     end(&mut out)?;
     Ok(out.into_inner())

@@ -2,19 +2,20 @@
 
 ghost use Rattle.std.specs.Prelude.{◌≡◌, ◌++◌, OnOk, string_bytes};
 ghost use Rattle.std.specs.List.{flat_map};
-ghost use Rattle.view_json.specs.Metrics.{help_text, metric_text, metrics_text, refused_text};
-ghost use Rattle.view_json.specs.Metrics.{sample_text, span_metrics, trace_metrics, type_text};
+ghost use Rattle.view_json.specs.Metrics.{answer_metrics, answered_text, help_text, metric_text};
+ghost use Rattle.view_json.specs.Metrics.{metrics_text, pending_metric, sample_text, span_metrics};
+ghost use Rattle.view_json.specs.Metrics.{trace_metrics, type_text};
 
 use crate::list::Stats;
 use std::alloc::{AllocError, Allocator};
 
-/// How many requests were refused with a status.
+/// How many answers had a status.
 #[derive(Clone, Copy, Debug)]
-pub struct Refused {
+pub struct Answered {
     /// The status (RFC 9110, "Status Codes").
     pub status: u16,
-    /// How many requests.
-    pub requests: u64,
+    /// How many answers.
+    pub answers: u64,
 }
 
 /// Appends what a metric is.
@@ -72,33 +73,64 @@ fn push_metric<A: Allocator>(
     push_sample(out, name, number)
 }
 
-/// Appends how many requests were refused with a status.
-#[tactic(auto, unfolding(crate::specs::Metrics::refused_text))]
-fn push_refused<A: Allocator>(out: &mut String<A>, refused: &Refused) -> Result<(), AllocError>
+/// Appends how many answers had a status.
+#[tactic(auto, unfolding(crate::specs::Metrics::answered_text))]
+fn push_answered<A: Allocator>(out: &mut String<A>, answered: &Answered) -> Result<(), AllocError>
     ensures { OnOk result (string_bytes out.new
-        ≡ string_bytes out.old ++ refused_text refused.now) }
+        ≡ string_bytes out.old ++ answered_text answered.now) }
 {
-    let status = refused.status;
-    out.push_str("trace_view_requests_refused_total{status=")?;
+    let status = answered.status;
+    out.push_str("trace_view_answers_total{status=")?;
     out.push('"')?;
     write!(out, "{status}")?;
     out.push('"')?;
-    push_sample(out, "}", refused.requests)?;
+    push_sample(out, "}", answered.answers)?;
     Ok(())
 }
 
-/// Appends how many requests were refused, status by status.
-fn push_all_refused<A: Allocator>(
+/// Appends how many answers there were, status by status.
+fn push_all_answered<A: Allocator>(
     out: &mut String<A>,
-    refused: &[Refused],
+    answered: &[Answered],
 ) -> Result<(), AllocError>
     ensures { OnOk result (string_bytes out.new
-        ≡ string_bytes out.old ++ flat_map refused_text refused.now) }
+        ≡ string_bytes out.old ++ flat_map answered_text answered.now) }
 {
-    for one in refused {
-        push_refused(out, one)?;
+    for one in answered {
+        push_answered(out, one)?;
     }
     Ok(())
+}
+
+/// Appends the metric of the answers.
+#[tactic(auto, unfolding(crate::specs::Metrics::answer_metrics))]
+fn push_answers<A: Allocator>(out: &mut String<A>, answered: &[Answered]) -> Result<(), AllocError>
+    ensures { OnOk result (string_bytes out.new
+        ≡ string_bytes out.old ++ answer_metrics answered.now) }
+{
+    let name = "trace_view_answers_total";
+    push_help(out, name, "Answers, by their status.")?;
+    push_type(out, name, "counter")?;
+    push_all_answered(out, answered)?;
+    Ok(())
+}
+
+/// Appends how many bytes are pending, where that is known.
+#[tactic(auto, unfolding(crate::specs::Metrics::pending_metric))]
+fn push_pending<A: Allocator>(out: &mut String<A>, bytes: Option<u64>) -> Result<(), AllocError>
+    ensures { OnOk result (string_bytes out.new
+        ≡ string_bytes out.old ++ pending_metric bytes) }
+{
+    match bytes {
+        Some(bytes) => push_metric(
+            out,
+            "trace_view_pending_bytes",
+            "Bytes of requests and answers that are pending.",
+            "gauge",
+            bytes,
+        ),
+        None => Ok(()),
+    }
 }
 
 /// Appends the metrics of the spans.
@@ -159,7 +191,8 @@ fn push_trace_metrics<A: Allocator>(out: &mut String<A>, stats: &Stats) -> Resul
 
 /// Appends what is counted, as Prometheus reads it (Prometheus, "Exposition formats", text format
 /// 0.0.4): the spans that were received, are kept and were evicted, the traces that are kept and
-/// were evicted, the connections that were taken, and the requests that were refused, by status.
+/// were evicted, the bytes that are pending where that is known, the connections that were taken,
+/// and the answers, with a line for each status of `answered`.
 ///
 /// # Errors
 ///
@@ -168,14 +201,15 @@ fn push_trace_metrics<A: Allocator>(out: &mut String<A>, stats: &Stats) -> Resul
 pub fn write_metrics<A: Allocator>(
     out: &mut String<A>,
     stats: &Stats,
-    refused: &[Refused],
+    answered: &[Answered],
     connections: u64,
 ) -> Result<(), AllocError>
     ensures { OnOk result (string_bytes out.new
-        ≡ string_bytes out.old ++ metrics_text stats.now refused.now connections) }
+        ≡ string_bytes out.old ++ metrics_text stats.now answered.now connections) }
 {
     push_span_metrics(out, stats)?;
     push_trace_metrics(out, stats)?;
+    push_pending(out, stats.pending_bytes)?;
     let taken = "trace_view_connections_total";
     push_metric(
         out,
@@ -184,9 +218,6 @@ pub fn write_metrics<A: Allocator>(
         "counter",
         connections,
     )?;
-    let name = "trace_view_requests_refused_total";
-    push_help(out, name, "Requests that were refused.")?;
-    push_type(out, name, "counter")?;
-    push_all_refused(out, refused)?;
+    push_answers(out, answered)?;
     Ok(())
 }

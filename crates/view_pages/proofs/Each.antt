@@ -28,6 +28,16 @@ module _ {X : Type 0} (part : X → Html) (xs : List X) where
       ap (λ l. html_bytes (each part l)) (drop_more xs at x within) in
       ap (λ l. l ++ rest) more ∙ append_assoc old (html_bytes (part (get_or xs at x))) rest ∙ ap (λ l. old ++ l) (sym split) ∙ before
 
+  -- a part is written, and what is left is the rest
+  pub each_step : (at : ℕ) (x : X) (old new : List ℕ) → at < length xs → new ≡ old ++ html_bytes (part (get_or xs at x))
+      → new ++ html_bytes (each part (drop (at + 1) xs)) ≡ old ++ html_bytes (each part (drop at xs))
+  unfolding html_bytes
+  each_step at x old new within more =
+      let rest = html_bytes (each part (drop (at + 1) xs)) in
+      let split : html_bytes (each part (drop at xs)) ≡ html_bytes (part (get_or xs at x)) ++ rest =
+      ap (λ l. html_bytes (each part l)) (drop_more xs at x within) in
+      ap (λ l. l ++ rest) more ∙ append_assoc old (html_bytes (part (get_or xs at x))) rest ∙ ap (λ l. old ++ l) (sym split)
+
 part_at : {X : Type 0} (part : X → Html) (xs : List X) (at : ℕ) (d : X) → at < length xs
     → length (html_bytes (part (get_or xs at d))) ≤ length (html_bytes (each part xs))
 unfolding html_bytes

@@ -34,7 +34,7 @@ lacks_append (x ∷ xs) ys h k =
     let p = parts (not (x == 60)) (lacks xs) h in both (not (x == 60)) (lacks (xs ++ ys)) p.0 (lacks_append xs ys p.1 k)
 
 -- one of two texts
-lacks_cond : (x : Bool) (a b : List ℕ) → (x ≡ true → lacks a ≡ true) → (x ≡ false → lacks b ≡ true) → lacks (cond x a b) ≡ true
+pub lacks_cond : (x : Bool) (a b : List ℕ) → (x ≡ true → lacks a ≡ true) → (x ≡ false → lacks b ≡ true) → lacks (cond x a b) ≡ true
 lacks_cond true a b f g = f refl
 lacks_cond false a b f g = g refl
 

@@ -1,6 +1,6 @@
 -- No row begins in what is written around the rows of a page, and in what is in a row.
-use Rattle.std.proofs.Common.{◌≡◌, refl, ℕ, ◌-◌, ◌==◌, Bool, true, false, nat_lt, cond, List, [], ◌∷◌, ℤ, pos, negsuc, codes, Option, Some, None, String, string_bytes}
-use Rattle.std.specs.Borrow.{Bor}
+use Rattle.std.proofs.Common.{◌≡◌, refl, ℕ, ◌+◌, ◌-◌, ◌/◌, ◌%◌, ◌==◌, length, Bool, true, false, nat_lt, cond, List, [], ◌∷◌, ℤ, pos, negsuc, codes, Option, Some, None, String, string_bytes}
+use Rattle.double_text.specs.Doubles.{double_text}
 use Rattle.model_message.specs.AnyValue.{AnyValue, AnyValues, KeyValues, none, no_values, value, no_pairs, pair}
 use Rattle.otlp_read.specs.Values.{any_value_view}
 use Rattle.otlp_read.specs.declared.any_value.AnyValue.{AnyValue as Received}
@@ -8,19 +8,23 @@ use Rattle.otlp_read.specs.declared.span.Event.{Event}
 use Rattle.otlp_read.specs.declared.span.Link.{Link}
 use Rattle.otlp_read.specs.declared.span.Span.{Span}
 use Rattle.trace_tree.specs.declared.span.Place.{Place}
-use Rattle.trace_tree.specs.declared.span.Row.{Row}
+use Rattle.trace_tree.specs.declared.span.Place.TheVariants.{Root, Child, Orphan, Cycle}
 use Rattle.view_span.specs.declared.span.ViewResource.{ViewResource}
 use Rattle.view_span.specs.declared.span.ViewScope.{ViewScope}
 use Rattle.view_span.specs.declared.span.ViewSpan.{ViewSpan}
 use Rattle.view_pages.specs.Html.{Html, each}
-use Rattle.view_pages.specs.Pages.{counts_html, head_html, start_html, title_html}
-use Rattle.view_pages.specs.Panels.{attributes_html, both_html, context_html, dropped_html, event_html, event_name_html, events_html, facts_html, ids_html, kind_html, link_html, links_html, list_html, offset_html, panel_html, parts_html, place_html, resource_html, scope_html, state_html, status_html, times_html, url_html, version_html}
-use Rattle.view_pages.specs.Rows.{bad_html, bar_html, class_html, depth_html, id_html, label_html, remark_html, remarks_html, row_mark, span_html, span_rest, tag_html, tick_html, time_html}
+use Rattle.view_pages.specs.Pages.{axis_html, counts_html, head_html, start_html, title_html}
+use Rattle.view_pages.specs.Dates.{date_html, fraction_html, hour_html, moment_html, three_html, two_html}
+use Rattle.view_pages.specs.Panels.{instant_html, message_html, parent_html, parent_link_html, trace_state_html, attributes_html, both_html, context_html, dropped_html, event_html, event_name_html, events_html, facts_html, ids_html, kind_html, link_html, links_html, list_html, offset_html, panel_html, parts_html, place_html, resource_html, scope_html, state_html, status_html, times_html, url_html, version_html}
+use Rattle.view_pages.specs.Rows.{name_html, bad_html, bar_html, class_html, depth_html, id_html, label_html, remark_html, remarks_html, span_html, span_rest, tag_html, tick_html, time_html}
 use Rattle.view_pages.specs.Times.{duration, scaled}
 use Rattle.view_pages.specs.Values.{pair_html, pairs_html, value_html, values_html}
-use Rattle.view_pages.specs.declared.repeat.Mark.{Mark}
+use Rattle.view_pages.specs.declared.date.MonthDay.{MonthDay}
+use Rattle.view_pages.specs.declared.date.YearDay.{YearDay}
+use Rattle.view_pages.specs.declared.line.Line.{Line}
 use Rattle.view_pages.specs.declared.times.Frame.{Frame}
-use Rattle.view_pages.proofs.Reading.{IsRowless, is_rowless}
+use Rattle.view_pages.proofs.Doubles.{lacks_double}
+use Rattle.view_pages.proofs.Reading.{IsRowless, is_rowless, rowless_text}
 
 rowless_each : {X : Type 0} (part : X → Html) (xs : List X) → ((x : X) → IsRowless (part x)) → IsRowless (each part xs)
 rowless_each part [] h = tt
@@ -55,7 +59,7 @@ mutual
   rowless_value (AnyValue.bool true) = refl
   rowless_value (AnyValue.bool false) = refl
   rowless_value (AnyValue.int i) = tt
-  rowless_value (AnyValue.double d) = (refl, (tt, refl))
+  rowless_value (AnyValue.double d) = rowless_text (double_text d) (lacks_double d)
   rowless_value (AnyValue.array vs) = (refl, (rowless_values vs, refl))
   rowless_value (AnyValue.pairs ps) = (refl, (rowless_pairs ps, refl))
   rowless_value (AnyValue.bytes bs) = (refl, tt)
@@ -112,9 +116,13 @@ rowless_place : (trace span : List ℕ) → IsRowless (place_html trace span)
 unfolding place_html
 rowless_place trace span = (refl, (tt, (refl, (tt, (refl, (rowless_both trace span, refl))))))
 
+rowless_trace_state : (state : List ℕ) → IsRowless (trace_state_html state)
+unfolding trace_state_html
+rowless_trace_state state = rowless_if (length state == 0) _ _ tt (refl, tt)
+
 rowless_context : (state : List ℕ) (flags : ℕ) → IsRowless (context_html state flags)
 unfolding context_html
-rowless_context state flags = (refl, (tt, (refl, (tt, refl))))
+rowless_context state flags = (rowless_trace_state state, (refl, (tt, refl)))
 
 rowless_link : {A : Type 0} (link : Link A) → IsRowless (link_html link)
 unfolding link_html
@@ -156,30 +164,76 @@ unfolding status_html
 rowless_status (pos n) = rowless_if (n == 0) _ _ refl (rowless_if (n == 1) _ _ refl (rowless_if (n == 2) _ _ refl tt))
 rowless_status (negsuc n) = tt
 
-rowless_ids : {A : Type 0} (span : Span A) → IsRowless (ids_html span)
+rowless_parent_link : (id : List ℕ) → IsRowless (parent_link_html id)
+unfolding parent_link_html
+rowless_parent_link id = (refl, (tt, (refl, (tt, refl))))
+
+rowless_parent : (place : Place) (id : List ℕ) → IsRowless (parent_html place id)
+unfolding parent_html
+rowless_parent Root id = tt
+rowless_parent Child id = rowless_parent_link id
+rowless_parent Orphan id = (refl, tt)
+rowless_parent Cycle id = rowless_parent_link id
+
+rowless_ids : {A : Type 0} (span : Span A) (place : Place) → IsRowless (ids_html span place)
 unfolding ids_html
-rowless_ids span = (refl, (tt, (refl, (tt, (refl, (tt, refl))))))
+rowless_ids span place = (refl, (tt, rowless_parent place span.parent_span_id.items))
+
+rowless_message : (message : List ℕ) → IsRowless (message_html message)
+unfolding message_html
+rowless_message message = rowless_if (length message == 0) _ _ tt (refl, tt)
 
 rowless_state : {A : Type 0} (span : Span A) → IsRowless (state_html span)
 unfolding state_html
-rowless_state span = (refl, (rowless_kind span.kind, (refl, (rowless_status span.status.code, (refl, tt)))))
+rowless_state span =
+    (refl, (rowless_kind span.kind, (refl, (rowless_status span.status.code, rowless_message (string_bytes span.status.message)))))
+
+rowless_two : (n : ℕ) → IsRowless (two_html n)
+unfolding two_html
+rowless_two n = (tt, tt)
+
+rowless_three : (n : ℕ) → IsRowless (three_html n)
+unfolding three_html
+rowless_three n = (tt, rowless_two (n % 100))
+
+rowless_date : (year : YearDay) (month : MonthDay) → IsRowless (date_html year month)
+unfolding date_html
+rowless_date year month = (tt, (refl, (rowless_two month.month, (refl, rowless_two (month.day + 1)))))
+
+rowless_hour : (seconds : ℕ) → IsRowless (hour_html seconds)
+unfolding hour_html
+rowless_hour seconds = (rowless_two (seconds / 3600 % 24), (refl, (rowless_two (seconds / 60 % 60), (refl, rowless_two (seconds % 60)))))
+
+rowless_fraction : (nanos : ℕ) → IsRowless (fraction_html nanos)
+unfolding fraction_html
+rowless_fraction nanos = (rowless_three (nanos / 1_000_000), (rowless_three (nanos / 1_000 % 1_000), rowless_three (nanos % 1_000)))
+
+rowless_moment : (nanos : ℕ) → IsRowless (moment_html nanos)
+unfolding moment_html
+rowless_moment nanos =
+    (rowless_date _ _, (refl, (rowless_hour (nanos / 1_000_000_000), (refl, (rowless_fraction (nanos % 1_000_000_000), refl)))))
+
+rowless_instant : (nanos : ℕ) → IsRowless (instant_html nanos)
+unfolding instant_html
+rowless_instant nanos = (rowless_moment nanos, (refl, (tt, refl)))
 
 rowless_times : {A : Type 0} (span : Span A) → IsRowless (times_html span)
 unfolding times_html
-rowless_times span = (refl, (tt, (refl, (tt, rowless_context (string_bytes span.trace_state) span.flags))))
+rowless_times span =
+    (refl, (rowless_instant span.start_time_unix_nano, (refl, (rowless_instant span.end_time_unix_nano, rowless_context (string_bytes span.trace_state) span.flags))))
 
-rowless_facts : {A : Type 0} (span : Span A) → IsRowless (facts_html span)
+rowless_facts : {A : Type 0} (span : Span A) (place : Place) → IsRowless (facts_html span place)
 unfolding facts_html
-rowless_facts span = (rowless_ids span, (rowless_state span, rowless_times span))
+rowless_facts span place = (rowless_ids span place, (rowless_state span, rowless_times span))
 
 rowless_parts : {A : Type 0} (span : Span A) → IsRowless (parts_html span)
 unfolding parts_html
 rowless_parts span =
     (rowless_attributes (codes "Attributes") span.attributes.items span.dropped_attributes_count refl, (rowless_events span, rowless_links span))
 
-rowless_panel : {A : Type 0} (s : ViewSpan A) → IsRowless (panel_html s)
+rowless_panel : {A : Type 0} (s : ViewSpan A) (place : Place) → IsRowless (panel_html s place)
 unfolding panel_html
-rowless_panel s = (rowless_facts s.span, (rowless_parts s.span, (rowless_resource _, rowless_scope _)))
+rowless_panel s place = (rowless_facts s.span place, (rowless_parts s.span, (rowless_resource _, rowless_scope _)))
 
 -- ---- what is in a row
 
@@ -205,9 +259,9 @@ rowless_id : (is_first : Bool) (id : List ℕ) → IsRowless (id_html is_first i
 unfolding id_html
 rowless_id is_first id = rowless_if is_first _ _ (refl, tt) tt
 
-rowless_class : {A : Type 0} (s : ViewSpan A) (is_first : Bool) → IsRowless (class_html s is_first)
+rowless_class : {A : Type 0} (s : ViewSpan A) (line : Line) → IsRowless (class_html s line)
 unfolding class_html
-rowless_class s is_first = (refl, (tt, (rowless_bad _, rowless_id is_first _)))
+rowless_class s line = (refl, (tt, (rowless_bad _, rowless_id line.mark.is_first _)))
 
 rowless_depth : (depth : ℕ) → IsRowless (depth_html depth)
 unfolding depth_html
@@ -217,9 +271,14 @@ rowless_bar : {A : Type 0} (span : Span A) (frame : Frame) → IsRowless (bar_ht
 unfolding bar_html
 rowless_bar span frame = (refl, (tt, (refl, (tt, refl))))
 
+rowless_name : (name : List ℕ) → IsRowless (name_html name)
+unfolding name_html
+rowless_name name = rowless_if (length name == 0) _ _ refl (refl, (tt, refl))
+
 rowless_label : {A : Type 0} (s : ViewSpan A) (place : Place) (is_repeated : Bool) → IsRowless (label_html s place is_repeated)
 unfolding label_html
-rowless_label s place is_repeated = (refl, (tt, (refl, (tt, (refl, rowless_remarks s.span place is_repeated)))))
+rowless_label s place is_repeated =
+    (refl, (rowless_name (string_bytes s.span.name), (refl, (tt, (refl, rowless_remarks s.span place is_repeated)))))
 
 rowless_tick : {A : Type 0} (frame : Frame) (event : Event A) → IsRowless (tick_html frame event)
 unfolding tick_html
@@ -230,19 +289,18 @@ unfolding time_html
 rowless_time span frame =
     (refl, (rowless_each (tick_html frame) span.events.items (rowless_tick frame), (refl, (rowless_duration _, refl))))
 
-rowless_tag : {A : Type 0} (s : ViewSpan A) (depth : ℕ) (is_first : Bool) (frame : Frame) → IsRowless (tag_html s depth is_first frame)
+rowless_tag : {A : Type 0} (s : ViewSpan A) (line : Line) (frame : Frame) → IsRowless (tag_html s line frame)
 unfolding tag_html
-rowless_tag s depth is_first frame = (rowless_class s is_first, (rowless_depth depth, rowless_bar s.span frame))
+rowless_tag s line frame = (rowless_class s line, (rowless_depth line.row.depth, rowless_bar s.span frame))
 
-rowless_span : {A : Type 0} (s : ViewSpan A) (row : Row) (mark : Mark) (frame : Frame) → IsRowless (span_html s row mark frame)
+rowless_span : {A : Type 0} (s : ViewSpan A) (line : Line) (frame : Frame) → IsRowless (span_html s line frame)
 unfolding span_html
-rowless_span s row mark frame =
-    (rowless_tag s row.depth mark.is_first frame, (rowless_label s row.place mark.is_repeated, (rowless_time s.span frame, (rowless_panel s, refl))))
+rowless_span s line frame =
+    (rowless_tag s line frame, (rowless_label s line.row.place line.mark.is_repeated, (rowless_time s.span frame, (rowless_panel s line.row.place, refl))))
 
-pub rowless_rest : {A : Type 0} (spans : List (Bor (ViewSpan A))) (at : Option (Bor (ViewSpan A))) (row : Row) (frame : Frame)
-    → IsRowless (span_rest spans at row frame)
-rowless_rest spans None row frame = tt
-rowless_rest spans (Some s) row frame = rowless_span s.now row (row_mark spans s row) frame
+pub rowless_rest : {A : Type 0} (at : Option (ViewSpan A)) (line : Line) (frame : Frame) → IsRowless (span_rest at line frame)
+rowless_rest None line frame = tt
+rowless_rest (Some s) line frame = rowless_span s line frame
 
 -- ---- what is above the rows
 
@@ -258,6 +316,11 @@ rowless_counts : (trace : List ℕ) (count took : ℕ) → IsRowless (counts_htm
 unfolding counts_html
 rowless_counts trace count took = (refl, (tt, (refl, (rowless_duration took, (refl, (tt, refl))))))
 
-pub rowless_head : {A : Type 0} (trace : ℕ) (spans : List (Bor (ViewSpan A))) → IsRowless (head_html trace spans)
+rowless_axis : (whole : ℕ) → IsRowless (axis_html whole)
+unfolding axis_html
+rowless_axis whole =
+    (refl, (rowless_duration (whole / 4), (refl, (rowless_duration (whole / 2), (refl, (rowless_duration (whole - whole / 4), (refl, (rowless_duration whole, refl))))))))
+
+pub rowless_head : (trace count : ℕ) (frame : Frame) → IsRowless (head_html trace count frame)
 unfolding head_html
-rowless_head trace spans = (rowless_title _, rowless_counts _ _ _)
+rowless_head trace count frame = (rowless_title _, (rowless_counts _ _ _, (rowless_axis _, refl)))

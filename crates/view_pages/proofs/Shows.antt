@@ -1,6 +1,6 @@
 -- The rows that are read of the page of a trace.
 use Rattle.std.proofs.Common.{◌≡◌, refl, sym, ap, subst, ◌∙◌, ℕ, zero, suc, ◌+◌, ◌<◌, ◌≤◌, ◌^◌, List, [], ◌∷◌, ◌++◌, length, map, append_assoc, append-nil, codes, arith, All}
-use Rattle.std.specs.Prelude.{decimal, slice_get}
+use Rattle.std.specs.Prelude.{decimal, option_map, slice_get}
 use Rattle.std.specs.Borrow.{Bor}
 use Rattle.std.specs.List.{AllByRecursion, range_with_len}
 use Rattle.std.proofs.lemmas.List.Elements.{All-cons, All-head, All-nil, All-tail}
@@ -8,7 +8,8 @@ use Rattle.std.proofs.lemmas.List.Sorted.{All-permutation}
 use Rattle.trace_tree.specs.Order.{ArePlaces}
 use Rattle.trace_tree.specs.declared.span.Row.{Row}
 use Rattle.view_span.specs.declared.span.ViewSpan.{ViewSpan}
-use Rattle.view_pages.specs.Html.{html_bytes, each}
+use Rattle.view_pages.specs.Html.{Html, html_bytes, each}
+use Rattle.view_pages.specs.Lines.{line_for}
 use Rattle.view_pages.specs.Pages.{head_html, trace_html}
 use Rattle.view_pages.specs.Reading.{places_in, row_start}
 use Rattle.view_pages.specs.Rows.{page_row, page_rows, row_html, span_rest}
@@ -21,12 +22,15 @@ use Rattle.view_pages.proofs.Rowless.{rowless_head, rowless_rest}
 abbrev pub HasPlace : Row → Type 0
 HasPlace row = row.index < 2 ^ 64
 
+abbrev row_rest : {A : Type 0} → List (Bor (ViewSpan A)) → Frame → Row → Html
+row_rest spans frame row = span_rest (option_map (λ b. b.now) (slice_get spans row.index)) (line_for spans row) frame
+
 row_bytes : {A : Type 0} (spans : List (Bor (ViewSpan A))) (frame : Frame) (row : Row) (rest : List ℕ)
     → html_bytes (row_html (page_row spans frame row)) ++ rest
-    ≡ row_start ++ (decimal row.index ++ 39 ∷ (html_bytes (span_rest spans (slice_get spans row.index) row frame) ++ rest))
+    ≡ row_start ++ (decimal row.index ++ 39 ∷ (html_bytes (row_rest spans frame row) ++ rest))
 unfolding html_bytes row_html
 row_bytes spans frame row rest =
-    let content = html_bytes (span_rest spans (slice_get spans row.index) row frame) in
+    let content = html_bytes (row_rest spans frame row) in
     append_assoc row_start (decimal row.index ++ (39 ∷ content)) rest
     ∙ ap (λ l. row_start ++ l) (append_assoc (decimal row.index) (39 ∷ content) rest)
 
@@ -37,11 +41,11 @@ unfolding html_bytes
 reads_rows spans frame [] rest h = refl
 reads_rows spans frame (row ∷ rows) rest h =
     let others = html_bytes (each row_html (map (page_row spans frame) rows)) in
-    let content = span_rest spans (slice_get spans row.index) row frame in
+    let content = row_rest spans frame row in
     ap places_in
     (append_assoc (html_bytes (row_html (page_row spans frame row))) others rest ∙ row_bytes spans frame row (others ++ rest))
     ∙ reads_row row.index (html_bytes content ++ (others ++ rest)) h.0
-    ∙ ap (λ l. row.index ∷ l) (skip_parts content (others ++ rest) (rowless_rest spans (slice_get spans row.index) row frame) ∙ reads_rows spans frame rows rest h.1)
+    ∙ ap (λ l. row.index ∷ l) (skip_parts content (others ++ rest) (rowless_rest (option_map (λ b. b.now) (slice_get spans row.index)) (line_for spans row) frame) ∙ reads_rows spans frame rows rest h.1)
 
 -- the page shows the places of its rows, one after the other
 pub page_shows : {A : Type 0} (trace : ℕ) (spans : List (Bor (ViewSpan A))) (rows : List Row) → AllByRecursion HasPlace rows
@@ -50,7 +54,7 @@ unfolding html_bytes trace_html places_in
 page_shows trace spans rows h =
     let end = codes "</ol></main></html>" in
     let drawn = html_bytes (each row_html (page_rows spans rows)) in
-    skip_parts (head_html trace spans) (drawn ++ end) (rowless_head trace spans)
+    skip_parts (head_html trace (length spans) (frame_of spans)) (drawn ++ end) (rowless_head trace (length spans) (frame_of spans))
     ∙ reads_rows spans (frame_of spans) rows end h
     ∙ append-nil (map (λ (r : Row). r.index) rows)
 

@@ -1,17 +1,20 @@
 -- The page of a trace.
-use Rattle.std.specs.Prelude.{◌≡◌, ℕ, ◌-◌, Bool, List, [], length, map, All, AllPairs, codes}
+use Rattle.std.specs.Prelude.{◌≡◌, ℕ, ◌-◌, ◌/◌, Bool, List, [], length, map, All, AllPairs, codes}
 use Rattle.std.specs.Prelude.{string_bytes}
+use Rattle.std.specs.Arc.{arc_value}
 use Rattle.std.specs.Borrow.{Bor}
 use Rattle.std.specs.Int.{w128, to_be_bytes}
+use Rattle.std.specs.declared.sync.Arc.{Arc}
 use Rattle.trace_tree.specs.Order.{ArePlaces}
 use Rattle.trace_tree.specs.Rows.{AreInOrder, EachAfter, HangsInTree, IsPlace}
 use Rattle.trace_tree.specs.declared.span.Row.{Row}
 use Rattle.trace_tree.specs.declared.span.TreeSpan.{TreeSpan}
 use Rattle.view_span.specs.declared.span.ViewSpan.{ViewSpan}
-use Rattle.view_pages.specs.Html.{Html, Markup, Number, Digits, ◌▹◌, each}
+use Rattle.view_pages.specs.Html.{Html, html_bytes, Markup, Number, Digits, ◌▹◌, each}
 use Rattle.view_pages.specs.Rows.{page_rows, row_html}
 use Rattle.view_pages.specs.Spans.{frame_of, is_error}
 use Rattle.view_pages.specs.Times.{duration}
+use Rattle.view_pages.specs.declared.times.Frame.{Frame}
 
 -- what the tree needs of a span: its identifiers, its name, when it ran, and whether it is an error
 abbrev pub tree_view : TreeSpan → List ℕ × (List ℕ × (List ℕ × (ℕ × (ℕ × Bool))))
@@ -75,20 +78,42 @@ unfoldable pub counts_html : List ℕ → ℕ → ℕ → Html
 counts_html trace count took =
     Markup (codes "<p>") ▹ Number count ▹ Markup (codes " spans in ") ▹ duration took
     ▹ Markup (codes ". <a href='/trace/") ▹ Digits trace
-    ▹ Markup (codes ".txt'>As text</a></p></header><main><ol class='rows'>")
+    ▹ Markup (codes ".txt'>As text</a></p></header><main>")
 
 -- the time from the earliest start to the latest end
 abbrev pub whole_of : {A : Type 0} → List (Bor (ViewSpan A)) → ℕ
 whole_of spans = (frame_of spans).until - (frame_of spans).from
 
--- what is said of a trace above its rows
-unfoldable pub head_html : {A : Type 0} → ℕ → List (Bor (ViewSpan A)) → Html
-head_html trace spans =
+-- the axis of the bars: the time from the earliest start, at each quarter of the whole
+unfoldable pub axis_html : ℕ → Html
+axis_html whole =
+    Markup (codes "<div class='axis'><span>0</span><span>") ▹ duration (whole / 4)
+    ▹ Markup (codes "</span><span>") ▹ duration (whole / 2)
+    ▹ Markup (codes "</span><span>") ▹ duration (whole - whole / 4)
+    ▹ Markup (codes "</span><span>") ▹ duration whole ▹ Markup (codes "</span></div>")
+
+-- what is said above the rows of a trace, of so many spans in this time
+unfoldable pub head_html : ℕ → ℕ → Frame → Html
+head_html trace count frame =
     title_html (to_be_bytes w128 trace)
-    ▹ counts_html (to_be_bytes w128 trace) (length spans) (whole_of spans)
+    ▹ counts_html (to_be_bytes w128 trace) count (frame.until - frame.from)
+    ▹ axis_html (frame.until - frame.from) ▹ Markup (codes "<ol class='rows'>")
+
+-- what comes after them
+abbrev pub end_html : Html
+end_html = Markup (codes "</ol></main></html>")
 
 -- the page of a trace: what is said of it, and its rows
 unfoldable pub trace_html : {A : Type 0} → ℕ → List (Bor (ViewSpan A)) → List Row → Html
 trace_html trace spans rows =
-    head_html trace spans ▹ each row_html (page_rows spans rows)
-    ▹ Markup (codes "</ol></main></html>")
+    head_html trace (length spans) (frame_of spans) ▹ each row_html (page_rows spans rows)
+    ▹ end_html
+
+-- these are the spans that their owners have
+abbrev pub AreLent : {A : Type 0} → List (Arc (ViewSpan A) A) → List (Bor (ViewSpan A)) → Type 0
+AreLent spans lent = map (λ b. b.now) lent ≡ map arc_value spans
+
+-- these bytes are the page of the trace with these spans
+abbrev pub DrawsPage : {A : Type 0} → ℕ → List (Arc (ViewSpan A) A) → List ℕ → Type 0
+DrawsPage {A} trace spans page = (lent : List (Bor (ViewSpan A))) × AreLent spans lent
+    × (rows : List Row) × AreRows lent rows × (page ≡ html_bytes (trace_html trace lent rows))

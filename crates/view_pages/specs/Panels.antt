@@ -1,15 +1,18 @@
 -- What the panel of a span says.
 use Rattle.std.specs.Prelude.{ℕ, ◌-◌, ◌==◌, nat_lt, if◌then◌else◌, ℤ, pos, negsuc, List}
-use Rattle.std.specs.Prelude.{String, codes, string_bytes}
+use Rattle.std.specs.Prelude.{String, length, codes, string_bytes}
 use Rattle.std.specs.Arc.{arc_value}
 use Rattle.std.specs.Int.{w32, to_be_bytes}
 use Rattle.otlp_read.specs.declared.any_value.AnyValue.{AnyValue as Received}
 use Rattle.otlp_read.specs.declared.span.Event.{Event}
 use Rattle.otlp_read.specs.declared.span.Link.{Link}
 use Rattle.otlp_read.specs.declared.span.Span.{Span}
+use Rattle.trace_tree.specs.declared.span.Place.{Place}
+use Rattle.trace_tree.specs.declared.span.Place.TheVariants.{Root, Child, Orphan, Cycle}
 use Rattle.view_span.specs.declared.span.ViewResource.{ViewResource}
 use Rattle.view_span.specs.declared.span.ViewScope.{ViewScope}
 use Rattle.view_span.specs.declared.span.ViewSpan.{ViewSpan}
+use Rattle.view_pages.specs.Dates.{moment_html}
 use Rattle.view_pages.specs.Html.{Html, Nothing, Markup, Text, Number, Signed, Digits, ◌▹◌, each}
 use Rattle.view_pages.specs.Times.{duration}
 use Rattle.view_pages.specs.Values.{pair_html}
@@ -67,11 +70,16 @@ place_html trace span =
 abbrev pub flags_html : ℕ → Html
 flags_html flags = Digits (to_be_bytes w32 flags)
 
+-- a trace state, unless it is empty
+unfoldable pub trace_state_html : List ℕ → Html
+trace_state_html state =
+    if length state == 0 then Nothing else Markup (codes "<dt>trace state<dd>") ▹ Text state
+
 -- the trace state and the flags of a span or a link
 unfoldable pub context_html : List ℕ → ℕ → Html
 context_html state flags =
-    Markup (codes "<dt>trace state<dd>") ▹ Text state ▹ Markup (codes "<dt>flags<dd>")
-    ▹ flags_html flags ▹ Markup (codes "</dl>")
+    trace_state_html state ▹ Markup (codes "<dt>flags<dd>") ▹ flags_html flags
+    ▹ Markup (codes "</dl>")
 
 -- a link, and its attributes (trace.proto: Span.Link)
 unfoldable pub link_html : {A : Type 0} → Link A → Html
@@ -136,30 +144,51 @@ unfoldable pub status_html : ℤ → Html
 status_html (pos n) = status_name n
 status_html (negsuc n) = Signed (negsuc n)
 
--- the identifiers of a span, and that of its parent, which leads to the parent's row
-unfoldable pub ids_html : {A : Type 0} → Span A → Html
-ids_html span =
+-- the identifier of a parent, which leads to the parent's row
+unfoldable pub parent_link_html : List ℕ → Html
+parent_link_html id =
+    Markup (codes "<dt>parent<dd><a href='#s-") ▹ Digits id ▹ Markup (codes "'>") ▹ Digits id
+    ▹ Markup (codes "</a>")
+
+-- the parent of a span in this place: none of a root, and no link where it wasn't received
+unfoldable pub parent_html : Place → List ℕ → Html
+parent_html Root id = Nothing
+parent_html Child id = parent_link_html id
+parent_html Orphan id = Markup (codes "<dt>parent<dd>") ▹ Digits id
+parent_html Cycle id = parent_link_html id
+
+-- the identifiers of a span and of its parent
+unfoldable pub ids_html : {A : Type 0} → Span A → Place → Html
+ids_html span place =
     Markup (codes "<dl><dt>span<dd>") ▹ Digits span.span_id.items
-    ▹ Markup (codes "<dt>parent<dd><a href='#s-") ▹ Digits span.parent_span_id.items
-    ▹ Markup (codes "'>") ▹ Digits span.parent_span_id.items ▹ Markup (codes "</a>")
+    ▹ parent_html place span.parent_span_id.items
+
+-- what is said of a status, unless it is nothing
+unfoldable pub message_html : List ℕ → Html
+message_html message = if length message == 0 then Nothing else Markup (codes ": ") ▹ Text message
 
 -- its kind, its status and what is said of that
 unfoldable pub state_html : {A : Type 0} → Span A → Html
 state_html span =
     Markup (codes "<dt>kind<dd>") ▹ kind_html span.kind
-    ▹ Markup (codes "<dt>status<dd>") ▹ status_html span.status.code ▹ Markup (codes " ")
-    ▹ Text (string_bytes span.status.message)
+    ▹ Markup (codes "<dt>status<dd>") ▹ status_html span.status.code
+    ▹ message_html (string_bytes span.status.message)
 
--- when it started and ended, in nanoseconds since 1970, its trace state and its flags
+-- a date and a time in UTC, and the nanoseconds since 1970
+unfoldable pub instant_html : ℕ → Html
+instant_html nanos =
+    moment_html nanos ▹ Markup (codes " <small>") ▹ Number nanos ▹ Markup (codes "</small>")
+
+-- when it started and ended, its trace state and its flags
 unfoldable pub times_html : {A : Type 0} → Span A → Html
 times_html span =
-    Markup (codes "<dt>start<dd>") ▹ Number span.start_time_unix_nano
-    ▹ Markup (codes "<dt>end<dd>") ▹ Number span.end_time_unix_nano
+    Markup (codes "<dt>start<dd>") ▹ instant_html span.start_time_unix_nano
+    ▹ Markup (codes "<dt>end<dd>") ▹ instant_html span.end_time_unix_nano
     ▹ context_html (string_bytes span.trace_state) span.flags
 
 -- the facts of a span
-unfoldable pub facts_html : {A : Type 0} → Span A → Html
-facts_html span = ids_html span ▹ state_html span ▹ times_html span
+unfoldable pub facts_html : {A : Type 0} → Span A → Place → Html
+facts_html span place = ids_html span place ▹ state_html span ▹ times_html span
 
 -- its attributes, events and links
 unfoldable pub parts_html : {A : Type 0} → Span A → Html
@@ -168,7 +197,7 @@ parts_html span =
     ▹ events_html span ▹ links_html span
 
 -- these, its resource and its scope
-unfoldable pub panel_html : {A : Type 0} → ViewSpan A → Html
-panel_html s =
-    facts_html s.span ▹ parts_html s.span ▹ resource_html (arc_value s.resource)
+unfoldable pub panel_html : {A : Type 0} → ViewSpan A → Place → Html
+panel_html s place =
+    facts_html s.span place ▹ parts_html s.span ▹ resource_html (arc_value s.resource)
     ▹ scope_html (arc_value s.scope)

@@ -1,6 +1,6 @@
 -- The rows of the page of a trace.
-use Rattle.std.specs.Prelude.{ℕ, ◌+◌, ◌-◌, ◌^◌, min, Bool, true, false, if◌then◌else◌, Option}
-use Rattle.std.specs.Prelude.{Some, None, List, map, codes, slice_get, string_bytes}
+use Rattle.std.specs.Prelude.{ℕ, ◌+◌, ◌-◌, ◌^◌, ◌==◌, min, Bool, true, false, if◌then◌else◌, Option}
+use Rattle.std.specs.Prelude.{Some, None, option_map, List, length, map, codes, slice_get, string_bytes}
 use Rattle.std.specs.Borrow.{Bor}
 use Rattle.otlp_read.specs.declared.span.Event.{Event}
 use Rattle.otlp_read.specs.declared.span.Span.{Span}
@@ -10,11 +10,11 @@ use Rattle.trace_tree.specs.declared.span.Row.{Row}
 use Rattle.view_span.specs.declared.span.ViewSpan.{ViewSpan}
 use Rattle.view_pages.specs.Html.{Html, Nothing, Markup, Text, Number, Digits, ◌▹◌, each}
 use Rattle.view_pages.specs.Panels.{panel_html}
-use Rattle.view_pages.specs.Repeats.{mark_of}
-use Rattle.view_pages.specs.Spans.{colour_of, end_of, ends_early, frame_of, is_error}
+use Rattle.view_pages.specs.Lines.{line_for}
+use Rattle.view_pages.specs.Spans.{end_of, ends_early, frame_of, is_error}
 use Rattle.view_pages.specs.Spans.{service_of, time_of}
 use Rattle.view_pages.specs.Times.{duration, share_of}
-use Rattle.view_pages.specs.declared.repeat.Mark.{Mark}
+use Rattle.view_pages.specs.declared.line.Line.{Line}
 use Rattle.view_pages.specs.declared.times.Frame.{Frame}
 
 -- words that are said where something holds
@@ -52,10 +52,10 @@ unfoldable pub id_html : Bool → List ℕ → Html
 id_html is_first id = if is_first then Markup (codes "' id='s-") ▹ Digits id else Nothing
 
 -- the colour of the service, and the identifier
-unfoldable pub class_html : {A : Type 0} → ViewSpan A → Bool → Html
-class_html s is_first =
-    Markup (codes " class='row c") ▹ Number (colour_of (service_of s))
-    ▹ bad_html (is_error s.span) ▹ id_html is_first s.span.span_id.items
+unfoldable pub class_html : {A : Type 0} → ViewSpan A → Line → Html
+class_html s line =
+    Markup (codes " class='row c") ▹ Number line.colour
+    ▹ bad_html (is_error s.span) ▹ id_html line.mark.is_first s.span.span_id.items
 
 -- a depth, counted from 1
 abbrev pub level_of : ℕ → ℕ
@@ -78,11 +78,17 @@ bar_html span frame =
     ▹ Markup (codes ";--w:")
     ▹ Number (width_of span frame) ▹ Markup (codes "'>")
 
+-- the name of a span, or that it has none
+unfoldable pub name_html : List ℕ → Html
+name_html name =
+    if length name == 0 then Markup (codes "<b class='blank'>(no name)</b>")
+    else Markup (codes "<b>") ▹ Text name ▹ Markup (codes "</b>")
+
 -- the name of the span, its service and what is remarked
 unfoldable pub label_html : {A : Type 0} → ViewSpan A → Place → Bool → Html
 label_html s place is_repeated =
-    Markup (codes "<details><summary><span class='label'><b>")
-    ▹ Text (string_bytes s.span.name) ▹ Markup (codes "</b> <small>") ▹ Text (service_of s)
+    Markup (codes "<details><summary><span class='label'>")
+    ▹ name_html (string_bytes s.span.name) ▹ Markup (codes " <small>") ▹ Text (service_of s)
     ▹ Markup (codes "</small>") ▹ remarks_html s.span place is_repeated
 
 -- where an event is, in ten thousandths
@@ -101,36 +107,32 @@ time_html span frame =
     ▹ Markup (codes "</span></summary><div class='panel'>")
 
 -- what is in the tag of a row
-unfoldable pub tag_html : {A : Type 0} → ViewSpan A → ℕ → Bool → Frame → Html
-tag_html s depth is_first frame =
-    class_html s is_first ▹ depth_html depth ▹ bar_html s.span frame
+unfoldable pub tag_html : {A : Type 0} → ViewSpan A → Line → Frame → Html
+tag_html s line frame = class_html s line ▹ depth_html line.row.depth ▹ bar_html s.span frame
 
 -- the rest of the row of a span
-unfoldable pub span_html : {A : Type 0} → ViewSpan A → Row → Mark → Frame → Html
-span_html s row mark frame =
-    tag_html s row.depth mark.is_first frame ▹ label_html s row.place mark.is_repeated
-    ▹ time_html s.span frame ▹ panel_html s
+unfoldable pub span_html : {A : Type 0} → ViewSpan A → Line → Frame → Html
+span_html s line frame =
+    tag_html s line frame ▹ label_html s line.row.place line.mark.is_repeated
+    ▹ time_html s.span frame ▹ panel_html s line.row.place
     ▹ Markup (codes "</div></details></li>")
 
--- what is said of the identifier of the span in this row
-abbrev pub row_mark : {A : Type 0} → List (Bor (ViewSpan A)) → Bor (ViewSpan A) → Row → Mark
-row_mark spans s row = mark_of spans s.now.span.span_id.items row.index
-
 -- of a span that is in the list
-abbrev pub span_rest : {A : Type 0} → List (Bor (ViewSpan A)) → Option (Bor (ViewSpan A)) → Row
-    → Frame → Html
-span_rest spans None row frame = Nothing
-span_rest spans (Some s) row frame = span_html s.now row (row_mark spans s row) frame
+abbrev pub span_rest : {A : Type 0} → Option (ViewSpan A) → Line → Frame → Html
+span_rest None line frame = Nothing
+span_rest (Some s) line frame = span_html s line frame
 
 -- A row of a page: the place in the list of the span that it shows, and what is in it.
 pub record PageRow : Type 0 where
   pub place : ℕ
   pub content : Html
 
+-- the row of the span in a place, among these spans
 abbrev pub page_row : {A : Type 0} → List (Bor (ViewSpan A)) → Frame → Row → PageRow
 page_row spans frame row = record {
   place = row.index;
-  content = span_rest spans (slice_get spans row.index) row frame;
+  content =
+      span_rest (option_map (λ b. b.now) (slice_get spans row.index)) (line_for spans row) frame;
 }
 
 -- a row begins with the place of its span

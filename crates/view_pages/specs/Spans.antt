@@ -1,5 +1,5 @@
 -- What is said of a span: its service, when it ran, and what is remarked.
-use Rattle.std.specs.Prelude.{ℕ, ◌+◌, ◌-◌, ◌*◌, ◌%◌, ◌^◌, min, max, Bool, false, ◌==◌}
+use Rattle.std.specs.Prelude.{ℕ, ◌-◌, ◌^◌, min, max, Bool, false, ◌==◌}
 use Rattle.std.specs.Prelude.{nat_lt, if◌then◌else◌, ℤ, pos, negsuc, Option, Some, None, unwrap_or}
 use Rattle.std.specs.Prelude.{List, [], ◌∷◌, String, fold, codes, string_bytes}
 use Rattle.std.specs.Arc.{arc_value}
@@ -32,13 +32,6 @@ service_in (p ∷ ps) = unwrap_or (service_value p) (service_in ps)
 -- the service that made a span, by the attributes of its resource
 abbrev pub service_of : {A : Type 0} → ViewSpan A → List ℕ
 service_of span = service_in (arc_value span.resource).resource.attributes.items
-
--- the colour of a service, of eight
-abbrev pub next_hash : ℕ → ℕ → ℕ
-next_hash hash byte = (hash * 33 + byte) % 1000003
-
-unfoldable pub colour_of : List ℕ → ℕ
-colour_of name = fold next_hash 7 name % 8
 
 -- whether its status is an error (opentelemetry-proto, trace.proto: Status)
 abbrev pub is_error_code : ℤ → Bool

@@ -1,16 +1,15 @@
 -- The attributes of a panel, and their values.
 use Rattle.std.specs.Prelude.{ℕ, true, false, List, String, codes, string_bytes}
-use Rattle.std.specs.Int.{w64, to_be_bytes}
+use Rattle.double_text.specs.Doubles.{double_text}
 use Rattle.model_message.specs.AnyValue.{AnyValue, AnyValues, KeyValues, none, no_values, value}
 use Rattle.model_message.specs.AnyValue.{no_pairs, pair}
 use Rattle.otlp_read.specs.declared.any_value.AnyValue.{AnyValue as Received}
 use Rattle.otlp_read.specs.Values.{any_value_view}
 use Rattle.view_pages.specs.Html.{Html, Nothing, Markup, Text, Signed, Digits, ◌▹◌}
 
--- a double by its 64 bits
+-- the number that the double with these 64 bits is
 abbrev pub double_html : ℕ → Html
-double_html bits =
-    Markup (codes "<data>") ▹ Digits (to_be_bytes w64 bits) ▹ Markup (codes "</data>")
+double_html bits = Markup (double_text bits)
 
 abbrev pub bytes_html : List ℕ → Html
 bytes_html bytes = Markup (codes "0x") ▹ Digits bytes

@@ -1,6 +1,6 @@
 //! What is said of a span: its service, when it ran, and what is remarked.
 
-ghost use Rattle.std.specs.Prelude.{◌≡◌, ◌<◌, ◌^◌, ◌-◌, fold, option_copied, string_bytes};
+ghost use Rattle.std.specs.Prelude.{◌≡◌, ◌^◌, ◌-◌, fold, option_copied, string_bytes};
 ghost use Rattle.std.specs.Borrow.{Bor};
 ghost use Rattle.otlp_read.specs.Values.{any_value_view};
 ghost use Rattle.view_pages.specs.Spans as spec;
@@ -52,25 +52,6 @@ pub(crate) fn service_of<A: Allocator>(span: &ViewSpan<A>) -> &str
     ensures { result.now ≡ spec.service_of span.now }
 {
     service_in(&span.resource.resource.attributes)
-}
-
-/// The colour of a service, of eight.
-#[tactic(auto, unfolding(crate::specs::Spans::colour_of))]
-fn colour_of(name: &str) -> u64
-    ensures { result ≡ spec.colour_of name.now }
-{
-    let mut hash: u64 = 7;
-    for byte in name.as_bytes() {
-        hash = (hash * 33 + u64::from(*byte)) % 1_000_003;
-    }
-    hash % 8
-}
-
-/// The colour of the service that made a span, of eight.
-pub(crate) fn service_colour<A: Allocator>(span: &ViewSpan<A>) -> u64
-    ensures { result ≡ spec.colour_of (spec.service_of span.now) }
-{
-    colour_of(service_of(span))
 }
 
 /// Whether the status of a span is an error (opentelemetry-proto, trace.proto: Status).

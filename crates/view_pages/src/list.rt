@@ -1,11 +1,16 @@
 //! The list of traces.
 
-ghost use Rattle.std.specs.Prelude.{◌≡◌, ◌++◌, OnOk, string_bytes};
+ghost use Rattle.std.specs.Prelude.{◌≡◌, ◌++◌, IfOk, OnOk, string_bytes};
+ghost use Rattle.std.specs.Fmt.{take_chars};
 ghost use Rattle.view_pages.specs.Html.{each, html_bytes};
-ghost use Rattle.view_pages.specs.Lists.{checked_html, clock_html, form_html, list_head_html};
-ghost use Rattle.view_pages.specs.Lists.{list_html, listed_html, name_html, notice_html, sizes_html};
-ghost use Rattle.view_pages.specs.Lists.{summary_html, texts_html, two, when_html};
+ghost use Rattle.view_pages.specs.Lists.{address_html, checked_html, empty_html, form_html};
+ghost use Rattle.view_pages.specs.Lists.{grouped, list_head_html, list_html, millions, more_html};
+ghost use Rattle.view_pages.specs.Lists.{name_html, none_html, notice_html, query_html, root_html};
+ghost use Rattle.view_pages.specs.Lists.{short_html, shown_html, sizes_html, some_html};
+ghost use Rattle.view_pages.specs.Lists.{summary_html, table_html, texts_html, thousands, three};
+ghost use Rattle.view_pages.specs.Lists.{when_html};
 
+use crate::date::push_second;
 use crate::filter::Filter;
 use crate::html::{push_digits, push_markup, push_number, push_text};
 use crate::page::push_start;
@@ -14,51 +19,95 @@ use crate::times::push_duration;
 use otlp_ids::OutOfMemory;
 use std::alloc::Allocator;
 
-/// Appends two digits.
-fn push_two<A: Allocator>(out: &mut String<A>, number: u64) -> Result<(), OutOfMemory>
+/// Appends that a text is only the beginning of a longer one.
+#[tactic(auto, unfolding(crate::specs::Html::html_bytes, crate::specs::Lists::more_html))]
+fn push_more<A: Allocator>(out: &mut String<A>, is_longer: bool) -> Result<(), OutOfMemory>
     ensures { OnOk result (string_bytes out.new
-        ≡ string_bytes out.old ++ html_bytes (two number)) }
+        ≡ string_bytes out.old ++ html_bytes (more_html is_longer)) }
 {
-    push_number(out, number / 10)?;
-    push_number(out, number % 10)
+    if is_longer {
+        push_markup(out, "&hellip;")
+    } else {
+        Ok(())
+    }
 }
 
-/// Appends the time of day, in hours, minutes and seconds of UTC.
-fn push_clock<A: Allocator>(out: &mut String<A>, nanos: u64) -> Result<(), OutOfMemory>
-    ensures { OnOk result (string_bytes out.new
-        ≡ string_bytes out.old ++ html_bytes (clock_html nanos)) }
+/// The first 120 characters of a text.
+#[tactic(auto, using(crate::proofs::Cut::cut_text))]
+fn front_of<A: Allocator>(alloc: A, text: &str) -> Result<String<A>, OutOfMemory>
+    ensures { IfOk result (λ front. string_bytes front ≡ take_chars 120 text.now) }
 {
-    let seconds = nanos / 1_000_000_000;
-    push_two(out, seconds / 3600 % 24)?;
-    push_markup(out, ":")?;
-    push_two(out, seconds / 60 % 60)?;
-    push_markup(out, ":")?;
-    push_two(out, seconds % 60)
+    Ok(format!(in alloc; "{text:.120}")?)
+}
+
+/// Appends the first 120 characters of a text, and a mark where it has more. Its memory doesn't
+/// grow with the text.
+fn push_short<A: Allocator + Copy>(out: &mut String<A>, text: &str) -> Result<(), OutOfMemory>
+    ensures { OnOk result (string_bytes out.new
+        ≡ string_bytes out.old ++ html_bytes (short_html text.now)) }
+{
+    let front = front_of(*out.allocator(), text)?;
+    push_text(out, &front)?;
+    push_more(out, front.len() < text.len())
+}
+
+/// Appends the name of a root.
+#[tactic(auto, unfolding(crate::specs::Lists::root_html))]
+fn push_root<A: Allocator + Copy>(out: &mut String<A>, name: &str) -> Result<(), OutOfMemory>
+    ensures { OnOk result (string_bytes out.new
+        ≡ string_bytes out.old ++ html_bytes (root_html name.now)) }
+{
+    if name.is_empty() {
+        push_markup(out, "<i>(no name)</i>")
+    } else {
+        push_short(out, name)
+    }
+}
+
+/// Appends a query to a link.
+#[tactic(auto, unfolding(crate::specs::Html::html_bytes, crate::specs::Lists::query_html))]
+pub(crate) fn push_query<A: Allocator>(out: &mut String<A>, query: &str) -> Result<(), OutOfMemory>
+    ensures { OnOk result (string_bytes out.new
+        ≡ string_bytes out.old ++ html_bytes (query_html query.now)) }
+{
+    if query.is_empty() {
+        return Ok(());
+    }
+    push_markup(out, "?")?;
+    push_text(out, query)
 }
 
 /// Appends the name of a trace, which leads to its page.
-fn push_name<A: Allocator + Copy>(out: &mut String<A>, summary: &Summary) -> Result<(), OutOfMemory>
+fn push_name<A: Allocator + Copy>(
+    out: &mut String<A>,
+    query: &str,
+    summary: &Summary,
+) -> Result<(), OutOfMemory>
     ensures { OnOk result (string_bytes out.new
-        ≡ string_bytes out.old ++ html_bytes (name_html summary.now)) }
+        ≡ string_bytes out.old ++ html_bytes (name_html query.now summary.now)) }
 {
     push_markup(out, "<tr><td><a href='/trace/")?;
     push_digits(out, &summary.trace.to_be_bytes())?;
+    push_query(out, query)?;
     push_markup(out, "'>")?;
-    push_text(out, summary.name)?;
+    push_root(out, summary.name)?;
     push_markup(out, "</a>")
 }
 
 /// Appends the service of a trace, its spans and its errors.
-fn push_sizes<A: Allocator>(out: &mut String<A>, summary: &Summary) -> Result<(), OutOfMemory>
+fn push_sizes<A: Allocator + Copy>(
+    out: &mut String<A>,
+    summary: &Summary,
+) -> Result<(), OutOfMemory>
     ensures { OnOk result (string_bytes out.new
         ≡ string_bytes out.old ++ html_bytes (sizes_html summary.now)) }
 {
     push_markup(out, "<td>")?;
-    push_text(out, summary.service)?;
+    push_short(out, summary.service)?;
     push_markup(out, "<td>")?;
-    push_number(out, summary.span_count as u64)?;
+    push_number(out, summary.span_count)?;
     push_markup(out, "<td>")?;
-    push_number(out, summary.error_count as u64)
+    push_number(out, summary.error_count)
 }
 
 /// Appends how long a trace took and when it began.
@@ -69,51 +118,35 @@ fn push_when<A: Allocator>(out: &mut String<A>, summary: &Summary) -> Result<(),
     push_markup(out, "<td>")?;
     push_duration(out, summary.duration_nanos)?;
     push_markup(out, "<td>")?;
-    push_clock(out, summary.start_time_unix_nano)
+    push_second(out, summary.start_time_unix_nano)
 }
 
 /// Appends the row of a trace.
 fn push_summary<A: Allocator + Copy>(
     out: &mut String<A>,
+    query: &str,
     summary: &Summary,
 ) -> Result<(), OutOfMemory>
     ensures { OnOk result (string_bytes out.new
-        ≡ string_bytes out.old ++ html_bytes (summary_html summary.now)) }
+        ≡ string_bytes out.old ++ html_bytes (summary_html query.now summary.now)) }
 {
-    push_name(out, summary)?;
+    push_name(out, query, summary)?;
     push_sizes(out, summary)?;
     push_when(out, summary)
 }
 
-/// Appends the row of a trace that is in the list.
-#[tactic(auto, unfolding(crate::specs::Html::html_bytes, crate::specs::Lists::listed_html))]
-fn push_listed<A: Allocator + Copy>(
-    out: &mut String<A>,
-    filter: &Filter<A>,
-    summary: &Summary,
-) -> Result<(), OutOfMemory>
-    ensures { OnOk result (string_bytes out.new
-        ≡ string_bytes out.old ++ html_bytes (listed_html filter.now summary.now)) }
-{
-    if filter.matches(summary) {
-        push_summary(out, summary)
-    } else {
-        Ok(())
-    }
-}
-
-/// Appends the rows of the traces that are in the list.
+/// Appends the rows of traces.
 #[tactic(auto, unfolding(crate::specs::Html::html_bytes))]
-fn push_each_listed<A: Allocator + Copy>(
+fn push_summaries<A: Allocator + Copy>(
     out: &mut String<A>,
-    filter: &Filter<A>,
+    query: &str,
     summaries: &[Summary],
 ) -> Result<(), OutOfMemory>
     ensures { OnOk result (string_bytes out.new
-        ≡ string_bytes out.old ++ html_bytes (each (listed_html filter.now) summaries.now)) }
+        ≡ string_bytes out.old ++ html_bytes (each (summary_html query.now) summaries.now)) }
 {
     for summary in summaries {
-        push_listed(out, filter, summary)?;
+        push_summary(out, query, summary)?;
     }
     Ok(())
 }
@@ -164,6 +197,120 @@ fn push_form<A: Allocator>(out: &mut String<A>, filter: &Filter<A>) -> Result<()
     push_markup(out, "></label><button>Show</button></form>")
 }
 
+/// Appends three digits.
+fn push_three<A: Allocator>(out: &mut String<A>, number: u64) -> Result<(), OutOfMemory>
+    ensures { OnOk result (string_bytes out.new
+        ≡ string_bytes out.old ++ html_bytes (three number)) }
+{
+    push_number(out, number / 100)?;
+    push_number(out, number / 10 % 10)?;
+    push_number(out, number % 10)
+}
+
+/// Appends a number of at most six digits, in groups of three.
+fn push_thousands<A: Allocator>(out: &mut String<A>, number: u64) -> Result<(), OutOfMemory>
+    ensures { OnOk result (string_bytes out.new
+        ≡ string_bytes out.old ++ html_bytes (thousands number)) }
+{
+    push_number(out, number / 1_000)?;
+    push_markup(out, ",")?;
+    push_three(out, number % 1_000)
+}
+
+/// Appends a greater number, in groups of three.
+fn push_millions<A: Allocator>(out: &mut String<A>, number: u64) -> Result<(), OutOfMemory>
+    ensures { OnOk result (string_bytes out.new
+        ≡ string_bytes out.old ++ html_bytes (millions number)) }
+{
+    push_number(out, number / 1_000_000)?;
+    push_markup(out, ",")?;
+    push_three(out, number / 1_000 % 1_000)?;
+    push_markup(out, ",")?;
+    push_three(out, number % 1_000)
+}
+
+/// Appends a number, its digits in groups of three.
+#[tactic(auto, unfolding(crate::specs::Lists::grouped))]
+fn push_grouped<A: Allocator>(out: &mut String<A>, number: u64) -> Result<(), OutOfMemory>
+    ensures { OnOk result (string_bytes out.new
+        ≡ string_bytes out.old ++ html_bytes (grouped number)) }
+{
+    if number < 1_000 {
+        push_number(out, number)
+    } else if number < 1_000_000 {
+        push_thousands(out, number)
+    } else {
+        push_millions(out, number)
+    }
+}
+
+/// Appends the address at which traces are taken, up to its path.
+#[tactic(auto, unfolding(crate::specs::Html::html_bytes, crate::specs::Lists::address_html))]
+fn push_address<A: Allocator>(out: &mut String<A>, host: &str) -> Result<(), OutOfMemory>
+    ensures { OnOk result (string_bytes out.new
+        ≡ string_bytes out.old ++ html_bytes (address_html host.now)) }
+{
+    if host.is_empty() {
+        return Ok(());
+    }
+    push_markup(out, "http://")?;
+    push_text(out, host)
+}
+
+/// Appends where traces are to be sent, since none is here.
+fn push_empty<A: Allocator>(out: &mut String<A>, host: &str) -> Result<(), OutOfMemory>
+    ensures { OnOk result (string_bytes out.new
+        ≡ string_bytes out.old ++ html_bytes (empty_html host.now)) }
+{
+    push_markup(out, "<p>No trace is here yet. Post traces to <code>")?;
+    push_address(out, host)?;
+    push_markup(out, "/v1/traces</code>.</p>")
+}
+
+/// Appends that none of the traces that are kept is in the list.
+fn push_none<A: Allocator>(out: &mut String<A>, total: u64) -> Result<(), OutOfMemory>
+    ensures { OnOk result (string_bytes out.new
+        ≡ string_bytes out.old ++ html_bytes (none_html total)) }
+{
+    push_markup(out, "<p>Nothing matches. Traces that are kept: ")?;
+    push_grouped(out, total)?;
+    push_markup(out, ". <a href='/'>Show all</a></p>")
+}
+
+/// Appends that some of the traces that are kept are in the list.
+fn push_some<A: Allocator>(out: &mut String<A>, shown: u64, total: u64) -> Result<(), OutOfMemory>
+    ensures { OnOk result (string_bytes out.new
+        ≡ string_bytes out.old ++ html_bytes (some_html shown total)) }
+{
+    push_markup(out, "<p>Showing ")?;
+    push_grouped(out, shown)?;
+    push_markup(out, " of ")?;
+    push_grouped(out, total)?;
+    push_markup(out, "</p>")
+}
+
+/// Appends what is said of a list that has so many of the traces that are kept.
+#[tactic(auto, unfolding(crate::specs::Html::html_bytes, crate::specs::Lists::shown_html))]
+fn push_shown<A: Allocator>(
+    out: &mut String<A>,
+    host: &str,
+    shown: u64,
+    total: u64,
+) -> Result<(), OutOfMemory>
+    ensures { OnOk result (string_bytes out.new
+        ≡ string_bytes out.old ++ html_bytes (shown_html host.now shown total)) }
+{
+    if total == 0 {
+        push_empty(out, host)
+    } else if shown == 0 {
+        push_none(out, total)
+    } else if shown < total {
+        push_some(out, shown, total)
+    } else {
+        Ok(())
+    }
+}
+
 /// Appends what is above the rows.
 fn push_list_head<A: Allocator>(out: &mut String<A>, filter: &Filter<A>) -> Result<(), OutOfMemory>
     ensures { OnOk result (string_bytes out.new
@@ -171,49 +318,77 @@ fn push_list_head<A: Allocator>(out: &mut String<A>, filter: &Filter<A>) -> Resu
 {
     push_start(out)?;
     push_markup(out, "Traces</title><header><h1>Traces</h1>")?;
-    push_form(out, filter)?;
+    push_form(out, filter)
+}
+
+/// Appends the rows, one below the other.
+fn push_table<A: Allocator + Copy>(
+    out: &mut String<A>,
+    query: &str,
+    summaries: &[Summary],
+) -> Result<(), OutOfMemory>
+    ensures { OnOk result (string_bytes out.new
+        ≡ string_bytes out.old ++ html_bytes (table_html query.now summaries.now)) }
+{
     push_markup(
         out,
         "</header><main><table><tr><th>Name<th>Service<th>Spans<th>Errors",
     )?;
-    push_markup(out, "<th>Duration<th>Start (UTC)")
+    push_markup(out, "<th>Duration<th>Start (UTC)")?;
+    push_summaries(out, query, summaries)?;
+    push_markup(out, "</table></main></html>")
 }
 
-/// Appends the list of traces (profile): the form of the filter, and a row for each of these that
-/// passes it, in this order, with a link to the page of the trace.
+/// Appends the list of traces (profile): the form of the filter, and a row for each of these, in
+/// this order, with a link to the page of the trace. A name and a service are cut at 120
+/// characters, with a mark.
+///
+/// The caller says what the list was asked for: `filter` is what the form shows, and the links have
+/// the query `query`, without its `?`, so that the pages of the traces know the way back. `total`
+/// says how many traces are kept, in the list or not: where that are more than there are rows, the
+/// page says so. `host` is the host with its port, as a `Host` field has it (RFC 9110, 7.2); where
+/// no trace is kept, the page says that traces are posted to `http://HOST/v1/traces`, or to the
+/// path alone where `host` is empty.
 ///
 /// # Errors
 ///
 /// `OutOfMemory` where the page could not be stored. It may then have been appended in part.
 pub fn write_list_page<A: Allocator + Copy>(
     out: &mut String<A>,
-    summaries: &[Summary],
     filter: &Filter<A>,
+    query: &str,
+    host: &str,
+    summaries: &[Summary],
+    total: u64,
 ) -> Result<(), OutOfMemory>
-    ensures { OnOk result (string_bytes out.new
-        ≡ string_bytes out.old ++ html_bytes (list_html filter.now summaries.now)) }
+    ensures { OnOk result (string_bytes out.new ≡ string_bytes out.old
+        ++ html_bytes (list_html filter.now query.now host.now summaries.now total)) }
 {
     push_list_head(out, filter)?;
-    push_each_listed(out, filter, summaries)?;
-    push_markup(out, "</table></main></html>")
+    push_shown(out, host, summaries.len() as u64, total)?;
+    push_table(out, query, summaries)
 }
 
 /// Appends a page that says in a few words why there is no other, and what to do: both are texts.
+/// Its link to the list has the query `query`, without its `?`.
 ///
 /// # Errors
 ///
 /// `OutOfMemory` where the page could not be stored. It may then have been appended in part.
 pub fn write_notice_page<A: Allocator>(
     out: &mut String<A>,
+    query: &str,
     title: &str,
     advice: &str,
 ) -> Result<(), OutOfMemory>
     ensures { OnOk result (string_bytes out.new
-        ≡ string_bytes out.old ++ html_bytes (notice_html title.now advice.now)) }
+        ≡ string_bytes out.old ++ html_bytes (notice_html query.now title.now advice.now)) }
 {
     push_start(out)?;
     push_text(out, title)?;
-    push_markup(out, "</title><header><a href='/'>All traces</a><h1>")?;
+    push_markup(out, "</title><header><a href='/")?;
+    push_query(out, query)?;
+    push_markup(out, "'>All traces</a><h1>")?;
     push_text(out, title)?;
     push_markup(out, "</h1><p>")?;
     push_text(out, advice)?;

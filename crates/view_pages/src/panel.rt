@@ -4,17 +4,21 @@ ghost use Rattle.std.specs.Prelude.{◌≡◌, ◌++◌, OnOk, string_bytes};
 ghost use Rattle.view_pages.specs.Html.{each, html_bytes};
 ghost use Rattle.view_pages.specs.Panels.{attributes_html, both_html, context_html, dropped_html};
 ghost use Rattle.view_pages.specs.Panels.{event_html, event_name_html, events_html, facts_html};
-ghost use Rattle.view_pages.specs.Panels.{flags_html, ids_html, kind_html, link_html, links_html, offset_html};
-ghost use Rattle.view_pages.specs.Panels.{panel_html, parts_html, place_html, resource_html};
-ghost use Rattle.view_pages.specs.Panels.{scope_html, state_html, status_html, times_html};
-ghost use Rattle.view_pages.specs.Panels.{url_html, version_html};
+ghost use Rattle.view_pages.specs.Panels.{flags_html, ids_html, instant_html, kind_html};
+ghost use Rattle.view_pages.specs.Panels.{link_html, links_html, message_html, offset_html};
+ghost use Rattle.view_pages.specs.Panels.{panel_html, parent_html, parent_link_html, parts_html};
+ghost use Rattle.view_pages.specs.Panels.{place_html, resource_html, scope_html, state_html};
+ghost use Rattle.view_pages.specs.Panels.{status_html, times_html, trace_state_html, url_html};
+ghost use Rattle.view_pages.specs.Panels.{version_html};
 
+use crate::date::push_moment;
 use crate::html::{push_digits, push_markup, push_number, push_signed, push_text};
 use crate::times::push_duration;
 use crate::value::push_list;
 use otlp_ids::OutOfMemory;
 use otlp_read::{AnyValue, Event, Link, Span, Status};
 use std::alloc::Allocator;
+use trace_tree::Place;
 use view_span::{ViewResource, ViewScope, ViewSpan};
 
 /// Appends how many parts the sender dropped, unless it is none.
@@ -174,6 +178,19 @@ fn push_flags<A: Allocator + Copy>(out: &mut String<A>, flags: u32) -> Result<()
     push_digits(out, &flags.to_be_bytes())
 }
 
+/// Appends a trace state, unless it is empty.
+#[tactic(auto, unfolding(crate::specs::Html::html_bytes, crate::specs::Panels::trace_state_html))]
+fn push_trace_state<A: Allocator>(out: &mut String<A>, trace_state: &str) -> Result<(), OutOfMemory>
+    ensures { OnOk result (string_bytes out.new
+        ≡ string_bytes out.old ++ html_bytes (trace_state_html trace_state.now)) }
+{
+    if trace_state.len() == 0 {
+        return Ok(());
+    }
+    push_markup(out, "<dt>trace state<dd>")?;
+    push_text(out, trace_state)
+}
+
 /// Appends the trace state and the flags of a span or a link.
 fn push_context<A: Allocator + Copy>(
     out: &mut String<A>,
@@ -183,8 +200,7 @@ fn push_context<A: Allocator + Copy>(
     ensures { OnOk result (string_bytes out.new
         ≡ string_bytes out.old ++ html_bytes (context_html trace_state.now flags)) }
 {
-    push_markup(out, "<dt>trace state<dd>")?;
-    push_text(out, trace_state)?;
+    push_trace_state(out, trace_state)?;
     push_markup(out, "<dt>flags<dd>")?;
     push_flags(out, flags)?;
     push_markup(out, "</dl>")
@@ -306,18 +322,65 @@ fn push_status<A: Allocator>(out: &mut String<A>, status: &Status<A>) -> Result<
     }
 }
 
-/// Appends the identifier of a span, and that of its parent, as a link to the parent's row.
-fn push_ids<A: Allocator + Copy>(out: &mut String<A>, span: &Span<A>) -> Result<(), OutOfMemory>
+/// Appends the identifier of a parent, as a link to the parent's row.
+fn push_parent_link<A: Allocator + Copy>(out: &mut String<A>, id: &[u8]) -> Result<(), OutOfMemory>
     ensures { OnOk result (string_bytes out.new
-        ≡ string_bytes out.old ++ html_bytes (ids_html span.now)) }
+        ≡ string_bytes out.old ++ html_bytes (parent_link_html id.now)) }
+{
+    push_markup(out, "<dt>parent<dd><a href='#s-")?;
+    push_digits(out, id)?;
+    push_markup(out, "'>")?;
+    push_digits(out, id)?;
+    push_markup(out, "</a>")
+}
+
+/// Appends the parent of a span in this place: none of a root, and no link where it wasn't
+/// received.
+#[tactic(auto, unfolding(crate::specs::Html::html_bytes, crate::specs::Panels::parent_html))]
+fn push_parent<A: Allocator + Copy>(
+    out: &mut String<A>,
+    place: Place,
+    id: &[u8],
+) -> Result<(), OutOfMemory>
+    ensures { OnOk result (string_bytes out.new
+        ≡ string_bytes out.old ++ html_bytes (parent_html place id.now)) }
+{
+    match place {
+        Place::Root => Ok(()),
+        Place::Child => push_parent_link(out, id),
+        Place::Orphan => {
+            push_markup(out, "<dt>parent<dd>")?;
+            push_digits(out, id)
+        }
+        Place::Cycle => push_parent_link(out, id),
+    }
+}
+
+/// Appends the identifiers of a span and of its parent.
+fn push_ids<A: Allocator + Copy>(
+    out: &mut String<A>,
+    span: &Span<A>,
+    place: Place,
+) -> Result<(), OutOfMemory>
+    ensures { OnOk result (string_bytes out.new
+        ≡ string_bytes out.old ++ html_bytes (ids_html span.now place)) }
 {
     push_markup(out, "<dl><dt>span<dd>")?;
     push_digits(out, &span.span_id)?;
-    push_markup(out, "<dt>parent<dd><a href='#s-")?;
-    push_digits(out, &span.parent_span_id)?;
-    push_markup(out, "'>")?;
-    push_digits(out, &span.parent_span_id)?;
-    push_markup(out, "</a>")
+    push_parent(out, place, &span.parent_span_id)
+}
+
+/// Appends what is said of a status, unless it is nothing.
+#[tactic(auto, unfolding(crate::specs::Html::html_bytes, crate::specs::Panels::message_html))]
+fn push_message<A: Allocator>(out: &mut String<A>, message: &str) -> Result<(), OutOfMemory>
+    ensures { OnOk result (string_bytes out.new
+        ≡ string_bytes out.old ++ html_bytes (message_html message.now)) }
+{
+    if message.len() == 0 {
+        return Ok(());
+    }
+    push_markup(out, ": ")?;
+    push_text(out, message)
 }
 
 /// Appends the kind of a span, its status and what is said of that.
@@ -329,28 +392,42 @@ fn push_state<A: Allocator>(out: &mut String<A>, span: &Span<A>) -> Result<(), O
     push_kind(out, span)?;
     push_markup(out, "<dt>status<dd>")?;
     push_status(out, &span.status)?;
-    push_markup(out, " ")?;
-    push_text(out, &span.status.message)
+    push_message(out, &span.status.message)
 }
 
-/// Appends when a span started and ended, in nanoseconds since 1970, its trace state and its flags.
+/// Appends a date and a time in UTC, and the nanoseconds since 1970.
+fn push_instant<A: Allocator>(out: &mut String<A>, nanos: u64) -> Result<(), OutOfMemory>
+    ensures { OnOk result (string_bytes out.new
+        ≡ string_bytes out.old ++ html_bytes (instant_html nanos)) }
+{
+    push_moment(out, nanos)?;
+    push_markup(out, " <small>")?;
+    push_number(out, nanos)?;
+    push_markup(out, "</small>")
+}
+
+/// Appends when a span started and ended, its trace state and its flags.
 fn push_times<A: Allocator + Copy>(out: &mut String<A>, span: &Span<A>) -> Result<(), OutOfMemory>
     ensures { OnOk result (string_bytes out.new
         ≡ string_bytes out.old ++ html_bytes (times_html span.now)) }
 {
     push_markup(out, "<dt>start<dd>")?;
-    push_number(out, span.start_time_unix_nano)?;
+    push_instant(out, span.start_time_unix_nano)?;
     push_markup(out, "<dt>end<dd>")?;
-    push_number(out, span.end_time_unix_nano)?;
+    push_instant(out, span.end_time_unix_nano)?;
     push_context(out, &span.trace_state, span.flags)
 }
 
 /// Appends the facts of a span.
-fn push_facts<A: Allocator + Copy>(out: &mut String<A>, span: &Span<A>) -> Result<(), OutOfMemory>
+fn push_facts<A: Allocator + Copy>(
+    out: &mut String<A>,
+    span: &Span<A>,
+    place: Place,
+) -> Result<(), OutOfMemory>
     ensures { OnOk result (string_bytes out.new
-        ≡ string_bytes out.old ++ html_bytes (facts_html span.now)) }
+        ≡ string_bytes out.old ++ html_bytes (facts_html span.now place)) }
 {
-    push_ids(out, span)?;
+    push_ids(out, span, place)?;
     push_state(out, span)?;
     push_times(out, span)
 }
@@ -374,11 +451,12 @@ fn push_parts<A: Allocator + Copy>(out: &mut String<A>, span: &Span<A>) -> Resul
 pub(crate) fn push_panel<A: Allocator + Copy>(
     out: &mut String<A>,
     span: &ViewSpan<A>,
+    place: Place,
 ) -> Result<(), OutOfMemory>
     ensures { OnOk result (string_bytes out.new
-        ≡ string_bytes out.old ++ html_bytes (panel_html span.now)) }
+        ≡ string_bytes out.old ++ html_bytes (panel_html span.now place)) }
 {
-    push_facts(out, &span.span)?;
+    push_facts(out, &span.span, place)?;
     push_parts(out, &span.span)?;
     push_resource(out, &span.resource)?;
     push_scope(out, &span.scope)

@@ -1,24 +1,24 @@
 //! The rows of the page of a trace.
 
-ghost use Rattle.std.specs.Prelude.{◌≡◌, ◌++◌, OnOk, slice_get, string_bytes};
+ghost use Rattle.std.specs.Prelude.{◌≡◌, ◌++◌, OnOk, option_map, slice_get, string_bytes};
+ghost use Rattle.std.specs.Arc.{arc_value};
 ghost use Rattle.view_pages.specs.Html.{each, html_bytes};
-ghost use Rattle.view_pages.specs.Repeats.{AreUses};
+ghost use Rattle.view_pages.specs.Pieces.{line_html};
 ghost use Rattle.view_pages.specs.Rows.{bad_html, bar_html, class_html, depth_html, id_html};
-ghost use Rattle.view_pages.specs.Rows.{is_cycle, is_orphan, label_html, level_of, page_row};
-ghost use Rattle.view_pages.specs.Rows.{page_rows, remark_html, remarks_html, row_html};
-ghost use Rattle.view_pages.specs.Rows.{span_html, span_rest};
+ghost use Rattle.view_pages.specs.Rows.{is_cycle, is_orphan, label_html, level_of, name_html};
+ghost use Rattle.view_pages.specs.Rows.{remark_html, remarks_html, span_html, span_rest};
 ghost use Rattle.view_pages.specs.Rows.{tag_html, tick_html, time_html, width_of};
 
-use crate::facts::{end_of, ends_early, frame_of, is_error, service_colour, service_of, time_of};
+use crate::facts::{end_of, ends_early, is_error, service_of, time_of};
 use crate::html::{push_digits, push_markup, push_number, push_text};
+use crate::line::Line;
 use crate::panel::push_panel;
-use crate::repeat::{Mark, Use, mark_of, uses_of};
 use crate::times::{Frame, push_duration, share_of};
 use otlp_ids::OutOfMemory;
 use otlp_read::{Event, Span};
 use std::alloc::Allocator;
-use std::collections::BTreeMap;
-use trace_tree::{Place, Row};
+use std::sync::Arc;
+use trace_tree::Place;
 use view_span::ViewSpan;
 
 /// Appends words where something holds.
@@ -110,15 +110,15 @@ fn push_id<A: Allocator + Copy>(
 fn push_class<A: Allocator + Copy>(
     out: &mut String<A>,
     span: &ViewSpan<A>,
-    is_first: bool,
+    line: &Line,
 ) -> Result<(), OutOfMemory>
     ensures { OnOk result (string_bytes out.new
-        ≡ string_bytes out.old ++ html_bytes (class_html span.now is_first)) }
+        ≡ string_bytes out.old ++ html_bytes (class_html span.now line.now)) }
 {
     push_markup(out, " class='row c")?;
-    push_number(out, service_colour(span))?;
+    push_number(out, line.colour)?;
     push_bad(out, is_error(&span.span))?;
-    push_id(out, is_first, &span.span.span_id)
+    push_id(out, line.mark.is_first, &span.span.span_id)
 }
 
 /// A depth, counted from 1.
@@ -163,6 +163,20 @@ fn push_bar<A: Allocator>(
     push_markup(out, "'>")
 }
 
+/// Appends the name of a span, or that it has none.
+#[tactic(auto, unfolding(crate::specs::Html::html_bytes, crate::specs::Rows::name_html))]
+fn push_name<A: Allocator>(out: &mut String<A>, name: &str) -> Result<(), OutOfMemory>
+    ensures { OnOk result (string_bytes out.new
+        ≡ string_bytes out.old ++ html_bytes (name_html name.now)) }
+{
+    if name.len() == 0 {
+        return push_markup(out, "<b class='blank'>(no name)</b>");
+    }
+    push_markup(out, "<b>")?;
+    push_text(out, name)?;
+    push_markup(out, "</b>")
+}
+
 /// Appends the name of a span, its service and what is remarked.
 fn push_label<A: Allocator>(
     out: &mut String<A>,
@@ -173,9 +187,9 @@ fn push_label<A: Allocator>(
     ensures { OnOk result (string_bytes out.new
         ≡ string_bytes out.old ++ html_bytes (label_html span.now place is_repeated)) }
 {
-    push_markup(out, "<details><summary><span class='label'><b>")?;
-    push_text(out, &span.span.name)?;
-    push_markup(out, "</b> <small>")?;
+    push_markup(out, "<details><summary><span class='label'>")?;
+    push_name(out, &span.span.name)?;
+    push_markup(out, " <small>")?;
     push_text(out, service_of(span))?;
     push_markup(out, "</small>")?;
     push_remarks(out, &span.span, place, is_repeated)
@@ -231,15 +245,14 @@ fn push_time<A: Allocator>(
 fn push_tag<A: Allocator + Copy>(
     out: &mut String<A>,
     span: &ViewSpan<A>,
-    depth: usize,
-    is_first: bool,
+    line: &Line,
     frame: Frame,
 ) -> Result<(), OutOfMemory>
     ensures { OnOk result (string_bytes out.new
-        ≡ string_bytes out.old ++ html_bytes (tag_html span.now depth is_first frame)) }
+        ≡ string_bytes out.old ++ html_bytes (tag_html span.now line.now frame)) }
 {
-    push_class(out, span, is_first)?;
-    push_depth(out, depth)?;
+    push_class(out, span, line)?;
+    push_depth(out, line.row.depth)?;
     push_bar(out, &span.span, frame)
 }
 
@@ -247,17 +260,16 @@ fn push_tag<A: Allocator + Copy>(
 fn push_span<A: Allocator + Copy>(
     out: &mut String<A>,
     span: &ViewSpan<A>,
-    row: &Row,
-    mark: Mark,
+    line: &Line,
     frame: Frame,
 ) -> Result<(), OutOfMemory>
     ensures { OnOk result (string_bytes out.new
-        ≡ string_bytes out.old ++ html_bytes (span_html span.now row.now mark frame)) }
+        ≡ string_bytes out.old ++ html_bytes (span_html span.now line.now frame)) }
 {
-    push_tag(out, span, row.depth, mark.is_first, frame)?;
-    push_label(out, span, row.place, mark.is_repeated)?;
+    push_tag(out, span, line, frame)?;
+    push_label(out, span, line.row.place, line.mark.is_repeated)?;
     push_time(out, &span.span, frame)?;
-    push_panel(out, span)?;
+    push_panel(out, span, line.row.place)?;
     push_markup(out, "</div></details></li>")
 }
 
@@ -265,70 +277,31 @@ fn push_span<A: Allocator + Copy>(
 #[tactic(auto, unfolding(crate::specs::Html::html_bytes))]
 fn push_rest<A: Allocator + Copy>(
     out: &mut String<A>,
-    spans: &[&ViewSpan<A>],
-    uses: &BTreeMap<&[u8], Use, A>,
-    row: &Row,
+    spans: &[Arc<ViewSpan<A>, A>],
+    line: &Line,
     frame: Frame,
 ) -> Result<(), OutOfMemory>
-    requires { AreUses spans.now uses.now }
-    ensures { OnOk result (string_bytes out.new ≡ string_bytes out.old
-        ++ html_bytes (span_rest spans.now (slice_get spans.now row.now.index) row.now frame)) }
+    ensures { OnOk result (string_bytes out.new ≡ string_bytes out.old ++ html_bytes
+        (span_rest (option_map arc_value (slice_get spans.now line.now.row.index)) line.now frame)) }
 {
-    match spans.get(row.index) {
-        Some(span) => {
-            let mark = mark_of(uses, &span.span.span_id, row.index);
-            push_span(out, span, row, mark, frame)
-        }
+    match spans.get(line.row.index) {
+        Some(span) => push_span(out, span, line, frame),
         None => Ok(()),
     }
 }
 
 /// Appends a row.
-fn push_row<A: Allocator + Copy>(
+pub(crate) fn push_line<A: Allocator + Copy>(
     out: &mut String<A>,
-    spans: &[&ViewSpan<A>],
-    uses: &BTreeMap<&[u8], Use, A>,
-    row: &Row,
+    spans: &[Arc<ViewSpan<A>, A>],
+    line: &Line,
     frame: Frame,
-) -> Result<(), OutOfMemory>
-    requires { AreUses spans.now uses.now }
-    ensures { OnOk result (string_bytes out.new ≡ string_bytes out.old
-        ++ html_bytes (row_html (page_row spans.now frame row.now))) }
-{
-    push_markup(out, "<li data-row='")?;
-    push_number(out, row.index as u64)?;
-    push_markup(out, "'")?;
-    push_rest(out, spans, uses, row, frame)
-}
-
-/// Appends rows in this time.
-#[tactic(auto, unfolding(crate::specs::Html::html_bytes))]
-fn push_each_row<A: Allocator + Copy>(
-    out: &mut String<A>,
-    spans: &[&ViewSpan<A>],
-    uses: &BTreeMap<&[u8], Use, A>,
-    rows: &[Row],
-    frame: Frame,
-) -> Result<(), OutOfMemory>
-    requires { AreUses spans.now uses.now }
-    ensures { OnOk result (string_bytes out.new ≡ string_bytes out.old
-        ++ html_bytes (each (λ row. row_html (page_row spans.now frame row)) rows.now)) }
-{
-    for row in rows {
-        push_row(out, spans, uses, row, frame)?;
-    }
-    Ok(())
-}
-
-/// Appends a row for each of these.
-pub(crate) fn push_rows<A: Allocator + Copy>(
-    out: &mut String<A>,
-    spans: &[&ViewSpan<A>],
-    rows: &[Row],
 ) -> Result<(), OutOfMemory>
     ensures { OnOk result (string_bytes out.new
-        ≡ string_bytes out.old ++ html_bytes (each row_html (page_rows spans.now rows.now))) }
+        ≡ string_bytes out.old ++ html_bytes (line_html spans.now frame line.now)) }
 {
-    let uses = uses_of(*out.allocator(), spans)?;
-    push_each_row(out, spans, &uses, rows, frame_of(spans))
+    push_markup(out, "<li data-row='")?;
+    push_number(out, line.row.index as u64)?;
+    push_markup(out, "'")?;
+    push_rest(out, spans, line, frame)
 }

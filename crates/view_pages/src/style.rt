@@ -4,14 +4,14 @@
 /// has a light and a dark theme, by what the browser prefers.
 pub const STYLE: &str = "
 :root { color-scheme: light dark; --back: #fff; --text: #1b2430; --soft: #566173; --line: #e2e7ee;
-  --card: #f5f7fa; --link: #0b57c4; --bad: #b3261e; --bad-back: #fbe9e7;
-  --c0: #3b74d9; --c1: #0e8a6b; --c2: #b5620c; --c3: #8a52cf; --c4: #c23a7c; --c5: #16829a;
-  --c6: #6c7a12; --c7: #9a5b45; }
+  --grid: #838d9b; --card: #f5f7fa; --link: #0b57c4; --bad: #b3261e; --bad-back: #fbe9e7;
+  --c0: #2f6fe0; --c1: #b5620c; --c2: #0e8a6b; --c3: #c23a7c; --c4: #6c7a12; --c5: #8a52cf;
+  --c6: #7d4a36; --c7: #0f7f9e; }
 @media (prefers-color-scheme: dark) {
   :root { --back: #12161d; --text: #e6eaf0; --soft: #a2adbd; --line: #2a313c; --card: #1a2029;
-    --link: #8ab8ff; --bad: #ff9b90; --bad-back: #40211f;
-    --c0: #6f9df0; --c1: #3fb894; --c2: #e0964a; --c3: #b18bea; --c4: #e87db0; --c5: #4bb4cb;
-    --c6: #a9b84b; --c7: #cc9682; }
+    --grid: #66717f; --link: #8ab8ff; --bad: #ff9b90; --bad-back: #40211f;
+    --c0: #6f9df0; --c1: #e0964a; --c2: #3fb894; --c3: #e87db0; --c4: #a9b84b; --c5: #b18bea;
+    --c6: #cc9682; --c7: #4bc4e0; }
 }
 * { box-sizing: border-box; }
 body { margin: 0; background: var(--back); color: var(--text);
@@ -25,29 +25,40 @@ code, dd { font-size: 0.92em; }
 b, dt, dd, h5, td { unicode-bidi: isolate; }
 .rows { list-style: none; margin: 0; padding: 0 0 2rem; }
 .row { border-bottom: 1px solid var(--line); content-visibility: auto;
-  contain-intrinsic-size: auto 30px; }
+  contain-intrinsic-size: auto 30px; scroll-margin-top: 2rem; }
+.axis, summary { display: grid; grid-template-columns: minmax(14rem, 36%) 1fr 5.5rem;
+  gap: 0.75rem; align-items: center; padding: 0 1.25rem; }
+.axis { position: sticky; top: 0; z-index: 1; min-height: 1.6rem; background: var(--back);
+  border-bottom: 1px solid var(--grid); color: var(--soft); font-size: 0.78rem; }
+.axis span { grid-area: 1 / 2; white-space: nowrap; padding-left: 0.2rem; }
+.axis span:nth-child(2) { margin-left: 25%; } .axis span:nth-child(3) { margin-left: 50%; }
+.axis span:nth-child(4) { margin-left: 75%; }
+.axis span:nth-child(5) { grid-area: 1 / 3; margin-left: -0.75rem; }
 .row:target > details > summary { outline: 2px solid var(--link); outline-offset: -2px; }
 .c0 { --c: var(--c0); } .c1 { --c: var(--c1); } .c2 { --c: var(--c2); } .c3 { --c: var(--c3); }
 .c4 { --c: var(--c4); } .c5 { --c: var(--c5); } .c6 { --c: var(--c6); } .c7 { --c: var(--c7); }
-summary { display: grid; grid-template-columns: minmax(14rem, 36%) 1fr 5.5rem; gap: 0.75rem;
-  align-items: center; min-height: 29px; padding: 0 1.25rem; cursor: pointer; list-style: none; }
+summary { min-height: 29px; cursor: pointer; list-style: none; }
 summary::-webkit-details-marker { display: none; }
 summary:hover, details[open] > summary { background: var(--card); }
 summary:focus-visible { outline: 2px solid var(--link); outline-offset: -2px; }
-.label { margin-left: calc(min(var(--d), 24) * 0.9rem); padding-left: 0.5rem;
+.label { margin-left: min(calc(var(--d) * 0.9rem), 40%); padding-left: 0.5rem;
   border-left: 4px solid var(--c); display: flex; gap: 0.45rem; align-items: baseline;
   overflow: hidden; white-space: nowrap; }
-.label b { font-weight: 600; min-width: 3rem; overflow: hidden; text-overflow: ellipsis; }
-.label small { color: var(--soft); min-width: 0; flex: 0 9 auto; overflow: hidden;
+.label b { font-weight: 600; min-width: 4rem; flex: 0 1 auto; overflow: hidden;
   text-overflow: ellipsis; }
-.label em { flex: none; }
+.label .blank { font-weight: 400; font-style: italic; color: var(--soft); }
+.label small { color: var(--soft); min-width: 0; flex: 0 99 auto; overflow: hidden;
+  text-overflow: ellipsis; }
+.label em { min-width: 2.8rem; flex: 0 2 auto; overflow: hidden; text-overflow: ellipsis; }
 em { font-style: normal; font-size: 0.82em; padding: 0.05rem 0.4rem; border-radius: 0.6rem;
   color: var(--bad); background: var(--bad-back); }
 .time { position: relative; height: 15px; background-image: linear-gradient(90deg,
-  var(--line) 1px, transparent 1px); background-size: 25% 100%; }
+  var(--grid) 1px, transparent 1px); background-size: 25% 100%;
+  border-right: 1px solid var(--grid); }
 .bar { position: absolute; top: 2px; bottom: 2px; left: min(calc(var(--s) * 0.01%), 100% - 3px);
   width: calc(var(--w) * 0.01%); min-width: 3px; border-radius: 3px; background: var(--c); }
-.bad .bar { background: repeating-linear-gradient(135deg, var(--bad) 0 6px, var(--c) 6px 9px); }
+.bad .bar { border: 1px solid var(--bad);
+  background: repeating-linear-gradient(135deg, var(--bad) 0 6px, var(--back) 6px 9px); }
 .tick { position: absolute; top: 0; bottom: 0; width: 2px; background: var(--text);
   left: min(calc(var(--t) * 0.01%), 100% - 2px); }
 .took { text-align: right; color: var(--soft); white-space: nowrap; }
@@ -58,9 +69,9 @@ h4 { margin: 0.8rem 0 0.25rem; font-size: 0.95rem; } h5 { margin: 0.4rem 0 0.1re
 h5 small { color: var(--soft); font-weight: 400; }
 h4:has(+ dl:empty):not(:has(em), :has(+ dl + p)), h4:not(:has(em)):not(:has(+ dl, + h5)), p:empty,
 dl:empty { display: none; }
-dl { display: grid; grid-template-columns: minmax(6rem, max-content) 1fr; gap: 0.1rem 1rem;
+dl { display: grid; grid-template-columns: fit-content(40%) 1fr; gap: 0.1rem 1rem;
   margin: 0; }
-dt { color: var(--soft); } dd { margin: 0; white-space: pre-wrap; }
+dt, dd small { color: var(--soft); } dd { margin: 0; white-space: pre-wrap; }
 .panel p { margin: 0.2rem 0; color: var(--soft); } ul { margin: 0; padding-left: 1.1rem; }
 dl dl { border-left: 1px solid var(--line); padding-left: 0.6rem; }
 form { display: flex; flex-wrap: wrap; gap: 0.5rem 1rem; align-items: end; margin: 0.5rem 0; }
@@ -73,10 +84,18 @@ table { border-collapse: collapse; width: 100%; } th { text-align: left; color: 
   font-weight: 500; } td, th { padding: 0.35rem 1.25rem; border-bottom: 1px solid var(--line); }
 tr:hover td { background: var(--card); }
 @media (max-width: 640px) {
-  summary { grid-template-columns: 1fr 5.5rem; padding: 0.25rem 0.75rem; gap: 0.2rem 0.5rem; }
-  .label { grid-column: 1 / 3; margin-left: calc(min(var(--d), 12) * 0.5rem); }
-  header, td, th { padding-left: 0.75rem; padding-right: 0.75rem; }
+  .axis, summary { grid-template-columns: 1fr 5.5rem; padding: 0 0.75rem; gap: 0.2rem 0.5rem; }
+  summary { padding-top: 0.25rem; padding-bottom: 0.25rem; }
+  .axis span { grid-area: 1 / 1; } .axis span:nth-child(even) { display: none; }
+  .axis span:nth-child(5) { grid-area: 1 / 2; margin-left: -0.5rem; }
+  .label { grid-column: 1 / 3; margin-left: min(calc(var(--d) * 0.5rem), 40%); }
+  header { padding-left: 0.75rem; padding-right: 0.75rem; }
   .panel { margin: 0 0.5rem 0.6rem; }
   dl { grid-template-columns: 1fr; } dd { padding-left: 0.75rem; }
+  table, tbody, tr { display: block; } tr:has(th) { display: none; }
+  tr { padding: 0.4rem 0.75rem; border-bottom: 1px solid var(--line); }
+  td { display: inline-block; padding: 0 0.8rem 0 0; border: 0; overflow-wrap: anywhere; }
+  td:first-child { display: block; font-weight: 600; }
+  td:nth-child(3)::before { content: 'spans: '; } td:nth-child(4)::before { content: 'errors: '; }
 }
 ";

@@ -5,6 +5,7 @@ ghost use Rattle.view_pages.specs.Html.{Markup, Signed, Text, ◌▹◌, each, h
 ghost use Rattle.view_pages.specs.Values.{any_html, bytes_html, double_html, item_html, pair_html};
 
 use crate::html::{push_digits, push_markup, push_text};
+use double_text::write_double;
 use otlp_ids::OutOfMemory;
 use otlp_read::AnyValue;
 use std::alloc::Allocator;
@@ -40,15 +41,13 @@ fn push_int<A: Allocator>(out: &mut String<A>, number: &i64) -> Result<(), OutOf
     Ok(write!(out, "{number}")?)
 }
 
-/// Appends the 64 bits of a double.
+/// Appends the number that a double is.
 #[tactic(auto, unfolding(crate::specs::Html::html_bytes))]
-fn push_double<A: Allocator + Copy>(out: &mut String<A>, bits: u64) -> Result<(), OutOfMemory>
+fn push_double<A: Allocator>(out: &mut String<A>, bits: u64) -> Result<(), OutOfMemory>
     ensures { OnOk result (string_bytes out.new
         ≡ string_bytes out.old ++ html_bytes (double_html bits)) }
 {
-    push_markup(out, "<data>")?;
-    push_digits(out, &bits.to_be_bytes())?;
-    push_markup(out, "</data>")
+    Ok(write_double(out, bits)?)
 }
 
 /// Appends bytes.

@@ -1,13 +1,16 @@
 //! The list of traces, and its filter.
 use crate::tests::equal::{assert_equal, assert_has, assert_lacks};
-use crate::tests::made::{Made, lent, spans_of};
+use crate::tests::made::{Made, spans_of};
 use otlp_ids::OutOfMemory;
 use std::alloc::{Allocator, Global};
+use std::sync::Arc;
 use std::test::Fail;
 use test_support::FailingAllocator;
+use trace_store::Digest;
 use view_pages::{
-    Filter, FilterFault, STYLE, Summary, summary_of, write_list_page, write_notice_page,
+    Filter, FilterFault, STYLE, Summary, summary_of_digest, write_list_page, write_notice_page,
 };
+use view_span::{TraceDigest, ViewSpan};
 
 /// A trace of three spans, of which one is an error, that took 1,500 ms.
 const ALL: [Made<'static>; 3] = [
@@ -43,30 +46,52 @@ fn list(alloc: Global, query: &str) -> Result<String, FilterFault> {
     Ok(list_with(alloc, &filter)?)
 }
 
+/// What is said in short of a trace with these spans.
+fn digest_of<A: Allocator + Copy>(
+    alloc: A,
+    all: &[Made],
+) -> Result<TraceDigest<ViewSpan<A>, A>, OutOfMemory> {
+    let mut digest = TraceDigest::empty();
+    for span in spans_of(alloc, all)? {
+        digest.add(&Arc::new(alloc, span)?)?;
+    }
+    Ok(digest)
+}
+
+/// What a list has of a trace that may pass a filter.
+fn passing<'a, A: Allocator + Copy>(
+    alloc: A,
+    filter: &Filter<A>,
+    digest: &'a TraceDigest<ViewSpan<A>, A>,
+) -> Result<Vec<Summary<'a>, A>, OutOfMemory> {
+    let mut summaries = Vec::new(alloc);
+    if let Some(summary) = summary_of_digest(0xabc, digest) {
+        if filter.matches(&summary) {
+            summaries.push(summary)?;
+        }
+    }
+    Ok(summaries)
+}
+
 /// The list that passes a filter, of one trace.
 fn list_with<A: Allocator + Copy>(alloc: A, filter: &Filter<A>) -> Result<String<A>, OutOfMemory> {
-    let spans = spans_of(alloc, ALL.as_slice())?;
-    let lent = lent(alloc, &spans)?;
-    let mut summaries = Vec::new(alloc);
-    if let Some(summary) = summary_of(0xabc, &lent) {
-        summaries.push(summary)?;
-    }
+    let digest = digest_of(alloc, ALL.as_slice())?;
+    let summaries = passing(alloc, filter, &digest)?;
     let mut page = String::new(alloc);
-    write_list_page(&mut page, &summaries, filter)?;
+    write_list_page(&mut page, filter, "", "", &summaries, 1)?;
     Ok(page)
 }
 
 /// The row of the trace.
 const ROW: &str = concat!(
     "<tr><td><a href='/trace/00000000000000000000000000000abc'>&lt;root&gt;</a>",
-    "<td>shop&lt;<td>3<td>1<td>1.50 s<td>14:13:20</table>",
+    "<td>shop&lt;<td>3<td>1<td>1.50 s<td>2026-09-21 14:13:20</table>",
 );
 
 #[test]
 fn a_trace_is_listed_that_passes_the_filter(rt: HostRuntime) {
     for query in [
         "",
-        "service=shop%3C",
         "name=%3Cro",
         "least=1500",
         "errors=1",
@@ -82,13 +107,7 @@ fn a_trace_is_listed_that_passes_the_filter(rt: HostRuntime) {
 
 #[test]
 fn a_trace_is_left_out_that_does_not(rt: HostRuntime) {
-    for query in [
-        "service=shop",
-        "service=Shop%3C",
-        "name=root",
-        "name=%3Croot%3E+",
-        "least=1501",
-    ] {
+    for query in ["name=root", "name=%3Croot%3E+", "least=1501"] {
         match list(rt.alloc(), query) {
             Ok(page) => assert_lacks(&rt, &page, "<tr><td>"),
             Err(fault) => assert_equal(&rt, Some(fault), None),
@@ -145,18 +164,18 @@ fn each_refusal_of_memory_is_said(rt: HostRuntime) {
 
 #[test]
 fn no_spans_have_no_summary(rt: HostRuntime) {
-    let is_none = summary_of::<Global>(1, &[]).is_none();
-    assert_equal(&rt, is_none, true);
+    let none: TraceDigest = TraceDigest::empty();
+    assert_equal(&rt, summary_of_digest(1, &none).is_none(), true);
 }
 
 #[test]
 fn an_error_says_what_to_do(rt: HostRuntime) -> Result<(), Fail> {
     let mut page = String::new(rt.alloc());
-    write_notice_page(&mut page, "No <trace>", "Look at the list.")?;
+    write_notice_page(&mut page, "errors=1", "No <trace>", "Look at the list.")?;
     assert_has(
         &rt,
         &page,
-        "<h1>No &lt;trace&gt;</h1><p>Look at the list.</p>",
+        "<a href='/?errors=1'>All traces</a><h1>No &lt;trace&gt;</h1><p>Look at the list.</p>",
     );
     assert_has(&rt, STYLE, "prefers-color-scheme: dark");
     Ok(())

@@ -161,6 +161,19 @@ pub(crate) fn spans_of<A: Allocator + Copy>(
     Ok(spans)
 }
 
+/// The same, each shared.
+pub(crate) fn owned<A: Allocator + Copy>(
+    alloc: A,
+    all: &[Made],
+) -> Result<Vec<Arc<ViewSpan<A>, A>, A>, OutOfMemory> {
+    let shared = Shared::new(alloc)?;
+    let mut spans = Vec::new(alloc);
+    for made in all {
+        spans.push(Arc::new(alloc, shared.span(alloc, *made)?)?)?;
+    }
+    Ok(spans)
+}
+
 /// References to spans.
 pub(crate) fn lent<'a, A: Allocator + Copy>(
     alloc: A,

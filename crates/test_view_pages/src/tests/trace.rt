@@ -1,11 +1,11 @@
 //! The page of a trace.
 use crate::tests::equal::{assert_equal, assert_has, assert_lacks};
-use crate::tests::made::{Made, lent, spans_of};
+use crate::tests::made::{Made, lent, owned, spans_of};
 use otlp_ids::OutOfMemory;
 use std::alloc::{Allocator, Global};
 use std::test::Fail;
 use test_support::FailingAllocator;
-use view_pages::{write_trace_page, write_trace_text};
+use view_pages::{TracePage, write_trace_text};
 
 /// A name that tries to leave its place and to turn the text around it.
 const HOSTILE: &str = "</b><script>alert(\"1\" & '2')</script>\u{202e}\0";
@@ -36,12 +36,33 @@ fn all() -> [Made<'static>; 7] {
     ]
 }
 
+/// The text of bytes; none where they are no UTF-8.
+fn text_of<A: Allocator + Copy>(alloc: A, bytes: Vec<u8, A>) -> String<A> {
+    match String::from_utf8(bytes) {
+        Ok(text) => text,
+        Err(_) => String::new(alloc),
+    }
+}
+
+/// A page that is written to its end, and in how many pieces: below a million.
+fn written<A: Allocator + Copy>(
+    alloc: A,
+    mut page: TracePage<A>,
+) -> Result<(String<A>, usize), OutOfMemory> {
+    let mut bytes = Vec::new(alloc);
+    for count in 1..1_000_000usize {
+        if !page.next(&mut bytes)? {
+            return Ok((text_of(alloc, bytes), count));
+        }
+    }
+    Ok((String::new(alloc), 0))
+}
+
 /// The page of the trace of these spans.
 fn page<A: Allocator + Copy>(alloc: A, all: &[Made]) -> Result<String<A>, OutOfMemory> {
-    let spans = spans_of(alloc, all)?;
-    let mut page = String::new(alloc);
-    write_trace_page(&mut page, 0x30, &lent(alloc, &spans)?)?;
-    Ok(page)
+    let page = TracePage::new(alloc, 0x30, owned(alloc, all)?)?;
+    let (text, _) = written(alloc, page)?;
+    Ok(text)
 }
 
 /// How often a text has a part.
@@ -59,6 +80,25 @@ fn each_span_has_a_row(rt: HostRuntime) -> Result<(), Fail> {
     assert_has(&rt, &page, "<em>error</em>");
     assert_has(&rt, &page, "<script src='/view.js' defer></script><title>");
     assert_has(&rt, &page, "<p>7 spans in 100.00 ms.");
+    assert_has(
+        &rt,
+        &page,
+        "<div class='axis'><span>0</span><span>25.00 ms</span><span>50.00 ms</span>",
+    );
+    Ok(())
+}
+
+#[test]
+fn what_is_missing_is_said(rt: HostRuntime) -> Result<(), Fail> {
+    let alloc = rt.alloc();
+    let page = page(
+        alloc,
+        [made(1, 0, "", 0, 1), made(3, 9, "orphan", 0, 1)].as_slice(),
+    )?;
+    assert_has(&rt, &page, "<b class='blank'>(no name)</b>");
+    assert_has(&rt, &page, "<dt>span<dd>0000000000000001<dt>kind");
+    assert_has(&rt, &page, "<dt>parent<dd>0000000000000009<dt>kind");
+    assert_lacks(&rt, &page, "<a href='#s-0000000000000009'>");
     Ok(())
 }
 
@@ -71,12 +111,12 @@ fn a_repeated_identifier_is_said(rt: HostRuntime) -> Result<(), Fail> {
     assert_has(
         &rt,
         &page,
-        "<li data-row='1' class='row c3 bad' id='s-0000000000000002' aria-level='2'",
+        "<li data-row='1' class='row c0 bad' id='s-0000000000000002' aria-level='2'",
     );
     assert_has(
         &rt,
         &page,
-        "<li data-row='6' class='row c3 bad' aria-level='2'",
+        "<li data-row='6' class='row c0 bad' aria-level='2'",
     );
     Ok(())
 }
@@ -103,7 +143,7 @@ fn a_panel_has_what_was_received(rt: HostRuntime) -> Result<(), Fail> {
     assert_has(
         &rt,
         &page,
-        "<dt>all&lt;<dd><ul><li>&lt;b&gt;&amp;&#39;&quot;<li>true<li>-7<li>",
+        "<dt>all&lt;<dd><ul><li>&lt;b&gt;&amp;&#39;&quot;<li>true<li>-7<li>2.5<li>",
     );
     assert_has(
         &rt,
@@ -124,7 +164,7 @@ fn a_panel_has_what_was_received(rt: HostRuntime) -> Result<(), Fail> {
     assert_has(
         &rt,
         &page,
-        "<dt>kind<dd>server<dt>status<dd>error &lt;why&gt;",
+        "<dt>kind<dd>server<dt>status<dd>error: &lt;why&gt;<dt>start<dd>2026-09-21T14:13:20.010000000Z",
     );
     assert_has(&rt, &page, "<p>&lt;scope&gt; &lt;1&gt;</p>");
     Ok(())
@@ -148,9 +188,11 @@ fn a_large_trace_is_drawn(rt: HostRuntime) -> Result<(), Fail> {
     for id in 1..10001u32 {
         all.push(made(id, id / 2, "part", id, 20000))?;
     }
-    let page = page(alloc, &all)?;
-    assert_equal(&rt, count_of(&page, "<li data-row='"), 10000);
-    assert_equal(&rt, count_of(&page, "identifier is repeated"), 0);
+    let page = TracePage::new(alloc, 0x30, owned(alloc, &all)?)?;
+    let (text, count) = written(alloc, page)?;
+    assert_equal(&rt, count_of(&text, "<li data-row='"), 10000);
+    assert_equal(&rt, count_of(&text, "identifier is repeated"), 0);
+    assert_equal(&rt, text.len() / (2 * 65536) < count, true);
     Ok(())
 }
 

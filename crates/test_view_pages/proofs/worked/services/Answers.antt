@@ -1,7 +1,19 @@
 use Rattle.std.proofs.Common.{refl}
+use Rattle.view_pages.specs.Services.{with_name}
 use Rattle.view_pages.specs.Spans.{service_in}
 use Rattle.test_view_pages.proofs.worked.services.Goals as goal
 
-pub returns : goal.returns
+pub returns-clause-names : goal.returns-clause-names
+unfolding with_name
+returns-clause-names c = refl
+
+pub returns-clause-more : goal.returns-clause-more
+unfolding with_name
+returns-clause-more c = refl
+
+pub returns-clause-colour : goal.returns-clause-colour
+returns-clause-colour c = refl
+
+pub returns-clause-none : goal.returns-clause-none
 unfolding service_in
-returns c = refl
+returns-clause-none c = refl

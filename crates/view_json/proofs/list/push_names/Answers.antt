@@ -9,7 +9,7 @@ unfolding name_members
 returns-clause-tokens g c =
     let s0 = c.args.out.now.tokens in
     let s1 = c.push_hex.new.out.tokens in
-    let s2 = c.push_text.new.out.tokens in
-    behind s0 s2 c.push_text-2.new.out.tokens _ _
-    (behind s0 s1 s2 _ _ (c.in_ok-push_hex.ensures.tokens ∙ ap (λ l. s0 ++ hex_member (codes "traceId") l) c.to_be_bytes.ensures) c.in_ok-push_text.ensures.tokens)
-    c.in_ok-push_text-2.ensures.tokens
+    let s2 = c.push_short.new.out.tokens in
+    behind s0 s2 c.push_short-2.new.out.tokens _ _
+    (behind s0 s1 s2 _ _ (c.in_ok-push_hex.ensures.tokens ∙ ap (λ l. s0 ++ hex_member (codes "traceId") l) c.to_be_bytes.ensures) c.in_ok-push_short.ensures.tokens)
+    c.in_ok-push_short-2.ensures.tokens

@@ -9,9 +9,8 @@ returns g c =
     let s0 = string_bytes c.args.out.now in
     let s1 = string_bytes c.push_span_metrics.new.out in
     let s2 = string_bytes c.push_trace_metrics.new.out in
-    let s3 = string_bytes c.push_metric.new.out in
-    let s4 = string_bytes c.push_help.new.out in
-    let s5 = string_bytes c.push_type.new.out in
-    behind s0 s5 (string_bytes c.push_all_refused.new.out) _ _
-    (behind s0 s4 s5 _ _ (behind s0 s3 s4 _ _ (behind s0 s2 s3 _ _ (behind s0 s1 s2 _ _ c.in_ok-push_span_metrics.ensures c.in_ok-push_trace_metrics.ensures) c.in_ok-push_metric.ensures) c.in_ok-push_help.ensures) c.in_ok-push_type.ensures)
-    c.in_ok-push_all_refused.ensures
+    let s3 = string_bytes c.push_pending.new.out in
+    let s4 = string_bytes c.push_metric.new.out in
+    behind s0 s4 (string_bytes c.push_answers.new.out) _ _
+    (behind s0 s3 s4 _ _ (behind s0 s2 s3 _ _ (behind s0 s1 s2 _ _ c.in_ok-push_span_metrics.ensures c.in_ok-push_trace_metrics.ensures) c.in_ok-push_pending.ensures) c.in_ok-push_metric.ensures)
+    c.in_ok-push_answers.ensures

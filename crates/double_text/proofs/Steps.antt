@@ -1,0 +1,69 @@
+-- A place more.
+use Rattle.std.proofs.Common.{◌≡◌, sym, ap, subst, ◌∙◌, ℕ, suc, ◌+◌, ◌-◌, ◌*◌, ◌/◌, ◌%◌, ◌^◌, ◌<◌, ◌≤◌, nat_lt, true, false, Option, Some, None, Result, OnOk, List, ◌++◌, append_assoc, append-nil, arith}
+use Rattle.std.specs.Prelude.{decimal}
+use Rattle.std.proofs.lemmas.Bool.{cond-true, cond-false, lt-ltb, le-ltb}
+use Rattle.double_text.specs.declared.decimal.Decimal.{Decimal}
+use Rattle.double_text.specs.Doubles.{decimal_from, digits_of, divided_text, is_near, nearest, shortest, shortest_text, small_text}
+
+one_left : (n i : ℕ) → i < n → n - i ≡ suc (n - (i + 1))
+one_left n i h = omega arith
+
+-- a decimal that is found
+abbrev pub decimal_of : ℕ → ℕ → ℕ → Option Decimal
+decimal_of ten places number = Some (record { number = number; ten = ten; places = places })
+
+-- the decimal is near
+pub near_here : (n i m two ten places : ℕ) → i < n → is_near m two ten ≡ true
+    → Some (record { number = nearest m two ten; ten = ten; places = places }) ≡ decimal_from (n - i) m two ten places
+unfolding decimal_from
+near_here n i m two ten places within h =
+    sym (ap (λ k. decimal_from k m two ten places) (one_left n i within) ∙ cond-true (is_near m two ten) _ _ h)
+
+-- it isn't
+pub near_later : (n i m two ten places : ℕ) → i < n → is_near m two ten ≡ false
+    → decimal_from (n - i) m two ten places ≡ decimal_from (n - (i + 1)) m two (ten * 10) (places + 1)
+unfolding decimal_from
+near_later n i m two ten places within h =
+    ap (λ k. decimal_from k m two ten places) (one_left n i within) ∙ cond-false (is_near m two ten) _ _ h
+
+-- a digit more
+pub digit_more : (n i ten rest : ℕ) → i < n
+    → digits_of (n - i) ten rest ≡ decimal (rest / (ten / 10)) ++ digits_of (n - (i + 1)) (ten / 10) (rest % (ten / 10))
+unfolding digits_of
+digit_more n i ten rest within = ap (λ k. digits_of k ten rest) (one_left n i within)
+
+-- the digits that are written, with one more
+pub digits_more : (n i ten rest : ℕ) (start old new : List ℕ) → i < n → old ++ digits_of (n - i) ten rest ≡ start → new ≡ old ++ decimal (rest / (ten / 10))
+    → new ++ digits_of (n - (i + 1)) (ten / 10) (rest % (ten / 10)) ≡ start
+digits_more n i ten rest start old new within before more =
+    let others = digits_of (n - (i + 1)) (ten / 10) (rest % (ten / 10)) in
+    ap (λ l. l ++ others) more ∙ append_assoc old (decimal (rest / (ten / 10))) others
+    ∙ ap (λ l. old ++ l) (sym (digit_more n i ten rest within)) ∙ before
+
+-- what is written of a text that is another one
+pub same_text : {T E : Type 0} (r : Result T E) (x y old new : List ℕ) → x ≡ y → OnOk r (new ≡ old ++ x) → OnOk r (new ≡ old ++ y)
+same_text r x y old new is written = subst (λ z. OnOk r (new ≡ old ++ z)) is written
+
+-- a number that is too small for a decimal, and one that isn't
+pub too_small : (m p : ℕ) → 120 < p → divided_text m p ≡ small_text m p
+unfolding small_text
+too_small m p h = sym (cond-true (nat_lt 120 p) (divided_text m p) (shortest_text m p (shortest m (2 ^ p))) (lt-ltb 120 p h))
+
+pub small_by : (m p two : ℕ) (d found : Option Decimal) → p ≤ 120 → two ≡ 2 ^ p → found ≡ shortest m two → found ≡ d → shortest_text m p d ≡ small_text m p
+unfolding small_text
+small_by m p two d found h power is which =
+    ap (shortest_text m p) (sym which ∙ is ∙ ap (shortest m) power)
+    ∙ sym (cond-false (nat_lt 120 p) (divided_text m p) (shortest_text m p (shortest m (2 ^ p))) (le-ltb 120 p h))
+
+none_left : (n i : ℕ) → n ≤ i → n - i ≡ 0
+none_left n i h = omega arith
+
+-- no decimal is near
+pub near_none : (n i m two ten places : ℕ) → n ≤ i → None ≡ decimal_from (n - i) m two ten places
+unfolding decimal_from
+near_none n i m two ten places h = sym (ap (λ k. decimal_from k m two ten places) (none_left n i h))
+
+-- all digits are written
+pub digits_all : (n i ten rest : ℕ) (start old : List ℕ) → n ≤ i → old ++ digits_of (n - i) ten rest ≡ start → old ≡ start
+unfolding digits_of
+digits_all n i ten rest start old h all = sym (append-nil old) ∙ sym (ap (λ k. old ++ digits_of k ten rest) (none_left n i h)) ∙ all

@@ -1,0 +1,8 @@
+use Rattle.view_pages.proofs.Parts.{after}
+use Rattle.view_pages.specs.Lists.{none_html}
+use Rattle.view_pages.proofs.list.push_none.Goals as goal
+
+pub returns : goal.returns
+unfolding none_html
+returns g c =
+    after _ _ _ _ _ _ c.in_ok-push_markup.ensures (after _ _ _ _ _ _ c.in_ok-push_grouped.ensures c.push_markup-2.ensures)

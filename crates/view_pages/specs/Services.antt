@@ -1,0 +1,45 @@
+-- The services of a trace, and their colours.
+use Rattle.std.specs.Prelude.{◌≡◌, ℕ, ◌%◌, Bool, if◌then◌else◌, Option, is_some, unwrap_or, List, []}
+use Rattle.std.specs.Prelude.{◌∷◌, ◌++◌, length, fold, position}
+use Rattle.std.specs.Borrow.{Bor}
+use Rattle.std.specs.BTreeMap.{BTreeMap, get, btree_map_len}
+use Rattle.std.specs.Cmp.Lexicographic.{slice_cmp}
+use Rattle.std.specs.Ordering.{nat_cmp}
+use Rattle.std.specs.Str.{bytes_eq}
+use Rattle.view_span.specs.declared.span.ViewSpan.{ViewSpan}
+use Rattle.view_pages.specs.Spans.{service_of}
+
+-- whether a service has this name
+abbrev pub is_named : List ℕ → List ℕ → Bool
+is_named name service = bytes_eq service name
+
+-- the place of a name among names, if it is there
+abbrev pub place_of_name : List (List ℕ) → List ℕ → Option ℕ
+place_of_name names name = position (is_named name) names
+
+-- a name more, unless it is there
+unfoldable pub with_name : List (List ℕ) → List ℕ → List (List ℕ)
+with_name names name =
+    if is_some (place_of_name names name) then names else names ++ name ∷ []
+
+-- the services of a trace, each once, in the order of their first spans in the list
+abbrev pub more_services : {A : Type 0} → List (List ℕ) → Bor (ViewSpan A) → List (List ℕ)
+more_services names s = with_name names (service_of s.now)
+
+abbrev pub services_of : {A : Type 0} → List (Bor (ViewSpan A)) → List (List ℕ)
+services_of spans = fold more_services [] spans
+
+-- the colour at a place, of eight: eight services that follow each other in the order of their
+-- first spans differ (profile)
+abbrev pub colour_at : Option ℕ → ℕ
+colour_at place = unwrap_or place 0 % 8
+
+-- the colour of a service among those of its trace
+abbrev pub colour_of : List (List ℕ) → List ℕ → ℕ
+colour_of names name = colour_at (place_of_name names name)
+
+-- the place of each name among names
+pub record AreServices (names : List (List ℕ)) (places : BTreeMap (Bor (List ℕ)) ℕ) : Type 0 where
+  pub each : (name : Bor (List ℕ))
+      → get (λ x y. slice_cmp nat_cmp x.now y.now) places name ≡ place_of_name names name.now
+  pub count : btree_map_len places ≡ length names
