@@ -1,0 +1,260 @@
+-- Runs one after another.
+use Rattle.std.proofs.Common.{◌≡◌, ℕ, suc, zero, ◌+◌, ◌*◌, ◌<◌, ◌≤◌, arith, ◌⊎◌, Bool, true, false, cond, length, List, [], ◌∷◌, ◌++◌, refl, sym, ap, subst, ◌∙◌, append_assoc, append-nil, inl, inr, Option}
+use Rattle.std.proofs.lemmas.Grind.{flat_map-append}
+use Rattle.http.specs.declared.request.Parts.{Parts}
+use Rattle.http.specs.declared.request.Request.{Request}
+use Rattle.http.specs.Request.{body_of, head_of}
+use Rattle.http1.specs.declared.server.Server.{Server}
+use Rattle.http_server.specs.declared.response.Response.{Response}
+use Rattle.http_connection.specs.declared.connection.Stage.{Stage}
+use Rattle.http_connection.specs.declared.connection.Stage.TheVariants as At
+use Rattle.http_connection.specs.declared.limits.Phase.TheVariants.{Done}
+use Rattle.http_connection.specs.declared.limits.Refusal.{Refusal}
+use Rattle.http_connection.specs.Connections.{advances_at, phase_at, place_at, reads_at, rests_at}
+use Rattle.http_connection.specs.Texts.{continue_text, refusal_text, piece_text}
+use Rattle.http_connection.specs.Runs.{IsOpen, asks_head, answer_text, place_after, Place, Awaits, Takes, Writes, Over, Act, Took, Kept, Wrote, Does, Chain, Runs, text_of, texts_of}
+use Rattle.http_connection.specs.Turns.{Turn, judged, Admitted, Rejected, Answered, Refused}
+
+module _ {S P : Type 0} (answers : S → Turn P → S → Type 0) (writes : P → List ℕ → Type 0) (most : ℕ) where
+  -- where it is over nothing more is done
+  nothing_over : (s : S) (act : Act P) (t : S) (after : Place P)
+      → Does answers writes most s Over act t after → ⊥
+  nothing_over s (Took (Admitted head) text) t after x = let e = x.1.0 in cc
+  nothing_over s (Took (Rejected head r) text) t after x = let e = x.1.0 in cc
+  nothing_over s (Took (Answered request r pieces) text) t after x = let e = x.1.0 in cc
+  nothing_over s (Took (Refused why r) text) t after x = x.1.0
+  nothing_over s (Kept piece) t after x = let e = x.1.2 in cc
+  nothing_over s (Wrote old piece more new text) t after x = let e = x.0 in cc
+
+  -- a chain from there is one from anywhere
+  chain_over : (s : S) (place : Place P) (acts : List (Act P)) (t : S) (after : Place P)
+      → Chain answers writes most s Over acts t after → Chain answers writes most s place acts t after
+  chain_over s place [] t after x = (x.0, elim x.1 [ inl e ↦ inr e | inr e ↦ inr e ])
+  chain_over s place (act ∷ acts) t after x = absurd (nothing_over s act x.0 x.1 x.2)
+
+  -- one chain after another
+  chain_append : (s : S) (place : Place P) (first second : List (Act P)) (m : S) (p : Place P)
+      (t : S) (after : Place P) → Chain answers writes most s place first m p
+      → Chain answers writes most m p second t after
+      → Chain answers writes most s place (first ++ second) t after
+  chain_append s place [] second m p t after x y =
+      let z : Chain answers writes most s p second t after =
+      subst (λ (v : S). Chain answers writes most v p second t after) x.0 y in
+      elim x.1 [
+        | inl e ↦ subst (λ (v : Place P). Chain answers writes most s v second t after) e z
+        | inr e ↦ chain_over s place second t after
+            (subst (λ (v : Place P). Chain answers writes most s v second t after) e z)
+      ]
+  chain_append s place (act ∷ first) second m p t after x y =
+      (x.0, x.1, x.2, chain_append x.0 x.1 first second m p t after x.3 y)
+
+  -- the turns of the service
+  pub admitted_run : (s : S) (admitted : Bool) (head : Request (List ℕ)) (r : Response)
+      (before : List ℕ) (t : S) (text : List ℕ) (after : Place P) (now : List ℕ) (aborted : Bool)
+      → admitted ≡ true → answers s (judged admitted head r) t
+      → (text ≡ []) ⊎ (text ≡ continue_text) → (after ≡ Takes (head_of head) []) ⊎ (after ≡ Over)
+      → (aborted ≡ false → now ≡ before ++ text)
+      → Runs answers writes most s Awaits before t after now aborted
+  admitted_run s admitted head r before t text after now aborted is x either stays same =
+      let y : answers s (Admitted head) t = subst (λ (b : Bool). answers s (judged b head r) t) is x in
+      record {
+        acts = Took (Admitted head) text ∷ [];
+        chain = (t, Takes (head_of head) [], (y, (refl, refl, either)), (refl, stays));
+        text = λ lives. same lives ∙ ap (λ (z : List ℕ). before ++ z) (sym (append-nil text));
+      }
+
+  pub rejected_run : (s : S) (admitted : Bool) (head : Request (List ℕ)) (r : Response)
+      (before : List ℕ) (t : S) (after : Place P) (now : List ℕ) (aborted : Bool)
+      → admitted ≡ false → answers s (judged admitted head r) t → after ≡ Over
+      → (aborted ≡ false → now ≡ before ++ refusal_text (asks_head head) r)
+      → Runs answers writes most s Awaits before t after now aborted
+  rejected_run s admitted head r before t after now aborted is x stays same =
+      let y : answers s (Rejected head r) t = subst (λ (b : Bool). answers s (judged b head r) t) is x in
+      let text = refusal_text (asks_head head) r in
+      record {
+        acts = Took (Rejected head r) text ∷ [];
+        chain = (t, Over, (y, (refl, refl, refl)), (refl, inl stays));
+        text = λ lives. same lives ∙ ap (λ (z : List ℕ). before ++ z) (sym (append-nil text));
+      }
+
+  pub refused_run : (s : S) (place : Place P) (why : Refusal) (r : Response) (head : Bool)
+      (before : List ℕ) (t : S) (after : Place P) (now : List ℕ) (aborted : Bool)
+      → IsOpen place → answers s (Refused why r) t → after ≡ Over
+      → (aborted ≡ false → now ≡ before ++ refusal_text head r)
+      → Runs answers writes most s place before t after now aborted
+  refused_run s place why r head before t after now aborted may x stays same =
+      let text = refusal_text head r in
+      record {
+        acts = Took (Refused why r) text ∷ [];
+        chain = (t, Over, (x, (may, refl, (head, refl))), (refl, inl stays));
+        text = λ lives. same lives ∙ ap (λ (z : List ℕ). before ++ z) (sym (append-nil text));
+      }
+
+  pub answered_run : (s : S) (place : Place P) (request : Request (List ℕ)) (r : Response)
+      (pieces : Option P) (server : Server)
+      (before : List ℕ) (t : S) (after : Place P) (now : List ℕ) (aborted : Bool)
+      → place ≡ Takes (head_of request) (body_of request) → answers s (Answered request r pieces) t
+      → length (body_of request) ≤ most
+      → (after ≡ place_after (asks_head request) pieces) ⊎ (after ≡ Over)
+      → (aborted ≡ false → now ≡ before ++ answer_text request r pieces server)
+      → Runs answers writes most s place before t after now aborted
+  answered_run s place request r pieces server before t after now aborted taken x bound stays same =
+      let text = answer_text request r pieces server in
+      record {
+        acts = Took (Answered request r pieces) text ∷ [];
+        chain = (t, place_after (asks_head request) pieces, (x, (taken, refl, bound, (server, refl))), (refl, stays));
+        text = λ lives. same lives ∙ ap (λ (z : List ℕ). before ++ z) (sym (append-nil text));
+      }
+
+  -- a piece of a body
+  pub kept_run : (s : S) (place : Place P) (before : List ℕ) (head : Parts) (body piece : List ℕ)
+      (after : Place P) (now : List ℕ) (aborted : Bool) → place ≡ Takes head body
+      → after ≡ Takes head (body ++ piece) → (aborted ≡ false → now ≡ before)
+      → Runs answers writes most s place before s after now aborted
+  kept_run s place before head body piece after now aborted is stays same = record {
+    acts = Kept piece ∷ [];
+    chain = (s, Takes head (body ++ piece), (refl, (head, body, is, refl)), (refl, inl stays));
+    text = λ lives. same lives ∙ sym (append-nil before);
+  }
+
+  -- a piece of an answer
+  pub piece_run : (s : S) (place : Place P) (before : List ℕ) (old : P) (more : Bool) (new : P)
+      (piece : List ℕ) (server : Server) (after : Place P) (now : List ℕ) (aborted : Bool)
+      → place ≡ Writes old → ((rest : List ℕ) → writes new rest → writes old (piece ++ rest))
+      → (more ≡ false → writes new [])
+      → (after ≡ cond more (Writes new) Awaits) ⊎ (after ≡ Over)
+      → (aborted ≡ false → now ≡ before ++ piece_text more server piece)
+      → Runs answers writes most s place before s after now aborted
+  piece_run s place before old more new piece server after now aborted is goes_on ends stays same =
+      let text = piece_text more server piece in
+      record {
+        acts = Wrote old piece more new text ∷ [];
+        chain = (
+          s,
+          cond more (Writes new) Awaits,
+          (is, refl, refl, record { goes_on = goes_on; ends = ends }, (server, refl)),
+          (refl, stays),
+        );
+        text = λ lives. same lives ∙ ap (λ (z : List ℕ). before ++ z) (sym (append-nil text));
+      }
+
+  -- the same run, by equal ends
+  pub runs_same : {s : S} {place : Place P} {before : List ℕ} {t : S} {after : Place P}
+      {now : List ℕ} {aborted : Bool} (after' : Place P) (now' : List ℕ) (aborted' : Bool)
+      → after' ≡ after → now' ≡ now → aborted' ≡ aborted
+      → Runs answers writes most s place before t after now aborted
+      → Runs answers writes most s place before t after' now' aborted'
+  runs_same {s} {place} {before} {t} {after} {now} {aborted} after' now' aborted' e f a x = record {
+    acts = x.acts;
+    chain = subst (λ (p : Place P). Chain answers writes most s place x.acts t p) (sym e) x.chain;
+    text = λ lives. f ∙ x.text (sym a ∙ lives);
+  }
+
+  -- nothing was done with the service
+  pub runs_none : (s : S) (place : Place P) (before : List ℕ) (after : Place P) (now : List ℕ)
+      (aborted : Bool) → (after ≡ place) ⊎ (after ≡ Over) → (aborted ≡ false → now ≡ before)
+      → Runs answers writes most s place before s after now aborted
+  runs_none s place before after now aborted stays same = record {
+    acts = [];
+    chain = (refl, stays);
+    text = λ lives. same lives ∙ sym (append-nil before);
+  }
+
+  -- one run after another
+  pub runs_append : {s : S} {place : Place P} {before : List ℕ} {m : S} {p : Place P} {mid : List ℕ}
+      {over : Bool} {t : S} {after : Place P} {now : List ℕ} {aborted : Bool}
+      → Runs answers writes most s place before m p mid over → over ≡ false
+      → Runs answers writes most m p mid t after now aborted
+      → Runs answers writes most s place before t after now aborted
+  runs_append {s} {place} {before} {m} {p} {mid} {over} {t} {after} {now} {aborted} x lives y = record {
+    acts = x.acts ++ y.acts;
+    chain = chain_append s place x.acts y.acts m p t after x.chain y.chain;
+    text = λ live.
+        y.text live ∙ ap (λ (z : List ℕ). z ++ texts_of y.acts) (x.text lives)
+        ∙ append_assoc before (texts_of x.acts) (texts_of y.acts)
+        ∙ ap (λ (z : List ℕ). before ++ z) (sym (flat_map-append text_of x.acts y.acts));
+  }
+
+  -- what no service saw, beside any service
+  chain_beside : (s : S) (place : Place P) (acts : List (Act P)) (after : Place P)
+      → Chain {S = Unit {0}} (λ a turn b. ⊥) writes most tt place acts tt after
+      → Chain answers writes most s place acts s after
+  chain_beside s place [] after x = (refl, x.1)
+  chain_beside s place (Took turn text ∷ acts) after x = absurd (x.2.0)
+  chain_beside s place (Kept piece ∷ acts) after x =
+      (s, x.1, (refl, x.2.1), chain_beside s x.1 acts after x.3)
+  chain_beside s place (Wrote old piece more new text ∷ acts) after x =
+      (s, x.1, (x.2.0, refl, x.2.2, x.2.3, x.2.4), chain_beside s x.1 acts after x.3)
+
+  pub runs_beside : (s : S) {place : Place P} {before : List ℕ} {after : Place P} {now : List ℕ}
+      {aborted : Bool}
+      → Runs {S = Unit {0}} (λ a turn b. ⊥) writes most tt place before tt after now aborted
+      → Runs answers writes most s place before s after now aborted
+  runs_beside s {place} {before} {after} {now} {aborted} x = record {
+    acts = x.acts;
+    chain = chain_beside s place x.acts after x.chain;
+    text = x.text;
+  }
+
+-- of what is not so anything holds
+pub vacuous : {X : Type 0} (b : Bool) → b ≡ true → b ≡ false → X
+vacuous b is other = absurd (let e : true ≡ false = sym is ∙ other in cc)
+
+module _ {S P : Type 0} (answers : S → Turn P → S → Type 0) (writes : P → List ℕ → Type 0) where
+  -- one run after another, where the bound is the same
+  pub runs_next : {s : S} {place : Place P} {before : List ℕ} {m : S} {p : Place P} {mid : List ℕ}
+      {over : Bool} {t : S} {after : Place P} {now : List ℕ} {aborted : Bool} (most more : ℕ)
+      → more ≡ most → Runs answers writes most s place before m p mid over → over ≡ false
+      → Runs answers writes more m p mid t after now aborted
+      → Runs answers writes most s place before t after now aborted
+  runs_next {s} {place} {before} {m} {p} {mid} {over} {t} {after} {now} {aborted} most more same x lives y =
+      runs_append answers writes most x lives
+      (subst (λ (n : ℕ). Runs answers writes n m p mid t after now aborted) same y)
+
+-- a head may be refused, and a body
+pub head_is_open : {P : Type 0} (stage : Stage P) (head : Parts) (body : List ℕ) → stage ≡ At.Head
+    → IsOpen (place_at stage head body)
+head_is_open {P} stage head body is = subst (λ (s : Stage P). IsOpen (place_at s head body)) (sym is) tt
+
+pub body_is_open : {P : Type 0} (stage : Stage P) (head : Parts) (body : List ℕ) → stage ≡ At.Body
+    → IsOpen (place_at stage head body)
+body_is_open {P} stage head body is = subst (λ (s : Stage P). IsOpen (place_at s head body)) (sym is) tt
+
+-- the work falls where a body ends
+pub work_falls : (l m n r : ℕ) → n ≡ 2 * l → l ≡ m → r ≡ 1 → n < 2 * m + r
+work_falls l m n r is same one = omega arith
+
+-- where the client may send more, nothing is left to do before a read
+pub rests_open : {P : Type 0} (stage : Stage P) (ended : Bool) (waits : ℕ) → ended ≡ false
+    → rests_at stage ended waits
+rests_open At.Head ended waits is = inl is
+rests_open At.Body ended waits is = is
+rests_open (At.Pieces p) ended waits is = tt
+rests_open (At.Discard left) ended waits is = is
+rests_open At.Closing ended waits is = tt
+rests_open At.Aborted ended waits is = tt
+
+-- what rests is never stuck
+pub never_stalls : {P : Type 0} (stage : Stage P) (ended : Bool) (unread waits : ℕ)
+    → rests_at stage ended waits
+    → (reads_at stage ended waits ≡ true)
+    ⊎ ((0 < waits) ⊎ ((advances_at stage waits ≡ true) ⊎ (phase_at stage ended unread waits ≡ Done)))
+never_stalls At.Head false unread zero x = inl refl
+never_stalls At.Head false unread (suc waits) x = inr (inl (omega arith))
+never_stalls At.Head true unread waits x = elim x [ inl e ↦ absurd (cc) | inr more ↦ inr (inl more) ]
+never_stalls At.Body false unread waits x = inl refl
+never_stalls At.Body true unread waits x = absurd (cc)
+never_stalls (At.Pieces p) ended unread zero x = inr (inr (inl refl))
+never_stalls (At.Pieces p) ended unread (suc waits) x = inr (inl (omega arith))
+never_stalls (At.Discard left) false unread waits x = inl refl
+never_stalls (At.Discard left) true unread waits x = absurd (cc)
+never_stalls At.Closing false unread waits x = inl refl
+never_stalls At.Closing true unread zero x = inr (inr (inr refl))
+never_stalls At.Closing true unread (suc waits) x = inr (inl (omega arith))
+never_stalls At.Aborted ended unread waits x = inr (inr (inr refl))
+
+-- what writes pieces rests
+pub writing_rests : {P : Type 0} (stage : Stage P) (p : P) (ended : Bool) (waits : ℕ)
+    → stage ≡ At.Pieces p → rests_at stage ended waits
+writing_rests {P} stage p ended waits is =
+    subst (λ (s : Stage P). rests_at s ended waits) (sym is) tt

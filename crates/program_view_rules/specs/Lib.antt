@@ -1,0 +1,5 @@
+pub mod Accepts
+pub mod Clocks
+pub mod Complaints
+pub mod Kinds
+pub mod Waiting
