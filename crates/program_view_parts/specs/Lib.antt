@@ -1,3 +1,2 @@
 pub mod Failures
-pub mod Peers
 pub mod Command

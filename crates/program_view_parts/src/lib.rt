@@ -5,10 +5,8 @@
 mod address;
 mod args;
 mod failure;
-mod peer;
-mod peers;
 mod program;
+mod report;
 
 pub use args::ViewArgs;
-pub use peer::{Peer, Turn};
 pub use program::run_view;

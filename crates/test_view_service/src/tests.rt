@@ -1,4 +1,5 @@
 //! The tests, and what they share.
 
 mod equal;
+mod hosts;
 mod shared;

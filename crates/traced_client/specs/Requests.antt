@@ -8,11 +8,17 @@ use Rattle.trace_context.specs.Carriers.{Field}
 abbrev pub field_line : Field → List ℕ
 field_line f = line (f.0 ++ codes ": " ++ f.1)
 
--- the request line, and the field that each request has
+-- the request line
+abbrev pub request_line : List ℕ → List ℕ
+request_line path = line (codes "GET " ++ path ++ codes " HTTP/1.1")
+
+-- the field that says for which host the request is
+abbrev pub host_line : List ℕ → List ℕ → List ℕ
+host_line host port = line (codes "Host: " ++ host ++ codes ":" ++ port)
+
+-- both
 abbrev pub first_lines : Address → List ℕ
-first_lines address =
-    line (codes "GET " ++ address.path ++ codes " HTTP/1.1")
-    ++ line (codes "Host: " ++ address.host ++ codes ":" ++ decimal address.port)
+first_lines address = request_line address.path ++ host_line address.host (decimal address.port)
 
 -- A GET with these fields, beside its own, without a body. Its connection is closed after the
 -- reply. (RFC 9112, section 9.6)

@@ -2,7 +2,8 @@
 
 ghost use Rattle.std.specs.Prelude.{◌≡◌, ◌++◌, IfOk, OnOk, flat_map, string_bytes};
 ghost use Rattle.trace_context.specs.Pairs.{fields_view};
-ghost use Rattle.traced_client.specs.Requests.{field_line, first_lines, get_text};
+ghost use Rattle.traced_client.specs.Requests.{field_line, first_lines, get_text, host_line};
+ghost use Rattle.traced_client.specs.Requests.{request_line};
 
 use itoa::Buffer;
 use otlp_http::Target;
@@ -12,20 +13,36 @@ use std::alloc::Global;
 /// A field of a request: its name and its value.
 pub(crate) type Field = (String, Vec<u8>);
 
+/// Adds the request line (RFC 9112, section 3).
+fn push_request_line(text: &mut Vec<u8>, path: &[u8]) -> Result<(), OutOfMemory>
+    ensures { OnOk result (text.new.items ≡ text.old.items ++ request_line path.now) }
+{
+    text.extend_from_slice(b"GET ")?;
+    text.extend_from_slice(path)?;
+    text.extend_from_slice(b" HTTP/1.1\r\n")?;
+    Ok(())
+}
+
+/// Adds the field that says for which host a request is (RFC 9112, section 3.2).
+fn push_host_line(text: &mut Vec<u8>, host: &[u8], port: &[u8]) -> Result<(), OutOfMemory>
+    ensures { OnOk result (text.new.items ≡ text.old.items ++ host_line host.now port.now) }
+{
+    text.extend_from_slice(b"Host: ")?;
+    text.extend_from_slice(host)?;
+    text.extend_from_slice(b":")?;
+    text.extend_from_slice(port)?;
+    text.extend_from_slice(b"\r\n")?;
+    Ok(())
+}
+
 /// Adds the request line and the field that each request has (RFC 9112, sections 3 and 3.2).
 fn push_first_lines(text: &mut Vec<u8>, target: &Target) -> Result<(), OutOfMemory>
     ensures { OnOk result (text.new.items ≡ text.old.items ++ first_lines target.now) }
 {
     let mut port = Buffer::new();
     let port = port.format(target.port());
-    text.extend_from_slice(b"GET ")?;
-    text.extend_from_slice(target.path().as_bytes())?;
-    text.extend_from_slice(b" HTTP/1.1\r\nHost: ")?;
-    text.extend_from_slice(target.host().as_bytes())?;
-    text.extend_from_slice(b":")?;
-    text.extend_from_slice(port.as_bytes())?;
-    text.extend_from_slice(b"\r\n")?;
-    Ok(())
+    push_request_line(text, target.path().as_bytes())?;
+    push_host_line(text, target.host().as_bytes(), port.as_bytes())
 }
 
 /// Adds the line of a field (RFC 9112, section 5).

@@ -1,4 +1,4 @@
-mod Fields
 mod Received
 mod Strips
 mod Sums
+mod Zips

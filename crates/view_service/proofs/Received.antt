@@ -1,22 +1,35 @@
 -- How a post comes to be answered.
-use Rattle.std.specs.Prelude.{◌≡◌, refl}
+use Rattle.std.proofs.Common.{◌≡◌, ℕ, List, Some, None, refl, subst}
+use Rattle.http.specs.Request.{head_of}
+use Rattle.http.specs.declared.request.Request.{Request}
 use Rattle.http_server.specs.declared.response.Response.{Response}
-use Rattle.otlp_serve.specs.Answers.{plain_reply}
-use Rattle.otlp_serve.specs.Posts.{HttpPost}
-use Rattle.otlp_serve.specs.declared.reply.PostReply.{PostReply}
-use Rattle.otlp_serve.specs.declared.status.ReplyStatus.TheVariants as statuses
-use Rattle.view_service.specs.Receives.{Keeping, Parts, Receives, IsReceived, IsRefused, IsTaken, busy}
-use Rattle.view_service.specs.Replies.{IsReply}
+use Rattle.view_reply.specs.Denials.{IsDenial, IsSuccess}
+use Rattle.view_reply.specs.Requests.{denial_format}
+use Rattle.view_reply.specs.declared.denial.Denial.{Denial}
+use Rattle.view_reply.specs.declared.denial.Denial.TheVariants as denials
+use Rattle.view_reply.specs.declared.format.Format.{Format}
+use Rattle.view_service.specs.Receives.{AnswersExport, Giving, HasParts, IsUnread, Keeping, Parts, Receives, denial_of, post_of, size_of_body}
+use Rattle.view_service.specs.declared.receive.Unread.TheVariants as reasons
 
-module _ {A K : Type 0} (keeps : Keeping A K) (old : K) (post : HttpPost) (response : Response) (new : K) where
-  pub is_refused : (reply : PostReply) → IsRefused post reply → new ≡ old → IsReply reply response
-      → IsReceived keeps old post response new
-  is_refused reply refused same is = (reply, Receives.refused refused same, is)
+module _ {A K : Type 0} (keeps : Keeping A K) (gives_up : Giving K) (old : K) (request : Request (List ℕ)) (room : ℕ)
+    (response : Response) (new : K) (format : Format) (is : format ≡ denial_format (Some (head_of request))) where
+  pub is_refused : (denial : Denial) → denial_of (post_of request) room ≡ Some denial → IsDenial denial format response
+      → new ≡ old → AnswersExport keeps gives_up old request room response new
+  is_refused denial why answer same =
+      (Some denial, Receives.refused denial why refl same, subst (λ f. IsDenial denial f response) is answer)
 
-  pub is_kept : (parts : Parts A) → IsTaken post parts → keeps old parts new → IsReply (plain_reply statuses.Ok) response
-      → IsReceived keeps old post response new
-  is_kept parts taken kept is = (plain_reply statuses.Ok, Receives.kept parts taken kept refl, is)
+  pub is_unread : denial_of (post_of request) room ≡ None → IsUnread (post_of request).body reasons.Fault
+      → IsDenial denials.BadBody format response → new ≡ old
+      → AnswersExport keeps gives_up old request room response new
+  is_unread why unread answer same =
+      (Some denials.BadBody, Receives.unread why unread refl same, subst (λ f. IsDenial denials.BadBody f response) is answer)
 
-  pub is_busy : (parts : Parts A) → IsTaken post parts → new ≡ old → IsReply busy response
-      → IsReceived keeps old post response new
-  is_busy parts taken same is = (busy, Receives.no_memory parts taken refl same, is)
+  pub is_busy : denial_of (post_of request) room ≡ None → IsDenial denials.OutOfMemory format response
+      → gives_up old (size_of_body (post_of request).body) new
+      → AnswersExport keeps gives_up old request room response new
+  is_busy why answer gave =
+      (Some denials.OutOfMemory, Receives.no_memory why refl gave, subst (λ f. IsDenial denials.OutOfMemory f response) is answer)
+
+  pub is_kept : (parts : Parts A) → denial_of (post_of request) room ≡ None → HasParts (post_of request).body parts
+      → IsSuccess response → keeps old parts new → AnswersExport keeps gives_up old request room response new
+  is_kept parts why has answer kept = (None, Receives.kept parts why has refl kept, answer)

@@ -3,7 +3,7 @@ use Rattle.std.specs.Prelude.{◌≡◌, ℕ, ◌+◌, List, MatchOption, None, 
 use Rattle.std.specs.List.{AllZip}
 use Rattle.std.specs.Map.{lookup}
 use Rattle.std.specs.List.Sorted.{IsPermutation}
-use Rattle.trace_store.specs.Stores.{AreNewest, Evicts, Store}
+use Rattle.trace_store.specs.Stores.{AreNewest, Evicts, MakesRoom, Store}
 use Rattle.trace_store.specs.Traces.{span_count, with_parts}
 
 -- A store has received the parts, and keeps the newest traces within its limits. Those that went are
@@ -16,6 +16,16 @@ pub record KeepsParts {S : Type 0} (size : S → ℕ) (old : Store S) (parts : L
   pub newest : AreNewest size old.max_spans old.max_bytes (with_parts old.kept.traces order)
       new.kept.traces
   pub named : Evicts (with_parts old.kept.traces order) old.kept new.kept
+  pub max_spans : new.max_spans ≡ old.max_spans
+  pub max_bytes : new.max_bytes ≡ old.max_bytes
+
+-- A store gave up the oldest traces, as few as come to so many bytes; all, where they don't. Those
+-- that went are counted and named.
+pub record GivesUp {S : Type 0} (size : S → ℕ) (old : Store S) (bytes : ℕ) (new : Store S)
+    : Type 0 where
+  pub room : MakesRoom size bytes old.kept.traces new.kept.traces
+  pub named : Evicts old.kept.traces old.kept new.kept
+  pub received : new.kept.received ≡ old.kept.received
   pub max_spans : new.max_spans ≡ old.max_spans
   pub max_bytes : new.max_bytes ≡ old.max_bytes
 

@@ -1,6 +1,6 @@
 -- What becomes of a request to receive spans. (OTLP Specification, OTLP/HTTP Request and OTLP/HTTP
 -- Response)
-use Rattle.std.specs.Prelude.{◌≡◌, ◌⊎◌, ℕ, All, List, Option, Some, None}
+use Rattle.std.specs.Prelude.{◌≡◌, ◌≢◌, ℕ, nat_lt, if◌then◌else◌, All, List, Option, Some, None}
 use Rattle.std.specs.List.Sorted.{IsPermutation, IsStrictlyIncreasing}
 use Rattle.std.specs.declared.sync.Arc.{Arc}
 use Rattle.http.specs.Request.{body_of, head_of}
@@ -16,13 +16,22 @@ use Rattle.otlp_message.specs.declared.fault.ReadFault.TheVariants.{BadUtf8, Out
 use Rattle.otlp_message.specs.declared.fault.ReadFault.TheVariants.{Wire}
 use Rattle.otlp_read.specs.Requests.{request_view}
 use Rattle.otlp_read.specs.declared.request.Request.{Request}
-use Rattle.otlp_serve.specs.Answers.{plain_reply, refusal_of}
+use Rattle.otlp_serve.specs.Answers.{refusal_of}
 use Rattle.otlp_serve.specs.Posts.{HttpPost}
 use Rattle.otlp_serve.specs.declared.reply.PostReply.{PostReply}
+use Rattle.otlp_serve.specs.declared.status.ReplyStatus.{ReplyStatus}
 use Rattle.otlp_serve.specs.declared.status.ReplyStatus.TheVariants as statuses
-use Rattle.view_service.specs.Replies.{IsReply}
+use Rattle.view_reply.specs.Denials.{IsDenial, IsSuccess}
+use Rattle.view_reply.specs.Requests.{denial_format}
+use Rattle.view_reply.specs.declared.denial.Denial.{Denial}
+use Rattle.view_reply.specs.declared.denial.Denial.TheVariants as denials
+use Rattle.view_reply.specs.declared.format.Format.{Format}
+use Rattle.view_service.specs.declared.receive.Unread.{Unread}
+use Rattle.view_service.specs.declared.receive.Unread.TheVariants as reasons
+use Rattle.view_span.specs.Memory.{request_size}
 use Rattle.view_span.specs.Parts.{keys_of}
 use Rattle.view_span.specs.Requests.{IsOfOneTrace, spans_of_parts, spans_of_request}
+use Rattle.view_span.specs.Sizes.{at_most_64_bits}
 use Rattle.view_span.specs.declared.span.ViewSpan.{ViewSpan}
 
 -- spans by their traces: each part a trace and spans of it
@@ -42,21 +51,43 @@ post_of request = record {
   body = body_of request;
 }
 
--- memory was refused, and it may be tried again in a second
-abbrev pub busy : PostReply
-busy = record { status = statuses.ServiceUnavailable; retry_after = Some 1 }
+-- why a request is refused that a collector answers so
+abbrev pub denial_by_status : ReplyStatus → Denial
+denial_by_status statuses.NotFound = denials.NoPath
+denial_by_status statuses.MethodNotAllowed = denials.ExportMethod
+denial_by_status _ = denials.MediaType
 
--- what is answered to a body that isn't read
-abbrev pub reply_to_unread : ReadFault → PostReply
-reply_to_unread OutOfMemory = busy
-reply_to_unread (Wire fault) = plain_reply statuses.BadRequest
-reply_to_unread BadUtf8 = plain_reply statuses.BadRequest
-reply_to_unread TooDeep = plain_reply statuses.BadRequest
+abbrev pub denial_by : PostReply → Denial
+denial_by reply = denial_by_status reply.status
 
--- the body isn't read, for one of its faults or for want of memory, and this is answered
-abbrev pub IsUnread : List ℕ → PostReply → Type 0
-IsUnread body reply = (fault : ReadFault)
-    × NamesOne (meaning Tables.request body).faults fault × (reply ≡ reply_to_unread fault)
+-- how many bytes of memory the reading of a body takes, at most what 64 bits hold
+abbrev pub size_of_body : List ℕ → ℕ
+size_of_body body = at_most_64_bits (request_size body)
+
+-- it takes more memory than so much
+abbrev pub lack_of_room : List ℕ → ℕ → Option Denial
+lack_of_room body room = if nat_lt room (size_of_body body) then Some denials.NoRoom else None
+
+abbrev pub denial_or : Option PostReply → Option Denial → Option Denial
+denial_or (Some reply) other = Some (denial_by reply)
+denial_or None other = other
+
+-- Why a request isn't read, where so many bytes may still be pending: it isn't for a collector, or
+-- its reading takes more.
+abbrev pub denial_of : HttpPost → ℕ → Option Denial
+denial_of post room = denial_or (refusal_of post) (lack_of_room post.body room)
+
+-- whether memory was refused
+abbrev pub unread_by : ReadFault → Unread
+unread_by OutOfMemory = reasons.OutOfMemory
+unread_by (Wire fault) = reasons.Fault
+unread_by BadUtf8 = reasons.Fault
+unread_by TooDeep = reasons.Fault
+
+-- the body isn't read, for one of its faults or for want of memory
+abbrev pub IsUnread : List ℕ → Unread → Type 0
+IsUnread body unread = (fault : ReadFault)
+    × NamesOne (meaning Tables.request body).faults fault × (unread ≡ unread_by fault)
 
 -- Parts of a request, each of one trace: together they have its spans, each once and with its own
 -- resource and scope.
@@ -74,26 +105,36 @@ HasParts {A} body parts = (request : Request A)
 abbrev pub Keeping : Type 0 → Type 0 → Type 1
 Keeping A K = K → Parts A → K → Type 0
 
--- a post is refused, or its body isn't read, and this is answered
-abbrev pub IsRefused : HttpPost → PostReply → Type 0
-IsRefused post reply = (refusal_of post ≡ Some reply)
-    ⊎ ((refusal_of post ≡ None) × IsUnread post.body reply)
+-- What keeps spans has given up the oldest traces for so many bytes, and is then so.
+abbrev pub Giving : Type 0 → Type 1
+Giving K = K → ℕ → K → Type 0
 
--- a post is for a collector, and its body means a request that has these parts
-abbrev pub IsTaken : {A : Type 0} → HttpPost → Parts A → Type 0
-IsTaken post parts = (refusal_of post ≡ None) × HasParts post.body parts
+-- What becomes of a request, where so many bytes may still be pending: why it is refused, or nothing
+-- where it is taken. It is taken only where its body was read, and its parts were kept before. Where
+-- it is refused, what keeps the spans is as it was; but for want of memory it has given up the
+-- oldest traces for as many bytes as the request takes.
+pub data Receives {A K : Type 0} (keeps : Keeping A K) (gives_up : Giving K) (old : K)
+    (post : HttpPost) (room : ℕ) (denial : Option Denial) (new : K) : Type 0 where
+  refused : (reason : Denial) → denial_of post room ≡ Some reason → denial ≡ Some reason
+      → new ≡ old → Receives keeps gives_up old post room denial new
+  unread : denial_of post room ≡ None → IsUnread post.body reasons.Fault
+      → denial ≡ Some denials.BadBody → new ≡ old
+      → Receives keeps gives_up old post room denial new
+  no_memory : denial_of post room ≡ None → denial ≡ Some denials.OutOfMemory
+      → gives_up old (size_of_body post.body) new
+      → Receives keeps gives_up old post room denial new
+  kept : (parts : Parts A) → denial_of post room ≡ None → HasParts post.body parts
+      → denial ≡ None → keeps old parts new
+      → Receives keeps gives_up old post room denial new
 
--- A post is answered so. Only where its body was read, and its parts were kept before, it is
--- answered 200. Else what keeps the spans is as it was.
-pub data Receives {A K : Type 0} (keeps : Keeping A K) (old : K) (post : HttpPost)
-    (reply : PostReply) (new : K) : Type 0 where
-  refused : IsRefused post reply → new ≡ old → Receives keeps old post reply new
-  no_memory : (parts : Parts A) → IsTaken post parts → reply ≡ busy → new ≡ old
-      → Receives keeps old post reply new
-  kept : (parts : Parts A) → IsTaken post parts → keeps old parts new
-      → reply ≡ plain_reply statuses.Ok → Receives keeps old post reply new
+-- The response says why a request is refused, or that its spans were taken.
+abbrev pub IsAnswer : Option Denial → Format → Response → Type 0
+IsAnswer (Some denial) format response = IsDenial denial format response
+IsAnswer None format response = IsSuccess response
 
--- the same, where the response is given
-abbrev pub IsReceived : {A K : Type 0} → Keeping A K → K → HttpPost → Response → K → Type 0
-IsReceived keeps old post response new =
-    (reply : PostReply) × Receives keeps old post reply new × IsReply reply response
+-- a request to receive spans is answered so
+abbrev pub AnswersExport : {A K : Type 0} → Keeping A K → Giving K → K → HttpRequest (List ℕ) → ℕ
+    → Response → K → Type 0
+AnswersExport keeps gives_up old request room response new = (denial : Option Denial)
+    × Receives keeps gives_up old (post_of request) room denial new
+    × IsAnswer denial (denial_format (Some (head_of request))) response

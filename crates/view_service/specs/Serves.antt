@@ -1,27 +1,94 @@
--- How a request is answered: one to receive spans, or one for a page, which changes nothing.
-use Rattle.std.specs.Prelude.{◌≡◌, ℕ, true, false, List, codes, bytes_eq}
+-- What the service does for a connection.
+use Rattle.std.specs.Prelude.{◌≡◌, ◌≢◌, ℕ, ◌==◌, ◌||◌, true, false, not, if◌then◌else◌, List}
+use Rattle.std.specs.Prelude.{codes, bytes_eq, nat_lt, Option, Some, None, unwrap_or}
 use Rattle.http.specs.Request.{head_of}
+use Rattle.http.specs.declared.request.Parts.{Parts as Head}
 use Rattle.http.specs.declared.request.Request.{Request as HttpRequest}
+use Rattle.http_connection.specs.Turns.{Turn, Admitted, Rejected, Answered, Refused}
+use Rattle.http_connection.specs.declared.limits.Refusal.{Refusal}
+use Rattle.http_connection.specs.declared.limits.Refusal.TheVariants as refusals
 use Rattle.http_server.specs.declared.response.Response.{Response}
-use Rattle.view_service.specs.Receives.{IsReceived, Keeping, path_of, post_of}
-use Rattle.view_service.specs.Shows.{Answers, Drawing, Lending}
+use Rattle.http_uri.specs.Uri.{uri_path}
+use Rattle.view_reply.specs.Denials.{IsDenial}
+use Rattle.view_reply.specs.Hosts.{allows_head}
+use Rattle.view_reply.specs.Requests.{denial_format, is_export_path}
+use Rattle.view_reply.specs.Tallies.{CountsAnswer, Tally}
+use Rattle.view_reply.specs.declared.denial.Denial.{Denial}
+use Rattle.view_reply.specs.declared.denial.Denial.TheVariants as denials
+use Rattle.view_service.specs.Receives.{AnswersExport, Giving, Keeping}
+use Rattle.view_service.specs.Shows.{AnswersPage, Drawing, Lending, Writing}
 use Rattle.view_service.specs.declared.service.ViewService.{ViewService}
 
--- What keeps the spans was so before, the request is answered so, and then it is so.
-pub data Serves {A K P S : Type 0} (keeps : Keeping A K) (lends : Lending K S) (draws : Drawing P S)
-    (pages : P) (old : K) (request : HttpRequest (List ℕ)) (response : Response) (new : K)
-    : Type 0 where
-  received : bytes_eq (path_of request) (codes "/v1/traces") ≡ true
-      → IsReceived keeps old (post_of request) response new
-      → Serves keeps lends draws pages old request response new
-  shown : bytes_eq (path_of request) (codes "/v1/traces") ≡ false
-      → Answers lends draws old pages (head_of request).method (path_of request) response
-      → new ≡ old → Serves keeps lends draws pages old request response new
+module _ {K P : Type 0} where
+  -- what keeps the spans of a service
+  abbrev pub keeper_of : ViewService K P → K
+  keeper_of service = service.keeper
 
--- what writes the pages of a service
-abbrev pub pages_of : {K P : Type 0} → ViewService K P → P
-pages_of service = service.pages
+  -- what writes its pages
+  abbrev pub pages_of : ViewService K P → P
+  pages_of service = service.pages
 
--- what keeps the spans of a service
-abbrev pub keeper_of : {K P : Type 0} → ViewService K P → K
-keeper_of service = service.keeper
+  -- the hosts under which it may be asked
+  abbrev pub hosts_of : ViewService K P → List (List ℕ)
+  hosts_of service = service.hosts
+
+  -- what it has counted
+  abbrev pub tally_of : ViewService K P → Tally
+  tally_of service = service.tallies
+
+-- A service has given one more answer, with this status, which it counted. Under the same hosts it
+-- shows the same pages.
+pub record HasAnswered {K P : Type 0} (old new : ViewService K P) (status : ℕ) : Type 0 where
+  pub counted : CountsAnswer (tally_of old) (tally_of new) status
+  pub hosts : hosts_of new ≡ hosts_of old
+  pub pages : pages_of new ≡ pages_of old
+
+-- Why a request is refused by its head, where so many bytes may still be pending: it is for another
+-- host, or its body, if it says how long that is, is longer; or nothing more may be pending.
+abbrev pub head_denial : List (List ℕ) → Head → Option ℕ → ℕ → Option Denial
+head_denial hosts head body room =
+    if not (allows_head hosts head) then Some denials.Host
+    else if room == 0 || nat_lt room (unwrap_or body 0) then Some denials.NoRoom
+    else None
+
+-- why the connection refuses a request (RFC 9110, section 15; RFC 6585, section 5)
+abbrev pub denial_by : Refusal → Denial
+denial_by refusals.BadRequest = denials.BadRequest
+denial_by refusals.UriTooLong = denials.UriTooLong
+denial_by refusals.FieldsTooLarge = denials.FieldsTooLarge
+denial_by refusals.BodyTooLarge = denials.BodyTooLarge
+denial_by refusals.NoRoom = denials.NoRoom
+denial_by refusals.UnknownCoding = denials.UnknownCoding
+denial_by refusals.UnknownVersion = denials.UnknownVersion
+
+module _ {A K P R S : Type 0} (keeps : Keeping A K) (gives_up : Giving K) (lends : Lending K S)
+    (draws : Drawing P S) (writes : Writing R) where
+  -- A whole request is answered, where so many bytes may still be pending: one to receive spans, one
+  -- to receive what isn't taken, or one for a page. Only the first one changes what is kept.
+  pub data Answers (old : ViewService K P) (request : HttpRequest (List ℕ)) (room : ℕ)
+      (response : Response) (rest : Option R) (new : K) : Type 0 where
+    received : bytes_eq (uri_path (head_of request).uri) (codes "/v1/traces") ≡ true
+        → AnswersExport keeps gives_up (keeper_of old) request room response new
+        → rest ≡ None → Answers old request room response rest new
+    traces_only : bytes_eq (uri_path (head_of request).uri) (codes "/v1/traces") ≡ false
+        → is_export_path (uri_path (head_of request).uri) ≡ true
+        → IsDenial denials.TracesOnly (denial_format (Some (head_of request))) response
+        → rest ≡ None → new ≡ keeper_of old → Answers old request room response rest new
+    shown : is_export_path (uri_path (head_of request).uri) ≡ false
+        → AnswersPage lends draws writes (keeper_of old) (pages_of old) (head_of request) response
+        rest → new ≡ keeper_of old → Answers old request room response rest new
+
+  -- What the service does in a turn: a request that it lets in leaves it as it was, and each answer
+  -- is counted.
+  abbrev pub Serves : ViewService K P → Turn R → ViewService K P → Type 0
+  Serves old (Admitted head) new =
+      (allows_head (hosts_of old) (head_of head) ≡ true) × (new ≡ old)
+  Serves old (Rejected head response) new = (body : Option ℕ) × (room : ℕ) × (denial : Denial)
+      × (head_denial (hosts_of old) (head_of head) body room ≡ Some denial)
+      × IsDenial denial (denial_format (Some (head_of head))) response
+      × HasAnswered old new response.status × (keeper_of new ≡ keeper_of old)
+  Serves old (Answered request response rest) new = (room : ℕ)
+      × Answers old request room response rest (keeper_of new) × HasAnswered old new response.status
+  Serves old (Refused refusal response) new = (head : Option Head)
+      × IsDenial (denial_by refusal) (denial_format head) response
+      × HasAnswered old new response.status × (keeper_of new ≡ keeper_of old)

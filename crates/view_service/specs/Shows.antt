@@ -1,20 +1,26 @@
 -- How what is kept is shown: by the route of a request, its method and whether the trace that it
 -- names is kept. (RFC 9110, sections 9.3.1, 9.3.2, 15.5.5 and 15.5.6; which fields: profile)
-use Rattle.std.specs.Prelude.{◌≡◌, ◌≢◌, ℕ, Bool, true, false, if◌then◌else◌, List, [], ◌∷◌, ◌++◌}
-use Rattle.std.specs.Prelude.{codes, bytes_eq, Option, Some, None, ⊤}
-use Rattle.http1.specs.Fields.{Header}
+use Rattle.std.specs.Prelude.{◌≡◌, ◌≢◌, ℕ, Bool, true, false, if◌then◌else◌, List, [], codes}
+use Rattle.std.specs.Prelude.{bytes_eq, Option, Some, None, ⊤}
+use Rattle.http.specs.declared.request.Parts.{Parts as Head}
 use Rattle.http_server.specs.Response.{IsResponse}
 use Rattle.http_server.specs.declared.response.Response.{Response}
+use Rattle.http_uri.specs.Uri.{uri_path}
+use Rattle.view_reply.specs.Denials.{IsDenial}
+use Rattle.view_reply.specs.Formats.{format_fields}
+use Rattle.view_reply.specs.Requests.{denial_format}
+use Rattle.view_reply.specs.declared.denial.Denial.{Denial}
+use Rattle.view_reply.specs.declared.denial.Denial.TheVariants as denials
+use Rattle.view_reply.specs.declared.format.Format.{Format}
+use Rattle.view_reply.specs.declared.format.Format.TheVariants as formats
 use Rattle.view_service.specs.Routes.{Names}
 use Rattle.view_service.specs.declared.pages.TraceForm.{TraceForm}
 use Rattle.view_service.specs.declared.pages.TraceForm.TheVariants as forms
-use Rattle.view_span.specs.Keys.{trace_key}
 use Rattle.view_service.specs.declared.route.Route.{Route}
 use Rattle.view_service.specs.declared.route.Route.TheVariants as routes
-use Rattle.view_service.specs.declared.show.Format.{Format}
-use Rattle.view_service.specs.declared.show.Format.TheVariants as formats
 use Rattle.view_service.specs.declared.show.Shown.{Shown}
 use Rattle.view_service.specs.declared.show.Shown.TheVariants as outcomes
+use Rattle.view_span.specs.Keys.{trace_key}
 
 -- the methods that pages have
 unfoldable pub is_read : List ℕ → Bool
@@ -35,33 +41,7 @@ format_of (routes.ApiTrace trace) = formats.Json
 format_of routes.ApiStats = formats.Json
 format_of _ = formats.Html
 
-abbrev pub type_of : Format → List ℕ
-type_of formats.Html = codes "text/html; charset=utf-8"
-type_of formats.Css = codes "text/css; charset=utf-8"
-type_of formats.JavaScript = codes "text/javascript; charset=utf-8"
-type_of formats.Text = codes "text/plain; charset=utf-8"
-type_of formats.Json = codes "application/json"
-type_of formats.Prometheus = codes "text/plain; version=0.0.4; charset=utf-8"
-
--- What a page may load and do: no more than the style and the script of this service, and the
--- styles that stand in its own markup, by which it places its bars.
-abbrev pub policy : List ℕ
-policy =
-    codes "default-src 'none'; style-src 'self' 'unsafe-inline'; "
-    ++ codes "script-src 'self'; form-action 'self'"
-
--- the fields of an answer in this format
-abbrev pub format_fields : Format → List Header
-format_fields format = (codes "content-type", type_of format)
-    ∷ (codes "x-content-type-options", codes "nosniff")
-    ∷ (codes "content-security-policy", policy) ∷ []
-
--- the answer to another method says which ones are allowed
-abbrev pub IsNotAllowed : Response → Type 0
-IsNotAllowed response = (body : List ℕ) × IsResponse 405
-    ((codes "allow", codes "GET, HEAD") ∷ format_fields formats.Text) body response
-
--- the answer has this status, this format and this body
+-- the answer has this status, this format and this body, or this beginning of a body
 abbrev pub IsPage : ℕ → Format → List ℕ → Response → Type 0
 IsPage code format body response = IsResponse code (format_fields format) body response
 
@@ -73,10 +53,16 @@ may_be_missing (routes.ApiTrace trace) = true
 may_be_missing routes.Unknown = true
 may_be_missing _ = false
 
--- what may become of a page: only the list has a query that may be bad
+-- the query says which traces are listed
+abbrev pub has_query : Route → Bool
+has_query routes.List = true
+has_query routes.ApiTraces = true
+has_query _ = false
+
+-- what may become of a page: only a list has a query that may be bad
 abbrev pub FitsRoute : Route → Shown → Type 0
 FitsRoute route outcomes.Page = route ≢ routes.Unknown
-FitsRoute route outcomes.BadQuery = route ≡ routes.List
+FitsRoute route outcomes.BadQuery = has_query route ≡ true
 FitsRoute route outcomes.Missing = may_be_missing route ≡ true
 
 abbrev pub status_of : Shown → ℕ
@@ -84,10 +70,11 @@ status_of outcomes.Page = 200
 status_of outcomes.BadQuery = 400
 status_of outcomes.Missing = 404
 
--- what is said in place of a page is a page of HTML
+-- what is said in place of what is missing is a page of HTML
 abbrev pub format_as : Shown → Route → Format
 format_as outcomes.Page route = format_of route
-format_as _ route = formats.Html
+format_as outcomes.BadQuery route = format_of route
+format_as outcomes.Missing route = formats.Html
 
 -- how the route of a trace shows it
 abbrev pub form_of : Route → TraceForm
@@ -103,34 +90,50 @@ Lending K S = K → ℕ → Option (List S) → Type 0
 abbrev pub Drawing : Type 0 → Type 0 → Type 1
 Drawing P S = P → TraceForm → ℕ → List S → List ℕ → Type 0
 
-module _ {K P S : Type 0} (lends : Lending K S) (draws : Drawing P S) (keeper : K) (pages : P) where
-  -- A trace is shown where the keeper lends its spans: all that it lends, and no others. It is
-  -- missing where the keeper lends nothing.
-  abbrev pub ShowsTrace : TraceForm → ℕ → Shown → List ℕ → Type 0
-  ShowsTrace form trace outcomes.Page body =
-      (spans : List S) × lends keeper trace (Some spans) × draws pages form trace spans body
-  ShowsTrace form trace outcomes.BadQuery body = ⊥
-  ShowsTrace form trace outcomes.Missing body = lends keeper trace None
+-- What writes the rest of an answer may still write these bytes, all in all.
+abbrev pub Writing : Type 0 → Type 1
+Writing R = R → List ℕ → Type 0
 
-  -- the same, where the route is that of a trace
-  abbrev pub ShowsRoute : Route → Shown → List ℕ → Type 0
+-- Why a request for a page is refused, where it is: by its method, where pages don't have it, or as
+-- a post to a path where nothing is.
+abbrev pub page_denial : Route → List ℕ → Option Denial
+page_denial routes.Unknown method =
+    if bytes_eq method (codes "POST") then Some denials.NoPath else None
+page_denial route method = if is_read method then None else Some denials.PageMethod
+
+module _ {K P R S : Type 0} (lends : Lending K S) (draws : Drawing P S) (writes : Writing R)
+    (keeper : K) (pages : P) where
+  -- A trace is shown where the keeper lends its spans: all that it lends, and no others. Whatever is
+  -- written of it is that. It is missing where the keeper lends nothing.
+  abbrev pub ShowsTrace : TraceForm → ℕ → Shown → List ℕ → Option R → Type 0
+  ShowsTrace form trace outcomes.Page body (Some rest) =
+      (spans : List S) × lends keeper trace (Some spans) × (body ≡ [])
+      × ((bytes : List ℕ) → writes rest bytes → draws pages form trace spans bytes)
+  ShowsTrace form trace outcomes.Page body None = ⊥
+  ShowsTrace form trace outcomes.BadQuery body rest = ⊥
+  ShowsTrace form trace outcomes.Missing body rest = lends keeper trace None × (rest ≡ None)
+
+  -- The same, where the route is that of a trace. Any other page is whole.
+  abbrev pub ShowsRoute : Route → Shown → List ℕ → Option R → Type 0
   ShowsRoute (routes.Trace trace) = ShowsTrace forms.Page (trace_key trace.0)
   ShowsRoute (routes.TraceText trace) = ShowsTrace forms.Text (trace_key trace.0)
   ShowsRoute (routes.ApiTrace trace) = ShowsTrace forms.Json (trace_key trace.0)
-  ShowsRoute _ = λ _ _. ⊤
+  ShowsRoute _ = λ _ _ rest. rest ≡ None
 
   -- A page is shown; or its query can't be read, or what it shows isn't there, which a page says.
-  pub record Shows (route : Route) (response : Response) : Type 0 where
+  pub record Shows (route : Route) (response : Response) (rest : Option R) : Type 0 where
     pub became : Shown
     pub fits : FitsRoute route became
     pub body : List ℕ
     pub is : IsPage (status_of became) (format_as became route) body response
-    pub shows : ShowsRoute route became body
+    pub shows : ShowsRoute route became body rest
 
-  -- A request is answered with what its path names, or, where its method isn't one that pages have,
-  -- by which methods it may be asked for.
-  pub data Answers (method path : List ℕ) (response : Response) : Type 0 where
-    not_allowed : (route : Route) → Names path route → route ≢ routes.Unknown
-        → is_read method ≡ false → IsNotAllowed response → Answers method path response
-    shown : (route : Route) → Names path route → (route ≢ routes.Unknown → is_read method ≡ true)
-        → Shows route response → Answers method path response
+  -- A request is answered with what its path names, or it is refused by its method.
+  pub data AnswersPage (head : Head) (response : Response) (rest : Option R) : Type 0 where
+    refused : (route : Route) (denial : Denial) → Names (uri_path head.uri) route
+        → page_denial route head.method ≡ Some denial
+        → IsDenial denial (denial_format (Some head)) response → rest ≡ None
+        → AnswersPage head response rest
+    shown : (route : Route) → Names (uri_path head.uri) route
+        → page_denial route head.method ≡ None → Shows route response rest
+        → AnswersPage head response rest

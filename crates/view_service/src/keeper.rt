@@ -1,12 +1,15 @@
 //! What keeps received spans.
 
-ghost use Rattle.std.specs.Prelude.{◌≡◌, ℕ, ◌<◌, ◌≤◌, All, IfOk, List, OnErr, OnOk, Option, length, ⊤};
-ghost use Rattle.std.specs.Prelude.{reverse};
+ghost use Rattle.std.specs.Prelude.{◌≡◌, ◌<◌, ◌≤◌, ℕ, All, Bool, IfOk, List, OnErr, OnOk, Option};
+ghost use Rattle.std.specs.Prelude.{length, option_map, reverse, ⊤};
+ghost use Rattle.std.specs.List.{AllZip};
+ghost use Rattle.view_service.specs.Keepers.{GivesUp, KeepsParts, LendsCopies};
 
+use crate::filter::TraceFilter;
 use std::alloc::{AllocError, Global};
 use std::collections::LinkedList;
 use std::hash::BuildHasher;
-use trace_store::{Part, SpanSize, TraceStore};
+use trace_store::{Digest, Part, SpanSize, TraceStore};
 
 /// How many spans were received, what became of them, and how many traces are kept.
 #[derive(Clone, Copy, Debug, PartialEq, Eq)]
@@ -21,18 +24,26 @@ pub struct Counts {
     pub evicted_traces: u64,
 }
 
-/// The spans of a trace, as they are lent.
-pub type Lent<S> = (u128, LinkedList<S>);
+/// A trace, as a list has it, with its digest.
+pub type Listed<D> = (u128, D);
 
-/// What keeps received spans, each an `S`. Where several threads have one store, each has a keeper
-/// of its own.
-pub trait TraceKeeper<S> {
+/// What keeps received spans, each an `S`, with a digest `D` of each trace. Where several threads
+/// have one store, each has a keeper of its own.
+pub trait TraceKeeper<S, D: Digest<S>> {
     // From the first state, the parts of a request were kept, and the second state is left.
     ghost keeps: { Self → List (ℕ × List S) → Self → Type 0 };
+
+    // From the first state, the oldest traces were given up for so many bytes, and the second state
+    // is left.
+    ghost gives_up: { Self → ℕ → Self → Type 0 };
 
     // In this state, this may be lent of a trace: its spans, or nothing. An `impl` says so, if it can
     // say that.
     ghost lends: { Self → ℕ → Option (List S) → Type 0 } = { λ _ _ _. ⊤ };
+
+    // In this state, these may be listed of the traces that a test takes, so many at most. An `impl`
+    // says so, if it can say that.
+    ghost lists: { Self → (ℕ → List S → Bool) → ℕ → List (ℕ × D) → Type 0 } = { λ _ _ _ _. ⊤ };
 
     /// Keeps the parts of a request, each a trace and spans of it: all, or none.
     ///
@@ -44,20 +55,34 @@ pub trait TraceKeeper<S> {
         ensures kept { OnOk result (keeps self.old parts.items self.new) }
         ensures refused { OnErr result (self.new ≡ self.old) };
 
-    /// The traces that got a span last, the newest first: so many at most.
+    /// Gives up the oldest traces, until their spans come to so many bytes or none is left. It takes
+    /// no memory.
+    fn make_room(&mut self, bytes: u64)
+        ensures { gives_up self.old bytes self.new };
+
+    /// The traces that a filter takes, of those the ones that got a span last, the newest first: so
+    /// many at most.
     ///
     /// # Errors
     ///
     /// `AllocError` where memory was refused.
-    fn newest(&self, alloc: Global, count: usize) -> Result<Vec<Lent<S>>, AllocError>;
+    fn newest<F: TraceFilter<S, D>>(
+        &self,
+        alloc: Global,
+        count: usize,
+        filter: &F,
+    ) -> Result<Vec<Listed<D>>, AllocError>
+        ensures { IfOk result (λ listed.
+            lists self.now (λ trace spans. F.takes filter.now trace (D.digest_of spans) spans)
+            count listed.items) };
 
     /// The spans of a trace, in the order in which they came, if it is kept.
     ///
     /// # Errors
     ///
     /// `AllocError` where memory was refused.
-    fn copy(&self, trace: u128) -> Result<Option<LinkedList<S>>, AllocError>
-        ensures { IfOk result (lends self.now trace) };
+    fn copy(&self, alloc: Global, trace: u128) -> Result<Option<Vec<S>>, AllocError>
+        ensures { IfOk result (λ found. lends self.now trace (option_map (λ v. v.items) found)) };
 
     /// The traces that were evicted last, the last one first: 1,000 at most.
     ///
@@ -71,25 +96,68 @@ pub trait TraceKeeper<S> {
         ensures { result.evicted ≤ result.received };
 }
 
-/// Copies of the newest traces of a store, so many at most.
+/// Copies of spans, in order.
 ///
 /// # Errors
 ///
 /// `AllocError` where memory was refused.
-pub(crate) fn copy_newest<S, H>(
+fn copies_of<S: Clone + Drop>(alloc: Global, spans: &LinkedList<S>) -> Result<Vec<S>, AllocError>
+    ensures { IfOk result (λ copies. AllZip S.is_clone spans.now copies.items) }
+{
+    let mut copies = Vec::with_capacity(alloc, spans.len())?;
+    for span in spans.iter() {
+        copies.push(span.clone()?)?;
+    }
+    Ok(copies)
+}
+
+/// Copies of the spans of a trace that a store keeps.
+///
+/// # Errors
+///
+/// `AllocError` where memory was refused.
+pub(crate) fn copy_kept<S, D, H>(
     alloc: Global,
-    store: &TraceStore<S, H, Global>,
-    count: usize,
-) -> Result<Vec<Lent<S>>, AllocError>
+    store: &TraceStore<S, D, H, Global>,
+    trace: u128,
+) -> Result<Option<Vec<S>>, AllocError>
 where
     S: SpanSize + Clone + Drop,
+    D: Digest<S>,
     H: BuildHasher + Drop,
+    ensures { IfOk result (λ found.
+        LendsCopies S.is_clone store.now trace (option_map (λ v. v.items) found)) }
 {
-    let mut newest = Vec::new(alloc);
-    for (trace, spans) in store.iter().take(count) {
-        newest.push((*trace, spans.clone()?))?;
+    match store.get(trace) {
+        Some(spans) => Ok(Some(copies_of(alloc, spans)?)),
+        None => Ok(None),
     }
-    Ok(newest)
+}
+
+/// The newest traces of a store that a filter takes, so many at most.
+///
+/// # Errors
+///
+/// `AllocError` where memory was refused.
+pub(crate) fn list_newest<S, D, H, F>(
+    alloc: Global,
+    store: &TraceStore<S, D, H, Global>,
+    count: usize,
+    filter: &F,
+) -> Result<Vec<Listed<D>>, AllocError>
+where
+    S: SpanSize + Drop,
+    D: Digest<S> + Clone,
+    H: BuildHasher + Drop,
+    F: TraceFilter<S, D>,
+{
+    let mut listed = Vec::new(alloc);
+    for (trace, kept) in store.iter() {
+        if listed.len() < count && filter.takes(*trace, kept.digest(), kept.spans()) {
+            listed.push((*trace, kept.digest().clone()?))?;
+        }
+    }
+    Ok(listed)
 }
 
 /// The traces that a store evicted last, the last one first.
@@ -97,12 +165,13 @@ where
 /// # Errors
 ///
 /// `AllocError` where memory was refused.
-pub(crate) fn last_evicted_of<S, H>(
+pub(crate) fn last_evicted_of<S, D, H>(
     alloc: Global,
-    store: &TraceStore<S, H, Global>,
+    store: &TraceStore<S, D, H, Global>,
 ) -> Result<Vec<u128>, AllocError>
 where
     S: SpanSize + Drop,
+    D: Digest<S>,
     H: BuildHasher + Drop,
     ensures { IfOk result (λ names. names.items ≡ reverse store.now.kept.last_evicted) }
 {
@@ -112,9 +181,10 @@ where
 }
 
 /// What a store counts.
-pub(crate) fn counts_of<S, H>(store: &TraceStore<S, H, Global>) -> Counts
+pub(crate) fn counts_of<S, D, H>(store: &TraceStore<S, D, H, Global>) -> Counts
 where
     S: SpanSize + Drop,
+    D: Digest<S>,
     H: BuildHasher + Drop,
     ensures below { result.evicted ≤ result.received }
     ensures received { result.received ≡ store.now.kept.received }
@@ -130,13 +200,22 @@ where
     }
 }
 
-impl<S: SpanSize + Clone + Drop, H: BuildHasher + Drop> TraceKeeper<S>
-    for TraceStore<S, H, Global> {
-    ghost use Rattle.view_service.specs.Keepers.{KeepsParts, LendsCopies};
+impl<S, D, H> TraceKeeper<S, D> for TraceStore<S, D, H, Global>
+where
+    S: SpanSize + Clone + Drop,
+    D: Digest<S> + Clone,
+    H: BuildHasher + Drop,
+{
+    ghost use Rattle.std.specs.Prelude.{⊤};
+    ghost use Rattle.view_service.specs.Keepers.{GivesUp, KeepsParts, LendsCopies};
 
     ghost keeps = { KeepsParts S.size_of };
 
+    ghost gives_up = { GivesUp S.size_of };
+
     ghost lends = { LendsCopies S.is_clone };
+
+    ghost lists = { λ _ _ _ _. ⊤ };
 
     fn keep(&mut self, parts: Vec<Part<S, Global>>) -> Result<(), AllocError>
         requires { All (λ part. 0 < length part.1) parts.items }
@@ -146,14 +225,26 @@ impl<S: SpanSize + Clone + Drop, H: BuildHasher + Drop> TraceKeeper<S>
         self.insert_all(parts)
     }
 
-    fn newest(&self, alloc: Global, count: usize) -> Result<Vec<Lent<S>>, AllocError> {
-        copy_newest(alloc, self, count)
+    fn make_room(&mut self, bytes: u64)
+        ensures { GivesUp S.size_of self.old bytes self.new }
+    {
+        let _ = TraceStore::make_room(self, bytes);
     }
 
-    fn copy(&self, trace: u128) -> Result<Option<LinkedList<S>>, AllocError>
-        ensures { IfOk result (LendsCopies S.is_clone self.now trace) }
+    fn newest<F: TraceFilter<S, D>>(
+        &self,
+        alloc: Global,
+        count: usize,
+        filter: &F,
+    ) -> Result<Vec<Listed<D>>, AllocError> {
+        list_newest(alloc, self, count, filter)
+    }
+
+    fn copy(&self, alloc: Global, trace: u128) -> Result<Option<Vec<S>>, AllocError>
+        ensures { IfOk result (λ found.
+            LendsCopies S.is_clone self.now trace (option_map (λ v. v.items) found)) }
     {
-        TraceStore::copy(self, trace)
+        copy_kept(alloc, self, trace)
     }
 
     fn last_evicted(&self, alloc: Global) -> Result<Vec<u128>, AllocError>

@@ -1,21 +1,20 @@
 //! What writes pages.
 
-ghost use Rattle.std.specs.Prelude.{◌≡◌, ◌++◌, ℕ, List, OnOk, ⊤};
+ghost use Rattle.std.specs.Prelude.{◌≡◌, ℕ, IfOk, List, ⊤};
 
-use crate::keeper::{Counts, Lent};
-use crate::tally::Refusals;
+use crate::filter::TraceFilter;
+use crate::keeper::{Counts, Listed};
+use http_connection::Pieces;
 use std::alloc::AllocError;
-use std::collections::LinkedList;
+use view_reply::Tallies;
 
-/// What is counted, as pages show it.
+/// How a list of traces is shown.
 #[derive(Clone, Copy, Debug, PartialEq, Eq)]
-pub struct Totals {
-    /// The spans.
-    pub spans: Counts,
-    /// The requests that were refused.
-    pub refusals: Refusals,
-    /// How many connections came.
-    pub connections: u64,
+pub enum ListForm {
+    /// A page for a browser.
+    Page,
+    /// JSON, for programs.
+    Json,
 }
 
 /// How a trace is shown.
@@ -29,30 +28,54 @@ pub enum TraceForm {
     Json,
 }
 
-/// What writes the pages of a service, each to the end of a list of bytes. No lock is held
-/// meanwhile.
+/// What a list was asked for with.
+#[derive(Clone, Copy, Debug)]
+pub struct Asked<'a> {
+    /// The query, without its `?`.
+    pub query: &'a str,
+    /// The host that was asked, or nothing where it isn't known.
+    pub host: &'a str,
+}
+
+/// What writes the pages of a service, each to the end of a list of bytes, or in pieces.
 ///
 /// Where memory is refused, each answers `AllocError`.
-pub trait Pages<S> {
+pub trait Pages<S, D> {
     ghost use Rattle.view_service.specs.declared.pages.TraceForm.{TraceForm};
+
+    /// Which traces a list has.
+    type Filter: TraceFilter<S, D> + Drop;
+
+    /// What writes a trace.
+    type Page: Pieces + Drop;
 
     // A trace with these spans is shown so in this form. An `impl` says so, if it can say that.
     ghost draws: { Self → TraceForm → ℕ → List S → List ℕ → Type 0 } = { λ _ _ _ _ _. ⊤ };
 
-    /// The list of traces, the newest first, as the query asks for it. It answers `false` where the
-    /// query can't be read; the page says why.
-    fn list(&self, out: &mut Vec<u8>, query: &str, traces: &[Lent<S>]) -> Result<bool, AllocError>;
-
-    /// A trace, in a form.
-    fn trace(
+    /// Which traces are asked for by the query of a list. None where it can't be read: what was
+    /// written then says why, in this form.
+    fn filter(
         &self,
         out: &mut Vec<u8>,
-        form: TraceForm,
-        trace: u128,
-        spans: &LinkedList<S>,
-    ) -> Result<(), AllocError>
-        ensures { OnOk result ((page : List ℕ) × (out.new.items ≡ out.old.items ++ page)
-            × draws self.now form trace spans.now page) };
+        form: ListForm,
+        query: &str,
+    ) -> Result<Option<Self::Filter>, AllocError>;
+
+    /// A list of traces, the newest first, which a filter took of so many that are kept.
+    fn list(
+        &self,
+        out: &mut Vec<u8>,
+        form: ListForm,
+        asked: &Asked<'_>,
+        filter: &Self::Filter,
+        traces: &[Listed<D>],
+        total: u64,
+    ) -> Result<(), AllocError>;
+
+    /// A trace, in a form.
+    fn trace(&self, form: TraceForm, trace: u128, spans: Vec<S>) -> Result<Self::Page, AllocError>
+        ensures { IfOk result (λ page. (bytes : List ℕ) → Self.Page.writes page bytes
+            → draws self.now form trace spans.items bytes) };
 
     /// The page where nothing is.
     fn missing(&self, out: &mut Vec<u8>) -> Result<(), AllocError>;
@@ -63,17 +86,20 @@ pub trait Pages<S> {
     /// A script that no page needs.
     fn script(&self) -> &'static str;
 
-    /// The list of traces, in JSON.
-    fn api_traces(&self, out: &mut Vec<u8>, traces: &[Lent<S>]) -> Result<(), AllocError>;
-
     /// What is counted, and the traces that were evicted last, the last one first, in JSON.
     fn stats(
         &self,
         out: &mut Vec<u8>,
-        totals: &Totals,
+        spans: &Counts,
+        tallies: &Tallies,
         last_evicted: &[u128],
     ) -> Result<(), AllocError>;
 
     /// What is counted, for Prometheus.
-    fn metrics(&self, out: &mut Vec<u8>, totals: &Totals) -> Result<(), AllocError>;
+    fn metrics(
+        &self,
+        out: &mut Vec<u8>,
+        spans: &Counts,
+        tallies: &Tallies,
+    ) -> Result<(), AllocError>;
 }

@@ -1,14 +1,13 @@
 //! Requests to receive spans.
 
-ghost use Rattle.std.specs.Prelude.{◌≡◌, ◌<◌, All, IfErr, IfOk, OnErr, OnOk, length};
+ghost use Rattle.std.specs.Prelude.{◌≡◌, ◌<◌, true, false, All, IfErr, IfOk, OnErr, OnOk, length};
 ghost use Rattle.http_server.specs.Response.{IsBlank};
 ghost use Rattle.otlp_serve.specs.Answers.{refusal_of};
-ghost use Rattle.view_service.specs.Receives.{HasParts, IsReceived, IsRefused, IsTaken, IsUnread};
-ghost use Rattle.view_service.specs.Replies.{IsReply};
-ghost use Rattle.view_service.specs.Receives.{busy, post_of, reply_to_unread};
+ghost use Rattle.view_reply.specs.Denials.{IsDenial};
+ghost use Rattle.view_service.specs.Receives.{AnswersExport, HasParts, IsUnread, denial_by};
+ghost use Rattle.view_service.specs.Receives.{denial_of, post_of, size_of_body, unread_by};
 
 use crate::keeper::TraceKeeper;
-use crate::reply::fill_reply;
 use bytes::Bytes;
 use http::Request;
 use http_server::Response;
@@ -17,116 +16,160 @@ use otlp_serve::{PostReply, ReplyStatus};
 use std::alloc::{AllocError, Global};
 use std::sync::Arc;
 use trace_store::Part;
-use view_span::{ViewSpan, take_apart};
+use view_reply::{Denial, Format, denial_format, fill_denial, fill_taken};
+use view_span::{TraceDigest, ViewSpan, request_size, take_apart};
 
 /// The spans of a request, by their traces.
 type Parts = Vec<Part<Arc<ViewSpan>, Global>>;
 
-/// That memory was refused, and that it may be tried again in a second.
-fn busy() -> PostReply
-    ensures { result ≡ busy }
-{
-    PostReply {
-        status: ReplyStatus::ServiceUnavailable,
-        retry_after: Some(1),
-    }
+/// Why a body isn't read.
+#[derive(Clone, Copy, Debug, PartialEq, Eq)]
+enum Unread {
+    /// It has a fault.
+    Fault,
+    /// Memory was refused.
+    OutOfMemory,
 }
 
-/// What is answered to a body that isn't read.
-fn reply_to_unread(fault: ReadFault) -> PostReply
-    ensures { result ≡ reply_to_unread fault }
+/// Why a body isn't read that has this fault.
+fn unread_by(fault: ReadFault) -> Unread
+    ensures { result ≡ unread_by fault }
 {
     match fault {
-        ReadFault::OutOfMemory => busy(),
-        ReadFault::Wire(_) | ReadFault::BadUtf8 | ReadFault::TooDeep => PostReply {
-            status: ReplyStatus::BadRequest,
-            retry_after: None,
-        },
+        ReadFault::OutOfMemory => Unread::OutOfMemory,
+        ReadFault::Wire(_) | ReadFault::BadUtf8 | ReadFault::TooDeep => Unread::Fault,
     }
 }
 
-/// The parts of what a request's body means, or what is answered where it isn't read.
-fn read_parts(alloc: Global, request: &Request<Bytes>) -> Result<Parts, PostReply>
+/// The parts of what a request's body means, or why it isn't read.
+fn read_parts(alloc: Global, request: &Request<Bytes>) -> Result<Parts, Unread>
     ensures parts { IfOk result (λ parts. HasParts (post_of request.now).body parts.items) }
     ensures some { IfOk result (λ parts. All (λ part. 0 < length part.1) parts.items) }
     ensures unread { IfErr result (IsUnread (post_of request.now).body) }
 {
     let request = match read_request(alloc, request.body().as_slice()) {
         Ok(request) => request,
-        Err(fault) => return Err(reply_to_unread(fault)),
+        Err(fault) => return Err(unread_by(fault)),
     };
     match take_apart(alloc, request) {
         Ok(parts) => Ok(parts),
-        Err(_) => Err(busy()),
+        Err(_) => Err(Unread::OutOfMemory),
     }
 }
 
-/// Why a request isn't for a collector, if it isn't.
-fn refusal(request: &Request<Bytes>) -> Option<PostReply>
-    ensures { result ≡ refusal_of (post_of request.now) }
+/// Why a request is refused that a collector answers so.
+fn denial_by(reply: PostReply) -> Denial
+    ensures { result ≡ denial_by reply }
+{
+    match reply.status {
+        ReplyStatus::NotFound => Denial::NoPath,
+        ReplyStatus::MethodNotAllowed => Denial::ExportMethod,
+        _ => Denial::MediaType,
+    }
+}
+
+/// How many bytes of memory the reading of a request takes.
+fn size_of_body(request: &Request<Bytes>) -> u64
+    ensures { result ≡ size_of_body (post_of request.now).body }
+{
+    request_size(request.body().as_slice())
+}
+
+/// Why a request isn't read, if it isn't: it isn't for a collector, or it takes more memory than may
+/// still be pending.
+fn denial_of(request: &Request<Bytes>, room: usize) -> Option<Denial>
+    ensures { result ≡ denial_of (post_of request.now) room }
 {
     let (method, path) = (request.method().as_str(), request.uri().path());
-    otlp_serve::refusal_of(method, path.as_bytes(), request.headers())
-}
-
-/// The parts of what a request sends, or what is answered where it is refused or isn't read.
-fn judge(alloc: Global, request: &Request<Bytes>) -> Result<Parts, PostReply>
-    ensures parts { IfOk result (λ parts. IsTaken (post_of request.now) parts.items) }
-    ensures some { IfOk result (λ parts. All (λ part. 0 < length part.1) parts.items) }
-    ensures refused { IfErr result (IsRefused (post_of request.now)) }
-{
-    match refusal(request) {
-        Some(reply) => Err(reply),
-        None => match read_parts(alloc, request) {
-            Ok(parts) => Ok(parts),
-            Err(reply) => Err(reply),
-        },
+    if let Some(reply) = otlp_serve::refusal_of(method, path.as_bytes(), request.headers()) {
+        return Some(denial_by(reply));
     }
+    if size_of_body(request) > room as u64 {
+        return Some(Denial::NoRoom);
+    }
+    None
 }
 
-/// Makes a response the answer that memory was refused.
-fn answer_busy(alloc: Global, response: &mut Response) -> Result<(), AllocError>
-    ensures { OnOk result (IsReply busy response.new) }
+/// The answer that memory was refused.
+fn busy(alloc: Global, format: Format) -> Result<Response, AllocError>
+    ensures { IfOk result (IsDenial Denial.OutOfMemory format) }
 {
-    response.clear();
-    fill_reply(alloc, response, busy())
+    let mut response = Response::new(alloc);
+    fill_denial(&mut response, Denial::OutOfMemory, format)?;
+    Ok(response)
+}
+
+/// Gives up the oldest traces for as many bytes as the reading of a request takes.
+fn give_room<K: TraceKeeper<Arc<ViewSpan>, TraceDigest>>(keeper: &mut K, request: &Request<Bytes>)
+    ensures { K.gives_up keeper.old (size_of_body (post_of request.now).body) keeper.new }
+{
+    keeper.make_room(size_of_body(request));
+}
+
+/// Keeps the parts of a request, if memory isn't refused; else the oldest traces make room for the
+/// next request. Answers whether they are kept.
+fn keep_parts<K: TraceKeeper<Arc<ViewSpan>, TraceDigest>>(
+    keeper: &mut K,
+    request: &Request<Bytes>,
+    parts: Parts,
+) -> bool
+    requires { All (λ part. 0 < length part.1) parts.items }
+    ensures kept { result ≡ true → K.keeps keeper.old parts.items keeper.new }
+    ensures gave_room { result ≡ false
+        → K.gives_up keeper.old (size_of_body (post_of request.now).body) keeper.new }
+{
+    match keeper.keep(parts) {
+        Ok(()) => true,
+        Err(_) => {
+            give_room(keeper, request);
+            false
+        }
+    }
 }
 
 /// Makes a blank response the answer to a request to receive spans (OTLP Specification, "OTLP/HTTP
-/// Request"). Only where its body was read, and its spans were kept, it is 200.
+/// Request"). Only where its body was read, and its spans were kept, it is 200. Where memory was
+/// refused, the oldest traces make room for the next request.
 ///
 /// # Errors
 ///
-/// `AllocError` where memory for the response was refused. Nothing was kept then.
-pub(crate) fn receive<K: TraceKeeper<Arc<ViewSpan>>>(
+/// `AllocError` where memory for the response was refused. Nothing was kept then, and nothing given
+/// up.
+pub(crate) fn receive<K: TraceKeeper<Arc<ViewSpan>, TraceDigest>>(
     alloc: Global,
     keeper: &mut K,
     request: &Request<Bytes>,
+    room: usize,
     response: &mut Response,
 ) -> Result<(), AllocError>
     requires { IsBlank response.old }
-    ensures received { OnOk result (IsReceived K.keeps keeper.old
-        (post_of request.now) response.new keeper.new) }
+    ensures received { OnOk result (AnswersExport K.keeps K.gives_up keeper.old request.now room
+        response.new keeper.new) }
     ensures refused { OnErr result (keeper.new ≡ keeper.old) }
 {
-    let parts = match judge(alloc, request) {
+    let format = denial_format(Some(request));
+    if let Some(denial) = denial_of(request, room) {
+        fill_denial(response, denial, format)?;
+        return Ok(());
+    }
+    // All memory is taken before the keeper changes, so that nothing can fail after it.
+    let busy = busy(alloc, format)?;
+    let parts = match read_parts(alloc, request) {
         Ok(parts) => parts,
-        Err(reply) => {
-            fill_reply(alloc, response, reply)?;
+        Err(Unread::Fault) => {
+            fill_denial(response, Denial::BadBody, format)?;
+            return Ok(());
+        }
+        Err(Unread::OutOfMemory) => {
+            give_room(keeper, request);
+            *response = busy;
             return Ok(());
         }
     };
-    let taken = PostReply {
-        status: ReplyStatus::Ok,
-        retry_after: None,
-    };
-    // All memory is taken before the spans are kept, so that nothing can fail after it.
-    fill_reply(alloc, response, taken)?;
-    match keeper.keep(parts) {
-        Ok(()) => Ok(()),
-        Err(_) => {
-            answer_busy(alloc, response)?;
-            Ok(())
-        }
+    fill_taken(response)?;
+    if keep_parts(keeper, request, parts) {
+        return Ok(());
     }
+    *response = busy;
+    Ok(())
 }

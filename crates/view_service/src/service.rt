@@ -1,44 +1,61 @@
-//! The service that a server calls.
+//! The service that a connection calls.
 
-ghost use Rattle.std.specs.Prelude.{◌≡◌, bytes_eq, codes};
-ghost use Rattle.view_service.specs.Receives.{path_of};
-ghost use Rattle.view_service.specs.Serves.{keeper_of};
+ghost use Rattle.std.specs.Prelude.{◌≡◌, [], IfOk, OnErr, OnOk, None, Option, Some, bytes_eq};
+ghost use Rattle.std.specs.Prelude.{codes, min, replicate, option_copied};
+ghost use Rattle.http.specs.Request.{head_of};
+ghost use Rattle.http_server.specs.Response.{IsBlank};
+ghost use Rattle.http_uri.specs.Uri.{uri_path};
+ghost use Rattle.view_reply.specs.Denials.{IsDenial};
+ghost use Rattle.view_reply.specs.Requests.{denial_format, head_in};
+ghost use Rattle.view_service.specs.Serves as spec;
+ghost use Rattle.view_service.specs.Serves.{Answers, HasAnswered, hosts_of, keeper_of, pages_of};
+ghost use Rattle.view_service.specs.Serves.{tally_of};
 
 use crate::keeper::TraceKeeper;
 use crate::pages::Pages;
 use crate::receive::receive;
 use crate::show::Viewer;
-use crate::tally::Tallies;
 use bytes::Bytes;
 use http::Request;
-use http_server::{Response, Service};
+use http_connection::{Refusal, Service};
+use http_server::Response;
 use std::alloc::{AllocError, Global};
 use std::sync::Arc;
-use view_span::ViewSpan;
+use view_reply::{Denial, Hosts, Tallies, denial_format, fill_denial, is_export_path, path_of};
+use view_span::{TraceDigest, ViewSpan};
 
 /// Receives spans by `POST /v1/traces`, and shows by `GET` what its keeper has.
 ///
-/// A request is answered 200 there only where its body was read, and its spans were kept before.
-/// Any other answer leaves the keeper as it was. A call fails only where memory for the answer is
-/// refused: nothing was kept then, and the connection ends.
+/// It is asked only under its own hosts. A request is answered 200 there only where its body was
+/// read, and its spans were kept before. Any other answer leaves the keeper as it was, but that it
+/// gives up its oldest traces where memory was refused. Each answer is counted by its status. A call
+/// fails only where memory for the answer is refused: nothing was kept then, and the connection
+/// ends.
 #[derive(Drop)]
-pub struct ViewService<'a, K, P> {
+pub struct ViewService<K, P> {
     alloc: Global,
     keeper: K,
     pages: P,
-    tallies: &'a Tallies,
+    hosts: Hosts,
+    tallies: Tallies,
 }
 
-impl<'a, K, P> ViewService<'a, K, P> {
-    /// A service over this keeper. It takes no memory.
-    pub fn new(alloc: Global, keeper: K, pages: P, tallies: &'a Tallies) -> ViewService<'a, K, P>
-        ensures { keeper_of result ≡ keeper }
+impl<K, P> ViewService<K, P> {
+    /// A service over this keeper, which is asked under these hosts. It takes no memory, and has
+    /// counted nothing.
+    pub fn new(alloc: Global, keeper: K, pages: P, hosts: Hosts) -> ViewService<K, P>
+        ensures keeper { keeper_of result ≡ keeper }
+        ensures pages { pages_of result ≡ pages }
+        ensures hosts { hosts_of result ≡ hosts }
+        ensures tallies { tally_of result
+            ≡ record { connections = 0; answers = replicate 900 0 } }
     {
         ViewService {
             alloc,
             keeper,
             pages,
-            tallies,
+            hosts,
+            tallies: Tallies::new(),
         }
     }
 
@@ -48,43 +65,173 @@ impl<'a, K, P> ViewService<'a, K, P> {
     {
         &self.keeper
     }
+
+    /// What it has counted.
+    pub fn tallies(&self) -> &Tallies
+        ensures { result.now ≡ tally_of self.now }
+    {
+        &self.tallies
+    }
+
+    /// Counts a connection.
+    pub fn count_connection(&mut self)
+        ensures keeper { keeper_of self.new ≡ keeper_of self.old }
+    {
+        self.tallies.count_connection();
+    }
+
+    /// Why a request is refused by its head, if it is.
+    fn head_denial(&self, head: &Request<Bytes>, body: Option<u64>, room: usize) -> Option<Denial>
+        ensures { result ≡ spec.head_denial (hosts_of self.now) (head_of head.now) body room }
+    {
+        if !self.hosts.allow_request(head) {
+            return Some(Denial::Host);
+        }
+        if room == 0 || body.unwrap_or(0) > room as u64 {
+            return Some(Denial::NoRoom);
+        }
+        None
+    }
+
+    /// Makes a blank response the answer to a request that is refused, and counts it.
+    fn deny(
+        &mut self,
+        response: &mut Response,
+        denial: Denial,
+        head: Option<&Request<Bytes>>,
+    ) -> Result<(), AllocError>
+        requires { IsBlank response.old }
+        ensures answer { OnOk result (IsDenial denial
+            (denial_format (head_in (option_copied head.entry))) response.new) }
+        ensures counted { OnOk result (HasAnswered self.old self.new response.new.status) }
+        ensures keeper { keeper_of self.new ≡ keeper_of self.old }
+        ensures refused { OnErr result (self.new ≡ self.old) }
+    {
+        fill_denial(response, denial, denial_format(head))?;
+        self.tallies.count_answer(response.status);
+        Ok(())
+    }
 }
 
-/// Whether a request goes to the path of exports.
-fn is_export(request: &Request<Bytes>) -> bool
-    ensures { result ≡ bytes_eq (path_of request.now) (codes "/v1/traces") }
+/// Why the connection refuses a request.
+fn denial_by(refusal: Refusal) -> Denial
+    ensures { result ≡ spec.denial_by refusal }
 {
-    request.uri().path() == "/v1/traces"
+    match refusal {
+        Refusal::BadRequest => Denial::BadRequest,
+        Refusal::UriTooLong => Denial::UriTooLong,
+        Refusal::FieldsTooLarge => Denial::FieldsTooLarge,
+        Refusal::BodyTooLarge => Denial::BodyTooLarge,
+        Refusal::NoRoom => Denial::NoRoom,
+        Refusal::UnknownCoding => Denial::UnknownCoding,
+        Refusal::UnknownVersion => Denial::UnknownVersion,
+    }
 }
 
-impl<'a, K, P> Service for ViewService<'a, K, P>
+impl<K, P> ViewService<K, P>
 where
-    K: TraceKeeper<Arc<ViewSpan>>,
-    P: Pages<Arc<ViewSpan>>,
+    K: TraceKeeper<Arc<ViewSpan>, TraceDigest>,
+    P: Pages<Arc<ViewSpan>, TraceDigest>,
 {
-    ghost use Rattle.view_service.specs.Serves.{Serves, keeper_of, pages_of};
-
-    ghost answers = { λ old request response new.
-        Serves K.keeps K.lends P.draws (pages_of old) (keeper_of old) request response
-        (keeper_of new) };
-
-    fn call(
+    /// Makes a blank response the answer to a whole request, and counts it, where so many bytes may
+    /// still be pending. Where the answer isn't whole, what is answered here writes the rest.
+    ///
+    /// # Errors
+    ///
+    /// `AllocError` where memory for the answer was refused. The service is then as it was.
+    pub fn answer(
         &mut self,
         request: &Request<Bytes>,
+        room: usize,
         response: &mut Response,
-    ) -> Result<(), AllocError> {
-        if is_export(request) {
-            receive(self.alloc, &mut self.keeper, request, response)?;
-            self.tallies.count_answer(response.status);
-            return Ok(());
+    ) -> Result<Option<P::Page>, AllocError>
+        requires { IsBlank response.old }
+        ensures answers { IfOk result (λ rest. Answers K.keeps K.gives_up K.lends P.draws
+            P.Page.writes self.old request.now room response.new rest (keeper_of self.new)) }
+        ensures counted { OnOk result (HasAnswered self.old self.new response.new.status) }
+        ensures refused { OnErr result (self.new ≡ self.old) }
+    {
+        let rest = self.fill(request, room, response)?;
+        self.tallies.count_answer(response.status);
+        Ok(rest)
+    }
+
+    /// The same, but that it isn't counted.
+    fn fill(
+        &mut self,
+        request: &Request<Bytes>,
+        room: usize,
+        response: &mut Response,
+    ) -> Result<Option<P::Page>, AllocError>
+        requires { IsBlank response.old }
+        ensures answers { IfOk result (λ rest. Answers K.keeps K.gives_up K.lends P.draws
+            P.Page.writes self.old request.now room response.new rest (keeper_of self.new)) }
+        ensures hosts { hosts_of self.new ≡ hosts_of self.old }
+        ensures pages { pages_of self.new ≡ pages_of self.old }
+        ensures tallies { tally_of self.new ≡ tally_of self.old }
+        ensures refused { OnErr result (self.new ≡ self.old) }
+    {
+        let path = path_of(request);
+        if path == "/v1/traces" {
+            receive(self.alloc, &mut self.keeper, request, room, response)?;
+            return Ok(None);
+        }
+        if is_export_path(path) {
+            fill_denial(response, Denial::TracesOnly, denial_format(Some(request)))?;
+            return Ok(None);
         }
         let viewer = Viewer {
             alloc: self.alloc,
             keeper: &self.keeper,
             pages: &self.pages,
-            tallies: self.tallies,
+            tallies: &self.tallies,
         };
-        viewer.show(request, response)?;
-        Ok(())
+        let rest = viewer.show(request, response)?;
+        Ok(rest)
+    }
+}
+
+impl<K, P> Service for ViewService<K, P>
+where
+    K: TraceKeeper<Arc<ViewSpan>, TraceDigest>,
+    P: Pages<Arc<ViewSpan>, TraceDigest>,
+{
+    ghost use Rattle.view_service.specs.Serves.{Serves};
+
+    type Pieces = P::Page;
+
+    ghost answers = { Serves K.keeps K.gives_up K.lends P.draws P.Page.writes };
+
+    fn admit(
+        &mut self,
+        head: &Request<Bytes>,
+        body: Option<u64>,
+        room: usize,
+        response: &mut Response,
+    ) -> Result<bool, AllocError> {
+        let Some(denial) = self.head_denial(head, body, room) else {
+            return Ok(true);
+        };
+        self.deny(response, denial, Some(head))?;
+        Ok(false)
+    }
+
+    fn call(
+        &mut self,
+        request: &Request<Bytes>,
+        room: usize,
+        response: &mut Response,
+    ) -> Result<Option<P::Page>, AllocError> {
+        let rest = self.answer(request, room, response)?;
+        Ok(rest)
+    }
+
+    fn refuse(
+        &mut self,
+        refusal: Refusal,
+        head: Option<&Request<Bytes>>,
+        response: &mut Response,
+    ) -> Result<(), AllocError> {
+        self.deny(response, denial_by(refusal), head)
     }
 }

@@ -5,14 +5,16 @@ ghost use Rattle.std.specs.Prelude.{sum, vec_len};
 ghost use Rattle.std.specs.List.{AllByRecursion};
 ghost use Rattle.trace_store.specs.Traces.{span_count};
 
-use crate::keeper::{Counts, Lent, TraceKeeper, copy_newest, counts_of, last_evicted_of};
+use crate::filter::TraceFilter;
+use crate::keeper::{
+    Counts, Listed, TraceKeeper, copy_kept, counts_of, last_evicted_of, list_newest,
+};
 use account_book::{Account, Blank, Book, Change, Naming, Opening};
 use std::alloc::{AllocError, Global};
-use std::collections::LinkedList;
 use std::hash::BuildHasher;
 use std::marker::{Model, PhantomData};
 use std::sync::{Arc, Mutex, Wait};
-use trace_store::{Part, SpanSize, TraceStore};
+use trace_store::{Digest, Part, SpanSize, TraceStore};
 
 /// What an account of a store says: how many spans its holder has kept there. No value is made.
 pub struct SpansKept {
@@ -42,20 +44,20 @@ impl Change<SpansKept, u64> for Keeps {
 /// What the lock of a shared store guards: the store, and the book of who has kept how many spans
 /// in it. The spans that it has received are those that its keepers have kept.
 #[derive(Drop)]
-pub struct KeptSpans<J: Naming, S: SpanSize, H: BuildHasher> {
-    store: TraceStore<S, H, Global>,
+pub struct KeptSpans<J: Naming, S: SpanSize, D: Digest<S>, H: BuildHasher> {
+    store: TraceStore<S, D, H, Global>,
     book: Book<J, SpansKept>,
     ghost is_sum: { store.kept.received ≡ sum book },
 }
 
-impl<J: Naming, S: SpanSize + Drop, H: BuildHasher + Drop> KeptSpans<J, S, H> {
+impl<J: Naming, S: SpanSize + Drop, D: Digest<S>, H: BuildHasher + Drop> KeptSpans<J, S, D, H> {
     /// A store without spans, and so many accounts.
     fn open(
         alloc: Global,
-        store: TraceStore<S, H, Global>,
+        store: TraceStore<S, D, H, Global>,
         blank: Blank<SpansKept>,
         count: usize,
-    ) -> Result<(KeptSpans<J, S, H>, Vec<Account<J, SpansKept>>), AllocError>
+    ) -> Result<(KeptSpans<J, S, D, H>, Vec<Account<J, SpansKept>>), AllocError>
         requires name { blank ≡ J.name }
         requires empty { store.kept.received ≡ 0 }
         ensures count { IfOk result (λ opened. vec_len opened.1 ≡ count) }
@@ -82,19 +84,25 @@ impl<J: Naming, S: SpanSize + Drop, H: BuildHasher + Drop> KeptSpans<J, S, H> {
         self.book.record::<u64, Keeps>(account, &count);
         Ok(())
     }
+
+    /// Gives up the oldest traces, until their spans come to so many bytes or none is left.
+    fn make_room(&mut self, bytes: u64) {
+        let _ = self.store.make_room(bytes);
+    }
 }
 
 /// A keeper of spans in a store that others share, by a lock. In contracts it is how many spans it
 /// has kept there. What it lends are copies of the spans' owners, made under the lock: a page is
 /// written after that.
 #[derive(Drop)]
-pub struct SharedKeeper<J: Naming, S: SpanSize, H: BuildHasher, R> {
+pub struct SharedKeeper<J: Naming, S: SpanSize, D: Digest<S>, H: BuildHasher, R> {
     rt: R,
-    lock: Arc<Mutex<KeptSpans<J, S, H>>>,
+    lock: Arc<Mutex<KeptSpans<J, S, D, H>>>,
     account: Account<J, SpansKept>,
 }
 
-impl<J: Naming, S: SpanSize, H: BuildHasher, R> Model for SharedKeeper<J, S, H, R> {
+impl<J: Naming, S: SpanSize, D: Digest<S>, H: BuildHasher, R> Model
+    for SharedKeeper<J, S, D, H, R> {
     ghost Value = { ℕ };
 
     ghost view = { λ k. k.account };
@@ -105,16 +113,17 @@ impl<J: Naming, S: SpanSize, H: BuildHasher, R> Model for SharedKeeper<J, S, H, 
 /// # Errors
 ///
 /// `AllocError` where memory was refused.
-pub fn share<J, S, H, R>(
+pub fn share<J, S, D, H, R>(
     rt: R,
     alloc: Global,
-    store: TraceStore<S, H, Global>,
+    store: TraceStore<S, D, H, Global>,
     blank: Blank<SpansKept>,
     count: usize,
-) -> Result<Vec<SharedKeeper<J, S, H, R>>, AllocError>
+) -> Result<Vec<SharedKeeper<J, S, D, H, R>>, AllocError>
 where
     J: Naming,
     S: SpanSize + Drop,
+    D: Digest<S>,
     H: BuildHasher + Drop,
     R: Copy,
     requires name { blank ≡ J.name }
@@ -129,15 +138,16 @@ where
 }
 
 /// A keeper for each of these accounts.
-fn give_keepers<J, S, H, R>(
+fn give_keepers<J, S, D, H, R>(
     rt: R,
     alloc: Global,
-    lock: &Arc<Mutex<KeptSpans<J, S, H>>>,
+    lock: &Arc<Mutex<KeptSpans<J, S, D, H>>>,
     accounts: Vec<Account<J, SpansKept>>,
-) -> Result<Vec<SharedKeeper<J, S, H, R>>, AllocError>
+) -> Result<Vec<SharedKeeper<J, S, D, H, R>>, AllocError>
 where
     J: Naming,
     S: SpanSize + Drop,
+    D: Digest<S>,
     H: BuildHasher + Drop,
     R: Copy,
     ensures { IfOk result (λ keepers. keepers.items ≡ accounts.items) }
@@ -150,19 +160,24 @@ where
     Ok(keepers)
 }
 
-impl<J, S, H, R> TraceKeeper<S> for SharedKeeper<J, S, H, R>
+impl<J, S, D, H, R> TraceKeeper<S, D> for SharedKeeper<J, S, D, H, R>
 where
     J: Naming,
     S: SpanSize + Clone + Drop,
+    D: Digest<S> + Clone,
     H: BuildHasher + Drop,
     R: Wait,
 {
-    ghost use Rattle.std.specs.Prelude.{⊤};
+    ghost use Rattle.std.specs.Prelude.{◌≡◌, ⊤};
     ghost use Rattle.view_service.specs.Keepers.{CountsParts};
 
     ghost keeps = { CountsParts };
 
+    ghost gives_up = { λ old _ new. new ≡ old };
+
     ghost lends = { λ _ _ _. ⊤ };
+
+    ghost lists = { λ _ _ _ _. ⊤ };
 
     fn keep(&mut self, parts: Vec<Part<S, Global>>) -> Result<(), AllocError>
         requires { All (λ part. 0 < length part.1) parts.items }
@@ -172,12 +187,23 @@ where
         self.lock.lock(&self.rt).keep(&mut self.account, parts)
     }
 
-    fn newest(&self, alloc: Global, count: usize) -> Result<Vec<Lent<S>>, AllocError> {
-        copy_newest(alloc, &self.lock.lock(&self.rt).store, count)
+    fn make_room(&mut self, bytes: u64)
+        ensures { self.new ≡ self.old }
+    {
+        self.lock.lock(&self.rt).make_room(bytes);
     }
 
-    fn copy(&self, trace: u128) -> Result<Option<LinkedList<S>>, AllocError> {
-        self.lock.lock(&self.rt).store.copy(trace)
+    fn newest<F: TraceFilter<S, D>>(
+        &self,
+        alloc: Global,
+        count: usize,
+        filter: &F,
+    ) -> Result<Vec<Listed<D>>, AllocError> {
+        list_newest(alloc, &self.lock.lock(&self.rt).store, count, filter)
+    }
+
+    fn copy(&self, alloc: Global, trace: u128) -> Result<Option<Vec<S>>, AllocError> {
+        copy_kept(alloc, &self.lock.lock(&self.rt).store, trace)
     }
 
     fn last_evicted(&self, alloc: Global) -> Result<Vec<u128>, AllocError> {

@@ -1,48 +1,31 @@
 //! Requests for pages.
 
-ghost use Rattle.std.specs.Prelude.{◌≡◌, ◌≢◌, ◌++◌, [], IfOk, IsTrue, OnOk, false, true};
+ghost use Rattle.std.specs.Prelude.{◌≡◌, ◌≢◌, [], IfOk, None, OnOk};
 ghost use Rattle.http.specs.Request.{head_of};
-ghost use Rattle.http_header.specs.FieldValue.{is_visible_text};
-ghost use Rattle.http_server.specs.Response.{IsBlank, fields_of};
+ghost use Rattle.http_server.specs.Response.{IsBlank};
 ghost use Rattle.view_service.specs.Receives.{path_of};
 ghost use Rattle.view_service.specs.Routes.{Names};
 ghost use Rattle.view_service.specs.Shows as spec;
-ghost use Rattle.view_service.specs.Shows.{Answers, FitsRoute, IsNotAllowed, IsPage};
-ghost use Rattle.view_service.specs.Shows.{ShowsRoute, ShowsTrace, format_fields};
+ghost use Rattle.view_service.specs.Shows.{AnswersPage, FitsRoute, IsPage, ShowsRoute, ShowsTrace};
 ghost use Rattle.view_span.specs.Keys.{trace_key};
 
 use crate::keeper::TraceKeeper;
-use crate::pages::{Pages, Totals, TraceForm};
-use crate::reply::add_field;
+use crate::pages::{Asked, ListForm, Pages, TraceForm};
 use crate::route::{Route, route_of};
-use crate::tally::Tallies;
-use bytes::{BufMut, Bytes};
+use bytes::Bytes;
 use http::{Request, StatusCode};
 use http_server::Response;
 use otlp_ids::TraceId;
 use std::alloc::{AllocError, Global};
+use std::str;
 use std::sync::Arc;
-use view_span::{ViewSpan, trace_key};
+use view_reply::{
+    Denial, Format, Tallies, add_format, asked_host, denial_format, fill_denial, path_of,
+};
+use view_span::{TraceDigest, ViewSpan, trace_key};
 
 /// The list shows so many traces at most.
 const LISTED: usize = 1_000;
-
-/// What a page is written in.
-#[derive(Clone, Copy, Debug, PartialEq, Eq)]
-pub enum Format {
-    /// A page of HTML.
-    Html,
-    /// A style sheet.
-    Css,
-    /// A script.
-    JavaScript,
-    /// Plain text.
-    Text,
-    /// JSON.
-    Json,
-    /// The text format of Prometheus.
-    Prometheus,
-}
 
 /// What the page of a route is written in.
 fn format_of(route: Route) -> Format
@@ -64,40 +47,6 @@ fn is_read(method: &str) -> bool
     ensures { result ≡ spec.is_read method.now }
 {
     matches!(method, "GET" | "HEAD")
-}
-
-impl Format {
-    /// Its media type.
-    fn media_type(self) -> &'static str
-        ensures value { result.now ≡ spec.type_of self }
-        ensures visible { IsTrue (is_visible_text result.now) }
-    {
-        match self {
-            Format::Html => "text/html; charset=utf-8",
-            Format::Css => "text/css; charset=utf-8",
-            Format::JavaScript => "text/javascript; charset=utf-8",
-            Format::Text => "text/plain; charset=utf-8",
-            Format::Json => "application/json",
-            Format::Prometheus => "text/plain; version=0.0.4; charset=utf-8",
-        }
-    }
-}
-
-/// What the pages may load and do. Their own markup places bars by `style` attributes.
-const POLICY: &str =
-    "default-src 'none'; style-src 'self' 'unsafe-inline'; script-src 'self'; form-action 'self'";
-
-/// Adds the fields of an answer in a format.
-fn add_format(response: &mut Response, format: Format) -> Result<(), AllocError>
-    ensures fields { OnOk result (fields_of response.new
-        ≡ fields_of response.old ++ format_fields format) }
-    ensures status { response.new.status ≡ response.old.status }
-    ensures body { response.new.body ≡ response.old.body }
-{
-    add_field(response, "content-type", format.media_type())?;
-    add_field(response, "x-content-type-options", "nosniff")?;
-    add_field(response, "content-security-policy", POLICY)?;
-    Ok(())
 }
 
 /// Appends a text.
@@ -132,19 +81,6 @@ fn fill_page(
     response.body.push(body)
 }
 
-/// Makes a blank response the answer to a method that pages don't have.
-fn refuse_method(response: &mut Response) -> Result<(), AllocError>
-    requires { IsBlank response.old }
-    ensures { OnOk result (IsNotAllowed response.new) }
-{
-    response.status = StatusCode::METHOD_NOT_ALLOWED;
-    add_field(response, "allow", "GET, HEAD")?;
-    add_format(response, Format::Text)?;
-    response
-        .body
-        .put_slice(b"pages are read with the method GET\n")
-}
-
 /// What became of a page that was asked for.
 #[derive(Clone, Copy, Debug, PartialEq, Eq)]
 pub enum Shown {
@@ -173,8 +109,8 @@ impl Shown {
         ensures { result ≡ spec.format_as self route }
     {
         match self {
-            Shown::Page => format_of(route),
-            Shown::BadQuery | Shown::Missing => Format::Html,
+            Shown::Page | Shown::BadQuery => format_of(route),
+            Shown::Missing => Format::Html,
         }
     }
 }
@@ -183,19 +119,18 @@ impl Shown {
 fn route_in(request: &Request<Bytes>) -> Route
     ensures { Names (path_of request.now) result }
 {
-    route_of(request.uri().path())
+    route_of(path_of(request))
 }
 
-/// Whether a request for this is refused for its method.
-fn is_refused(request: &Request<Bytes>, route: Route) -> bool
-    ensures refused { result ≡ true
-        → (route ≢ Route.Unknown) × (spec.is_read (head_of request.now).method ≡ false) }
-    ensures allowed { result ≡ false → route ≢ Route.Unknown
-        → spec.is_read (head_of request.now).method ≡ true }
+/// Why a request with this method is refused, if it is.
+fn page_denial(route: Route, method: &str) -> Option<Denial>
+    ensures { result ≡ spec.page_denial route method.now }
 {
     match route {
-        Route::Unknown => false,
-        _ => !is_read(request.method().as_str()),
+        Route::Unknown if method == "POST" => Some(Denial::NoPath),
+        Route::Unknown => None,
+        _ if is_read(method) => None,
+        _ => Some(Denial::PageMethod),
     }
 }
 
@@ -213,6 +148,19 @@ fn answer_page(
     fill_page(response, shown.status(), shown.format(route), body)
 }
 
+/// With what a request asks for a list.
+fn asked_in(request: &Request<Bytes>) -> Asked<'_> {
+    let query = request.uri().query().unwrap_or("");
+    let host = match asked_host(request) {
+        Some(host) => str::from_utf8(host).unwrap_or(""),
+        None => "",
+    };
+    Asked { query, host }
+}
+
+/// What became of a page, and what writes the rest of it, where it isn't whole.
+type Written<R> = (Shown, Option<R>);
+
 /// What shows the spans that a keeper has.
 #[derive(Clone, Copy)]
 pub(crate) struct Viewer<'a, K, P> {
@@ -224,36 +172,35 @@ pub(crate) struct Viewer<'a, K, P> {
 
 impl<'a, K, P> Viewer<'a, K, P>
 where
-    K: TraceKeeper<Arc<ViewSpan>>,
-    P: Pages<Arc<ViewSpan>>,
+    K: TraceKeeper<Arc<ViewSpan>, TraceDigest>,
+    P: Pages<Arc<ViewSpan>, TraceDigest>,
 {
-    /// What is counted.
-    fn totals(&self) -> Totals {
-        Totals {
-            spans: self.keeper.counts(),
-            refusals: self.tallies.refusals(),
-            connections: self.tallies.connections(),
-        }
-    }
-
     /// Writes that nothing is there.
-    fn write_missing(&self, out: &mut Vec<u8>) -> Result<Shown, AllocError>
-        ensures { IfOk result (λ shown. shown ≡ Shown.Missing) }
+    fn write_missing(&self, out: &mut Vec<u8>) -> Result<Written<P::Page>, AllocError>
+        ensures { IfOk result (λ written. written ≡ (Shown.Missing, None)) }
     {
         self.pages.missing(out)?;
-        Ok(Shown::Missing)
+        Ok((Shown::Missing, None))
     }
 
     /// Writes the list of traces, as the query asks for it.
-    fn write_list(&self, out: &mut Vec<u8>, query: &str) -> Result<Shown, AllocError>
-        ensures { IfOk result (λ shown. shown ≢ Shown.Missing) }
+    fn write_list(
+        &self,
+        out: &mut Vec<u8>,
+        form: ListForm,
+        request: &Request<Bytes>,
+    ) -> Result<Written<P::Page>, AllocError>
+        ensures shown { IfOk result (λ written. written.0 ≢ Shown.Missing) }
+        ensures whole { IfOk result (λ written. written.1 ≡ None) }
     {
-        let traces = self.keeper.newest(self.alloc, LISTED)?;
-        if self.pages.list(out, query, &traces)? {
-            Ok(Shown::Page)
-        } else {
-            Ok(Shown::BadQuery)
-        }
+        let asked = asked_in(request);
+        let Some(filter) = self.pages.filter(out, form, asked.query)? else {
+            return Ok((Shown::BadQuery, None));
+        };
+        let traces = self.keeper.newest(self.alloc, LISTED, &filter)?;
+        let total = self.keeper.counts().traces;
+        self.pages.list(out, form, &asked, &filter, &traces, total)?;
+        Ok((Shown::Page, None))
     }
 
     /// Writes a trace in a form, if it is kept.
@@ -262,30 +209,26 @@ where
         out: &mut Vec<u8>,
         form: TraceForm,
         trace: TraceId,
-    ) -> Result<Shown, AllocError>
+    ) -> Result<Written<P::Page>, AllocError>
         requires { out.old.items ≡ [] }
-        ensures { IfOk result (λ shown. ShowsTrace K.lends P.draws self.now.keeper.now
-            self.now.pages.now form (trace_key trace.0) shown out.new.items) }
+        ensures { IfOk result (λ written. ShowsTrace K.lends P.draws P.Page.writes
+            self.now.keeper.now self.now.pages.now form (trace_key trace.0) written.0
+            out.new.items written.1) }
     {
         let trace = trace_key(&trace.0);
-        let Some(spans) = self.keeper.copy(trace)? else {
+        let Some(spans) = self.keeper.copy(self.alloc, trace)? else {
             self.pages.missing(out)?;
-            return Ok(Shown::Missing);
+            return Ok((Shown::Missing, None));
         };
-        self.pages.trace(out, form, trace, &spans)?;
-        Ok(Shown::Page)
+        let page = self.pages.trace(form, trace, spans)?;
+        Ok((Shown::Page, Some(page)))
     }
 
     /// Writes what is counted.
     fn write_stats(&self, out: &mut Vec<u8>) -> Result<(), AllocError> {
         let last_evicted = self.keeper.last_evicted(self.alloc)?;
-        self.pages.stats(out, &self.totals(), &last_evicted)
-    }
-
-    /// Writes the list of traces, for programs.
-    fn write_api_traces(&self, out: &mut Vec<u8>) -> Result<(), AllocError> {
-        let traces = self.keeper.newest(self.alloc, LISTED)?;
-        self.pages.api_traces(out, &traces)
+        let spans = self.keeper.counts();
+        self.pages.stats(out, &spans, self.tallies, &last_evicted)
     }
 
     /// Writes a page that is always there.
@@ -293,34 +236,40 @@ where
         match route {
             Route::Style => put(out, self.pages.style()),
             Route::Script => put(out, self.pages.script()),
-            Route::Metrics => self.pages.metrics(out, &self.totals()),
+            Route::Metrics => self.pages.metrics(out, &self.keeper.counts(), self.tallies),
             Route::ApiStats => self.write_stats(out),
-            Route::ApiTraces => self.write_api_traces(out),
             _ => put(out, "ok\n"),
         }
     }
 
     /// Writes what a route names.
-    fn write(&self, out: &mut Vec<u8>, route: Route, query: &str) -> Result<Shown, AllocError>
+    fn write(
+        &self,
+        out: &mut Vec<u8>,
+        route: Route,
+        request: &Request<Bytes>,
+    ) -> Result<Written<P::Page>, AllocError>
         requires { out.old.items ≡ [] }
-        ensures fits { IfOk result (FitsRoute route) }
-        ensures shows { IfOk result (λ shown. ShowsRoute K.lends P.draws self.now.keeper.now
-            self.now.pages.now route shown out.new.items) }
+        ensures fits { IfOk result (λ written. FitsRoute route written.0) }
+        ensures shows { IfOk result (λ written. ShowsRoute K.lends P.draws P.Page.writes
+            self.now.keeper.now self.now.pages.now route written.0 out.new.items written.1) }
     {
         match route {
-            Route::List => self.write_list(out, query),
+            Route::List => self.write_list(out, ListForm::Page, request),
+            Route::ApiTraces => self.write_list(out, ListForm::Json, request),
             Route::Trace(trace) | Route::TraceText(trace) | Route::ApiTrace(trace) => {
                 self.write_trace(out, form_of(route), trace)
             }
             Route::Unknown => self.write_missing(out),
             _ => {
                 self.write_fixed(out, route)?;
-                Ok(Shown::Page)
+                Ok((Shown::Page, None))
             }
         }
     }
 
-    /// Makes a blank response the answer to a request for a page.
+    /// Makes a blank response the answer to a request for a page. Where it isn't whole, the answer
+    /// is what writes the rest.
     ///
     /// # Errors
     ///
@@ -329,20 +278,19 @@ where
         &self,
         request: &Request<Bytes>,
         response: &mut Response,
-    ) -> Result<(), AllocError>
+    ) -> Result<Option<P::Page>, AllocError>
         requires { IsBlank response.old }
-        ensures { OnOk result (Answers K.lends P.draws self.now.keeper.now self.now.pages.now
-            (head_of request.now).method (path_of request.now) response.new) }
+        ensures { IfOk result (λ rest. AnswersPage K.lends P.draws P.Page.writes
+            self.now.keeper.now self.now.pages.now (head_of request.now) response.new rest) }
     {
         let route = route_in(request);
-        if is_refused(request, route) {
-            refuse_method(response)?;
-            return Ok(());
+        if let Some(denial) = page_denial(route, request.method().as_str()) {
+            fill_denial(response, denial, denial_format(Some(request)))?;
+            return Ok(None);
         }
-        let query = request.uri().query().unwrap_or("");
         let mut out = Vec::new(self.alloc);
-        let shown = self.write(&mut out, route, query)?;
+        let (shown, rest) = self.write(&mut out, route, request)?;
         answer_page(response, shown, route, out)?;
-        Ok(())
+        Ok(rest)
     }
 }

@@ -1,1 +1,1 @@
-mod Written
+pub mod Written

@@ -1,6 +1,5 @@
 -- What is shown of a trace: each form has all spans that were lent, and no others.
-use Rattle.std.specs.Prelude.{◌≡◌, ℕ, List, map}
-use Rattle.std.specs.Arc.{arc_value}
+use Rattle.std.specs.Prelude.{◌≡◌, ℕ, List}
 use Rattle.std.specs.Borrow.{Bor}
 use Rattle.std.specs.declared.sync.Arc.{Arc}
 use Rattle.json.specs.Lex.{tokens}
@@ -9,21 +8,15 @@ use Rattle.trace_tree.specs.declared.span.Row.{Row}
 use Rattle.view_json.specs.Seen.{seen}
 use Rattle.view_json.specs.Spans.{trace_seen}
 use Rattle.view_pages.specs.Html.{html_bytes}
-use Rattle.view_pages.specs.Pages.{AreRows, trace_html}
+use Rattle.view_pages.specs.Pages.{AreLent, AreRows, DrawsPage}
+use Rattle.view_pages.specs.Pieces.{still_writes}
 use Rattle.view_service.specs.declared.pages.TraceForm.{TraceForm}
 use Rattle.view_service.specs.declared.pages.TraceForm.TheVariants as forms
+use Rattle.view_site.specs.declared.page.SitePage.{SitePage}
+use Rattle.view_site.specs.declared.page.SitePage.TheVariants as pages
 use Rattle.view_span.specs.declared.span.ViewSpan.{ViewSpan}
 
--- these are the spans that their owners have
-abbrev pub AreLent : {A : Type 0} → List (Arc (ViewSpan A) A) → List (Bor (ViewSpan A)) → Type 0
-AreLent spans lent = map (λ b. b.now) lent ≡ map arc_value spans
-
--- the page of a trace: a row for each span
-abbrev pub DrawsPage : {A : Type 0} → ℕ → List (Arc (ViewSpan A) A) → List ℕ → Type 0
-DrawsPage {A} trace spans page = (lent : List (Bor (ViewSpan A))) × AreLent spans lent
-    × (rows : List Row) × AreRows lent rows × (page ≡ html_bytes (trace_html trace lent rows))
-
--- the same as a text of lines, whose bars have 40 columns
+-- the trace as a text of lines, whose bars have 40 columns
 abbrev pub DrawsText : {A : Type 0} → List (Arc (ViewSpan A) A) → List ℕ → Type 0
 DrawsText {A} spans page = (lent : List (Bor (ViewSpan A))) × AreLent spans lent
     × (rows : List Row) × (drawn : AreRows lent rows) × (page ≡ tree_text drawn.tree 40 rows)
@@ -37,3 +30,8 @@ abbrev pub Draws : {A : Type 0} → TraceForm → ℕ → List (Arc (ViewSpan A)
 Draws forms.Page trace spans page = DrawsPage trace spans page
 Draws forms.Text trace spans page = DrawsText spans page
 Draws forms.Json trace spans page = DrawsJson spans page
+
+-- what a page still writes
+abbrev pub site_writes : SitePage → List ℕ
+site_writes (pages.Page page) = html_bytes (still_writes page)
+site_writes (pages.Whole bytes) = bytes.items

@@ -2,8 +2,14 @@
 //! `view_json`, as `view_service` asks for them.
 #![tactic(auto)]
 
+mod counts;
+mod filter;
 mod lists;
+mod page;
 mod script;
 mod site;
+mod spans;
 
+pub use filter::SiteFilter;
+pub use page::SitePage;
 pub use site::Site;

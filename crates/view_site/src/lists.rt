@@ -1,40 +1,19 @@
 //! Traces, as a list has them.
 
-ghost use Rattle.std.specs.Prelude.{IfOk};
-ghost use Rattle.view_site.specs.Drawn.{AreLent};
-
 use std::alloc::{AllocError, Global};
-use std::collections::LinkedList;
-use std::sync::Arc;
 use view_json::TraceLine;
-use view_pages::{Summary, summary_of};
-use view_service::Lent;
-use view_span::ViewSpan;
-
-/// The spans of a trace, lent.
-pub(crate) fn lend(
-    alloc: Global,
-    spans: &LinkedList<Arc<ViewSpan>>,
-) -> Result<Vec<&ViewSpan>, AllocError>
-    ensures { IfOk result (λ lent. AreLent spans.now lent.items) }
-{
-    let mut lent = Vec::new(alloc);
-    for span in spans.iter() {
-        let span: &ViewSpan = span;
-        lent.push(span)?;
-    }
-    Ok(lent)
-}
+use view_pages::{Summary, summary_of_digest};
+use view_service::Listed;
+use view_span::TraceDigest;
 
 /// A summary of each trace, in order.
 pub(crate) fn summaries_of(
     alloc: Global,
-    traces: &[Lent<Arc<ViewSpan>>],
+    traces: &[Listed<TraceDigest>],
 ) -> Result<Vec<Summary<'_>>, AllocError> {
     let mut summaries = Vec::new(alloc);
-    for (trace, spans) in traces {
-        let lent = lend(alloc, spans)?;
-        if let Some(summary) = summary_of(*trace, &lent) {
+    for (trace, digest) in traces {
+        if let Some(summary) = summary_of_digest(*trace, digest) {
             summaries.push(summary)?;
         }
     }
@@ -50,8 +29,8 @@ pub(crate) fn line_of<'a>(summary: &Summary<'a>) -> TraceLine<'a> {
         name: summary.name,
         start_time_unix_nano: start,
         end_time_unix_nano: start.saturating_add(summary.duration_nanos),
-        spans: summary.span_count as u64,
-        errors: summary.error_count as u64,
+        spans: summary.span_count,
+        errors: summary.error_count,
     }
 }
 

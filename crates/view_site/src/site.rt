@@ -1,20 +1,22 @@
 //! The site.
 
-ghost use Rattle.std.specs.Prelude.{◌≡◌, ◌++◌, OnOk, IsOk, List, ℕ, string_bytes};
-ghost use Rattle.view_site.specs.Drawn.{DrawsJson, DrawsPage, DrawsText, Draws};
+ghost use Rattle.std.specs.Prelude.{◌≡◌, ◌++◌, IfOk, IsOk, List, OnOk, string_bytes, ℕ};
+ghost use Rattle.view_site.specs.Drawn.{DrawsJson, DrawsText, Draws, site_writes};
 
-use crate::lists::{lend, lines_of, summaries_of};
+use crate::counts::{answered_of, stats_of};
+use crate::filter::SiteFilter;
+use crate::lists::{lines_of, summaries_of};
+use crate::page::SitePage;
 use crate::script::SCRIPT;
+use crate::spans::{as_list, lend};
 use std::alloc::{AllocError, Global};
-use std::collections::LinkedList;
 use std::sync::Arc;
-use view_json::{Refused, Stats, write_metrics, write_stats, write_trace, write_traces};
+use view_json::{write_metrics, write_stats, write_trace, write_traces};
 use view_pages::{
-    Filter, FilterFault, STYLE, write_list_page, write_notice_page, write_trace_page,
-    write_trace_text,
+    Filter, FilterFault, STYLE, TracePage, write_list_page, write_notice_page, write_trace_text,
 };
-use view_service::{Lent, Pages, Totals, TraceForm};
-use view_span::ViewSpan;
+use view_service::{Asked, Counts, ListForm, Listed, Pages, Tallies, TraceForm};
+use view_span::{TraceDigest, ViewSpan};
 
 /// The pages of `view_pages`, and the answers for programs of `view_json`.
 #[derive(Clone, Copy, Debug)]
@@ -29,35 +31,6 @@ impl Site {
     }
 }
 
-/// What is counted, as it is written.
-fn stats_of(totals: &Totals) -> Stats {
-    let spans = totals.spans;
-    Stats {
-        received: spans.received,
-        kept: spans.received.saturating_sub(spans.evicted),
-        evicted: spans.evicted,
-        traces: spans.traces,
-        evicted_traces: spans.evicted_traces,
-    }
-}
-
-/// How many requests were refused, by status.
-fn refused_of(totals: &Totals) -> [Refused; 5] {
-    let refusals = totals.refusals;
-    [
-        refused(400, refusals.bad_request),
-        refused(404, refusals.not_found),
-        refused(405, refusals.method),
-        refused(415, refusals.media_type),
-        refused(503, refusals.memory),
-    ]
-}
-
-/// How many requests were refused with a status.
-fn refused(status: u16, requests: u64) -> Refused {
-    Refused { status, requests }
-}
-
 /// Appends a text that could be written.
 fn put<E: Drop>(out: &mut Vec<u8>, text: &String, written: Result<(), E>) -> Result<(), AllocError>
     ensures written { OnOk result (IsOk written) }
@@ -69,92 +42,121 @@ fn put<E: Drop>(out: &mut Vec<u8>, text: &String, written: Result<(), E>) -> Res
     Ok(out.extend_from_slice(text.as_bytes())?)
 }
 
-/// Appends the page of a trace.
-fn put_page(
-    alloc: Global,
-    out: &mut Vec<u8>,
-    trace: u128,
-    spans: &LinkedList<Arc<ViewSpan>>,
-) -> Result<(), AllocError>
-    ensures { OnOk result ((page : List ℕ) × (out.new.items ≡ out.old.items ++ page)
-        × DrawsPage trace spans.now page) }
+/// The page of a trace.
+fn page_of(alloc: Global, trace: u128, spans: Vec<Arc<ViewSpan>>) -> Result<SitePage, AllocError>
+    ensures { IfOk result (λ page. Draws TraceForm.Page trace spans.items (site_writes page)) }
 {
-    let lent = lend(alloc, spans)?;
-    let mut text = String::new(alloc);
-    let written = write_trace_page(&mut text, trace, &lent);
-    put(out, &text, written)
+    match TracePage::new(alloc, trace, spans) {
+        Ok(page) => Ok(SitePage::Page(page)),
+        Err(_) => Err(AllocError),
+    }
 }
 
-/// Appends a trace as a text.
-fn put_text(
-    alloc: Global,
-    out: &mut Vec<u8>,
-    spans: &LinkedList<Arc<ViewSpan>>,
-) -> Result<(), AllocError>
-    ensures { OnOk result ((page : List ℕ) × (out.new.items ≡ out.old.items ++ page)
-        × DrawsText spans.now page) }
+/// A trace as a text.
+fn text_of(alloc: Global, spans: &[Arc<ViewSpan>]) -> Result<SitePage, AllocError>
+    ensures { IfOk result (λ page. DrawsText spans.now (site_writes page)) }
 {
     let lent = lend(alloc, spans)?;
     let mut text = String::new(alloc);
     let written = write_trace_text(&mut text, &lent);
-    put(out, &text, written)
+    let mut out = Vec::new(alloc);
+    put(&mut out, &text, written)?;
+    Ok(SitePage::Whole(out))
 }
 
-/// Appends a trace in OTLP's JSON.
-fn put_json(
+/// A trace in OTLP's JSON.
+fn json_of(alloc: Global, spans: Vec<Arc<ViewSpan>>) -> Result<SitePage, AllocError>
+    ensures { IfOk result (λ page. DrawsJson spans.items (site_writes page)) }
+{
+    let spans = as_list(alloc, spans)?;
+    Ok(SitePage::Whole(write_trace(alloc, &spans)?))
+}
+
+/// Appends why a query can't be read.
+fn put_fault(
     alloc: Global,
     out: &mut Vec<u8>,
-    spans: &LinkedList<Arc<ViewSpan>>,
-) -> Result<(), AllocError>
-    ensures { OnOk result ((page : List ℕ) × (out.new.items ≡ out.old.items ++ page)
-        × DrawsJson spans.now page) }
-{
-    let text = write_trace(alloc, spans)?;
-    Ok(out.extend_from_slice(&text)?)
+    form: ListForm,
+    fault: FilterFault,
+) -> Result<(), AllocError> {
+    let advice = fault.to_string(alloc)?;
+    match form {
+        ListForm::Page => {
+            let mut text = String::new(alloc);
+            let written = write_notice_page(&mut text, "", "This query can't be read", &advice);
+            put(out, &text, written)
+        }
+        ListForm::Json => {
+            let text = format!(in alloc; "{{\"message\":\"{advice}\"}}")?;
+            Ok(out.extend_from_slice(text.as_bytes())?)
+        }
+    }
 }
 
-impl Pages<Arc<ViewSpan>> for Site {
+impl Pages<Arc<ViewSpan>, TraceDigest> for Site {
     ghost use Rattle.view_site.specs.Drawn.{Draws};
 
+    type Filter = SiteFilter;
+
+    type Page = SitePage;
+
     ghost draws = { λ _ form trace spans page. Draws form trace spans page };
+
+    fn filter(
+        &self,
+        out: &mut Vec<u8>,
+        form: ListForm,
+        query: &str,
+    ) -> Result<Option<SiteFilter>, AllocError> {
+        match Filter::parse(self.alloc, query) {
+            Ok(filter) => Ok(Some(SiteFilter { filter })),
+            Err(FilterFault::OutOfMemory) => Err(AllocError),
+            Err(fault) => {
+                put_fault(self.alloc, out, form, fault)?;
+                Ok(None)
+            }
+        }
+    }
 
     fn list(
         &self,
         out: &mut Vec<u8>,
-        query: &str,
-        traces: &[Lent<Arc<ViewSpan>>],
-    ) -> Result<bool, AllocError> {
-        let mut text = String::new(self.alloc);
-        let filter = match Filter::parse(self.alloc, query) {
-            Ok(filter) => filter,
-            Err(FilterFault::OutOfMemory) => return Err(AllocError),
-            Err(fault) => {
-                let advice = fault.to_string(self.alloc)?;
-                let written = write_notice_page(&mut text, "This query can't be read", &advice);
-                put(out, &text, written)?;
-                return Ok(false);
-            }
-        };
+        form: ListForm,
+        asked: &Asked<'_>,
+        filter: &SiteFilter,
+        traces: &[Listed<TraceDigest>],
+        total: u64,
+    ) -> Result<(), AllocError> {
         let summaries = summaries_of(self.alloc, traces)?;
-        let written = write_list_page(&mut text, &summaries, &filter);
-        put(out, &text, written)?;
-        Ok(true)
+        match form {
+            ListForm::Page => {
+                let (query, host) = (asked.query, asked.host);
+                let mut text = String::new(self.alloc);
+                let filter = &filter.filter;
+                let written = write_list_page(&mut text, filter, query, host, &summaries, total);
+                put(out, &text, written)
+            }
+            ListForm::Json => {
+                let lines = lines_of(self.alloc, &summaries)?;
+                let text = write_traces(self.alloc, &lines)?;
+                Ok(out.extend_from_slice(&text)?)
+            }
+        }
     }
 
     fn trace(
         &self,
-        out: &mut Vec<u8>,
         form: TraceForm,
         trace: u128,
-        spans: &LinkedList<Arc<ViewSpan>>,
-    ) -> Result<(), AllocError>
-        ensures { OnOk result ((page : List ℕ) × (out.new.items ≡ out.old.items ++ page)
-            × Draws form trace spans.now page) }
+        spans: Vec<Arc<ViewSpan>>,
+    ) -> Result<SitePage, AllocError>
+        ensures { IfOk result (λ page. (bytes : List ℕ) → site_writes page ≡ bytes
+            → Draws form trace spans.items bytes) }
     {
         match form {
-            TraceForm::Page => put_page(self.alloc, out, trace, spans),
-            TraceForm::Text => put_text(self.alloc, out, spans),
-            TraceForm::Json => put_json(self.alloc, out, spans),
+            TraceForm::Page => page_of(self.alloc, trace, spans),
+            TraceForm::Text => text_of(self.alloc, &spans),
+            TraceForm::Json => json_of(self.alloc, spans),
         }
     }
 
@@ -162,7 +164,7 @@ impl Pages<Arc<ViewSpan>> for Site {
         let advice = "No such page or trace is here. The trace may have been evicted: \
             --keep-spans and --keep-mb say how much is kept.";
         let mut text = String::new(self.alloc);
-        let written = write_notice_page(&mut text, "Nothing is here", advice);
+        let written = write_notice_page(&mut text, "", "Nothing is here", advice);
         put(out, &text, written)
     }
 
@@ -174,31 +176,27 @@ impl Pages<Arc<ViewSpan>> for Site {
         SCRIPT
     }
 
-    fn api_traces(
-        &self,
-        out: &mut Vec<u8>,
-        traces: &[Lent<Arc<ViewSpan>>],
-    ) -> Result<(), AllocError> {
-        let summaries = summaries_of(self.alloc, traces)?;
-        let lines = lines_of(self.alloc, &summaries)?;
-        let text = write_traces(self.alloc, &lines)?;
-        Ok(out.extend_from_slice(&text)?)
-    }
-
     fn stats(
         &self,
         out: &mut Vec<u8>,
-        totals: &Totals,
+        spans: &Counts,
+        _tallies: &Tallies,
         last_evicted: &[u128],
     ) -> Result<(), AllocError> {
-        let text = write_stats(self.alloc, &stats_of(totals), last_evicted)?;
+        let text = write_stats(self.alloc, &stats_of(spans), last_evicted)?;
         Ok(out.extend_from_slice(&text)?)
     }
 
-    fn metrics(&self, out: &mut Vec<u8>, totals: &Totals) -> Result<(), AllocError> {
+    fn metrics(
+        &self,
+        out: &mut Vec<u8>,
+        spans: &Counts,
+        tallies: &Tallies,
+    ) -> Result<(), AllocError> {
+        let answered = answered_of(self.alloc, tallies)?;
         let mut text = String::new(self.alloc);
-        let refused = refused_of(totals);
-        let written = write_metrics(&mut text, &stats_of(totals), &refused, totals.connections);
+        let connections = tallies.connections();
+        let written = write_metrics(&mut text, &stats_of(spans), &answered, connections);
         put(out, &text, written)
     }
 }

@@ -9,7 +9,9 @@ use std::marker::Brand;
 use std::sync::Wait;
 use std::test::Fail;
 use trace_store::{Limits, SpanSize, TraceStore};
-use view_service::{Blank, Counts, Naming, SharedKeeper, SpansKept, TraceKeeper, share};
+use view_service::{
+    Blank, Counts, Naming, SharedKeeper, SpansKept, TraceFilter, TraceKeeper, share,
+};
 
 /// A span that is known by a digit, and takes ten bytes.
 #[derive(Debug, Clone, Copy, PartialEq, Eq)]
@@ -23,12 +25,25 @@ impl SpanSize for Digit {
     }
 }
 
+/// The filter that takes any trace.
+struct Any;
+
+impl TraceFilter<Digit, ()> for Any {
+    ghost use Rattle.std.specs.Prelude.{true};
+
+    ghost takes = { λ _ _ _ _. true };
+
+    fn takes(&self, _trace: u128, _digest: &(), _spans: &LinkedList<Digit>) -> bool {
+        true
+    }
+}
+
 type Hasher = BuildHasherDefault<FoldHasher>;
 
 /// Two keepers of a store of so many spans at most.
 struct Keepers<J: Naming, R> {
-    first: SharedKeeper<J, Digit, Hasher, R>,
-    second: SharedKeeper<J, Digit, Hasher, R>,
+    first: SharedKeeper<J, Digit, (), Hasher, R>,
+    second: SharedKeeper<J, Digit, (), Hasher, R>,
 }
 
 fn two_keepers<J: Naming, R: Copy>(
@@ -44,7 +59,7 @@ fn two_keepers<J: Naming, R: Copy>(
         max_bytes: 99,
     };
     let store = TraceStore::new(alloc, BuildHasherDefault::new(), limits)?;
-    let mut keepers = share::<J, Digit, Hasher, R>(rt, alloc, store, blank, 2)?;
+    let mut keepers = share::<J, Digit, (), Hasher, R>(rt, alloc, store, blank, 2)?;
     match (keepers.pop(), keepers.pop()) {
         (Some(second), Some(first)) => Ok(Keepers { first, second }),
         _ => Err(AllocError),
@@ -61,7 +76,7 @@ fn alone(alloc: Global, digit: u64) -> Result<LinkedList<Digit>, AllocError>
 }
 
 /// Keeps a span of a trace.
-fn keep<K: TraceKeeper<Digit>>(
+fn keep<K: TraceKeeper<Digit, ()>>(
     keeper: &mut K,
     alloc: Global,
     trace: u128,
@@ -74,28 +89,37 @@ fn keep<K: TraceKeeper<Digit>>(
 }
 
 /// The digits of spans, the first of them first.
-fn digits(spans: &LinkedList<Digit>) -> u64 {
+fn digits(spans: &[Digit]) -> u64 {
     let mut digits = 0u64;
-    for span in spans.iter() {
+    for span in spans {
         digits = digits.wrapping_mul(10).wrapping_add(span.0);
     }
     digits
 }
 
+/// The digits of a trace, and 0 where it isn't kept.
+fn digits_of<K: TraceKeeper<Digit, ()>>(
+    keeper: &K,
+    alloc: Global,
+    trace: u128,
+) -> Result<u64, AllocError> {
+    match keeper.copy(alloc, trace)? {
+        Some(spans) => Ok(digits(&spans)),
+        None => Ok(0),
+    }
+}
+
 /// What a keeper shows: what is counted, the digits of the newest trace and those of trace 1, and
 /// the trace that was evicted last.
-fn seen<K: TraceKeeper<Digit>>(
+fn seen<K: TraceKeeper<Digit, ()>>(
     keeper: &K,
     alloc: Global,
 ) -> Result<(Counts, (u64, u64, u128)), AllocError> {
-    let newest = match keeper.newest(alloc, 1)?.first() {
-        Some((_, spans)) => digits(spans),
+    let newest = match keeper.newest(alloc, 1, &Any)?.first() {
+        Some((trace, ())) => digits_of(keeper, alloc, *trace)?,
         None => 0,
     };
-    let first = match keeper.copy(1)? {
-        Some(spans) => digits(&spans),
-        None => 0,
-    };
+    let first = digits_of(keeper, alloc, 1)?;
     let gone = match keeper.last_evicted(alloc)?.first() {
         Some(trace) => *trace,
         None => 0,

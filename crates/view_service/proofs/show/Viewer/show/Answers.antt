@@ -1,14 +1,20 @@
-use Rattle.view_service.specs.Shows.{Answers}
+use Rattle.std.proofs.Common.{◌∙◌, ap, refl, subst, sym}
+use Rattle.view_reply.specs.Denials.{IsDenial}
+use Rattle.view_service.specs.Shows.{AnswersPage, page_denial}
 use Rattle.view_service.proofs.show.Viewer.show.Goals as goal
 
-pub returns-then-is_refused : goal.returns-then-is_refused
-returns-then-is_refused g c =
-    let refused = c.is_refused.ensures.refused c.if-is_refused.true in
-    Answers.not_allowed c.route_in-route.result c.route_in-route.ensures refused.0 refused.1 c.in_ok-refuse_method.ensures
+pub returns-in-Some : goal.returns-in-Some
+returns-in-Some g c =
+    let method = c.as_str.ensures.value ∙ c.method.ensures in
+    let why = ap (page_denial c.route_in-route.result) (sym method) ∙ sym c.page_denial.ensures ∙ c.in-Some.is in
+    AnswersPage.refused c.route_in-route.result c.in-Some.denial c.route_in-route.ensures why
+    (subst (λ f. IsDenial c.in-Some.denial f c.fill_denial.new.response) c.denial_format.ensures c.in_ok-fill_denial.ensures) refl
 
 pub returns : goal.returns
 returns g c =
-    Answers.shown c.route_in-route.result c.route_in-route.ensures (c.is_refused.ensures.allowed c.if-is_refused.false)
+    let method = c.as_str.ensures.value ∙ c.method.ensures in
+    let why = ap (page_denial c.route_in-route.result) (sym method) ∙ sym c.page_denial.ensures ∙ c.in_default.is in
+    AnswersPage.shown c.route_in-route.result c.route_in-route.ensures why
     (record {
       became = c.in_ok-shown.shown;
       fits = c.in_ok-shown.ensures.fits;

@@ -1,0 +1,5 @@
+pub mod Denials
+pub mod Formats
+pub mod Hosts
+pub mod Requests
+pub mod Tallies
