@@ -30,6 +30,7 @@ test: docs ## The gate: every proof from nothing, wrong bodies, tests and runs (
 	tools/export-runs
 	tools/shop-runs
 	tools/view-runs
+	tools/view-bounds
 	tools/hostile-bodies
 	tools/wont-compile
 
