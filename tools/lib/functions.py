@@ -47,10 +47,9 @@ def name_of_impl(head):
     trait, has_trait, type_ = rest.partition(" for ")
     if not has_trait:
         return last_name(trait), False
-    given = without_brackets(first_brackets(trait)).split(",")
     own = re.findall(r"\w+", without_brackets(generics))
-    types = [it.strip() for it in given if re.fullmatch(r"\s*[A-Z]\w*\s*", it)]
-    words = [it for it in types if it not in own]
+    given = re.findall(r"\b[A-Z]\w*", first_brackets(trait))
+    words = [it for it in given if it not in own]
     name, type_ = last_name(trait), last_name(type_)
     return type_[:1].upper() + type_[1:] + ("" if name == "Drop" else name) + "".join(words), True
 
@@ -74,9 +73,19 @@ class Function(collections.namedtuple("Function", "path start body end has_twins
         return text.count("\n", 0, self.start) + 1, text.count("\n", 0, self.end) + 1
 
 
+def homes_of(blank):
+    """The types that a text has from other modules of its crate, each with that module."""
+    uses = re.findall(r"\buse crate::([\w:]+?)::(?:\{([^{}]*)\}|(\w+));", blank)
+    return {
+        name: path.split("::") for path, some, one in uses for name in re.findall(r"\w+", some or one)
+    }
+
+
 def functions(text, module):
-    """The functions of a source text, each with its path below the crate."""
+    """The functions of a source text, each with its path below the crate. Those of a type that is
+    from another module of the crate have the path of that module."""
     blank, found, stack, depth, start = blanked(text), [], [], 0, 0
+    homes = homes_of(blank)
     for mark in re.finditer(r"[{}()\[\];]", blank):
         is_clause = stack and stack[-1][0] == "clause"
         if mark[0] in "([":
@@ -94,7 +103,9 @@ def functions(text, module):
                 outer = [it[1] for it in stack if it[0] in ("fn", "impl", "scope")]
                 begins += len(blank[begins:]) - len(blank[begins:].lstrip())
                 has_twins = not any(it[2] for it in stack)
-                path = "::".join([*module, *outer, name])
+                own = [it[1] for it in stack if it[0] == "impl" and not it[2]]
+                home = homes.get(own[0], module) if own else module
+                path = "::".join([*home, *outer, name])
                 found.append(Function(path, begins, body, mark.start(), has_twins))
             start = begins if kind == "clause" else mark.end()
         elif mark[0] == ";" and not depth and not is_clause:
