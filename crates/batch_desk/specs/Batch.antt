@@ -1,7 +1,7 @@
 -- What a contract sees of a `Batch`, of a `NamedBatch` and of a `SettledBatch`.
 use Rattle.std.specs.Prelude.{ℕ, List, map}
 use Rattle.model_span.specs.Spans.{SpanData}
-use Rattle.model_drop.specs.Dropped.{Entry, Reason, entry_of}
+use Rattle.model_span.specs.Dropped.{Entry, Reason, entry_of}
 use Rattle.model_retry.specs.Retries.{Fate}
 use Rattle.model_desk.specs.Queue.{lost_names}
 

@@ -2,7 +2,7 @@
 ghost use Rattle.std.specs.Prelude.{◌≡◌, true, ◌≤◌, ◌+◌, ◌-◌, ◌++◌, [], length, take, vec_capacity};
 ghost use Rattle.std.specs.Prelude.{vec_len};
 ghost use Rattle.otlp_span.specs.Dropped.{reason_view};
-ghost use Rattle.model_drop.specs.Dropped.{can_drop_batch};
+ghost use Rattle.model_span.specs.Dropped.{can_drop_batch};
 ghost use Rattle.retry_core.specs.Retries.{fate_view};
 ghost use Rattle.batch_desk.specs.Batch.{named_batch, settled_batch};
 

@@ -6,7 +6,7 @@ ghost use Rattle.std.specs.Prelude.{IfNone, IfOk, IfSome, IsErrOf, IsTrue};
 ghost use Rattle.span_ring.specs.SpanRing.{IsRingSize};
 ghost use Rattle.span_ring.specs.declared.ring.TheConstants.{MAX_QUEUE};
 ghost use Rattle.model_span.specs.Spans as spans;
-ghost use Rattle.model_drop.specs.Dropped.{can_drop_batch, entry_of};
+ghost use Rattle.model_span.specs.Dropped.{can_drop_batch, entry_of};
 ghost use Rattle.model_desk.specs.Queue as events;
 ghost use Rattle.model_desk.specs.Desks.{Does, DropsSpans, IsDesk, SettlesSpans, TakesSpans};
 ghost use Rattle.model_desk.specs.Desks.{accepted_count, after_settled, handed_out, in_hand_size};

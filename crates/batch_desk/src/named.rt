@@ -1,6 +1,6 @@
 //! A batch whose spans are named as dropped.
 ghost use Rattle.std.specs.Prelude.{◌≡◌, ◌-◌, ◌^◌, ◌<◌, ◌∷◌, [], length, map};
-ghost use Rattle.model_drop.specs.Dropped.{entry_of};
+ghost use Rattle.model_span.specs.Dropped.{entry_of};
 ghost use Rattle.otlp_span.specs.Dropped.{reason_view};
 
 use drop_ledger::Ledger;
@@ -22,7 +22,7 @@ pub struct NamedBatch<A: Allocator = Global> {
 
 impl<A: Allocator> Model for NamedBatch<A> {
     ghost use Rattle.std.specs.Prelude.{◌≡◌, [], true};
-    ghost use Rattle.model_drop.specs.Dropped.{can_drop_batch};
+    ghost use Rattle.model_span.specs.Dropped.{can_drop_batch};
     ghost use Rattle.otlp_span.specs.Dropped.{reason_view};
     ghost use Rattle.batch_desk.specs.Batch.{NamedView};
 

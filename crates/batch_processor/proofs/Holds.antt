@@ -7,7 +7,7 @@ use Rattle.std.proofs.lemmas.List.Sorted.{IsPermutation-append_comm, IsPermutati
 use Rattle.account_book.specs.Accounts.{Replaces}
 use Rattle.account_book.proofs.Facts.{contains_replaced}
 use Rattle.model_span.specs.Spans.{SpanData, with_ticket}
-use Rattle.model_drop.specs.Dropped.{Entry, Reason, queue_full, entry_of}
+use Rattle.model_span.specs.Dropped.{Entry, Reason, queue_full, entry_of}
 use Rattle.model_retry.specs.Retries.{Fate}
 use Rattle.model_desk.specs.Queue.{loss_reason, lost_names, named_as}
 use Rattle.model_desk.specs.Desks.{Desk, DeskConfig, OutBatch, accepted_count, after_settled, is_due, is_flushed, is_loss, out_size, with_drops}

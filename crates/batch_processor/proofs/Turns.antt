@@ -7,7 +7,7 @@ use Rattle.std.proofs.lemmas.List.{append-nil, append_assoc, length-append}
 use Rattle.std.proofs.lemmas.Grind.{flat_map-append}
 use Rattle.account_book.proofs.Facts.{each_append}
 use Rattle.model_span.specs.Spans.{SpanData}
-use Rattle.model_drop.specs.Dropped.{Reason}
+use Rattle.model_span.specs.Dropped.{Reason}
 use Rattle.model_export.specs.Export.{LacksBody}
 use Rattle.model_retry.specs.Retries.{Outcome, Fate, again, fate_of, next_of}
 use Rattle.model_retry.specs.Retries as retries

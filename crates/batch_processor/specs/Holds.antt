@@ -4,7 +4,7 @@ use Rattle.std.specs.Prelude.{◌≡◌, ℕ, ◌≤◌, ◌==◌, ◌&&◌, ◌
 use Rattle.std.specs.Prelude.{Contains, length, map, Option, Some, None, is_some, Result, OnOk}
 use Rattle.std.specs.Prelude.{OnErr}
 use Rattle.model_span.specs.Spans.{SpanData}
-use Rattle.model_drop.specs.Dropped.{entry_of}
+use Rattle.model_span.specs.Dropped.{entry_of}
 use Rattle.model_desk.specs.Desks.{Desk, accepted_count, is_due, is_flushed, new_desk}
 use Rattle.model_desk.specs.Queue.{lost_names}
 use Rattle.drop_ledger.specs.Counts.{drop_counts_view}

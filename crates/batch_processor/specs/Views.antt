@@ -1,7 +1,7 @@
 -- What a processor's settings and answers are in the model.
 use Rattle.std.specs.Prelude.{ℕ, ◌≤◌, List, map, Result, Ok, Err}
 use Rattle.model_span.specs.Spans.{SpanData}
-use Rattle.model_drop.specs.Dropped.{queue_full}
+use Rattle.model_span.specs.Dropped.{queue_full}
 use Rattle.model_retry.specs.Retries as retries
 use Rattle.otlp_span.specs.declared.reason.Reason.TheVariants as reasons
 use Rattle.trace_api.specs.declared.pass.Ended.{Ended}

@@ -7,7 +7,7 @@ ghost use Rattle.otlp_proto.specs.Bodies.{reason_of};
 ghost use Rattle.retry_core.specs.Retries.{fate_view, outcome_view};
 ghost use Rattle.model_processor.specs.WorkerClauses.{IsBodyOf, abandon};
 ghost use Rattle.otlp_span.specs.Dropped.{reason_view};
-ghost use Rattle.model_drop.specs.Dropped.{can_drop_batch};
+ghost use Rattle.model_span.specs.Dropped.{can_drop_batch};
 ghost use Rattle.model_processor.specs.AnyAccounts.{after_drained, after_drop, after_left};
 ghost use Rattle.model_processor.specs.AnyAccounts.{after_settle, left_if, worker};
 ghost use Rattle.batch_desk.specs.Batch.{settled_batch};

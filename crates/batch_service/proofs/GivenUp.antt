@@ -4,10 +4,10 @@ use Rattle.std.specs.Prelude.{Option, None, ◌&&◌, ◌||◌, nat_lt, nat_le, 
 use Rattle.std.proofs.lemmas.Bool.{ltb-false}
 use Rattle.std.proofs.lemmas.List.{append-nil, append_assoc, length-append, length-drop, length-take, map-append, reverse-append, reverse-reverse, take-append-drop}
 use Rattle.model_span.specs.Spans.{SpanData}
-use Rattle.model_drop.specs.Dropped.{Entry, Reason, entry_of}
+use Rattle.model_span.specs.Dropped.{Entry, Reason, entry_of}
 use Rattle.model_desk.specs.Desks.{Desk, DeskConfig, DropCounts, is_due, with_drops}
 use Rattle.batch_desk.specs.Desk.{after_drop, after_take}
-use Rattle.name_sink.specs.Named.{Named}
+use Rattle.drop_ledger.specs.Named.{Named}
 use Rattle.batch_service.specs.Working.{GainsNames, both_names}
 use Rattle.batch_service.specs.Rest.{Abandons, AbandonsWaiting, GivesUp}
 

@@ -2,9 +2,9 @@
 use Rattle.std.proofs.Common.{◌≡◌, List, [], ◌∷◌, ◌++◌, sym, refl, ap, ◌∙◌, subst}
 use Rattle.std.specs.Prelude.{Option, Some, None, option_map}
 use Rattle.std.proofs.lemmas.List.{append-nil, append_assoc}
-use Rattle.model_drop.specs.Dropped.{Entry}
+use Rattle.model_span.specs.Dropped.{Entry}
 use Rattle.model_processor.specs.Passes.{PassAccount, after_drain}
-use Rattle.name_sink.specs.Named.{Named, no_names, with_dropped, with_lost}
+use Rattle.drop_ledger.specs.Named.{Named, no_names, with_dropped, with_lost}
 use Rattle.batch_service.specs.Working.{GainsNames, GivesNames, both_names, dropped_names, lost_names}
 
 -- names with these after them

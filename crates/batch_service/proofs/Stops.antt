@@ -5,7 +5,7 @@ use Rattle.model_desk.specs.Desks.{Desk}
 use Rattle.model_processor.specs.Passes.{PassAccount, new_account, after_drain, after_shutdown}
 use Rattle.model_processor.specs.WorkerClauses.{IsAccounted, Origin, WorksUntilItLeaves, abandon}
 use Rattle.span_exporter.specs.Handed.{Handed, Gains}
-use Rattle.name_sink.specs.Named.{Named}
+use Rattle.drop_ledger.specs.Named.{Named}
 use Rattle.batch_processor.specs.Views.{after_answer}
 use Rattle.batch_processor.specs.Working.{Work, attempts_of}
 use Rattle.batch_processor.specs.declared.fault.WorkerLeft.{WorkerLeft}

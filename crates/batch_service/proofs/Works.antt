@@ -1,10 +1,10 @@
 -- Turns, one after the other, and names between them.
 use Rattle.std.proofs.Common.{◌≡◌, List, refl}
 use Rattle.std.specs.Prelude.{Option}
-use Rattle.model_drop.specs.Dropped.{Entry}
+use Rattle.model_span.specs.Dropped.{Entry}
 use Rattle.model_processor.specs.Passes.{PassAccount, after_drain}
 use Rattle.span_exporter.specs.Handed.{Handed}
-use Rattle.name_sink.specs.Named.{Named}
+use Rattle.drop_ledger.specs.Named.{Named}
 use Rattle.batch_processor.specs.Working.{GoesOn, Work}
 use Rattle.batch_processor.proofs.Turns.{goes_on, goes_quiet}
 use Rattle.batch_service.specs.Working.{GainsNames, ThreadState, WorksOn, both_names, state_of}

@@ -1,11 +1,11 @@
 -- A pass whose thread gives names to a sink of its own. (names: profile)
 use Rattle.std.specs.Prelude.{◌≡◌, ℕ, ◌+◌, Bool, true, false, List, Option, ◌&&◌, not, nat_lt}
 use Rattle.std.specs.Prelude.{if◌then◌else◌}
-use Rattle.model_drop.specs.Dropped.{Entry}
+use Rattle.model_span.specs.Dropped.{Entry}
 use Rattle.model_span.specs.Spans.{SpanData}
 use Rattle.trace_api.specs.declared.pass.Ended.{Ended}
 use Rattle.trace_api.specs.declared.pass.Ended.TheVariants as answers
-use Rattle.name_sink.specs.Named.{Named}
+use Rattle.drop_ledger.specs.Named.{Named}
 use Rattle.batch_service.specs.Working.{GainsNames}
 use Rattle.batch_service.specs.declared.naming.NamingPass.{NamingPass}
 use Rattle.batch_service.specs.declared.naming.TheConstants.{NAMED_TOGETHER}

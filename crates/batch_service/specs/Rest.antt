@@ -1,9 +1,9 @@
 -- What becomes of what is left in a queue that nobody works on any more. (profile)
 use Rattle.std.specs.Prelude.{◌≡◌, ◌+◌, List, [], ◌++◌, length, map, reverse, Option, None}
 use Rattle.model_span.specs.Spans.{SpanData}
-use Rattle.model_drop.specs.Dropped.{Reason, entry_of}
+use Rattle.model_span.specs.Dropped.{Reason, entry_of}
 use Rattle.model_desk.specs.Desks.{Desk, with_drops}
-use Rattle.name_sink.specs.Named.{Named}
+use Rattle.drop_ledger.specs.Named.{Named}
 use Rattle.batch_service.specs.Working.{GainsNames, both_names}
 
 -- Of the spans that waited these are dropped as abandoned, and the ledger has their names, the

@@ -7,7 +7,7 @@ use Rattle.model_processor.specs.Passes.{PassAccount, new_account}
 use Rattle.model_processor.specs.Worker.{WorkerAccount, new_worker}
 use Rattle.model_processor.specs.WorkerClauses.{IsAccounted, Origin, WorksUntilItLeaves, abandon}
 use Rattle.span_exporter.specs.Handed.{Handed, Gains}
-use Rattle.name_sink.specs.Named.{Named}
+use Rattle.drop_ledger.specs.Named.{Named}
 use Rattle.batch_processor.specs.Working.{Work, attempts_of}
 use Rattle.batch_processor.specs.Views.{setup_view}
 use Rattle.batch_processor.specs.declared.config.BatchConfig.{BatchConfig}

@@ -1,11 +1,11 @@
 -- What the thread of a service's worker does: it sends batches, and gives the names of spans that
 -- aren't delivered to a sink. (Trace SDK, Batching processor; names: profile)
 use Rattle.std.specs.Prelude.{◌≡◌, [], ◌++◌, List, Option, None, IfSome, option_map, true}
-use Rattle.model_drop.specs.Dropped.{Entry}
+use Rattle.model_span.specs.Dropped.{Entry}
 use Rattle.model_processor.specs.Passes.{PassAccount, after_drain}
 use Rattle.model_processor.specs.Worker.{OutBatch, WorkerAccount}
 use Rattle.model_processor.specs.WorkerClauses.{EachLeadsOn}
-use Rattle.name_sink.specs.Named.{Named}
+use Rattle.drop_ledger.specs.Named.{Named}
 use Rattle.span_exporter.specs.Handed.{Handed}
 use Rattle.batch_processor.specs.Working.{Work, GoesOn}
 

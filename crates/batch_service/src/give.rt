@@ -3,8 +3,7 @@ ghost use Rattle.std.specs.Prelude.{◌≡◌};
 ghost use Rattle.batch_service.specs.Working.{GainsNames, dropped_names, lost_names, both_names};
 
 use batch_desk::DrainedNames;
-use drop_ledger::Ledger;
-use name_sink::NameSink;
+use drop_ledger::{Ledger, NameSink};
 use std::alloc::Allocator;
 
 /// Gives these names to the sink: first those of dropped spans, and of each kind the first one

@@ -4,7 +4,7 @@ ghost use Rattle.batch_service.specs.Naming.{is_dropped, naming};
 
 use crate::give::give_names;
 use crate::threads::ServicePass;
-use name_sink::NameSink;
+use drop_ledger::NameSink;
 use otlp_span::SpanData;
 use trace_api::{EndPass, Ended};
 

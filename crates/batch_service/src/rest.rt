@@ -4,7 +4,7 @@ ghost use Rattle.batch_service.specs.Rest.{AbandonsWaiting, GivesUp};
 
 use crate::give::give_names;
 use batch_desk::Desk;
-use name_sink::NameSink;
+use drop_ledger::NameSink;
 use otlp_span::Reason;
 
 /// Gives up what is left: each span that waits is dropped as `Abandoned`, and its name, after those

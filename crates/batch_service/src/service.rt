@@ -20,9 +20,8 @@ use batch_processor::{
     Accounts, BatchBlank, BatchConfig, BatchProcessor, Clock, Flushed, MAX_PASSES, Naming, Parts,
     Pass, SystemClock, WorkEnd, WorkerLeft,
 };
-use name_sink::NameSink;
-use rand::make_rng;
-use rand::rngs::StdRng;
+use drop_ledger::NameSink;
+use rand::{make_rng, rngs::StdRng};
 use rand_core::Rng;
 use span_exporter::Exporter;
 use std::alloc::{AllocError, Global};

@@ -7,7 +7,7 @@ use crate::fault::StartFault;
 use crate::service::{MAX_THREADS, Served, Service, Started};
 use crate::threads::{Room, Work, work_on_all};
 use batch_processor::{BatchBlank, BatchConfig, Naming, Pass};
-use name_sink::NameSink;
+use drop_ledger::NameSink;
 use span_exporter::Exporter;
 use std::alloc::Global;
 use std::marker::Brand;

@@ -5,7 +5,7 @@ ghost use Rattle.batch_service.specs.Working.{IsDrained, NoneSettles, WorksOn, s
 
 use crate::worker::Worker;
 use batch_processor::{Clock, Naming, WorkEnd};
-use name_sink::NameSink;
+use drop_ledger::NameSink;
 use rand_core::Rng;
 use span_exporter::Exporter;
 use std::marker::PhantomData;

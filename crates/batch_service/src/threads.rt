@@ -2,7 +2,7 @@
 ghost use Rattle.std.specs.Prelude.{◌≡◌, ◌≤◌, List, [], IfOk, IsSome, Result, vec_capacity};
 ghost use Rattle.std.specs.Prelude.{vec_len};
 ghost use Rattle.std.specs.List.{AllByRecursion};
-ghost use Rattle.model_drop.specs.Dropped.{Entry};
+ghost use Rattle.model_span.specs.Dropped.{Entry};
 ghost use Rattle.batch_desk.specs.declared.totals.Totals.{Totals};
 ghost use Rattle.batch_processor.specs.declared.fault.WorkerLeft.{WorkerLeft};
 ghost use Rattle.batch_processor.specs.declared.pass.Flushed.{Flushed};

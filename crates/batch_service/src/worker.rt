@@ -7,7 +7,7 @@ ghost use Rattle.batch_service.specs.Working.{IsDrained, NoneSettles, WorksOn, s
 use crate::give::give_names;
 use crate::limit::{self, Limit, is_time_up};
 use batch_processor::{Clock, Naming, Pass, WorkEnd, WorkerPass};
-use name_sink::NameSink;
+use drop_ledger::NameSink;
 use rand_core::Rng;
 use span_exporter::Exporter;
 use std::sync::Wait;

@@ -1,1 +1,3 @@
 pub mod Tally
+pub mod Crosses
+pub mod ReasonTally

@@ -5,7 +5,7 @@ use Rattle.std.specs.Prelude.{reverse}
 use Rattle.std.proofs.lemmas.List.Sums.{count_by-le-length, sum_by-append, sum_by-cons}
 use Rattle.std.proofs.lemmas.List.Sorted.{IsPermutation-reverse, sum_by-IsPermutation}
 use Rattle.std.proofs.lemmas.List.{length-append, length-reverse}
-use Rattle.model_drop.specs.Dropped.{Reason, Entry, queue_full, encode_memory, too_large, abandoned, count_of_reason, is_lost, is_reason}
+use Rattle.model_span.specs.Dropped.{Reason, Entry, queue_full, encode_memory, too_large, abandoned, count_of_reason, is_lost, is_reason}
 use Rattle.model_desk.specs.Desks as model
 use Rattle.model_desk.specs.Desks.{with_drops}
 use Rattle.drop_ledger.specs.declared.counts.DropCounts.{DropCounts}

@@ -1,8 +1,8 @@
 -- How many names there are of each reason.
 use Rattle.std.specs.Prelude.{◌≡◌, ℕ, ◌+◌, ◌^◌, ◌<◌, false, List, length, IsTrue, Option}
 use Rattle.std.specs.Option.{ForSome}
-use Rattle.model_drop.specs.Dropped.{Reason, Entry, queue_full, encode_memory, too_large, abandoned}
-use Rattle.model_drop.specs.Dropped.{is_lost, count_of_reason}
+use Rattle.model_span.specs.Dropped.{Reason, Entry, queue_full, encode_memory, too_large, abandoned}
+use Rattle.model_span.specs.Dropped.{is_lost, count_of_reason}
 use Rattle.model_desk.specs.Desks as model
 use Rattle.otlp_span.specs.Slips.{entries_of, is_named}
 use Rattle.drop_ledger.specs.declared.counts.DropCounts.{DropCounts}

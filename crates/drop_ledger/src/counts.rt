@@ -1,6 +1,6 @@
 //! How many spans were dropped, by reason.
 ghost use Rattle.std.specs.Prelude.{◌≡◌, ◌+◌, ◌^◌, ◌<◌, false};
-ghost use Rattle.model_drop.specs.Dropped.{is_lost};
+ghost use Rattle.model_span.specs.Dropped.{is_lost};
 ghost use Rattle.model_desk.specs.Desks.{no_drops, with_drops};
 ghost use Rattle.otlp_span.specs.Dropped.{reason_view};
 ghost use Rattle.drop_ledger.specs.Counts.{FitTogether, count_in, drop_counts_view, sum_of};

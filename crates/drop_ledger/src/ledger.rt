@@ -2,7 +2,7 @@
 ghost use Rattle.std.specs.Prelude.{◌≡◌, ◌+◌, ◌-◌, ◌^◌, ◌<◌, ◌∷◌, ◌++◌, ◌==◌, [], IfNone, IfSome};
 ghost use Rattle.std.specs.Prelude.{IsTrue, length, option_map, reverse, slice_get};
 ghost use Rattle.std.specs.Option.{ForSome};
-ghost use Rattle.model_drop.specs.Dropped.{count_of_reason};
+ghost use Rattle.model_span.specs.Dropped.{count_of_reason};
 ghost use Rattle.otlp_span.specs.Dropped.{entry_view, reason_view};
 ghost use Rattle.otlp_span.specs.Slips.{entries_of, is_named};
 
@@ -24,7 +24,7 @@ pub struct Ledger<A: Allocator = Global> {
 
 impl<A: Allocator> Model for Ledger<A> {
     ghost use Rattle.std.specs.Prelude.{List};
-    ghost use Rattle.model_drop.specs.Dropped.{Entry};
+    ghost use Rattle.model_span.specs.Dropped.{Entry};
     ghost use Rattle.otlp_span.specs.Slips.{entries_of};
     ghost use Rattle.drop_ledger.specs.Counts.{IsLedger};
 

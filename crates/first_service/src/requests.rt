@@ -1,7 +1,6 @@
 //! The requests that a thread serves.
 use anyhow::Result;
-use rand::rngs::StdRng;
-use rand::{Rng, make_rng};
+use rand::{Rng, make_rng, rngs::StdRng};
 use std::alloc::Global;
 use std::random::RandomSource;
 use std::sync::Arc;

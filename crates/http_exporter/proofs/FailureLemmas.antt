@@ -7,7 +7,7 @@ use Rattle.model_message.specs.Tables
 use Rattle.model_message.specs.Messages.{meaning, read}
 use Rattle.model_message.specs.Wire.{row}
 use Rattle.model_retry.specs.Retries.{Outcome, delivered}
-use Rattle.otlp_message.specs.Response.{row_faults, rejected_in, partial_row}
+use Rattle.otlp_wire.specs.Response.{row_faults, rejected_in, partial_row}
 use Rattle.http_wire.specs.declared.fault.HttpFault.{HttpFault}
 use Rattle.otlp_http.specs.Outcomes.{is_success, taken_by, outcome_of, outcome_of_body, outcome_of_reply}
 use Rattle.otlp_http.specs.Replies.{HttpReply}

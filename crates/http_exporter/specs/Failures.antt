@@ -7,7 +7,7 @@ use Rattle.model_message.specs.Reading.{Fault, Reading}
 use Rattle.model_message.specs.Tables
 use Rattle.model_message.specs.Tables.{Message}
 use Rattle.model_message.specs.Messages.{meaning}
-use Rattle.otlp_message.specs.Response.{message_text, rejected_in, row_faults, status}
+use Rattle.otlp_wire.specs.Response.{message_text, rejected_in, row_faults, status}
 use Rattle.http_wire.specs.declared.fault.HttpFault.{HttpFault}
 use Rattle.otlp_http.specs.Outcomes.{is_success}
 use Rattle.otlp_http.specs.Replies.{HttpReply}

@@ -8,7 +8,7 @@ ghost use Rattle.http_exporter.specs.Failures.{AreKept, IsFront};
 
 use arrayvec::ArrayString;
 use otlp_http::{HttpFault, Reply};
-use otlp_message::{read_partial_bytes, read_status_message};
+use otlp_wire::{read_partial_bytes, read_status_message};
 use std::alloc::Allocator;
 use std::marker::Model;
 use std::{fmt, str};

@@ -7,3 +7,4 @@ pub mod FieldLemmas
 pub mod HeadLemmas
 pub mod LengthLemmas
 pub mod PlaceLemmas
+pub mod HeadStops

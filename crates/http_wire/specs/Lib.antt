@@ -8,3 +8,4 @@ pub mod Lines
 pub mod Parses
 pub mod Places
 pub mod Wires
+pub mod Heads

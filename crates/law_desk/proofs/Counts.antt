@@ -1,7 +1,7 @@
 -- The counts that a desk shows add up.
 use Rattle.std.proofs.Common.{◌≡◌, refl, sym, ap, ◌∙◌, subst, ℕ, ◌+◌, ◌<◌, ◌≤◌, arith, List, [], ◌∷◌, ◌++◌, length, true, false, true≢false, length-append, length-drop}
 use Rattle.model_span.specs.Spans.{SpanData}
-use Rattle.model_drop.specs.Dropped.{Reason, can_drop_batch}
+use Rattle.model_span.specs.Dropped.{Reason, can_drop_batch}
 use Rattle.model_desk.specs.Queue.{DeskEvent, queued, full, late, flush, shutdown, taken, handed, dropped, settled, popped, popped_lost, accepted_spans, taken_count, waiting_spans, last_batch, last_spans, last_size, handed_spans, stage, Stage, not_out, in_hand, with_exporter, drops}
 use Rattle.model_desk.specs.Desks.{DeskConfig, DropCounts, Desk, with_drops, worker_drops, in_hand_size, out_as, is_in_hand, is_with_exporter, drop_counts, desk_of, Allowed}
 use Rattle.model_desk.proofs.Steps.{IsWithin, accepted-kept, waiting-kept, accepted-queued, waiting-queued, waiting-taken, accepted-adds, length-last, by-steps, within-step, allowed-within}

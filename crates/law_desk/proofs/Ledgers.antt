@@ -4,7 +4,7 @@ use Rattle.std.specs.Prelude.{count_by, map, reverse, if◌then◌else◌}
 use Rattle.std.specs.List.{list_any}
 use Rattle.std.proofs.lemmas.List.{append-nil, map-append, reverse-append}
 use Rattle.std.proofs.lemmas.List.Sums.{sum_by-append, sum_by-take-drop}
-use Rattle.model_drop.specs.Dropped.{Entry}
+use Rattle.model_span.specs.Dropped.{Entry}
 use Rattle.model_desk.specs.Queue.{DeskEvent, gather, entries_by, losses_by, is_popped, is_popped_lost, popped, popped_lost, StackStep, push, pop, stack_on, stack_steps, stack_of, popped_by, popped_of}
 use Rattle.model_desk.proofs.Lists.{gather-more, stack-pushes}
 use Rattle.model_desk.proofs.Steps.{ledger-more}

@@ -5,7 +5,7 @@ use Rattle.std.specs.List.{AllByRecursion}
 use Rattle.std.proofs.lemmas.List.{map-append}
 use Rattle.std.proofs.lemmas.List.Sums.{sum_by-append}
 use Rattle.model_span.specs.Spans.{SpanData}
-use Rattle.model_drop.specs.Dropped.{Reason, Entry, entry_of, is_lost, can_drop_batch}
+use Rattle.model_span.specs.Dropped.{Reason, Entry, entry_of, is_lost, can_drop_batch}
 use Rattle.model_retry.specs.Retries.{Fate}
 use Rattle.model_desk.specs.Queue.{DeskEvent, queued, full, late, flush, shutdown, taken, handed, dropped, settled, popped, popped_lost, queued_span, size_of_take, last_batch, last_spans, last_size, Stage, not_out, in_hand, with_exporter, stage_by, stage, spans_handed_by, handed_spans, loss_reason, named_as, lost_names, losses_by, losses, entries_by, drops}
 use Rattle.model_desk.specs.Desks.{DeskConfig, out_as, is_with_exporter, desk_of, Allowed}

@@ -6,7 +6,7 @@ use Rattle.std.proofs.lemmas.List.{map-append, take-map, drop-map}
 use Rattle.std.proofs.lemmas.List.Sums.{sum_by-append, sum_by-take-drop}
 use Rattle.std.proofs.lemmas.Bool.{cases_order, lt-ltb, le-ltb, eq-eqb, ne_eqb}
 use Rattle.model_span.specs.Spans.{SpanData}
-use Rattle.model_drop.specs.Dropped.{Reason, Entry, entry_of}
+use Rattle.model_span.specs.Dropped.{Reason, Entry, entry_of}
 use Rattle.model_desk.specs.Queue.{DeskEvent, queued, full, late, flush, shutdown, taken, handed, dropped, settled, popped, popped_lost, ticket_of, tickets, queued_span, size_of_take, waiting_spans, last_batch, last_spans, last_size, Stage, not_out, in_hand, with_exporter, stage_by, stage, spans_handed_by, handed_spans, in_hand_as, in_hand_spans, entries_by, drops}
 use Rattle.model_desk.specs.Desks.{DeskConfig, out_as, is_in_hand, is_with_exporter, desk_of, Allowed}
 use Rattle.model_desk.proofs.Lists.{some-more, gather-more}

@@ -5,7 +5,7 @@ use Rattle.std.specs.Prelude.{Bool, true, false, List, [], ◌∷◌, ◌++◌, 
 use Rattle.std.specs.Prelude.{reverse, count_by, flat_map}
 use Rattle.std.specs.List.{list_any, range_with_len, AllByRecursion}
 use Rattle.model_span.specs.Spans.{SpanData}
-use Rattle.model_drop.specs.Dropped.{Entry, is_lost}
+use Rattle.model_span.specs.Dropped.{Entry, is_lost}
 use Rattle.model_desk.specs.Queue.{DeskEvent, flush, taken, Stage, not_out, in_hand, with_exporter}
 use Rattle.model_desk.specs.Queue.{stage, is_shutdown, tickets, accepted_spans, taken_count}
 use Rattle.model_desk.specs.Queue.{waiting_spans, batch_spans, last_batch, last_spans, handed_spans}

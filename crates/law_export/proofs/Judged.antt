@@ -11,9 +11,9 @@ use Rattle.http_wire.specs.declared.fault.HttpFault.{HttpFault}
 use Rattle.http_wire.specs.declared.fault.HttpFault.TheVariants as faults
 use Rattle.http_wire.specs.declared.limits.HeadLimits.{HeadLimits}
 use Rattle.http_wire.specs.Devices.{HasFailed}
-use Rattle.otlp_message.specs.Faults.{NamesOne}
-use Rattle.otlp_message.specs.declared.fault.ReadFault.{ReadFault}
-use Rattle.otlp_message.specs.declared.fault.ReadFault.TheVariants as read_faults
+use Rattle.otlp_wire.specs.Faults.{NamesOne}
+use Rattle.otlp_wire.specs.declared.fault.ReadFault.{ReadFault}
+use Rattle.otlp_wire.specs.declared.fault.ReadFault.TheVariants as read_faults
 use Rattle.otlp_serve.specs.declared.fault.PostFault.{PostFault}
 use Rattle.otlp_serve.specs.declared.fault.PostFault.TheVariants.{Head, Body}
 use Rattle.otlp_serve.specs.declared.reply.PostReply.{PostReply}

@@ -14,8 +14,8 @@ use Rattle.http_wire.specs.declared.fault.HttpFault.TheVariants as faults
 use Rattle.http_wire.specs.declared.limits.HeadLimits.{HeadLimits}
 use Rattle.otlp_http.specs.Address.{Address, IsTarget}
 use Rattle.otlp_http.specs.Request.{request_head, request_text}
-use Rattle.otlp_message.specs.Faults.{NamesOne}
-use Rattle.otlp_message.specs.declared.fault.ReadFault.TheVariants.{OutOfMemory}
+use Rattle.otlp_wire.specs.Faults.{NamesOne}
+use Rattle.otlp_wire.specs.declared.fault.ReadFault.TheVariants.{OutOfMemory}
 use Rattle.otlp_serve.specs.Answers.{plain_reply, refusal_of}
 use Rattle.otlp_serve.specs.Posts.{HttpPost, IsPost, HasNoPost}
 use Rattle.otlp_serve.specs.Replies.{reply_text}

@@ -3,7 +3,7 @@ use Rattle.std.proofs.Common.{◌≡◌, refl, sym, ap, ◌∙◌, ℕ, ◌+◌,
 use Rattle.std.specs.Prelude.{is_none, if◌then◌else◌}
 use Rattle.std.specs.List.{list_any}
 use Rattle.std.specs.Option.{option_map_or}
-use Rattle.model_drop.specs.Dropped.{Reason, queue_full, encode_memory, too_large}
+use Rattle.model_span.specs.Dropped.{Reason, queue_full, encode_memory, too_large}
 use Rattle.model_span.specs.Sampling.{is_sampled}
 use Rattle.model_span.specs.Spans.{Call, is_end}
 use Rattle.model_span.specs.Starts.{Ids, StartedSpan}

@@ -6,7 +6,7 @@ use Rattle.std.proofs.lemmas.List.{append-nil, map-append}
 use Rattle.std.proofs.lemmas.List.Elements.{filter-append}
 use Rattle.std.proofs.lemmas.Bool.{eqb-true, eq-eqb, ltb-false, leb-true, leb-false, false_from_ne_true}
 use Rattle.model_span.specs.Attributes.{last_or}
-use Rattle.model_drop.specs.Dropped.{Reason, too_large}
+use Rattle.model_span.specs.Dropped.{Reason, too_large}
 use Rattle.model_span.specs.Spans.{SpanData, Call, is_end}
 use Rattle.model_span.specs.Starts.{StartedSpan}
 use Rattle.model_retry.specs.Retries.{Outcome, Next, again, give_up, Fate, fate_of}

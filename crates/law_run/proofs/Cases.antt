@@ -1,7 +1,7 @@
 -- What an answer says of the queue and of a batch, case by case.
 use Rattle.std.proofs.Common.{◌≡◌, refl, ℕ, false, Option, Some, None, option_map}
 use Rattle.std.specs.Prelude.{◌==◌, if◌then◌else◌, List, []}
-use Rattle.model_drop.specs.Dropped.{Reason, queue_full, encode_memory, too_large, abandoned}
+use Rattle.model_span.specs.Dropped.{Reason, queue_full, encode_memory, too_large, abandoned}
 use Rattle.model_span.specs.Spans.{SpanData}
 use Rattle.model_retry.specs.Retries.{Outcome, Next, fate_of}
 use Rattle.model_desk.specs.Queue.{DeskEvent}

@@ -1,6 +1,6 @@
 -- What encodings answer.
 use Rattle.std.proofs.Common.{◌≡◌, ap, subst, ◌∙◌, ℕ, List, [], ◌∷◌, ◌++◌, Some}
-use Rattle.model_drop.specs.Dropped.{Reason}
+use Rattle.model_span.specs.Dropped.{Reason}
 use Rattle.model_desk.specs.Queue.{drops, entries_by}
 use Rattle.model_desk.specs.Queue as desk
 use Rattle.model_desk.proofs.Lists.{gather-more}

@@ -8,7 +8,7 @@ use Rattle.std.proofs.lemmas.List.Elements.{filter_map-append}
 use Rattle.std.proofs.lemmas.Grind.{flat_map-append}
 use Rattle.std.proofs.lemmas.Bool.{eqb-true, eq-eqb, lt-ltb, le-ltb, cases_order}
 use Rattle.model_span.specs.Attributes.{distinct_of}
-use Rattle.model_drop.specs.Dropped.{queue_full}
+use Rattle.model_span.specs.Dropped.{queue_full}
 use Rattle.model_span.specs.Spans.{SpanData}
 use Rattle.model_span.proofs.Lists.{distinct-more}
 use Rattle.model_retry.specs.Retries.{Outcome, Next, Fate, fate_of}

@@ -4,7 +4,7 @@ use Rattle.std.specs.Prelude.{is_none, if◌then◌else◌}
 use Rattle.std.specs.List.{list_any}
 use Rattle.std.proofs.lemmas.Bool.{eqb-true, eq-eqb, false_from_ne_true, cases_order}
 use Rattle.std.proofs.lemmas.List.Sorted.{sum_by-IsPermutation}
-use Rattle.model_drop.specs.Dropped.{Reason, queue_full, encode_memory, too_large, can_drop_batch}
+use Rattle.model_span.specs.Dropped.{Reason, queue_full, encode_memory, too_large, can_drop_batch}
 use Rattle.model_span.specs.Sampling.{is_sampled}
 use Rattle.model_span.specs.Spans.{SpanData, Kind, Call, is_end}
 use Rattle.model_span.specs.Starts.{StartedSpan}

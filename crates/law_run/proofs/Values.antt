@@ -3,7 +3,7 @@ use Rattle.std.proofs.Common.{◌≡◌, refl, sym, ap, ◌∙◌, ℕ, zero, su
 use Rattle.std.specs.Prelude.{◌==◌, if◌then◌else◌, unwrap_or}
 use Rattle.std.specs.List.{list_any, take_while, AllByRecursion, cons_option}
 use Rattle.std.proofs.lemmas.List.Sums.{take_while-cons}
-use Rattle.model_drop.specs.Dropped.{Reason, queue_full, Entry, entry_of}
+use Rattle.model_span.specs.Dropped.{Reason, queue_full, Entry, entry_of}
 use Rattle.model_span.specs.Spans.{SpanData}
 use Rattle.model_desk.specs.Queue.{DeskEvent, popped, popped_lost, is_popped, is_popped_lost, ticket_of, taken_count, accepted_spans, batch_sizes, slices, batch_spans, last_spans, last_batch, waiting_spans, gather, entries_by, drops, losses_by, losses, loss_reason, named_as}
 use Rattle.model_desk.specs.Queue as desk

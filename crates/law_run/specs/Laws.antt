@@ -6,7 +6,7 @@ use Rattle.std.specs.Prelude.{reverse, slice_get, Option, Some, None, is_none}
 use Rattle.std.specs.List.{list_any, AllByRecursion}
 use Rattle.std.specs.Option.{option_map_or}
 use Rattle.model_span.specs.Attributes.{last_or}
-use Rattle.model_drop.specs.Dropped.{Reason, queue_full, encode_memory, too_large, Entry, entry_of}
+use Rattle.model_span.specs.Dropped.{Reason, queue_full, encode_memory, too_large, Entry, entry_of}
 use Rattle.model_span.specs.Sampling.{is_sampled}
 use Rattle.model_span.specs.Spans.{SpanData, is_end}
 use Rattle.model_retry.specs.Retries.{Outcome, Next, again, give_up, fate_of}

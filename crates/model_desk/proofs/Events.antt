@@ -4,7 +4,7 @@ use Rattle.std.specs.Prelude.{pos, ◌==◌, if◌then◌else◌, count_by, map,
 use Rattle.std.specs.List.{list_any}
 use Rattle.std.proofs.lemmas.List.Sums.{sum_by-append}
 use Rattle.model_span.specs.Spans.{SpanData}
-use Rattle.model_drop.specs.Dropped.{Reason, Entry, entry_of, is_reason, count_of_reason}
+use Rattle.model_span.specs.Dropped.{Reason, Entry, entry_of, is_reason, count_of_reason}
 use Rattle.model_retry.specs.Retries.{Fate}
 use Rattle.model_desk.specs.Queue.{is_late, DeskEvent, queued, full, late, flush, shutdown, taken, handed, dropped, settled, popped, popped_lost, asks, asked_count, accepted_spans, queued_span, size_of_take, ticket_of, tickets, taken_count, waiting_spans, last_batch, last_spans, last_size, Stage, not_out, in_hand, with_exporter, stage, stage_by, stack_on, moment_of_take, last_moment, spans_handed_by, handed_spans, fate_by, fates, entries_by, drops, ledger_entries, stack_steps, is_popped, is_popped_lost, losses_by, losses, lost_entries, lost_names, late_count, is_shutdown, is_closed}
 use Rattle.model_desk.specs.Desks.{DeskConfig, Desk, DropCounts, FateCounts, drop_counts, with_drops, is_fate, fate_counts, with_fate, capped, out_as, desk_of, accepted_count, is_in_hand, is_with_exporter, handed_out, out_size, new_desk, Allowed, AreAllowed, IsDesk, Does, DropsSpans, SettlesSpans, TakesSpans, is_loss, after_settled}

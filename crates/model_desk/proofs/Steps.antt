@@ -5,7 +5,7 @@ use Rattle.std.specs.List.{list_any, filter_map}
 use Rattle.std.proofs.lemmas.List.{append-nil, drop-append-le, drop-drop}
 use Rattle.model_span.specs.Attributes.{last_or}
 use Rattle.model_span.specs.Spans.{SpanData}
-use Rattle.model_drop.specs.Dropped.{Entry}
+use Rattle.model_span.specs.Dropped.{Entry}
 use Rattle.model_desk.specs.Queue.{DeskEvent, queued, full, late, flush, shutdown, taken, handed, dropped, settled, popped, popped_lost, gather, ticket_of, tickets, queued_span, accepted_spans, size_of_take, batch_sizes, taken_count, waiting_spans, last_batch, last_spans, last_size, Stage, not_out, stage_by, stage, spans_handed_by, handed_spans, entries_by, drops, stack_on, stack_steps, stack_of, asks, marks_by, asked_count, is_shutdown}
 use Rattle.model_desk.specs.Desks.{DeskConfig, desk_of, Allowed, AreAllowedBehind, AreAllowed}
 use Rattle.model_desk.proofs.Lists.{none-more, some-more, last-more, any-more, sum-more, gather-more, stack-append, push_as, drop_as, pushed-behind, drop-behind, last_slice, last-slice-stays, last-slice-more, length-last-slice}

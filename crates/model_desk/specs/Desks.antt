@@ -4,7 +4,7 @@ use Rattle.std.specs.Prelude.{◌≡◌, ℕ, pos, ◌+◌, ◌-◌, ◌*◌, �
 use Rattle.std.specs.Prelude.{false, not, ◌&&◌, ◌||◌, if◌then◌else◌, List, [], ◌∷◌, ◌++◌, length}
 use Rattle.std.specs.Prelude.{reverse, count_by, Option, Some, None, is_some}
 use Rattle.model_span.specs.Spans.{SpanData}
-use Rattle.model_drop.specs.Dropped.{Reason, Entry, can_drop_batch, count_of_reason}
+use Rattle.model_span.specs.Dropped.{Reason, Entry, can_drop_batch, count_of_reason}
 use Rattle.model_retry.specs.Retries.{Fate}
 use Rattle.model_desk.specs.Queue.{DeskEvent, queued, full, late, flush, shutdown, taken, handed}
 use Rattle.model_desk.specs.Queue.{dropped, settled, popped, popped_lost, tickets, taken_count}

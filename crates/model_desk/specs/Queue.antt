@@ -7,9 +7,9 @@ use Rattle.std.specs.Prelude.{Some, None, unwrap_or, slice_get}
 use Rattle.std.specs.List.{list_any}
 use Rattle.model_span.specs.Attributes.{last_or}
 use Rattle.model_span.specs.Spans.{SpanData}
-use Rattle.model_drop.specs.Dropped.{Reason, queue_full, bad_reply, given_up, left_handed, Entry}
-use Rattle.model_drop.specs.Dropped.{entry_of}
-use Rattle.model_drop.specs.Dropped as reasons
+use Rattle.model_span.specs.Dropped.{Reason, queue_full, bad_reply, given_up, left_handed, Entry}
+use Rattle.model_span.specs.Dropped.{entry_of}
+use Rattle.model_span.specs.Dropped as reasons
 use Rattle.model_retry.specs.Retries.{Fate}
 
 -- What was done, and what was answered. A list of these is a history, the first one first.

@@ -12,7 +12,7 @@ use Rattle.model_message.specs.Messages.{Triple}
 use Rattle.model_message.specs.Canon.{canon}
 use Rattle.model_span.specs.Attributes.{Value, text, bool, int, texts, bools, ints, Attribute}
 use Rattle.model_span.specs.Attributes.{distinct_of}
-use Rattle.model_drop.specs.Dropped.{Reason, encode_memory, too_large}
+use Rattle.model_span.specs.Dropped.{Reason, encode_memory, too_large}
 use Rattle.model_span.specs.Spans.{Kind, internal, server, client, producer, consumer, Status}
 use Rattle.model_span.specs.Spans.{unset, ok, error, Event, Link, Parent, has_remote_parent, Span}
 use Rattle.model_span.specs.Spans.{Resource, Scope, SpanData}

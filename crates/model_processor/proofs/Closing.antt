@@ -7,7 +7,7 @@ use Rattle.std.proofs.lemmas.List.Sorted.{IsPermutation-refl, IsPermutation-tran
 use Rattle.account_book.specs.Accounts.{Replaces, Removes, Closes}
 use Rattle.account_book.proofs.Facts.{each_closed, each_map, each_removed, each_same, gathered_all, length_removed, nothing_of, one_removed, one_replaced, part_kept, part_removed}
 use Rattle.model_span.specs.Spans.{SpanData}
-use Rattle.model_drop.specs.Dropped.{Entry}
+use Rattle.model_span.specs.Dropped.{Entry}
 use Rattle.model_desk.specs.Desks.{Desk, DeskConfig, drop_counts, new_desk}
 use Rattle.model_processor.specs.Passes.{Drop, PassAccount, accepted_spans, all_accepted, all_dropped, all_popped, all_popped_lost, dropped_entries, drops, new_account}
 use Rattle.model_processor.proofs.PassSteps.{gives_closed, gives_new, late_closed, late_new, losses_same, names_same}

@@ -5,7 +5,7 @@ use Rattle.std.specs.List.{AllByRecursion, range_with_len}
 use Rattle.std.proofs.lemmas.List.{append_assoc}
 use Rattle.std.proofs.lemmas.List.Sorted.{IsPermutation-sym, IsPermutation-trans, IsPermutation-append_left, IsPermutation-append_right, IsPermutation-append_comm, sum_by-IsPermutation}
 use Rattle.account_book.proofs.Facts.{each_append, each_map}
-use Rattle.model_drop.specs.Dropped.{Entry, Reason, count_of_reason}
+use Rattle.model_span.specs.Dropped.{Entry, Reason, count_of_reason}
 use Rattle.model_desk.specs.Desks.{drop_counts}
 use Rattle.model_processor.specs.Passes.{Rises}
 use Rattle.model_processor.specs.PassClauses.{numbers_below}

@@ -7,7 +7,7 @@ use Rattle.std.proofs.lemmas.List.{append-nil, length-append, map-append}
 use Rattle.std.proofs.lemmas.List.Sorted.{IsPermutation-refl, IsPermutation-sym, IsPermutation-trans, IsPermutation-append_right, length_permutation}
 use Rattle.account_book.specs.Accounts.{Closes, Replaces}
 use Rattle.account_book.proofs.Facts.{each_append, each_at, each_closed, each_map, each_replaced, each_same, gathered_all, gathered_replaced, nothing_of, sum_all, sum_replaced, zero_of}
-use Rattle.model_drop.specs.Dropped.{Entry}
+use Rattle.model_span.specs.Dropped.{Entry}
 use Rattle.model_desk.specs.Desks.{DropCounts, capped, drop_counts}
 use Rattle.model_processor.specs.Passes.{PassAccount, Rises, SpanEnd, all_tickets, late_count, new_account, shutdown_count, ticket_of, tickets}
 use Rattle.model_processor.specs.PassClauses.{CountsLate, GivesTickets, NamesDrops, NamesLosses, numbers_below}

@@ -8,7 +8,7 @@ use Rattle.std.proofs.lemmas.List.Sorted.{IsPermutation-refl, IsPermutation-sym,
 use Rattle.account_book.specs.Accounts.{Replaces}
 use Rattle.account_book.proofs.Facts.{gathered_replaced, each_append, each_at, each_replaced, each_split}
 use Rattle.model_span.specs.Spans.{SpanData}
-use Rattle.model_drop.specs.Dropped.{Entry, queue_full, entry_of}
+use Rattle.model_span.specs.Dropped.{Entry, queue_full, entry_of}
 use Rattle.model_desk.specs.Desks.{Desk, accepted_count, capped, drop_counts, is_flushed, with_drops}
 use Rattle.model_desk.proofs.Events.{counts-more}
 use Rattle.model_processor.specs.Passes as ends_of

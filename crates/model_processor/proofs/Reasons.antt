@@ -5,7 +5,7 @@ use Rattle.std.specs.List.{AllByRecursion, flat_map}
 use Rattle.std.proofs.lemmas.Grind.{flat_map-append}
 use Rattle.account_book.proofs.Facts.{each_append, each_map}
 use Rattle.model_span.specs.Spans.{SpanData}
-use Rattle.model_drop.specs.Dropped.{Reason, queue_full, encode_memory, too_large, Entry, can_drop_batch, entry_of, is_lost}
+use Rattle.model_span.specs.Dropped.{Reason, queue_full, encode_memory, too_large, Entry, can_drop_batch, entry_of, is_lost}
 use Rattle.model_export.specs.Export.{LacksBody}
 use Rattle.model_retry.specs.Retries.{Fate, Outcome}
 use Rattle.model_desk.specs.Queue.{lost_names}

@@ -8,7 +8,7 @@ use Rattle.std.proofs.lemmas.List.Sorted.{IsPermutation-trans, IsPermutation-app
 use Rattle.std.proofs.lemmas.Grind.{flat_map-append}
 use Rattle.account_book.proofs.Facts.{each_map}
 use Rattle.model_span.specs.Spans.{SpanData}
-use Rattle.model_drop.specs.Dropped.{Entry, Reason, entry_of}
+use Rattle.model_span.specs.Dropped.{Entry, Reason, entry_of}
 use Rattle.model_retry.specs.Retries.{Outcome, Fate}
 use Rattle.model_desk.specs.Queue.{lost_names}
 use Rattle.model_desk.specs.Desks.{Desk, after_settled, drop_counts, fate_counts, handed_out, out_size, with_drops, with_fate}

@@ -3,7 +3,7 @@ use Rattle.std.specs.Prelude.{ℕ, ◌+◌, Bool, true, false, List, [], ◌∷�
 use Rattle.std.specs.Prelude.{Some, None}
 use Rattle.model_retry.specs.Retries.{Outcome, Fate}
 use Rattle.model_span.specs.Spans.{SpanData}
-use Rattle.model_drop.specs.Dropped.{Reason}
+use Rattle.model_span.specs.Dropped.{Reason}
 use Rattle.model_processor.specs.Passes.{PassAccount, new_account}
 pub use Rattle.model_processor.specs.Passes.{after_flush, after_shutdown, after_flushed}
 pub use Rattle.model_processor.specs.Passes.{after_told_left}

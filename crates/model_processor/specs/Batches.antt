@@ -8,7 +8,7 @@ use Rattle.model_message.specs.Messages.{body_meaning}
 use Rattle.model_message.specs.Tables
 use Rattle.model_message.specs.Canon.{canon}
 use Rattle.model_span.specs.Spans.{SpanData}
-use Rattle.model_drop.specs.Dropped.{Reason}
+use Rattle.model_span.specs.Dropped.{Reason}
 use Rattle.model_export.specs.Export.{LacksBody, groups, grouped_triples, request_message}
 use Rattle.model_retry.specs.Retries.{Outcome, Fate, abandoned, fate_of}
 use Rattle.model_retry.specs.Waits.{RetryConfig, next_after}

@@ -3,7 +3,7 @@ use Rattle.std.specs.Prelude.{◌≡◌, ℕ, ◌+◌, ◌<◌, ◌≤◌, Bool,
 use Rattle.std.specs.Prelude.{Contains, IsPermutation, Option, Some, None, is_some}
 use Rattle.std.specs.List.{AllByRecursion, range_with_len}
 use Rattle.model_span.specs.Spans.{SpanData}
-use Rattle.model_drop.specs.Dropped.{Entry, queue_full}
+use Rattle.model_span.specs.Dropped.{Entry, queue_full}
 use Rattle.model_desk.specs.Desks as desks
 use Rattle.model_desk.specs.Desks.{Desk, fate_counts}
 use Rattle.model_processor.specs.Passes.{Asked, PassAccount, Rises, all_accepted, all_popped}

@@ -4,7 +4,7 @@
 use Rattle.std.specs.Prelude.{◌≡◌, ℕ, ◌-◌, ◌^◌, ◌<◌, ◌++◌, ◌==◌, ◌||◌, nat_lt, Bool, true, List}
 use Rattle.std.specs.Prelude.{length, IsPermutation}
 use Rattle.std.specs.List.{range_with_len, AllByRecursion}
-use Rattle.model_drop.specs.Dropped.{Entry}
+use Rattle.model_span.specs.Dropped.{Entry}
 use Rattle.model_desk.specs.Desks.{DropCounts, capped, drop_counts}
 use Rattle.model_processor.specs.Passes.{PassAccount, Rises, tickets, all_tickets, late_count}
 use Rattle.model_processor.specs.Passes.{shutdown_count}

@@ -4,7 +4,7 @@ use Rattle.std.specs.Prelude.{ℕ, ◌+◌, ◌<◌, Bool, true, false, List, []
 use Rattle.std.specs.Prelude.{Option, Some, None}
 use Rattle.std.specs.List.{sum_by, flat_map, AllByRecursion}
 use Rattle.model_span.specs.Spans.{SpanData, with_ticket}
-use Rattle.model_drop.specs.Dropped.{Reason, Entry, entry_of}
+use Rattle.model_span.specs.Dropped.{Reason, Entry, entry_of}
 
 -- A span was dropped, with its ticket, for this reason, on a pass that had this floor.
 pub record Drop : Type 0 where

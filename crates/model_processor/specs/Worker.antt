@@ -4,7 +4,7 @@ use Rattle.std.specs.Prelude.{ℕ, List, [], ◌∷◌, ◌++◌, map, filter_ma
 use Rattle.std.specs.Prelude.{true, false}
 use Rattle.std.specs.List.{flat_map}
 use Rattle.model_span.specs.Spans.{SpanData}
-use Rattle.model_drop.specs.Dropped.{Reason, Entry, entry_of}
+use Rattle.model_span.specs.Dropped.{Reason, Entry, entry_of}
 use Rattle.model_retry.specs.Retries.{Outcome, Fate}
 use Rattle.model_desk.specs.Queue.{lost_names}
 

@@ -5,7 +5,7 @@ use Rattle.std.specs.Prelude.{◌≡◌, ◌≢◌, ℕ, ◌≤◌, ◌&&◌, na
 use Rattle.std.specs.Prelude.{length, map, count_by, IsPermutation}
 use Rattle.std.specs.List.{range_with_len, AllByRecursion}
 use Rattle.model_span.specs.Spans.{SpanData}
-use Rattle.model_drop.specs.Dropped.{Reason, Entry, is_lost}
+use Rattle.model_span.specs.Dropped.{Reason, Entry, is_lost}
 use Rattle.model_desk.specs.Desks.{Desk, fate_counts}
 use Rattle.model_processor.specs.Passes.{PassAccount, Drop, Rises, drops, all_accepted, all_dropped}
 use Rattle.model_processor.specs.Passes.{all_popped, all_popped_lost}

@@ -5,7 +5,7 @@ use Rattle.std.specs.Prelude.{◌||◌, if◌then◌else◌, List, [], ◌∷◌
 use Rattle.std.specs.Prelude.{Some, None, is_some, is_none, slice_get}
 use Rattle.std.specs.List.{list_any}
 use Rattle.model_span.specs.Attributes.{is_empty, last_or}
-use Rattle.model_drop.specs.Dropped.{queue_full, encode_memory, too_large}
+use Rattle.model_span.specs.Dropped.{queue_full, encode_memory, too_large}
 use Rattle.model_span.specs.Sampling.{is_sampled, is_recording}
 use Rattle.model_span.specs.Spans.{Call, unset, ok, set_status, end, is_end}
 use Rattle.model_span.specs.Starts.{StartedSpan}

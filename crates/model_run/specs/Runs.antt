@@ -4,8 +4,8 @@ use Rattle.std.specs.Prelude.{ℕ, ◌==◌, Bool, true, false, not, if◌then�
 use Rattle.std.specs.Prelude.{filter_map, take_while, Option, Some, None, option_map, slice_get}
 use Rattle.std.specs.List.{cons_option}
 use Rattle.std.specs.Option.{option_and_then}
-use Rattle.model_drop.specs.Dropped.{Reason, queue_full, encode_memory, too_large, abandoned}
-use Rattle.model_drop.specs.Dropped.{refused, bad_reply, given_up, left_handed}
+use Rattle.model_span.specs.Dropped.{Reason, queue_full, encode_memory, too_large, abandoned}
+use Rattle.model_span.specs.Dropped.{refused, bad_reply, given_up, left_handed}
 use Rattle.model_span.specs.Spans.{Call, SpanData, with_ticket}
 use Rattle.model_span.specs.Starts.{Ids, StartedSpan}
 use Rattle.model_retry.specs.Retries.{Outcome, Next, fate_of}

@@ -3,3 +3,4 @@ pub mod Spans
 pub mod Identifiers
 pub mod Sampling
 pub mod Starts
+pub mod Dropped

@@ -4,3 +4,5 @@ pub mod Ratios
 pub mod Urls
 pub mod Words
 mod Resources
+pub mod Decoding
+pub mod Lists

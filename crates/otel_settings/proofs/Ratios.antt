@@ -2,8 +2,8 @@
 use Rattle.std.proofs.Common.{◌≡◌, ℕ, ◌≤◌, List, true, false, Option, Some, None, IsTrue, refl}
 use Rattle.std.specs.Prelude.{Bool, ◌&&◌, if◌then◌else◌, nat_le}
 use Rattle.std.proofs.lemmas.Bool.{le-leb, leb-true}
-use Rattle.ratio_sampler.specs.Decimal.{denominator, is_decimal, numerator}
-use Rattle.ratio_sampler.specs.Ratio.{threshold_of}
+use Rattle.otlp_sampler.specs.Decimal.{denominator, is_decimal, numerator}
+use Rattle.otlp_sampler.specs.Ratio.{threshold_of}
 use Rattle.otel_settings.specs.Samplers.{ratio}
 
 picked : {X : Type 0} (a b : Bool) (x : X) → a ≡ true → b ≡ true → (if a && b then Some x else None) ≡ Some x

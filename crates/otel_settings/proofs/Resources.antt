@@ -2,7 +2,7 @@
 use Rattle.std.proofs.Common.{◌≡◌, ℕ, List, [], ◌∷◌, ◌++◌, ap, sym, ◌∙◌, Bor}
 use Rattle.std.specs.Prelude.{Option, Some, option_map, codes, String, string_bytes}
 use Rattle.std.proofs.lemmas.List.{map-append}
-use Rattle.resource_text.specs.Pairs.{Pair, pair_view, pairs_view}
+use Rattle.otel_settings.specs.ResourcePairs.{Pair, pair_view, pairs_view}
 use Rattle.otel_settings.specs.Resources.{name_pair}
 
 pub named_pairs : {A : Type 0} (pairs all : List (String A × String A)) (key value : String A) (name : Option (Bor (List ℕ))) (said : Bor (List ℕ)) → all ≡ pairs ++ (key, value) ∷ [] → name ≡ Some said → string_bytes key ≡ codes "service.name" → string_bytes value ≡ said.now → pairs_view all ≡ pairs_view pairs ++ name_pair (option_map (λ (t : Bor (List ℕ)). t.now) name)

@@ -9,3 +9,5 @@ pub mod Endpoints
 pub mod Unsupported
 pub mod Settings
 pub mod SettingsView
+pub mod ResourcePairs
+pub mod Attributes

@@ -2,7 +2,7 @@
 use Rattle.std.specs.Prelude.{ℕ, ◌^◌, Bool, true, false, ◌&&◌, List, map, Option, Some, None, codes}
 use Rattle.std.specs.Prelude.{if◌then◌else◌, nat_le, bytes_eq, option_and_then}
 use Rattle.std.specs.Char.{to_ascii_lowercase}
-use Rattle.script_words.specs.Words.{number_below}
+use Rattle.text_words.specs.Words.{number_below}
 
 -- the text is this word, in letters of either case
 abbrev pub is_word : List ℕ → List ℕ → Bool

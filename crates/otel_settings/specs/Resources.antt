@@ -2,8 +2,8 @@
 -- via an environment variable; Environment Variable Specification, General SDK Configuration)
 use Rattle.std.specs.Prelude.{ℕ, List, [], ◌∷◌, ◌++◌, Option, Some, None, codes, unwrap_or}
 use Rattle.model_span.specs.Attributes.{Attribute}
-use Rattle.resource_text.specs.Attributes.{attributes_of}
-use Rattle.resource_text.specs.Pairs.{Pair, pairs_of}
+use Rattle.otel_settings.specs.Attributes.{attributes_of}
+use Rattle.otel_settings.specs.ResourcePairs.{Pair, pairs_of}
 use Rattle.otel_settings.specs.declared.variable.Variable.TheVariants as variables
 use Rattle.otel_settings.specs.declared.fault.Instead.TheVariants as instead
 use Rattle.otel_settings.specs.Pairs.{Pairs, text_set}

@@ -3,8 +3,8 @@
 use Rattle.std.specs.Prelude.{ℕ, Bool, true, false, ◌&&◌, List, ◌++◌, Option, Some, None, codes}
 use Rattle.std.specs.Prelude.{if◌then◌else◌, nat_le, unwrap_or}
 use Rattle.model_span.specs.Sampling as model
-use Rattle.ratio_sampler.specs.Decimal.{denominator, is_decimal, numerator}
-use Rattle.ratio_sampler.specs.Ratio.{by_threshold, threshold_of}
+use Rattle.otlp_sampler.specs.Decimal.{denominator, is_decimal, numerator}
+use Rattle.otlp_sampler.specs.Ratio.{by_threshold, threshold_of}
 use Rattle.otel_settings.specs.declared.sampler.SamplerName.{SamplerName}
 use Rattle.otel_settings.specs.declared.sampler.SamplerName.TheVariants as names
 use Rattle.otel_settings.specs.declared.sampler.NamedSampler.{NamedSampler}

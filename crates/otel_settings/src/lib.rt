@@ -7,8 +7,17 @@
 //! that can't be read leaves the default, too, and is once in the list of faults, with its variable
 //! and with what is used instead. So is a value that asks for what the kit doesn't have, as another
 //! protocol, TLS and headers.
+//!
+//! Resource attributes as a text, as `OTEL_RESOURCE_ATTRIBUTES` has them: `key1=value1,key2=value2`
+//! (OpenTelemetry Specification, "Resource SDK", "Specifying resource information via an
+//! environment variable"; W3C Baggage, "Header content", without properties).
+//!
+//! A key is a token of HTTP, and a value any visible ASCII characters but `"`, `,`, `;` and `\`; in
+//! both `%` and two hexadecimal digits are a byte, and what comes out is UTF-8. Spaces and tabs may
+//! be around keys and values. A value may be empty, and have a `=`.
 #![tactic(auto)]
 
+mod attributes;
 mod endpoint;
 mod environment;
 mod fault;
@@ -16,14 +25,19 @@ mod laws;
 mod pairs;
 mod read;
 mod resource;
+mod resource_fault;
+mod resource_pairs;
 mod sampler;
 mod settings;
 mod unsupported;
 mod variable;
 
+pub use attributes::resource_attributes;
 pub use environment::settings_of_environment;
 pub use fault::{Instead, SettingFault};
 pub use laws::last_counts;
+pub use resource_fault::ResourceFault;
+pub use resource_pairs::resource_pairs;
 pub use sampler::{NamedSampler, SamplerName};
 pub use settings::{Settings, settings_of};
 pub use variable::Variable;

@@ -8,8 +8,8 @@ ghost use Rattle.otel_settings.specs.Readings as readings;
 use crate::fault::{Instead, SettingFault, note_unread};
 use crate::pairs::text_set;
 use crate::variable::Variable;
-use script_words::small_number;
 use std::alloc::{AllocError, Allocator};
+use text_words::small_number;
 
 /// `true` or `false`, in letters of either case.
 #[tactic(auto, unfolding(crate::specs::Readings::boolean))]

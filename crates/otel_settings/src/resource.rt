@@ -2,7 +2,7 @@
 
 ghost use Rattle.std.specs.Prelude.{◌≡◌, ◌++◌, [], IfOk, OnOk, is_some, option_map, unwrap_or};
 ghost use Rattle.otlp_value.specs.Value.{attributes_view};
-ghost use Rattle.resource_text.specs.Pairs as texts;
+ghost use Rattle.otel_settings.specs.ResourcePairs as texts;
 ghost use Rattle.otel_settings.specs.Pairs.{pairs_view};
 ghost use Rattle.otel_settings.specs.Faults.{faults_view, read_by};
 ghost use Rattle.otel_settings.specs.Resources as resources;
@@ -10,8 +10,8 @@ ghost use Rattle.otel_settings.specs.Resources as resources;
 use crate::fault::{Instead, SettingFault, note_unread};
 use crate::pairs::text_set;
 use crate::variable::Variable;
+use otel_settings::{ResourceFault, resource_attributes, resource_pairs};
 use otlp_value::Value;
-use resource_text::{ResourceFault, resource_attributes, resource_pairs};
 use std::alloc::{AllocError, Allocator};
 
 /// The pairs that a text spells, and whether it was read. There are none if it isn't set,

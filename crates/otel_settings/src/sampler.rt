@@ -9,9 +9,8 @@ use crate::fault::{Instead, SettingFault, note_unread};
 use crate::pairs::text_set;
 use crate::variable::Variable;
 use otlp_ids::{SpanContext, TraceId};
-use otlp_sampler::{AlwaysOff, AlwaysOn, Decision, ParentBased, Sampler};
+use otlp_sampler::{AlwaysOff, AlwaysOn, Decision, ParentBased, Sampler, TraceIdRatio};
 use otlp_span::Kind;
-use ratio_sampler::TraceIdRatio;
 use std::alloc::{AllocError, Allocator};
 use std::fmt;
 

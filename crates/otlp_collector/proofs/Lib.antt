@@ -3,3 +3,4 @@ pub mod Each
 pub mod Fronts
 pub mod Listed
 pub mod Views
+mod Prints

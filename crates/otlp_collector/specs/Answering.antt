@@ -9,10 +9,10 @@ use Rattle.model_message.specs.Tables
 use Rattle.model_message.specs.Tables.{Message}
 use Rattle.http_wire.specs.Devices.{HasFailed}
 use Rattle.http_wire.specs.declared.limits.HeadLimits.{HeadLimits}
-use Rattle.otlp_message.specs.Faults.{NamesOne}
-use Rattle.otlp_message.specs.declared.fault.ReadFault.{ReadFault}
-use Rattle.otlp_message.specs.declared.fault.ReadFault.TheVariants.{Wire, BadUtf8, TooDeep}
-use Rattle.otlp_message.specs.declared.fault.ReadFault.TheVariants.{OutOfMemory}
+use Rattle.otlp_wire.specs.Faults.{NamesOne}
+use Rattle.otlp_wire.specs.declared.fault.ReadFault.{ReadFault}
+use Rattle.otlp_wire.specs.declared.fault.ReadFault.TheVariants.{Wire, BadUtf8, TooDeep}
+use Rattle.otlp_wire.specs.declared.fault.ReadFault.TheVariants.{OutOfMemory}
 use Rattle.otlp_serve.specs.Answers.{plain_reply, refusal_of, reply_to_fault}
 use Rattle.otlp_serve.specs.Posts.{HttpPost, IsPost, HasNoPost, CountsAtPost}
 use Rattle.otlp_serve.specs.Replies.{code_of, reply_text}

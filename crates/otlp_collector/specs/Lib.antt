@@ -2,3 +2,6 @@ pub mod Answering
 pub mod Lines
 pub mod Printed
 pub mod Words
+pub mod Command
+pub mod Failures
+pub mod Served

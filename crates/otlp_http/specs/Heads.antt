@@ -8,7 +8,7 @@ use Rattle.httparse.specs.Spans.{ResponseExceeds, name_and_value}
 use Rattle.http_wire.specs.declared.fault.HttpFault.{HttpFault}
 use Rattle.http_wire.specs.declared.limits.HeadLimits.{HeadLimits}
 use Rattle.http_wire.specs.Fields.{NameAndValue}
-use Rattle.http_head.specs.Heads.{LacksSuchHead}
+use Rattle.http_wire.specs.Heads.{LacksSuchHead}
 
 -- the fields of a head, in their order
 abbrev pub fields_of : ResponseHead → List NameAndValue

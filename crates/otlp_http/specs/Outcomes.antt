@@ -9,7 +9,7 @@ use Rattle.model_message.specs.Tables.{Message}
 use Rattle.model_message.specs.Messages.{meaning}
 use Rattle.model_retry.specs.Retries.{Outcome, delivered, later, no_reply, bad}
 use Rattle.retry_core.specs.Retries.{retry_after_view}
-use Rattle.otlp_message.specs.Response.{rejected_in}
+use Rattle.otlp_wire.specs.Response.{rejected_in}
 use Rattle.http_wire.specs.declared.fault.HttpFault.{HttpFault}
 use Rattle.http_wire.specs.declared.fault.HttpFault.TheVariants as faults
 use Rattle.otlp_http.specs.declared.reply.Reply.{Reply}

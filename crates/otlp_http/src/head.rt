@@ -7,8 +7,7 @@ ghost use Rattle.otlp_http.specs.Heads.{IsInterimStatus};
 ghost use Rattle.otlp_http.specs.Parses.{HasFinalHead};
 ghost use Rattle.otlp_http.specs.Replies.{HasNoReply};
 
-use http_head::{ParseHead, read_head};
-use http_wire::{FaultRead, HeadLimits, HttpFault};
+use http_wire::{FaultRead, HeadLimits, HttpFault, ParseHead, read_head};
 use httparse::spans::{HeaderSpan, ResponseSpans, parse_response};
 use httparse::{Error, Status};
 use std::alloc::Allocator;

@@ -8,7 +8,7 @@ ghost use Rattle.otlp_http.specs.Outcomes.{reply_view};
 
 use crate::reply::Reply;
 use http_wire::HttpFault;
-use otlp_message::read_rejected_spans;
+use otlp_wire::read_rejected_spans;
 use retry_core::Outcome;
 use std::alloc::Allocator;
 

@@ -2,7 +2,7 @@
 //! puts its fields, in rising number, into a sink: first into one that counts them, then into a
 //! buffer of just that length.
 ghost use Rattle.std.specs.Prelude.{◌≡◌, ◌≢◌, ◌≤◌, ◌<◌, [], true, IfOk, OnOk, IsErrOf, length};
-ghost use Rattle.model_drop.specs.Dropped.{can_drop_batch};
+ghost use Rattle.model_span.specs.Dropped.{can_drop_batch};
 ghost use Rattle.otlp_span.specs.Dropped.{reason_view};
 ghost use Rattle.model_message.specs.Reading.{Reads};
 ghost use Rattle.model_message.specs.Tables;

@@ -12,13 +12,13 @@ use Rattle.model_message.specs.AnyValue.{AnyValue}
 use Rattle.otlp_read.specs.declared.any_value.Member.{Member}
 use Rattle.otlp_read.specs.declared.any_value.Member.TheVariants.{Empty}
 use Rattle.otlp_read.specs.declared.any_value.PairParts.{PairParts}
-use Rattle.otlp_message.specs.declared.fault.ReadFault.{ReadFault}
-use Rattle.otlp_message.specs.Faults.{NamesOne}
+use Rattle.otlp_wire.specs.declared.fault.ReadFault.{ReadFault}
+use Rattle.otlp_wire.specs.Faults.{NamesOne}
 use Rattle.otlp_read.specs.Members.{members_from_last, Holds, HoldsPair}
-use Rattle.otlp_message.proofs.LastPayloads.{same-payloads, one-payload, payloads-between}
-use Rattle.otlp_message.proofs.JoinedRows.{joined-faults, joined-value, one-faults, one-value}
+use Rattle.otlp_wire.proofs.LastPayloads.{same-payloads, one-payload, payloads-between}
+use Rattle.otlp_wire.proofs.JoinedRows.{joined-faults, joined-value, one-faults, one-value}
 use Rattle.otlp_read.proofs.MemberSteps.{members-append}
-use Rattle.otlp_message.proofs.Named.{Within, names-within, within-joined, within-left, within-first, within-others}
+use Rattle.otlp_wire.proofs.Named.{Within, names-within, within-joined, within-left, within-first, within-others}
 
 -- the key after one more field
 abbrev KeyMore : {A : Type 0} → PairParts A → Bor (List ℕ) → Field → Type 0

@@ -8,11 +8,11 @@ use Rattle.model_message.specs.Tables
 use Rattle.model_message.specs.Tables.{text, any, message, end, ◌⦂◌◂◌, ◌▸◌}
 use Rattle.model_message.specs.Messages.{payloads, joined_rows, read, read_table, value, value_of, utf8, last_bytes, member_of}
 use Rattle.otlp_read.specs.declared.any_value.PairParts.{PairParts}
-use Rattle.otlp_message.specs.declared.fault.ReadFault.{ReadFault}
-use Rattle.otlp_message.specs.Faults.{NamesOne}
+use Rattle.otlp_wire.specs.declared.fault.ReadFault.{ReadFault}
+use Rattle.otlp_wire.specs.Faults.{NamesOne}
 use Rattle.otlp_read.specs.Members.{members_from_last, HoldsPair}
-use Rattle.otlp_message.proofs.JoinedRows.{one-faults, one-value}
-use Rattle.otlp_message.proofs.Named.{Within, names-within, within-first, within-others, message-fields}
+use Rattle.otlp_wire.proofs.JoinedRows.{one-faults, one-value}
+use Rattle.otlp_wire.proofs.Named.{Within, names-within, within-first, within-others, message-fields}
 use Rattle.otlp_read.proofs.PairSteps.{value-row}
 
 pub is-done : {r : Reading AnyValue} {v w : AnyValue} → r ≡ done v → w ≡ v → Reads r w

@@ -9,14 +9,14 @@ use Rattle.model_message.specs.Reading.{Reading, Reads, ◌>>=◌, done}
 use Rattle.model_message.specs.Wire.{Field, Payload, varint, i64, len}
 use Rattle.model_message.specs.Tables.{Shape, any, message, repeated, Table, end, ◌⦂◌◂◌, ◌▸◌, ValueOf, array_value, key_value_list}
 use Rattle.model_message.specs.Messages.{PayloadReading, payloads, joined_rows, read, read_table, value_of, last_run, last_bytes, last_number, number_in, bytes_in, utf8}
-use Rattle.otlp_message.specs.declared.fault.ReadFault.{ReadFault}
-use Rattle.otlp_message.specs.Faults.{NamesOne}
-use Rattle.otlp_message.specs.Gathering.{IsKept, IsGathered, part_faults}
+use Rattle.otlp_wire.specs.declared.fault.ReadFault.{ReadFault}
+use Rattle.otlp_wire.specs.Faults.{NamesOne}
+use Rattle.otlp_wire.specs.Gathering.{IsKept, IsGathered, part_faults}
 use Rattle.otlp_read.specs.Members.{Begins, Runs, parts_view}
-use Rattle.otlp_message.proofs.LastPayloads.{last_or-push}
+use Rattle.otlp_wire.proofs.LastPayloads.{last_or-push}
 use Rattle.otlp_read.proofs.MemberSteps.{longer-run}
-use Rattle.otlp_message.proofs.Named.{names-within, within-first}
-use Rattle.otlp_message.proofs.GatherSteps.{repeated-skips, repeated-more, repeated-fails, part-names}
+use Rattle.otlp_wire.proofs.Named.{names-within, within-first}
+use Rattle.otlp_wire.proofs.GatherSteps.{repeated-skips, repeated-more, repeated-fails, part-names}
 
 -- ---- the member that counts
 

@@ -8,7 +8,7 @@ use Rattle.otlp_read.specs.declared.request.Request.{Request}
 use Rattle.otlp_read.specs.declared.request.ScopeSpansParts.{ScopeSpansParts}
 use Rattle.otlp_read.specs.declared.request.ResourceSpansParts.{ResourceSpansParts}
 use Rattle.otlp_read.specs.declared.request.RequestParts.{RequestParts}
-use Rattle.otlp_message.specs.Gathering.{Gathered}
+use Rattle.otlp_wire.specs.Gathering.{Gathered}
 use Rattle.otlp_read.specs.Resources.{resource_view, resource_gathered, scope_view, scope_gathered}
 use Rattle.otlp_read.specs.Spans.{spans_view}
 

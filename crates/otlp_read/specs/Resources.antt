@@ -7,7 +7,7 @@ use Rattle.otlp_read.specs.declared.resource.Resource.{Resource}
 use Rattle.otlp_read.specs.declared.resource.InstrumentationScope.{InstrumentationScope}
 use Rattle.otlp_read.specs.declared.resource.ResourceParts.{ResourceParts}
 use Rattle.otlp_read.specs.declared.resource.InstrumentationScopeParts.{InstrumentationScopeParts}
-use Rattle.otlp_message.specs.Gathering.{Gathered}
+use Rattle.otlp_wire.specs.Gathering.{Gathered}
 use Rattle.otlp_read.specs.Values.{pairs_view}
 
 -- (resource.proto: Resource)

@@ -10,7 +10,7 @@ use Rattle.otlp_read.specs.declared.span.StatusParts.{StatusParts}
 use Rattle.otlp_read.specs.declared.span.EventParts.{EventParts}
 use Rattle.otlp_read.specs.declared.span.LinkParts.{LinkParts}
 use Rattle.otlp_read.specs.declared.span.SpanParts.{SpanParts}
-use Rattle.otlp_message.specs.Gathering.{Gathered}
+use Rattle.otlp_wire.specs.Gathering.{Gathered}
 use Rattle.otlp_read.specs.Values.{pairs_view}
 
 -- (trace.proto: Status)

@@ -10,14 +10,13 @@ ghost use Rattle.model_message.specs.Tables;
 ghost use Rattle.model_message.specs.Tables.{message, repeated, ◌▸◌};
 ghost use Rattle.model_message.specs.Messages.{read, read_table, value};
 ghost use Rattle.otlp_wire.specs.Fields.{field_of};
-ghost use Rattle.otlp_message.specs.Faults.{NamesOne};
+ghost use Rattle.otlp_wire.specs.Faults.{NamesOne};
 ghost use Rattle.otlp_read.specs.Values.{any_value_view, values_view, pair_view, pairs_view};
-ghost use Rattle.otlp_message.specs.Gathering.{GathersRow, KeepsField, field_faults, part_faults};
+ghost use Rattle.otlp_wire.specs.Gathering.{GathersRow, KeepsField, field_faults, part_faults};
 ghost use Rattle.otlp_read.specs.Members.{Holds, members_from_last, array_run, pairs_run};
 ghost use Rattle.otlp_read.specs.Members.{parts_view, HoldsPair};
 
-use otlp_message::{ReadFault, bytes_in, copy_bytes, last_bytes, read_text};
-use otlp_wire::{Field, Fields, Payload};
+use otlp_wire::{Field, Fields, Payload, ReadFault, bytes_in, copy_bytes, last_bytes, read_text};
 use std::alloc::{Allocator, Global};
 
 /// How deep a value may nest: an attribute's value has depth 1. (profile)

@@ -10,7 +10,7 @@ mod span;
 mod triple;
 
 pub use any_value::AnyValue;
-pub use otlp_message::ReadFault;
+pub use otlp_wire::ReadFault;
 pub use request::{Request, ResourceSpans, ScopeSpans, read_request};
 pub use resource::{InstrumentationScope, Resource};
 pub use span::{Event, Link, Span, Status};

@@ -7,8 +7,8 @@ ghost use Rattle.model_message.specs.Wire;
 ghost use Rattle.model_message.specs.Tables;
 ghost use Rattle.model_message.specs.Tables.{message};
 ghost use Rattle.model_message.specs.Messages.{max_depth, meaning, value};
-ghost use Rattle.otlp_message.specs.Faults.{NamesOne};
-ghost use Rattle.otlp_message.specs.Gathering.{finished, nothing};
+ghost use Rattle.otlp_wire.specs.Faults.{NamesOne};
+ghost use Rattle.otlp_wire.specs.Gathering.{finished, nothing};
 ghost use Rattle.otlp_read.specs.Requests.{scope_spans_view};
 ghost use Rattle.otlp_read.specs.Requests.{scope_spans_gathered, resource_spans_view};
 ghost use Rattle.otlp_read.specs.Requests.{resource_spans_gathered};
@@ -16,10 +16,7 @@ ghost use Rattle.otlp_read.specs.Requests.{request_view, request_gathered};
 
 use crate::resource::{InstrumentationScope, InstrumentationScopeParts, Resource, ResourceParts};
 use crate::span::{Span, SpanParts};
-use otlp_message::{
-    GatherFields, ReadFault, gather_all, gather_in, last_bytes, push_message, read_text,
-};
-use otlp_wire::Field;
+use otlp_wire::{Field, GatherFields, ReadFault, gather_all, gather_in, last_bytes, push_message, read_text};
 use std::alloc::{Allocator, Global};
 
 /// The spans of a scope (opentelemetry-proto, trace.proto: ScopeSpans).

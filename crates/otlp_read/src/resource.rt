@@ -8,17 +8,14 @@ ghost use Rattle.model_message.specs.Tables;
 ghost use Rattle.model_message.specs.Tables.{message, repeated};
 ghost use Rattle.model_message.specs.Messages.{max_depth, read, value};
 ghost use Rattle.otlp_wire.specs.Fields.{field_of};
-ghost use Rattle.otlp_message.specs.Faults.{NamesOne};
-ghost use Rattle.otlp_message.specs.Gathering.{GathersRow, KeepsField, part_faults, field_faults};
-ghost use Rattle.otlp_message.specs.Gathering.{nothing};
+ghost use Rattle.otlp_wire.specs.Faults.{NamesOne};
+ghost use Rattle.otlp_wire.specs.Gathering.{GathersRow, KeepsField, part_faults, field_faults};
+ghost use Rattle.otlp_wire.specs.Gathering.{nothing};
 ghost use Rattle.otlp_read.specs.Resources.{resource_view, resource_gathered, scope_view};
 ghost use Rattle.otlp_read.specs.Resources.{scope_gathered};
 
 use crate::any_value::{AnyValue, push_attribute};
-use otlp_message::{
-    GatherFields, ReadFault, bytes_in, last_bytes, last_varint, low_32_bits, read_text,
-};
-use otlp_wire::{Field, Fields};
+use otlp_wire::{Field, Fields, GatherFields, ReadFault, bytes_in, last_bytes, last_varint, low_32_bits, read_text};
 use std::alloc::{Allocator, Global};
 
 /// What made the spans (opentelemetry-proto, resource.proto: Resource). Entity references are not

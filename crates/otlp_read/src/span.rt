@@ -8,19 +8,15 @@ ghost use Rattle.model_message.specs.Tables;
 ghost use Rattle.model_message.specs.Tables.{message, repeated};
 ghost use Rattle.model_message.specs.Messages.{max_depth, value};
 ghost use Rattle.otlp_wire.specs.Fields.{field_of};
-ghost use Rattle.otlp_message.specs.Faults.{NamesOne};
-ghost use Rattle.otlp_message.specs.Gathering.{GathersRow, KeepsField, part_faults, field_faults};
-ghost use Rattle.otlp_message.specs.Gathering.{nothing};
+ghost use Rattle.otlp_wire.specs.Faults.{NamesOne};
+ghost use Rattle.otlp_wire.specs.Gathering.{GathersRow, KeepsField, part_faults, field_faults};
+ghost use Rattle.otlp_wire.specs.Gathering.{nothing};
 ghost use Rattle.otlp_read.specs.Spans.{status_view, status_gathered, event_view};
 ghost use Rattle.otlp_read.specs.Spans.{event_gathered, link_view, link_gathered};
 ghost use Rattle.otlp_read.specs.Spans.{span_view, span_gathered};
 
 use crate::any_value::{AnyValue, push_attribute};
-use otlp_message::{
-    GatherFields, ReadFault, bytes_in, copy_bytes, last_bytes, last_fixed32, last_fixed64,
-    last_varint, low_32_bits, push_message, read_text,
-};
-use otlp_wire::{Field, Fields};
+use otlp_wire::{Field, Fields, GatherFields, ReadFault, bytes_in, copy_bytes, last_bytes, last_fixed32, last_fixed64, last_varint, low_32_bits, push_message, read_text};
 use std::alloc::{Allocator, Global};
 
 /// Whether what the span stands for went well (opentelemetry-proto, trace.proto: Status). An absent

@@ -1,1 +1,4 @@
 pub mod Sampling
+pub mod Ratio
+pub mod Decimal
+pub mod Laws

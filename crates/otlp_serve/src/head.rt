@@ -1,7 +1,6 @@
 //! Heads of requests.
 
-use http_head::ParseHead;
-use http_wire::HttpFault;
+use http_wire::{HttpFault, ParseHead};
 use httparse::spans::{HeaderSpan, RequestSpans, parse_request};
 use httparse::{Error, Status};
 

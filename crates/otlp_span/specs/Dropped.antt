@@ -1,5 +1,5 @@
 -- What reasons and names of spans that aren't delivered are in the model.
-use Rattle.model_drop.specs.Dropped as model
+use Rattle.model_span.specs.Dropped as model
 use Rattle.otlp_span.specs.declared.reason.Reason.{Reason}
 use Rattle.otlp_span.specs.declared.reason.Reason.TheVariants as reasons
 use Rattle.otlp_span.specs.declared.slip.Entry.{Entry}

@@ -2,7 +2,7 @@
 use Rattle.std.specs.Prelude.{ℕ, ◌+◌, List, [], ◌∷◌, length, Bool, IsTrue, true, false, Option}
 use Rattle.std.specs.Prelude.{None, Some}
 use Rattle.std.specs.Option.{ForSome}
-use Rattle.model_drop.specs.Dropped as model
+use Rattle.model_span.specs.Dropped as model
 use Rattle.otlp_span.specs.declared.slip.SlipNode.{SlipNode}
 use Rattle.otlp_span.specs.declared.slip.SlipNode.TheVariants as nodes
 use Rattle.otlp_span.specs.Dropped.{entry_view}

@@ -1,6 +1,6 @@
 //! A span that has ended, and what is left of one that was dropped.
 ghost use Rattle.std.specs.Prelude.{◌≡◌, [], map, option_map};
-ghost use Rattle.model_drop.specs.Dropped.{entry_of};
+ghost use Rattle.model_span.specs.Dropped.{entry_of};
 ghost use Rattle.model_span.specs.Spans.{has_remote_parent, with_ticket};
 ghost use Rattle.otlp_ids.specs.SpanContext.{context_view};
 ghost use Rattle.otlp_value.specs.Value.{attributes_view};

@@ -1,6 +1,6 @@
 //! Why a span isn't delivered.
 ghost use Rattle.std.specs.Prelude.{◌≡◌};
-ghost use Rattle.model_drop.specs.Dropped.{can_drop_batch, is_lost, is_reason};
+ghost use Rattle.model_span.specs.Dropped.{can_drop_batch, is_lost, is_reason};
 ghost use Rattle.otlp_span.specs.Dropped.{reason_view};
 
 use std::fmt;
@@ -72,7 +72,7 @@ impl Reason {
 /// `left` where who was to send it again has left.
 impl fmt::Display for Reason {
     ghost use Rattle.std.specs.Prelude.{Some};
-    ghost use Rattle.model_drop.specs.Dropped.{reason_word};
+    ghost use Rattle.model_span.specs.Dropped.{reason_word};
     ghost use Rattle.otlp_span.specs.Dropped.{reason_view};
 
     ghost output = { λ reason. Some (reason_word (reason_view reason)) };

@@ -48,7 +48,7 @@ pub(crate) enum SlipNode<A: Allocator> {
 
 impl<A: Allocator> Model for Slip<A> {
     ghost use Rattle.std.specs.Prelude.{List, length};
-    ghost use Rattle.model_drop.specs.Dropped.{Entry};
+    ghost use Rattle.model_span.specs.Dropped.{Entry};
 
     ghost Value = { List Entry };
 
@@ -170,7 +170,7 @@ pub struct Entries<'a, A: Allocator = Global> {
 impl<'a, A: Allocator> Model for Entries<'a, A> {
     ghost use Rattle.std.specs.Prelude.{List};
     ghost use Rattle.std.specs.Option.{ForSome, option_copied};
-    ghost use Rattle.model_drop.specs.Dropped.{Entry};
+    ghost use Rattle.model_span.specs.Dropped.{Entry};
 
     ghost Value = { List Entry };
 

@@ -2,3 +2,13 @@ pub mod Groups
 pub mod VarintSteps
 pub mod RowSteps
 pub mod RowParts
+pub mod OnePayload
+pub mod LastPayloads
+pub mod JoinedRows
+pub mod FieldsRead
+pub mod Named
+pub mod GatherSteps
+pub mod Finished
+pub mod ResponseSteps
+pub mod ResponseMeaning
+pub mod ResponseBytes

@@ -4,7 +4,7 @@ use Rattle.std.specs.Prelude.{IsPermutation, Option, Some, None, OnSome, map, dr
 use Rattle.std.specs.List.{AllByRecursion}
 use Rattle.std.proofs.lemmas.List.{nil_from_length, drop_at}
 use Rattle.std.proofs.lemmas.List.Sorted.{IsPermutation-refl, IsPermutation-trans, IsPermutation-map, length_permutation}
-use Rattle.model_drop.specs.Dropped.{Entry}
+use Rattle.model_span.specs.Dropped.{Entry}
 use Rattle.model_desk.specs.Desks.{drop_counts, fate_counts}
 use Rattle.drop_ledger.specs.Counts.{drop_counts_view}
 use Rattle.batch_desk.specs.Views.{fate_counts_view}

@@ -4,7 +4,7 @@ use Rattle.std.specs.Prelude.{IsPermutation, Option, Some, None}
 use Rattle.std.proofs.lemmas.List.{append-nil}
 use Rattle.std.proofs.lemmas.List.Sorted.{IsPermutation-refl, IsPermutation-sym, IsPermutation-to_front}
 use Rattle.model_span.specs.Spans.{SpanData, with_ticket}
-use Rattle.model_drop.specs.Dropped.{Reason, queue_full, encode_memory, too_large, abandoned, Entry, entry_of}
+use Rattle.model_span.specs.Dropped.{Reason, queue_full, encode_memory, too_large, abandoned, Entry, entry_of}
 use Rattle.model_export.specs.Export.{LacksBody}
 use Rattle.model_retry.specs.Retries.{fate_of, next_of}
 use Rattle.model_desk.specs.Queue.{lost_as, lost_names}

@@ -2,7 +2,7 @@
 use Rattle.std.specs.Prelude.{◌≡◌, ℕ, ◌+◌, ◌≤◌, List, [], length, map, IsPermutation, Option, Some}
 use Rattle.std.specs.Prelude.{None}
 use Rattle.std.specs.List.{AllByRecursion}
-use Rattle.model_drop.specs.Dropped.{Entry}
+use Rattle.model_span.specs.Dropped.{Entry}
 use Rattle.model_desk.specs.Desks.{fate_counts}
 use Rattle.span_exporter.specs.Handed.{Handed, Gains}
 use Rattle.model_processor.specs.Passes.{PassAccount, drops, all_accepted, all_dropped, all_popped}

@@ -1,7 +1,7 @@
 //! What the lock guards: the exporter, the ledgers and counts.
 ghost use Rattle.std.specs.Prelude.{◌≡◌, ◌+◌, ◌-◌, ◌^◌, ◌<◌, [], ◌∷◌, length, Some, IfErr, IfOk};
 ghost use Rattle.std.specs.Prelude.{OnErr, option_map, true};
-ghost use Rattle.model_drop.specs.Dropped.{entry_of};
+ghost use Rattle.model_span.specs.Dropped.{entry_of};
 ghost use Rattle.model_export.specs.Export.{LacksBody};
 ghost use Rattle.model_retry.specs.Retries as retries;
 ghost use Rattle.model_retry.specs.Retries.{next_of};

@@ -8,9 +8,9 @@ use Rattle.std.proofs.lemmas.Str.{IsUtf8-from_ascii}
 use Rattle.std.proofs.lemmas.Str.Ascii.{IsAscii-from_all}
 use Rattle.hex.specs.Hex.{decode_of, decode_sized, is_hex_digit}
 use Rattle.hex.proofs.HexLemmas.{decode_sized-twice, IsOk-decode_sized}
-use Rattle.script_words.specs.Words.{Gives, hex_bytes}
-use Rattle.script_words.specs.declared.WordFault.{WordFault}
-use Rattle.script_words.specs.declared.WordFault.TheVariants.{Bad}
+use Rattle.text_words.specs.Words.{Gives, hex_bytes}
+use Rattle.text_words.specs.declared.WordFault.{WordFault}
+use Rattle.text_words.specs.declared.WordFault.TheVariants.{Bad}
 
 small_digit : (c : ℕ) → is_hex_digit c ≡ true → c < 128
 small_digit c h = search (rules, tests)

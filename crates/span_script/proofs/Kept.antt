@@ -6,7 +6,7 @@ use Rattle.std.proofs.lemmas.Option.{cond_some}
 use Rattle.model_desk.specs.Desks.{DeskConfig}
 use Rattle.span_ring.specs.SpanRing.{IsRingSize}
 use Rattle.batch_desk.specs.Desk.{default_config}
-use Rattle.script_words.specs.Words.{◌>>=◌}
+use Rattle.text_words.specs.Words.{◌>>=◌}
 use Rattle.span_script.specs.Lines.{Line, words, sampler, limits, desk, max_body, resource, scope, scope_attribute, outcome, step, line_of}
 use Rattle.span_script.specs.Scripts.{Script, lines_of, script_read, IsLine}
 use Rattle.span_script.specs.Drafts.{no_script, fits, extended_script, with_line, line_read}

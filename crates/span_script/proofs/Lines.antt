@@ -4,9 +4,9 @@ use Rattle.std.specs.Prelude.{option_map}
 use Rattle.std.specs.Str.{IsUtf8, is_utf8, chars}
 use lib.Utf8.{encode}
 use denote.Ref.{Bor}
-use Rattle.script_words.specs.Words.{each_of, hex_word}
+use Rattle.text_words.specs.Words.{each_of, hex_word}
 use Rattle.span_script.specs.Lines.{words, step, words_line, entry}
-use Rattle.script_words.proofs.Each.{words_at}
+use Rattle.text_words.proofs.Each.{words_at}
 use Rattle.span_script.proofs.Steps.{other_than, no_step}
 
 -- a list of words that isn't empty

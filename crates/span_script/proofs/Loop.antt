@@ -6,7 +6,7 @@ use denote.Ref.{Bor}
 use Rattle.span_script.specs.Scripts.{Script, script_read}
 use Rattle.span_script.specs.Drafts.{no_script, line_read}
 use Rattle.span_script.proofs.Together.{lines_read, numbered, text_read}
-use Rattle.script_words.proofs.Each.{words_at}
+use Rattle.text_words.proofs.Each.{words_at}
 
 -- what the lines from place i on say, after those of a script
 abbrev pub rest_read : Script → List (Bor (List ℕ)) → ℕ → Result Script ℕ

@@ -4,11 +4,11 @@ use denote.Ref.{Bor}
 use Rattle.model_span.specs.Attributes.{Attribute}
 use Rattle.otlp_value.specs.declared.Value.{Value}
 use Rattle.otlp_value.specs.Value.{attribute_view, attributes_view}
-use Rattle.script_words.specs.Words.{Gives, in_front}
+use Rattle.text_words.specs.Words.{Gives, in_front}
 use Rattle.span_script.specs.Values.{pair_of, pairs_of}
-use Rattle.script_words.specs.declared.WordFault.{WordFault}
-use Rattle.script_words.specs.declared.WordFault.TheVariants.{Bad, OutOfMemory}
-use Rattle.script_words.proofs.Each.{words_at, behind, one_more}
+use Rattle.text_words.specs.declared.WordFault.{WordFault}
+use Rattle.text_words.specs.declared.WordFault.TheVariants.{Bad, OutOfMemory}
+use Rattle.text_words.proofs.Each.{words_at, behind, one_more}
 
 -- the words begin with this pair
 at_pair : (words : List (Bor (List ℕ))) (d : Bor (List ℕ)) → 2 ≤ length words

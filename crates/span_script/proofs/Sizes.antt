@@ -7,7 +7,7 @@ use Rattle.std.proofs.lemmas.Bool.{cases_Bool}
 use Rattle.model_desk.specs.Desks.{DeskConfig}
 use Rattle.span_ring.specs.SpanRing.{IsRingSize}
 use Rattle.span_ring.specs.declared.ring.TheConstants.{MAX_QUEUE}
-use Rattle.script_words.specs.Words.{◌>>=◌, each_of, number_below, hex_word, text_of}
+use Rattle.text_words.specs.Words.{◌>>=◌, each_of, number_below, hex_word, text_of}
 use Rattle.span_script.specs.Values.{pair_of}
 use Rattle.span_script.specs.Outcomes.{outcome_of_words}
 use Rattle.span_script.specs.Steps.{step_of}

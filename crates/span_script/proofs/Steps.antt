@@ -7,7 +7,7 @@ use Rattle.std.proofs.lemmas.Bool.{cases_Bool}
 use Rattle.std.proofs.lemmas.Slice.Eq.{bytes_eq-Decides}
 use Rattle.std.proofs.lemmas.Str.{IsUtf8-from_is_utf8}
 use Rattle.model_run.specs.Steps.{call}
-use Rattle.script_words.specs.Words.{◌>>=◌, number_below}
+use Rattle.text_words.specs.Words.{◌>>=◌, number_below}
 use Rattle.span_script.specs.Calls.{call_of}
 use Rattle.span_script.specs.Steps.{call_step, call_step_of, step_on_span, step_of}
 

@@ -7,7 +7,7 @@ use Rattle.std.proofs.lemmas.Bool.{cases_Bool}
 use Rattle.std.proofs.lemmas.List.Elements.{filter-append}
 use Rattle.std.proofs.lemmas.List.Sums.{position_or_len_is}
 use Rattle.std.proofs.lemmas.List.FromFn.{length-range_with_len, get_or-range_with_len}
-use Rattle.script_words.specs.Words.{◌>>=◌, each_of, in_front}
+use Rattle.text_words.specs.Words.{◌>>=◌, each_of, in_front}
 use Rattle.span_script.specs.Lines.{Line, line_of}
 use Rattle.span_script.specs.Scripts.{Script, is_script, contents_of, some_bytes, script_if, script_of, first_bad_line, lines_of, script_read}
 use Rattle.span_script.specs.Drafts.{no_script, fits, with_line, line_read}

@@ -3,7 +3,7 @@ use Rattle.std.specs.Prelude.{ℕ, ◌^◌, false, List, [], ◌∷◌, if◌the
 use Rattle.std.specs.Prelude.{option_map, bytes_eq, codes}
 use Rattle.model_span.specs.Spans.{Call, Status, set_attribute, add_event, record_exception}
 use Rattle.model_span.specs.Spans.{add_link, set_status, update_name, unset, ok, error}
-use Rattle.script_words.specs.Words.{◌>>=◌, number_below, text_of}
+use Rattle.text_words.specs.Words.{◌>>=◌, number_below, text_of}
 use Rattle.span_script.specs.Values.{pair_of, pairs_of}
 use Rattle.span_script.specs.Contexts.{context_of}
 

@@ -3,8 +3,8 @@ use Rattle.std.specs.Prelude.{ℕ, ◌^◌, Bool, true, false, List, if◌then�
 use Rattle.std.specs.Prelude.{option_map, bytes_eq, codes}
 use Rattle.model_span.specs.Spans.{Context}
 use Rattle.model_run.specs.Steps.{Parent, root, numbered, given}
-use Rattle.script_words.specs.Words.{◌>>=◌, number_below, hex_bytes, byte_of, text_of}
-use Rattle.script_words.specs.Parts.{around_first}
+use Rattle.text_words.specs.Words.{◌>>=◌, number_below, hex_bytes, byte_of, text_of}
+use Rattle.text_words.specs.Parts.{around_first}
 
 -- ---- what words spell
 

@@ -8,14 +8,14 @@ use Rattle.otlp_span.specs.Parts.{limits_view}
 use Rattle.batch_desk.specs.Views.{config_view}
 use Rattle.retry_core.specs.Retries.{outcome_view}
 use Rattle.trace_history.specs.Steps.{step_view}
-use Rattle.script_words.specs.Words.{◌>>=◌}
+use Rattle.text_words.specs.Words.{◌>>=◌}
 use Rattle.span_script.specs.Lines.{Line, words, sampler, limits, desk, max_body, resource, scope}
 use Rattle.span_script.specs.Lines.{scope_attribute, outcome, step, line_of}
 use Rattle.span_script.specs.Scripts.{Script, all_kept, with_attributes}
 use Rattle.span_script.specs.declared.draft.Draft.{Draft}
 use Rattle.span_script.specs.declared.scope.ScopeDraft.{ScopeDraft}
-use Rattle.script_words.specs.declared.WordFault.{WordFault}
-use Rattle.script_words.specs.declared.WordFault.TheVariants.{Bad, OutOfMemory}
+use Rattle.text_words.specs.declared.WordFault.{WordFault}
+use Rattle.text_words.specs.declared.WordFault.TheVariants.{Bad, OutOfMemory}
 
 -- a scope of a draft, without its attributes, and the list that these are set in
 abbrev pub scope_draft_view : {A : Type 0} → ScopeDraft A → spans.Scope × AttributeList

@@ -2,7 +2,7 @@
 use Rattle.std.specs.Prelude.{ℕ, ◌^◌, List, [], ◌∷◌, if◌then◌else◌, Option, Some, None, option_map}
 use Rattle.std.specs.Prelude.{bytes_eq, codes}
 use Rattle.model_retry.specs.Retries.{Outcome, RetryAfter, later, no_reply, seconds}
-use Rattle.script_words.specs.Words.{◌>>=◌, number_below, signed_number}
+use Rattle.text_words.specs.Words.{◌>>=◌, number_below, signed_number}
 
 -- an outcome that has no number
 unfoldable pub plain_outcome_of : List ℕ → Option Outcome

@@ -9,7 +9,7 @@ use Rattle.model_span.specs.Spans as spans
 use Rattle.model_desk.specs.Desks.{DeskConfig}
 use Rattle.model_retry.specs.Retries.{Outcome}
 use Rattle.model_run.specs.Steps.{Step}
-use Rattle.script_words.specs.Words.{◌>>=◌, each_of}
+use Rattle.text_words.specs.Words.{◌>>=◌, each_of}
 use Rattle.span_script.specs.Lines.{Line, words, sampler, limits, desk, max_body, resource, scope}
 use Rattle.span_script.specs.Lines.{scope_attribute, outcome, step, line_of}
 use Rattle.span_script.specs.declared.sampler.SamplerName.{SamplerName}

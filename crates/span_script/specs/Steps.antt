@@ -6,7 +6,7 @@ use Rattle.model_run.specs.Steps.{Step, start, call, flush, shutdown, take, enco
 use Rattle.otlp_span.specs.declared.parts.Kind.{Kind}
 use Rattle.otlp_span.specs.declared.parts.Kind.TheVariants as kinds
 use Rattle.otlp_span.specs.Parts.{kind_view}
-use Rattle.script_words.specs.Words.{◌>>=◌, number_below, text_of}
+use Rattle.text_words.specs.Words.{◌>>=◌, number_below, text_of}
 use Rattle.span_script.specs.Calls.{call_of}
 use Rattle.span_script.specs.Contexts.{parent_of}
 

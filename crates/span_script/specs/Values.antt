@@ -3,7 +3,7 @@ use Rattle.std.specs.Prelude.{ℕ, ◌==◌, Bool, true, false, List, [], ◌∷
 use Rattle.std.specs.Prelude.{Some, None, option_map, bytes_eq, codes}
 use Rattle.std.specs.List.{slice_split}
 use Rattle.model_span.specs.Attributes.{Value, Attribute, text, bool, int, texts, bools, ints}
-use Rattle.script_words.specs.Words.{◌>>=◌, in_front, each_of, signed_number, text_of}
+use Rattle.text_words.specs.Words.{◌>>=◌, in_front, each_of, signed_number, text_of}
 
 -- `true` or `false`
 unfoldable pub bool_of : List ℕ → Option Bool

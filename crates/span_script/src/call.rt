@@ -2,7 +2,7 @@
 
 ghost use Rattle.std.specs.Prelude.{map};
 ghost use Rattle.otlp_span.specs.Parts.{call_view, status_view};
-ghost use Rattle.script_words.specs.Words.{Gives};
+ghost use Rattle.text_words.specs.Words.{Gives};
 ghost use Rattle.span_script.specs.Calls.{attribute_call, call_of, described_status_of, event_call};
 ghost use Rattle.span_script.specs.Calls.{event_call_of, exception_call, exception_of, link_call};
 ghost use Rattle.span_script.specs.Calls.{name_call, plain_status_of, status_call};
@@ -10,7 +10,7 @@ ghost use Rattle.span_script.specs.Calls.{name_call, plain_status_of, status_cal
 use crate::context::parse_context;
 use crate::value::{parse_pair, parse_pairs};
 use otlp_span::{SpanCall, Status};
-use script_words::{WordFault, number, text};
+use text_words::{WordFault, number, text};
 use std::alloc::Allocator;
 
 /// Reads a call of this name, and the words after the span's number.

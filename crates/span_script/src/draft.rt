@@ -19,7 +19,7 @@ use batch_desk::DeskConfig;
 use otlp_span::SpanLimits;
 use otlp_value::{AttributeList, Value};
 use retry_core::Outcome;
-use script_words::WordFault;
+use text_words::WordFault;
 use std::alloc::Allocator;
 use trace_history::Step;
 

@@ -3,13 +3,13 @@
 ghost use Rattle.std.specs.Prelude.{◌≡◌, map, ok_or};
 ghost use Rattle.otlp_span.specs.Parts.{limits_view};
 ghost use Rattle.batch_desk.specs.Views.{config_view};
-ghost use Rattle.script_words.specs.Words.{Gives};
+ghost use Rattle.text_words.specs.Words.{Gives};
 ghost use Rattle.span_script.specs.Lines.{line_view, sampler_of, length_of, limits_of, words_line};
 ghost use Rattle.span_script.specs.Lines.{sampler_line, limits_line, resource_line, scope_line_of};
 ghost use Rattle.span_script.specs.Lines.{scope_line, scope_attribute_line_of};
 ghost use Rattle.span_script.specs.Lines.{scope_attribute_line, size_to, desk_of, desk_line};
 ghost use Rattle.span_script.specs.Lines.{max_body_line, entry, line_of};
-ghost use Rattle.script_words.specs.declared.WordFault.TheVariants.{Bad};
+ghost use Rattle.text_words.specs.declared.WordFault.TheVariants.{Bad};
 
 use crate::outcome::parse_outcome;
 use crate::sampler::SamplerName;
@@ -19,7 +19,7 @@ use batch_desk::DeskConfig;
 use otlp_span::SpanLimits;
 use otlp_value::Value;
 use retry_core::Outcome;
-use script_words::{WordFault, generator_words, number, parts_of, small_number, text};
+use text_words::{WordFault, generator_words, number, parts_of, small_number, text};
 use span_ring::MAX_QUEUE;
 use std::alloc::Allocator;
 use std::str;

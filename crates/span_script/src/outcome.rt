@@ -2,13 +2,13 @@
 
 ghost use Rattle.std.specs.Prelude.{◌≡◌, ◌^◌, map, ok_or, option_map};
 ghost use Rattle.retry_core.specs.Retries.{outcome_view, retry_after_view};
-ghost use Rattle.script_words.specs.Words.{Gives, number_below};
+ghost use Rattle.text_words.specs.Words.{Gives, number_below};
 ghost use Rattle.span_script.specs.Outcomes.{later_of, later_outcome_of, numbered_outcome_of};
 ghost use Rattle.span_script.specs.Outcomes.{outcome_of_words, plain_outcome_of, wait_of_word};
-ghost use Rattle.script_words.specs.declared.WordFault.TheVariants.{Bad};
+ghost use Rattle.text_words.specs.declared.WordFault.TheVariants.{Bad};
 
 use retry_core::{Outcome, RetryAfter};
-use script_words::{WordFault, integer, number, small_number};
+use text_words::{WordFault, integer, number, small_number};
 
 /// Reads `delivered`, `partial N`, `later STATUS SECONDS`, `later STATUS none`, `refused STATUS`,
 /// `none` or `bad`.

@@ -14,7 +14,7 @@ use otlp_ids::OutOfMemory;
 use otlp_span::{Scope, SpanLimits};
 use otlp_value::Value;
 use retry_core::Outcome;
-use script_words::{WordFault, parts_of};
+use text_words::{WordFault, parts_of};
 use std::alloc::{Allocator, Global};
 use thiserror::Error;
 use trace_history::Step;

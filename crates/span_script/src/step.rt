@@ -2,17 +2,17 @@
 
 ghost use Rattle.std.specs.Prelude.{◌≡◌, map, ok_or};
 ghost use Rattle.trace_history.specs.Steps.{step_view};
-ghost use Rattle.script_words.specs.Words.{Gives};
+ghost use Rattle.text_words.specs.Words.{Gives};
 ghost use Rattle.span_script.specs.Steps.{attempt_step, bare_step, call_step, call_step_of};
 ghost use Rattle.span_script.specs.Steps.{end_step, end_step_of, kind_of, reply_step};
 ghost use Rattle.span_script.specs.Steps.{reply_step_of, start_step, start_step_of, step_of};
 ghost use Rattle.span_script.specs.Steps.{step_on_span, take_step};
-ghost use Rattle.script_words.specs.declared.WordFault.TheVariants.{Bad};
+ghost use Rattle.text_words.specs.declared.WordFault.TheVariants.{Bad};
 
 use crate::call::parse_call;
 use crate::context::parse_parent;
 use otlp_span::{Kind, SpanCall};
-use script_words::{WordFault, number, small_number, text};
+use text_words::{WordFault, number, small_number, text};
 use std::alloc::Allocator;
 use trace_history::Step;
 

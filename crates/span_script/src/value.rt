@@ -2,13 +2,13 @@
 
 ghost use Rattle.std.specs.Prelude.{◌≡◌, IfOk, map, ok_or, string_bytes};
 ghost use Rattle.otlp_value.specs.Value.{attribute_view, attributes_view, value_view};
-ghost use Rattle.script_words.specs.Words.{Gives, each_of, signed_number, text_of};
+ghost use Rattle.text_words.specs.Words.{Gives, each_of, signed_number, text_of};
 ghost use Rattle.span_script.specs.Values.{bool_of, members_of, pair_of, pairs_of, value_of};
 ghost use Rattle.span_script.specs.Values.{value_of_kind};
-ghost use Rattle.script_words.specs.declared.WordFault.TheVariants.{Bad};
+ghost use Rattle.text_words.specs.declared.WordFault.TheVariants.{Bad};
 
 use otlp_value::Value;
-use script_words::{WordFault, integer, parts_of, text};
+use text_words::{WordFault, integer, parts_of, text};
 use std::alloc::{AllocError, Allocator};
 
 /// Any number of keys, each with a value after it.

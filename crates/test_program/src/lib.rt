@@ -1,6 +1,6 @@
 //! Tests, over public calls alone, of programs as libraries and of what they reach over a network:
-//! `trace-script` where memory is refused (`program_script_parts`), the collector
-//! (`otlp_collector`, `program_collector_parts`) and the exporter that posts to one
+//! `trace-script` where memory is refused (`trace_script`), the collector
+//! (`otlp_collector`, `otlp_collector`) and the exporter that posts to one
 //! (`http_exporter`). The crate has no items of its own.
 #![tactic(auto)]
 

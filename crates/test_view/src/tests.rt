@@ -2,5 +2,7 @@
 
 mod bodies;
 mod equal;
+mod hosts;
+mod shared;
 mod store;
 mod text;

@@ -6,3 +6,4 @@
 #[cfg(test)]
 mod tests;
 pub mod worked;
+pub mod worked_json;

@@ -3,3 +3,9 @@ pub mod Starts
 pub mod Calls
 pub mod State
 pub mod Words
+pub mod Lent
+pub mod ExtCalls
+pub mod Request
+pub mod Counts
+pub mod Endings
+pub mod Ends

@@ -4,7 +4,7 @@ use Rattle.std.specs.Prelude.{◌≡◌, IsTrue, ℕ, Bool, if◌then◌else◌,
 use Rattle.std.specs.Prelude.{bytes_eq, codes, Option, Some, None}
 use Rattle.std.specs.Char.{to_ascii_lowercase}
 use Rattle.model_span.specs.Spans.{Context, is_valid}
-use Rattle.script_words.specs.Words.{◌>>=◌}
+use Rattle.text_words.specs.Words.{◌>>=◌}
 use Rattle.trace_context.specs.Traceparent.{traceparent}
 use Rattle.trace_context.specs.Tracestate.{tracestate}
 use Rattle.trace_context.specs.Outgoing.{HasSizes, as_read, traceparent_text}

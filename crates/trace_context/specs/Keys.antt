@@ -4,7 +4,7 @@ use Rattle.std.specs.Prelude.{ℕ, ◌+◌, ◌-◌, ◌==◌, ◌&&◌, ◌||�
 use Rattle.std.specs.Prelude.{List, [], ◌∷◌, length, take, drop, position, slice_index}
 use Rattle.std.specs.Prelude.{Option, Some, None, option_map}
 use Rattle.std.specs.List.{list_all}
-use Rattle.script_words.specs.Parts.{around_first}
+use Rattle.text_words.specs.Parts.{around_first}
 
 -- a letter in lower case (W3C Trace Context, lcalpha)
 abbrev pub is_lower_letter : ℕ → Bool

@@ -4,7 +4,7 @@ use Rattle.std.specs.Prelude.{ℕ, ◌%◌, ◌==◌, ◌&&◌, ◌||◌, not, n
 use Rattle.std.specs.Prelude.{List, [], length, slice_index, slice_range, Option, Some, None}
 use Rattle.std.specs.Prelude.{true}
 use Rattle.model_span.specs.Spans.{Context, is_id}
-use Rattle.script_words.specs.Words.{◌>>=◌}
+use Rattle.text_words.specs.Words.{◌>>=◌}
 use Rattle.trace_context.specs.Digits.{lower_bytes}
 
 -- the only byte of such a list

@@ -5,7 +5,7 @@ use Rattle.std.specs.Prelude.{Some, None}
 use Rattle.std.specs.List.{list_any, slice_split}
 use Rattle.std.specs.Str.{is_utf8}
 use Rattle.httparse.specs.Grammar.{trim_ows}
-use Rattle.script_words.specs.Parts.{around_first}
+use Rattle.text_words.specs.Parts.{around_first}
 use Rattle.trace_context.specs.Keys.{is_key, is_value}
 
 -- a member without the spaces and tabs around it, unless nothing is left

@@ -4,7 +4,7 @@ ghost use Rattle.std.specs.Prelude.{◌≡◌};
 ghost use Rattle.std.specs.List.{list_all};
 ghost use Rattle.trace_context.specs.Keys as spec;
 
-use script_words::around_first;
+use text_words::around_first;
 
 /// Whether a byte is a letter in lower case.
 fn is_lower_letter(byte: u8) -> bool

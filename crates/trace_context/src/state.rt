@@ -7,7 +7,7 @@ ghost use Rattle.trace_context.specs.Tracestate as spec;
 
 use crate::keys::{is_key, is_value};
 use otlp_ids::OutOfMemory;
-use script_words::{around_first, parts_of, trimmed};
+use text_words::{around_first, parts_of, trimmed};
 use std::alloc::Allocator;
 
 /// The most entries that a trace state has (W3C Trace Context, "tracestate", "list").

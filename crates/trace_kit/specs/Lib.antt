@@ -7,7 +7,7 @@ pub use Rattle.model_span.specs.Identifiers
 pub use Rattle.model_span.specs.Sampling
 pub use Rattle.model_span.specs.Spans
 pub use Rattle.model_span.specs.Starts
-pub use Rattle.model_drop.specs.Dropped
+pub use Rattle.model_span.specs.Dropped
 pub use Rattle.model_desk.specs.Desks
 pub use Rattle.model_desk.specs.Queue
 pub use Rattle.model_retry.specs.Retries
@@ -33,12 +33,12 @@ pub use Rattle.scope_group.specs.Group
 pub use Rattle.otlp_proto.specs.Encode
 pub use Rattle.otlp_proto.specs.Bodies
 pub use Rattle.otlp_wire.specs.Fields as WireFields
-pub use Rattle.otlp_message.specs.Response
+pub use Rattle.otlp_wire.specs.Response
 pub use Rattle.trace_api.specs.Calls
 pub use Rattle.trace_api.specs.Pass
 pub use Rattle.trace_api.specs.Starts as TracerStarts
-pub use Rattle.span_ext.specs.Calls as ShortCalls
-pub use Rattle.span_ext.specs.Lent
+pub use Rattle.trace_api.specs.ExtCalls as ShortCalls
+pub use Rattle.trace_api.specs.Lent
 pub use Rattle.trace_history.specs.Answers as AnswerViews
 pub use Rattle.trace_history.specs.Steps as StepViews
 pub use Rattle.span_exporter.specs.Handed

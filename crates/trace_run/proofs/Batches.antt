@@ -4,7 +4,7 @@ use Rattle.std.specs.Prelude.{if◌then◌else◌}
 use Rattle.std.proofs.lemmas.Bool.{ne_eqb, lt-ltb, le-ltb, le-leb, lt-leb}
 use Rattle.rand_core.specs.Stream.{Stream}
 use Rattle.model_span.specs.Sampling.{SamplerMeaning}
-use Rattle.model_drop.specs.Dropped.{Reason as model-Reason, too_large as model-too_large}
+use Rattle.model_span.specs.Dropped.{Reason as model-Reason, too_large as model-too_large}
 use Rattle.model_span.specs.Spans.{SpanData}
 use Rattle.model_export.specs.Export.{LacksBody, groups, body_length}
 use Rattle.model_retry.specs.Retries as retries

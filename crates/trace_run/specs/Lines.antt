@@ -4,7 +4,7 @@ use Rattle.std.specs.Prelude.{count_by, Option, Some, None, slice_get, codes, de
 use Rattle.std.specs.Fmt.{signed_decimal}
 use Rattle.std.specs.List.{flat_map}
 use Rattle.hex.specs.Hex.{encode_lower}
-use Rattle.model_drop.specs.Dropped.{Entry, reason_word}
+use Rattle.model_span.specs.Dropped.{Entry, reason_word}
 use Rattle.model_span.specs.Spans.{is_end}
 use Rattle.model_retry.specs.Retries.{Next, Cause}
 use Rattle.model_run.specs.Steps.{Step}

@@ -4,3 +4,10 @@ pub mod Evictions
 pub mod PartLemmas
 pub mod Digests
 pub mod Rooms
+pub mod Groups
+pub mod SizeSteps
+pub mod Placing
+pub mod Yielded
+pub mod Services
+pub mod SpanDigests
+pub mod MemorySteps

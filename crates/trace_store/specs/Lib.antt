@@ -1,3 +1,10 @@
 pub mod Traces
 pub mod Parts
 pub mod Stores
+pub mod Keys
+pub mod Sizes
+pub mod Requests
+pub mod SpanParts
+pub mod Facts
+pub mod Digests
+pub mod Memory

@@ -6,19 +6,40 @@
 //! span that was received is kept or counted as evicted, at every moment.
 //! With each trace it keeps a digest of its spans, so that a list of traces needs no walk over
 //! them.
+//!
+//! Spans as they are kept to be shown: each with the resource and the scope that it shares with
+//! others.
+//!
+//! `take_apart` makes them of a request that was read, in parts, one for each trace, as
+//! `trace_store` takes them. A store of `Arc<ViewSpan>` lends a trace without copying a span, and
+//! keeps a `TraceDigest` with each: its root, when it began and ended, and how many spans it has.
 #![tactic(auto)]
 
+mod apart;
+mod facts;
 mod fold;
+mod group;
 mod kept;
+mod key;
+mod memory;
 mod parts;
 mod size;
+mod span;
+mod span_size;
 mod spans;
 mod store;
+mod trace_digest;
 mod traces;
 
+pub use apart::take_apart;
+pub use facts::{end_of, is_error, names_none, service_of};
 pub use fold::Digest;
 pub use kept::Limits;
+pub use key::trace_key;
+pub use memory::request_size;
 pub use parts::Part;
 pub use size::SpanSize;
+pub use span::{ViewResource, ViewScope, ViewSpan};
 pub use spans::Trace;
 pub use store::TraceStore;
+pub use trace_digest::TraceDigest;

@@ -3,9 +3,9 @@ use Rattle.std.proofs.Common.{◌≡◌, refl, sym, ap, subst, ℕ, ◌+◌, Lis
 use Rattle.std.specs.List.{list_any}
 use Rattle.rand_core.specs.Stream.{Stream}
 use Rattle.http_exporter.specs.Attempts.{Shown}
-use Rattle.http_span.specs.Counts.{counted_requests}
-use Rattle.http_span.specs.Endings.{ending_calls}
-use Rattle.http_span.specs.Ends.{EndsAs}
+use Rattle.trace_api.specs.Counts.{counted_requests}
+use Rattle.trace_api.specs.Endings.{ending_calls}
+use Rattle.trace_api.specs.Ends.{EndsAs}
 use Rattle.model_span.specs.Attributes.{Attribute}
 use Rattle.model_span.specs.Sampling.{SamplerMeaning}
 use Rattle.model_span.specs.Spans.{Call, Context, SpanData, is_end, set_attribute}

@@ -7,7 +7,7 @@ use Rattle.model_span.specs.Sampling.{valid_parent}
 use Rattle.model_span.specs.Spans.{Context, set_attribute}
 use Rattle.model_span.specs.Starts.{HeldSpan, Tracer, held_span, ids_words, started_span}
 use Rattle.otlp_ids.specs.WordStream.{Spends, words_of}
-use Rattle.span_ext.specs.Request.{StartsWith}
+use Rattle.trace_api.specs.Request.{StartsWith}
 use Rattle.trace_api.specs.declared.provider.StartFault.{StartFault}
 use Rattle.traced_client.specs.Spans.{StartsClient, client_start}
 

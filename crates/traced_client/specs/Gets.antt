@@ -3,9 +3,9 @@ use Rattle.std.specs.Prelude.{◌≡◌, ℕ, ◌+◌, ◌⊎◌, List, [], ◌�
 use Rattle.std.specs.Prelude.{IfSome, Result}
 use Rattle.rand_core.specs.Stream.{Stream}
 use Rattle.http_exporter.specs.Attempts.{Shown}
-use Rattle.http_span.specs.Counts.{counted_requests}
-use Rattle.http_span.specs.Endings.{ending_calls}
-use Rattle.http_span.specs.Ends.{Handed}
+use Rattle.trace_api.specs.Counts.{counted_requests}
+use Rattle.trace_api.specs.Endings.{ending_calls}
+use Rattle.trace_api.specs.Ends.{Handed}
 use Rattle.model_span.specs.Sampling.{SamplerMeaning, valid_parent}
 use Rattle.model_span.specs.Spans.{Context, SpanData, end}
 use Rattle.model_span.specs.Starts.{StartedSpan, ids_words, started_span}

@@ -2,7 +2,7 @@
 use Rattle.std.specs.Prelude.{◌≡◌, ℕ, nat_le, if◌then◌else◌, List, [], ◌∷◌, ◌++◌, codes, decimal}
 use Rattle.std.specs.Prelude.{map, Option, Some, None, Result, Ok, Err}
 use Rattle.rand_core.specs.Stream.{Stream}
-use Rattle.http_span.specs.Endings.{Ending, int_pair, text_pair}
+use Rattle.trace_api.specs.Endings.{Ending, int_pair, text_pair}
 use Rattle.http_wire.specs.declared.fault.HttpFault.{HttpFault}
 use Rattle.model_span.specs.Attributes.{Attribute}
 use Rattle.model_span.specs.Sampling.{valid_parent}

@@ -4,8 +4,8 @@ ghost use Rattle.std.specs.Prelude.{◌≡◌, Some, false, true};
 ghost use Rattle.std.specs.Option.{option_copied};
 ghost use Rattle.std.specs.Result.{result_map_both};
 ghost use Rattle.http_exporter.specs.Attempts.{shown};
-ghost use Rattle.http_span.specs.Endings.{ending_calls, ending_view};
-ghost use Rattle.http_span.specs.Ends.{EndsAs};
+ghost use Rattle.trace_api.specs.Endings.{ending_calls, ending_view};
+ghost use Rattle.trace_api.specs.Ends.{EndsAs};
 ghost use Rattle.model_span.specs.Starts.{HeldSpan};
 ghost use Rattle.otlp_http.specs.Outcomes.{reply_view};
 ghost use Rattle.otlp_ids.specs.SpanContext.{parent_view};
@@ -17,7 +17,7 @@ use crate::fault::GetFault;
 use crate::start::{Begun, begin};
 use batch_processor::Clock;
 use http_exporter::Dial;
-use http_span::{Ending, count_untraced, end_span};
+use trace_api::{EndPass, Ending, Span, Tracer, count_untraced, end_span};
 use itoa::Buffer;
 use otlp_http::{Reply, Target};
 use otlp_ids::SpanContext;
@@ -26,7 +26,6 @@ use otlp_span::SpanData;
 use rand_core::Rng;
 use std::alloc::Global;
 use std::marker::Model;
-use trace_api::{EndPass, Span, Tracer};
 
 /// What a client works with.
 #[derive(Drop)]

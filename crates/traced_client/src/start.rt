@@ -2,7 +2,7 @@
 
 ghost use Rattle.std.specs.Prelude.{◌≡◌, IfOk, IfSome, option_map, string_bytes};
 ghost use Rattle.otlp_ids.specs.SpanContext.{context_view, parent_view};
-ghost use Rattle.span_ext.specs.Lent.{lent_pairs};
+ghost use Rattle.trace_api.specs.Lent.{lent_pairs};
 ghost use Rattle.trace_api.specs.Starts.{tracer_view};
 ghost use Rattle.trace_context.specs.Carriers.{outgoing};
 ghost use Rattle.trace_context.specs.Pairs.{fields_view};
@@ -10,16 +10,14 @@ ghost use Rattle.traced_client.specs.Spans as spec;
 ghost use Rattle.traced_client.specs.Spans.{HasStarted, StartsClient, carried_by};
 
 use crate::request::Field;
-use http_span::{int_value, text_pair};
+use trace_api::{KeyValue, Span, SpanRequest, StartFault, Tracer, ValueRef, int_value, start_span, text_pair};
 use itoa::Buffer;
 use otlp_http::Target;
 use otlp_ids::{OutOfMemory, SpanContext};
 use otlp_sampler::Sampler;
 use otlp_span::Kind;
 use rand_core::Rng;
-use span_ext::{KeyValue, SpanRequest, ValueRef, start_span};
 use std::alloc::Global;
-use trace_api::{Span, StartFault, Tracer};
 use trace_context::inject;
 
 /// How a request begins.

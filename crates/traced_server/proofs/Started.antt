@@ -7,7 +7,7 @@ use Rattle.model_span.specs.Spans.{Call, Context, server, set_attribute}
 use Rattle.model_span.specs.Starts.{HeldSpan, Tracer, held_span, ids_words, start_request, started_span}
 use Rattle.otlp_ids.specs.WordStream.{Spends, words_of}
 use Rattle.rand_core.specs.Stream.{Stream}
-use Rattle.span_ext.specs.Request.{StartsWith}
+use Rattle.trace_api.specs.Request.{StartsWith}
 use Rattle.trace_api.specs.declared.provider.StartFault.{StartFault}
 use Rattle.traced_server.specs.Spans.{StartsServer}
 

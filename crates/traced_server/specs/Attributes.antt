@@ -13,7 +13,7 @@ use Rattle.http.specs.declared.version.Http.{Http}
 use Rattle.http.specs.declared.version.Http.TheVariants.{Http10}
 use Rattle.http.specs.StatusCode.{code_digits}
 use Rattle.model_span.specs.Attributes.{Attribute}
-use Rattle.http_span.specs.Endings.{Ending, int_pair, text_pair}
+use Rattle.trace_api.specs.Endings.{Ending, int_pair, text_pair}
 use Rattle.traced_server.specs.declared.start.ServerName.{ServerName}
 use Rattle.traced_server.specs.Methods.{method_value, original_method}
 

@@ -13,9 +13,9 @@ use Rattle.otlp_ids.specs.WordStream.{Spends, words_of}
 use Rattle.trace_api.specs.Starts.{TracerWith, tracer_view}
 use Rattle.trace_api.specs.declared.pass.Ended.{Ended}
 use Rattle.traced_server.specs.declared.service.TracedService.{TracedService}
-use Rattle.http_span.specs.Counts.{counted_requests}
-use Rattle.http_span.specs.Endings.{ending_calls}
-use Rattle.http_span.specs.Ends.{Handed}
+use Rattle.trace_api.specs.Counts.{counted_requests}
+use Rattle.trace_api.specs.Endings.{ending_calls}
+use Rattle.trace_api.specs.Ends.{Handed}
 use Rattle.traced_server.specs.Attributes.{Server, ending_of, server_view}
 use Rattle.traced_server.specs.Carried.{carried}
 use Rattle.traced_server.specs.Spans.{request_calls, server_start}

@@ -3,16 +3,15 @@
 ghost use Rattle.std.specs.Prelude.{◌≡◌, ◌++◌, IfOk, OnOk};
 ghost use Rattle.std.specs.Option.{option_copied};
 ghost use Rattle.http.specs.Request.{head_of};
-ghost use Rattle.span_ext.specs.Lent.{lent_pairs};
+ghost use Rattle.trace_api.specs.Lent.{lent_pairs};
 ghost use Rattle.traced_server.specs.Attributes as spec;
 
 use crate::method::{method_value, original_method};
 use crate::start::ServerName;
 use bytes::Bytes;
 use http::{HeaderMap, HeaderValue, Request, Version};
-use http_span::{int_value, text_pair};
+use trace_api::{KeyValue, ValueRef, int_value, text_pair};
 use otlp_ids::OutOfMemory;
-use span_ext::{KeyValue, ValueRef};
 use std::alloc::Global;
 use std::str;
 

@@ -4,8 +4,8 @@ ghost use Rattle.std.specs.Prelude.{◌≡◌, Some, false, option_map, true};
 ghost use Rattle.http_server.specs.Response.{IsBlank};
 ghost use Rattle.model_span.specs.Starts.{HeldSpan};
 ghost use Rattle.otlp_ids.specs.SpanContext.{parent_view};
-ghost use Rattle.http_span.specs.Endings.{ending_calls, ending_view};
-ghost use Rattle.http_span.specs.Ends.{EndsAs};
+ghost use Rattle.trace_api.specs.Endings.{ending_calls, ending_view};
+ghost use Rattle.trace_api.specs.Ends.{EndsAs};
 ghost use Rattle.traced_server.specs.Attributes.{ending_of, server_view};
 ghost use Rattle.traced_server.specs.Serves.{Answered, serving};
 
@@ -15,13 +15,12 @@ use batch_processor::Clock;
 use bytes::Bytes;
 use http::{Request, StatusCode};
 use http_server::{Response, Service};
-use http_span::{Ending, count_untraced, end_span};
+use trace_api::{EndPass, Ending, Span, count_untraced, end_span};
 use otlp_ids::SpanContext;
 use otlp_sampler::Sampler;
 use otlp_span::SpanData;
 use rand_core::Rng;
 use std::alloc::{AllocError, Global};
-use trace_api::{EndPass, Span};
 
 /// A handler whose requests have spans, each of which ends on the pass.
 ///

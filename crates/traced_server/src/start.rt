@@ -3,7 +3,7 @@
 ghost use Rattle.std.specs.Prelude.{◌≡◌, IfOk, IfSome};
 ghost use Rattle.std.specs.Option.{option_copied};
 ghost use Rattle.otlp_ids.specs.SpanContext.{parent_view};
-ghost use Rattle.span_ext.specs.Lent.{lent_pairs};
+ghost use Rattle.trace_api.specs.Lent.{lent_pairs};
 ghost use Rattle.trace_api.specs.Starts.{tracer_view};
 ghost use Rattle.traced_server.specs.Attributes.{server_view};
 ghost use Rattle.traced_server.specs.Spans.{HasStarted, StartsServer};
@@ -17,9 +17,8 @@ use otlp_ids::SpanContext;
 use otlp_sampler::Sampler;
 use otlp_span::Kind;
 use rand_core::Rng;
-use span_ext::{KeyValue, SpanRequest, start_span};
+use trace_api::{KeyValue, Span, SpanRequest, StartFault, Tracer, start_span};
 use std::alloc::Global;
-use trace_api::{Span, StartFault, Tracer};
 
 /// What a server is reached by (Semantic Conventions, "server.address", "server.port").
 #[derive(Debug, Clone, Copy)]

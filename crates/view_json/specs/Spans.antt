@@ -10,9 +10,9 @@ use Rattle.otlp_read.specs.declared.span.Link.{Link}
 use Rattle.otlp_read.specs.declared.span.Span.{Span}
 use Rattle.otlp_read.specs.declared.span.Status.{Status}
 use Rattle.std.specs.declared.sync.Arc.{Arc}
-use Rattle.view_span.specs.declared.span.ViewResource.{ViewResource}
-use Rattle.view_span.specs.declared.span.ViewScope.{ViewScope}
-use Rattle.view_span.specs.declared.span.ViewSpan.{ViewSpan}
+use Rattle.trace_store.specs.declared.span.ViewResource.{ViewResource}
+use Rattle.trace_store.specs.declared.span.ViewScope.{ViewScope}
+use Rattle.trace_store.specs.declared.span.ViewSpan.{ViewSpan}
 use Rattle.view_json.specs.Seen.{Seen, array_member, braces, hex_member, long_member, seen}
 use Rattle.view_json.specs.Seen.{number_member, object_member, signed_member, text_member}
 use Rattle.view_json.specs.Values.{attributes_member}

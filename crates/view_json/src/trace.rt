@@ -15,7 +15,7 @@ use otlp_read::Span;
 use std::alloc::{AllocError, Allocator};
 use std::collections::LinkedList;
 use std::sync::Arc;
-use view_span::{ViewResource, ViewScope, ViewSpan};
+use trace_store::{ViewResource, ViewScope, ViewSpan};
 
 /// Writes a scope with one span (trace.proto: ScopeSpans).
 #[tactic(auto, unfolding(crate::specs::Spans::scope_spans_seen))]

@@ -6,7 +6,7 @@ use Rattle.trace_tree.specs.Order.{ArePlaces}
 use Rattle.trace_tree.specs.Rows.{AreInOrder, EachAfter, HangsInTree, IsPlace}
 use Rattle.trace_tree.specs.declared.span.Row.{Row}
 use Rattle.trace_tree.specs.declared.span.TreeSpan.{TreeSpan}
-use Rattle.view_span.specs.declared.span.ViewSpan.{ViewSpan}
+use Rattle.trace_store.specs.declared.span.ViewSpan.{ViewSpan}
 use Rattle.view_pages.specs.Pages.{AreRows, AreTreeSpans, tree_view, span_view}
 
 pub as_many : {A : Type 0} (spans : List (Bor (ViewSpan A))) (tree : List TreeSpan) → AreTreeSpans spans tree → length tree ≡ length spans

@@ -6,7 +6,7 @@ use Rattle.std.specs.declared.sync.Arc.{Arc}
 use Rattle.std.specs.Borrow.{Bor}
 use Rattle.std.proofs.lemmas.Option.{slice_get-map}
 use Rattle.trace_tree.specs.declared.span.Row.{Row}
-use Rattle.view_span.specs.declared.span.ViewSpan.{ViewSpan}
+use Rattle.trace_store.specs.declared.span.ViewSpan.{ViewSpan}
 use Rattle.view_pages.specs.Html.{Html, each, ◌▹◌}
 use Rattle.view_pages.specs.Lines.{colour_for, line_for, mark_for}
 use Rattle.view_pages.specs.Pages.{AreLent}

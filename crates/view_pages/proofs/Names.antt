@@ -11,7 +11,7 @@ use Rattle.std.proofs.lemmas.List.{take_more}
 use Rattle.std.proofs.lemmas.List.Sums.{fold-append}
 use Rattle.std.proofs.lemmas.Slice.Eq.{bytes_eq-Decides}
 use Rattle.trace_tree.proofs.Ids.{place_kept, place_new, ties_is}
-use Rattle.view_span.specs.declared.span.ViewSpan.{ViewSpan}
+use Rattle.trace_store.specs.declared.span.ViewSpan.{ViewSpan}
 use Rattle.view_pages.specs.Services.{AreServices, is_named, more_services, place_of_name, services_of, with_name}
 use Rattle.view_pages.specs.Spans.{service_of}
 

@@ -6,7 +6,7 @@ use Rattle.std.specs.Borrow.{Bor}
 use Rattle.std.proofs.lemmas.List.{length-map}
 use Rattle.trace_tree.specs.Order.{ArePlaces}
 use Rattle.trace_tree.specs.declared.span.Row.{Row}
-use Rattle.view_span.specs.declared.span.ViewSpan.{ViewSpan}
+use Rattle.trace_store.specs.declared.span.ViewSpan.{ViewSpan}
 use Rattle.view_pages.specs.Html.{Html, each, html_bytes, ◌▹◌}
 use Rattle.view_pages.specs.Lines.{line_for}
 use Rattle.view_pages.specs.Pages.{AreLent, DrawsPage, end_html, head_html, start_html, title_html, trace_html}

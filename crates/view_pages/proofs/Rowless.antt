@@ -9,9 +9,9 @@ use Rattle.otlp_read.specs.declared.span.Link.{Link}
 use Rattle.otlp_read.specs.declared.span.Span.{Span}
 use Rattle.trace_tree.specs.declared.span.Place.{Place}
 use Rattle.trace_tree.specs.declared.span.Place.TheVariants.{Root, Child, Orphan, Cycle}
-use Rattle.view_span.specs.declared.span.ViewResource.{ViewResource}
-use Rattle.view_span.specs.declared.span.ViewScope.{ViewScope}
-use Rattle.view_span.specs.declared.span.ViewSpan.{ViewSpan}
+use Rattle.trace_store.specs.declared.span.ViewResource.{ViewResource}
+use Rattle.trace_store.specs.declared.span.ViewScope.{ViewScope}
+use Rattle.trace_store.specs.declared.span.ViewSpan.{ViewSpan}
 use Rattle.view_pages.specs.Html.{Html, each}
 use Rattle.view_pages.specs.Pages.{axis_html, counts_html, head_html, start_html, title_html}
 use Rattle.view_pages.specs.Dates.{date_html, fraction_html, hour_html, moment_html, three_html, two_html}

@@ -2,7 +2,7 @@
 use Rattle.std.specs.Prelude.{ℕ, false, Option, Some, None, List, slice_get}
 use Rattle.std.specs.Borrow.{Bor}
 use Rattle.trace_tree.specs.declared.span.Row.{Row}
-use Rattle.view_span.specs.declared.span.ViewSpan.{ViewSpan}
+use Rattle.trace_store.specs.declared.span.ViewSpan.{ViewSpan}
 use Rattle.view_pages.specs.Repeats.{mark_of}
 use Rattle.view_pages.specs.Services.{colour_of, services_of}
 use Rattle.view_pages.specs.Spans.{service_of}

@@ -9,9 +9,9 @@ use Rattle.std.specs.Int.{w128, to_be_bytes}
 use Rattle.std.specs.List.{list_any, starts_with}
 use Rattle.std.specs.Str.{bytes_eq}
 use Rattle.std.specs.declared.sync.Arc.{Arc}
-use Rattle.view_span.specs.Digests.{TraceFacts}
-use Rattle.view_span.specs.Facts.{service_of}
-use Rattle.view_span.specs.declared.span.ViewSpan.{ViewSpan}
+use Rattle.trace_store.specs.Digests.{TraceFacts}
+use Rattle.trace_store.specs.Facts.{service_of}
+use Rattle.trace_store.specs.declared.span.ViewSpan.{ViewSpan}
 use Rattle.view_pages.specs.Dates.{second_html}
 use Rattle.view_pages.specs.Html.{Html, Nothing, Markup, Text, Number, Digits, ◌▹◌, each}
 use Rattle.view_pages.specs.Pages.{start_html}

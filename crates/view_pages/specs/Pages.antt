@@ -9,7 +9,7 @@ use Rattle.trace_tree.specs.Order.{ArePlaces}
 use Rattle.trace_tree.specs.Rows.{AreInOrder, EachAfter, HangsInTree, IsPlace}
 use Rattle.trace_tree.specs.declared.span.Row.{Row}
 use Rattle.trace_tree.specs.declared.span.TreeSpan.{TreeSpan}
-use Rattle.view_span.specs.declared.span.ViewSpan.{ViewSpan}
+use Rattle.trace_store.specs.declared.span.ViewSpan.{ViewSpan}
 use Rattle.view_pages.specs.Html.{Html, html_bytes, Markup, Number, Digits, ◌▹◌, each}
 use Rattle.view_pages.specs.Rows.{page_rows, row_html}
 use Rattle.view_pages.specs.Spans.{frame_of, is_error}

@@ -5,7 +5,7 @@ use Rattle.std.specs.Arc.{arc_value}
 use Rattle.std.specs.Borrow.{Bor}
 use Rattle.std.specs.declared.sync.Arc.{Arc}
 use Rattle.trace_tree.specs.declared.span.Row.{Row}
-use Rattle.view_span.specs.declared.span.ViewSpan.{ViewSpan}
+use Rattle.trace_store.specs.declared.span.ViewSpan.{ViewSpan}
 use Rattle.view_pages.specs.Html.{Html, Nothing, ◌▹◌, each}
 use Rattle.view_pages.specs.Lines.{line_for}
 use Rattle.view_pages.specs.Pages.{AreLent, AreRows, end_html, head_html}

@@ -7,7 +7,7 @@ use Rattle.otlp_read.specs.declared.span.Span.{Span}
 use Rattle.trace_tree.specs.declared.span.Place.{Place}
 use Rattle.trace_tree.specs.declared.span.Place.TheVariants.{Root, Child, Orphan, Cycle}
 use Rattle.trace_tree.specs.declared.span.Row.{Row}
-use Rattle.view_span.specs.declared.span.ViewSpan.{ViewSpan}
+use Rattle.trace_store.specs.declared.span.ViewSpan.{ViewSpan}
 use Rattle.view_pages.specs.Html.{Html, Nothing, Markup, Text, Number, Digits, ◌▹◌, each}
 use Rattle.view_pages.specs.Panels.{panel_html}
 use Rattle.view_pages.specs.Lines.{line_for}

@@ -6,7 +6,7 @@ use Rattle.std.specs.BTreeMap.{BTreeMap, get, btree_map_len}
 use Rattle.std.specs.Cmp.Lexicographic.{slice_cmp}
 use Rattle.std.specs.Ordering.{nat_cmp}
 use Rattle.std.specs.Str.{bytes_eq}
-use Rattle.view_span.specs.declared.span.ViewSpan.{ViewSpan}
+use Rattle.trace_store.specs.declared.span.ViewSpan.{ViewSpan}
 use Rattle.view_pages.specs.Spans.{service_of}
 
 -- whether a service has this name

@@ -9,7 +9,7 @@ use Rattle.model_message.specs.AnyValue.{AnyValue}
 use Rattle.otlp_read.specs.declared.any_value.AnyValue.{AnyValue as Received}
 use Rattle.otlp_read.specs.Values.{any_value_view}
 use Rattle.otlp_read.specs.declared.span.Span.{Span}
-use Rattle.view_span.specs.declared.span.ViewSpan.{ViewSpan}
+use Rattle.trace_store.specs.declared.span.ViewSpan.{ViewSpan}
 use Rattle.view_pages.specs.declared.times.Frame.{Frame}
 
 -- the text of a value, if it is one

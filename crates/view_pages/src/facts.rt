@@ -8,7 +8,7 @@ ghost use Rattle.view_pages.specs.Spans as spec;
 use crate::times::Frame;
 use otlp_read::{AnyValue, Span};
 use std::alloc::Allocator;
-use view_span::ViewSpan;
+use trace_store::ViewSpan;
 
 /// The text of a value, if it is one.
 fn text_in<A: Allocator>(value: &AnyValue<A>) -> Option<&str>

@@ -15,7 +15,7 @@ use std::alloc::{Allocator, Global};
 use std::collections::LinkedList;
 use std::sync::Arc;
 use thiserror::Error;
-use view_span::{ViewSpan, service_of};
+use trace_store::{ViewSpan, service_of};
 
 /// Which traces are in the list: those that pass each test.
 #[derive(Drop)]

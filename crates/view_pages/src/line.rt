@@ -12,7 +12,7 @@ use otlp_ids::OutOfMemory;
 use std::alloc::Allocator;
 use std::collections::BTreeMap;
 use trace_tree::Row;
-use view_span::ViewSpan;
+use trace_store::ViewSpan;
 
 /// A row, with what its span is among the others of its trace.
 #[derive(Clone, Copy)]

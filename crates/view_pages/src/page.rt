@@ -10,7 +10,7 @@ use crate::html::{push_digits, push_markup, push_number};
 use crate::times::{Frame, push_duration};
 use otlp_ids::OutOfMemory;
 use std::alloc::Allocator;
-use view_span::ViewSpan;
+use trace_store::ViewSpan;
 
 /// Appends what each page begins with, up to its title.
 pub(crate) fn push_start<A: Allocator>(out: &mut String<A>) -> Result<(), OutOfMemory>

@@ -19,7 +19,7 @@ use otlp_ids::OutOfMemory;
 use otlp_read::{AnyValue, Event, Link, Span, Status};
 use std::alloc::Allocator;
 use trace_tree::Place;
-use view_span::{ViewResource, ViewScope, ViewSpan};
+use trace_store::{ViewResource, ViewScope, ViewSpan};
 
 /// Appends how many parts the sender dropped, unless it is none.
 #[tactic(auto, unfolding(crate::specs::Html::html_bytes, crate::specs::Panels::dropped_html))]

@@ -17,7 +17,7 @@ use crate::tree::{lend, rows_of};
 use otlp_ids::OutOfMemory;
 use std::alloc::{Allocator, Global};
 use std::sync::Arc;
-use view_span::ViewSpan;
+use trace_store::ViewSpan;
 
 /// A piece ends with the row with which it has so many bytes.
 const PIECE: usize = 65_536;

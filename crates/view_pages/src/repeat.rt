@@ -9,7 +9,7 @@ ghost use Rattle.view_pages.specs.Repeats.{AreUses, mark_by, next_use};
 use otlp_ids::OutOfMemory;
 use std::alloc::Allocator;
 use std::collections::BTreeMap;
-use view_span::ViewSpan;
+use trace_store::ViewSpan;
 
 /// How an identifier is used in a list of spans.
 #[derive(Clone, Copy)]

@@ -19,7 +19,7 @@ use otlp_read::{Event, Span};
 use std::alloc::Allocator;
 use std::sync::Arc;
 use trace_tree::Place;
-use view_span::ViewSpan;
+use trace_store::ViewSpan;
 
 /// Appends words where something holds.
 #[tactic(auto, unfolding(crate::specs::Html::html_bytes, crate::specs::Rows::remark_html))]

@@ -10,7 +10,7 @@ use crate::facts::service_of;
 use otlp_ids::OutOfMemory;
 use std::alloc::Allocator;
 use std::collections::BTreeMap;
-use view_span::ViewSpan;
+use trace_store::ViewSpan;
 
 /// Adds a name at the next place, unless it has one.
 fn add_name<'a, A: Allocator + Copy>(

@@ -3,7 +3,7 @@
 ghost use Rattle.view_pages.specs.Lists.{IsSummary, IsSummaryBy};
 
 use std::alloc::Allocator;
-use view_span::{TraceDigest, ViewSpan, service_of};
+use trace_store::{TraceDigest, ViewSpan, service_of};
 
 /// What the list says of a trace.
 #[derive(Clone, Copy)]

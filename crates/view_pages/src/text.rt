@@ -9,7 +9,7 @@ use crate::tree::tree_spans;
 use otlp_ids::OutOfMemory;
 use std::alloc::Allocator;
 use trace_tree::{arrange, write_tree};
-use view_span::ViewSpan;
+use trace_store::ViewSpan;
 
 /// How many columns the bars of the text of a trace have.
 const TEXT_WIDTH: usize = 40;

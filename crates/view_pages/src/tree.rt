@@ -11,7 +11,7 @@ use otlp_ids::OutOfMemory;
 use std::alloc::Allocator;
 use std::sync::Arc;
 use trace_tree::{Row, TreeSpan, arrange};
-use view_span::ViewSpan;
+use trace_store::ViewSpan;
 
 /// What the tree needs of a span.
 fn tree_span<'a, A: Allocator>(span: &'a ViewSpan<A>) -> TreeSpan<'a>

@@ -2,3 +2,4 @@ mod Received
 mod Strips
 mod Sums
 mod Zips
+pub mod Written

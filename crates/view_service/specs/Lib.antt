@@ -3,3 +3,5 @@ pub mod Receives
 pub mod Routes
 pub mod Serves
 pub mod Shows
+pub mod Drawn
+pub mod Listed

@@ -10,10 +10,10 @@ use Rattle.http_uri.specs.Uri.{uri_path}
 use Rattle.model_message.specs.Messages.{meaning}
 use Rattle.model_message.specs.Reading.{Reads}
 use Rattle.model_message.specs.Tables
-use Rattle.otlp_message.specs.Faults.{NamesOne}
-use Rattle.otlp_message.specs.declared.fault.ReadFault.{ReadFault}
-use Rattle.otlp_message.specs.declared.fault.ReadFault.TheVariants.{BadUtf8, OutOfMemory, TooDeep}
-use Rattle.otlp_message.specs.declared.fault.ReadFault.TheVariants.{Wire}
+use Rattle.otlp_wire.specs.Faults.{NamesOne}
+use Rattle.otlp_wire.specs.declared.fault.ReadFault.{ReadFault}
+use Rattle.otlp_wire.specs.declared.fault.ReadFault.TheVariants.{BadUtf8, OutOfMemory, TooDeep}
+use Rattle.otlp_wire.specs.declared.fault.ReadFault.TheVariants.{Wire}
 use Rattle.otlp_read.specs.Requests.{request_view}
 use Rattle.otlp_read.specs.declared.request.Request.{Request}
 use Rattle.otlp_serve.specs.Answers.{refusal_of}
@@ -28,11 +28,11 @@ use Rattle.view_reply.specs.declared.denial.Denial.TheVariants as denials
 use Rattle.view_reply.specs.declared.format.Format.{Format}
 use Rattle.view_service.specs.declared.receive.Unread.{Unread}
 use Rattle.view_service.specs.declared.receive.Unread.TheVariants as reasons
-use Rattle.view_span.specs.Memory.{request_size}
-use Rattle.view_span.specs.Parts.{keys_of}
-use Rattle.view_span.specs.Requests.{IsOfOneTrace, spans_of_parts, spans_of_request}
-use Rattle.view_span.specs.Sizes.{at_most_64_bits}
-use Rattle.view_span.specs.declared.span.ViewSpan.{ViewSpan}
+use Rattle.trace_store.specs.Memory.{request_size}
+use Rattle.trace_store.specs.SpanParts.{keys_of}
+use Rattle.trace_store.specs.Requests.{IsOfOneTrace, spans_of_parts, spans_of_request}
+use Rattle.trace_store.specs.Sizes.{at_most_64_bits}
+use Rattle.trace_store.specs.declared.span.ViewSpan.{ViewSpan}
 
 -- spans by their traces: each part a trace and spans of it
 abbrev pub Parts : Type 0 → Type 0

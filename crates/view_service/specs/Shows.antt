@@ -20,7 +20,7 @@ use Rattle.view_service.specs.declared.route.Route.{Route}
 use Rattle.view_service.specs.declared.route.Route.TheVariants as routes
 use Rattle.view_service.specs.declared.show.Shown.{Shown}
 use Rattle.view_service.specs.declared.show.Shown.TheVariants as outcomes
-use Rattle.view_span.specs.Keys.{trace_key}
+use Rattle.trace_store.specs.Keys.{trace_key}
 
 -- the methods that pages have
 unfoldable pub is_read : List ℕ → Bool

@@ -2,23 +2,36 @@
 //! `POST /v1/traces` (OTLP Specification, "OTLP/HTTP"), and what is kept is read by `GET`.
 //! [`ViewService`] is what an `http_connection` calls. What keeps the spans is a [`TraceKeeper`],
 //! and what writes the pages a [`Pages`].
+//!
+//! The site of `trace-view`: the pages of `view_pages`, and the answers for programs of
+//! `view_json`, as `view_service` asks for them.
 #![tactic(auto)]
 
+mod counts;
 mod filter;
 mod keeper;
+mod lists;
+mod page;
 mod pages;
 mod receive;
 mod route;
+mod script;
 mod service;
 mod shared;
 mod show;
+mod site;
+mod site_filter;
+mod spans;
 
 pub use account_book::{Blank, Naming};
 pub use filter::TraceFilter;
 pub use keeper::{Counts, Listed, TraceKeeper};
+pub use page::SitePage;
 pub use pages::{Asked, ListForm, Pages, TraceForm};
 pub use route::{Route, route_of};
 pub use service::ViewService;
 pub use shared::{KeptSpans, SharedKeeper, SpansKept, share};
 pub use show::Shown;
+pub use site::Site;
+pub use site_filter::SiteFilter;
 pub use view_reply::{Denial, Format, Hosts, Tallies};

@@ -15,9 +15,8 @@ use otlp_read::{ReadFault, read_request};
 use otlp_serve::{PostReply, ReplyStatus};
 use std::alloc::{AllocError, Global};
 use std::sync::Arc;
-use trace_store::Part;
+use trace_store::{Part, TraceDigest, ViewSpan, request_size, take_apart};
 use view_reply::{Denial, Format, denial_format, fill_denial, fill_taken};
-use view_span::{TraceDigest, ViewSpan, request_size, take_apart};
 
 /// The spans of a request, by their traces.
 type Parts = Vec<Part<Arc<ViewSpan>, Global>>;

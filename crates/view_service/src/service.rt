@@ -22,7 +22,7 @@ use http_server::Response;
 use std::alloc::{AllocError, Global};
 use std::sync::Arc;
 use view_reply::{Denial, Hosts, Tallies, denial_format, fill_denial, is_export_path, path_of};
-use view_span::{TraceDigest, ViewSpan};
+use trace_store::{TraceDigest, ViewSpan};
 
 /// Receives spans by `POST /v1/traces`, and shows by `GET` what its keeper has.
 ///

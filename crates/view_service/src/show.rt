@@ -7,7 +7,7 @@ ghost use Rattle.view_service.specs.Receives.{path_of};
 ghost use Rattle.view_service.specs.Routes.{Names};
 ghost use Rattle.view_service.specs.Shows as spec;
 ghost use Rattle.view_service.specs.Shows.{AnswersPage, FitsRoute, IsPage, ShowsRoute, ShowsTrace};
-ghost use Rattle.view_span.specs.Keys.{trace_key};
+ghost use Rattle.trace_store.specs.Keys.{trace_key};
 
 use crate::keeper::TraceKeeper;
 use crate::pages::{Asked, ListForm, Pages, TraceForm};
@@ -22,7 +22,7 @@ use std::sync::Arc;
 use view_reply::{
     Denial, Format, Tallies, add_format, asked_host, denial_format, fill_denial, path_of,
 };
-use view_span::{TraceDigest, ViewSpan, trace_key};
+use trace_store::{TraceDigest, ViewSpan, trace_key};
 
 /// The list shows so many traces at most.
 const LISTED: usize = 1_000;

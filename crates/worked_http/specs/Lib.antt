@@ -3,3 +3,5 @@ pub mod Collectors
 pub mod Meanings
 pub mod Posted
 pub mod Replied
+pub mod OtherRules
+pub mod TraceIds

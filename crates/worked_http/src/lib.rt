@@ -4,6 +4,14 @@
 //!
 //! Each function is a group of examples. Its clauses are the examples, and it does nothing when it
 //! is called.
+//!
+//! Worked examples of settings (crates `otel_settings` and `otel_settings`) and of sampling by a
+//! ratio (crate `otlp_sampler`): names, values, texts, thresholds and trace ids, with what is read
+//! or becomes of each written out by hand. The checker computes what the definitions make of them,
+//! and compares.
+//!
+//! Each function without an argument is a group of examples. Its clauses are the examples, and it
+//! does nothing when it is called.
 #![tactic(auto)]
 
 pub mod chunks;
@@ -13,6 +21,9 @@ pub mod fields;
 pub mod outcomes;
 pub mod places;
 pub mod posts;
+pub mod ratios;
 pub mod replies;
 pub mod requests;
+pub mod resources;
+pub mod settings;
 pub mod targets;

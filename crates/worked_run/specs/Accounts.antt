@@ -3,7 +3,7 @@
 -- on the second pass, which pops the entry of 2 and shuts down, and one that ends after that is
 -- late.
 use Rattle.std.specs.Prelude.{ℕ, List, [], ◌∷◌, Option, Some, None, false}
-use Rattle.model_drop.specs.Dropped.{Reason}
+use Rattle.model_span.specs.Dropped.{Reason}
 use Rattle.model_retry.specs.Retries.{Outcome, later, Fate}
 use Rattle.model_retry.specs.Waits.{RetryConfig}
 use Rattle.worked_run.specs.Histories.{named, span_at}

@@ -2,7 +2,7 @@
 use Rattle.std.specs.Prelude.{ℕ, ◌+◌, List, [], ◌∷◌, ◌++◌, map, replicate, Bool, false, Option}
 use Rattle.std.specs.Prelude.{None, Some}
 use Rattle.model_span.specs.Spans.{internal, unset, SpanData}
-use Rattle.model_drop.specs.Dropped.{Reason, Entry}
+use Rattle.model_span.specs.Dropped.{Reason, Entry}
 use Rattle.model_retry.specs.Retries.{Fate}
 use Rattle.model_desk.specs.Queue.{DeskEvent, queued, full, flush, taken, handed, settled}
 use Rattle.model_desk.specs.Queue.{waiting_spans, batch_spans, ledger_entries, popped_entries}

@@ -8,7 +8,7 @@ use lib.Utf8.{encode}
 use Prim.Native.String.{String}
 use Rattle.model_message.specs.Canon.{canon, septets_of}
 use Rattle.model_span.specs.Attributes.{Attribute, int}
-use Rattle.model_drop.specs.Dropped.{Reason, Entry}
+use Rattle.model_span.specs.Dropped.{Reason, Entry}
 use Rattle.model_span.specs.Identifiers.{Words, first_valid}
 use Rattle.model_span.specs.Sampling.{SamplerMeaning, always_on}
 use Rattle.model_span.specs.Spans as spans

@@ -2,7 +2,7 @@
 //! lengths are here.
 
 ghost use Rattle.std.specs.Prelude.{◌≡◌, [], ◌∷◌, ◌++◌, pos, Some, None};
-ghost use Rattle.model_drop.specs.Dropped.{encode_memory, too_large, refused, bad_reply, given_up};
+ghost use Rattle.model_span.specs.Dropped.{encode_memory, too_large, refused, bad_reply, given_up};
 ghost use Rattle.model_span.specs.Sampling.{always_on};
 ghost use Rattle.model_retry.specs.Retries.{Outcome, later, no_reply, bad, seconds, Next, give_up};
 ghost use Rattle.model_retry.specs.Retries.{Cause, attempts};

@@ -1,7 +1,7 @@
 //! What passes know (profile).
 
 ghost use Rattle.std.specs.Prelude.{◌≡◌, ◌-◌, ◌^◌, [], ◌∷◌, Some, None, true, false};
-ghost use Rattle.model_drop.specs.Dropped.{abandoned, left_handed, queue_full};
+ghost use Rattle.model_span.specs.Dropped.{abandoned, left_handed, queue_full};
 ghost use Rattle.worked_run.specs.Histories.{named, span_at};
 ghost use Rattle.model_processor.specs.Passes.{after_pop_lost, all_dropped, all_popped};
 ghost use Rattle.model_processor.specs.Passes.{all_popped_lost, all_accepted, all_tickets, drops};

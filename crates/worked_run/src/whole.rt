@@ -3,7 +3,7 @@
 //! queue full, one is in a batch that is out, one waits, and one is late.
 
 ghost use Rattle.std.specs.Prelude.{◌≡◌, [], ◌∷◌, ◌++◌, Some, None, true, false};
-ghost use Rattle.model_drop.specs.Dropped.{queue_full};
+ghost use Rattle.model_span.specs.Dropped.{queue_full};
 ghost use Rattle.model_retry.specs.Retries.{Outcome, Fate};
 ghost use Rattle.model_desk.specs.Queue as desk;
 ghost use Rattle.model_run.specs.Answers.{not_out, to_encode, to_send, to_judge, AreAnswers};

@@ -2,7 +2,7 @@
 //! Response).
 
 ghost use Rattle.std.specs.Prelude.{◌≡◌, [], ◌∷◌, pos, Some, None};
-ghost use Rattle.model_drop.specs.Dropped as names;
+ghost use Rattle.model_span.specs.Dropped as names;
 ghost use Rattle.model_retry.specs.Retries.{Fate, Outcome, given_up, later, no_reply};
 ghost use Rattle.worked_run.specs.Histories.{named};
 ghost use Rattle.model_processor.specs.Worker.{dropped_spans, fates, handed_spans, numbers};

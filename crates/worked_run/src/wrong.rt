@@ -2,7 +2,7 @@
 //! ledger: profile). Each breaks one of the conditions that the right one meets.
 
 ghost use Rattle.std.specs.Prelude.{◌≡◌, [], ◌∷◌, ◌++◌, None};
-ghost use Rattle.model_drop.specs.Dropped.{too_large};
+ghost use Rattle.model_span.specs.Dropped.{too_large};
 ghost use Rattle.model_retry.specs.Retries.{Outcome};
 ghost use Rattle.model_run.specs.Runs.{Answer, not_taken, nothing};
 ghost use Rattle.model_run.specs.Answers.{AreAnswers};

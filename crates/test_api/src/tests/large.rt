@@ -4,10 +4,9 @@ use crate::tests::short_calls::built;
 use crate::tests::spans::only_span;
 use otlp_sampler::AlwaysOn;
 use otlp_value::Value;
-use span_ext::{KeyValue, SpanExt};
+use trace_api::{BodyPass, Ended, KeyValue, SpanExt};
 use std::alloc::{Allocator, Global};
 use std::process::Abort;
-use trace_api::{BodyPass, Ended};
 
 const MANY: usize = 1_000;
 

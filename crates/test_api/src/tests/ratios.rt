@@ -3,8 +3,7 @@
 use crate::tests::equal::{assert_displayed, assert_equal};
 use crate::tests::samplers::decision_on;
 use otlp_ids::TraceId;
-use otlp_sampler::Decision;
-use ratio_sampler::{RatioFault, TraceIdRatio};
+use otlp_sampler::{Decision, RatioFault, TraceIdRatio};
 
 /// The threshold of a ratio, or why it is refused.
 fn threshold_of(ratio: Result<TraceIdRatio, RatioFault>) -> Result<u64, RatioFault> {

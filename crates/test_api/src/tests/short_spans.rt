@@ -3,10 +3,9 @@ use crate::tests::spans::{START, provider, remote, scope};
 use otlp_ids::{OutOfMemory, SpanContext};
 use otlp_sampler::Sampler;
 use otlp_span::{Kind, SpanLimits};
-use span_ext::{KeyValue, LinkRef, SpanExt, SpanRequest, ValueRef, start_span};
+use trace_api::{KeyValue, LinkRef, Span, SpanExt, SpanRequest, StartFault, ValueRef, WordsRng, start_span};
 use std::alloc::Allocator;
 use std::process::Abort;
-use trace_api::{Span, StartFault, WordsRng};
 
 const MISS: u64 = 1_500;
 

@@ -2,7 +2,7 @@
 
 use crate::tests::equal::{assert_displayed, assert_equal};
 use otlp_value::Value;
-use resource_text::{ResourceFault, resource_attributes, resource_pairs};
+use otel_settings::{ResourceFault, resource_attributes, resource_pairs};
 use std::alloc::Allocator;
 use std::process::Abort;
 use test_support::FailingAllocator;

@@ -4,10 +4,9 @@
 
 use crate::tests::equal::assert_equal;
 use crate::tests::fixture::{TYPE, joined, reply_text, wire};
-use otlp_collector::{Answered, Canned, CannedStatus, PrintFault, answer};
+use otlp_collector::{Answered, Canned, CannedStatus, PrintFault, answer, run_collector, serve};
 use otlp_http::FailingCalls;
 use otlp_serve::{HeadLimits, Stopped};
-use program_collector_parts::{run_collector, serve};
 use std::alloc::{Allocator, Global};
 use std::io;
 use std::io::Write;

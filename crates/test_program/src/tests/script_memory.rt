@@ -1,7 +1,7 @@
 //! The program `trace-script` where memory is refused to it once, at each place in turn.
 use crate::tests::equal::assert_equal;
 use linked_list_allocator::LocalHeap;
-use program_script_parts::script;
+use trace_script::script;
 use std::alloc::{Allocator, Global};
 use std::process::Abort;
 use test_support::FailingAllocator;

@@ -5,7 +5,7 @@ use crate::tests::equal::assert_equal;
 use crate::tests::ring::new_ring;
 use batch_desk::DeskConfig;
 use linked_list_allocator::LocalHeap;
-use name_sink::NewestNames;
+use drop_ledger::NewestNames;
 use span_ring::{MAX_QUEUE, RingFault, SpanRing};
 use std::alloc::{Allocator, Global};
 use std::process::Abort;

@@ -2,7 +2,7 @@
 use crate::tests::equal::{assert_equal, assert_shown};
 use crate::tests::ring::assert_send;
 use crate::tests::spans::name;
-use name_sink::{DEFAULT_NAMES, NameLines, NameSink, NewestNames, ReasonCounts};
+use drop_ledger::{DEFAULT_NAMES, NameLines, NameSink, NewestNames, ReasonCounts};
 use otlp_span::{Entry, Reason};
 use std::alloc::Allocator;
 use std::collections::vec_deque::Iter;

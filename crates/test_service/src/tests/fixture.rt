@@ -2,7 +2,7 @@
 use batch_desk::DeskConfig;
 use batch_processor::BatchConfig;
 use batch_service::{NamingPass, ServicePass, Work};
-use name_sink::NewestNames;
+use drop_ledger::NewestNames;
 use otlp_ids::OutOfMemory;
 use otlp_sampler::AlwaysOn;
 use otlp_span::{Kind, Resource, Scope, SpanData, SpanLimits};

@@ -5,7 +5,7 @@ use crate::tests::equal::assert_equal;
 use crate::tests::fixture::{answered, config, end_spans, names};
 use batch_processor::{BatchBlank, Flushed, Naming};
 use batch_service::{Service, StartFault, Started};
-use name_sink::NewestNames;
+use drop_ledger::NewestNames;
 use span_exporter::MemoryExporter;
 use std::alloc::Global;
 use std::marker::Brand;

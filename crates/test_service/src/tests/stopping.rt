@@ -3,7 +3,7 @@ use crate::tests::equal::assert_equal;
 use crate::tests::fixture::{Ends, Slow, answered, config, names};
 use batch_processor::WorkEnd;
 use batch_service::{Done, Served, StartFault, serve_within};
-use name_sink::NewestNames;
+use drop_ledger::NewestNames;
 use otlp_span::Reason;
 use retry_core::{Outcome, RetryAfter};
 use std::process::Abort;

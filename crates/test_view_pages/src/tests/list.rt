@@ -6,11 +6,10 @@ use std::alloc::{Allocator, Global};
 use std::sync::Arc;
 use std::test::Fail;
 use test_support::FailingAllocator;
-use trace_store::Digest;
+use trace_store::{Digest, TraceDigest, ViewSpan};
 use view_pages::{
     Filter, FilterFault, STYLE, Summary, summary_of_digest, write_list_page, write_notice_page,
 };
-use view_span::{TraceDigest, ViewSpan};
 
 /// A trace of three spans, of which one is an error, that took 1,500 ms.
 const ALL: [Made<'static>; 3] = [

@@ -3,7 +3,7 @@ use otlp_ids::OutOfMemory;
 use otlp_read::{AnyValue, Event, InstrumentationScope, Link, Resource, Span, Status};
 use std::alloc::Allocator;
 use std::sync::Arc;
-use view_span::{ViewResource, ViewScope, ViewSpan};
+use trace_store::{ViewResource, ViewScope, ViewSpan};
 
 /// When the first span starts, in nanoseconds since 1970.
 const BASE: u64 = 1_790_000_000_000_000_000;

@@ -8,7 +8,7 @@ use std::collections::LinkedList;
 use std::sync::Arc;
 use std::test::Fail;
 use view_pages::Filter;
-use view_span::{ViewResource, ViewSpan};
+use trace_store::{ViewResource, ViewSpan};
 
 /// A root.
 const ROOT: [Made<'static>; 1] = [Made {

@@ -1,5 +1,5 @@
 use Rattle.std.proofs.Common.{◌≡◌, ◌∙◌, ◌+◌, ◌++◌, ◌∷◌, add-one, ap, arith, length, option_to_list, sym}
-use Rattle.model_drop.specs.Dropped.{entry_of}
+use Rattle.model_span.specs.Dropped.{entry_of}
 use Rattle.otlp_span.specs.Dropped.{reason_view}
 use Rattle.batch_desk.proofs.Names.{names-first}
 use Rattle.batch_desk.proofs.named.names_of.Goals as goal

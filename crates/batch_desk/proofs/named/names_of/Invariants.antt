@@ -1,6 +1,6 @@
 use Rattle.std.proofs.Common.{◌≡◌, ◌+◌, ◌++◌, length}
 use Rattle.std.specs.Prelude.{map, reverse}
-use Rattle.model_drop.specs.Dropped.{entry_of}
+use Rattle.model_span.specs.Dropped.{entry_of}
 use Rattle.otlp_span.specs.Dropped.{reason_view}
 use Rattle.batch_desk.proofs.named.names_of.Given as goal
 

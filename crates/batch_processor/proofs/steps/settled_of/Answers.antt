@@ -1,6 +1,6 @@
 use Rattle.std.proofs.Common.{ap, sym, ◌∙◌, List}
 use Rattle.std.specs.Prelude.{option_map}
-use Rattle.model_drop.specs.Dropped.{Entry}
+use Rattle.model_span.specs.Dropped.{Entry}
 use Rattle.otlp_span.specs.Dropped.{reason_view}
 use Rattle.retry_core.specs.Retries.{fate_view}
 use Rattle.batch_desk.specs.Batch.{settled_batch}

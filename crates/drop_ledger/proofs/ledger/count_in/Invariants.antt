@@ -1,5 +1,5 @@
 use Rattle.std.proofs.Common.{◌≡◌, ◌+◌, ◌≤◌, length}
-use Rattle.model_drop.specs.Dropped.{count_of_reason}
+use Rattle.model_span.specs.Dropped.{count_of_reason}
 use Rattle.otlp_span.specs.Dropped.{reason_view}
 use Rattle.drop_ledger.proofs.ledger.count_in.Given as goal
 

@@ -1,7 +1,7 @@
 use Rattle.std.proofs.Common.{refl, Some, codes}
 use Rattle.std.specs.Fmt.{digits}
 use Rattle.otlp_collector.specs.Answering.{taken, unread}
-use Rattle.otlp_message.specs.declared.fault.ReadFault.TheVariants.{OutOfMemory}
+use Rattle.otlp_wire.specs.declared.fault.ReadFault.TheVariants.{OutOfMemory}
 use Rattle.otlp_serve.specs.Answers.{plain_reply}
 use Rattle.otlp_serve.specs.Replies.{reply_front}
 use Rattle.otlp_serve.specs.declared.status.ReplyStatus.TheVariants.{Ok}

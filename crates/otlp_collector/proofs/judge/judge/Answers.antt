@@ -2,7 +2,7 @@ use Rattle.std.proofs.Common.{ap, refl, subst, sym, Some}
 use Rattle.model_message.specs.Reading.{Reads}
 use Rattle.model_message.specs.Messages.{meaning}
 use Rattle.model_message.specs.Tables
-use Rattle.otlp_message.specs.Faults.{NamesOne}
+use Rattle.otlp_wire.specs.Faults.{NamesOne}
 use Rattle.otlp_read.specs.Requests.{request_view}
 use Rattle.otlp_serve.specs.Posts.{post_view}
 use Rattle.otlp_collector.specs.Answering.{no_post, refused, taken, unread}

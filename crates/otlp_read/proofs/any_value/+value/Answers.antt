@@ -8,14 +8,14 @@ use Rattle.model_message.specs.Messages.{value, value_of, read, payloads, utf8}
 use Rattle.model_message.specs.AnyValue.{AnyValue, as_pairs}
 use Rattle.std.specs.List.{Contains}
 use Rattle.otlp_wire.specs.Fields.{GivesField, field_of}
-use Rattle.otlp_message.specs.Faults.{NamesOne}
-use Rattle.otlp_message.specs.Gathering.{IsGathered, IsKept, part_faults}
+use Rattle.otlp_wire.specs.Faults.{NamesOne}
+use Rattle.otlp_wire.specs.Gathering.{IsGathered, IsKept, part_faults}
 use Rattle.otlp_read.specs.Members.{parts_view, members_from_last, Holds, Runs}
 use Rattle.otlp_read.specs.Values.{any_value_view, values_view, pair_view, pairs_view}
-use Rattle.otlp_message.specs.declared.fault.ReadFault.TheVariants.{Wire}
-use Rattle.otlp_message.proofs.FieldsRead.{read-more}
-use Rattle.otlp_message.proofs.GatherSteps.{Behind, behind-more, row-fails, field-fails, kept-part}
-use Rattle.otlp_message.proofs.Finished.{on-err, on-ok}
+use Rattle.otlp_wire.specs.declared.fault.ReadFault.TheVariants.{Wire}
+use Rattle.otlp_wire.proofs.FieldsRead.{read-more}
+use Rattle.otlp_wire.proofs.GatherSteps.{Behind, behind-more, row-fails, field-fails, kept-part}
+use Rattle.otlp_wire.proofs.Finished.{on-err, on-ok}
 use Rattle.otlp_read.proofs.ValueViews.{view-Empty, view-Text, view-Bool, view-Int, view-Double, view-Pairs, view-Bytes}
 use Rattle.otlp_read.proofs.PairSteps.{is-too-deep}
 use Rattle.otlp_read.proofs.PairValues.{is-done, is-reading, row-of-value, one-value-read, key-fails, value-fails, pair-read, pair-value, pair-no-value}

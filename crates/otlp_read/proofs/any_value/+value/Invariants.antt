@@ -4,10 +4,10 @@ use Rattle.model_message.specs.Tables
 use Rattle.model_message.specs.Tables.{message, ◌▸◌}
 use Rattle.model_message.specs.Messages.{value}
 use Rattle.otlp_read.specs.Values.{values_view, pairs_view}
-use Rattle.otlp_message.specs.Gathering.{IsGathered, IsKept}
+use Rattle.otlp_wire.specs.Gathering.{IsGathered, IsKept}
 use Rattle.otlp_read.specs.Members.{parts_view}
-use Rattle.otlp_message.proofs.FieldsRead.{FieldsRead}
-use Rattle.otlp_message.proofs.GatherSteps.{Behind}
+use Rattle.otlp_wire.proofs.FieldsRead.{FieldsRead}
+use Rattle.otlp_wire.proofs.GatherSteps.{Behind}
 use Rattle.otlp_read.proofs.any_value.+value.Given as goal
 
 abbrev pub decreases-value_of : goal.decreases-value_of

@@ -5,11 +5,11 @@ use Rattle.model_message.specs.Tables
 use Rattle.model_message.specs.Tables.{message, repeated}
 use Rattle.model_message.specs.Messages.{value, max_depth, read, payloads}
 use Rattle.otlp_wire.specs.Fields.{field_of}
-use Rattle.otlp_message.specs.Faults.{NamesOne}
-use Rattle.otlp_message.specs.Gathering.{IsKept, field_faults}
+use Rattle.otlp_wire.specs.Faults.{NamesOne}
+use Rattle.otlp_wire.specs.Gathering.{IsKept, field_faults}
 use Rattle.otlp_read.specs.Values.{pairs_view, pair_view}
-use Rattle.otlp_message.proofs.Named.{names-within}
-use Rattle.otlp_message.proofs.GatherSteps.{repeated-skips, repeated-more, repeated-fails}
+use Rattle.otlp_wire.proofs.Named.{names-within}
+use Rattle.otlp_wire.proofs.GatherSteps.{repeated-skips, repeated-more, repeated-fails}
 use Rattle.otlp_read.proofs.any_value.push_attribute.Goals as goal
 
 pub returns-in_default-clause-ok : goal.returns-in_default-clause-ok

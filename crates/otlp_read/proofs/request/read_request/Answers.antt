@@ -2,9 +2,9 @@ use Rattle.std.proofs.Common.{◌≡◌, sym, subst, ◌∙◌, Err, IfErr, arit
 use Rattle.model_message.specs.Reading.{Reads}
 use Rattle.model_message.specs.Tables
 use Rattle.model_message.specs.Messages.{meaning}
-use Rattle.otlp_message.specs.Faults.{NamesOne}
+use Rattle.otlp_wire.specs.Faults.{NamesOne}
 use Rattle.otlp_read.specs.Requests.{request_view}
-use Rattle.otlp_message.proofs.Finished.{meaning-is, on-ok, on-err}
+use Rattle.otlp_wire.proofs.Finished.{meaning-is, on-ok, on-err}
 use Rattle.otlp_read.proofs.request.read_request.Goals as goal
 
 pub returns-in_err-parts-clause-err : goal.returns-in_err-parts-clause-err

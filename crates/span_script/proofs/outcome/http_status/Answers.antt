@@ -1,5 +1,5 @@
 use Rattle.std.proofs.Common.{rules}
-use Rattle.script_words.specs.Words.{number_below}
+use Rattle.text_words.specs.Words.{number_below}
 use Rattle.span_script.proofs.outcome.http_status.Goals as goal
 
 pub returns-in_err-number : goal.returns-in_err-number

@@ -1,7 +1,7 @@
 use Rattle.std.proofs.Common.{◌≡◌, length}
 use Rattle.otlp_value.specs.Value.{attributes_view}
 use Rattle.span_script.specs.Values.{pairs_of}
-use Rattle.script_words.proofs.Each.{words_at, behind}
+use Rattle.text_words.proofs.Each.{words_at, behind}
 use Rattle.span_script.proofs.value.parse_pairs.Given as goal
 
 abbrev pub invariant-loop-rest : goal.invariant-loop-rest

@@ -1,6 +1,6 @@
 use Rattle.std.proofs.Common.{◌≡◌, map, string_bytes}
-use Rattle.script_words.specs.Words.{each_of, text_of}
-use Rattle.script_words.proofs.Each.{words_at, behind, rest_of}
+use Rattle.text_words.specs.Words.{each_of, text_of}
+use Rattle.text_words.proofs.Each.{words_at, behind, rest_of}
 use Rattle.span_script.proofs.value.texts.Given as goal
 
 abbrev pub invariant-loop-member : goal.invariant-loop-member

@@ -1,7 +1,7 @@
 use Rattle.std.proofs.Common.{◌≡◌}
-use Rattle.script_words.specs.Words.{each_of}
+use Rattle.text_words.specs.Words.{each_of}
 use Rattle.span_script.specs.Values.{bool_of}
-use Rattle.script_words.proofs.Each.{words_at, behind, rest_of}
+use Rattle.text_words.proofs.Each.{words_at, behind, rest_of}
 use Rattle.span_script.proofs.value.truths.Given as goal
 
 abbrev pub invariant-loop-member : goal.invariant-loop-member

@@ -1,8 +1,8 @@
 use Rattle.std.proofs.Common.{◌∙◌, ◌++◌, ap, sym, arith, codes}
 use Rattle.std.specs.List.{flat_map}
 use Rattle.otlp_read.specs.declared.any_value.AnyValue.{Array, Pairs, Text}
-use Rattle.view_span.specs.Sizes.{pair_bytes}
-use Rattle.view_span.proofs.SizeSteps.{array_larger, pairs_larger, value_smaller}
+use Rattle.trace_store.specs.Sizes.{pair_bytes}
+use Rattle.trace_store.proofs.SizeSteps.{array_larger, pairs_larger, value_smaller}
 use Rattle.view_json.specs.Seen.{braces, seen, text_member}
 use Rattle.view_json.specs.Values.{nested, nested_back, nested_front, pair_seen, pair_text, value_seen}
 use Rattle.view_json.proofs.Views.{array_seen, pairs_seen, text_seen, told}

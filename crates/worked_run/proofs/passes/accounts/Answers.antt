@@ -1,6 +1,6 @@
 use Rattle.std.proofs.Common.{[], ◌∷◌, refl}
 use Rattle.std.proofs.lemmas.List.Sorted.{IsPermutation-append_comm}
-use Rattle.model_drop.specs.Dropped.{abandoned, queue_full}
+use Rattle.model_span.specs.Dropped.{abandoned, queue_full}
 use Rattle.worked_run.specs.Histories.{named}
 use Rattle.model_processor.specs.PassClauses.{NamesDrops}
 use Rattle.worked_run.proofs.passes.accounts.Goals as goal

@@ -1,6 +1,6 @@
 use Rattle.std.proofs.Common.{[], ◌∷◌, refl}
 use Rattle.std.proofs.lemmas.List.Sorted.{IsPermutation-refl}
-use Rattle.model_drop.specs.Dropped.{left_handed}
+use Rattle.model_span.specs.Dropped.{left_handed}
 use Rattle.worked_run.specs.Histories.{named}
 use Rattle.model_processor.specs.PassClauses.{NamesLosses}
 use Rattle.worked_run.proofs.passes.losses.Goals as goal

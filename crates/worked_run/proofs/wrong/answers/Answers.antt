@@ -1,6 +1,6 @@
 use Rattle.std.proofs.Common.{◌≡◌, ap, ℕ, ◌+◌, ◌∷◌, ◌++◌, take, drop, Bool, true, false, if◌then◌else◌, arith}
 use Rattle.model_message.specs.Canon.{canon, septets_of}
-use Rattle.model_drop.specs.Dropped.{encode_memory, too_large}
+use Rattle.model_span.specs.Dropped.{encode_memory, too_large}
 use Rattle.model_span.specs.Identifiers.{first_valid}
 use Rattle.model_span.specs.Spans.{span}
 use Rattle.model_span.specs.Starts.{started_span, ids_of, ids_words}

@@ -1,6 +1,6 @@
 use Rattle.std.proofs.Common.{ap, arith, sym, ◌∙◌}
 use Rattle.std.proofs.lemmas.Grind.{common_steps}
-use Rattle.model_drop.specs.Dropped.{can_drop_batch}
+use Rattle.model_span.specs.Dropped.{can_drop_batch}
 use Rattle.model_desk.specs.Desks.{is_in_hand}
 use Rattle.batch_desk.proofs.Histories.{named_follows}
 use Rattle.batch_desk.proofs.desk.Desk.drop_named.Goals as goal

@@ -1,6 +1,6 @@
 use Rattle.std.proofs.Common.{refl, subst, sym, ◌++◌}
 use Rattle.otlp_read.specs.Members.{Holds}
-use Rattle.otlp_message.proofs.OnePayload.{is-varint, is-bytes, is-fixed64}
+use Rattle.otlp_wire.proofs.OnePayload.{is-varint, is-bytes, is-fixed64}
 use Rattle.otlp_read.proofs.MemberSteps.{begins-with, runs-with, other-member, no-number}
 use Rattle.otlp_read.proofs.any_value.Member.with.Goals as goal
 use Rattle.otlp_read.proofs.any_value.Member.with.Goals.{in_default-via-in-1+in-Varint-1, in_default-via-in-2+in-I64-1, in_default-via-in-3+in-I64-1, in_default-via-in-4+in-Varint-1, in_default-via-in-5+in-Varint-1, in_default-via-in-6+in-Varint-1, in_default-via-in-7+in-Varint-1, in_default-via-in_default}

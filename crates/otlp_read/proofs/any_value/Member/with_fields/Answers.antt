@@ -1,7 +1,7 @@
 use Rattle.std.proofs.Common.{sym, ◌∙◌, subst, Some}
 use Rattle.model_message.specs.Wire.{row}
 use Rattle.otlp_wire.specs.Fields.{GivesField, field_of}
-use Rattle.otlp_message.proofs.FieldsRead.{read-none, read-more}
+use Rattle.otlp_wire.proofs.FieldsRead.{read-none, read-more}
 use Rattle.otlp_read.proofs.MemberSteps.{Leads, leads-none, leads-more}
 use Rattle.otlp_read.proofs.any_value.Member.with_fields.Goals as goal
 

@@ -1,5 +1,5 @@
 use Rattle.model_message.specs.Wire.{row}
-use Rattle.otlp_message.proofs.FieldsRead.{FieldsRead}
+use Rattle.otlp_wire.proofs.FieldsRead.{FieldsRead}
 use Rattle.otlp_read.proofs.MemberSteps.{Leads}
 use Rattle.otlp_read.proofs.any_value.Member.with_fields.Given as goal
 

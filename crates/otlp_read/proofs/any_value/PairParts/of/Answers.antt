@@ -4,11 +4,11 @@ use Rattle.model_message.specs.Tables
 use Rattle.model_message.specs.Tables.{message}
 use Rattle.model_message.specs.Messages.{value, read}
 use Rattle.otlp_wire.specs.Fields.{GivesField, field_of}
-use Rattle.otlp_message.specs.Faults.{NamesOne}
+use Rattle.otlp_wire.specs.Faults.{NamesOne}
 use Rattle.otlp_read.specs.Members.{HoldsPair}
-use Rattle.otlp_message.specs.declared.fault.ReadFault.TheVariants.{Wire}
-use Rattle.otlp_message.proofs.FieldsRead.{read-none, read-more}
-use Rattle.otlp_message.proofs.GatherSteps.{row-fails, field-fails, part-names}
+use Rattle.otlp_wire.specs.declared.fault.ReadFault.TheVariants.{Wire}
+use Rattle.otlp_wire.proofs.FieldsRead.{read-none, read-more}
+use Rattle.otlp_wire.proofs.GatherSteps.{row-fails, field-fails, part-names}
 use Rattle.otlp_read.proofs.PairSteps.{pair-none}
 use Rattle.otlp_read.proofs.any_value.PairParts.of.Goals as goal
 

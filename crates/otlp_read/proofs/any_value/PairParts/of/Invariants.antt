@@ -1,6 +1,6 @@
 use Rattle.model_message.specs.Wire.{row}
 use Rattle.otlp_read.specs.Members.{HoldsPair}
-use Rattle.otlp_message.proofs.FieldsRead.{FieldsRead}
+use Rattle.otlp_wire.proofs.FieldsRead.{FieldsRead}
 use Rattle.otlp_read.proofs.any_value.PairParts.of.Given as goal
 
 abbrev pub invariant-loop-field : goal.invariant-loop-field

@@ -1,6 +1,6 @@
 use Rattle.std.proofs.Common.{◌≡◌, refl, sym, subst, arith, rules, Err, IfErr, List, ◌∷◌, ◌++◌}
 use Rattle.model_message.specs.Wire.{Field}
-use Rattle.otlp_message.specs.Faults.{NamesOne}
+use Rattle.otlp_wire.specs.Faults.{NamesOne}
 use Rattle.model_message.specs.Tables.{text, any}
 use Rattle.otlp_wire.specs.Fields.{field_of}
 use Rattle.otlp_read.proofs.PairSteps.{pair_faults, pair-skips, pair-more, pair-too-deep, pair-row-fault}

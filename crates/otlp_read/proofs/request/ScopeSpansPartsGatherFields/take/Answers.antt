@@ -4,8 +4,8 @@ use Rattle.model_message.specs.Tables
 use Rattle.model_message.specs.Tables.{message, repeated, text, bytes, uint32, enum, fixed64}
 use Rattle.model_message.specs.Messages.{value, max_depth, read_table}
 use Rattle.otlp_wire.specs.Fields.{field_of}
-use Rattle.otlp_message.specs.Faults.{NamesOne}
-use Rattle.otlp_message.proofs.Finished.{place-fails}
+use Rattle.otlp_wire.specs.Faults.{NamesOne}
+use Rattle.otlp_wire.proofs.Finished.{place-fails}
 use Rattle.otlp_read.proofs.request.ScopeSpansPartsGatherFields.take.Goals as goal
 
 pub returns-in_err-take_in-clause-err : goal.returns-in_err-take_in-clause-err

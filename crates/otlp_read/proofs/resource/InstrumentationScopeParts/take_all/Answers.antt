@@ -5,11 +5,11 @@ use Rattle.otlp_read.specs.declared.resource.InstrumentationScopeParts.{Instrume
 use Rattle.otlp_read.specs.Resources.{scope_gathered}
 use Rattle.model_message.specs.Messages.{value, max_depth}
 use Rattle.otlp_wire.specs.Fields.{GivesField, field_of}
-use Rattle.otlp_message.specs.Faults.{NamesOne}
-use Rattle.otlp_message.specs.Gathering.{IsGathered, part_faults}
-use Rattle.otlp_message.specs.declared.fault.ReadFault.TheVariants.{Wire}
-use Rattle.otlp_message.proofs.FieldsRead.{read-more}
-use Rattle.otlp_message.proofs.GatherSteps.{Behind, behind-more, row-fails, field-fails}
+use Rattle.otlp_wire.specs.Faults.{NamesOne}
+use Rattle.otlp_wire.specs.Gathering.{IsGathered, part_faults}
+use Rattle.otlp_wire.specs.declared.fault.ReadFault.TheVariants.{Wire}
+use Rattle.otlp_wire.proofs.FieldsRead.{read-more}
+use Rattle.otlp_wire.proofs.GatherSteps.{Behind, behind-more, row-fails, field-fails}
 use Rattle.otlp_read.proofs.resource.InstrumentationScopeParts.take_all.Goals as goal
 
 pub returns-in_err-field-clause-err : goal.returns-in_err-field-clause-err

@@ -3,7 +3,7 @@ use Rattle.model_message.specs.Tables
 use Rattle.model_message.specs.Tables.{message}
 use Rattle.otlp_wire.specs.Fields.{field_of}
 use Rattle.otlp_read.specs.Resources.{scope_gathered}
-use Rattle.otlp_message.proofs.Finished.{in-skips, in-more, in-fails, both-ok, on-err}
+use Rattle.otlp_wire.proofs.Finished.{in-skips, in-more, in-fails, both-ok, on-err}
 use Rattle.otlp_read.proofs.resource.InstrumentationScopeParts.take_in.Goals as goal
 
 pub returns-in_default-clause-ok : goal.returns-in_default-clause-ok

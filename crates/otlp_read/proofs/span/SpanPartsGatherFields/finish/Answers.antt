@@ -2,11 +2,11 @@ use Rattle.std.proofs.Common.{◌≡◌, sym, subst, Err, IfErr, arith}
 use Rattle.model_message.specs.Tables
 use Rattle.model_message.specs.Tables.{message, repeated, text, bytes, uint32, enum, fixed64, fixed32, end, ◌⦂◌◂◌}
 use Rattle.model_message.specs.Messages.{value, max_depth}
-use Rattle.otlp_message.specs.Faults.{NamesOne}
-use Rattle.otlp_message.specs.Gathering.{finished}
+use Rattle.otlp_wire.specs.Faults.{NamesOne}
+use Rattle.otlp_wire.specs.Gathering.{finished}
 use Rattle.otlp_read.specs.Spans.{span_gathered}
-use Rattle.otlp_message.proofs.Named.{names-within}
-use Rattle.otlp_message.proofs.Finished.{finished-first, finished-others}
+use Rattle.otlp_wire.proofs.Named.{names-within}
+use Rattle.otlp_wire.proofs.Finished.{finished-first, finished-others}
 use Rattle.otlp_read.proofs.span.SpanPartsGatherFields.finish.Goals as goal
 
 pub returns-in_err-read_text-clause-err : goal.returns-in_err-read_text-clause-err

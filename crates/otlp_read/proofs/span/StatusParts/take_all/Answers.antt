@@ -5,10 +5,10 @@ use Rattle.otlp_read.specs.declared.span.StatusParts.{StatusParts}
 use Rattle.otlp_read.specs.Spans.{status_gathered}
 use Rattle.model_message.specs.Messages.{value, max_depth}
 use Rattle.otlp_wire.specs.Fields.{GivesField, field_of}
-use Rattle.otlp_message.specs.Faults.{NamesOne}
-use Rattle.otlp_message.specs.Gathering.{IsGathered, part_faults}
-use Rattle.otlp_message.proofs.FieldsRead.{read-more}
-use Rattle.otlp_message.proofs.GatherSteps.{Behind, behind-more, field-fails}
+use Rattle.otlp_wire.specs.Faults.{NamesOne}
+use Rattle.otlp_wire.specs.Gathering.{IsGathered, part_faults}
+use Rattle.otlp_wire.proofs.FieldsRead.{read-more}
+use Rattle.otlp_wire.proofs.GatherSteps.{Behind, behind-more, field-fails}
 use Rattle.otlp_read.proofs.span.StatusParts.take_all.Goals as goal
 
 pub returns-in_err-take-clause-err : goal.returns-in_err-take-clause-err

@@ -1,5 +1,5 @@
 use Rattle.std.proofs.Common.{◌≤◌, ◌∷◌, sym, ap, ◌∙◌, List, length, Option, None, Some, arith}
-use Rattle.model_drop.specs.Dropped.{Entry}
+use Rattle.model_span.specs.Dropped.{Entry}
 use Rattle.otlp_span.specs.Slips.{entries_of, node_entries, slip_count}
 use Rattle.otlp_span.specs.Dropped.{entry_view}
 use Rattle.otlp_span.proofs.slip.Slip.into_below.Goals as goal

@@ -1,5 +1,5 @@
 use Rattle.std.proofs.Common.{sym, ap, ◌∙◌, rules}
-use Rattle.script_words.proofs.Each.{words_at}
+use Rattle.text_words.proofs.Each.{words_at}
 use Rattle.span_script.proofs.Loop.{one_more_line, bad_line, no_more_lines, whole_text}
 use Rattle.span_script.proofs.Kept.{sizes, bad_line_is}
 use Rattle.span_script.proofs.script.Script.parse.Goals as goal

@@ -1,5 +1,0 @@
-use Rattle.http_span.proofs.Said.{does-two, on-ok}
-use Rattle.http_span.proofs.end.set_error_type.Goals as goal
-
-pub returns : goal.returns
-returns c = on-ok c.set_error.result (does-two _ _ _ _ _ c.in_ok-set.ensures.ok) c.set_error.ensures.ok

@@ -1,2 +1,0 @@
-pub mod Crosses
-pub mod Tally

@@ -1,4 +1,0 @@
-pub mod Named
-pub mod Newest
-pub mod Counts
-pub mod Lines

@@ -1,6 +1,0 @@
-use Rattle.program_collector_parts.specs.Printed.{PrintsConnections}
-use Rattle.program_collector_parts.proofs.program.serve_connections.Given as goal
-
--- So many connections are printed.
-abbrev pub invariant-loop-served : goal.invariant-loop-served
-invariant-loop-served g l = PrintsConnections l.limits l.served (g.W.Write.contents l.initial.output) (g.W.Write.contents l.output)

@@ -1,1 +1,0 @@
-use Rattle.program_script_parts.proofs.text.text_of_run.Goals as goal

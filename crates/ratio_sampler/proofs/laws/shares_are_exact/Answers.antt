@@ -1,5 +1,0 @@
-use Rattle.ratio_sampler.proofs.Shares.{exact}
-use Rattle.ratio_sampler.proofs.laws.shares_are_exact.Goals as goal
-
-pub returns : goal.returns
-returns c = exact

@@ -1,3 +1,0 @@
-pub mod Ratio
-pub mod Decimal
-pub mod Laws

@@ -1,7 +1,0 @@
-use Rattle.std.proofs.Common.{Some, sym, ap, ◌∙◌, arith}
-use Rattle.resource_text.proofs.Decoding.{nothing}
-use Rattle.resource_text.proofs.pairs.decoded.Goals as goal
-
-pub returns-in-empty : goal.returns-in-empty
-returns-in-empty g c =
-    nothing c.args.word.now (omega (arith, c.in-empty.len_below)) ∙ ap Some (sym c.new.ensures.bytes)

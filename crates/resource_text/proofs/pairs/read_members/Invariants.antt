@@ -1,8 +1,0 @@
-use Rattle.std.proofs.Common.{◌≡◌}
-use Rattle.script_words.specs.Words.{each_of}
-use Rattle.script_words.proofs.Each.{words_at, behind, rest_of}
-use Rattle.resource_text.specs.Pairs.{member_of, pairs_view}
-use Rattle.resource_text.proofs.pairs.read_members.Given as goal
-
-abbrev pub invariant-loop-member : goal.invariant-loop-member
-invariant-loop-member g l = behind (pairs_view l.all.items) (rest_of member_of l.members l.member-index) ≡ each_of member_of (words_at l.members)

@@ -1,0 +1,77 @@
+//! Worked examples of what goes out and what a span says of it, with values that were written out
+//! by hand. The checker computes what the definitions make of each, and compares.
+//!
+//! Each function is a group of examples. Its clauses are the examples, and it does nothing when it
+//! is called.
+
+ghost use Rattle.std.specs.Prelude.{◌≡◌, ◌++◌, ◌∷◌, [], None, Some, Ok, Err, codes, pos};
+ghost use Rattle.trace_api.specs.Endings.{ending_calls};
+ghost use Rattle.http_wire.specs.declared.fault.HttpFault.TheVariants as http_faults;
+ghost use Rattle.model_span.specs.Attributes.{int, text};
+ghost use Rattle.model_span.specs.Spans.{error, set_attribute, set_status};
+ghost use Rattle.traced_client.specs.declared.fault.GetFault.TheVariants as faults;
+ghost use Rattle.traced_client.specs.Requests.{get_text};
+ghost use Rattle.traced_client.specs.Spans.{carried_by, ending_of, request_calls};
+ghost use Rattle.test_requests.specs.Shops.{context, replied, shop};
+
+/// The texts of requests (RFC 9112, sections 2.1, 3 and 5), with the context of a span and without
+/// (W3C Trace Context, "Traceparent Header", "Tracestate Header").
+pub fn texts()
+    ensures traced { get_text shop (carried_by (Some context)) ≡
+        codes "GET /items?page=2 HTTP/1.1\r\nHost: shop.example:8080\r\n" ++
+        codes "traceparent: 00-4bf92f3577b34da6a3ce929d0e0e4736-00f067aa0ba902b7-01\r\n" ++
+        codes "tracestate: shop=7\r\n" ++
+        codes "Connection: close\r\n\r\n" }
+    ensures untraced { get_text shop (carried_by None) ≡
+        codes "GET /items?page=2 HTTP/1.1\r\nHost: shop.example:8080\r\n" ++
+        codes "Connection: close\r\n\r\n" }
+{}
+
+/// The attributes that a span starts with (Semantic Conventions, "HTTP spans", "HTTP client").
+pub fn attributes()
+    ensures { request_calls shop ≡
+        set_attribute (record {
+          key = codes "http.request.method";
+          value = text (codes "GET");
+        })
+        ∷ set_attribute (record {
+          key = codes "server.address";
+          value = text (codes "shop.example");
+        })
+        ∷ set_attribute (record { key = codes "server.port"; value = int (pos 8080) })
+        ∷ set_attribute (record {
+          key = codes "url.full";
+          value = text (codes "http://shop.example:8080/items?page=2");
+        })
+        ∷ set_attribute (record {
+          key = codes "network.protocol.version";
+          value = text (codes "1.1");
+        })
+        ∷ [] }
+{}
+
+/// What a span says of its reply (Semantic Conventions, "HTTP spans", "Status"): 399 is no error,
+/// 400 is one, and so is a body that could not be had.
+pub fn replies()
+    ensures no_error { ending_calls (ending_of (Ok (replied 399 (Ok [])))) ≡
+        set_attribute (record { key = codes "http.response.status_code"; value = int (pos 399) })
+        ∷ [] }
+    ensures error { ending_calls (ending_of (Ok (replied 400 (Ok [])))) ≡
+        set_attribute (record { key = codes "http.response.status_code"; value = int (pos 400) })
+        ∷ set_attribute (record { key = codes "error.type"; value = text (codes "400") })
+        ∷ set_status (error []) ∷ [] }
+    ensures no_body { ending_calls (ending_of (Ok (replied 200 (Err http_faults.Ended)))) ≡
+        set_attribute (record { key = codes "http.response.status_code"; value = int (pos 200) })
+        ∷ set_attribute (record { key = codes "error.type"; value = text (codes "no_body") })
+        ∷ set_status (error []) ∷ [] }
+{}
+
+/// What it says where there is no reply.
+pub fn faults()
+    ensures unlinked { ending_calls (ending_of (Err faults.NoConnection)) ≡
+        set_attribute (record { key = codes "error.type"; value = text (codes "no_connection") })
+        ∷ set_status (error []) ∷ [] }
+    ensures none { ending_calls (ending_of (Err (faults.NoReply http_faults.BadHead))) ≡
+        set_attribute (record { key = codes "error.type"; value = text (codes "no_reply") })
+        ∷ set_status (error []) ∷ [] }
+{}

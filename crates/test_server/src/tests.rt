@@ -1,4 +1,0 @@
-//! The tests, by what they try.
-mod equal;
-mod probe;
-mod requests;

@@ -1,6 +1,0 @@
-mod apart;
-mod equal;
-mod refused;
-mod spans;
-mod texts;
-mod traces;

@@ -1,5 +1,0 @@
-//! The tests, and what they share.
-
-mod equal;
-mod hosts;
-mod shared;

@@ -1,0 +1,176 @@
+//! How long the field of a context takes to be written and read, and what a request takes whose
+//! answer has a span, beside one without.
+use crate::figures::{median, nanos_since};
+use crate::load::{new_provider, start_spans};
+use crate::plain::PlainPass;
+use crate::rows::{write_headers, write_requests};
+use anyhow::{Result, ensure};
+use batch_processor::SystemClock;
+use bytes::{BufMut, Bytes};
+use http::Request;
+use http_server::{Config, Connection, Response, Service, serve};
+use otlp_ids::SpanContext;
+use otlp_span::Scope;
+use rand::{make_rng, rngs::StdRng};
+use std::alloc::{AllocError, Global};
+use std::hash::RandomState;
+use std::io::Write;
+use std::random::RandomSource;
+use std::sync::{Arc, Wait};
+use std::time::{Clock, Instant};
+use trace_api::Span;
+use trace_context::{read_traceparent, write_traceparent};
+use traced_server::{Handler, ServerName, TracedService, Tracing};
+
+/// How many rounds there are.
+const ROUNDS: u32 = 51;
+
+/// How many contexts are written and read in a round, and how many requests a connection has.
+const COUNT: usize = 512;
+
+/// A request that carries a context.
+const REQUEST: &[u8] = b"GET /cart HTTP/1.1\r\nHost: shop.example\r\nUser-Agent: bench/1.0\r\n\
+    traceparent: 00-0123456789abcdef0123456789abcdef-0123456789abcdef-01\r\n\r\n";
+
+/// How long a context takes to be written, and to be read, in nanoseconds.
+fn time_headers(clock: &impl Clock, alloc: Global, spans: &[Span]) -> Result<(u64, u64)> {
+    let count = (spans.len() as u64).max(1);
+    let mut fields = Vec::with_capacity(alloc, spans.len())?;
+    let start = Instant::now(clock)?;
+    for span in spans {
+        let mut field = [0; 55];
+        write_traceparent(span.context(), &mut field);
+        fields.push(field)?;
+    }
+    let written = nanos_since(clock, start)? / count;
+    let start = Instant::now(clock)?;
+    let mut found = 0u64;
+    for (span, field) in spans.iter().zip(fields.iter()) {
+        if let Some(context) = read_traceparent(alloc, field) {
+            found = found.saturating_add(u64::from(context.span == span.context().span));
+        }
+    }
+    let read = nanos_since(clock, start)? / count;
+    ensure!(found == spans.len() as u64, "a context wasn't read back");
+    Ok((written, read))
+}
+
+/// Prints how long a context takes to be written and to be read, in the middle one of some rounds.
+fn print_headers<R, W: Write>(rt: &R, alloc: Global, output: &mut W) -> Result<()>
+where
+    R: RandomSource + Clock,
+{
+    let (mut written, mut read) = (Vec::new(alloc), Vec::new(alloc));
+    for _round in 0..ROUNDS {
+        let spans = start_spans(rt, alloc, COUNT)?;
+        let (write, back) = time_headers(rt, alloc, &spans)?;
+        written.push(write)?;
+        read.push(back)?;
+    }
+    write_headers(output, median(written)?, median(read)?)?;
+    Ok(())
+}
+
+/// Answers each request by the same text.
+#[derive(Drop)]
+struct Same;
+
+/// Fills a response.
+fn say(response: &mut Response) -> Result<(), AllocError> {
+    response.body.put_slice(b"ok\n")
+}
+
+impl Service for Same {
+    ghost use Rattle.std.specs.Prelude.{⊤};
+
+    ghost answers = { λ _ _ _ _. ⊤ };
+
+    fn call(&mut self, _: &Request<Bytes>, response: &mut Response) -> Result<(), AllocError> {
+        say(response)
+    }
+}
+
+impl<P> Handler<P> for Same {
+    fn route(&self, _: &Request<Bytes>) -> Option<&str> {
+        Some("/cart")
+    }
+
+    fn handle(
+        &mut self,
+        _: &Request<Bytes>,
+        _: Option<&SpanContext>,
+        _: &mut P,
+        response: &mut Response,
+    ) -> Result<(), AllocError> {
+        say(response)
+    }
+}
+
+/// How long a request of a connection takes to be answered, in nanoseconds.
+fn time_service<R, S: Service>(
+    rt: &R,
+    alloc: Global,
+    service: &mut S,
+    requests: &[u8],
+) -> Result<u64>
+where
+    R: RandomSource + Clock,
+{
+    let mut connection = Connection::new(alloc, RandomState::new(rt)?, Config::default());
+    let mut output = Vec::with_capacity(alloc, requests.len())?;
+    let start = Instant::now(rt)?;
+    serve(&mut connection, service, &mut &*requests, &mut output)?;
+    Ok(nanos_since(rt, start)? / COUNT as u64)
+}
+
+/// How long a request takes whose answer has a span, which goes to a desk, in nanoseconds.
+fn time_traced<R>(rt: R, alloc: Global, requests: &[u8]) -> Result<u64>
+where
+    R: Wait + RandomSource + Clock + Copy + Drop,
+{
+    let provider = new_provider(alloc)?;
+    let mut pass = PlainPass::new(rt, alloc)?;
+    let tracing = Tracing {
+        tracer: provider.tracer(Arc::new(alloc, Scope::named(alloc, "shop")?)?),
+        rng: make_rng::<StdRng, R>(&rt)?,
+        clock: SystemClock::new(rt),
+        server: ServerName {
+            address: "shop.example",
+            port: 80,
+        },
+    };
+    let mut service = TracedService::new(alloc, tracing, Same, &mut pass);
+    let nanos = time_service(&rt, alloc, &mut service, requests);
+    let untraced = service.untraced();
+    drop(service);
+    ensure!(untraced == 0, "a request has no span");
+    nanos
+}
+
+/// Prints how long a request takes without a span and with one, in the middle one of some rounds,
+/// which take turns.
+fn print_served<R, W: Write>(rt: R, alloc: Global, output: &mut W) -> Result<()>
+where
+    R: Wait + RandomSource + Clock + Copy + Drop,
+{
+    let mut requests = Vec::new(alloc);
+    for _request in 0..COUNT {
+        requests.extend_from_slice(REQUEST)?;
+    }
+    let (mut plain, mut traced) = (Vec::new(alloc), Vec::new(alloc));
+    for _round in 0..ROUNDS {
+        plain.push(time_service(&rt, alloc, &mut Same, &requests)?)?;
+        traced.push(time_traced(rt, alloc, &requests)?)?;
+    }
+    write_requests(output, median(plain)?, median(traced)?)?;
+    Ok(())
+}
+
+/// Prints what contexts and requests take.
+pub fn print_requests<R, W: Write>(rt: R, alloc: Global, output: &mut W) -> Result<()>
+where
+    R: Wait + RandomSource + Clock + Copy + Drop,
+{
+    print_headers(&rt, alloc, output)?;
+    print_served(rt, alloc, output)
+}

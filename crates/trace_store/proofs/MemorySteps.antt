@@ -1,0 +1,44 @@
+-- How many bytes the fields of a message take, one field after another.
+use Rattle.std.proofs.Common.{◌≡◌, ◌≢◌, ℕ, zero, suc, ◌+◌, ◌-◌, ◌^◌, ◌<◌, List, [], refl, ◌∙◌, ap, arith}
+use Rattle.std.specs.Prelude.{min, sum_by}
+use Rattle.std.proofs.lemmas.List.Sums.{sum_by-cons}
+use Rattle.model_message.specs.Reading.{Reading}
+use Rattle.model_message.specs.Wire.{Field, put, row}
+use Rattle.trace_store.specs.declared.memory.Kind.{Kind}
+use Rattle.trace_store.specs.Memory.{field_size, message_size}
+use Rattle.trace_store.specs.Sizes.{at_most_64_bits}
+
+-- so much was counted of all fields, and those are left
+pub record SizedSoFar (f : Field → ℕ) (all left : Reading (List Field)) (total : ℕ) : Type 0 where
+  pub sum : at_most_64_bits (total + sum_by f left.value) ≡ at_most_64_bits (sum_by f all.value)
+  pub low : total < 2 ^ 64
+
+pub none_sized : (f : Field → ℕ) (all left : Reading (List Field)) (total : ℕ) → left ≡ all → total ≡ 0 → SizedSoFar f all left total
+none_sized f all left total same e = record { sum = omega (arith, ap (λ (r : Reading (List Field)). sum_by f r.value) same, e); low = omega (arith, e) }
+
+pub more_sized : (f : Field → ℕ) (all left left' : Reading (List Field)) (x : Field) (total part total' : ℕ) → SizedSoFar f all left total → left ≡ put x left'
+    → part ≡ at_most_64_bits (f x) → total' ≡ min (total + part) (2 ^ 64 - 1) → SizedSoFar f all left' total'
+more_sized f all left left' x total part total' h next p t =
+    let first : sum_by f left.value ≡ f x + sum_by f left'.value = ap (λ (r : Reading (List Field)). sum_by f r.value) next ∙ sum_by-cons f x left'.value in
+    record { sum = omega (arith, first, h.sum, p, t); low = omega (arith, t) }
+
+pub all_sized : (f : Field → ℕ) (all left : Reading (List Field)) (total : ℕ) → SizedSoFar f all left total → left.value ≡ [] → total ≡ at_most_64_bits (sum_by f all.value)
+all_sized f all left total h none =
+    let nothing : sum_by f left.value ≡ 0 = ap (sum_by f) none in
+    omega (arith, h.sum, nothing, h.low)
+
+-- a message, level by level
+
+pub message_none : (depth : ℕ) (kind : Kind) (bs : List ℕ) → depth ≡ 0 → 0 ≡ at_most_64_bits (message_size depth kind bs)
+unfolding message_size
+message_none zero kind bs e = refl
+message_none (suc depth) kind bs e = absurd (omega (arith, e))
+
+message_by : (depth : ℕ) (kind : Kind) (bs : List ℕ) → message_size (suc depth) kind bs ≡ sum_by (field_size (message_size depth) kind) (row bs).value
+unfolding message_size
+message_by depth kind bs = refl
+
+pub message_step : (depth : ℕ) (kind : Kind) (bs : List ℕ) → depth ≢ 0 → message_size depth kind bs ≡ sum_by (field_size (message_size (depth - 1)) kind) (row bs).value
+message_step depth kind bs some =
+    let more : depth ≡ suc (depth - 1) = omega (arith, some) in
+    ap (λ d. message_size d kind bs) more ∙ message_by (depth - 1) kind bs

@@ -1,0 +1,23 @@
+-- Why words ask for no run.
+use Rattle.std.proofs.Common.{◌≡◌, List, inl, inr}
+use Rattle.std.specs.Prelude.{Err, IfErr, Ok, Result, String}
+use Rattle.program_args.specs.Faults.{IsMistake}
+use Rattle.program_args.specs.Words as given
+use Rattle.program_args.specs.declared.fault.ArgFault.{ArgFault}
+use Rattle.program_args.specs.declared.fault.ArgFault.TheVariants as faults
+use Rattle.trace_view.specs.Command.{IsCause, NameNoAddress, command}
+
+-- a fault of the command line alone is one of the program
+pub cause-of : {A T : Type 0} (words : List (String A)) (r : Result T ArgFault) → IfErr r (given.IsCause command words) → IfErr r (IsCause words)
+cause-of words (Ok value) cause = tt
+cause-of words (Err (faults.Help text)) cause = cause
+cause-of words (Err (faults.Version text)) cause = cause
+cause-of words (Err (faults.Mistake text)) cause = inl cause
+cause-of words (Err faults.OutOfMemory) cause = tt
+
+-- and so is that of a text that is no address
+pub cause-of-address : {A : Type 0} (words : List (String A)) (fault : ArgFault) → IsMistake fault → NameNoAddress words → IsCause words fault
+cause-of-address words (faults.Help text) mistake none = absurd mistake
+cause-of-address words (faults.Version text) mistake none = absurd mistake
+cause-of-address words (faults.Mistake text) mistake none = inr none
+cause-of-address words faults.OutOfMemory mistake none = tt

@@ -1,0 +1,20 @@
+use Rattle.std.proofs.Common.{rules, ◌≡◌, arith, codes, subst, List}
+use Rattle.std.specs.Prelude.{IfErr}
+use Rattle.std.proofs.lemmas.Grind.{common_steps}
+use Rattle.clap.specs.Words.{Text}
+use Rattle.program_args.specs.Words as given
+use Rattle.program_args.specs.Words.{texts_given, texts_of}
+use Rattle.trace_view.specs.Command.{IsNoAddress, command}
+use Rattle.trace_view.proofs.Causes.{cause-of, cause-of-address}
+use Rattle.trace_view.proofs.args.ViewArgs.read.Goals as goal
+
+pub returns-in_err-found-clause-refused : goal.returns-in_err-found-clause-refused
+returns-in_err-found-clause-refused c =
+    let cause : IfErr c.from_residual.result (given.IsCause command c.args.words.now) = first_of (search rules, grind (arith, common_steps)) in
+    cause-of c.args.words.now c.from_residual.result cause
+
+pub returns-in_default-clause-refused : goal.returns-in_default-clause-refused
+returns-in_default-clause-refused c =
+    let same : texts_of c.as_slice.result.now ≡ texts_given command (codes "address") c.args.words.now = first_of (search rules, grind (arith, common_steps)) in
+    let none : IsNoAddress (texts_given command (codes "address") c.args.words.now) = subst IsNoAddress same c.in_default.ensures in
+    cause-of-address c.args.words.now c.mistake.result c.mistake.ensures (c.in_ok-found.ensures.taken, none)

@@ -1,0 +1,27 @@
+-- How long a peer may wait. (profile)
+use Rattle.std.specs.Prelude.{ℕ, ◌+◌, ◌≤◌}
+use Rattle.trace_view.specs.declared.clock.Due.{Due}
+use Rattle.trace_view.specs.declared.clock.Due.TheVariants.{Close, ShutDown}
+use Rattle.trace_view.specs.declared.clock.PeerClock.{PeerClock}
+use Rattle.trace_view.specs.declared.clock.Stage.{Stage}
+use Rattle.trace_view.specs.declared.clock.Stage.TheVariants.{Idle, Receiving, Answering}
+use Rattle.trace_view.specs.declared.clock.Stage.TheVariants.{Discarding, Closing}
+use Rattle.trace_view.specs.declared.clock.StageTimes.{StageTimes}
+
+-- the time that a peer may stay at a stage, in milliseconds
+abbrev pub time_at : StageTimes → Stage → ℕ
+time_at times Idle = times.idle_ms
+time_at times Receiving = times.request_ms
+time_at times Answering = times.answer_ms
+time_at times Discarding = times.discard_ms
+time_at times Closing = times.close_ms
+
+-- the peer is over its time: it has been at its stage for as long as it may, or for longer
+abbrev pub IsOver : StageTimes → PeerClock → ℕ → Type 0
+IsOver times clock now = clock.since_ms + time_at times clock.stage ≤ now
+
+-- what is done with a peer that is over its time: the rest of a refused request is read no longer,
+-- and its end is waited for (RFC 9112, section 9.6); at any other stage it is closed
+abbrev pub due_at : Stage → Due
+due_at Discarding = ShutDown
+due_at _ = Close

@@ -1,0 +1,9 @@
+pub mod Failures
+pub mod Command
+pub mod Accepts
+pub mod Clocks
+pub mod Complaints
+pub mod Kinds
+pub mod Waiting
+pub mod Serving
+pub mod Stages

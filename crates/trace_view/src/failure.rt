@@ -1,0 +1,76 @@
+//! Why the program ends, and how that is reported.
+
+ghost use Rattle.std.specs.Prelude.{◌≡◌, ◌⊎◌};
+ghost use Rattle.trace_view.specs.Failures.{status_of};
+
+use std::io::{ErrorKind, Write};
+use std::net::SocketAddr;
+use thiserror::Error;
+
+/// Why the program ends.
+#[derive(Debug, Clone, Copy, PartialEq, Eq, Error)]
+pub enum Failure {
+    /// This address can't be listened at.
+    #[error("cannot listen on {0}: {1}")]
+    Listen(SocketAddr, ListenFault),
+    /// The system refused what is needed to wait for connections.
+    #[error("cannot wait for connections")]
+    Wait,
+    /// A line can't be written.
+    #[error("cannot write")]
+    Write,
+    /// Memory was refused.
+    #[error("out of memory")]
+    OutOfMemory,
+}
+
+/// Why an address can't be listened at, and what to do.
+#[derive(Debug, Clone, Copy, PartialEq, Eq, Error)]
+pub enum ListenFault {
+    /// Another program listens there.
+    #[error("address in use; choose another --port")]
+    InUse,
+    /// Only the system's own programs may listen there.
+    #[error("permission denied; choose a --port above 1023")]
+    NotPermitted,
+    /// The machine has no such address.
+    #[error("this machine has no such address; choose another --address")]
+    NoAddress,
+    /// The system said something else.
+    #[error("{0}; choose another --address or --port")]
+    Other(ErrorKind),
+}
+
+impl ListenFault {
+    /// What the system's error says.
+    pub(crate) fn of(kind: ErrorKind) -> ListenFault {
+        match kind {
+            ErrorKind::AddrInUse => ListenFault::InUse,
+            ErrorKind::PermissionDenied => ListenFault::NotPermitted,
+            ErrorKind::AddrNotAvailable => ListenFault::NoAddress,
+            _ => ListenFault::Other(kind),
+        }
+    }
+}
+
+impl Failure {
+    /// The status that the program ends with: 3 for memory, and else 1.
+    pub fn status(self) -> u8
+        ensures { result ≡ status_of self }
+    {
+        match self {
+            Failure::Listen(..) | Failure::Wait | Failure::Write => 1,
+            Failure::OutOfMemory => 3,
+        }
+    }
+}
+
+/// Reports a failure and answers its status, or 1 where it can't be reported.
+pub(crate) fn tell<F: Write>(faults: &mut F, failure: Failure) -> u8
+    ensures { (result ≡ status_of failure) ⊎ (result ≡ 1) }
+{
+    match writeln!(faults, "{failure}") {
+        Ok(()) => failure.status(),
+        Err(_) => 1,
+    }
+}

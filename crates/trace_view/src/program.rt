@@ -1,0 +1,236 @@
+//! The program `trace-view`, over a runtime and writers.
+
+ghost use Rattle.std.specs.Prelude.{◌≡◌, ◌≤◌, ◌*◌};
+ghost use Rattle.std.specs.Io.KnownBytes.{Keeps};
+
+use crate::args::ViewArgs;
+use crate::failure::{Failure, ListenFault, tell};
+use crate::report::report;
+use http_connection::Limits;
+use trace_view::{Complaints, End, Peers, Settings, StageTimes};
+use std::alloc::Global;
+use std::hash::RandomState;
+use std::io::{self, Write};
+use std::net::{Net, SocketAddr, TcpListener, TcpStream};
+use std::random::RandomSource;
+use std::sync::{Arc, Wait};
+use std::time::Clock;
+use trace_store::{TraceDigest, TraceStore, ViewSpan};
+use view_service::{Hosts, Pages, TraceKeeper, ViewService};
+
+/// How many connections are kept at most, at once. (profile)
+const CONNECTIONS: usize = 8_192;
+
+/// The bytes of a MiB.
+const MIB: u64 = 1_048_576;
+
+/// How long the rest of a refused request is read, in milliseconds. (profile)
+const DISCARD_MS: u64 = 2_000;
+
+/// How long a client's end is waited for after writing was shut down, in milliseconds. (profile)
+const CLOSE_MS: u64 = 1_000;
+
+/// The program `trace-view`, whose words are those of its command line, the program's name first.
+/// It receives and shows spans until it is stopped. Where the words ask for help or the version it
+/// is printed, with the status 0. A mistake is reported on `faults`, with the status 2.
+///
+/// All connections are served by turns, on one thread: a client that is silent or drips holds up no
+/// other one.
+///
+/// The answer is the program's status: 0 after help, 1 where the address can't be listened at, the
+/// system refuses to wait for connections or a line can't be written, 2 where the words are bad, 3
+/// where memory was refused.
+pub fn run_view<R, P, W, F>(
+    rt: R,
+    alloc: Global,
+    pages: P,
+    words: &[String],
+    output: &mut W,
+    faults: &mut F,
+) -> u8
+where
+    R: Net<Listener = TcpListener, Stream = TcpStream> + Wait + RandomSource + Clock + Copy,
+    P: Pages<Arc<ViewSpan>, TraceDigest> + Drop,
+    W: Write,
+    F: Write,
+    ensures status { result ≤ 3 }
+    ensures quiet { result ≡ 2 → Keeps (W.contents output.old) (W.contents output.new) }
+{
+    let args = match ViewArgs::read(alloc, words) {
+        Ok(args) => args,
+        Err(fault) => return fault.tell(output, faults),
+    };
+    let failure = view(rt, alloc, pages, &args, output, faults);
+    tell(faults, failure)
+}
+
+/// Listens, prints the address, and serves until no more can be.
+fn view<R, P, W, F>(
+    rt: R,
+    alloc: Global,
+    pages: P,
+    args: &ViewArgs,
+    output: &mut W,
+    faults: &mut F,
+) -> Failure
+where
+    R: Net<Listener = TcpListener, Stream = TcpStream> + Wait + RandomSource + Clock + Copy,
+    P: Pages<Arc<ViewSpan>, TraceDigest> + Drop,
+    W: Write,
+    F: Write,
+{
+    let (listener, address) = match listen(&rt, SocketAddr::new(args.address, args.port)) {
+        Ok(listening) => listening,
+        Err(failure) => return failure,
+    };
+    let mut service = match service_of(&rt, alloc, pages, args, address) {
+        Ok(service) => service,
+        Err(failure) => return failure,
+    };
+    if let Err(failure) = print_address(alloc, address, output) {
+        return failure;
+    }
+    let listener = mio::net::TcpListener::from_std(listener);
+    match Peers::new(rt, alloc, listener, settings_of(args)) {
+        Ok(peers) => serve(rt, alloc, peers, &mut service, faults),
+        Err(end) => failure_of(end),
+    }
+}
+
+/// What keeps the spans.
+type Store = TraceStore<Arc<ViewSpan>, TraceDigest, RandomState, Global>;
+
+/// The service, which listens at this address, and has kept nothing.
+fn service_of<R, P>(
+    rt: &R,
+    alloc: Global,
+    pages: P,
+    args: &ViewArgs,
+    address: SocketAddr,
+) -> Result<ViewService<Store, P>, Failure>
+where
+    R: RandomSource,
+    P: Drop,
+{
+    let Ok(hasher) = RandomState::new(rt) else {
+        return Err(Failure::Wait);
+    };
+    let Ok(hosts) = Hosts::new(alloc, address.ip(), address.port(), args.hosts.as_slice()) else {
+        return Err(Failure::OutOfMemory);
+    };
+    match TraceStore::new(alloc, hasher, limits_of(args)) {
+        Ok(store) => Ok(ViewService::new(alloc, store, pages, hosts)),
+        Err(_) => Err(Failure::OutOfMemory),
+    }
+}
+
+/// Serves peers, round after round, and reports what was refused, until no more can be.
+fn serve<R, K, P, F>(
+    rt: R,
+    alloc: Global,
+    mut peers: Peers<R, P::Page>,
+    service: &mut ViewService<K, P>,
+    faults: &mut F,
+) -> Failure
+where
+    R: Net + Wait + RandomSource + Clock + Copy,
+    K: TraceKeeper<Arc<ViewSpan>, TraceDigest>,
+    P: Pages<Arc<ViewSpan>, TraceDigest>,
+    F: Write,
+{
+    let mut complaints = Complaints::new(alloc);
+    for _ in rt.forever() {
+        let round = match peers.round(service) {
+            Ok(round) => round,
+            Err(end) => return failure_of(end),
+        };
+        for _ in 0..round.accepted {
+            service.count_connection();
+        }
+        report(&mut complaints, service.tallies(), faults, round.at_ms);
+    }
+    unreachable!()
+}
+
+/// Why no peer can be served any more.
+fn failure_of(end: End) -> Failure {
+    match end {
+        End::Wait => Failure::Wait,
+        End::OutOfMemory => Failure::OutOfMemory,
+    }
+}
+
+/// How peers are served.
+fn settings_of(args: &ViewArgs) -> Settings
+    ensures idle { args.now.idle_seconds ≤ 86_400
+        → result.times.idle_ms ≡ args.now.idle_seconds * 1_000 }
+    ensures request { args.now.request_seconds ≤ 86_400
+        → result.times.request_ms ≡ args.now.request_seconds * 1_000 }
+    ensures pending { args.now.pending_mb ≤ 1_048_576
+        → result.pending ≡ args.now.pending_mb * 1_048_576 }
+{
+    let request_ms = args.request_seconds.saturating_mul(1_000);
+    Settings {
+        most: CONNECTIONS,
+        times: StageTimes {
+            idle_ms: args.idle_seconds.saturating_mul(1_000),
+            request_ms,
+            answer_ms: request_ms,
+            discard_ms: DISCARD_MS,
+            close_ms: CLOSE_MS,
+        },
+        limits: Limits {
+            max_body: usize::try_from(args.max_body).unwrap_or(usize::MAX),
+            ..Limits::default()
+        },
+        pending: args.pending_mb.saturating_mul(MIB),
+    }
+}
+
+/// Listens at this address, without waiting at a call. The address that was taken is with it, where
+/// port 0 was a free one.
+fn listen<R>(rt: &R, address: SocketAddr) -> Result<(TcpListener, SocketAddr), Failure>
+where
+    R: Net<Listener = TcpListener, Stream = TcpStream>,
+{
+    match bind(rt, address) {
+        Ok(listening) => Ok(listening),
+        Err(error) => Err(Failure::Listen(address, ListenFault::of(error.kind()))),
+    }
+}
+
+/// The same, with the system's error.
+fn bind<R>(rt: &R, address: SocketAddr) -> io::Result<(TcpListener, SocketAddr)>
+where
+    R: Net<Listener = TcpListener, Stream = TcpStream>,
+{
+    let listener = TcpListener::bind(rt, address)?;
+    listener.set_nonblocking(true)?;
+    let address = listener.local_addr()?;
+    Ok((listener, address))
+}
+
+/// How much is kept.
+fn limits_of(args: &ViewArgs) -> trace_store::Limits
+    ensures spans { result.max_spans ≡ args.now.keep_spans }
+{
+    trace_store::Limits {
+        max_spans: args.keep_spans,
+        max_bytes: args.keep_mb.saturating_mul(MIB),
+    }
+}
+
+/// Prints where the program listens.
+fn print_address<W: Write>(
+    alloc: Global,
+    address: SocketAddr,
+    output: &mut W,
+) -> Result<(), Failure> {
+    let Ok(line) = format!(in alloc; "listening on http://{address}\n") else {
+        return Err(Failure::OutOfMemory);
+    };
+    if output.write_all(line.as_bytes()).is_err() || output.flush().is_err() {
+        return Err(Failure::Write);
+    }
+    Ok(())
+}

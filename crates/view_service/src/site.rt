@@ -1,0 +1,202 @@
+//! The site.
+
+ghost use Rattle.std.specs.Prelude.{◌≡◌, ◌++◌, IfOk, IsOk, List, OnOk, string_bytes, ℕ};
+ghost use Rattle.view_service.specs.Drawn.{DrawsJson, DrawsText, Draws, site_writes};
+
+use crate::counts::{answered_of, stats_of};
+use crate::site_filter::SiteFilter;
+use crate::lists::{lines_of, summaries_of};
+use crate::page::SitePage;
+use crate::script::SCRIPT;
+use crate::spans::{as_list, lend};
+use std::alloc::{AllocError, Global};
+use std::sync::Arc;
+use view_json::{write_metrics, write_stats, write_trace, write_traces};
+use view_pages::{
+    Filter, FilterFault, STYLE, TracePage, write_list_page, write_notice_page, write_trace_text,
+};
+use crate::{Asked, Counts, ListForm, Listed, Pages, Tallies, TraceForm};
+use trace_store::{TraceDigest, ViewSpan};
+
+/// The pages of `view_pages`, and the answers for programs of `view_json`.
+#[derive(Clone, Copy, Debug)]
+pub struct Site {
+    alloc: Global,
+}
+
+impl Site {
+    /// The site, whose pages take this memory.
+    pub fn new(alloc: Global) -> Site {
+        Site { alloc }
+    }
+}
+
+/// Appends a text that could be written.
+fn put<E: Drop>(out: &mut Vec<u8>, text: &String, written: Result<(), E>) -> Result<(), AllocError>
+    ensures written { OnOk result (IsOk written) }
+    ensures bytes { OnOk result (out.new.items ≡ out.old.items ++ string_bytes text.now) }
+{
+    if written.is_err() {
+        return Err(AllocError);
+    }
+    Ok(out.extend_from_slice(text.as_bytes())?)
+}
+
+/// The page of a trace.
+fn page_of(alloc: Global, trace: u128, spans: Vec<Arc<ViewSpan>>) -> Result<SitePage, AllocError>
+    ensures { IfOk result (λ page. Draws TraceForm.Page trace spans.items (site_writes page)) }
+{
+    match TracePage::new(alloc, trace, spans) {
+        Ok(page) => Ok(SitePage::Page(page)),
+        Err(_) => Err(AllocError),
+    }
+}
+
+/// A trace as a text.
+fn text_of(alloc: Global, spans: &[Arc<ViewSpan>]) -> Result<SitePage, AllocError>
+    ensures { IfOk result (λ page. DrawsText spans.now (site_writes page)) }
+{
+    let lent = lend(alloc, spans)?;
+    let mut text = String::new(alloc);
+    let written = write_trace_text(&mut text, &lent);
+    let mut out = Vec::new(alloc);
+    put(&mut out, &text, written)?;
+    Ok(SitePage::Whole(out))
+}
+
+/// A trace in OTLP's JSON.
+fn json_of(alloc: Global, spans: Vec<Arc<ViewSpan>>) -> Result<SitePage, AllocError>
+    ensures { IfOk result (λ page. DrawsJson spans.items (site_writes page)) }
+{
+    let spans = as_list(alloc, spans)?;
+    Ok(SitePage::Whole(write_trace(alloc, &spans)?))
+}
+
+/// Appends why a query can't be read.
+fn put_fault(
+    alloc: Global,
+    out: &mut Vec<u8>,
+    form: ListForm,
+    fault: FilterFault,
+) -> Result<(), AllocError> {
+    let advice = fault.to_string(alloc)?;
+    match form {
+        ListForm::Page => {
+            let mut text = String::new(alloc);
+            let written = write_notice_page(&mut text, "", "This query can't be read", &advice);
+            put(out, &text, written)
+        }
+        ListForm::Json => {
+            let text = format!(in alloc; "{{\"message\":\"{advice}\"}}")?;
+            Ok(out.extend_from_slice(text.as_bytes())?)
+        }
+    }
+}
+
+impl Pages<Arc<ViewSpan>, TraceDigest> for Site {
+    ghost use Rattle.view_service.specs.Drawn.{Draws};
+
+    type Filter = SiteFilter;
+
+    type Page = SitePage;
+
+    ghost draws = { λ _ form trace spans page. Draws form trace spans page };
+
+    fn filter(
+        &self,
+        out: &mut Vec<u8>,
+        form: ListForm,
+        query: &str,
+    ) -> Result<Option<SiteFilter>, AllocError> {
+        match Filter::parse(self.alloc, query) {
+            Ok(filter) => Ok(Some(SiteFilter { filter })),
+            Err(FilterFault::OutOfMemory) => Err(AllocError),
+            Err(fault) => {
+                put_fault(self.alloc, out, form, fault)?;
+                Ok(None)
+            }
+        }
+    }
+
+    fn list(
+        &self,
+        out: &mut Vec<u8>,
+        form: ListForm,
+        asked: &Asked<'_>,
+        filter: &SiteFilter,
+        traces: &[Listed<TraceDigest>],
+        total: u64,
+    ) -> Result<(), AllocError> {
+        let summaries = summaries_of(self.alloc, traces)?;
+        match form {
+            ListForm::Page => {
+                let (query, host) = (asked.query, asked.host);
+                let mut text = String::new(self.alloc);
+                let filter = &filter.filter;
+                let written = write_list_page(&mut text, filter, query, host, &summaries, total);
+                put(out, &text, written)
+            }
+            ListForm::Json => {
+                let lines = lines_of(self.alloc, &summaries)?;
+                let text = write_traces(self.alloc, &lines)?;
+                Ok(out.extend_from_slice(&text)?)
+            }
+        }
+    }
+
+    fn trace(
+        &self,
+        form: TraceForm,
+        trace: u128,
+        spans: Vec<Arc<ViewSpan>>,
+    ) -> Result<SitePage, AllocError>
+        ensures { IfOk result (λ page. (bytes : List ℕ) → site_writes page ≡ bytes
+            → Draws form trace spans.items bytes) }
+    {
+        match form {
+            TraceForm::Page => page_of(self.alloc, trace, spans),
+            TraceForm::Text => text_of(self.alloc, &spans),
+            TraceForm::Json => json_of(self.alloc, spans),
+        }
+    }
+
+    fn missing(&self, out: &mut Vec<u8>) -> Result<(), AllocError> {
+        let advice = "No such page or trace is here. The trace may have been evicted: \
+            --keep-spans and --keep-mb say how much is kept.";
+        let mut text = String::new(self.alloc);
+        let written = write_notice_page(&mut text, "", "Nothing is here", advice);
+        put(out, &text, written)
+    }
+
+    fn style(&self) -> &'static str {
+        STYLE
+    }
+
+    fn script(&self) -> &'static str {
+        SCRIPT
+    }
+
+    fn stats(
+        &self,
+        out: &mut Vec<u8>,
+        spans: &Counts,
+        _tallies: &Tallies,
+        last_evicted: &[u128],
+    ) -> Result<(), AllocError> {
+        let text = write_stats(self.alloc, &stats_of(spans), last_evicted)?;
+        Ok(out.extend_from_slice(&text)?)
+    }
+
+    fn metrics(
+        &self,
+        out: &mut Vec<u8>,
+        spans: &Counts,
+        tallies: &Tallies,
+    ) -> Result<(), AllocError> {
+        let answered = answered_of(self.alloc, tallies)?;
+        let mut text = String::new(self.alloc);
+        let connections = tallies.connections();
+        let written = write_metrics(&mut text, &stats_of(spans), &answered, connections);
+        put(out, &text, written)
+    }
+}

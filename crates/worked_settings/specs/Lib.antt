@@ -1,2 +1,0 @@
-pub mod OtherRules
-pub mod TraceIds
