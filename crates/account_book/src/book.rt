@@ -119,7 +119,7 @@ impl<J: Naming, V> Model for Book<J, V> {
     ghost invariant = { λ b. b.rows.name ≡ J.name };
 }
 
-/// An open account. In contracts it is what it says. One that is let go stays open in its book.
+/// An open account. In contracts it is what it says. One that is dropped stays open in its book.
 #[derive(Drop)]
 pub struct Account<J: Naming, V> {
     row: Row<(bool, V)>,
@@ -146,7 +146,7 @@ impl<J: Naming, V> Book<J, V> {
         }
     }
 
-    /// Opens so many accounts, which say the same.
+    /// Opens this number of accounts, which say the same.
     ///
     /// # Errors
     ///

@@ -1,6 +1,7 @@
-//! Accounts that a proof keeps (profile): a book knows what each open account says, and only who
-//! has both changes what it says. Neither has a byte, and their calls do nothing when a program
-//! runs. So what lies under a lock, beside the book, is tied to what each thread knows of it.
+//! Accounts that a proof keeps (profile): a book knows what each open account says, and only a
+//! caller that has both changes what it says. Neither has a byte, and their calls do nothing when a
+//! program runs. So what lies under a lock, beside the book, is tied to what each thread knows of
+//! it.
 #![tactic(auto)]
 
 mod book;

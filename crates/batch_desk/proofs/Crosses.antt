@@ -35,6 +35,7 @@ slip_send = search (sendable, slip.crosses, heap.crosses) depth 30
 blank_send : IsSend (BlankSlip.the_row Heap.the_row ghosts)
 blank_send = search (sendable, slip_send, heap.crosses) depth 60 fits 20000
 
+-- A ledger on the heap is `Send`.
 pub ledger_send : IsSend (Ledger.the_row Heap.the_row ghosts)
 ledger_send = search (sendable, slip_send, heap.crosses, maps.crosses) depth 60 fits 20000
 
@@ -95,6 +96,7 @@ body_send = search (
   heap.crosses,
 ) depth 60 fits 20000
 
+-- A span that has ended, on the heap, is `Send`.
 pub data_send : IsSend (SpanData.the_row Heap.the_row ghosts)
 data_send = search (sendable, body_send, heap.crosses) depth 60 fits 20000
 
@@ -108,8 +110,10 @@ run_send = search (sendable, data_send, places.the_send, owner.the_send, heap.cr
 ring_send : IsSend (SpanRing.the_row S Heap.the_row ghosts)
 ring_send = search (sendable, data_send, places.the_send, owner.the_send, heap.crosses) depth 60 fits 20000
 
+-- A batch on the heap is `Send`.
 pub batch_send : IsSend (Batch.the_row Heap.the_row ghosts)
 batch_send = search (sendable, run_send, heap.crosses) depth 60 fits 20000
 
+-- A desk on the heap is `Send`.
 pub desk_send : IsSend (Desk.the_row Heap.the_row ghosts)
 desk_send = search (sendable, ring_send, ledger_send, heap.crosses) depth 60 fits 20000

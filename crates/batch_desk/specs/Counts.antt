@@ -1,4 +1,4 @@
--- How the counts of a desk hang together.
+-- How the counts of a desk agree with each other.
 use Rattle.std.specs.Prelude.{◌≡◌, ℕ, ◌+◌, ◌-◌, ◌^◌, ◌<◌, ◌≤◌, true, false, if◌then◌else◌, length}
 use Rattle.std.specs.Prelude.{Option, None, Some}
 use Rattle.model_desk.specs.Desks.{Desk, FateCounts, OutBatch, accepted_count, in_hand_size}
@@ -14,7 +14,7 @@ abbrev pub handed_size : Option OutBatch → ℕ
 handed_size None = 0
 handed_size (Some batch) = if batch.is_handed then batch.size else 0
 
--- how many batches have ended that were handed
+-- how many of the handed batches have ended
 abbrev pub fate_count : FateCounts → ℕ
 fate_count c = c.delivered + c.partial + c.refused + c.bad_reply + c.given_up + c.abandoned
 

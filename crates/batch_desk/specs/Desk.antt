@@ -18,7 +18,7 @@ default_config = record { queue = 2048; batch = 512; delay_ms = 5000 }
 
 -- ---- spans that end
 
--- what comes of the next span
+-- how the next span is admitted
 abbrev pub admission : Desk → Admitted
 admission desk =
     if desk.closed then admitted.Late
@@ -30,7 +30,7 @@ abbrev pub is_queued : Admitted → Bool
 is_queued (admitted.Queued ticket) = true
 is_queued _ = false
 
--- a span that came, and what came of it
+-- the event of a span, by how it was admitted
 abbrev pub admission_event : Admitted → SpanData → DeskEvent
 admission_event (admitted.Queued ticket) span = queued (with_ticket ticket span)
 admission_event (admitted.Full ticket) span = full (with_ticket ticket span)
@@ -44,7 +44,7 @@ with_next_ticket desk = record desk {
   closed = desk.next_ticket + 1 == 2 ^ 64 - 1;
 }
 
--- the desk after a span to which this came
+-- the desk after a span that was admitted so
 abbrev pub after_admission : Admitted → SpanData → Desk → Desk
 after_admission (admitted.Queued ticket) span desk = record (with_next_ticket desk) {
   waiting = desk.waiting ++ with_ticket ticket span ∷ [];
@@ -109,9 +109,8 @@ after_names reason entries desk = record desk {
   dropped = with_drops reason (length entries) desk.dropped;
 }
 
--- Whether the batch of this number, which has room for so many spans, and of which so many are
--- there, can be settled with this fate: it is out and was handed, and where its spans are lost,
--- none of them was let go.
+-- Whether the batch of this number, with this room and this count of spans, can be settled with
+-- this fate: it is out and was handed, and where its spans are lost, none of them was freed.
 pub record CanSettle (desk : Desk) (fate : Fate) (number room count : ℕ) : Type 0 where
   pub out : out_state desk ≡ Some (number, true)
   pub fits : room ≡ desk.config.batch

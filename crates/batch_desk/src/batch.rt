@@ -16,7 +16,7 @@ use std::alloc::{Allocator, Global};
 use std::marker::Model;
 
 /// Spans that were taken from the queue together, in its order (Trace SDK, "Batching processor").
-/// It isn't let go: it goes back to its desk, by `Desk::drop_batch`, `Desk::drop_named`,
+/// It isn't dropped: it goes back to its desk, by `Desk::drop_batch`, `Desk::drop_named`,
 /// `Desk::settle` or `Desk::settle_named`.
 #[derive_where(Debug)]
 pub struct Batch<A: Allocator = Global> {
@@ -52,8 +52,8 @@ impl<A: Allocator> Batch<A> {
     }
 
     /// Drops its spans: the first ones, as many as there is room for, into `spent`, which keeps its
-    /// capacity, and the others by freeing them. So who settles a batch leaves the freeing of its
-    /// spans to others. It takes no memory (profile).
+    /// capacity, and the others by freeing them. So a thread that settles a batch leaves the
+    /// freeing of its spans to others. It takes no memory (profile).
     pub fn clear_into(&mut self, spent: &mut Vec<SpanData<A>, A>)
         ensures batch { self.new ≡ record self.old { spans = [] } }
         ensures spent { spent.new.items ≡ spent.old.items

@@ -139,7 +139,7 @@ impl<A: Allocator> Desk<A> {
     }
 
     /// Queues a span that has ended, as `admit` does, and frees no memory: what is left of a span
-    /// that doesn't wait is handed back, so that who calls under a lock lets it go after that
+    /// that doesn't wait is handed back, so that a caller that holds a lock frees it after that
     /// (profile).
     pub fn offer(&mut self, mut span: SpanData<A>) -> (Admitted, Option<SpanRemains<A>>)
         ensures answer { result.0 ≡ admission self.old }
@@ -322,8 +322,7 @@ impl<A: Allocator> Desk<A> {
         )
     }
 
-    /// Whether the batch of this number and room, of whose spans so many are there, can be settled
-    /// with this fate.
+    /// Whether the batch of this number, room and count of spans can be settled with this fate.
     fn is_settleable(&self, fate: Fate, number: u64, room: usize, there: u64) -> bool
         ensures { IsTrue result ↔ CanSettle self.now (fate_view fate) number room there }
     {
@@ -458,7 +457,7 @@ impl<A: Allocator> Desk<A> {
     }
 
     /// The names of the lost spans, but for those that were popped: of each batch that was handed
-    /// and came to nothing (profile).
+    /// and not delivered (profile).
     pub fn lost(&self) -> &Ledger<A>
         ensures { result.now ≡ self.now.lost }
     {
@@ -527,7 +526,7 @@ impl<A: Allocator> Desk<A> {
     }
 }
 
-/// Whether so many milliseconds have passed since a moment.
+/// Whether this number of milliseconds has passed since a moment.
 fn has_passed(since: u64, delay_ms: u32, now: u64) -> bool
     ensures { result ≡ nat_le (since + delay_ms * 10 ^ 6) now }
 {
@@ -535,7 +534,7 @@ fn has_passed(since: u64, delay_ms: u32, now: u64) -> bool
     u128::from(since) + delay <= u128::from(now)
 }
 
-/// How many spans the batch has that is out.
+/// How many spans the batch that is out has.
 fn size_of(out: Option<TakenBatch>) -> u64
     ensures { result ≡ out_size (option_map out_view out) }
 {

@@ -10,13 +10,13 @@ use std::alloc::{Allocator, Global};
 pub struct DrainedNames<A: Allocator = Global> {
     /// Those of dropped spans: their batch was not handed to an exporter.
     pub dropped: Ledger<A>,
-    /// Those of lost spans: their batch was handed, and came to nothing.
+    /// Those of lost spans: their batch was handed, and not delivered.
     pub lost: Ledger<A>,
 }
 
 impl<A: Allocator> DrainedNames<A> {
-    /// The same names the other way round: a ledger has the newest first, these the oldest. No
-    /// memory is taken or freed.
+    /// The same names in reverse order: a ledger has the newest first, these the oldest. No memory
+    /// is taken or freed.
     pub fn reversed(self) -> DrainedNames<A>
         ensures dropped { result.dropped ≡ reverse self.dropped }
         ensures lost { result.lost ≡ reverse self.lost }
@@ -29,7 +29,7 @@ impl<A: Allocator> DrainedNames<A> {
     }
 }
 
-/// The names of a ledger the other way round.
+/// The names of a ledger in reverse order.
 fn reversed<A: Allocator>(ledger: Ledger<A>) -> Ledger<A>
     ensures { result ≡ reverse ledger }
 {

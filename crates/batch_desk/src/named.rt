@@ -10,7 +10,7 @@ use std::alloc::{Allocator, Global};
 use std::marker::Model;
 
 /// A batch of which each span is named as dropped for one reason, and all else of them was freed
-/// (`Batch::into_named`). It isn't let go: it goes back to its desk, by `Desk::drop_named`.
+/// (`Batch::into_named`). It isn't dropped: it goes back to its desk, by `Desk::drop_named`.
 #[derive_where(Debug)]
 pub struct NamedBatch<A: Allocator = Global> {
     pub(crate) number: u64,

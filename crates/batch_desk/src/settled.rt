@@ -26,7 +26,7 @@ pub fn loss_reason(fate: Fate) -> Option<Reason>
 }
 
 /// A batch that was handed to an exporter, with its fate: where its spans are lost, each is named,
-/// and all else of them was freed (`Batch::into_settled`). It isn't let go: it goes back to its
+/// and all else of them was freed (`Batch::into_settled`). It isn't dropped: it goes back to its
 /// desk, by `Desk::settle_named`.
 #[derive_where(Debug)]
 pub struct SettledBatch<A: Allocator = Global> {

@@ -21,7 +21,7 @@ pub struct FateCounts {
     pub bad_reply: u64,
     /// No attempt succeeded.
     pub given_up: u64,
-    /// Who was to hand them on has left.
+    /// The worker that was to hand them on has left.
     pub abandoned: u64,
 }
 
@@ -67,8 +67,8 @@ pub struct Totals {
     /// Spans of batches that were handed to an exporter.
     pub handed: u64,
     /// Spans of handed batches that are lost: these were refused or given up, their reply could not
-    /// be read, or who was to send them again has left. Those whose entry was popped from the
-    /// second ledger are counted too; spans that a partial success refused aren't.
+    /// be read, or the worker that was to send them again has left. Those whose entry was popped
+    /// from the second ledger are counted too; spans that a partial success refused aren't.
     pub lost: u64,
     /// Spans that wait.
     pub left: u64,

@@ -28,7 +28,7 @@ use Rattle.batch_processor.specs.contracts.worker.WorkerPass.TheInside as worker
 use Rattle.otlp_span.specs.contracts.data.SpanData as SpanData
 use Rattle.retry_core.specs.contracts.outcome.Outcome as Outcome
 
--- the batch in hand of a worker, and what came of its attempts
+-- the batch in hand of a worker, and the outcomes of its attempts
 outcome_send : IsSend Outcome.the_row
 outcome_send = search (sendable, variants_send, as_row_send) depth 60 fits 20000
 
@@ -55,6 +55,7 @@ module _ (J : RattleType) (g : naming.Ghosts J.Denot) where
   lock_sync : IsSync (Lock.the_row J Heap.the_row g ghosts)
   lock_sync = search (sendable, shared_send, heap.crosses) depth 60 fits 20000
 
+  -- A pass is `Send` where its runtime's value is.
   pub pass_send : (R : RattleType) → IsSend R → IsSend (Pass.the_row J R Heap.the_row g ghosts)
   pass_send R r = view_send _ _ _ _ _ (
       declared_send (pass.the_type J R Heap.the_row g ghosts)
@@ -70,6 +71,7 @@ module _ (J : RattleType) (g : naming.Ghosts J.Denot) where
       (heap.Arc-send (Lock.the_row J Heap.the_row g ghosts) lock_send lock_sync, (account.the_send J AccountState.the_row g, (outcomes, (spent, (setup_send, (as_row_send (row_field Heap.the_row) heap.send, (as_row_send (row_field R) r, tt)))))))
       )
 
+  -- The worker's pass is `Send` where its runtime's value is.
   pub worker_send : (R : RattleType) → IsSend R → IsSend (WorkerPass.the_row J R Heap.the_row g ghosts)
   worker_send R r = view_send _ _ _ _ _ (
       declared_send (worker_pass.the_type J R Heap.the_row g ghosts)

@@ -23,18 +23,20 @@ use Rattle.batch_processor.specs.Working.{GoesOn, Hand, HandStage, HasLeft, HasR
 
 -- ---- attempts
 
+-- One more outcome of a batch adds one attempt, with the next number, to its attempts.
 pub attempts-more : (number attempt : ℕ) (body : List ℕ) (outcomes : List Outcome) (o : Outcome) → attempts_from number attempt body (outcomes ++ o ∷ []) ≡ attempts_from number attempt body outcomes ++ handing number (attempt + length outcomes) body o
 attempts-more number attempt body [] o = ap (λ (n : ℕ). handing number n body o) (let e : attempt ≡ attempt + 0 = omega arith in e)
 attempts-more number attempt body (p ∷ outcomes) o =
     let first : Handed = record { number = number; attempt = attempt; body = body; outcome = p } in
     ap (λ (l : List Handed). first ∷ l) (attempts-more number (attempt + 1) body outcomes o ∙ ap (λ (n : ℕ). attempts_from number (attempt + 1) body outcomes ++ handing number n body o) (let e : (attempt + 1) + length outcomes ≡ attempt + length (p ∷ outcomes) = omega arith in e))
 
+-- Outcomes that each lead to another attempt still do so after one more such outcome.
 pub leads-more : (retry : RetryConfig) (attempt : ℕ) (outcomes : List Outcome) (o : Outcome) → EachLeadsOn retry attempt outcomes → LeadsTo retry (attempt + length outcomes) o None → EachLeadsOn retry attempt (outcomes ++ o ∷ [])
 leads-more retry attempt [] o all one = ((λ now word. let e : attempt ≡ attempt + 0 = omega arith in ap (λ (n : ℕ). fate_of (next_after retry n o now word)) e ∙ one now word), tt)
 leads-more retry attempt (p ∷ outcomes) o all one =
     (all.0, leads-more retry (attempt + 1) outcomes o all.1 (λ now word. let e : (attempt + 1) + length outcomes ≡ attempt + length (p ∷ outcomes) = omega arith in ap (λ (n : ℕ). fate_of (next_after retry n o now word)) e ∙ one now word))
 
--- ---- what an outcome leads to does not hang on the moment, nor on the word
+-- ---- what an outcome leads to depends neither on the moment nor on the word
 
 lead_of : (retry : RetryConfig) (attempt : ℕ) (o : Outcome) (now word now' word' : ℕ) (b : Bool) (r : Option (Option retries.RetryAfter))
     → fate_of (if b then option_map_or (λ after. again (min (now + wait_ns retry attempt after now word) greatest_moment)) r (next_of o) else next_of o)
@@ -43,6 +45,7 @@ lead_of retry attempt o now word now' word' true None = refl
 lead_of retry attempt o now word now' word' true (Some after) = refl
 lead_of retry attempt o now word now' word' false r = refl
 
+-- What an outcome leads to depends neither on the moment nor on the drawn word.
 pub same_lead : (retry : RetryConfig) (attempt : ℕ) (o : Outcome) (now word now' word' : ℕ) → fate_of (next_after retry attempt o now word) ≡ fate_of (next_after retry attempt o now' word')
 same_lead retry attempt o now word now' word' = lead_of retry attempt o now word now' word' (nat_lt attempt retry.attempts) (retried o)
 
@@ -56,6 +59,7 @@ gains_more : (xs ys : List Handed) (a b d : Option (List Handed)) → Gains xs a
 gains_more xs ys None b d first second = second ∙ ap (option_map (λ (had : List Handed). had ++ ys)) first
 gains_more xs ys (Some had) b d first second = second ∙ ap (option_map (λ (all : List Handed). all ++ ys)) first ∙ ap Some (append_assoc had xs ys)
 
+-- Work that hands nothing to the exporter and ends no batch goes on as the contract says.
 pub goes_quiet : (told told' : Option (List Handed)) (old new : Work) → told' ≡ told → new.origin ≡ old.origin → attempts_of new.account ≡ attempts_of old.account → new.account.ended ≡ old.account.ended → new.account.left ≡ old.account.left → (old.account.left ≡ true → new ≡ old) → GoesOn told told' old new
 goes_quiet told told' old new same origin attempts ended left stays = record {
   origin = origin;
@@ -69,10 +73,11 @@ goes_quiet told told' old new same origin attempts ended left stays = record {
   stays = stays;
 }
 
--- it hasn't left
+-- The worker hasn't left.
 stays_here : (w : WorkerAccount) {X : Type 0} → w.left ≡ false → w.left ≡ true → X
 stays_here w here is = absurd (let e : true ≡ false = sym is ∙ here in cc)
 
+-- Two stretches of work, one after the other, are one.
 pub goes_on : (told told' told'' : Option (List Handed)) (old mid new : Work) → GoesOn told told' old mid → GoesOn told' told'' mid new → GoesOn told told'' old new
 goes_on told told' told'' old mid new a b = record {
   origin = b.origin ∙ a.origin;
@@ -99,6 +104,7 @@ attempts_none origin w outcomes hand none = ap (λ (o : Option OutBatch). before
 module _ (origin : Origin) (w : WorkerAccount) (outcomes : List Outcome) where
   -- a batch is taken
   module _ (k : IsWorking origin w outcomes None) (batch : BatchView) (room : batch.room ≡ origin.desk.batch) (size : IsBatchSize origin batch.spans) where
+    -- A worker that takes a batch has it in hand, to be encoded.
     pub taken_works : IsWorking origin (after_take batch.number batch.spans w) outcomes (Some (record { batch = batch; stage = to_encode }))
     taken_works = record {
       here = k.here;
@@ -108,15 +114,18 @@ module _ (origin : Origin) (w : WorkerAccount) (outcomes : List Outcome) where
       tied = record { out = refl; room = room; some = size.0; few = size.1; stage = k.tied.1 };
     }
 
+    -- The take of a batch hands nothing to the exporter and ends no batch.
     pub taken_goes : (told : Option (List Handed)) → GoesOn told told (work_of origin w outcomes None) (work_of origin (after_take batch.number batch.spans w) outcomes (Some (record { batch = batch; stage = to_encode })))
     taken_goes told = goes_quiet told told (work_of origin w outcomes None) (work_of origin (after_take batch.number batch.spans w) outcomes (Some (record { batch = batch; stage = to_encode }))) refl refl
         (append-nil (before w) ∙ sym (attempts_none origin w outcomes None k.tied.0)) refl refl (stays_here w k.here)
 
   -- all is drained
   module _ (k : IsWorking origin w outcomes None) where
+    -- A worker whose account notes that all is drained still has no batch in hand.
     pub drained_works : IsWorking origin (after_drained w) outcomes None
     drained_works = record { here = k.here; retry = k.retry; by_work = k.by_work; again = k.again; tied = k.tied }
 
+    -- The note that all is drained hands nothing to the exporter and ends no batch.
     pub drained_goes : (told : Option (List Handed)) → GoesOn told told (work_of origin w outcomes None) (work_of origin (after_drained w) outcomes None)
     drained_goes told = goes_quiet told told (work_of origin w outcomes None) (work_of origin (after_drained w) outcomes None) refl refl refl refl refl (stays_here w k.here)
 
@@ -136,6 +145,7 @@ module _ (origin : Origin) (w : WorkerAccount) (outcomes : List Outcome) where
       lacking_by_work : IsByWork origin lacking_batch
       lacking_by_work = record { some = k.tied.some; few = k.tied.few; ending = lacks }
 
+      -- A worker that drops a batch without a body has no batch in hand.
       pub lacking_works : IsWorking origin (after_drop reason w) outcomes None
       lacking_works = record {
         here = k.here;
@@ -145,6 +155,7 @@ module _ (origin : Origin) (w : WorkerAccount) (outcomes : List Outcome) where
         tied = (refl, k.tied.stage);
       }
 
+      -- The drop of a batch without a body ends this batch by work, with no attempt.
       pub lacking_goes : (told told' : Option (List Handed)) → told' ≡ told → GoesOn told told' (work_of origin w outcomes (hand_at batch to_encode)) (work_of origin (after_drop reason w) outcomes None)
       lacking_goes told told' same = record {
         origin = refl;
@@ -173,6 +184,7 @@ module _ (origin : Origin) (w : WorkerAccount) (outcomes : List Outcome) where
     out_after : (after_handed body w).out ≡ Some (record { number = batch.number; spans = batch.spans; body = Some body; outcomes = [] })
     out_after = ap (handed_with body) k.tied.out
 
+    -- A worker that handed a body for the first time has its outcome to judge.
     pub sent_works : IsWorking origin (after_handed body w) outcomes (Some sent_hand)
     sent_works = record {
       here = k.here;
@@ -182,6 +194,7 @@ module _ (origin : Origin) (w : WorkerAccount) (outcomes : List Outcome) where
       tied = record { out = out_after; room = k.tied.room; some = k.tied.some; few = k.tied.few; stage = ((let n = ap length none_yet in let s = k.retry.some in omega arith), k.tied.stage.1) };
     }
 
+    -- The first export of a body adds one attempt, to the exporter's list and the account.
     pub sent_goes : (told told' : Option (List Handed)) → Gains (handing batch.number 1 body o) told told' → GoesOn told told' (work_of origin w outcomes (Some (record { batch = batch; stage = to_send body }))) (work_of origin (after_handed body w) outcomes (Some sent_hand))
     sent_goes told told' gains = record {
       origin = refl;
@@ -198,11 +211,13 @@ module _ (origin : Origin) (w : WorkerAccount) (outcomes : List Outcome) where
       stays = stays_here w k.here;
     }
 
-  -- and again
+  -- a body is handed to the exporter again
   module _ (batch : BatchView) (body : List ℕ) (o : Outcome) (k : IsWorking origin w outcomes (Some (record { batch = batch; stage = to_retry body }))) where
+    -- A worker that handed a body again has its outcome to judge.
     pub resent_works : IsWorking origin w outcomes (Some (record { batch = batch; stage = to_judge body o }))
     resent_works = record { here = k.here; retry = k.retry; by_work = k.by_work; again = k.again; tied = record { out = k.tied.out; room = k.tied.room; some = k.tied.some; few = k.tied.few; stage = (k.tied.stage.0, k.tied.stage.1) } }
 
+    -- A retry of a body adds one attempt, to the exporter's list and the account.
     pub resent_goes : (told told' : Option (List Handed)) → Gains (handing batch.number (1 + length outcomes) body o) told told' → GoesOn told told' (work_of origin w outcomes (Some (record { batch = batch; stage = to_retry body }))) (work_of origin w outcomes (Some (record { batch = batch; stage = to_judge body o })))
     resent_goes told told' gains = record {
       origin = refl;
@@ -224,6 +239,7 @@ module _ (origin : Origin) (w : WorkerAccount) (outcomes : List Outcome) where
 
   -- an outcome leads to another attempt
   module _ (batch : BatchView) (body : List ℕ) (o : Outcome) (k : IsWorking origin w outcomes (Some (record { batch = batch; stage = to_judge body o }))) (now word : ℕ) where
+    -- A worker that judged an outcome as retryable has the batch to send again.
     pub again_works : (moment : ℕ) → next_after origin.retry (1 + length outcomes) o now word ≡ again moment → IsWorking origin w (outcomes ++ o ∷ []) (Some (record { batch = batch; stage = to_retry body }))
     again_works moment is = record {
       here = k.here;
@@ -239,10 +255,11 @@ module _ (origin : Origin) (w : WorkerAccount) (outcomes : List Outcome) where
       };
     }
 
+    -- The verdict that a batch is to be sent again hands nothing over and ends no batch.
     pub again_goes : (told : Option (List Handed)) → GoesOn told told (work_of origin w outcomes (Some (record { batch = batch; stage = to_judge body o }))) (work_of origin w (outcomes ++ o ∷ []) (Some (record { batch = batch; stage = to_retry body })))
     again_goes told = goes_quiet told told _ _ refl refl (ap (λ (os : List Outcome). attempts_of (record w { out = with_outcomes os w.out })) (append-nil (outcomes ++ o ∷ []))) refl refl (stays_here w k.here)
 
-    -- or settles the batch
+    -- or it settles the batch
     module _ (fate : Fate) (ends : fate_of (next_after origin.retry (1 + length outcomes) o now word) ≡ Some fate) where
       abbrev ended_batch : EndedBatch
       ended_batch = record { number = batch.number; spans = batch.spans; ending = settled body (outcomes ++ o ∷ []) fate }
@@ -270,6 +287,7 @@ module _ (origin : Origin) (w : WorkerAccount) (outcomes : List Outcome) where
         };
       }
 
+      -- A worker that settled its batch has no batch in hand and no outcomes.
       pub settled_works : IsWorking origin (after_settle (outcomes ++ o ∷ []) fate w) [] None
       settled_works = record {
         here = k.here;
@@ -279,6 +297,7 @@ module _ (origin : Origin) (w : WorkerAccount) (outcomes : List Outcome) where
         tied = (refl, refl);
       }
 
+      -- The settling of a batch ends this batch by work, and hands nothing to the exporter.
       pub settled_goes : (told : Option (List Handed)) → GoesOn told told (work_of origin w outcomes (Some (record { batch = batch; stage = to_judge body o }))) (work_of origin (after_settle (outcomes ++ o ∷ []) fate w) [] None)
       settled_goes told = record {
         origin = refl;
@@ -296,13 +315,13 @@ module _ (origin : Origin) (w : WorkerAccount) (outcomes : List Outcome) where
         stays = stays_here w k.here;
       }
 
--- ---- what work leaves out
+-- ---- the batch that is out
 
 leads-first : (retry : RetryConfig) (attempt : ℕ) (outcomes more : List Outcome) → EachLeadsOn retry attempt (outcomes ++ more) → EachLeadsOn retry attempt outcomes
 leads-first retry attempt [] more all = tt
 leads-first retry attempt (o ∷ outcomes) more all = (all.0, leads-first retry (attempt + 1) outcomes more all.1)
 
--- a list that isn't empty has a last one
+-- A list that isn't empty has a last element.
 last_of : (o : Outcome) (outcomes : List Outcome) → (earlier : List Outcome) × (last : Outcome) × (o ∷ outcomes ≡ earlier ++ last ∷ [])
 last_of o [] = ([], o, refl)
 last_of o (p ∷ outcomes) = let rest = last_of p outcomes in (o ∷ rest.0, rest.1, ap (λ (l : List Outcome). o ∷ l) rest.2)
@@ -337,6 +356,7 @@ out_at origin w outcomes hand k = by_stage hand.stage k.tied.stage
     }
     by_stage (to_retry body) s = subst (IsSent origin hand.batch.spans body) (sym (append-nil outcomes)) (sent_all origin hand.batch.spans body outcomes s.1 s.2 (let b = s.0 in omega arith) k.again)
 
+-- The batch that is out, if there is one, has come as far as it is by work.
 pub out_by_work : (origin : Origin) (w : WorkerAccount) (outcomes : List Outcome) (hand : Option Hand) → IsWorking origin w outcomes hand → IfSome (work_of origin w outcomes hand).account.out (IsOutByWork origin)
 out_by_work origin w outcomes None k = subst (λ (o : Option OutBatch). IfSome (with_outcomes (outcomes ++ []) o) (IsOutByWork origin)) (sym k.tied.0) tt
 out_by_work origin w outcomes (Some hand) k =
@@ -345,13 +365,15 @@ out_by_work origin w outcomes (Some hand) k =
 
 -- ---- whether it has left
 
+-- A worker that works is a pass whose worker hasn't left.
 pub pass_works : (left : Bool) (state : WorkerState) (hand : Option Hand) → left ≡ false → IsWorkingWith state hand → IsPassWith left state hand
 pass_works left state hand here k = record { left_is = k.here ∙ sym here; works = λ _. k; has_left = λ is. absurd (let e : true ≡ false = sym is ∙ here in cc) }
 
+-- A worker that has left, with no batch in hand, is a pass whose worker has left.
 pub pass_left : (state : WorkerState) (hand : Option Hand) → state.account.left ≡ true → HasLeft state hand → IsPassWith true state hand
 pass_left state hand is h = record { left_is = is; works = λ e. cc; has_left = λ _. h }
 
--- how the batches of a worker ended, once the batch that is out is abandoned
+-- All batches of a worker ended by work once the batch that is out is abandoned.
 pub pass_end : (left : Bool) (state : WorkerState) (hand : Option Hand) → IsPassWith left state hand → EndByWork state.origin (abandon (work_in state hand).account)
 pass_end true state hand k =
     let e = (k.has_left refl).batches in
@@ -372,7 +394,7 @@ pass_end false state hand k = record {
   none_out = refl;
 }
 
--- how they ended until the worker leaves
+-- All batches of a worker ended by work until it leaves, and then none is out.
 pub pass_until_left : (left : Bool) (state : WorkerState) (hand : Option Hand) → IsPassWith left state hand → WorksUntilItLeaves state.origin (work_in state hand).account
 pass_until_left true state hand k = record {
   by_work = λ here. absurd (let e : true ≡ false = sym k.left_is ∙ here in cc);
@@ -383,7 +405,7 @@ pass_until_left false state hand k = record {
   none_out = λ gone. absurd (let e : true ≡ false = sym gone ∙ k.left_is in cc);
 }
 
--- it leaves, with a batch in hand and without one
+-- A worker with a batch in hand abandons it as it leaves, and has none in hand then.
 pub leaves_with : (state : WorkerState) (hand : Hand) → IsWorkingWith state (Some hand)
     → IsPassWith true (record state { account = after_left (abandon (work_in state (Some hand)).account); outcomes = [] }) None
 leaves_with state hand k = pass_left (record state { account = after_left (abandon (work_in state (Some hand)).account); outcomes = [] }) None refl (record {
@@ -399,11 +421,13 @@ leaves_with state hand k = pass_left (record state { account = after_left (aband
   };
 })
 
--- ---- what is told to the worker's account
+-- ---- changes of the worker's account
 
+-- The worker's part of the worker's account changes by the recorded function.
 pub told_worker : (f : WorkerAccount → WorkerAccount) (origin : Origin) (a a' : AnyAccount) → a' ≡ on_worker f a → a ≡ worker origin (worker_in a) → worker_in a' ≡ f (worker_in a)
 told_worker f origin a a' told is = ap worker_in (told ∙ ap (on_worker f) is)
 
+-- The worker's account is still the worker's, of the same processor, after a change.
 pub told_account : (f : WorkerAccount → WorkerAccount) (origin : Origin) (a a' : AnyAccount) → a' ≡ on_worker f a → a ≡ worker origin (worker_in a) → a' ≡ worker origin (worker_in a')
 told_account f origin a a' told is = told ∙ ap (on_worker f) is ∙ ap (worker origin) (sym (told_worker f origin a a' told is))
 
@@ -411,10 +435,11 @@ abbrev pub state_of : Origin → WorkerAccount → List Outcome → WorkerState
 state_of origin w os = record { origin = origin; account = w; outcomes = os }
 
 module _ (origin : Origin) (a : AnyAccount) (os : List Outcome) (old : WorkerState) (is : a ≡ worker origin (worker_in a)) (view : state_of origin (worker_in a) os ≡ old) where
-  -- what it hears changes the account alone
+  -- A change of the worker's account leaves the rest of the worker's state as it was.
   pub told_state : (a' : AnyAccount) (f : WorkerAccount → WorkerAccount) → a' ≡ on_worker f a → state_of origin (worker_in a') os ≡ record old { account = f old.account }
   told_state a' f told = ap (λ (w : WorkerAccount). state_of origin w os) (told_worker f origin a a' told is) ∙ ap (λ (s : WorkerState). record s { account = f s.account }) view
 
+  -- An unchanged account leaves the worker's state as it was.
   pub same_state : (a' : AnyAccount) → a' ≡ a → state_of origin (worker_in a') os ≡ old
   same_state a' same = ap (λ (h : AnyAccount). state_of origin (worker_in h) os) same ∙ view
 
@@ -432,13 +457,16 @@ module _ (state : WorkerState) (batch : BatchView) (stage : HandStage) (room : �
 
 -- ---- steps
 
+-- Work that changes nothing goes on as the contract says.
 pub no_turn : (told : Option (List Handed)) (work : Work) → GoesOn told told work work
 no_turn told work = goes_quiet told told work work refl refl refl refl refl (λ _. refl)
 
+-- A worker whose state is unchanged has taken a step that leaves the exporter alone.
 pub no_step : (old new : WorkerState) (hand : Option Hand) → IsWorkingWith old hand → new ≡ old → StepsAside old hand new hand
 no_step old new hand k is = subst (λ (s : WorkerState). StepsAside old hand s hand) (sym is)
     (λ told room prepared. record { ready = record { works = k; prepared = prepared }; goes_on = no_turn told (work_in old hand) })
 
+-- The take of a batch is a step that leaves the exporter alone.
 pub take_step : (old new : WorkerState) (batch : BatchView) → IsWorkingWith old None → batch.room ≡ old.origin.desk.batch → IsBatchSize old.origin batch.spans
     → new ≡ record old { account = after_take batch.number batch.spans old.account } → StepsAside old None new (hand_at batch to_encode)
 take_step old new batch k room size is = subst (λ (s : WorkerState). StepsAside old None s (hand_at batch to_encode)) (sym is)
@@ -447,6 +475,7 @@ take_step old new batch k room size is = subst (λ (s : WorkerState). StepsAside
       goes_on = taken_goes old.origin old.account old.outcomes k batch room size told;
     })
 
+-- A step without a batch is still one where the account then notes that all is drained.
 pub drained_step : (old mid new : WorkerState) (b : Bool) → StepsAside old None mid None → (b ≡ true → new ≡ record mid { account = after_drained mid.account }) → (b ≡ false → new ≡ mid) → StepsAside old None new None
 drained_step old mid new false s yes' no' = subst (λ (x : WorkerState). StepsAside old None x None) (sym (no' refl)) s
 drained_step old mid new true s yes' no' = subst (λ (x : WorkerState). StepsAside old None x None) (sym (yes' refl))
@@ -456,10 +485,11 @@ drained_step old mid new true s yes' no' = subst (λ (x : WorkerState). StepsAsi
       goes_on = goes_on told told told (work_in old None) (work_in mid None) (work_in (record mid { account = after_drained mid.account }) None) t.goes_on (drained_goes mid.origin mid.account mid.outcomes k told);
     })
 
--- a worker with no batch in hand has none out
+-- A worker with no batch in hand has none out.
 pub no_hand_out : (state : WorkerState) (hand : Option Hand) → hand ≡ None → IsWorkingWith state None → (work_in state hand).account.out ≡ None
 no_hand_out state hand is k = subst (λ (h : Option Hand). (work_in state h).account.out ≡ None) (sym is) (ap (with_outcomes (state.outcomes ++ [])) k.tied.0)
 
+-- A take that the worker's account records is a step that leaves the exporter alone.
 pub take_told : (origin : Origin) (a a' : AnyAccount) (os : List Outcome) (old : WorkerState) (batch : BatchView) → IsWorkingWith old None → a ≡ worker origin (worker_in a) → state_of origin (worker_in a) os ≡ old
     → a' ≡ on_worker (after_take batch.number batch.spans) a → IsBatchOf a' batch → IsBatchSize (origin_in a) batch.spans → StepsAside old None (state_of origin (worker_in a') os) (hand_at batch to_encode)
 take_told origin a a' os old batch k is view told of size =
@@ -470,6 +500,7 @@ take_told origin a a' os old batch k is view told of size =
 
 module _ (told told' : Option (List Handed)) (room room' : ℕ → ℕ) (state : WorkerState) (batch : BatchView) where
   module _ (r : IsReady room state (hand_at batch to_encode)) (same : told' ≡ told) where
+    -- The encoding of a batch is a step, where the exporter has room for all attempts.
     pub encode_step : (body : List ℕ) → MayBeSent state.origin.max_body batch.spans body → state.origin.retry.attempts ≤ room' (length body) → TakesStep told told' room' state (hand_at batch to_encode) state (hand_at batch (to_send body))
     encode_step body means place =
         let k = encoded_works state.origin state.account state.outcomes batch r.works body means in record {
@@ -477,6 +508,7 @@ module _ (told told' : Option (List Handed)) (room room' : ℕ → ℕ) (state :
           goes_on = goes_quiet told told' (work_in state (hand_at batch to_encode)) (work_in state (hand_at batch (to_send body))) same refl refl refl refl (stays_here state.account k.here);
         }
 
+    -- The drop of a batch without a body is a step.
     pub lack_step : (new : WorkerState) (reason : Reason) → LacksBody state.origin.max_body batch.spans reason → new ≡ record state { account = after_drop reason state.account } → TakesStep told told' room' state (hand_at batch to_encode) new None
     lack_step new reason lacks is = subst (λ (s : WorkerState). TakesStep told told' room' state (hand_at batch to_encode) s None) (sym is)
         (record {
@@ -485,6 +517,7 @@ module _ (told told' : Option (List Handed)) (room room' : ℕ → ℕ) (state :
         })
 
   module _ (body : List ℕ) (hand : Hand) (less : (len : ℕ) → room len ≤ room' len + 1) where
+    -- The first export of a batch is a step, where it uses at most one place of the room.
     pub send_step : (new : WorkerState) → IsReady room state (hand_at batch (to_send body)) → IsExported told told' batch body 1 hand → new ≡ record state { account = after_handed body state.account } → TakesStep told told' room' state (hand_at batch (to_send body)) new (Some hand)
     send_step new r sent is =
         let mid : WorkerState = record state { account = after_handed body state.account } in
@@ -498,6 +531,7 @@ module _ (told told' : Option (List Handed)) (room room' : ℕ → ℕ) (state :
           goes_on = sent_goes state.origin state.account state.outcomes batch body sent.outcome r.works told told' sent.gains;
         }))
 
+    -- A retry of a batch is a step, where it uses at most one place of the room.
     pub resend_step : (attempt : ℕ) → IsReady room state (hand_at batch (to_retry body)) → IsExported told told' batch body attempt hand → attempt ≡ 1 + length state.outcomes → TakesStep told told' room' state (hand_at batch (to_retry body)) state (Some hand)
     resend_step attempt r sent count =
         let k = resent_works state.origin state.account state.outcomes batch body sent.outcome r.works in
@@ -510,6 +544,7 @@ module _ (told told' : Option (List Handed)) (room room' : ℕ → ℕ) (state :
         })
 
 module _ (state : WorkerState) (batch : BatchView) (body : List ℕ) (o : Outcome) (now word : ℕ) (k : IsWorkingWith state (hand_at batch (to_judge body o))) where
+  -- The verdict that a batch is to be sent again is a step that leaves the exporter alone.
   pub again_step : (new : WorkerState) (moment : ℕ) → next_after state.origin.retry (1 + length state.outcomes) o now word ≡ again moment → new ≡ record state { outcomes = state.outcomes ++ o ∷ [] } → StepsAside state (hand_at batch (to_judge body o)) new (hand_at batch (to_retry body))
   again_step new moment next is =
       let mid : WorkerState = record state { outcomes = state.outcomes ++ o ∷ [] } in
@@ -521,6 +556,7 @@ module _ (state : WorkerState) (batch : BatchView) (body : List ℕ) (o : Outcom
         goes_on = again_goes state.origin state.account state.outcomes batch body o k now word told;
       })
 
+  -- The settling of a batch is a step that leaves the exporter alone.
   pub settle_step : (new : WorkerState) (fate : Fate) → fate_of (next_after state.origin.retry (1 + length state.outcomes) o now word) ≡ Some fate
       → new ≡ record state { account = after_settle (state.outcomes ++ o ∷ []) fate state.account; outcomes = [] } → StepsAside state (hand_at batch (to_judge body o)) new None
   settle_step new fate ends is = subst (λ (s : WorkerState). StepsAside state (hand_at batch (to_judge body o)) s None) (sym is)
@@ -529,7 +565,7 @@ module _ (state : WorkerState) (batch : BatchView) (body : List ℕ) (o : Outcom
         goes_on = settled_goes state.origin state.account state.outcomes batch body o k now word fate ends told;
       })
 
--- the batch in hand is the one that is out
+-- A batch in hand that was handed is the one that the worker's account has out.
 pub handed_out : (state : WorkerState) (batch : BatchView) (stage : HandStage) (body : List ℕ) → IsWorkingWith state (hand_at batch stage) → handed_at stage ≡ Some body → IsSentBatchOf (worker state.origin state.account) batch
 handed_out state batch stage body k handed = record {
   body = body;
@@ -537,13 +573,14 @@ handed_out state batch stage body k handed = record {
   room = k.tied.room;
 }
 
--- a turn is a step
+-- A turn that takes a step goes on as the contract says.
 pub turn_goes : (told told' : Option (List Handed)) (room : ℕ → ℕ) (old new : WorkerState) (h h0 h1 h2 : Option Hand) (work : Work) → work_in old h ≡ work → h ≡ h0 → h2 ≡ h1 → TakesStep told told' room old h0 new h1 → GoesOn told told' work (work_in new h2)
 turn_goes told told' room old new h h0 h1 h2 work view was is step =
     subst (λ (x : Work). GoesOn told told' x (work_in new h2)) view
     (subst (λ (x : Option Hand). GoesOn told told' (work_in old x) (work_in new h2)) (sym was)
     (subst (λ (x : Option Hand). GoesOn told told' (work_in old h0) (work_in new x)) (sym is) step.goes_on))
 
+-- A worker is ready for another step after a turn.
 pub turn_ready : (told told' : Option (List Handed)) (room : ℕ → ℕ) (old new : WorkerState) (h0 h1 h2 : Option Hand) → h2 ≡ h1 → TakesStep told told' room old h0 new h1 → IsReady room new h2
 turn_ready told told' room old new h0 h1 h2 is step = subst (IsReady room new) (sym is) step.ready
 
@@ -556,6 +593,7 @@ always_room work = by_body work.encoded
     by_body None = tt
     by_body (Some body) = omega arith
 
+-- A step that leaves the exporter alone is one for an exporter with room for all attempts.
 pub aside_step : (old new : WorkerState) (h h' : Option Hand) → StepsAside old h new h' → (told : Option (List Handed)) → TakesStep told told (λ _. old.origin.retry.attempts) old h new h'
 aside_step old new h h' step told = step told (λ _. old.origin.retry.attempts) (always_room (work_in old h))
 
@@ -568,6 +606,7 @@ judged_by : (state : WorkerState) (outcomes : List Outcome) (out : Option OutBat
 judged_by state outcomes None each = tt
 judged_by state outcomes (Some b) each = each
 
+-- Each outcome of the batch that is out led to another attempt, where none is to be judged.
 pub pass_judged : (left : Bool) (state : WorkerState) (hand : Option Hand) → IsPassWith left state hand → in_hand [] pending_at hand ≡ [] → EachOutLeadsOn state (work_in state hand).account.out
 pass_judged false state hand p none =
     judged_by state (state.outcomes ++ in_hand [] pending_at hand) state.account.out
@@ -577,11 +616,12 @@ pass_judged true state hand p none =
 
 -- ---- a pass with a batch in hand hasn't left
 
+-- A worker with a batch in hand hasn't left.
 pub pass_working : (left : Bool) (state : WorkerState) (hand : Hand) → IsPassWith left state (Some hand) → IsWorkingWith state (Some hand)
 pass_working false state hand p = p.works refl
 pass_working true state hand p = absurd (let none : Some hand ≡ None = (p.has_left refl).none in cc)
 
--- the same after a step that leaves the exporter alone
+-- A pass with a batch in hand still works after a step that leaves the exporter alone.
 pub aside_pass : (left : Bool) (old new : WorkerState) (hand : Hand) (h h' : Option Hand) → IsPassWith left old (Some hand) → StepsAside old (Some hand) new h → h' ≡ h → IsPassWith left new h'
 aside_pass left old new hand h h' p step is =
     let k = pass_working left old hand p in

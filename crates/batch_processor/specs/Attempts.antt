@@ -12,7 +12,7 @@ use Rattle.model_processor.specs.WorkerClauses.{IsByWork, Origin}
 
 -- ---- attempts
 
--- the attempts of a batch, of this body, from this one on, with what they came to
+-- the attempts of a batch, of this body, from this one on, with their outcomes
 abbrev pub attempts_from : ℕ → ℕ → List ℕ → List Outcome → List Handed
 attempts_from number attempt body [] = []
 attempts_from number attempt body (outcome ∷ outcomes) =
@@ -41,7 +41,7 @@ attempts_of worker =
 -- ---- a worker's pass
 
 -- A worker's pass, as its contracts see it: what the processor began with, what the worker knows,
--- with what the attempts of the batch that is out came to, and the body that this batch has.
+-- with the outcomes of the attempts of the batch that is out, and the body that this batch has.
 pub record Work : Type 0 where
   pub origin : Origin
   pub account : WorkerAccount
@@ -62,7 +62,7 @@ abbrev pub IsPrepared : (ℕ → ℕ) → Work → Type 0
 IsPrepared room work =
     HasRoom work.origin.retry room work.encoded (outcomes_out work.account.out)
 
--- An exporter that tells has gained just the attempts that the worker's account gained. Batches
+-- An exporter that records has gained just the attempts that the worker's account gained. Batches
 -- ended by work alone, and none that had ended is changed. The worker hasn't left meanwhile, and
 -- where it had before, nothing is done.
 pub record GoesOn (told told' : Option (List Handed)) (old new : Work) : Type 0 where

@@ -58,14 +58,14 @@ pub record WasCounted (totals : Totals) (account : PassAccount) : Type 0 where
   pub guarded : Guarded
   pub counted : IsCounted guarded totals account
 
--- ---- who is woken
+-- ---- what is woken
 
 -- What the worker waits for, but for the moment: a batch is due whatever the moment is, or no span
 -- waits any more and none is admitted.
 abbrev pub has_work : Desk → Bool
 has_work desk = is_due desk 0 || (desk.closed && length desk.waiting == 0)
 
--- Who is woken for what a hold changed: the worker where what it waits for is so now and wasn't
+-- What is woken for what a hold changed: the worker where what it waits for is so now and wasn't
 -- before, as where a batch fills, or a flush or a shutdown asks; and flushes where a batch ended,
 -- or the worker left.
 abbrev pub wake_of : Guarded → Guarded → Wake
@@ -74,7 +74,7 @@ wake_of old new = record {
   flushes = (is_some old.desk.out && not (is_some new.desk.out)) || (new.left && not old.left);
 }
 
--- ---- what a pass asks for, and what it is answered
+-- ---- what a pass asks for, and its answer
 
 -- A pass asked for all that was accepted so far: the mark is the number of these, and the account
 -- says which ticket was the next one.
@@ -89,8 +89,8 @@ pub record Shuts (guarded : Guarded) (mark : ℕ) (old new : AnyAccount) : Type 
   pub mark_is : mark ≡ accepted_count guarded.desk
   pub account : new ≡ on_pass (after_shutdown guarded.desk.next_ticket mark) old
 
--- What a flush is answered in a hold: that all up to its mark was settled or dropped, or else that
--- the worker has left.
+-- The answer to a flush in a hold: that all up to its mark was settled or dropped, or else that the
+-- worker has left.
 pub record IsTold (guarded : Guarded) (mark : ℕ) (answer : Result Flushed WorkerLeft)
     (account : PassAccount) : Type 0 where
   pub hold : InHold guarded account
@@ -139,6 +139,6 @@ pub record IsSettledBatchOf (holder : AnyAccount) (batch : SettledView) : Type 0
   pub entries : batch.entries ≡ lost_names batch.fate spans
   pub room : batch.room ≡ (origin_in holder).desk.batch
 
--- A batch has at least one span, and as many as are configured at most.
+-- A batch has at least one span, and at most as many spans as are configured.
 abbrev pub IsBatchSize : Origin → List SpanData → Type 0
 IsBatchSize origin spans = (1 ≤ length spans) × (length spans ≤ origin.desk.batch)

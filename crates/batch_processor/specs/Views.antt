@@ -34,28 +34,28 @@ setup_view s = record {
 abbrev pub outcomes_view : List Outcome → List retries.Outcome
 outcomes_view outcomes = map outcome_view outcomes
 
--- what is answered where a span was admitted so
+-- the answer to the end of a span, by how it was admitted
 abbrev pub ended_of : Admitted → Ended
 ended_of (admitted.Queued ticket) = answers.Queued ticket
 ended_of (admitted.Full ticket) = answers.Dropped ticket reasons.QueueFull
 ended_of admitted.Late = answers.Late
 
--- a span that ended, and was admitted so
+-- a pass's account after the end of a span, by how it was admitted
 abbrev pub after_end : Admitted → SpanData → PassAccount → PassAccount
 after_end (admitted.Queued ticket) span account = after_accepted ticket span account
 after_end (admitted.Full ticket) span account = after_dropped queue_full ticket span account
 after_end admitted.Late span account = after_late account
 
--- what was asked for is flushed, or the worker has left
+-- a pass's account after the answer to a flush: it is flushed, or the worker has left
 abbrev pub after_answer : Result Flushed WorkerLeft → PassAccount → PassAccount
 after_answer (Ok flushed) account = after_flushed account
 after_answer (Err left) account = after_told_left account
 
--- a processor may have so many passes (profile)
+-- a processor may have this number of passes (profile)
 abbrev pub IsPassCount : ℕ → Type 0
 IsPassCount passes = (1 ≤ passes) × (passes ≤ MAX_PASSES)
 
--- why a processor is not made, where its queue isn't
+-- why a processor is not made, by why its queue isn't
 abbrev pub new_fault : RingFault → NewFault
 new_fault rings.ZeroSize = faults.ZeroSize
 new_fault rings.BatchAboveQueue = faults.BatchAboveQueue

@@ -19,8 +19,8 @@ use Rattle.batch_processor.specs.declared.steps.Stage.TheVariants as stages
 
 -- ---- between two turns
 
--- how far the batch is: it is to be encoded, or this body is to be sent, or it was sent and came to
--- this, or it is to be sent again
+-- how far the batch is: it is to be encoded, or this body is to be sent, or it was sent and had
+-- this outcome, or it is to be sent again
 pub data HandStage : Type 0 where
   to_encode : HandStage
   to_send : List ℕ → HandStage
@@ -119,7 +119,7 @@ pub record IsWorking (origin : Origin) (account : WorkerAccount) (outcomes : Lis
 -- ---- what a step does
 
 -- All that a worker's pass has but the batch in hand: what the processor began with, what the
--- worker knows, and what the attempts of the batch that is out came to that were judged.
+-- worker knows, and the outcomes that were judged of the batch that is out.
 pub record WorkerState : Type 0 where
   pub origin : Origin
   pub account : WorkerAccount
@@ -158,12 +158,12 @@ pub record TakesStep (told told' : Option (List Handed)) (room : ℕ → ℕ)
   pub ready : IsReady room new hand'
   pub goes_on : GoesOn told told' (work_in old hand) (work_in new hand')
 
--- The same of a step that leaves the exporter alone, whatever room it has and whatever it tells.
+-- The same of a step that leaves the exporter alone, whatever room it has and whatever it records.
 abbrev pub StepsAside : WorkerState → Option Hand → WorkerState → Option Hand → Type 0
 StepsAside old hand new hand' = (told : Option (List Handed)) (room : ℕ → ℕ)
     → IsPrepared room (work_in old hand) → TakesStep told told room old hand new hand'
 
--- The body was handed to the exporter, in this attempt, and what came of it is to be judged.
+-- The body was handed to the exporter, in this attempt, and its outcome is to be judged.
 pub record IsExported (told told' : Option (List Handed)) (batch : BatchView) (body : List ℕ)
     (attempt : ℕ) (hand : Hand) : Type 0 where
   pub outcome : Outcome

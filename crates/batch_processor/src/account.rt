@@ -30,7 +30,7 @@ impl Opening<AccountState> for AccountState {
     ghost first = { pass new_account };
 }
 
-/// The account of a processor that is told nothing yet.
+/// The account of a processor before anything happens.
 pub(crate) struct NewProcessor;
 
 impl Opening<AccountState> for NewProcessor {
@@ -39,7 +39,7 @@ impl Opening<AccountState> for NewProcessor {
     ghost first = { processor new_origin };
 }
 
-/// The account of a worker that is told nothing yet.
+/// The account of a worker before anything happens.
 pub(crate) struct NewWorker;
 
 impl Opening<AccountState> for NewWorker {
@@ -188,7 +188,7 @@ impl<A: Allocator> Change<AccountState, NamedBatch<A>> for Drops {
     ghost after = { λ holder batch. on_worker (after_drop batch.reason) holder };
 }
 
-/// What the attempts of a batch came to, and how it is settled.
+/// The outcomes of the attempts of a batch, and how it is settled.
 #[derive(Drop)]
 pub(crate) struct Settled<A: Allocator> {
     pub(crate) outcomes: Snapshot<Vec<Outcome, A>>,
@@ -227,5 +227,5 @@ impl Change<AccountState, ()> for Leaves {
 }
 
 /// The accounts of one processor, before it is made: `BatchProcessor::new` opens them. In contracts
-/// it is their name, by which a type parameter stands for this one processor.
+/// it is their name, by which a type parameter names this one processor.
 pub type BatchBlank = Blank<AccountState>;

@@ -2,18 +2,18 @@
 use std::sync::atomic::{AtomicU64, Ordering};
 use std::time;
 
-/// Tells the time.
+/// Gives the time.
 pub trait Clock {
     /// The moment now, in nanoseconds since 1970.
     fn now(&self) -> u64;
 }
 
-/// How far a clock goes on where the system's has no later moment to tell, in nanoseconds.
+/// How far a clock goes on where the system's clock has no later moment, in nanoseconds.
 const STEP_NS: u64 = 1_000_000;
 
-/// The system's clock, over the runtime's value. It never goes back, and whoever reads it again and
-/// again comes to any moment: where the system's clock can't be read, is before 1970, is past
-/// 2^64 - 1 nanoseconds or was set back, it goes on from its last answer, or from 1970, by a
+/// The system's clock, over the runtime's value. It never goes back, and a caller that reads it
+/// again and again comes to any moment: where the system's clock can't be read, is before 1970, is
+/// past 2^64 - 1 nanoseconds or was set back, it goes on from its last answer, or from 1970, by a
 /// millisecond with each reading (profile).
 #[derive(Debug, Drop)]
 pub struct SystemClock<R> {
@@ -43,14 +43,14 @@ impl<R: time::Clock> Clock for SystemClock<R> {
     }
 }
 
-/// The moment that the system's clock tells, if it can be read and fits.
+/// The moment that the system's clock gives, if it can be read and fits.
 fn nanos_since_1970<R: time::Clock>(rt: &R) -> Option<u64> {
     let since = rt.since_1970().ok()?;
     u64::try_from(since.as_nanos()).ok()
 }
 
-/// A clock that stands until it is set: for tests, and for programs that lead a worker by hand.
-/// Threads may share it.
+/// A clock that stays until it is set: for tests, and for programs that call a worker's turns one
+/// by one. Threads may share it.
 #[derive(Debug, Drop)]
 pub struct ManualClock {
     now: AtomicU64,

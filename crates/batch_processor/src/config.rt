@@ -10,7 +10,7 @@ use retry_core::RetryConfig;
 pub struct BatchConfig {
     /// How many spans wait, how many a batch has, and how long it takes to fill.
     pub desk: DeskConfig,
-    /// How often a batch is sent, and when again.
+    /// How often a batch is sent, and when it is sent again.
     pub retry: RetryConfig,
     /// The greatest body that is sent, in bytes: a batch with a longer one is dropped (profile).
     pub max_body: usize,
@@ -37,7 +37,7 @@ impl Default for BatchConfig {
     }
 }
 
-/// The settings of a processor with so many passes.
+/// The settings of a processor with this number of passes.
 #[derive(Debug, Clone, Copy)]
 pub(crate) struct Setup {
     pub(crate) passes: usize,

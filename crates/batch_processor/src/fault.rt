@@ -24,7 +24,7 @@ pub enum NewFault {
     OutOfMemory,
 }
 
-/// The worker has left, and what was asked for is not flushed: nobody goes on with it.
+/// The worker has left, and what was asked for is not flushed: no thread goes on with it.
 #[derive(Debug, Clone, Copy, PartialEq, Eq, Error)]
 #[error("the worker has left")]
 pub struct WorkerLeft;

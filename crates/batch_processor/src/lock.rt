@@ -1,4 +1,4 @@
-//! The lock of a processor, and who waits for what is done under it.
+//! The lock of a processor, and the waits for what is done under it.
 ghost use Rattle.std.specs.Prelude.{◌≡◌};
 ghost use Rattle.batch_processor.specs.Holds.{WasTold};
 ghost use Rattle.model_processor.specs.AnyAccounts.{account_in, on_pass, pass};
@@ -14,8 +14,8 @@ use batch_desk::Mark;
 use std::alloc::Allocator;
 use std::sync::{Condvar, Mutex, MutexGuard, Wait};
 
-/// The lock of a processor, with what it guards. The worker waits for a batch to fill, or for
-/// somebody to ask; a flush waits for a batch to end, or for the worker to leave.
+/// The lock of a processor, with what it guards. The worker waits for a batch to fill, or for a
+/// flush or a shutdown; a flush waits for a batch to end, or for the worker to leave.
 #[derive(Drop)]
 pub(crate) struct Lock<J: Naming, A: Allocator> {
     pub(crate) shared: Mutex<Shared<J, A>>,
@@ -24,7 +24,7 @@ pub(crate) struct Lock<J: Naming, A: Allocator> {
 }
 
 impl<J: Naming, A: Allocator + Copy> Lock<J, A> {
-    /// A lock that guards this. Nobody waits yet.
+    /// A lock that guards this. No thread waits yet.
     pub(crate) fn new(shared: Shared<J, A>) -> Lock<J, A> {
         Lock {
             shared: Mutex::new(shared),

@@ -87,8 +87,8 @@ impl<J: Naming, R: Wait, A: Allocator + Copy> Pass<J, R, A> {
         lock.wait(rt, account, mark)
     }
 
-    /// Admits no span any more, on any pass, as `shutdown` does, and doesn't wait: the worker goes on
-    /// with those that wait. (Trace SDK, "Shutdown"; that it doesn't wait: profile)
+    /// Admits no span any more, on any pass, as `shutdown` does, and doesn't wait: the worker goes
+    /// on with those that wait. (Trace SDK, "Shutdown"; that it doesn't wait: profile)
     pub fn begin_shutdown(&mut self)
         ensures { AsksShutdown self.old self.new }
     {
@@ -118,7 +118,7 @@ impl<J: Naming, R: Wait, A: Allocator + Copy> Pass<J, R, A> {
     }
 
     /// Takes the newest entry out of the ledger of lost spans, if there is one: of a batch that was
-    /// handed and came to nothing (profile).
+    /// handed and not delivered (profile).
     pub fn pop_lost(&mut self) -> Option<Entry>
         ensures some { IfSome result
             (λ entry. self.new ≡ after_pop_lost (entry_view entry) self.old) }
@@ -129,8 +129,8 @@ impl<J: Naming, R: Wait, A: Allocator + Copy> Pass<J, R, A> {
     }
 
     /// Takes all names out of both ledgers in one hold of the lock, which is as short for many
-    /// names as for one. It answers them the oldest first; their memory is freed where they are let
-    /// go. No memory is taken. (profile)
+    /// names as for one. It answers them the oldest first; their memory is freed where they are
+    /// dropped. No memory is taken. (profile)
     pub fn drain_names(&mut self) -> DrainedNames<A>
         ensures { self.new ≡ after_drain result.dropped result.lost self.old }
     {

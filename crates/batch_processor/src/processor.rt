@@ -60,8 +60,8 @@ impl<J: Naming, R, A: Allocator> fmt::Debug for BatchProcessor<J, R, A> {
     }
 }
 
-/// What a processor comes to: the desk, with its totals and its ledgers of dropped and of lost
-/// spans.
+/// What is left of a processor in the end: the desk, with its totals and its ledgers of dropped and
+/// of lost spans.
 #[derive(Drop)]
 #[derive_where(Debug)]
 pub struct Accounts<A: Allocator = Global> {
@@ -69,7 +69,8 @@ pub struct Accounts<A: Allocator = Global> {
     pub desk: Desk<A>,
 }
 
-/// A pass is missing: all that was to be closed out. Where it is let go, the worker leaves.
+/// A pass is missing. It gives back all that was to be closed out. Where it is dropped, the worker
+/// leaves.
 #[derive(Drop)]
 #[derive_where(Debug)]
 pub struct Missing<J: Naming, R: Wait + Drop, A: Allocator + Copy = Global> {
@@ -129,8 +130,8 @@ impl<J: Naming, R: Wait + Drop, A: Allocator + Copy> BatchProcessor<J, R, A> {
 }
 
 impl<J: Naming, R: Wait + Drop, A: Allocator + Copy> Missing<J, R, A> {
-    /// Lets all go. The worker leaves first: a batch in hand is dropped where it was not handed to
-    /// an exporter, and else settled, and a flush on a pass that is missing is reported.
+    /// Drops all. The worker leaves first: a batch in hand is dropped where it was not handed to an
+    /// exporter, and else settled, and a flush on a pass that is missing is reported.
     pub fn discard(self) {
         drop(self);
     }
@@ -155,8 +156,8 @@ pub struct Parts<J: Naming, R: Wait + Drop, A: Allocator + Copy = Global> {
 }
 
 impl<J: Naming, R: Wait + Copy, A: Allocator + Copy> BatchProcessor<J, R, A> {
-    /// A processor with so many passes, 1 to [`MAX_PASSES`], made at a moment, in nanoseconds since
-    /// 1970. The blank becomes its accounts.
+    /// A processor with this number of passes, 1 to [`MAX_PASSES`], made at a moment, in
+    /// nanoseconds since 1970. The blank becomes its accounts.
     ///
     /// # Errors
     ///
@@ -201,8 +202,8 @@ impl<J: Naming, R: Wait + Copy, A: Allocator + Copy> BatchProcessor<J, R, A> {
         BatchProcessor::with_passes(alloc, rt, blank, config, passes, now)
     }
 
-    /// As [`BatchProcessor::new`], with any number of passes: for who keeps passes beside those
-    /// that others have. (profile)
+    /// As [`BatchProcessor::new`], with any number of passes: for a caller that keeps passes beside
+    /// those that its threads have. (profile)
     ///
     /// # Errors
     ///
@@ -299,7 +300,7 @@ impl<J: Naming, R: Wait + Copy, A: Allocator + Copy> BatchProcessor<J, R, A> {
     }
 }
 
-/// A desk as small as may be, which nobody uses: it has a queue for one span.
+/// A desk as small as may be, which is never used: it has a queue for one span.
 fn spare_desk<A: Allocator + Copy>(alloc: A) -> Result<Desk<A>, AllocError> {
     let smallest = DeskConfig {
         queue: 1,

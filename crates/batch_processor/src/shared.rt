@@ -1,4 +1,4 @@
-//! What threads share, with the accounts of those who share it. Each call is one hold of the lock.
+//! What threads share, with their accounts. Each call is one hold of the lock.
 ghost use Rattle.std.specs.Prelude.{◌≡◌, ℕ, List, ◌≤◌, ◌&&◌, ◌||◌, not, vec_len, true, false};
 ghost use Rattle.std.specs.Prelude.{option_map, drop, IfSome, IfNone, IsPermutation, IsTrue, Some};
 ghost use Rattle.std.specs.Prelude.{None, [], ◌++◌, IfErr, is_none, is_some, option_to_list};
@@ -36,7 +36,7 @@ use std::marker::Model;
 use std::mem;
 use std::snapshot::Snapshot;
 
-/// What those who wait wait for: whether the worker has work, whatever the moment is; and what
+/// What waiting threads wait for: whether the worker has work, whatever the moment is; and what
 /// flushes are answered by, whether a batch is out, and whether the worker has left.
 #[derive(Clone, Copy)]
 struct Awaited {
@@ -53,7 +53,7 @@ pub(crate) struct Shared<J: Naming, A: Allocator> {
     pub(crate) desk: Desk<A>,
     // Whether the worker has left.
     pub(crate) left: bool,
-    // Spans that were sent, which the threads free that end others.
+    // Spans that were sent. The threads that end other spans free them.
     pub(crate) spent: Vec<SpanData<A>, A>,
     pub(crate) book: Book<J, AccountState>,
     pub(crate) setup: Setup,
@@ -76,7 +76,7 @@ impl<J: Naming, A: Allocator> Model for Shared<J, A> {
 }
 
 impl<J: Naming, A: Allocator + Copy> Shared<J, A> {
-    /// What those who wait wait for.
+    /// What waiting threads wait for.
     fn awaited(&self) -> Awaited
         ensures work { result.has_work ≡ has_work self.now.desk }
         ensures out { result.is_out ≡ is_some self.now.desk.out }
@@ -90,7 +90,7 @@ impl<J: Naming, A: Allocator + Copy> Shared<J, A> {
         }
     }
 
-    /// Whom a hold wakes, where this was so when it began.
+    /// What a hold wakes, where this was so when it began.
     fn wake(&self, was: Awaited) -> Wake
         ensures worker { result.worker ≡ (has_work self.now.desk && not was.has_work) }
         ensures flushes { result.flushes
@@ -160,9 +160,9 @@ impl<J: Naming, A: Allocator + Copy> Shared<J, A> {
         (admitted, remains)
     }
 
-    /// Leaves the spans of a batch that was sent to those who end others, where half a batch waits
-    /// already: they end spans about as fast as these are sent. What they haven't freed of the
-    /// batch before is handed back.
+    /// Leaves the spans of a batch that was sent to the threads that end others, where half a batch
+    /// waits already: they end spans about as fast as these are sent. What they haven't freed of
+    /// the batch before is handed back.
     fn leave_spent(&mut self, spent: &mut Vec<SpanData<A>, A>)
         ensures guarded { self.new ≡ record self.old { spent = self.new.spent } }
         ensures spent { IsPermutation
@@ -173,7 +173,7 @@ impl<J: Naming, A: Allocator + Copy> Shared<J, A> {
         }
     }
 
-    /// A pass asks for all that was accepted so far.
+    /// A pass asks for all spans that were accepted so far.
     pub(crate) fn flush(&mut self, account: &mut Account<J, AccountState>) -> After<Mark>
         requires { account.old ≡ pass (account_in account.old) }
         ensures asks { Asks self.old result.value account.old account.new }
@@ -188,7 +188,7 @@ impl<J: Naming, A: Allocator + Copy> Shared<J, A> {
         After { wake, value }
     }
 
-    /// Asks the queue for all, and tells the pass's account.
+    /// Asks the queue for all spans, and notes it in the pass's account.
     fn ask(&mut self, account: &mut Account<J, AccountState>) -> Mark
         requires { account.old ≡ pass (account_in account.old) }
         ensures asks { Asks self.old result account.old account.new }
@@ -218,7 +218,7 @@ impl<J: Naming, A: Allocator + Copy> Shared<J, A> {
         After { wake, value }
     }
 
-    /// Closes the queue, asks it for all, and tells the pass's account.
+    /// Closes the queue, asks it for all spans, and notes it in the pass's account.
     fn close_queue(&mut self, account: &mut Account<J, AccountState>) -> Mark
         requires { account.old ≡ pass (account_in account.old) }
         ensures asks { Shuts self.old result account.old account.new }
@@ -233,7 +233,7 @@ impl<J: Naming, A: Allocator + Copy> Shared<J, A> {
         mark
     }
 
-    /// What a pass is answered that asked last for what this mark says: that it is flushed, or else
+    /// The answer to a pass that asked last for what this mark says: that it is flushed, or else
     /// that the worker has left. None where neither is so yet.
     pub(crate) fn flushed(
         &mut self,
@@ -316,7 +316,7 @@ impl<J: Naming, A: Allocator + Copy> Shared<J, A> {
         names
     }
 
-    /// The worker, which has none out, takes the next batch, if it is due.
+    /// The worker, which has no batch out, takes the next batch, if it is due.
     pub(crate) fn take(
         &mut self,
         account: &mut Account<J, AccountState>,
@@ -397,7 +397,7 @@ impl<J: Naming, A: Allocator + Copy> Shared<J, A> {
 
     /// The worker settles its batch, which was handed, and whose lost spans are named, after these
     /// outcomes of its attempts. It leaves by the same hold, or it doesn't. Spans that were sent
-    /// are left to those who end others; those that aren't are handed out, to be freed once the
+    /// are left to the threads that end others; other spans are handed out, to be freed once the
     /// hold is over.
     pub(crate) fn settle(
         &mut self,
@@ -452,7 +452,7 @@ impl<J: Naming, A: Allocator + Copy> Shared<J, A> {
         self.desk.settle_named(batch);
     }
 
-    /// The worker leaves, which has none out.
+    /// The worker, which has no batch out, leaves.
     pub(crate) fn leave(&mut self, account: &mut Account<J, AccountState>) -> After<()>
         requires { account.old ≡ worker (origin_in account.old) (worker_in account.old) }
         ensures account { account.new ≡ on_worker after_left account.old }
@@ -465,7 +465,8 @@ impl<J: Naming, A: Allocator + Copy> Shared<J, A> {
         After { wake, value: () }
     }
 
-    /// Whether the processor is shut down, and no span waits: for the worker, which has none out.
+    /// Whether the processor is shut down, and no span waits: for the worker, which has no batch
+    /// out.
     pub(crate) fn drained(&mut self, account: &mut Account<J, AccountState>) -> bool
         requires worker { account.old ≡ worker (origin_in account.old) (worker_in account.old) }
         ensures yes { IsTrue result → account.new ≡ on_worker after_drained account.old }

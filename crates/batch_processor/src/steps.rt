@@ -1,5 +1,5 @@
 //! The steps of a worker's work: a batch is taken, encoded once, handed to an exporter, judged by
-//! what came of it, sent again or settled.
+//! its outcome, sent again or settled.
 ghost use Rattle.std.specs.Prelude.{◌≡◌, ◌<◌, ◌≤◌, ◌+◌, ℕ, [], IfErr, IfOk, IsTrue, Some, None};
 ghost use Rattle.std.specs.Prelude.{length, true, false};
 ghost use Rattle.model_export.specs.Export.{LacksBody};
@@ -40,7 +40,7 @@ pub(crate) enum Stage<A: Allocator> {
     ToEncode,
     /// This body of it is to be sent.
     ToSend { body: Vec<u8, A> },
-    /// It was sent, and this came of it.
+    /// It was sent, with this outcome.
     ToJudge { body: Vec<u8, A>, outcome: Outcome },
     /// It is to be sent again from this moment on.
     ToRetry { body: Vec<u8, A>, from: u64 },
@@ -64,7 +64,7 @@ impl<A: Allocator> Model for InHand<A> {
 pub(crate) struct Worker<J: Naming, R, A: Allocator> {
     pub(crate) lock: Arc<Lock<J, A>, A>,
     pub(crate) account: Account<J, AccountState>,
-    // What the attempts of the batch in hand came to that were judged.
+    // The outcomes of the batch in hand that were judged.
     pub(crate) outcomes: Vec<Outcome, A>,
     // Where the spans of a batch go that is settled.
     pub(crate) spent: Vec<SpanData<A>, A>,
@@ -204,7 +204,7 @@ impl<J: Naming, R: Wait + time::Clock + Drop, A: Allocator + Copy> Worker<J, R, 
         export(batch, body, attempt, exporter)
     }
 
-    /// Judges what the last attempt of the batch in hand came to, where that isn't done. Else it
+    /// Judges the outcome of the last attempt of the batch in hand, where that isn't done. Else it
     /// stays in hand as it is.
     pub(crate) fn judge_pending<C: Clock, G: Rng>(
         &mut self,
@@ -234,7 +234,7 @@ impl<J: Naming, R: Wait + time::Clock + Drop, A: Allocator + Copy> Worker<J, R, 
         }
     }
 
-    /// Judges what an attempt came to: the batch is to be sent again, or it is settled.
+    /// Judges the outcome of an attempt: the batch is to be sent again, or it is settled.
     fn judge<C: Clock, G: Rng>(
         &mut self,
         batch: Batch<A>,
@@ -265,9 +265,9 @@ impl<J: Naming, R: Wait + time::Clock + Drop, A: Allocator + Copy> Worker<J, R, 
 
 impl<J: Naming, R: Wait + Drop, A: Allocator + Copy> Worker<J, R, A> {
     /// Settles a batch that was handed, after the outcomes that were judged. The worker leaves by
-    /// the same hold, or it doesn't; those who wait are called. In the hold none of its spans is
-    /// freed or named: lost ones are before it, and others are left to those who end spans, or
-    /// freed once it is over.
+    /// the same hold, or it doesn't; waiting threads are woken. In the hold none of its spans is
+    /// freed or named: lost ones are before it, and others are left to the threads that end spans,
+    /// or freed once it is over.
     fn settle(&mut self, batch: Batch<A>, fate: Fate, leaves: bool)
         requires { IsSentBatchOf (worker self.old.origin self.old.account) batch }
         ensures { self.new ≡ record self.old {
@@ -286,7 +286,7 @@ impl<J: Naming, R: Wait + Drop, A: Allocator + Copy> Worker<J, R, A> {
     }
 
     /// Drops a batch that was not handed, for this reason. The worker leaves by the same hold, or
-    /// it doesn't; those who wait are called. Its spans are freed before the hold.
+    /// it doesn't; waiting threads are woken. Its spans are freed before the hold.
     fn drop_batch(&mut self, batch: Batch<A>, reason: Reason, leaves: bool)
         requires batch { IsBatchOf (worker self.old.origin self.old.account) batch }
         requires reason { can_drop_batch (reason_view reason) ≡ true }
@@ -324,7 +324,7 @@ impl<J: Naming, R: Wait + Drop, A: Allocator + Copy> Worker<J, R, A> {
         }
     }
 
-    /// Leaves, where no batch is in hand, and calls those who wait.
+    /// Leaves, where no batch is in hand, and wakes waiting threads.
     pub(crate) fn leave(&mut self)
         ensures { self.new ≡ record self.old { account = after_left self.old.account } }
     {

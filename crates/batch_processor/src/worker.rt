@@ -1,4 +1,4 @@
-//! The worker's pass: turns of work, and what becomes of a batch in hand where it is let go.
+//! The worker's pass: turns of work, and what becomes of a batch in hand where the pass is dropped.
 ghost use Rattle.std.specs.Prelude.{◌≡◌, List, Option, IfOk, IfSome, IsTrue, None, true, false};
 ghost use Rattle.model_retry.specs.Waits.{IsRetryConfig};
 ghost use Rattle.model_processor.specs.Worker.{new_worker};
@@ -32,10 +32,10 @@ pub enum WorkEnd {
 }
 
 /// The way of one thread, which sends the batches, to a batch processor. In contracts it is what
-/// the worker knows: the batches that ended, each with its spans, its body, what its attempts came
-/// to and its fate; the one that is out; and whether it has left. On the heap it may go to another
-/// thread where the runtime's value may: what `thread::spawn` asks its caller to show is the lemma
-/// `worker_send` of `proofs/Crosses.antt`. Where it is let go, it leaves.
+/// the worker knows: the batches that ended, each with its spans, its body, the outcomes of its
+/// attempts and its fate; the one that is out; and whether it has left. On the heap it may go to
+/// another thread where the runtime's value may: what `thread::spawn` asks its caller to show is
+/// the lemma `worker_send` of `proofs/Crosses.antt`. Where the pass is dropped, the worker leaves.
 pub struct WorkerPass<J: Naming, R: Wait + Drop, A: Allocator + Copy = Global> {
     pub(crate) worker: Worker<J, R, A>,
     pub(crate) in_hand: Option<InHand<A>>,
@@ -99,10 +99,10 @@ impl<J: Naming, R: Wait + Drop, A: Allocator + Copy> WorkerPass<J, R, A> {
 }
 
 impl<J: Naming, R: Wait + time::Clock + Drop, A: Allocator + Copy> WorkerPass<J, R, A> {
-    /// Takes, encodes, sends and judges batches, so many turns at most: each is one of these steps,
-    /// or a wait of some milliseconds. A batch in hand stays in the pass between calls. One that
-    /// memory is refused for, or whose body would be longer than it may be, is dropped. One word is
-    /// drawn for each reply. A worker that has left takes no step. (Trace SDK, "Batching
+    /// Takes, encodes, sends and judges batches, in at most `turns` turns: each is one of these
+    /// steps, or a wait of some milliseconds. A batch in hand stays in the pass between calls. One
+    /// that memory is refused for, or whose body would be longer than it may be, is dropped. One
+    /// word is drawn for each reply. A worker that has left takes no step. (Trace SDK, "Batching
     /// processor", "Export(batch)"; drops: profile)
     pub fn work<E: Exporter, C: Clock, G: Rng>(
         &mut self,
@@ -166,9 +166,9 @@ impl<J: Naming, R: Wait + time::Clock + Drop, A: Allocator + Copy> WorkerPass<J,
 }
 
 impl<J: Naming, R: Wait + time::Clock + Drop, A: Allocator + Copy> WorkerPass<J, R, A> {
-    /// Judges what the last attempt of the batch in hand came to, where that isn't done: the batch
-    /// is settled by it, or is to be sent again. Nothing is sent. It is for who ends work before
-    /// all is drained, so that no reply that came is left out. (profile)
+    /// Judges the outcome of the last attempt of the batch in hand, where that isn't done: the
+    /// batch is settled by it, or is to be sent again. Nothing is sent. It is for a caller that
+    /// ends work before all is drained, so that no reply that came is left out. (profile)
     pub fn judge<C: Clock, G: Rng>(&mut self, clock: &C, rng: &mut G)
         ensures goes_on { (told : Option (List Handed)) → GoesOn told told self.old self.new }
         // No outcome of the batch that is out settles it.

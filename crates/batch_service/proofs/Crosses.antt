@@ -29,17 +29,20 @@ end_send : IsSend WorkEnd.the_row
 end_send = search (sendable, variants_send) depth 60 fits 20000
 
 module _ (J : RattleType) (g : naming.Ghosts J.Denot) (R : RattleType) (r : IsSend R) where
+  -- A thread's lane is `Send` where the runtime's value and what the thread gives back are.
   pub lane_send : (T : RattleType) → IsSend T → IsSend (Lane.the_row J R T g)
   lane_send T t =
       let p = pass_send J g R r in
       search (sendable, declared_send, variants_send, as_row_send, p, t) depth 60 fits 20000
 
+  -- What the worker's thread has is `Send` where the runtime's value, exporter and sink are.
   pub thread_send : (E S : RattleType) → IsSend E → IsSend S → IsSend (Worker.the_row J R E S g)
   thread_send E S e s =
       let p = pass_send J g R r in
       let w = worker_send J g R r in
       search (sendable, declared_send, limit_send, p, w, e, s, r) depth 60 fits 20000
 
+  -- What the worker's thread gives back is `Send` where runtime's value, exporter and sink are.
   pub worked_send : (E S : RattleType) → IsSend E → IsSend S → IsSend (Worked.the_row J R E S g)
   worked_send E S e s =
       let w = thread_send E S e s in

@@ -14,7 +14,7 @@ use Rattle.batch_service.specs.Rest.{Abandons, AbandonsWaiting, GivesUp}
 abbrev names_of : List SpanData → List Entry
 names_of spans = map (entry_of Reason.abandoned) spans
 
--- nothing but what may change did
+-- the desk before, with the fields that may change as they are after
 abbrev others_of : Desk → Desk → Desk
 others_of old new = record old {
   waiting = new.waiting;
@@ -30,6 +30,7 @@ others_of old new = record old {
 
 -- ---- once the queue is shut, and none is abandoned yet
 
+-- A queue that is shut has abandoned none of its spans yet.
 pub abandons_none : (old shut : Desk) (asked : ℕ) → old.out ≡ None → shut ≡ record old { asked = asked; closed = true } → Abandons [] old shut
 abandons_none old shut asked none is = record {
   waited = sym (ap (λ (d : Desk). d.waiting) is);
@@ -45,7 +46,7 @@ abandons_none old shut asked none is = record {
     same : (counts : DropCounts) → counts ≡ with_drops Reason.abandoned 0 counts
     same counts = ap (λ (n : ℕ). record counts { abandoned = n }) (plus_none counts.abandoned)
 
--- ---- a batch more
+-- ---- one more batch
 
 reverse_more : (spans more : List SpanData) (ledger : List Entry) → reverse (names_of more) ++ (reverse (names_of spans) ++ ledger) ≡ reverse (names_of (spans ++ more)) ++ ledger
 reverse_more spans more ledger =
@@ -60,6 +61,7 @@ count_more spans more counts =
     ap (λ (n : ℕ). record counts { abandoned = n }) n
 
 module _ (now : ℕ) (spans more : List SpanData) (old desk taken new : Desk) where
+  -- The spans of one more batch that is dropped are abandoned with those before.
   pub abandons_next : Abandons spans old desk → more ≡ take desk.config.batch desk.waiting → taken ≡ after_take now desk → new ≡ after_drop Reason.abandoned more taken → Abandons (spans ++ more) old new
   abandons_next so_far more_is taken_is new_is =
       let n = desk.config.batch in
@@ -86,7 +88,7 @@ due_false true true b c none = cc
 due_false true false true c none = cc
 due_false true false false c none = cc
 
--- where a closed queue with no batch out gives none, none waits
+-- No span waits in a closed queue with no batch out where no batch is due.
 pub none_due : (desk : Desk) (now : ℕ) → desk.closed ≡ true → desk.out ≡ None → false ≡ (is_due desk now && is_none desk.out) → desk.waiting ≡ []
 none_due desk now closed none is =
     let wait = nat_lt 0 (length desk.waiting) in
@@ -103,6 +105,7 @@ none_due desk now closed none is =
     and_true true = refl
     and_true false = refl
 
+-- Spans that are abandoned until none waits are all that waited.
 pub abandons_all : (old new : Desk) (spans : List SpanData) → Abandons spans old new → new.waiting ≡ [] → AbandonsWaiting old new
 abandons_all old new spans a none = record {
   abandons = subst (λ (xs : List SpanData). Abandons xs old new) (sym (a.waited ∙ ap (λ (xs : List SpanData). spans ++ xs) none ∙ append-nil spans)) a;
@@ -111,6 +114,7 @@ abandons_all old new spans a none = record {
 
 -- ---- the names
 
+-- A queue is given up once all its waiting spans are abandoned and all names are given.
 pub gives_up : (old left new : Desk) (dropped lost : List Entry) (told told' : Option Named) → AbandonsWaiting old left → dropped ≡ reverse left.ledger → lost ≡ reverse left.lost → new ≡ record left { ledger = []; lost = [] } → GainsNames (both_names dropped lost) told told' → GivesUp old new told told'
 gives_up old left new dropped lost told told' a dropped_is lost_is new_is gave = record {
   left = left;
@@ -135,26 +139,29 @@ pub record AbandonsSome (old new : Desk) : Type 0 where
   pub spans : List SpanData
   pub abandons : Abandons spans old new
 
+-- A queue that is shut has abandoned some of its spans, namely none.
 pub some_none : (old shut : Desk) (asked : ℕ) → old.out ≡ None → shut ≡ record old { asked = asked; closed = true } → AbandonsSome old shut
 some_none old shut asked none is = record { spans = []; abandons = abandons_none old shut asked none is }
 
+-- A queue that drops one more batch as abandoned has abandoned some of its spans.
 pub some_next : (now : ℕ) (more : List SpanData) (old desk taken new : Desk) → AbandonsSome old desk → more ≡ take desk.config.batch desk.waiting → taken ≡ after_take now desk → new ≡ after_drop Reason.abandoned more taken → AbandonsSome old new
 some_next now more old desk taken new so_far more_is taken_is new_is = record {
   spans = so_far.spans ++ more;
   abandons = abandons_next now so_far.spans more old desk taken new so_far.abandons more_is taken_is new_is;
 }
 
+-- A queue that has abandoned some of its spans until none waits has abandoned all that waited.
 pub some_all : (old new : Desk) → AbandonsSome old new → new.waiting ≡ [] → AbandonsWaiting old new
 some_all old new so_far none = abandons_all old new so_far.spans so_far.abandons none
 
--- fewer wait after a batch
+-- Fewer spans wait after a batch is taken and dropped.
 pub fewer_wait : (now : ℕ) (more : List SpanData) (desk taken new : Desk) → taken ≡ after_take now desk → new ≡ after_drop Reason.abandoned more taken → 1 ≤ desk.config.batch → 0 < length desk.waiting → length new.waiting < length desk.waiting
 fewer_wait now more desk taken new taken_is new_is room some =
     let left : new.waiting ≡ drop desk.config.batch desk.waiting = ap (λ (d : Desk). d.waiting) (new_is ∙ ap (after_drop Reason.abandoned more) taken_is) in
     let l : length new.waiting ≡ length desk.waiting - desk.config.batch = ap length left ∙ length-drop desk.config.batch desk.waiting in
     omega arith
 
--- and some waited where a batch was due
+-- Some span waits where a batch is due.
 pub some_wait : (desk : Desk) (now : ℕ) (free : Bool) → true ≡ (is_due desk now && free) → 0 < length desk.waiting
 some_wait desk now free is = by_list desk.waiting (nat_le desk.config.batch (length desk.waiting) || nat_lt desk.taken desk.asked || desk.closed || nat_le (desk.last_moment + desk.config.delay_ms * 10 ^ 6) now) is
   where
@@ -162,7 +169,7 @@ some_wait desk now free is = by_list desk.waiting (nat_le desk.config.batch (len
     by_list [] why due = cc
     by_list (x ∷ waiting) why due = omega arith
 
--- and the queue stays as a batch may be taken from it
+-- A closed queue stays one from which a batch may be taken, after one is taken and dropped.
 pub next_keeps : (now : ℕ) (more : List SpanData) (desk taken new : Desk) → taken ≡ after_take now desk → new ≡ after_drop Reason.abandoned more taken → desk.closed ≡ true → 1 ≤ desk.config.batch → (new.closed ≡ true) × (new.out ≡ None) × (1 ≤ new.config.batch)
 next_keeps now more desk taken new taken_is new_is closed room =
     let is : new ≡ after_drop Reason.abandoned more (after_take now desk) = new_is ∙ ap (after_drop Reason.abandoned more) taken_is in
@@ -172,7 +179,7 @@ next_keeps now more desk taken new taken_is new_is closed room =
       subst (λ (c : DeskConfig). 1 ≤ c.batch) config room,
     )
 
--- as it does where it is shut
+-- A queue with no batch out is one from which a batch may be taken, once it is shut.
 pub shut_keeps : (old shut : Desk) (asked : ℕ) → old.out ≡ None → shut ≡ record old { asked = asked; closed = true } → 1 ≤ old.config.batch → (shut.closed ≡ true) × (shut.out ≡ None) × (1 ≤ shut.config.batch)
 shut_keeps old shut asked none is room = (
   ap (λ (d : Desk). d.closed) is,

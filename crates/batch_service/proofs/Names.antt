@@ -1,4 +1,4 @@
--- What a sink is given, one name after the other, and one turn after the other.
+-- The names that a sink is given, one after the other, and one turn after the other.
 use Rattle.std.proofs.Common.{◌≡◌, List, [], ◌∷◌, ◌++◌, sym, refl, ap, ◌∙◌, subst}
 use Rattle.std.specs.Prelude.{Option, Some, None, option_map}
 use Rattle.std.proofs.lemmas.List.{append-nil, append_assoc}
@@ -19,6 +19,7 @@ join_assoc had a b = ap (λ (xs : List Entry). record { dropped = xs; lost = (ha
 
 -- ---- no name, and one
 
+-- A sink that is unchanged has gained no name.
 pub gains_none : (told : Option Named) → GainsNames no_names told told
 gains_none None = refl
 gains_none (Some had) = ap Some (join_none had)
@@ -26,11 +27,12 @@ gains_none (Some had) = ap Some (join_none had)
 pops_none : (a : PassAccount) → a ≡ after_drain [] [] a
 pops_none a = sym (ap (λ (xs : List Entry). record a { popped = xs; popped_lost = a.popped_lost ++ [] }) (append-nil a.popped) ∙ ap (λ (ys : List Entry). record a { popped_lost = ys }) (append-nil a.popped_lost))
 
+-- A pass and a sink that are unchanged have given no name.
 pub gives_none : (told : Option Named) (account : PassAccount) → GivesNames told told account account
 gives_none told account =
     record { more = no_names; gains = gains_none told; popped = pops_none account }
 
--- ---- one after the other
+-- ---- two steps, one after the other
 
 gains_more : (a b : Named) (x y z : Option Named) → GainsNames a x y → GainsNames b y z → GainsNames (joined a b) x z
 gains_more a b None y z first second = second ∙ ap (option_map (λ (had : Named). joined had b)) first
@@ -39,6 +41,7 @@ gains_more a b (Some had) y z first second = second ∙ ap (option_map (λ (all 
 pops_more : (a b : Named) (x : PassAccount) → after_drain b.dropped b.lost (after_drain a.dropped a.lost x) ≡ after_drain (a.dropped ++ b.dropped) (a.lost ++ b.lost) x
 pops_more a b x = ap (λ (xs : List Entry). record x { popped = xs; popped_lost = (x.popped_lost ++ a.lost) ++ b.lost }) (append_assoc x.popped a.dropped b.dropped) ∙ ap (λ (ys : List Entry). record x { popped = x.popped ++ (a.dropped ++ b.dropped); popped_lost = ys }) (append_assoc x.popped_lost a.lost b.lost)
 
+-- Names that are given in two steps, one after the other, are given in both together.
 pub gives_more : (s t u : Option Named) (x y z : PassAccount) → GivesNames s t x y → GivesNames t u y z → GivesNames s u x z
 gives_more s t u x y z first second = record {
   more = joined first.more second.more;
@@ -71,7 +74,7 @@ module _ (kind : List Entry → Named) (with_one : Entry → Named → Named) (i
         gains = subst (λ (n : Named). GainsNames n s u) (join so_far.given e) (gains_more (kind so_far.given) (kind (e ∷ [])) s t u so_far.gains more);
       }
 
--- all of them
+-- A sink has gained all names once none is left.
 pub front_all : (kind : List Entry → Named) (names left : List Entry) (s t : Option Named) → left ≡ [] → GivesFront kind names left s t → GainsNames (kind names) s t
 front_all kind names left s t ended so_far =
     subst (λ (es : List Entry). GainsNames (kind es) s t) (sym (so_far.split ∙ ap (λ (es : List Entry). so_far.given ++ es) ended ∙ append-nil so_far.given)) so_far.gains
@@ -82,22 +85,26 @@ dropped_one e had = ap (λ (ys : List Entry). record { dropped = had.dropped ++ 
 lost_one : (e : Entry) (had : Named) → with_lost e had ≡ joined had (lost_names (e ∷ []))
 lost_one e had = ap (λ (xs : List Entry). record { dropped = xs; lost = had.lost ++ e ∷ [] }) (sym (append-nil had.dropped))
 
+-- Before the first name of a dropped span is given, all are left.
 pub dropped_none : (names : List Entry) (told : Option Named) → GivesFront dropped_names names names told told
 dropped_none = front_none dropped_names with_dropped dropped_one refl (λ es e. refl)
 
+-- One more name of a dropped span that is given moves from those left to those given.
 pub dropped_next : (names left left' : List Entry) (e : Entry) (s t u : Option Named) → left ≡ e ∷ left' → u ≡ option_map (with_dropped e) t → GivesFront dropped_names names left s t → GivesFront dropped_names names left' s u
 dropped_next = front_next dropped_names with_dropped dropped_one refl (λ es e. refl)
 
+-- Before the first name of a lost span is given, all are left.
 pub lost_none : (names : List Entry) (told : Option Named) → GivesFront lost_names names names told told
 lost_none = front_none lost_names with_lost lost_one refl (λ es e. refl)
 
+-- One more name of a lost span that is given moves from those left to those given.
 pub lost_next : (names left left' : List Entry) (e : Entry) (s t u : Option Named) → left ≡ e ∷ left' → u ≡ option_map (with_lost e) t → GivesFront lost_names names left s t → GivesFront lost_names names left' s u
 lost_next = front_next lost_names with_lost lost_one refl (λ es e. refl)
 
--- names of both kinds, those of dropped spans first
+-- A sink that gains names of dropped spans and then of lost ones gains both.
 pub gains_both : (ds ls : List Entry) (s t u : Option Named) → GainsNames (dropped_names ds) s t → GainsNames (lost_names ls) t u → GainsNames (both_names ds ls) s u
 gains_both ds ls s t u first second = subst (λ (n : Named). GainsNames n s u) (ap (λ (es : List Entry). record { dropped = es; lost = ls }) (append-nil ds)) (gains_more (dropped_names ds) (lost_names ls) s t u first second)
 
--- the same, which a pass drained
+-- A pass that drains names of both kinds, which the sink gains, has given them.
 pub gives_both : (ds ls : List Entry) (s u : Option Named) (x y : PassAccount) → y ≡ after_drain ds ls x → GainsNames (both_names ds ls) s u → GivesNames s u x y
 gives_both ds ls s u x y popped gains = record { more = both_names ds ls; gains = gains; popped = popped }

@@ -1,4 +1,4 @@
--- What a service comes to, by what its thread promised and what its processor came to.
+-- The end of a service, by the promise of its thread and by the end of its processor.
 use Rattle.std.proofs.Common.{◌≡◌, ℕ, ◌≤◌, List, [], ◌∷◌, ◌++◌, sym, ap, ◌∙◌, subst, arith}
 use Rattle.std.specs.Prelude.{Option, Result, Ok, Err, None}
 use Rattle.model_desk.specs.Desks.{Desk}
@@ -16,11 +16,12 @@ use Rattle.batch_service.specs.Working.{IsDrained, NoneSettles, WorksOn, state_o
 use Rattle.batch_service.specs.Rest.{GivesUp}
 use Rattle.batch_service.specs.Service.{EndsNone, IsServed, IsStopped, ServiceView, new_work, popping}
 
--- a pass that only asks for a shutdown has ended no span
+-- A pass that ended no span still has ended none after a shutdown.
 none_after : (answer : Result Flushed WorkerLeft) (ticket mark : ℕ) (account : PassAccount) → EndsNone account → EndsNone (after_answer answer (after_shutdown ticket mark account))
 none_after (Ok flushed) ticket mark account e = record { ends = e.ends; popped = e.popped; popped_lost = e.popped_lost; late = e.late }
 none_after (Err left) ticket mark account e = record { ends = e.ends; popped = e.popped; popped_lost = e.popped_lost; late = e.late }
 
+-- A pass that ended no span still has ended none after a shutdown and its answer.
 pub shuts_none : (answer : Result Flushed WorkerLeft) (ticket mark : ℕ) (old new : PassAccount) → new ≡ after_answer answer (after_shutdown ticket mark old) → EndsNone old → EndsNone new
 shuts_none answer ticket mark old new is e = subst EndsNone (sym is) (none_after answer ticket mark old e)
 
@@ -28,10 +29,12 @@ more_after : (answer : Result Flushed WorkerLeft) (ticket mark : ℕ) (account :
 more_after (Ok flushed) ticket mark account = omega arith
 more_after (Err left) ticket mark account = omega arith
 
+-- A pass has called shutdown at least once after a shutdown and its answer.
 pub shuts_once : (answer : Result Flushed WorkerLeft) (ticket mark : ℕ) (old new : PassAccount) → new ≡ after_answer answer (after_shutdown ticket mark old) → 1 ≤ new.shutdowns
 shuts_once answer ticket mark old new is = subst (λ (a : PassAccount). 1 ≤ a.shutdowns) (sym is) (more_after answer ticket mark old)
 
 module _ (view : ServiceView) (passes : List PassAccount) (desk : Desk) (told' : Option (List Handed)) (named' : Option Named) (begun work : Work) (names names' control : PassAccount) (end : WorkEnd) (all : List PassAccount) where
+  -- A service whose worker's thread and processor keep their promises ends as its contract says.
   pub served : begun ≡ new_work view.origin → names ≡ new_account → WorksOn (state_of view.handed view.named begun names) (state_of told' named' work names') → (end ≡ ends.Drained → IsDrained work.account) → NoneSettles work → EndsNone control → 1 ≤ control.shutdowns → all ≡ passes ++ control ∷ names' ∷ [] → IsAccounted view.origin desk all (abandon work.account) → WorksUntilItLeaves view.origin work.account → IsServed view passes desk told' named' end
   served begun_is names_is works drained settles none once all_is accounts until =
       let on = works.goes_on in
@@ -53,7 +56,7 @@ module _ (view : ServiceView) (passes : List PassAccount) (desk : Desk) (told' :
         none_settles = subst (λ (o : Origin). NoneSettles (record { origin = o; account = work.account; encoded = None })) (on.origin ∙ ap (λ (w : Work). w.origin) begun_is) settles;
       }
 
--- what a service comes to doesn't ask what its own pass knew before
+-- The end of a service doesn't depend on what its own pass knew before.
 pub same_service : (view view' : ServiceView) (passes : List PassAccount) (desk : Desk) (told : Option (List Handed)) (named : Option Named) (end : WorkEnd) → view' ≡ record view { control = view'.control } → IsServed view' passes desk told named end → IsServed view passes desk told named end
 same_service view view' passes desk told named end is came =
     let s : IsServed (record view { control = view'.control }) passes desk told named end = subst (λ (v : ServiceView). IsServed v passes desk told named end) is came in
@@ -72,13 +75,14 @@ same_service view view' passes desk told named end is came =
       none_settles = s.none_settles;
     }
 
--- what is left is given up then
+-- A served service whose queue is given up then is stopped.
 pub stopped : (view : ServiceView) (passes : List PassAccount) (desk desk' : Desk) (told : Option (List Handed)) (named named' : Option Named) (end : WorkEnd) → IsServed view passes desk told named end → GivesUp desk desk' named named' → IsStopped view passes desk' told named' end
 stopped view passes desk desk' told named named' end was rest = record { closed = desk; named_before = named; served = was; rest = rest }
 
--- a pass that began a shutdown has ended no span
+-- A pass that ended no span still has ended none after it began a shutdown.
 pub begins_none : (ticket mark : ℕ) (old new : PassAccount) → new ≡ after_shutdown ticket mark old → EndsNone old → EndsNone new
 begins_none ticket mark old new is e = subst EndsNone (sym is) (record { ends = e.ends; popped = e.popped; popped_lost = e.popped_lost; late = e.late })
 
+-- A pass that began a shutdown has called it at least once.
 pub begins_once : (ticket mark : ℕ) (old new : PassAccount) → new ≡ after_shutdown ticket mark old → 1 ≤ new.shutdowns
 begins_once ticket mark old new is = subst (λ (a : PassAccount). 1 ≤ a.shutdowns) (sym is) (omega arith)

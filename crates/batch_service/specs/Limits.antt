@@ -3,8 +3,8 @@
 use Rattle.std.specs.Prelude.{ℕ, ◌+◌, ◌*◌, ◌^◌, ◌-◌, min, nat_le, Bool, true, false, Option, Some}
 use Rattle.std.specs.Prelude.{None}
 
--- The moment so many milliseconds from now on, in nanoseconds, up to the greatest number of 64
--- bits. Where the clock can't be read, it is the first one. (profile)
+-- The moment this number of milliseconds from now on, in nanoseconds, up to the greatest number of
+-- 64 bits. Where the clock can't be read, it is the first one. (profile)
 abbrev pub moment_after : Option ℕ → ℕ → ℕ
 moment_after None ms = 0
 moment_after (Some now) ms = min (now + min (ms * 10 ^ 6) (2 ^ 64 - 1)) (2 ^ 64 - 1)

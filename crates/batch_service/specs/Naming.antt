@@ -30,7 +30,7 @@ is_dropped answers.Late = false
 is_dropped answers.NotSampled = false
 is_dropped answers.AlreadyEnded = false
 
--- how many were dropped, with a span that was answered so
+-- how many were dropped, with a span that has this answer
 abbrev pub with_answer : ℕ → Ended → ℕ
 with_answer unnamed answer = if is_dropped answer then unnamed + 1 else unnamed
 
@@ -45,8 +45,8 @@ pub record NamesAll {P S : Type 0} (drains : List Entry → List Entry → P →
   pub taken : drains names.dropped names.lost pass new.pass
   pub given : GainsNames names (told sink) (told new.sink)
 
--- A span ended on the pass. Where so many were dropped since names were last given, all names are
--- given then.
+-- A span ended on the pass. Where `NAMED_TOGETHER` spans were dropped since names were last given,
+-- all names are given then.
 pub record EndsAndNames {P S : Type 0} (admits : P → SpanData → Ended → P → Type 0)
     (drains : List Entry → List Entry → P → P → Type 0) (told : S → Option Named)
     (old : NamingState P S) (span : SpanData) (answer : Ended) (new : NamingState P S)

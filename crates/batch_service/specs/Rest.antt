@@ -1,4 +1,4 @@
--- What becomes of what is left in a queue that nobody works on any more. (profile)
+-- What becomes of what is left in a queue that no worker works on any more. (profile)
 use Rattle.std.specs.Prelude.{◌≡◌, ◌+◌, List, [], ◌++◌, length, map, reverse, Option, None}
 use Rattle.model_span.specs.Spans.{SpanData}
 use Rattle.model_span.specs.Dropped.{Reason, entry_of}
@@ -25,7 +25,7 @@ pub record Abandons (spans : List SpanData) (old new : Desk) : Type 0 where
     last_moment = new.last_moment;
   }
 
--- All that waited are, and none waits any more.
+-- All that waited are abandoned, and none waits any more.
 pub record AbandonsWaiting (old new : Desk) : Type 0 where
   pub abandons : Abandons old.waiting old new
   pub none_waits : new.waiting ≡ []

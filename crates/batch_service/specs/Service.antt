@@ -1,4 +1,4 @@
--- What a service comes to: the processor's account, beside what is known since nobody else had the
+-- The end of a service: the processor's account, beside what is known since no other code had the
 -- worker. (Trace SDK, Batching processor, ForceFlush, Shutdown; names: profile)
 use Rattle.std.specs.Prelude.{◌≡◌, ℕ, ◌+◌, ◌≤◌, ◌++◌, ◌∷◌, [], List, length, Option}
 use Rattle.std.specs.Prelude.{None, false}
@@ -21,7 +21,7 @@ use Rattle.batch_service.specs.declared.service.TheConstants.{MAX_THREADS}
 use Rattle.batch_service.specs.Working.{GainsNames, IsDrained, NoneSettles}
 use Rattle.batch_service.specs.Rest.{GivesUp}
 
--- why a service is not started, where its processor isn't made
+-- why a service is not started, by why its processor isn't made
 abbrev pub start_fault : NewFault → StartFault
 start_fault news.BadPasses = starts.BadPasses
 start_fault news.ZeroSize = starts.ZeroSize
@@ -50,11 +50,11 @@ new_service origin handed named = record {
   named = named;
 }
 
--- what a processor begins with whose service has so many passes for others
+-- what the processor of a service with this number of passes for others begins with
 abbrev pub origin_of : BatchConfig → ℕ → Origin
 origin_of config threads = setup_view (record { passes = threads + 2; config = config })
 
--- a service may have so many (profile)
+-- a service may have this number of passes (profile)
 abbrev pub IsThreadCount : ℕ → Type 0
 IsThreadCount passes = (1 ≤ passes) × (passes ≤ MAX_THREADS)
 
@@ -69,7 +69,7 @@ pub record EndsNone (account : PassAccount) : Type 0 where
 abbrev pub popping : Named → PassAccount
 popping names = record new_account { popped = names.dropped; popped_lost = names.lost }
 
--- What a service comes to, whose exporter has now been handed `handed`, whose sink has been given
+-- The end of a service whose exporter has now been handed `handed`, whose sink has been given
 -- `named`, and whose work ended so: the processor is accounted for by the passes that came back, by
 -- the service's own, and by the worker, which never left. Its attempts, in order, are what the
 -- exporter was handed, and the names that were popped are what the sink was given. The service's
@@ -95,16 +95,15 @@ pub record IsServed (service : ServiceView) (passes : List PassAccount) (desk : 
     encoded = None;
   })
 
--- The same, of a service that had so many threads, whatever their passes know.
+-- The same, of a service that had this number of threads, whatever their passes know.
 pub record EndsServed (threads : ℕ) (service : ServiceView) (desk : Desk)
     (handed : Option (List Handed)) (named : Option Named) (end : WorkEnd) : Type 0 where
   pub passes : List PassAccount
   pub count : length passes ≡ threads
   pub served : IsServed service passes desk handed named end
 
--- What a service comes to that is stopped within a time: when its worker ended it came to this, as
--- by a stop; then what was left in its queue was given up, and all names that the ledgers still had
--- were given to the sink.
+-- The end of a service that is stopped within a time: its worker ended as by a stop; then what was
+-- left in its queue was given up, and all names that the ledgers still had were given to the sink.
 pub record IsStopped (service : ServiceView) (passes : List PassAccount) (desk : Desk)
     (handed : Option (List Handed)) (named : Option Named) (end : WorkEnd) : Type 0 where
   pub closed : Desk
@@ -112,7 +111,7 @@ pub record IsStopped (service : ServiceView) (passes : List PassAccount) (desk :
   pub served : IsServed service passes closed handed named_before end
   pub rest : GivesUp closed desk named_before named
 
--- The same, of a service that had so many threads, whatever their passes know.
+-- The same, of a service that had this number of threads, whatever their passes know.
 pub record EndsStopped (threads : ℕ) (service : ServiceView) (desk : Desk)
     (handed : Option (List Handed)) (named : Option Named) (end : WorkEnd) : Type 0 where
   pub passes : List PassAccount

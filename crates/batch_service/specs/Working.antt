@@ -9,7 +9,8 @@ use Rattle.drop_ledger.specs.Named.{Named}
 use Rattle.span_exporter.specs.Handed.{Handed}
 use Rattle.batch_processor.specs.Working.{Work, GoesOn}
 
--- A sink that tells was given, after what it had, exactly these names. Another tells nothing.
+-- A sink that shows its names was given, after what it had, exactly these names. Another shows
+-- none.
 abbrev pub GainsNames : Named → Option Named → Option Named → Type 0
 GainsNames more old new = new ≡ option_map (λ (had : Named). record {
   dropped = had.dropped ++ more.dropped;
@@ -49,7 +50,7 @@ abbrev pub state_of : Option (List Handed) → Option Named → Work → PassAcc
 state_of handed named work names =
     record { handed = handed; named = named; work = work; names = names }
 
--- It was answered that all is drained, and no batch is out.
+-- The worker's last answer was that all is drained, and no batch is out.
 pub record IsDrained (account : WorkerAccount) : Type 0 where
   pub drained : account.drained ≡ true
   pub none_out : account.out ≡ None

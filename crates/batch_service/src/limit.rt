@@ -55,7 +55,8 @@ pub(crate) fn now<R: Clock>(rt: &R) -> Option<u64> {
     u64::try_from(since_start.as_nanos()).ok()
 }
 
-/// The moment so many milliseconds from now on. Where the clock can't be read, it is the first one.
+/// The moment this number of milliseconds from now on. Where the clock can't be read, it is the
+/// first one.
 pub(crate) fn moment_after(now: Option<u64>, ms: u64) -> u64
     ensures { result ≡ moment_after now ms }
 {

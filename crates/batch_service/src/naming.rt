@@ -15,7 +15,7 @@ pub const NAMED_TOGETHER: u32 = 64;
 const _: () = prove!(NAMED_TOGETHER == 64);
 
 /// A pass whose thread gives the names of spans that aren't delivered to a sink of its own
-/// (profile). At each 64th of its ends that is answered `Dropped` it takes all names out of the
+/// (profile). At each 64th of its ends with the answer `Dropped` it takes all names out of the
 /// ledgers, whatever pass their spans ended on, and gives them to its sink.
 ///
 /// The worker of a service does the same between two turns. But it has a thread's share of the
@@ -67,7 +67,7 @@ impl<'a, P, S> NamingPass<'a, P, S> {
     }
 }
 
-/// Whether a span was dropped that was answered so.
+/// Whether a span that has this answer was dropped.
 fn is_dropped(ended: Ended) -> bool
     ensures { result ≡ is_dropped ended }
 {

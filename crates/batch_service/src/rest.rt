@@ -1,4 +1,4 @@
-//! What is left in a queue that nobody works on any more.
+//! What is left in a queue that no worker works on any more.
 ghost use Rattle.std.specs.Prelude.{◌≡◌, ◌≤◌, None};
 ghost use Rattle.batch_service.specs.Rest.{AbandonsWaiting, GivesUp};
 

@@ -37,9 +37,9 @@ pub const MAX_THREADS: usize = MAX_PASSES;
 // No clause says the number itself.
 const _: () = prove!(MAX_THREADS == 64);
 
-/// A batch processor whose worker has a thread of its own (Trace SDK, "Batching processor"). One
-/// that is let go stops nothing: its thread works until the program ends. So a program calls
-/// [`Service::stop`].
+/// A batch processor whose worker has a thread of its own (Trace SDK, "Batching processor"). A
+/// service that is dropped stops nothing: its thread works until the program ends. So a program
+/// calls [`Service::stop`].
 #[derive(Drop)]
 pub struct Service<J: Naming, R: Wait + Drop, E: Exporter, S: NameSink> {
     processor: BatchProcessor<J, R>,
@@ -93,7 +93,7 @@ pub struct Started<J: Naming, R: Wait + Drop, E: Exporter, S: NameSink> {
     pub passes: Vec<Pass<J, R>>,
 }
 
-/// What a service came to.
+/// The end of a service.
 #[derive(Drop)]
 pub struct Served<E, S> {
     /// What is left in the queue, the ledgers, and the counts.
@@ -118,7 +118,7 @@ struct Reserved<J: Naming, R> {
 }
 
 impl<J: Naming, R: Drop> Reserved<J, R> {
-    /// With room for so many passes.
+    /// With room for this number of passes.
     fn new(alloc: Global, passes: usize) -> Result<Reserved<J, R>, AllocError>
         ensures none { IfOk result (λ reserved. reserved.passes.items ≡ []) }
         ensures room { IfOk result (λ reserved. passes ≤ vec_capacity reserved.passes) }
@@ -148,9 +148,9 @@ where
     E: Exporter + Send + Drop + 'static,
     S: NameSink + Send + Drop + 'static,
 {
-    /// Starts a service with so many passes, 1 to [`MAX_THREADS`]. Its worker goes by the system's
-    /// clock, and draws the waits between attempts from a generator that the system's random bytes
-    /// seed. The blank becomes its accounts.
+    /// Starts a service with this number of passes, 1 to [`MAX_THREADS`]. Its worker goes by the
+    /// system's clock, and draws the waits between attempts from a generator that the system's
+    /// random bytes seed. The blank becomes its accounts.
     ///
     /// # Errors
     ///
@@ -189,8 +189,9 @@ where
         Service::start_with(alloc, rt, blank, exporter, sink, config, passes, clock, rng)
     }
 
-    /// Starts a service with so many passes, 1 to [`MAX_THREADS`]. Its worker goes by this clock,
-    /// and draws the waits between attempts from this generator. The blank becomes its accounts.
+    /// Starts a service with this number of passes, 1 to [`MAX_THREADS`]. Its worker goes by this
+    /// clock, and draws the waits between attempts from this generator. The blank becomes its
+    /// accounts.
     ///
     /// # Errors
     ///

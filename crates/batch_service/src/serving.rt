@@ -16,12 +16,12 @@ use std::sync::Wait;
 use std::thread::Threads;
 use std::time;
 
-/// What a service gave, and what it came to.
+/// What a service gave, and its end.
 #[derive(Drop)]
 pub struct Done<T, E, S> {
     /// What the work of each thread gave, in their order.
     pub outputs: Vec<T>,
-    /// What the service came to.
+    /// The end of the service.
     pub served: Served<E, S>,
 }
 
@@ -33,7 +33,7 @@ struct WorkDone<J: Naming, R: Wait + Drop, E: Exporter, S: NameSink, T> {
     outputs: Vec<T>,
 }
 
-/// Starts a service, does the work of so many threads, 1 to [`MAX_THREADS`], and stops it.
+/// Starts a service, does the work of this number of threads, 1 to [`MAX_THREADS`], and stops it.
 ///
 /// The stop takes as long as the exporter does. [`serve_within`] has an end.
 ///

@@ -47,7 +47,7 @@ pub trait ServicePass: EndPass<SpanData> {
 
     /// Takes the names of all spans that aren't delivered, on any pass, out of the ledgers, in one
     /// hold of the lock, which is as short for many names as for one. It answers them the oldest
-    /// first; their memory is freed where they are let go. (profile)
+    /// first; their memory is freed where they are dropped. (profile)
     fn drain_names(&mut self) -> DrainedNames
         ensures { drains result.dropped result.lost self.old self.new };
 }
@@ -102,7 +102,7 @@ pub struct Room<J: Naming, R, T> {
 }
 
 impl<J: Naming, R: Drop, T: Drop> Room<J, R, T> {
-    /// Room for so many threads.
+    /// Room for this number of threads.
     ///
     /// # Errors
     ///

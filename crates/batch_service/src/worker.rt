@@ -37,7 +37,7 @@ where
     E: Exporter,
     S: NameSink,
 {
-    /// Sends batches until all is drained, or the time is up. What came of the last attempt is
+    /// Sends batches until all is drained, or the time is up. The outcome of the last attempt is
     /// judged then too. Between two turns, and in the end, it gives all names that the ledgers have
     /// to the sink.
     pub(crate) fn work<C: Clock, G: Rng>(&mut self, clock: &C, rng: &mut G) -> WorkEnd

@@ -32,7 +32,7 @@ power_of bits = if exponent_of bits == 0 then 1 else exponent_of bits
 abbrev pub nearest : ℕ → ℕ → ℕ → ℕ
 nearest mantissa two ten = (mantissa * ten + two / 2) / two
 
--- how far that is from it, so many times as large
+-- how far that number is from the size times ten, a hundred .., as a multiple of 1 / two
 abbrev pub distance : ℕ → ℕ → ℕ → ℕ
 distance mantissa two ten = abs_diff (mantissa * ten) (nearest mantissa two ten * two)
 
@@ -47,7 +47,7 @@ is_near mantissa two ten =
     nat_lt (distance mantissa two ten) ten
     && nat_lt (parts_of_gap mantissa * distance mantissa two ten) ten
 
--- the first decimal that is near, of one with so many places and at most n - 1 more
+-- the first decimal that is near, of the one with this many places and those with up to n - 1 more
 unfoldable pub decimal_from : ℕ → ℕ → ℕ → ℕ → ℕ → Option Decimal
 decimal_from zero mantissa two ten places = None
 decimal_from (suc n) mantissa two ten places =
@@ -61,7 +61,7 @@ shortest mantissa two = decimal_from 23 mantissa two 1 0
 
 -- ---- the text
 
--- so many digits of a number below that power of ten
+-- this many digits of a number below that power of ten
 unfoldable pub digits_of : ℕ → ℕ → ℕ → List ℕ
 digits_of zero ten rest = []
 digits_of (suc n) ten rest = decimal (rest / (ten / 10)) ++ digits_of n (ten / 10) (rest % (ten / 10))

@@ -6,7 +6,7 @@ ghost use Rattle.double_text.specs.Doubles.{is_near, nearest, parts_of_gap, shor
 /// The mantissa of a double at whose other side the doubles are only half as far apart: 2^52.
 const BOUNDARY: u64 = 4_503_599_627_370_496;
 
-/// A number with a point: so many of its digits come after it.
+/// A number with a point, and how many of its digits come after the point.
 #[derive(Clone, Copy)]
 pub(crate) struct Decimal {
     /// The digits, as a whole number.

@@ -57,7 +57,7 @@ fn push_whole<A: Allocator>(out: &mut String<A>, number: u128) -> Result<(), All
     write!(out, "{number}")
 }
 
-/// Appends so many digits of a number below that power of ten.
+/// Appends this many digits of a number below that power of ten.
 fn push_digits<A: Allocator>(
     out: &mut String<A>,
     places: u64,

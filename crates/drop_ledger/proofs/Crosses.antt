@@ -15,5 +15,6 @@ entry_send = search (sendable, declared_send, variants_send, as_row_send, heap.c
 kept_send : IsSend (Newest.the_row Entry.the_row Heap.the_row ghosts)
 kept_send = search (sendable, entry_send, history.the_send, heap.crosses) depth 60 fits 20000
 
+-- A sink of the newest names on the heap is `Send`.
 pub newest_send : IsSend (NewestNames.the_row Heap.the_row ghosts)
 newest_send = search (sendable, kept_send, heap.crosses) depth 60 fits 20000

@@ -50,7 +50,7 @@ second-more e xs ys = counts-more e (xs ++ (ys ++ e ∷ [])) (xs ++ ys) (record 
 })
 
 module _ {X : Type 0} (f : X → Entry) where
-  -- the newest, or the older ones, of what items are seen as
+  -- The newest of the names of items are the names of the newest items.
   pub newest-map : (most : ℕ) (items : List X) → newest_of most (map f items) ≡ map f (newest_of most items)
   newest-map most items = ap (λ n. drop (n - most) (map f items)) (length-map items f) ∙ drop-map f (length items - most) items
 
@@ -67,25 +67,28 @@ module _ {X : Type 0} (f : X → Entry) where
   older-same most items item grown = older-grown most items item [] grown ∙ append-nil (older_of most (map f items))
 
   module _ (most : ℕ) (items lost : List X) (item : X) (old : Counts) (counted : old ≡ counts_of (older_of most (map f items) ++ older_of most (map f lost))) where
-    -- of dropped spans, one more is older, or none
+    -- The counts are right where one more dropped span's name makes another older, once it is
+    -- counted.
     pub dropped-gone : (gone : X) (new : Counts) → older_of most (items ++ item ∷ []) ≡ older_of most items ++ gone ∷ [] → new ≡ one_more (f gone).reason old
         → new ≡ counts_of (older_of most (map f (items ++ item ∷ [])) ++ older_of most (map f lost))
     dropped-gone gone new grown added =
         added ∙ ap (one_more (f gone).reason) counted ∙ sym (first-more (f gone) (older_of most (map f items)) (older_of most (map f lost)))
         ∙ ap (λ xs. counts_of (xs ++ older_of most (map f lost))) (sym (older-grown most items item (gone ∷ []) grown))
 
+    -- The counts are still right where one more dropped span's name makes no other older.
     pub dropped-kept : older_of most (items ++ item ∷ []) ≡ older_of most items ++ []
         → old ≡ counts_of (older_of most (map f (items ++ item ∷ [])) ++ older_of most (map f lost))
     dropped-kept grown = counted ∙ ap (λ xs. counts_of (xs ++ older_of most (map f lost))) (sym (older-same most items item grown))
 
   module _ (most : ℕ) (dropped items : List X) (item : X) (old : Counts) (counted : old ≡ counts_of (older_of most (map f dropped) ++ older_of most (map f items))) where
-    -- of lost spans, one more is older, or none
+    -- The counts are right where one more lost span's name makes another older, once it is counted.
     pub lost-gone : (gone : X) (new : Counts) → older_of most (items ++ item ∷ []) ≡ older_of most items ++ gone ∷ [] → new ≡ one_more (f gone).reason old
         → new ≡ counts_of (older_of most (map f dropped) ++ older_of most (map f (items ++ item ∷ [])))
     lost-gone gone new grown added =
         added ∙ ap (one_more (f gone).reason) counted ∙ sym (second-more (f gone) (older_of most (map f dropped)) (older_of most (map f items)))
         ∙ ap (λ xs. counts_of (older_of most (map f dropped) ++ xs)) (sym (older-grown most items item (gone ∷ []) grown))
 
+    -- The counts are still right where one more lost span's name makes no other older.
     pub lost-kept : older_of most (items ++ item ∷ []) ≡ older_of most items ++ []
         → old ≡ counts_of (older_of most (map f dropped) ++ older_of most (map f (items ++ item ∷ [])))
     lost-kept grown = counted ∙ ap (λ xs. counts_of (older_of most (map f dropped) ++ xs)) (sym (older-same most items item grown))

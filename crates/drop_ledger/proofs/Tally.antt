@@ -13,7 +13,7 @@ use Rattle.otlp_span.specs.Slips.{entries_of, is_named}
 use Rattle.std.specs.Option.{ForSome}
 use Rattle.drop_ledger.specs.Counts.{FitTogether, IsLedger, IsTally, count_in, drop_counts_view, sum_of}
 
--- one more, where this is so
+-- one more, where this is true
 abbrev raised : Bool → ℕ → ℕ
 raised true n = n + 1
 raised false n = n
@@ -37,7 +37,7 @@ with-one Reason.bad_reply counts = refl
 with-one Reason.given_up counts = refl
 with-one Reason.left_handed counts = refl
 
--- one more is counted for its own reason alone
+-- One more name is counted for its own reason alone.
 count-one_more : (counts : model.DropCounts) (added r : Reason) → is_lost r ≡ false → count_in (with_drops added 1 counts) r ≡ cond (is_reason r added) 1 0 + count_in counts r
 count-one_more counts added queue_full drop = ap (λ c. c.queue_full) (with-one added counts) ∙ raised-is (is_reason queue_full added) counts.queue_full
 count-one_more counts added encode_memory drop = ap (λ c. c.encode_memory) (with-one added counts) ∙ raised-is (is_reason encode_memory added) counts.encode_memory
@@ -48,11 +48,13 @@ count-one_more counts added r drop = cc
 count-cons : (r : Reason) (e : Entry) (es : List Entry) → count_of_reason r (e ∷ es) ≡ cond (is_reason r e.reason) 1 0 + count_of_reason r es
 count-cons r e es = sum_by-cons (λ (x : Entry). cond (is_reason r x.reason) 1 0) e es
 
+-- Counts of a list of names are right after one more name, once its reason counts one more.
 pub tally-more : (counts : model.DropCounts) (e : Entry) (es : List Entry) → IsTally counts es → IsTally (with_drops e.reason 1 counts) (e ∷ es)
 tally-more counts e es h = record {
   exact = λ r drop. count-one_more counts e.reason r drop ∙ ap (λ n. cond (is_reason r e.reason) 1 0 + n) (h.exact r drop) ∙ sym (count-cons r e es);
 }
 
+-- Counts of a list of names are right without its first name, once its reason counts one less.
 pub tally-fewer : (counts : model.DropCounts) (e : Entry) (es : List Entry) → IsTally (with_drops e.reason 1 counts) (e ∷ es) → IsTally counts es
 tally-fewer counts e es h = record {
   exact = λ r drop. let one = cond (is_reason r e.reason) 1 0 in
@@ -60,7 +62,7 @@ tally-fewer counts e es h = record {
       omega (arith, more);
 }
 
--- the ledger after a push
+-- A ledger is right after a push.
 pub pushed : (newest : Option (List Entry)) (len : ℕ) (counts after : DropCounts) (e : Entry) (named : List Entry) → IsLedger newest len counts → drop_counts_view after ≡ with_drops e.reason 1 (drop_counts_view counts) →
     named ≡ e ∷ entries_of newest → IsLedger (Some named) (len + 1) after
 pushed newest len counts after e named h counted linked =
@@ -70,7 +72,7 @@ pushed newest len counts after e named h counted linked =
       tally = subst (λ k. IsTally k (e ∷ entries_of newest)) (sym counted) (tally-more (drop_counts_view counts) e (entries_of newest) h.tally);
     })
 
--- the ledger after a pop
+-- A ledger is right after a pop.
 pub popped : (newest below : Option (List Entry)) (slip : List Entry) (len : ℕ) (counts after : DropCounts) (e : Entry) → IsLedger newest len counts → newest ≡ Some slip →
     slip ≡ e ∷ entries_of below → ForSome below (λ es. IsTrue (is_named es)) → drop_counts_view counts ≡ with_drops e.reason 1 (drop_counts_view after) → IsLedger below (len - 1) after
 popped newest below slip len counts after e h took unlinked named counted =
@@ -82,7 +84,7 @@ popped newest below slip len counts after e h took unlinked named counted =
       tally = tally-fewer (drop_counts_view after) e (entries_of below) tally;
     }
 
--- what two count together is the sum for each reason
+-- Two counts together count for each reason the sum of both.
 count-sum : (b c : model.DropCounts) (r : Reason) → count_in (sum_of b c) r ≡ count_in b r + count_in c r
 count-sum b c queue_full = refl
 count-sum b c encode_memory = refl
@@ -93,7 +95,7 @@ count-sum b c Reason.bad_reply = refl
 count-sum b c Reason.given_up = refl
 count-sum b c Reason.left_handed = refl
 
--- as often among the names of two lists, of which one is turned round
+-- A reversed list before another has each reason as often as both lists together.
 count-turned : (r : Reason) (above below : List Entry) → count_of_reason r (reverse above ++ below) ≡ count_of_reason r below + count_of_reason r above
 count-turned r above below =
     let one : Entry → ℕ = λ x. cond (is_reason r x.reason) 1 0 in
@@ -108,7 +110,7 @@ tally-turned b c below above h k = record {
       omega (arith, count-sum b c r, count-turned r above below, each, more);
 }
 
--- each reason is counted no more often than there are names
+-- Each reason is counted at most as often as there are names.
 tally-fits : (b c : model.DropCounts) (below above : List Entry) (r : Reason) → is_lost r ≡ false → IsTally b below → IsTally c above → length below + length above < 2 ^ 64 → count_in b r + count_in c r < 2 ^ 64
 tally-fits b c below above r drop h k fits =
     let is_r = λ (x : Entry). is_reason r x.reason in
@@ -118,6 +120,7 @@ tally-fits b c below above r drop h k fits =
     let fewer : count_of_reason r above ≤ length above = count_by-le-length is_r above in
     omega (arith, each, more, few, fewer, fits)
 
+-- Two counts fit in 64 bits together where all their names together do.
 pub fit-together : (b c : model.DropCounts) (below above : List Entry) → IsTally b below → IsTally c above → length below + length above < 2 ^ 64 → FitTogether b c
 fit-together b c below above h k fits = record {
   queue_full = tally-fits b c below above queue_full refl h k fits;
@@ -126,7 +129,7 @@ fit-together b c below above h k fits = record {
   abandoned = tally-fits b c below above abandoned refl h k fits;
 }
 
--- the ledger after another one was put onto it
+-- A ledger is right after another one is put onto it.
 pub appended : (newest other turned : Option (List Entry)) (len more : ℕ) (counts others after : DropCounts) → IsLedger newest len counts → IsLedger other more others →
     entries_of turned ≡ reverse (entries_of other) ++ entries_of newest → ForSome turned (λ es. IsTrue (is_named es)) → drop_counts_view after ≡ sum_of (drop_counts_view counts) (drop_counts_view others) → IsLedger turned (len + more) after
 appended newest other turned len more counts others after h k all named counted = record {
@@ -135,7 +138,7 @@ appended newest other turned len more counts others after h k all named counted 
   tally = subst (λ es. IsTally (drop_counts_view after) es) (sym all) (subst (λ c. IsTally c (reverse (entries_of other) ++ entries_of newest)) (sym counted) (tally-turned (drop_counts_view counts) (drop_counts_view others) (entries_of newest) (entries_of other) h.tally k.tally));
 }
 
--- below a slip that names something there are fewer names
+-- There are fewer names below a slip that names something.
 pub fewer-below : (rest below : Option (List Entry)) (slip : List Entry) → ForSome rest (λ es. IsTrue (is_named es)) → rest ≡ Some slip → entries_of below ≡ drop 1 slip → length (entries_of below) < length (entries_of rest)
 fewer-below rest below [] named e b = absurd (false≢true (named [] e))
 fewer-below rest below (x ∷ xs) named e b =

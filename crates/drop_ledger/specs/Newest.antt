@@ -2,7 +2,8 @@
 use Rattle.std.specs.Prelude.{ℕ, ◌-◌, List, length, take, drop}
 use Rattle.drop_ledger.specs.Named.{Named}
 
--- the newest items of a list whose newest is the last: so many, or all if there are fewer
+-- the newest items of a list whose newest is the last: this number of them, or all if there are
+-- fewer
 abbrev pub newest_of : {X : Type 0} → ℕ → List X → List X
 newest_of most items = drop (length items - most) items
 

@@ -17,7 +17,7 @@ pub struct DropCounts {
     pub encode_memory: u64,
     /// Their batch was larger than a body may be.
     pub too_large: u64,
-    /// They were given up: who was to hand them on has left.
+    /// They were given up: the worker that was to hand them on has left.
     pub abandoned: u64,
 }
 
@@ -47,7 +47,7 @@ impl DropCounts {
         }
     }
 
-    /// Counts so many more for this reason: none where it is that of lost spans.
+    /// Counts this many more for this reason: none where it is that of lost spans.
     pub fn add(&mut self, reason: Reason, count: u64)
         requires { count_in (drop_counts_view self.old) (reason_view reason) + count < 2 ^ 64 }
         ensures { drop_counts_view self.new
@@ -74,7 +74,7 @@ impl DropCounts {
         self.abandoned += others.abandoned;
     }
 
-    /// Counts one less for this reason: for none where it is that of lost spans.
+    /// Counts one less for this reason, or nothing less where it is that of lost spans.
     pub(crate) fn remove(&mut self, reason: Reason)
         requires { is_lost (reason_view reason) ≡ false
             → 0 < count_in (drop_counts_view self.old) (reason_view reason) }

@@ -12,7 +12,7 @@ use std::alloc::{Allocator, Global};
 use std::marker::Model;
 
 /// The names of spans that aren't delivered, the newest first, each on its own span's slip. No call
-/// takes memory (profile). A ledger that is let go is taken apart one name at a time, so that a
+/// takes memory (profile). A ledger that is dropped is taken apart one name at a time, so that a
 /// long one doesn't use up the stack.
 #[derive(Drop)]
 #[derive_where(Debug)]
@@ -113,8 +113,8 @@ impl<A: Allocator> Ledger<A> {
         self.newest = Some(slip.link(entry, below));
     }
 
-    /// Moves the names of another ledger onto this one, its newest first: so they are here the
-    /// other way round. Each slip is linked anew; no memory is taken or freed.
+    /// Moves the names of another ledger onto this one, its newest first: so they are here in
+    /// reverse order. Each slip is linked anew; no memory is taken or freed.
     pub fn append_reversed(&mut self, other: Ledger<A>)
         requires { length self.old + length other < 2 ^ 64 }
         ensures { self.new ≡ reverse other ++ self.old }
@@ -145,7 +145,7 @@ impl<A: Allocator> Ledger<A> {
     }
 }
 
-/// How many of these names, which are so many, have this reason.
+/// How many of these `len` names have this reason.
 fn count_in<A: Allocator>(entries: Entries<'_, A>, len: u64, reason: Reason) -> u64
     requires { len ≡ length entries }
     ensures { result ≡ count_of_reason (reason_view reason) entries.entry }

@@ -61,7 +61,7 @@ impl<A: Allocator + Copy> NewestNames<A> {
     ///
     /// # Errors
     ///
-    /// `OutOfMemory` if there is no room for twice so many names.
+    /// `OutOfMemory` if there is no room for twice as many names as `most`.
     pub fn new(alloc: A, most: usize) -> Result<NewestNames<A>, OutOfMemory>
         ensures { IfOk result (λ sink. sink ≡ record { most = most; given = no_names }) }
     {

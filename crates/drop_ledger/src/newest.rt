@@ -12,7 +12,7 @@ use std::collections::vec_deque::Iter;
 use std::fmt;
 use std::marker::Model;
 
-/// The newest items, at most so many. All memory is taken by `new`.
+/// The newest items, within a bound. All memory is taken by `new`.
 #[derive(Drop)]
 pub(crate) struct Newest<T, A: Allocator> {
     kept: VecDeque<T, A>,

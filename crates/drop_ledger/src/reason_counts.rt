@@ -14,7 +14,8 @@ pub struct ReasonCounts {
     pub encode_memory: u64,
     /// Of spans that were dropped: their batch was larger than a body may be.
     pub too_large: u64,
-    /// Of spans that were dropped: they were given up, since who was to hand them on has left.
+    /// Of spans that were dropped: they were given up, since the worker that was to hand them on
+    /// has left.
     pub abandoned: u64,
     /// Of spans that were lost: the collector refused their batch for good, with any status.
     pub refused: u64,
@@ -22,8 +23,8 @@ pub struct ReasonCounts {
     pub bad_reply: u64,
     /// Of spans that were lost: no attempt to send their batch succeeded.
     pub given_up: u64,
-    /// Of spans that were lost: their batch was handed to the exporter, and who was to send it
-    /// again has left.
+    /// Of spans that were lost: their batch was handed to the exporter, and the worker that was to
+    /// send it again has left.
     pub left_handed: u64,
 }
 

@@ -104,7 +104,7 @@ reads_chars place (c ∷ text) after =
     ∙ ap (after_char (shown_char c)) (reads_chars place text after)
     ∙ after_more (shown_char c) (map shown_char text) (read_from place None after)
 
--- a text that was written is read, and then what comes after it
+-- A text that was written as markup is read back, and then what comes after it.
 pub reads_text : (place : Place) (text after : List ℕ)
     → read_text place (text_markup text ++ after) ≡ after_text (map shown_char text) (read_text place after)
 unfolding read_text

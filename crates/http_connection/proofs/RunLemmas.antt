@@ -48,7 +48,7 @@ module _ {S P : Type 0} (answers : S → Turn P → S → Type 0) (writes : P �
   chain_append s place (act ∷ first) second m p t after x y =
       (x.0, x.1, x.2, chain_append x.0 x.1 first second m p t after x.3 y)
 
-  -- the turns of the service
+  -- A head that is admitted is one turn of a run, which then takes the body of the request.
   pub admitted_run : (s : S) (admitted : Bool) (head : Request (List ℕ)) (r : Response)
       (before : List ℕ) (t : S) (text : List ℕ) (after : Place P) (now : List ℕ) (aborted : Bool)
       → admitted ≡ true → answers s (judged admitted head r) t
@@ -63,6 +63,7 @@ module _ {S P : Type 0} (answers : S → Turn P → S → Type 0) (writes : P �
         text = λ lives. same lives ∙ ap (λ (z : List ℕ). before ++ z) (sym (append-nil text));
       }
 
+  -- A head that isn't admitted is one turn of a run, which writes the refusal and is over.
   pub rejected_run : (s : S) (admitted : Bool) (head : Request (List ℕ)) (r : Response)
       (before : List ℕ) (t : S) (after : Place P) (now : List ℕ) (aborted : Bool)
       → admitted ≡ false → answers s (judged admitted head r) t → after ≡ Over
@@ -77,6 +78,7 @@ module _ {S P : Type 0} (answers : S → Turn P → S → Type 0) (writes : P �
         text = λ lives. same lives ∙ ap (λ (z : List ℕ). before ++ z) (sym (append-nil text));
       }
 
+  -- A refusal at an open place is one turn of a run, which writes the refusal and is over.
   pub refused_run : (s : S) (place : Place P) (why : Refusal) (r : Response) (head : Bool)
       (before : List ℕ) (t : S) (after : Place P) (now : List ℕ) (aborted : Bool)
       → IsOpen place → answers s (Refused why r) t → after ≡ Over
@@ -90,6 +92,7 @@ module _ {S P : Type 0} (answers : S → Turn P → S → Type 0) (writes : P �
         text = λ lives. same lives ∙ ap (λ (z : List ℕ). before ++ z) (sym (append-nil text));
       }
 
+  -- The answer to a whole request is one turn of a run, which then is over or goes on after it.
   pub answered_run : (s : S) (place : Place P) (request : Request (List ℕ)) (r : Response)
       (pieces : Option P) (server : Server)
       (before : List ℕ) (t : S) (after : Place P) (now : List ℕ) (aborted : Bool)
@@ -106,7 +109,7 @@ module _ {S P : Type 0} (answers : S → Turn P → S → Type 0) (writes : P �
         text = λ lives. same lives ∙ ap (λ (z : List ℕ). before ++ z) (sym (append-nil text));
       }
 
-  -- a piece of a body
+  -- A piece of a body that is kept is one step of a run, which writes nothing.
   pub kept_run : (s : S) (place : Place P) (before : List ℕ) (head : Parts) (body piece : List ℕ)
       (after : Place P) (now : List ℕ) (aborted : Bool) → place ≡ Takes head body
       → after ≡ Takes head (body ++ piece) → (aborted ≡ false → now ≡ before)
@@ -117,7 +120,7 @@ module _ {S P : Type 0} (answers : S → Turn P → S → Type 0) (writes : P �
     text = λ lives. same lives ∙ sym (append-nil before);
   }
 
-  -- a piece of an answer
+  -- A piece of an answer that is written is one step of a run, which goes on or ends the answer.
   pub piece_run : (s : S) (place : Place P) (before : List ℕ) (old : P) (more : Bool) (new : P)
       (piece : List ℕ) (server : Server) (after : Place P) (now : List ℕ) (aborted : Bool)
       → place ≡ Writes old → ((rest : List ℕ) → writes new rest → writes old (piece ++ rest))
@@ -138,7 +141,7 @@ module _ {S P : Type 0} (answers : S → Turn P → S → Type 0) (writes : P �
         text = λ lives. same lives ∙ ap (λ (z : List ℕ). before ++ z) (sym (append-nil text));
       }
 
-  -- the same run, by equal ends
+  -- A run is the same run when its end is given by equal values.
   pub runs_same : {s : S} {place : Place P} {before : List ℕ} {t : S} {after : Place P}
       {now : List ℕ} {aborted : Bool} (after' : Place P) (now' : List ℕ) (aborted' : Bool)
       → after' ≡ after → now' ≡ now → aborted' ≡ aborted
@@ -150,7 +153,7 @@ module _ {S P : Type 0} (answers : S → Turn P → S → Type 0) (writes : P �
     text = λ lives. f ∙ x.text (sym a ∙ lives);
   }
 
-  -- nothing was done with the service
+  -- A run without a turn of the service writes nothing and stays at its place or is over.
   pub runs_none : (s : S) (place : Place P) (before : List ℕ) (after : Place P) (now : List ℕ)
       (aborted : Bool) → (after ≡ place) ⊎ (after ≡ Over) → (aborted ≡ false → now ≡ before)
       → Runs answers writes most s place before s after now aborted
@@ -160,7 +163,7 @@ module _ {S P : Type 0} (answers : S → Turn P → S → Type 0) (writes : P �
     text = λ lives. same lives ∙ sym (append-nil before);
   }
 
-  -- one run after another
+  -- Two runs, one after the other, are one run.
   pub runs_append : {s : S} {place : Place P} {before : List ℕ} {m : S} {p : Place P} {mid : List ℕ}
       {over : Bool} {t : S} {after : Place P} {now : List ℕ} {aborted : Bool}
       → Runs answers writes most s place before m p mid over → over ≡ false
@@ -186,6 +189,7 @@ module _ {S P : Type 0} (answers : S → Turn P → S → Type 0) (writes : P �
   chain_beside s place (Wrote old piece more new text ∷ acts) after x =
       (s, x.1, (x.2.0, refl, x.2.2, x.2.3, x.2.4), chain_beside s x.1 acts after x.3)
 
+  -- A run in which no service takes a turn is a run of every service, whose state stays.
   pub runs_beside : (s : S) {place : Place P} {before : List ℕ} {after : Place P} {now : List ℕ}
       {aborted : Bool}
       → Runs {S = Unit {0}} (λ a turn b. ⊥) writes most tt place before tt after now aborted
@@ -196,12 +200,12 @@ module _ {S P : Type 0} (answers : S → Turn P → S → Type 0) (writes : P �
     text = x.text;
   }
 
--- of what is not so anything holds
+-- From a Boolean that is both true and false, anything follows.
 pub vacuous : {X : Type 0} (b : Bool) → b ≡ true → b ≡ false → X
 vacuous b is other = absurd (let e : true ≡ false = sym is ∙ other in cc)
 
 module _ {S P : Type 0} (answers : S → Turn P → S → Type 0) (writes : P → List ℕ → Type 0) where
-  -- one run after another, where the bound is the same
+  -- Two runs under the same bound, one after the other, are one run.
   pub runs_next : {s : S} {place : Place P} {before : List ℕ} {m : S} {p : Place P} {mid : List ℕ}
       {over : Bool} {t : S} {after : Place P} {now : List ℕ} {aborted : Bool} (most more : ℕ)
       → more ≡ most → Runs answers writes most s place before m p mid over → over ≡ false
@@ -211,20 +215,21 @@ module _ {S P : Type 0} (answers : S → Turn P → S → Type 0) (writes : P �
       runs_append answers writes most x lives
       (subst (λ (n : ℕ). Runs answers writes n m p mid t after now aborted) same y)
 
--- a head may be refused, and a body
+-- A connection at the head of a request is at an open place.
 pub head_is_open : {P : Type 0} (stage : Stage P) (head : Parts) (body : List ℕ) → stage ≡ At.Head
     → IsOpen (place_at stage head body)
 head_is_open {P} stage head body is = subst (λ (s : Stage P). IsOpen (place_at s head body)) (sym is) tt
 
+-- A connection at the body of a request is at an open place.
 pub body_is_open : {P : Type 0} (stage : Stage P) (head : Parts) (body : List ℕ) → stage ≡ At.Body
     → IsOpen (place_at stage head body)
 body_is_open {P} stage head body is = subst (λ (s : Stage P). IsOpen (place_at s head body)) (sym is) tt
 
--- the work falls where a body ends
+-- The measure of the work left falls where a body ends.
 pub work_falls : (l m n r : ℕ) → n ≡ 2 * l → l ≡ m → r ≡ 1 → n < 2 * m + r
 work_falls l m n r is same one = omega arith
 
--- where the client may send more, nothing is left to do before a read
+-- Where the client may send more, nothing is left to do before a read.
 pub rests_open : {P : Type 0} (stage : Stage P) (ended : Bool) (waits : ℕ) → ended ≡ false
     → rests_at stage ended waits
 rests_open At.Head ended waits is = inl is
@@ -234,7 +239,7 @@ rests_open (At.Discard left) ended waits is = is
 rests_open At.Closing ended waits is = tt
 rests_open At.Aborted ended waits is = tt
 
--- what rests is never stuck
+-- A connection that rests reads, writes or advances, unless it is done.
 pub never_stalls : {P : Type 0} (stage : Stage P) (ended : Bool) (unread waits : ℕ)
     → rests_at stage ended waits
     → (reads_at stage ended waits ≡ true)
@@ -253,7 +258,7 @@ never_stalls At.Closing true unread zero x = inr (inr (inr refl))
 never_stalls At.Closing true unread (suc waits) x = inr (inl (omega arith))
 never_stalls At.Aborted ended unread waits x = inr (inr (inr refl))
 
--- what writes pieces rests
+-- A connection that writes an answer by pieces rests.
 pub writing_rests : {P : Type 0} (stage : Stage P) (p : P) (ended : Bool) (waits : ℕ)
     → stage ≡ At.Pieces p → rests_at stage ended waits
 writing_rests {P} stage p ended waits is =

@@ -24,7 +24,7 @@ held_of c = c.head_room + vec_capacity c.body + (c.input.room + vec_capacity c.o
 abbrev pub max_body_of : {P : Type 0} → Connection P → ℕ
 max_body_of c = c.limits.max_body
 
--- where it is in its exchanges, with this head of a request and so much of its body
+-- where it is in its exchanges, with this head of a request and this part of its body
 abbrev pub place_at : {P : Type 0} → Stage P → Parts → List ℕ → Place P
 place_at At.Head head body = Awaits
 place_at At.Body head body = Takes head body

@@ -12,8 +12,8 @@ use Rattle.http_connection.specs.declared.limits.Refusal.{Refusal}
 use Rattle.http_connection.specs.Texts.{continue_text, refusal_text, opening_text, piece_text}
 use Rattle.http_connection.specs.Turns.{Turn, Admitted, Rejected, Answered, Refused}
 
--- it awaits a request, has let one in by this head and kept so much of its body, writes the rest
--- of an answer by pieces, or is over: it answers nothing more
+-- it awaits a request, has let one in by this head and kept this part of its body, writes the
+-- rest of an answer by pieces, or is over: it answers nothing more
 pub data Place (P : Type 0) : Type 0 where
   Awaits : Place P
   Takes : Parts → List ℕ → Place P
@@ -58,8 +58,8 @@ IsOpen (Takes head body) = Unit {0}
 IsOpen (Writes p) = ⊥
 IsOpen Over = ⊥
 
--- the bytes for a turn of the service, from one place to the next, where a body has at most so many
--- bytes
+-- the bytes for a turn of the service, from one place to the next, where a body has at most this
+-- many bytes
 abbrev pub IsPutOut : {P : Type 0} → ℕ → Place P → Turn P → List ℕ → Place P → Type 0
 IsPutOut most place (Admitted head) text after =
     (place ≡ Awaits) × (after ≡ Takes (head_of head) []) × ((text ≡ []) ⊎ (text ≡ continue_text))

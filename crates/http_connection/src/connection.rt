@@ -24,7 +24,7 @@ pub(crate) enum Stage<P> {
     Body,
     /// It writes the pieces of an answer.
     Pieces(P),
-    /// It reads the rest of a refused request, so many bytes at most, and throws them away.
+    /// It reads the rest of a refused request, this many bytes at most, and throws them away.
     Discard(u64),
     /// It writes what is pending, and ends then.
     Closing,
@@ -192,7 +192,7 @@ impl<P: Pieces + Drop> Connection<P> {
     ghost use Rattle.http_connection.specs.Connections.{NeverStalls, RunsOn};
 
     /// Answers what has come, and writes one more piece where less than 64 KiB wait to be written.
-    /// So many bytes as `room` may still be pending beside what it holds.
+    /// `room` bytes may still be pending beside those that it holds.
     ///
     /// What it puts out is what the service answered, in order, and the pieces that go on with it.
     /// After a refusal nothing more is answered. Where memory is refused the connection ends, and

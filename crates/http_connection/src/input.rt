@@ -9,7 +9,7 @@ use std::io::{self, Read};
 /// How many bytes a block of input has, twice the longest head. (profile)
 const BLOCK: usize = 32 * 1024;
 
-/// A read has room for so many bytes at least. (profile)
+/// A read has room for this many bytes at least. (profile)
 const LEAST_READ: usize = 8 * 1024;
 
 /// What came, in a block that is given back while the connection is idle.

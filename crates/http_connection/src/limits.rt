@@ -5,10 +5,11 @@ ghost use Rattle.std.specs.Prelude.{◌≡◌};
 use http::StatusCode;
 use http1::ReadError;
 
-/// A head or a trailer section may have so many fields. (profile)
+/// A head or a trailer section may have this many fields. (profile)
 pub(crate) const MAX_FIELDS: usize = 64;
 
-/// While so many bytes wait to be written, no request is read and no piece is asked for. (profile)
+/// While this many bytes wait to be written, no request is read and no piece is asked for.
+/// (profile)
 pub(crate) const MAX_PENDING: usize = 64 * 1024;
 
 /// The bounds of a connection.

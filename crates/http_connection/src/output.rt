@@ -40,7 +40,7 @@ impl Output {
         &self.bytes.as_slice()[self.sent..]
     }
 
-    /// Notes that so many of them were written. Once all are, the memory is given back.
+    /// Notes that this many of the bytes were written. Once all are, the memory is given back.
     pub(crate) fn advance(&mut self, count: usize, alloc: Global)
         requires { count ≤ length (waiting self.old) }
         ensures { waiting self.new ≡ drop count (waiting self.old) }

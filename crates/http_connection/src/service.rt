@@ -39,7 +39,7 @@ pub trait Service {
     ghost answers: { Self → Turn Self.Pieces → Self → Type 0 };
 
     /// Judges a request by its head, before its body is taken. `head` has no body yet; `body` is
-    /// the length of it, where the request says one; so many bytes as `room` may still be pending.
+    /// the length of it, where the request says one; `room` bytes may still be pending.
     /// Answers whether the request is let in. If not, `response` was made the answer, and the
     /// connection ends after it.
     fn admit(

@@ -9,7 +9,7 @@ none_left : (unread : List ℕ) (room n : ℕ) → n ≡ min room (length unread
 none_left [] room n is none some = refl
 none_left (b ∷ unread) room n is none some = absurd (omega (arith, is, none, some))
 
--- a front of what is unread was given, and so it is a front of all that was left
+-- A read that gives a front of the unread bytes gives a front of all that was left.
 pub given_front : (old left : Option (List ℕ)) (unread before after : List ℕ) (n : ℕ) → Keeps old (prepend_known unread left) → (unread ≡ [] → IsAtEnd left)
     → n ≡ min (length before) (length unread) → length after ≡ length before → take n after ≡ take n unread
     → Consumes old (prepend_known (drop n unread) left) (take n after) × (n ≡ 0 → 0 < length after → IsAtEnd (prepend_known (drop n unread) left))

@@ -50,17 +50,20 @@ message_send = view_send _ _ _ _ _ (declared_send message.the_type (search (send
 failure_send : IsSend Failure.the_row
 failure_send = search (sendable, variants_send, as_row_send, fault_send, message_send) depth 60 fits 20000
 
+-- An exporter over links on the heap is `Send` where its dial is.
 pub link_exporter_send : (D : RattleType) → IsSend D → IsSend (LinkExporter.the_row D Heap.the_row ghosts)
 link_exporter_send D d = view_send _ _ _ _ _ (declared_send (exporter.the_type D Heap.the_row ghosts) (search (sendable, as_row_send, variants_send, target_send, limits_send, failure_send, heap.crosses, d) depth 60 fits 20000))
 
 tcp_dial_send : (R : RattleType) → IsSend R → IsSend (TcpDial.the_row R)
 tcp_dial_send R r = view_send _ _ _ _ _ (declared_send (dial.the_type R) (search (sendable, as_row_send, r) depth 60 fits 20000))
 
+-- An exporter over TCP on the heap is `Send` where its runtime's value is.
 pub http_exporter_send : (R : RattleType) → IsSend R → IsSend (LinkExporter.the_row (TcpDial.the_row R) Heap.the_row ghosts)
 http_exporter_send R r = link_exporter_send (TcpDial.the_row R) (tcp_dial_send R r)
 
 module _ (D L : RattleType) (g : dialing.Ghosts D.Denot L.Denot)
     (r : reading.Ghosts L.Denot) (w : writing.Ghosts L.Denot) where
+  -- An exporter that keeps its link is `Send` where its dial and its link are.
   pub kept_exporter_send : IsSend D → IsSend L → IsSend (KeptExporter.the_row D Heap.the_row L g r w ghosts)
   kept_exporter_send d l =
       let e = link_exporter_send D d in
@@ -89,11 +92,13 @@ buffered_send L l =
 abbrev pub tcp_link : RattleType → RattleType → RattleType
 tcp_link R S = Buffered.the_row (Deadline.the_row (Socket.the_row S) (RuntimeClock.the_row R))
 
+-- A link over TCP is `Send` where the runtime's value and its stream are.
 pub tcp_link_send : (R S : RattleType) → IsSend R → IsSend S → IsSend (tcp_link R S)
 tcp_link_send R S r s = buffered_send _ (deadline_send _ _ (socket_send S s) (clock_send R r))
 
 module _ (R S : RattleType) (g : dialing.Ghosts (TcpDial.the_row R).Denot (tcp_link R S).Denot)
     (r : reading.Ghosts (tcp_link R S).Denot) (w : writing.Ghosts (tcp_link R S).Denot) where
+  -- An exporter that keeps its connection is `Send` where its runtime's value and stream are.
   pub kept_http_exporter_send : IsSend R → IsSend S
       → IsSend (KeptExporter.the_row (TcpDial.the_row R) Heap.the_row (tcp_link R S) g r w ghosts)
   kept_http_exporter_send a s = kept_exporter_send _ _ g r w (tcp_dial_send R a) (tcp_link_send R S a s)

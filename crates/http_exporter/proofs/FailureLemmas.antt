@@ -18,7 +18,7 @@ use Rattle.http_exporter.specs.Kept as keeping
 use Rattle.http_exporter.specs.Kept.{IsKeptAnswer, IsKeptPost}
 use Rattle.http_exporter.specs.Attempts.{Shown, IsPosted, replied, stopped, replied_after_a_stop, outcome_after_a_stop}
 
--- bytes that are not UTF-8 say nothing
+-- Bytes that are not UTF-8 have no text.
 pub no_text : (bytes : List ℕ) → (IsUtf8 bytes → ⊥) → [] ≡ text_in bytes
 no_text bytes none = by_case (is_utf8 bytes) (λ text. none (IsUtf8-from_is_utf8 bytes text))
   where
@@ -77,7 +77,7 @@ stop_fails : (answer : Result HttpReply HttpFault) → HasFailed (outcome_after_
 stop_fails (Ok reply) = reply_fails reply
 stop_fails (Err fault) = λ _. refl
 
--- where a body was posted
+-- a posted body leaves a failure where it isn't delivered
 posted_fails : {Link : Type 0} (shown : Shown Link) (limits : HeadLimits) (reads : Bool) (text : List ℕ) (old new : Link) (outcome : Outcome) (failure : Option Failure) → IsPosted shown limits reads text old new outcome failure →
     HasFailed outcome failure
 posted_fails shown limits reads text old new outcome failure (replied sent answer is_sent is_answer says failed) = rw (says, failed) (answer_fails answer)
@@ -87,13 +87,13 @@ posted_fails shown limits reads text old new outcome failure (replied_after_a_st
 not_some : false ≡ true → ⊥
 not_some e = cc
 
--- what failed is the last failure
+-- An attempt that isn't delivered leaves a last failure.
 pub last_fails : {Link : Type 0} (shown : Shown Link) (limits : HeadLimits) (reads : Bool) (text : List ℕ) (old new : Link) (outcome : Outcome) (failure before last : Option Failure) → IsPosted shown limits reads text old new outcome failure →
     IsLast failure before last → HasFailed outcome last
 last_fails shown limits reads text old new outcome None before last posted kept = λ other. absurd (not_some (posted_fails shown limits reads text old new outcome None posted other))
 last_fails shown limits reads text old new outcome (Some failure) before last posted kept = λ _. rw kept.2 refl
 
--- the same where the link is kept
+-- a post over a link that is kept leaves a failure where it isn't delivered
 answered_fails : {Link : Type 0} (shown : Shown Link) (limits : HeadLimits) (old new : Link) (outcome : Outcome) (failure : Option Failure) (lasts : Bool)
     → IsKeptAnswer shown limits old new outcome failure lasts → HasFailed outcome failure
 answered_fails shown limits old new outcome failure lasts (keeping.read reply is by_head says failed) = rw (says, failed) (answer_fails (Ok reply))
@@ -105,6 +105,7 @@ kept_fails shown limits reads text old new outcome failure lasts (keeping.replie
 kept_fails shown limits reads text old new outcome failure lasts (keeping.stopped unread is_stopped by_stop says failed) = λ _. rw failed refl
 kept_fails shown limits reads text old new outcome failure lasts (keeping.replied_after_a_stop stop answer read is_stopped is_answer by_stop says failed) = rw (says, failed) (stop_fails answer)
 
+-- An attempt over a kept link that isn't delivered leaves a last failure.
 pub last_kept_fails : {Link : Type 0} (shown : Shown Link) (limits : HeadLimits) (reads : Bool) (text : List ℕ) (old new : Link) (outcome : Outcome) (failure : Option Failure) (lasts : Bool) (before last : Option Failure)
     → IsKeptPost shown limits reads text old new outcome failure lasts → IsLast failure before last → HasFailed outcome last
 last_kept_fails shown limits reads text old new outcome None lasts before last posted is_last = λ other. absurd (not_some (kept_fails shown limits reads text old new outcome None lasts posted other))

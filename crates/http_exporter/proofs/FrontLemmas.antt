@@ -12,7 +12,7 @@ use Rattle.otlp_http.specs.declared.request.Connection.{Connection}
 use Rattle.otlp_http.specs.declared.request.Connection.TheVariants.{Close, KeepAlive}
 use Rattle.http_exporter.specs.Attempts.{Shown, IsSent, IsStopped}
 
--- how long a head is
+-- The head of a request has this length.
 pub length-head_for : (connection : Connection) (address : Address) (size : ℕ)
     → length (head_for connection address size) ≡ 81 + (length address.path + (length address.host + (length (decimal address.port) + (length (decimal size) + length (last_lines connection)))))
 unfolding request_head kept_head
@@ -27,7 +27,7 @@ take_behind text front rest n is =
     ∙ ap (λ l. l ++ take n (drop (length front) (front ++ rest))) (take_at front rest (length front) refl)
     ∙ ap (λ l. front ++ take n l) (drop_at front rest (length front) refl)
 
--- the second piece, where the first one reaches after the head
+-- A first piece that has the whole head leaves the rest of the body as the second piece.
 pub rest_of_body : (head body front : List ℕ) → front ≡ take (length front) (head ++ body) → length head ≤ length front
     → head ++ body ≡ front ++ drop (length front - length head) body
 rest_of_body head body front is reaches =
@@ -38,6 +38,7 @@ rest_of_body head body front is reaches =
     sym (take-append-drop n (head ++ body)) ∙ ap (λ l. l ++ drop n (head ++ body)) (sym is) ∙ ap (λ l. front ++ l) past
 
 module _ {Link : Type 0} {shown : Shown Link} where
+  -- A text is sent once its first piece is sent and then its second one.
   pub sent_both : (text front rest : List ℕ) (old mid new : Link) → text ≡ front ++ rest → IsSent shown front old mid
       → IsSent shown rest mid new → IsSent shown text old new
   sent_both text front rest old mid new is first second = record {
@@ -45,6 +46,7 @@ module _ {Link : Type 0} {shown : Shown Link} where
     counted = second.counted ∙ first.counted;
   }
 
+  -- A write that stops in the first piece of a text stops in the text.
   pub stopped_before : (text front rest : List ℕ) (old new : Link) → text ≡ front ++ rest → IsStopped shown front old new
       → IsStopped shown text old new
   stopped_before text front rest old new is first =
@@ -57,6 +59,7 @@ module _ {Link : Type 0} {shown : Shown Link} where
         counted = first.counted;
       }
 
+  -- A write that stops in the second piece of a text, after the first, stops in the text.
   pub stopped_behind : (text front rest : List ℕ) (old mid new : Link) → text ≡ front ++ rest → IsSent shown front old mid
       → IsStopped shown rest mid new → IsStopped shown text old new
   stopped_behind text front rest old mid new is first second =
@@ -69,7 +72,7 @@ module _ {Link : Type 0} {shown : Shown Link} where
         counted = second.counted ∙ ap one_more first.counted;
       }
 
--- a write of more of a piece
+-- A write of a piece's beginning, and then of more of it, writes a longer beginning.
 pub write_more : (old mid new : Option (List ℕ)) (at n : ℕ) (piece : List ℕ) → Appends old mid (take at piece)
     → Appends mid new (take n (take (length piece - at) (drop at piece))) → Appends old new (take (at + n) piece)
 write_more old mid new at n piece first second =
@@ -77,7 +80,7 @@ write_more old mid new at n piece first second =
     let both = Appends-trans old mid new (take at piece) (take n (drop at piece)) first (subst (λ l. Appends mid new (take n l)) tail second) in
     subst (Appends old new) (sym (take-add at n piece)) both
 
--- a front that has all of the text, or is full, reaches after a head that there is room for
+-- A front that has all of the text, or is full, has the whole head, where there is room for it.
 pub reaches : (head body front : List ℕ) (size failures : ℕ) → size ≡ length head → size ≤ 1024
     → (front ≡ head ++ body) ⊎ (0 < failures) → (failures ≡ 0) ⊎ (length front ≡ 1024) → length head ≤ length front
 reaches head body front size failures is room (inl whole) full =
@@ -85,12 +88,12 @@ reaches head body front size failures is room (inl whole) full =
 reaches head body front size failures is room (inr failed) (inl none) = absurd (omega (arith, failed, none))
 reaches head body front size failures is room (inr failed) (inr full) = omega (arith, is, room, full)
 
--- what follows from an error follows where there is one
+-- What holds at all holds in the error case of a result.
 pub on_err : {T E : Type 0} (r : Result T E) {P : Type 0} → P → OnErr r P
 on_err (Ok _) p = tt
 on_err (Err _) p = p
 
--- a text is its front, and the slice of the body after what the front has of it
+-- A text is its front, and the slice of the body after what the front has of it.
 pub front_and_rest : (head body taken front : List ℕ) (size failures : ℕ) → size ≡ length head → size ≤ 1024
     → taken ≡ take (length taken) (head ++ body) → (taken ≡ head ++ body) ⊎ (0 < failures) → front ≡ taken
     → (failures ≡ 0) ⊎ (length front ≡ 1024)

@@ -17,13 +17,14 @@ IsAsked old mid = mid ≡ record { exporter = record old.exporter { dial = mid.e
 abbrev pub IsNoted : {Dial : Type 0} → Exporting Dial → Exporting Dial → Type 0
 IsNoted mid after = after ≡ record mid { last_failure = after.last_failure }
 
--- no link is left where none is kept
+-- No link is left where none is kept.
 pub none_left : {Dial Link : Type 0} (old mid seen : Keeping Dial Link) (lasts : Bool) (spent : Link) → seen ≡ mid → IsAsked old mid
     → lasts ≡ false → seen.link ≡ (if lasts then Some spent else None)
 none_left old mid seen lasts spent same asked broken = rw broken (ap (λ k. k.link) same ∙ ap (λ k. k.link) asked)
 
 module _ {Dial Link : Type 0} (dials : Dial → List ℕ → ℕ → Option Link → Dial → Type 0)
     (renews : Link → Bool → Link → Type 0) (shown : Shown Link) (body : List ℕ) where
+  -- An attempt without a link ends as one without a reply, and notes that there was no connection.
   pub no_link : (old mid seen : Keeping Dial Link) (after : Exporting Dial) → seen ≡ mid
       → GetsLink dials renews old mid.exporter.dial None → IsAsked old mid → IsNoted seen.exporter after
       → IsLast (Some NoConnection) seen.exporter.last_failure after.last_failure
@@ -33,6 +34,7 @@ module _ {Dial Link : Type 0} (dials : Dial → List ℕ → ℕ → Option Link
       unlinked (subst (λ d. GetsLink dials renews old d None) dial_is gets) refl
       (ap (λ k. k.link) same ∙ ap (λ k. k.link) asked) last
 
+  -- An attempt over one link, kept or fresh, ends as its post did, and keeps it where it lasts.
   pub one_link : (old mid seen : Keeping Dial Link) (after : Exporting Dial) (got spent : Link) (outcome : Outcome)
       (failure : Option Failure) (lasts : Bool) (left : Option Link) → seen ≡ mid
       → GetsLink dials renews old mid.exporter.dial (Some got) → IsAsked old mid → IsNoted seen.exporter after

@@ -1,5 +1,5 @@
--- An attempt to send a body over a link. (OTLP Specification, OTLP/HTTP; a link an attempt, and
--- what a stopped request comes to: profile)
+-- An attempt to send a body over a link. (OTLP Specification, OTLP/HTTP; a link an attempt, and the
+-- outcome of a stopped request: profile)
 use Rattle.std.specs.Prelude.{◌≡◌, ℕ, ◌<◌, Bool, true, false, List, length, take, Option, Some}
 use Rattle.std.specs.Prelude.{None, Result, Ok, Err}
 use Rattle.std.specs.Io.KnownBytes.{Appends}
@@ -48,7 +48,7 @@ pub record IsSent {Link : Type 0} (shown : Shown Link) (text : List ℕ)
   pub written : Appends (shown.contents old) (shown.contents new) text
   pub counted : shown.failed_writes new ≡ shown.failed_writes old
 
--- a write failed, before which so many bytes of the text went out, and not all
+-- a write failed, before which this count of the text's bytes went out, and not all
 pub record IsStopped {Link : Type 0} (shown : Shown Link) (text : List ℕ)
     (old new : Link) : Type 0 where
   pub count : ℕ
@@ -71,9 +71,9 @@ abbrev pub outcome_after_a_stop : Result HttpReply HttpFault → Outcome
 outcome_after_a_stop (Ok reply) = outcome_of_reply reply
 outcome_after_a_stop (Err fault) = no_reply
 
--- What came of a text that was posted over a link, and what failed, if anything did: what the reply
--- says; that there is none, since a write failed; or, where that is asked for, what a reply says
--- that came all the same.
+-- The outcome of a text that was posted over a link, and what failed, if anything did: what the
+-- reply says; that there is none, since a write failed; or, where that is asked for, what a reply
+-- says that came all the same.
 pub data IsPosted {Link : Type 0} (shown : Shown Link) (limits : HeadLimits)
     (reads_after_a_stop : Bool) (text : List ℕ) (old new : Link)
     (outcome : Outcome) (failure : Option Failure) : Type 0 where
@@ -90,8 +90,8 @@ pub data IsPosted {Link : Type 0} (shown : Shown Link) (limits : HeadLimits)
       → outcome ≡ outcome_after_a_stop answer → failure ≡ failure_after_a_stop answer
       → IsPosted shown limits reads_after_a_stop text old new outcome failure
 
--- What came of an attempt: no link could be had, so there is no reply; or the request of this body
--- was posted over the link that the dial gave. What failed is then the last failure.
+-- The outcome of an attempt: no link could be had, so there is no reply; or the request of this
+-- body was posted over the link that the dial gave. What failed is then the last failure.
 pub data IsAttempt {Dial Link : Type 0}
     (dials : Dial → List ℕ → ℕ → Option Link → Dial → Type 0) (shown : Shown Link)
     (body : List ℕ) (old new : Exporting Dial) (outcome : Outcome) : Type 0 where
@@ -106,7 +106,7 @@ pub data IsAttempt {Dial Link : Type 0}
       → IsLast failure old.last_failure new.last_failure
       → IsAttempt dials shown body old new outcome
 
--- What an attempt does to the exporter: what came of it, and of the exporter only what dials and the
+-- What an attempt does to the exporter: its outcome, and of the exporter only what dials and the
 -- last failure may have changed.
 abbrev pub Attempts : {Dial Link : Type 0}
     → (Dial → List ℕ → ℕ → Option Link → Dial → Type 0) → Shown Link

@@ -11,11 +11,11 @@ pub record CountedDown (Clock : Type 0) : Type 0 where
   pub all : ℕ
   pub end : ℕ
 
--- so many milliseconds in nanoseconds, at most the greatest number of 64 bits
+-- this number of milliseconds in nanoseconds, at most the greatest number of 64 bits
 abbrev pub nanos_of_millis : ℕ → ℕ
 nanos_of_millis ms = min (ms * 1_000_000) (2 ^ 64 - 1)
 
--- the moment so long after that one, at most the greatest number of 64 bits
+-- the moment this long after that one, at most the greatest number of 64 bits
 abbrev pub moment_after : ℕ → ℕ → ℕ
 moment_after now nanos = min (now + nanos) (2 ^ 64 - 1)
 
@@ -31,8 +31,8 @@ pub record TimedLink (Stream Clock : Type 0) : Type 0 where
   pub time : CountedDown Clock
   pub failures : ℕ
 
--- What a call comes to that may take so long: where no time is left it fails, and the stream isn't
--- called; else the stream is given just this time.
+-- The result of a call that may take this long: where no time is left it fails, and the stream
+-- isn't called; else the stream is given just this time.
 pub data IsTimedCall {Stream T E : Type 0} (takes : Stream → ℕ → Stream → Type 0) (left : ℕ)
     (old new : Stream) (answer : Result T E) : Type 0 where
   late : left ≡ 0 → new ≡ old → IsErr answer → IsTimedCall takes left old new answer

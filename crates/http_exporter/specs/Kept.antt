@@ -1,4 +1,4 @@
--- Attempts over a link that is kept. (RFC 9112, sections 9.3 and 9.5; when a link is let go:
+-- Attempts over a link that is kept. (RFC 9112, sections 9.3 and 9.5; when a link is given up:
 -- profile)
 use Rattle.std.specs.Prelude.{◌≡◌, ℕ, Bool, true, false, if◌then◌else◌, List, Option, Some, None}
 use Rattle.std.specs.Prelude.{Result, Ok, Err}
@@ -37,7 +37,7 @@ pub data IsKeptAnswer {Link : Type 0} (shown : Shown Link) (limits : HeadLimits)
       → outcome ≡ outcome_of (Err fault) → failure ≡ failure_of (Err fault)
       → IsKeptAnswer shown limits old new outcome failure lasts
 
--- What came of a text that was posted over a link, what failed, and whether the link may carry
+-- The outcome of a text that was posted over a link, what failed, and whether the link may carry
 -- another request: not where a write failed.
 pub data IsKeptPost {Link : Type 0} (shown : Shown Link) (limits : HeadLimits)
     (reads_after_a_stop : Bool) (text : List ℕ) (old new : Link)
@@ -69,9 +69,9 @@ pub data GetsLink {Dial Link : Type 0}
       → dials old.exporter.dial old.exporter.target.host old.exporter.target.port link dial
       → GetsLink dials renews old dial link
 
--- What came of an attempt: no link could be had, so there is no reply; or the request of this body
--- was posted over one link, once. The link is kept just where it may carry another request: after a
--- reply that was read whole, to an end of its own.
+-- The outcome of an attempt: no link could be had, so there is no reply; or the request of this
+-- body was posted over one link, once. The link is kept just where it may carry another request:
+-- after a reply that was read whole, to an end of its own.
 pub data IsKeptAttempt {Dial Link : Type 0}
     (dials : Dial → List ℕ → ℕ → Option Link → Dial → Type 0)
     (renews : Link → Bool → Link → Type 0) (shown : Shown Link)
@@ -88,8 +88,8 @@ pub data IsKeptAttempt {Dial Link : Type 0}
       → IsLast failure old.exporter.last_failure new.exporter.last_failure
       → IsKeptAttempt dials renews shown body old new outcome
 
--- What an attempt does to the exporter: what came of it, and of the exporter only what dials, the
--- last failure and the link may have changed.
+-- What an attempt does to the exporter: its outcome, and of the exporter only what dials, the last
+-- failure and the link may have changed.
 abbrev pub KeptAttempts : {Dial Link : Type 0}
     → (Dial → List ℕ → ℕ → Option Link → Dial → Type 0) → (Link → Bool → Link → Type 0)
     → Shown Link → Keeping Dial Link → List ℕ → Outcome → Keeping Dial Link → Type 0

@@ -44,7 +44,7 @@ impl<R: time::Clock> Monotonic for RuntimeClock<R> {
     }
 }
 
-/// The time that is left to a row of calls: each may take so long, and all end by one moment. In
+/// The time that is left to a row of calls: each has a longest time, and all end by one moment. In
 /// contracts it is a `CountedDown`.
 #[derive(Debug, Drop)]
 pub struct Countdown<C> {
@@ -127,7 +127,7 @@ pub trait TimedStream {
     // The bytes that it holds, where it shows them.
     ghost contents: { Self → Option (List ℕ) };
 
-    // From this state, a call that is given so many nanoseconds may leave that state.
+    // From this state, a call that is given this number of nanoseconds may leave that state.
     ghost takes: { Self → ℕ → Self → Type 0 } = { λ _ _ _. ⊤ };
 
     /// Reads some bytes to the front of `buf`, and answers how many: none only at the end, or where
@@ -183,7 +183,7 @@ impl<S, C> Model for Deadline<S, C> {
 }
 
 impl<S, C> Deadline<S, C> {
-    /// A link over this stream, with so much time. It hasn't failed yet.
+    /// A link over this stream, with this time. It hasn't failed yet.
     pub fn new(stream: S, time: Countdown<C>) -> Deadline<S, C>
         ensures { result ≡ record { stream = stream; time = time; failures = 0 } }
     {

@@ -97,7 +97,7 @@ impl<D, A: Allocator + Copy> LinkExporter<D, A> {
         }
     }
 
-    /// The same exporter, which reads so much of a reply, with [`MOST_FIELDS`] fields at most.
+    /// The same exporter, which reads this much of a reply, with [`MOST_FIELDS`] fields at most.
     ///
     /// [`MOST_FIELDS`]: otlp_http::MOST_FIELDS
     pub fn within(mut self, limits: HeadLimits) -> LinkExporter<D, A>
@@ -152,7 +152,7 @@ impl<D, A: Allocator + Copy> LinkExporter<D, A> {
         outcome
     }
 
-    /// What comes of a body that is posted over this link, and what failed, if anything did.
+    /// The outcome of a body that is posted over this link, and what failed, if anything did.
     fn exchange<L: FaultRead + FaultWrite>(
         &self,
         link: &mut L,
@@ -173,8 +173,8 @@ impl<D, A: Allocator + Copy> LinkExporter<D, A> {
         }
     }
 
-    /// What comes of a body that is posted over this link, which is kept where it may carry another
-    /// request; what failed, if anything did; and whether it may.
+    /// The outcome of a body that is posted over this link, which is kept where it may carry
+    /// another request; what failed, if anything did; and whether it may.
     pub(crate) fn exchange_kept<L: FaultRead + FaultWrite>(
         &self,
         link: &mut L,
@@ -267,7 +267,7 @@ impl<D: Dial, A: Allocator + Copy> LinkExporter<D, A> {
     }
 
     /// Attempts to send a body: dials the target's host and port, posts the body over the link, as
-    /// [`LinkExporter::post`] does, and lets the link go. Where there is no link, the outcome is
+    /// [`LinkExporter::post`] does, and drops the link. Where there is no link, the outcome is
     /// `NoReply`. What failed is kept for [`LinkExporter::last_failure`].
     pub fn attempt(&mut self, body: &[u8]) -> Outcome
         ensures outcome { IsAttempt D.dials

@@ -87,8 +87,8 @@ impl fmt::Debug for Message {
 /// Response")
 #[derive(Debug, Drop)]
 pub enum Failure {
-    /// No connection could be had: the host wasn't found, nobody listens there, or none was made in
-    /// time.
+    /// No connection could be had: the host wasn't found, no program listens there, or none was
+    /// made in time.
     NoConnection,
     /// A write failed, or waited too long, before the whole request had gone out.
     WriteStopped,

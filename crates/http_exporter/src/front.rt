@@ -33,7 +33,7 @@ fn front_of<A: Allocator>(target: &Target<A>, connection: Connection, body: &[u8
     }
 }
 
-/// How long the head of a request is, with a body of so many bytes.
+/// How long the head of a request is, with a body of this size.
 fn head_length<A: Allocator>(target: &Target<A>, connection: Connection, size: usize) -> usize
     ensures { result ≡ length (head_for connection target.now size) }
 {

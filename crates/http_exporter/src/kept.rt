@@ -24,7 +24,7 @@ use std::marker::Model;
 /// it (RFC 9112, section 9.3), and else does what the [`LinkExporter`] does that it is made of.
 ///
 /// The link is kept after a reply that was read whole, to an end of its own, and whose head says
-/// that the connection is kept. In each other case it is let go, and the next attempt has a fresh
+/// that the connection is kept. In each other case it is given up, and the next attempt has a fresh
 /// one; so has an attempt whose link isn't ready, as where the other end closed it meanwhile, or
 /// bytes came that belong to no request. Each attempt sends its request once, over one link: where
 /// that breaks, there is no reply. In contracts it is a `Keeping`.

@@ -13,10 +13,10 @@ use retry_core::Outcome;
 /// An exporter that reports what its last attempt met that failed. For an attempt nothing has to be
 /// made ready.
 ///
-/// An `impl` says by its ghost member `attempts` what an attempt may come to, and by `reported`
-/// which failure it reports.
+/// An `impl` says by its ghost member `attempts` which outcome an attempt may have, and by
+/// `reported` which failure it reports.
 pub trait ReportsFailure {
-    // From this state, an attempt to send this body may come to this outcome, and leave that state.
+    // From this state, an attempt to send this body may have this outcome, and leave that state.
     ghost attempts: { Self → List ℕ → model.Outcome → Self → Type 0 };
 
     // What the last attempt met that failed, if one did.

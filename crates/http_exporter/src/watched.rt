@@ -1,4 +1,4 @@
-//! An exporter that shows what it met to who asks while it works on another thread.
+//! An exporter that shows what it met while it works on another thread.
 
 ghost use Rattle.std.specs.Prelude.{◌≡◌, ◌≢◌, ◌≤◌, ◌^◌, ◌-◌, ℕ, IfOk, IsOk, IsSome};
 ghost use Rattle.retry_core.specs.Retries.{outcome_view};

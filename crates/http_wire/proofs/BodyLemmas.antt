@@ -7,13 +7,13 @@ use Rattle.http_header.specs.HeaderMap.{Entries, get_all}
 use Rattle.http_wire.specs.Bodies.{Framing, framing_by_coding, framing_by_length, framing_by_fields}
 use Rattle.http_wire.specs.Fields.{NameAndValue, KeepsFields, values_of, content_length}
 
--- whether a field stands
+-- A field is among the kept ones just if it is among those of the head.
 pub stands_kept : (name : List ℕ) (kept : Entries FieldValue) (fields : List NameAndValue) (stands : Bool)
     → KeepsFields kept fields → stands ≡ nat_lt 0 (length (get_all kept name)) → nat_lt 0 (length (values_of name fields)) ≡ stands
 stands_kept name kept fields stands keeps is =
     ap (λ n. nat_lt 0 n) (ap length (sym (keeps.values name)) ∙ length-map (get_all kept name) (λ v. v.bytes)) ∙ sym is
 
--- what the kept fields say
+-- The kept fields say how far the body goes, as those of the head do.
 pub framing_kept : (otherwise : Framing) (kept : Entries FieldValue) (fields : List NameAndValue) (coded : Bool)
     → KeepsFields kept fields
     → coded ≡ nat_lt 0 (length (get_all kept (codes "transfer-encoding")))

@@ -22,7 +22,7 @@ pub record Came (limits : HeadLimits) (old new : Option (List ℕ)) (bytes : Lis
   pub are : bytes ≡ data_of chunks
   pub taken : Consumes old new (flat_map print_chunk chunks)
 
--- at first none did
+-- At first no chunk came.
 pub none_came : (limits : HeadLimits) (old : Option (List ℕ)) (bytes : List ℕ) → bytes ≡ [] → Came limits old old bytes
 none_came limits old bytes empty = record {
   chunks = [];
@@ -31,7 +31,7 @@ none_came limits old bytes empty = record {
   taken = Consumes-nil old;
 }
 
--- one more of them
+-- One more chunk comes after the others.
 pub one_more_came : (limits : HeadLimits) (old mid later new : Option (List ℕ)) (before after text taken : List ℕ) (size : ℕ)
     → Came limits old mid before → Consumes mid later text → FindsLine limits.head text size → 0 < size
     → Consumes later new taken → TakesData size taken before after → Came limits old new after
@@ -52,7 +52,7 @@ one_more_came limits old mid later new before after text taken size came line_ta
       taken = subst (Consumes old new) (sym printed) (Consumes-trans old mid new _ _ came.taken (Consumes-trans mid later new _ _ line_taken data_taken));
     }
 
--- which has as many bytes more
+-- One more chunk adds as many bytes as its line says.
 pub data_grown : {size : ℕ} {taken before after : List ℕ} → TakesData size taken before after → length after ≡ length before + size
 data_grown {size} {taken} {before} {after} takes =
     let long = length-append before takes.added in
@@ -79,7 +79,7 @@ ended_by limits old mid new bytes text failed answer came fit more ends = (
   },
 )
 
--- no line came
+-- Where no chunk's line came, the body ends for that fault.
 pub ended_without_line : (limits : HeadLimits) (old mid new : Option (List ℕ)) (bytes text : List ℕ) (first before after : ℕ) (fault : HttpFault)
     → Came limits old mid bytes → length bytes ≤ limits.body → before ≡ first
     → Consumes mid new text → LacksLine limits.head text new (HasFailed before after) fault
@@ -88,7 +88,7 @@ ended_without_line limits old mid new bytes text first before after fault came f
     ended_by limits old mid new bytes text _ _ came fit more
     (no_line fault (subst (λ f. LacksLine limits.head text new (HasFailed f after) fault) same lacks) refl)
 
--- the line passes the limit
+-- Where a chunk's line passes the limit of the body, the body is too large.
 pub ended_too_large : (limits : HeadLimits) (old mid new : Option (List ℕ)) (bytes text : List ℕ) (size : ℕ) (failed : Type 0)
     → Came limits old mid bytes → length bytes ≤ limits.body → Consumes mid new text → FindsLine limits.head text size
     → limits.body < length bytes + size → Ended limits old new failed (Err faults.TooLarge)
@@ -96,7 +96,7 @@ ended_too_large limits old mid new bytes text size failed came fit more found ov
     ended_by limits old mid new bytes text failed _ came fit more
     (large found.line found.within (subst (λ n. limits.body < length bytes + n) found.says over) found.whole refl)
 
--- a line came, and not its data
+-- Where a chunk's line came, but not its data, the body ends for that fault.
 pub ended_without_data : (limits : HeadLimits) (old mid later new : Option (List ℕ)) (bytes text rest : List ℕ) (size first before after : ℕ) (fault : HttpFault)
     → Came limits old mid bytes → before ≡ first → Consumes mid later text → FindsLine limits.head text size → 0 < size
     → length bytes + size ≤ limits.body → Consumes later new rest → LacksData size rest new (HasFailed before after) fault
@@ -111,7 +111,7 @@ ended_without_data limits old mid later new bytes text rest size first before af
     (subst (λ n. LacksData n rest new (HasFailed first after) fault) found.says kept)
     refl)
 
--- the last line came, and no trailers
+-- Where the last chunk's line came, but no trailers, the body ends for that fault.
 pub ended_without_trailers : (limits : HeadLimits) (old mid later new : Option (List ℕ)) (bytes text rest : List ℕ) (size first before after : ℕ) (fault : HttpFault)
     → Came limits old mid bytes → length bytes ≤ limits.body → before ≡ first → Consumes mid later text → FindsLine limits.head text size → size ≡ 0
     → Consumes later new rest → LacksTrailers limits rest new (HasFailed before after) fault
@@ -121,7 +121,7 @@ ended_without_trailers limits old mid later new bytes text rest size first befor
     (no_trailers found.line rest fault found.within (sym found.says ∙ last) (ap (λ t. t ++ rest) found.whole)
     (subst (λ f. LacksTrailers limits rest new (HasFailed f after) fault) same lacks) refl)
 
--- all came
+-- Where the last chunk's line and the trailers came, the body is whole.
 pub ended_whole : (limits : HeadLimits) (old mid later new : Option (List ℕ)) (bytes text rest : List ℕ) (size : ℕ) (failed : Type 0)
     → Came limits old mid bytes → length bytes ≤ limits.body → Consumes mid later text → FindsLine limits.head text size → size ≡ 0
     → Consumes later new rest → (trailers : Trailers) × IsTrailers limits trailers × (rest ≡ print_trailers trailers)

@@ -10,7 +10,7 @@ use Rattle.http_wire.specs.Devices.{HasFailed}
 use Rattle.http_wire.specs.Chunks.{MayBecomeData, LacksData}
 use Rattle.http_wire.specs.Parses.{IsExactly, IsExpected}
 
--- fronts of one length are one
+-- Two fronts of one text that have the same length are equal.
 pub fronts_same : (a b c d : List ℕ) → length a ≡ length b → a ++ c ≡ b ++ d → (a ≡ b) × (c ≡ d)
 fronts_same [] [] c d same e = (refl, e)
 fronts_same [] (y ∷ b) c d same e = absurd (omega (arith, same))
@@ -21,7 +21,7 @@ fronts_same (x ∷ a) (y ∷ b) c d same e =
     let rest = fronts_same a b c d (omega (arith, same)) tails in
     (let fronts = rest.0 in cc, rest.1)
 
--- a text that is no longer than the data can become that
+-- A text that is no longer than the data can become the data and CR LF.
 pub becomes_data : (size : ℕ) (text : List ℕ) → length text ≤ size → MayBecomeData size text
 becomes_data size text short =
     let fill = replicate (size - length text) 0 in
@@ -29,16 +29,16 @@ becomes_data size text short =
     let count : length fill ≡ size - length text = length-replicate (size - length text) 0 in
     (fill ++ crlf_bytes, text ++ fill, omega (arith, long, count, short), sym (append_assoc text fill crlf_bytes))
 
--- what comes after the data can become CR LF
+-- The data, and after it a text that can become CR LF, can become the data and CR LF.
 pub becomes_end : (size : ℕ) (front end : List ℕ) → length front ≡ size → (more : List ℕ) × (end ++ more ≡ crlf_bytes) → MayBecomeData size (front ++ end)
 becomes_end size front end long may = (may.0, front, long, append_assoc front end may.0 ∙ ap (λ t. front ++ t) may.1)
 
--- and where it can't, all can't
+-- Where the whole can become the data and CR LF, what comes after the data can become CR LF.
 pub end_of : (size : ℕ) (front end : List ℕ) → length front ≡ size → MayBecomeData size (front ++ end) → (more : List ℕ) × (end ++ more ≡ crlf_bytes)
 end_of size front end long may =
     (may.0, (fronts_same front may.1 (end ++ may.0) crlf_bytes (long ∙ sym may.2) (sym (append_assoc front end may.0) ∙ may.3)).1)
 
--- fewer bytes than the data
+-- Where fewer bytes than the data came, the data didn't come, for that fault.
 pub data_lacks : (size : ℕ) (taken : List ℕ) (left : Option (List ℕ)) (failed : Type 0) (fault : HttpFault)
     → IsExactly size taken left failed (Err fault) → LacksData size taken left failed fault
 data_lacks size taken left failed faults.Ended x =
@@ -51,7 +51,7 @@ data_lacks size taken left failed faults.BadHead x = absurd x
 data_lacks size taken left failed faults.BadLength x = absurd x
 data_lacks size taken left failed faults.TooLarge x = absurd x
 
--- no CR after the data
+-- Where no CR came after the data, the data and its CR LF didn't come, for that fault.
 pub return_lacks : (size : ℕ) (front taken : List ℕ) (left : Option (List ℕ)) (failed : Type 0) (fault : HttpFault)
     → length front ≡ size → IsExpected 13 taken left failed (Err fault) → LacksData size (front ++ taken) left failed fault
 return_lacks size front taken left failed faults.Ended long x =
@@ -76,7 +76,8 @@ return_lacks size front taken left failed faults.BadHead long x = absurd x
 return_lacks size front taken left failed faults.BadLength long x = absurd x
 return_lacks size front taken left failed faults.TooLarge long x = absurd x
 
--- no line feed after that
+-- Where no line feed came after the data and CR, the data and its CR LF didn't come, for that
+-- fault.
 pub feed_lacks : (size : ℕ) (front taken : List ℕ) (left : Option (List ℕ)) (failed : Type 0) (fault : HttpFault)
     → length front ≡ size → IsExpected 10 taken left failed (Err fault) → LacksData size (front ++ (13 ∷ taken)) left failed fault
 feed_lacks size front taken left failed faults.Ended long x =
@@ -101,7 +102,8 @@ feed_lacks size front taken left failed faults.BadHead long x = absurd x
 feed_lacks size front taken left failed faults.BadLength long x = absurd x
 feed_lacks size front taken left failed faults.TooLarge long x = absurd x
 
--- the same of what a reader gave in several steps, of which the earlier ones didn't fail
+-- Where a reader gave the data without a failure and then no CR, the data and its CR LF didn't
+-- come, for that fault.
 pub return_came : (old mid new : Option (List ℕ)) (size : ℕ) (front taken : List ℕ) (first before after : ℕ) (fault : HttpFault)
     → Consumes old mid front → length front ≡ size → before ≡ first
     → Consumes mid new taken → IsExpected 13 taken new (HasFailed before after) (Err fault)
@@ -111,6 +113,8 @@ return_came old mid new size front taken first before after fault consumes long 
   return_lacks size front taken new _ fault long (subst (λ f. IsExpected 13 taken new (HasFailed f after) (Err fault)) same x),
 )
 
+-- Where a reader gave the data and CR without a failure and then no line feed, the data and its CR
+-- LF didn't come, for that fault.
 pub feed_came : (old mid later new : Option (List ℕ)) (size : ℕ) (front return taken : List ℕ) (first before after : ℕ) (fault : HttpFault)
     → Consumes old mid front → length front ≡ size → Consumes mid later return → return ≡ 13 ∷ [] → before ≡ first
     → Consumes later new taken → IsExpected 10 taken new (HasFailed before after) (Err fault)
@@ -121,6 +125,7 @@ feed_came old mid later new size front return taken first before after fault con
       feed_lacks size front taken new _ fault long (subst (λ f. IsExpected 10 taken new (HasFailed f after) (Err fault)) same x),
     )
 
+-- A reader that gave the data, a CR and a line feed in three steps has given the data and CR LF.
 pub end_came : (old mid later new : Option (List ℕ)) (front return feed : List ℕ)
     → Consumes old mid front → Consumes mid later return → return ≡ 13 ∷ [] → Consumes later new feed → feed ≡ 10 ∷ []
     → Consumes old new (front ++ crlf_bytes)

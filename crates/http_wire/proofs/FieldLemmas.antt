@@ -14,7 +14,7 @@ use Rattle.http_wire.specs.declared.fault.HttpFault.{HttpFault}
 use Rattle.http_wire.specs.declared.fault.HttpFault.TheVariants as faults
 use Rattle.http_wire.specs.Fields.{NameAndValue, values_of, IsTaken, KeepsFields, RefusesFields}
 
--- one more field
+-- One more field adds its value to those of its name, and to no others.
 values_of-push : (name : List ℕ) (fields : List NameAndValue) (field : NameAndValue)
     → values_of name (fields ++ field ∷ []) ≡ values_of name fields ++ (cond (bytes_eq (lowercase field.0) name) (field.1 ∷ []) [])
 values_of-push name [] field = elim (cases_Bool (bytes_eq (lowercase field.0) name)) [ inl t ↦ rw t refl | inr f ↦ rw f refl ]
@@ -23,7 +23,7 @@ values_of-push name (f ∷ fields) field = elim (cases_Bool (bytes_eq (lowercase
   | inr n ↦ rw n (values_of-push name fields field)
 ]
 
--- the values under a name, when a field is appended
+-- The values under a name are right when a field is appended.
 values_more : (kept more : Entries FieldValue) (fields : List NameAndValue) (field : NameAndValue) (name : List ℕ)
     → map (λ v. v.bytes) (get_all kept name) ≡ values_of name fields → more ≡ append kept (lowercase field.0) (plain_value field.1)
     → map (λ v. v.bytes) (get_all more name) ≡ values_of name (fields ++ field ∷ [])
@@ -40,12 +40,12 @@ values_more kept more fields field name keeps is = elim (cases_Bool (bytes_eq (l
       ∙ keeps ∙ sym (values_of-push name fields field ∙ ap (λ b. values_of name fields ++ cond b (field.1 ∷ []) []) n ∙ append-nil (values_of name fields))
 ]
 
--- the fields of one more span
+-- The fields of one more span are those before it and the one that it covers.
 pub fields_more : (text : List ℕ) (spans : List HeaderSpan) (i : ℕ) (d : HeaderSpan) → i < length spans
     → map (header_bytes text) (take (i + 1) spans) ≡ map (header_bytes text) (take i spans) ++ header_bytes text (get_or spans i d) ∷ []
 fields_more text spans i d below = ap (map (header_bytes text)) (take_more spans i d below) ∙ map-append (header_bytes text) (take i spans) _
 
--- one name more at most
+-- A field that is appended adds at most one name.
 names_more : (m : Entries FieldValue) (name : List ℕ) (v : FieldValue) → length (append m name v) ≤ length m + 1
 names_more [] name v = omega arith
 names_more (e ∷ m) name v =
@@ -55,11 +55,11 @@ names_more (e ∷ m) name v =
       | false ↦ omega (arith, rest)
     ]
 
--- the values of a name more
+-- The number of values is that of the first name's values and that of the others.
 count_cons : (e : Entry FieldValue) (m : Entries FieldValue) → value_count (e ∷ m) ≡ length e.1 + value_count m
 count_cons e m = sum_by-cons (λ (x : Entry FieldValue). length x.1) e m
 
--- and one value more
+-- A field that is appended adds one value.
 count_more : (m : Entries FieldValue) (name : List ℕ) (v : FieldValue) → value_count (append m name v) ≡ value_count m + 1
 count_more [] name v = refl
 count_more (e ∷ m) name v =
@@ -73,7 +73,7 @@ count_more (e ∷ m) name v =
       | false ↦ omega (arith, rest, old, same)
     ]
 
--- a field that is appended is kept
+-- A field that is appended is kept.
 pub keeps_more : (kept more : Entries FieldValue) (fields : List NameAndValue) (field : NameAndValue)
     → KeepsFields kept fields → more ≡ append kept (lowercase field.0) (plain_value field.1) → KeepsFields more (fields ++ field ∷ [])
 keeps_more kept more fields field keeps is =
@@ -87,7 +87,7 @@ keeps_more kept more fields field keeps is =
       count = omega (arith, long, values, keeps.count);
     }
 
--- no map of few fields is full
+-- A map of at most 64 fields refuses no field.
 pub not_full : (kept : Entries FieldValue) (fields : List NameAndValue) (name : List ℕ) → KeepsFields kept fields → length fields ≤ 64
     → ¬ (RefusesAppend kept name)
 not_full kept fields name keeps few refuses =
@@ -98,14 +98,14 @@ not_full kept fields name keeps few refuses =
       | inr new ↦ elim new.1 [ inl full ↦ omega (arith, full, names, few) | inr full ↦ omega (arith, full, count, few) ]
     ]
 
--- one field of all that are taken
+-- Where all fields can be taken, so can the one at an index.
 one_of : (text : List ℕ) (spans : List HeaderSpan) (i : ℕ) (d : HeaderSpan) → i < length spans
     → All IsTaken (map (header_bytes text) spans) → IsTaken (header_bytes text (get_or spans i d))
 one_of text spans i d below all =
     let long = length-map spans (header_bytes text) in
     subst IsTaken (get_or-map (header_bytes text) spans i d (header_bytes text d) below) (all i (header_bytes text d) (omega (arith, below, long)))
 
--- a field that isn't kept
+-- Where one field is refused, the fields are refused for that fault.
 pub field_refused : (text : List ℕ) (spans : List HeaderSpan) (i : ℕ) (d : HeaderSpan) (kept : Entries FieldValue)
     (name : List ℕ) (fault : HttpFault)
     → i < length spans → length spans ≤ 64 → KeepsFields kept (map (header_bytes text) (take i spans))

@@ -7,7 +7,7 @@ use Rattle.httparse.specs.Grammar.{LineEnd, crlf, lf, print_end, Field}
 use Rattle.httparse.specs.Spans.{AreFieldsAt, header_bytes, name_and_value}
 use Rattle.httparse.specs.declared.spans.HeaderSpan.{HeaderSpan}
 
--- a front of a list and one more is all of it, or a front of the list
+-- A front of a list with one more byte is all of it, or a front of the list.
 pub push_split : (xs : List ℕ) (x : ℕ) (front rest : List ℕ) → xs ++ x ∷ [] ≡ front ++ rest
     → ((rest ≡ []) × (front ≡ xs ++ x ∷ [])) ⊎ ((more : List ℕ) × (xs ≡ front ++ more))
 push_split xs x [] rest e = inr (xs, refl)
@@ -21,14 +21,14 @@ push_split (w ∷ xs) x (y ∷ front) rest e =
       | inr both ↦ inr (both.0, let ends = both.1 in cc)
     ]
 
--- the last of two equal lists
+-- The last bytes of two equal lists are equal.
 pub push_last : (xs ys : List ℕ) (x y : ℕ) → xs ++ x ∷ [] ≡ ys ++ y ∷ [] → x ≡ y
 push_last [] [] x y e = cc
 push_last [] (b ∷ ys) x y e = let lengths = ap length e ∙ length-append (b ∷ ys) (y ∷ []) in absurd (omega (arith, lengths))
 push_last (a ∷ xs) [] x y e = let lengths = sym (ap length e) ∙ length-append (a ∷ xs) (x ∷ []) in absurd (omega (arith, lengths))
 push_last (a ∷ xs) (b ∷ ys) x y e = push_last xs ys x y cc
 
--- a line's end ends in a line feed
+-- The end of a line ends in a line feed.
 pub end_ends : (end : LineEnd) → (front : List ℕ) × (print_end end ≡ front ++ line_feed ∷ [])
 end_ends crlf = (carriage_return ∷ [], refl)
 end_ends lf = ([], refl)
@@ -41,14 +41,14 @@ HasNone {H} Valid print text = (head : H) (rest : List ℕ) → ¬ (Valid head �
 abbrev pub EndsInLine : {H : Type 0} → (H → List ℕ) → Type 0
 EndsInLine {H} print = (head : H) → (front : List ℕ) × (print head ≡ front ++ line_feed ∷ [])
 
--- no head is empty
+-- The empty text has no head.
 pub none_of_nothing : {H : Type 0} (Valid : H → Type 0) (print : H → List ℕ) → EndsInLine print → HasNone Valid print []
 none_of_nothing Valid print ends head rest reads =
     let all = ap length reads.1 ∙ length-append (print head) rest in
     let some = ap length (ends head).1 ∙ length-append (ends head).0 (line_feed ∷ []) in
     omega (arith, all, some)
 
--- a byte that ends no line makes no head
+-- A byte that ends no line makes no head.
 pub none_yet : {H : Type 0} (Valid : H → Type 0) (print : H → List ℕ) → EndsInLine print
     → (text : List ℕ) (b : ℕ) → HasNone Valid print text → (b ≡ 10 → ⊥) → HasNone Valid print (text ++ b ∷ [])
 none_yet Valid print ends text b none other head rest reads = elim (push_split text b (print head) rest reads.1) [
@@ -56,7 +56,7 @@ none_yet Valid print ends text b none other head rest reads = elim (push_split t
   | inr both ↦ none head both.0 (reads.0, both.1)
 ]
 
--- a head that a byte makes whole has nothing after it
+-- A head that a byte makes whole has nothing after it.
 pub whole_now : {H : Type 0} (Valid : H → Type 0) (print : H → List ℕ) (text : List ℕ) (b : ℕ) (head : H) (rest : List ℕ)
     → HasNone Valid print text → Valid head × (text ++ b ∷ [] ≡ print head ++ rest) → text ++ b ∷ [] ≡ print head
 whole_now Valid print text b head rest none reads = elim (push_split text b (print head) rest reads.1) [
@@ -64,7 +64,7 @@ whole_now Valid print text b head rest none reads = elim (push_split text b (pri
   | inr both ↦ absurd (none head both.0 (reads.0, both.1))
 ]
 
--- as many fields as there is room for spans
+-- There are at most as many fields as there is room for spans.
 pub fields_fit : (buf : List ℕ) (headers : List HeaderSpan) (count : ℕ) (fields : List Field)
     → AreFieldsAt buf headers count fields → length fields ≤ length headers
 fields_fit buf headers count fields are =

@@ -4,6 +4,7 @@ use Rattle.http_wire.specs.declared.fault.HttpFault.{HttpFault}
 use Rattle.http_wire.specs.declared.limits.HeadLimits.{HeadLimits}
 use Rattle.http_wire.specs.Heads.{LacksSuchHead, IsStoppedHead, unfinished, bad, over}
 
+-- Where the reading of a head stopped, its answer is the cause that no head came.
 pub stopped_lacks : (none may never : List ℕ → Type 0) (exceeds : ℕ → List ℕ → Type 0) (limits : HeadLimits) (text : List ℕ)
     (left : Option (List ℕ)) (failed : Type 0) (room : ℕ) (fault answer : HttpFault)
     → (none text × may text → LacksSuchHead none may never exceeds limits text left failed fault) → length text ≤ limits.head → room ≡ limits.fields

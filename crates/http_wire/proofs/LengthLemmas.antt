@@ -20,7 +20,7 @@ all_map : (value : List ℕ) (vs : List FieldValue) → list_all (bytes_eq value
 all_map value [] = refl
 all_map value (v ∷ vs) = ap (λ t. bytes_eq value v.bytes && t) (all_map value vs)
 
--- what the first value and the others give
+-- The length is that of the first value, if all others are equal to it and it is a length.
 pub length_of : (values : List FieldValue) (v : FieldValue) (vs : List FieldValue) (same : Bool) → values ≡ v ∷ vs
     → same ≡ list_all (λ w. bytes_eq v.bytes w.bytes) vs
     → content_length (map (λ w. w.bytes) values) ≡ cond (same && is_length v.bytes) (Ok (Some (digits_value 10 v.bytes))) (Err BadLength)
@@ -28,21 +28,21 @@ length_of values v vs same is all =
     ap (λ l. content_length (map (λ w. w.bytes) l)) is
     ∙ ap (λ t. cond (t && is_length v.bytes) (Ok (Some (digits_value 10 v.bytes))) (Err BadLength)) (all_map v.bytes vs ∙ sym all)
 
--- the number that was read is the length
+-- The number that was read is the length.
 pub length_some : (b : Bool) (n d : ℕ) → Some n ≡ cond b (Some d) None → ◌≡◌ {A = Result (Option ℕ) HttpFault} (Ok (Some n)) (cond b (Ok (Some d)) (Err BadLength))
 length_some true n d is = ap Ok is
 length_some false n d is = absurd cc
 
--- digits and their number
+-- The value of digits is the number that a parse of them gives.
 own : IsNumeralModel (λ ds. all_ascii_digits ds ≡ true) (digits_value 10)
 own = numerals_by_fold _ tells_all_ascii_digits (digits_value_after 10) (search rules)
 
--- both parts hold
+-- Where a conjunction is true, both its parts are true.
 both : (a b : Bool) → (a && b) ≡ true → (a ≡ true) × (b ≡ true)
 both true b e = (refl, e)
 both false b e = absurd (false≢true e)
 
--- digits are ASCII
+-- Digits are ASCII.
 digits_ascii : (text : List ℕ) → list_all is_ascii_digit text ≡ true → IsAscii text
 digits_ascii [] all = IsAscii-nil
 digits_ascii (b ∷ text) all =
@@ -50,16 +50,16 @@ digits_ascii (b ∷ text) all =
     let digit = both (leb 48 b) (leb b 57) parts.0 in
     IsAscii-cons b text (omega (arith, leb-true b 57 digit.1)) (digits_ascii text parts.1)
 
--- and a text
+-- Digits are UTF-8.
 pub digits_text : (text : List ℕ) → is_digits text ≡ true → IsUtf8 text
 digits_text text digits = IsUtf8-from_ascii text (digits_ascii text (both (nat_lt 0 (length text)) _ digits).1)
 
--- each is a digit as a parse has it
+-- The digits of a length are the digits that a parse takes.
 digits_all : (text : List ℕ) → list_all is_ascii_digit text ≡ all_ascii_digits text
 digits_all [] = refl
 digits_all (b ∷ text) = ap (λ t. is_ascii_digit b && t) (digits_all text)
 
--- the number, where it fits
+-- A parse gives the number of the digits where it fits 64 bits, and else none.
 length_fits : {E : Type 0} (text : List ℕ) (r : Result ℕ E) → is_digits text ≡ true
     → OkIff r ((0 < length text) × (digits_value 10 text < 2 ^ 64)) (digits_value 10 text)
     → result_ok r ≡ cond (is_length text) (Some (digits_value 10 text)) None
@@ -72,7 +72,7 @@ length_fits text (Err e) digits parsed =
       | inr over ↦ rw digits (rw over refl)
     ]
 
--- what a parse of digits gives
+-- A parse of digits gives their number where it is a length, and else none.
 pub length_parsed : {E : Type 0} (text : List ℕ) (r : Result ℕ E) → is_digits text ≡ true → ParsesUnsigned 64 10 text r
     → result_ok r ≡ cond (is_length text) (Some (digits_value 10 text)) None
 length_parsed text r digits parses =

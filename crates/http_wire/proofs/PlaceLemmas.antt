@@ -16,7 +16,7 @@ use Rattle.http_wire.proofs.HeadLemmas as grown
 
 -- ---- lines
 
--- two ways to cut one list
+-- Of two cuts of one list, one is at the other or after it.
 cut : (a b c d : List ℕ) → a ++ b ≡ c ++ d
     → ((more : List ℕ) × (c ≡ a ++ more) × (b ≡ more ++ d)) ⊎ ((more : List ℕ) × (a ≡ c ++ more) × (d ≡ more ++ b))
 cut [] b c d e = inl (c, refl, e)
@@ -29,12 +29,12 @@ cut (x ∷ a) b (y ∷ c) d e =
       | inr both ↦ inr (both.0, let is = both.1 in cc, both.2)
     ]
 
--- a list without an element
+-- A list of length 0 is empty.
 empty : (xs : List ℕ) → length xs ≡ 0 → xs ≡ []
 empty [] z = refl
 empty (x ∷ xs) z = absurd (omega (arith, z))
 
--- what whole lines have more than others begins no line without an end
+-- An end of whole lines that begins a line without an end is empty.
 nothing_more : (lines front more line rest : List ℕ) → AreLines lines → lines ≡ front ++ more → line ≡ more ++ rest → IsUnended line → more ≡ []
 nothing_more lines front more line rest (inl none) e f unended =
     let sizes = ap length (sym e ∙ none) in
@@ -47,7 +47,7 @@ nothing_more lines front more line rest (inr ends) e f unended = elim (grown.pus
       absurd (unended both.0 rest (f ∙ ap (λ t. t ++ rest) (sym is) ∙ append_assoc both.0 (10 ∷ []) rest))
 ]
 
--- a text has one cut into whole lines and a line without an end
+-- A text has one cut into whole lines and a line without an end.
 pub cut_one : (lines line others other : List ℕ) → AreLines lines → AreLines others → IsUnended line → IsUnended other
     → lines ++ line ≡ others ++ other → (lines ≡ others) × (line ≡ other)
 cut_one lines line others other ended other_ended unended other_unended e = elim (cut lines line others other e) [
@@ -61,7 +61,7 @@ cut_one lines line others other ended other_ended unended other_unended e = elim
 
 -- ---- lines' ends
 
--- a line that isn't empty has a last end, or there is none
+-- A list of ends of lines has a last one, or it is empty.
 last_end : (ends : List LineEnd) → (ends ≡ []) ⊎ ((init : List LineEnd) × (last : LineEnd) × (ends ≡ init ++ last ∷ []))
 last_end [] = inl refl
 last_end (end ∷ ends) = elim (last_end ends) [
@@ -86,7 +86,7 @@ end_of_empty : (line : List ℕ) → IsEmptyLine line → (end : LineEnd) × (li
 end_of_empty line (inl none) = (lf, none)
 end_of_empty line (inr cr) = (crlf, cr)
 
--- an empty line has no line feed yet
+-- An empty line has no line feed yet.
 nothing_unended : IsUnended []
 nothing_unended front rest e =
     let sizes = ap length e ∙ length-append front (10 ∷ rest) in
@@ -106,7 +106,7 @@ one_end_more : (ends : List LineEnd) (end : LineEnd) → print_blank (ends ++ en
 one_end_more ends end =
     flat_map-append print_end ends (end ∷ []) ∙ ap (λ t. print_blank ends ++ t) (append-nil (print_end end) ∙ is_end end)
 
--- they are whole lines
+-- Empty lines are whole lines.
 blank_lines : (ends : List LineEnd) → AreLines (print_blank ends)
 blank_lines ends = elim (last_end ends) [
   | inl none ↦ inl (ap print_blank none)
@@ -116,7 +116,7 @@ blank_lines ends = elim (last_end ends) [
       inr (init ++ end, ap print_blank some.2 ∙ one_end_more some.0 some.1 ∙ sym (append_assoc init end (10 ∷ [])))
 ]
 
--- one more of them
+-- One more empty line makes more empty lines.
 blank_more : (lines line : List ℕ) → AreBlank lines → IsEmptyLine line → AreBlank (lines ++ (line ++ line_feed ∷ []))
 blank_more lines line blank none =
     let end = end_of_empty line none in (
@@ -124,14 +124,14 @@ blank_more lines line blank none =
       ap (λ t. t ++ (line ++ 10 ∷ [])) blank.1 ∙ ap (λ t. print_blank blank.0 ++ (t ++ 10 ∷ [])) end.1 ∙ sym (one_end_more blank.0 end.0),
     )
 
--- the end of two lines is one
+-- A text that ends in a line feed has one cut into whole lines and a last line that has ended.
 same_ends : (lines line others other : List ℕ) → AreLines lines → AreLines others → IsUnended line → IsUnended other
     → lines ++ (line ++ line_feed ∷ []) ≡ others ++ (other ++ line_feed ∷ []) → (lines ≡ others) × (line ≡ other)
 same_ends lines line others other ended other_ended unended other_unended e =
     let whole = append_assoc lines line (10 ∷ []) ∙ e ∙ sym (append_assoc others other (10 ∷ [])) in
     cut_one lines line others other ended other_ended unended other_unended (append_cancel_right (lines ++ line) (others ++ other) (10 ∷ []) whole)
 
--- one less of them
+-- Of empty lines, the last is empty and those before it are empty lines.
 blank_less : (lines line : List ℕ) → AreLines lines → IsUnended line → AreBlank (lines ++ (line ++ line_feed ∷ []))
     → AreBlank lines × IsEmptyLine line
 blank_less lines line ended unended blank = elim (last_end blank.0) [
@@ -147,7 +147,7 @@ blank_less lines line ended unended blank = elim (last_end blank.0) [
       ((some.0, one.0), subst IsEmptyLine (sym one.1) (empty_of_end end))
 ]
 
--- their bytes
+-- The bytes of empty lines are line feeds and CRs.
 blank_bytes : (ends : List LineEnd) (front : List ℕ) (byte : ℕ) (rest : List ℕ) → print_blank ends ≡ front ++ byte ∷ rest
     → (byte ≡ 10) ⊎ (byte ≡ 13)
 blank_bytes [] front byte rest e =
@@ -161,6 +161,7 @@ blank_bytes (crlf ∷ ends) (x ∷ y ∷ front) byte rest e = blank_bytes ends f
 
 -- ---- places
 
+-- Before the first byte, no line has begun.
 pub place_new : IsPlace [] (record { begun = false; line = parts.Nothing })
 place_new = record {
   lines = [];
@@ -172,7 +173,7 @@ place_new = record {
   part = refl;
 }
 
--- a line ended
+-- Whether a line that isn't empty has ended is right after one more end of a line.
 begun_more : (begun : Bool) (part : LinePart) (lines line : List ℕ) → AreLines lines → IsUnended line → HasBegun begun lines → IsPart part line
     → HasBegun (begun || is_text part) (lines ++ (line ++ line_feed ∷ []))
 begun_more true part lines line ended unended has is = λ blank. has (blank_less lines line ended unended blank).0
@@ -180,6 +181,7 @@ begun_more false parts.Nothing lines line ended unended has is = blank_more line
 begun_more false parts.Return lines line ended unended has is = blank_more lines line has (inr is)
 begun_more false parts.Text lines line ended unended has is = λ blank. is (blank_less lines line ended unended blank).1
 
+-- The place is right after a line feed.
 pub place_ended : (text : List ℕ) (old : HeadPlace) (begun : Bool) → IsPlace text old → begun ≡ (old.begun || is_text old.line)
     → IsPlace (text ++ line_feed ∷ []) (record { begun = begun; line = parts.Nothing })
 place_ended text old begun at same =
@@ -195,8 +197,8 @@ place_ended text old begun at same =
       part = refl;
     }
 
--- after a line feed a parse is due where a line that isn't empty is the first, or an empty one
--- isn't
+-- After a line feed a parse is due where it ends the first line that isn't empty, or an empty line
+-- after that.
 due_parts : (begun : Bool) (part : LinePart) (lines line : List ℕ) → HasBegun begun lines → IsPart part line → is_text part ≡ not begun
     → (AreBlank lines × ¬ (IsEmptyLine line)) ⊎ (¬ (AreBlank lines) × IsEmptyLine line)
 due_parts false parts.Text lines line has is e = inl (has, is)
@@ -218,6 +220,7 @@ parts_due false parts.Nothing lines line has is (inr due) = absurd (due.0 has)
 parts_due false parts.Return lines line has is (inl due) = absurd (due.1 (inr is))
 parts_due false parts.Return lines line has is (inr due) = absurd (due.0 has)
 
+-- Where the place says that a parse is due at a line feed, it is due after that line feed.
 pub due_ended : (text : List ℕ) (old : HeadPlace) → IsPlace text old → is_text old.line ≡ not old.begun → IsDue (text ++ line_feed ∷ [])
 due_ended text old at e = record {
   lines = at.lines;
@@ -228,30 +231,32 @@ due_ended text old at e = record {
   due = due_parts old.begun old.line at.lines at.line at.begun at.part e;
 }
 
+-- Where a parse is due after a line feed, the place said so before it.
 pub ended_due : (text : List ℕ) (old : HeadPlace) → IsPlace text old → IsDue (text ++ line_feed ∷ []) → is_text old.line ≡ not old.begun
 ended_due text old at due =
     let whole = sym (append_assoc at.lines at.line (10 ∷ [])) ∙ ap (λ t. t ++ 10 ∷ []) (sym at.whole) ∙ due.whole in
     let one = same_ends at.lines at.line due.lines due.line at.ended due.ended at.unended due.unended whole in
     parts_due old.begun old.line due.lines due.line (subst (HasBegun old.begun) one.0 at.begun) (subst (IsPart old.line) one.1 at.part) due.due
 
--- that two truth values differ
+-- A truth value that is the negation of another differs from it.
 pub differ : (a b : Bool) → a ≡ not b → IsTrue (not (beq a b))
 differ true false e = refl
 differ false true e = refl
 differ true true e = absurd cc
 differ false false e = absurd cc
 
+-- A truth value that differs from another is its negation.
 pub is_other : (a b : Bool) → IsTrue (not (beq a b)) → a ≡ not b
 is_other true false e = refl
 is_other false true e = refl
 is_other true true e = absurd cc
 is_other false false e = absurd cc
 
--- after any other byte none is due
+-- After a byte other than a line feed no parse is due.
 pub not_due : (text : List ℕ) (byte : ℕ) → (byte ≡ 10 → ⊥) → ¬ (IsDue (text ++ byte ∷ []))
 not_due text byte other due = other (grown.push_last text (due.lines ++ due.line) byte 10 (due.whole ∙ sym (append_assoc due.lines due.line (10 ∷ []))))
 
--- a byte more of a line
+-- One more byte, other than a line feed, leaves a line without an end.
 more_unended : (line : List ℕ) (byte : ℕ) → IsUnended line → (byte ≡ 10 → ⊥) → IsUnended (line ++ byte ∷ [])
 more_unended line byte unended other front rest e = elim (grown.push_split line byte front (10 ∷ rest) e) [
   | inl both ↦ let none = ap length both.0 in omega (arith, none)
@@ -287,7 +292,7 @@ place_on text byte old part at other is = record {
   part = is;
 }
 
--- the first byte of a line
+-- The place is right after the first byte of a line.
 pub place_begun : (text : List ℕ) (byte : ℕ) (old : HeadPlace) (part : LinePart) → IsPlace text old → (byte ≡ 10 → ⊥) → old.line ≡ parts.Nothing
     → (byte ≡ 13 → part ≡ parts.Return) → (byte ≢ 13 → part ≡ parts.Text) → IsPlace (text ++ byte ∷ []) (record { begun = old.begun; line = part })
 place_begun text byte old part at feed nothing cr other =
@@ -297,7 +302,7 @@ place_begun text byte old part at feed nothing cr other =
       | inr both ↦ subst (λ p. IsPart p (at.line ++ byte ∷ [])) (sym (other both.1)) (more_text old.line at.line byte at.part (λ _. both.1))
     ])
 
--- a further byte of it
+-- The place is right after a further byte of a line.
 pub place_further : (text : List ℕ) (byte : ℕ) (old : HeadPlace) → IsPlace text old → (byte ≡ 10 → ⊥) → (old.line ≡ parts.Return) ⊎ (old.line ≡ parts.Text)
     → IsPlace (text ++ byte ∷ []) (record { begun = old.begun; line = parts.Text })
 place_further text byte old at feed further = place_on text byte old parts.Text at feed (more_text old.line at.line byte at.part (λ nothing. elim further [
@@ -313,7 +318,7 @@ place_further text byte old at feed further = place_on text byte old parts.Text 
 
 -- ---- heads
 
--- a line that has another byte than CR and LF, fields, and an empty line: a parse is due after them
+-- After a line that has a byte other than CR and LF, fields, and an empty line, a parse is due.
 pub section_due : (front rest : List ℕ) (byte : ℕ) (line_end : LineEnd) (fields : List Field) (last : LineEnd)
     → (byte ≡ 10 → ⊥) → (byte ≡ 13 → ⊥)
     → IsDue ((front ++ byte ∷ rest ++ print_end line_end) ++ (flat_map print_field fields ++ print_end last))
@@ -355,7 +360,7 @@ section_due front rest byte line_end fields last feed cr =
 abbrev pub EndsDue : {H : Type 0} → (H → Type 0) → (H → List ℕ) → Type 0
 EndsDue {H} Valid print = (head : H) → Valid head → IsDue (print head)
 
--- a byte after which none is due makes no head
+-- A byte after which no parse is due makes no head.
 pub none_before_due : {H : Type 0} (Valid : H → Type 0) (print : H → List ℕ) → EndsDue Valid print
     → (text : List ℕ) (byte : ℕ) → grown.HasNone Valid print text → ¬ (IsDue (text ++ byte ∷ [])) → grown.HasNone Valid print (text ++ byte ∷ [])
 none_before_due Valid print ends text byte none not_yet head rest reads = elim (grown.push_split text byte (print head) rest reads.1) [

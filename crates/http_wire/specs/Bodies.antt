@@ -12,8 +12,8 @@ use Rattle.http_wire.specs.declared.limits.HeadLimits.{HeadLimits}
 use Rattle.http_wire.specs.Chunks.{IsChunkedBody}
 use Rattle.http_wire.specs.Fields.{NameAndValue, values_of, content_length}
 
--- how far a body goes: there is none, it has so many bytes, it comes in chunks, it goes to the end
--- of the bytes, or the head doesn't say
+-- how far a body goes: there is none, it has a number of bytes, it comes in chunks, it goes to the
+-- end of the bytes, or the head doesn't say
 pub data Framing : Type 0 where
   empty : Framing
   sized : ℕ → Framing

@@ -18,6 +18,6 @@ one_more count = min (count + 1) greatest_count
 abbrev pub CountsFailure : {T E : Type 0} → Result T E → ℕ → ℕ → Type 0
 CountsFailure answer old new = MatchResult answer (λ _. new ≡ old) (λ _. new ≡ one_more old)
 
--- some call failed in between: the count rose, or stood at its last value
+-- some call failed in between: the count rose, or was at its last value
 abbrev pub HasFailed : ℕ → ℕ → Type 0
 HasFailed old new = (old < new) ⊎ (greatest_count ≤ old)

@@ -47,8 +47,8 @@ content_length (value ∷ values) =
     if list_all (bytes_eq value) values && is_length value then Ok (Some (digits_value 10 value))
     else Err faults.BadLength
 
--- what a value of Retry-After says: so many seconds, 2^64 - 1 where they are more (profile), or a
--- date; any other value says nothing
+-- what a value of Retry-After says: a number of seconds, 2^64 - 1 where they are more (profile), or
+-- a date; any other value says nothing
 abbrev pub asked_wait : List ℕ → Option RetryAfter
 asked_wait value =
     if is_digits value then Some (Seconds (min (digits_value 10 value) (2 ^ 64 - 1)))

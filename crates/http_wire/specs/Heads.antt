@@ -1,7 +1,7 @@
 -- What comes where a head is due, a request's or a reply's (RFC 9112, sections 2 to 5). A kind of
 -- head is given by what it says of a text: that no front of it is a head (`none`), that bytes can
 -- follow that make it one (`may`), that none can (`never`), and that its head has more fields than
--- so many (`exceeds`).
+-- a given number (`exceeds`).
 use Rattle.std.specs.Prelude.{◌≡◌, ℕ, ◌<◌, ◌≤◌, ◌⊎◌, List, length, Option, Some, None}
 use Rattle.std.specs.Prelude.{Result, Ok, Err}
 use Rattle.std.specs.Io.KnownBytes.{IsAtEnd}
@@ -27,8 +27,8 @@ LacksSuchHead none may never exceeds limits text left failed faults.OutOfMemory 
 LacksSuchHead none may never exceeds limits text left failed faults.BadLength = ⊥
 LacksSuchHead none may never exceeds limits text left failed faults.BadChunk = ⊥
 
--- what a parse of the text says, with room for so many fields, where `front` is what it says of the
--- spans of a head at the front of the text
+-- what a parse of the text says, with room for this number of fields, where `front` is what it says
+-- of the spans of a head at the front of the text
 abbrev pub ParsesSuchHead : {Found : Type 0} (none may never : List ℕ → Type 0)
     (exceeds : ℕ → List ℕ → Type 0) (front : List ℕ → ℕ → List HeaderSpan → Found → Type 0)
     → List ℕ → ℕ → List HeaderSpan → Result (Option Found) HttpFault → Type 0

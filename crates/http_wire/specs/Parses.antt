@@ -38,7 +38,7 @@ pub data IsStoppedLine (text : List ℕ) (answer : HttpFault) : Type 0 where
   unfinished : MayBecomeChunkLine text → answer ≡ faults.Ended → IsStoppedLine text answer
   bad : NeverHasChunkLine text → answer ≡ faults.BadChunk → IsStoppedLine text answer
 
--- so many bytes were taken, or fewer for this cause
+-- this number of bytes was taken, or fewer for this cause
 abbrev pub IsExactly : ℕ → List ℕ → Option (List ℕ) → Type 0 → Result ⊤ HttpFault → Type 0
 IsExactly size taken left failed (Ok done) = length taken ≡ size
 IsExactly size taken left failed (Err faults.Ended) = IsAtEnd left × (length taken < size)
@@ -50,7 +50,7 @@ IsExactly size taken left failed (Err faults.BadLength) = ⊥
 IsExactly size taken left failed (Err faults.BadChunk) = ⊥
 IsExactly size taken left failed (Err faults.TooLarge) = ⊥
 
--- what a parse of trailers' text says, with room for so many fields
+-- what a parse of trailers' text says, with room for this number of fields
 abbrev pub ParsesTrailers : List ℕ → ℕ → Result Bool HttpFault → Type 0
 ParsesTrailers text room (Ok true) =
     (fields : List Field) × (last : LineEnd) × (rest : List ℕ)

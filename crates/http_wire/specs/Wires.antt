@@ -23,6 +23,6 @@ is_failing (From at) call = nat_le at call
 abbrev pub fails_next : Wire → Bool
 fails_next wire = is_failing wire.failing wire.calls
 
--- how many bytes the next call gives to so much room, if it doesn't fail
+-- how many bytes the next call gives where there is this room, if it doesn't fail
 abbrev pub given_to : ℕ → Wire → ℕ
 given_to room wire = min (min room wire.most) (length wire.left)

@@ -25,7 +25,7 @@ use std::alloc::Allocator;
 pub enum Framing {
     /// There is none.
     Empty,
-    /// It has so many bytes.
+    /// It has this number of bytes.
     Sized(u64),
     /// It comes in chunks (RFC 9112, section 7.1).
     Chunked,
@@ -203,7 +203,7 @@ fn read_to_end<R: FaultRead, A: Allocator>(
 
 /// Reads a body that goes so far, and no further (RFC 9112, section 6.3). A read that failed is not
 /// tried again. Of a body in chunks, lines and trailers are what `httparse` takes; extensions and
-/// trailers are let go (RFC 9112, section 7.1).
+/// trailers are not kept (RFC 9112, section 7.1).
 ///
 /// # Errors
 ///

@@ -41,7 +41,7 @@ fn stopped_line(text: &[u8]) -> HttpFault
     }
 }
 
-/// Reads a chunk's line of at most so many bytes, byte by byte so that none after it is taken, and
+/// Reads a chunk's line of at most `most` bytes, byte by byte so that none after it is taken, and
 /// answers the size that it says. A line ends by a line feed, so only there it is parsed.
 pub(crate) fn read_line<R: FaultRead, A: Allocator>(
     reader: &mut R,
@@ -148,7 +148,7 @@ pub(crate) fn read_data<R: FaultRead, A: Allocator>(
     }
 }
 
-/// Whether a front of the text is trailers, with room for so many fields.
+/// Whether a front of the text is trailers, with room for as many fields as there are spans.
 fn parse_trailers(text: &[u8], spans: &mut [HeaderSpan]) -> Result<bool, HttpFault>
     ensures parsed { ParsesTrailers text.now (length spans.old) result }
     ensures room { length spans.new ≡ length spans.old }

@@ -8,7 +8,7 @@ pub enum HttpFault {
     /// The bytes ended within it.
     #[error("the message ended early")]
     Ended,
-    /// A read failed: the count of failures rose, or stood at its last value.
+    /// A read failed: the count of failures rose, or was at its last value.
     #[error("the device failed")]
     Device,
     /// The bytes can't begin a head, the head has a field that can't be kept, or too many interim

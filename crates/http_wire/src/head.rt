@@ -28,10 +28,10 @@ pub trait ParseHead {
     // No bytes can.
     ghost never_has: { List ℕ → Type 0 };
 
-    // The text's head has more fields than so many.
+    // The text's head has more fields than this number.
     ghost exceeds: { ℕ → List ℕ → Type 0 };
 
-    // These are the spans of a head at the front of the text, with room for so many fields.
+    // These are the spans of a head at the front of the text, with room for this number of fields.
     ghost finds_front: { List ℕ → ℕ → List HeaderSpan → Self.Spans → Type 0 };
 
     // The text is a head within the limits, and these are its spans.

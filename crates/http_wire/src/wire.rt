@@ -34,9 +34,9 @@ impl FailingCalls {
     }
 }
 
-/// A reader and a writer over memory, for tests and programs: it gives and takes at most so many
-/// bytes a call, and fails the calls that it has to fail, as well as writes for which memory is
-/// refused. It shows its bytes. In contracts it is a `Wire`. (profile)
+/// A reader and a writer over memory, for tests and programs: it gives and takes at most a set
+/// number of bytes a call, and fails the calls that it has to fail, as well as writes for which
+/// memory is refused. It shows its bytes. In contracts it is a `Wire`. (profile)
 #[derive(Debug, Drop)]
 pub struct FailingWire<A: Allocator = Global> {
     input: Vec<u8, A>,

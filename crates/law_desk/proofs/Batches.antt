@@ -18,6 +18,7 @@ front-behind : (config : DeskConfig) (made : ℕ) (before xs ys : List DeskEvent
 front-behind config made before [] ys w = tt
 front-behind config made before (x ∷ xs) ys w = (w.0, front-behind config made (before ++ x ∷ []) xs ys w.1)
 
+-- If a history is allowed, so is each front part of it.
 pub front-allowed : (config : DeskConfig) (made : ℕ) (xs ys : List DeskEvent) → AreAllowed config made (xs ++ ys) → AreAllowed config made xs
 unfolding AreAllowed
 front-allowed config made xs ys w = front-behind config made [] xs ys w
@@ -26,12 +27,14 @@ last-behind : (config : DeskConfig) (made : ℕ) (before xs : List DeskEvent) (x
 last-behind config made before [] x w = subst (λ b. Allowed (desk_of config made b) x) (sym (append-nil before)) w.0
 last-behind config made before (y ∷ xs) x w = subst (λ b. Allowed (desk_of config made b) x) (append_assoc before (y ∷ []) xs) (last-behind config made (before ++ y ∷ []) xs x w.1)
 
+-- The last event of an allowed history is allowed at the desk that those before it made.
 pub last-allowed : (config : DeskConfig) (made : ℕ) (h : List DeskEvent) (x : DeskEvent) → AreAllowed config made (h ++ x ∷ []) → Allowed (desk_of config made h) x
 unfolding AreAllowed
 last-allowed config made h x w = last-behind config made [] h x w
 
 -- ---- a batch that is taken
 
+-- A taken batch has the next number and the first waiting spans, as many as a batch may have.
 pub batches-first : BatchesAreTheFirst
 unfolding desk_of
 batches-first config made h now size w =
@@ -41,6 +44,7 @@ batches-first config made h now size w =
       last-taken h now size (allowed-within config made h (front-allowed config made h (taken now size ∷ []) w)) ∙ ap (λ (n : ℕ). take n (waiting_spans h)) e,
     )
 
+-- A batch keeps its spans, whatever events follow.
 pub batches-stay : BatchesStay
 batches-stay config made h more zero w a b = refl
 batches-stay config made h more (suc n) w a b =
@@ -49,11 +53,12 @@ batches-stay config made h more (suc n) w a b =
 
 -- ---- all batches
 
+-- A range with one more number has this number at its end.
 pub range-more : (a n : ℕ) → range_with_len a (suc n) ≡ range_with_len a n ++ (a + n) ∷ []
 range-more a zero = ap (λ (k : ℕ). k ∷ []) (sym (add-zero a))
 range-more a (suc n) = ap (λ l. a ∷ l) (range-more (a + 1) n ∙ ap (λ (k : ℕ). range_with_len (a + 1) n ++ k ∷ []) (let e : a + 1 + n ≡ a + suc n = omega arith in e))
 
--- of some lists the one with this number, from 1 on
+-- the list with this number, from 1 on, or the empty one
 abbrev pub piece : {A : Type 0} → List (List A) → ℕ → List A
 piece ls n = unwrap_or (slice_get ([] ∷ ls) n) []
 
@@ -65,6 +70,7 @@ at-place before ls l =
     ∙ ap (λ ms. unwrap_or (slice_get ms (length before)) []) (sym (append_assoc before (l ∷ []) ls))
     ∙ ap (λ o. unwrap_or o []) (get-front (before ++ l ∷ []) ls (length before) (omega (arith, one)) ∙ get-at before l (length before) refl)
 
+-- Some lists, each fetched by its number after those before it, are these lists appended.
 pub all-pieces : {A : Type 0} (before ls : List (List A)) → flat_map (piece (before ++ ls)) (range_with_len (length before + 1) (length ls)) ≡ flat_map (λ l. l) ls
 all-pieces before [] = refl
 all-pieces before (l ∷ ls) =
@@ -82,6 +88,7 @@ all-slices : {A : Type 0} (ns : List ℕ) (xs : List A) → flat_map (λ l. l) (
 all-slices [] xs = refl
 all-slices (n ∷ ns) xs = ap (λ l. take n xs ++ l) (all-slices ns (drop n xs)) ∙ sym (take-add n (sum ns) xs) ∙ ap (λ (k : ℕ). take k xs) (sym (sum-cons n ns))
 
+-- The batches, one after the other, have the spans that were taken.
 pub batches-are-taken : BatchesAreTheTaken
 batches-are-taken config made h w =
     ap (λ (n : ℕ). flat_map (batch_spans h) (range_with_len 1 n)) (sym (length-slices (batch_sizes h) (accepted_spans h)))
@@ -119,6 +126,7 @@ last-step config made h x k a = record { within = within-step config made h x k.
     go popped e = last-same h popped refl refl e
     go popped_lost e = last-same h popped_lost refl refl e
 
+-- The last batch has the spans that were taken last.
 pub last-is-last : LastBatchIsTakenLast
 last-is-last config made h w =
     let k : TakenLast h = by-steps config made TakenLast (last-step config made) h (record { within = omega arith; is = refl }) w in

@@ -8,6 +8,7 @@ use Rattle.model_desk.proofs.Steps.{IsWithin, accepted-kept, waiting-kept, accep
 use Rattle.model_desk.proofs.Events.{queued-makes, full-makes, late-makes, flush-makes, shutdown-makes, taken-makes, handed-makes, dropped-makes, settled-makes, popped-makes, popped-lost-makes}
 use Rattle.law_desk.specs.Queues.{TicketsAddUp, AcceptedAddUp, TakenAddUp, QueueIsBounded}
 
+-- The accepted spans are as many as the taken and the waiting ones together.
 pub accepted-add-up : AcceptedAddUp
 unfolding desk_of
 accepted-add-up config made h w = accepted-adds h (allowed-within config made h w)
@@ -68,6 +69,7 @@ adds-none : (config : DeskConfig) (made : ℕ) → Adds config made []
 unfolding desk_of
 adds-none config made = record { within = omega arith; adds = refl }
 
+-- The taken spans are as many as those handed, those dropped from batches and those in hand.
 pub taken-add-up : TakenAddUp
 taken-add-up config made h w =
     let k : Adds config made h = by-steps config made (Adds config made) (λ g x b a. record { within = within-step config made g x b.within a; adds = adds-step config made g x b.within b.adds a }) h (adds-none config made) w in
@@ -112,6 +114,7 @@ gives-none : (config : DeskConfig) (made : ℕ) → Gives config made []
 unfolding desk_of
 gives-none config made = record { within = omega arith; gives = refl }
 
+-- The next ticket is the number of accepted spans plus that of spans that found the queue full.
 pub tickets-add-up : TicketsAddUp
 tickets-add-up config made h w =
     let k : Gives config made h = by-steps config made (Gives config made) (λ g x b a. record { within = within-step config made g x b.within a; gives = given-step config made g x b.within b.gives a }) h (gives-none config made) w in
@@ -140,6 +143,7 @@ bound-step config made h (settled fate) w k a = bounded-same config h (waiting_s
 bound-step config made h popped w k a = bounded-same config h (waiting_spans h) popped (waiting-kept h popped refl refl) k
 bound-step config made h popped_lost w k a = bounded-same config h (waiting_spans h) popped_lost (waiting-kept h popped_lost refl refl) k
 
+-- No more spans wait than the configuration allows.
 pub queue-bounded : QueueIsBounded
 queue-bounded config made h w =
     let k : Bounded config h = by-steps config made (Bounded config) (λ g x b a. record { within = within-step config made g x b.within a; bound = bound-step config made g x b.within b.bound a }) h (record { within = omega arith; bound = omega arith }) w in

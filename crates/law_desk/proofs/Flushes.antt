@@ -27,7 +27,7 @@ but-last (l ∷ ls) =
     ∙ ap (flat_map (piece (l ∷ ls))) (sym (range-more 1 (length ls)))
     ∙ all-pieces [] (l ∷ ls)
 
--- what is settled, and after it the last batch where it is out
+-- The batches but the last, and the last one after them, have the spans that were taken.
 settled-and-last : (config : DeskConfig) (made : ℕ) (h : List DeskEvent) → AreAllowed config made h → flat_map (batch_spans h) (range_with_len 1 (last_batch h - 1)) ++ last_spans h ≡ take (taken_count h) (accepted_spans h)
 settled-and-last config made h w =
     let ls : List (List SpanData) = slices (batch_sizes h) (accepted_spans h) in
@@ -62,6 +62,7 @@ is-settled config made h w not_out = settled-of config made h w (flat_map (batch
 is-settled config made h w in_hand = settled-of config made h w (flat_map (batch_spans h) (range_with_len 1 (last_batch h - 1))) (last_spans h) (settled-and-last config made h w)
 is-settled config made h w with_exporter = settled-of config made h w (flat_map (batch_spans h) (range_with_len 1 (last_batch h - 1))) (last_spans h) (settled-and-last config made h w)
 
+-- The spans of settled batches are the first accepted ones.
 pub settled-first : SettledAreTheFirst
 settled-first config made h w = let k = is-settled config made h w (stage h) in k.first
 
@@ -71,7 +72,7 @@ and-true : (b : Bool) → (b && true) ≡ b
 and-true true = refl
 and-true false = refl
 
--- by how many were taken and how many of them are out
+-- A mark is flushed just where it is within the settled spans: those taken without those out.
 flushed-none : (n mark count : ℕ) → count + 0 ≡ n → (nat_le mark n && true) ≡ nat_le mark count
 flushed-none n mark count e = and-true (nat_le mark n) ∙ ap (nat_le mark) (let k : n ≡ count = omega (arith, e) in k)
 
@@ -97,6 +98,7 @@ flushed-at h not_out mark count l e = flushed-none (taken_count h) mark count e
 flushed-at h in_hand mark count l e = flushed-some (taken_count h) (last_size h) mark count (omega (arith, l, e))
 flushed-at h with_exporter mark count l e = flushed-some (taken_count h) (last_size h) mark count (omega (arith, l, e))
 
+-- The desk's test of what is flushed agrees with the count of spans in settled batches.
 pub flushed-settled : FlushedAreSettled
 unfolding desk_of
 flushed-settled config made h w mark =
@@ -134,6 +136,7 @@ asks-step config made h (settled fate) k a = asks-kept h (settled fate) refl ref
 asks-step config made h popped k a = asks-kept h popped refl refl refl k
 asks-step config made h popped_lost k a = asks-kept h popped_lost refl refl refl k
 
+-- A flush after a shutdown changes nothing at the desk.
 pub shutdown-asks : ShutdownAsksForAll
 unfolding desk_of
 shutdown-asks config made h w shut =

@@ -10,7 +10,7 @@ use Rattle.model_desk.proofs.Lists.{gather-more, stack-pushes}
 use Rattle.model_desk.proofs.Steps.{ledger-more}
 use Rattle.law_desk.specs.Queues.{NamesAll, AddUp, LedgerNamesTheDrops, LedgerAndPoppedAreTheDrops, LedgerNamesTheLosses, LedgerAndPoppedAreTheLosses}
 
--- what holds of no event, and is kept by each
+-- A property that holds of no events and that each event keeps holds of any events.
 pub by-end : (P : List DeskEvent → Type 0) → ((h : List DeskEvent) (x : DeskEvent) → P h → P (h ++ x ∷ [])) → P [] → (h : List DeskEvent) → P h
 by-end P step p h = go [] h p
   where
@@ -65,7 +65,7 @@ module _ (pops : DeskEvent → Bool) (adds : List DeskEvent → DeskEvent → Li
         let front : count (x ∷ xs) ≡ count (x ∷ []) + count xs = append (x ∷ []) xs in
         omega (arith, back, front, reversed xs)
 
-    -- what each adds to, after one more event
+    -- The ledger after one more event is what its step makes of the ledger before.
     stack-by : (h : List DeskEvent) (x : DeskEvent) (b : Bool) → pops x ≡ b → count (stack_of pops adds (h ++ x ∷ [])) ≡ count (stack_on (stack_of pops adds h) (step_as h x b))
     stack-by h x b e = ap count (ledger-more h x pops adds ∙ ap (λ c. stack_on (stack_of pops adds h) (step_as h x c)) e)
 
@@ -102,14 +102,18 @@ losses-apart : (h : List DeskEvent) (x : DeskEvent) → is_popped_lost x ≡ tru
 losses-apart h popped_lost e = refl
 losses-apart h x e = cc
 
+-- Where nothing was popped, the ledger has all dropped spans, the newest first.
 pub ledger-names : LedgerNamesTheDrops
 ledger-names = names-all is_popped entries_by drops-apart
 
+-- The ledger's entries and the popped ones are the dropped spans, each as often.
 pub ledger-and-popped : LedgerAndPoppedAreTheDrops
 ledger-and-popped = add-up is_popped entries_by drops-apart
 
+-- Where nothing was popped, the second ledger has all lost spans, the newest first.
 pub lost-names-all : LedgerNamesTheLosses
 lost-names-all = names-all is_popped_lost losses_by losses-apart
 
+-- The second ledger's entries and those popped from it are the lost spans, each as often.
 pub lost-add-up : LedgerAndPoppedAreTheLosses
 lost-add-up = add-up is_popped_lost losses_by losses-apart

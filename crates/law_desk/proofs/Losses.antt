@@ -23,7 +23,7 @@ is-sent not_out number size e = absurd (true≢false (sym e))
 is-sent in_hand number size e = absurd (true≢false (sym e))
 is-sent with_exporter number size e = refl
 
--- as many of the tickets that pass a test are lost, or with the exporter, as were handed at most
+-- Of the tickets that pass a test, no more are lost or with the exporter than were handed.
 module _ (p : ℕ → Bool) where
   abbrev of_spans : List SpanData → ℕ
   of_spans spans = count_by p (map (λ (s : SpanData). s.ticket) spans)
@@ -53,12 +53,12 @@ module _ (p : ℕ → Bool) where
       go [] = refl
       go (s ∷ ss) = ap (λ l. s.ticket ∷ l) (go ss)
 
-  -- no more are lost than the batch has
+  -- A batch loses no more spans than it has.
   few : (o : Option Reason) (spans : List SpanData) → of_entries (named_as o spans) ≤ of_spans spans
   few None spans = omega arith
   few (Some reason) spans = omega (arith, named reason spans)
 
-  -- an event, after which these spans are with the exporter
+  -- An event after which these spans are with the exporter keeps the bound, if it loses few enough.
   moved : (h : List DeskEvent) (x : DeskEvent) (with_it : List SpanData) → sent (h ++ x ∷ []) ≡ with_it → of_entries (losses_by h x) + of_spans with_it ≤ of_spans (sent h) + of_spans (spans_handed_by h x) → Were h → Were (h ++ x ∷ [])
   moved h x with_it e sums k =
       let l : of_entries (losses (h ++ x ∷ [])) ≡ of_entries (losses h) + of_entries (losses_by h x) = ap of_entries (gather-more losses_by h x) ∙ entries-append (losses h) (losses_by h x) in
@@ -88,6 +88,7 @@ record Kept (p : ℕ → Bool) (h : List DeskEvent) : Type 0 where
   within : IsWithin h
   were : Were p h
 
+-- Each lost span was handed to the exporter, and is lost once.
 pub losses-handed : LossesWereHanded
 losses-handed config made h w ticket =
     let p : ℕ → Bool = λ t. t == ticket in
@@ -152,5 +153,6 @@ apart-step config made h x k a = record {
   lost = subst (AllByRecursion Loses) (sym (gather-more losses_by h x)) (all-append Loses (losses h) (losses_by h x) k.lost (loses-by h x));
 }
 
+-- The reasons of dropped spans are never those of lost ones, and each lost span has one of those.
 pub reasons-apart : ReasonsAreApart
 reasons-apart config made h w = by-steps config made AreApart (apart-step config made) h (record { dropped = tt; lost = tt }) w

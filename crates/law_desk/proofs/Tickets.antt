@@ -45,6 +45,7 @@ order-step config made h (settled f) o a = order-kept h (settled f) refl o
 order-step config made h popped o a = order-kept h popped refl o
 order-step config made h popped_lost o a = order-kept h popped_lost refl o
 
+-- Tickets are given from 0 on, each once and in order.
 pub tickets-in-order : TicketsAreGivenInOrder
 tickets-in-order config made h w = by-steps config made (λ g. InOrder (tickets g)) (order-step config made) h refl w
 
@@ -71,7 +72,7 @@ own s = s.ticket
 abbrev own_entry : Entry → ℕ
 own_entry e = e.ticket
 
--- as many of the tickets that pass a test are in the places as were given
+-- Of the tickets that pass a test, as many are in the places as were given.
 module _ (p : ℕ → Bool) where
   abbrev count : List ℕ → ℕ
   count ts = count_by p ts
@@ -97,7 +98,7 @@ module _ (p : ℕ → Bool) where
   entries-append : (xs ys : List Entry) → of_entries (xs ++ ys) ≡ of_entries xs + of_entries ys
   entries-append xs ys = ap count (map-append own_entry xs ys) ∙ append (map own_entry xs) (map own_entry ys)
 
-  -- a span's entry has its ticket
+  -- The entries of spans have the spans' tickets.
   named : (reason : Reason) (spans : List SpanData) → map own_entry (map (entry_of reason) spans) ≡ map own spans
   named reason [] = refl
   named reason (s ∷ spans) = ap (λ l. s.ticket ∷ l) (named reason spans)
@@ -108,7 +109,8 @@ module _ (p : ℕ → Bool) where
   tickets-given : (h : List DeskEvent) (x : DeskEvent) (t : ℕ) → ticket_of x ≡ Some t → count (tickets (h ++ x ∷ [])) ≡ count (tickets h) + count (t ∷ [])
   tickets-given h x t e = ap count (some-more ticket_of h x t e) ∙ append (tickets h) (t ∷ [])
 
-  -- an event that gives no ticket, and after which the batch that is in hand is this one
+  -- An event that gives no ticket, and after which these spans are in hand, keeps the two counts
+  -- equal.
   moved : (h : List DeskEvent) (x : DeskEvent) (hand : List SpanData) → ticket_of x ≡ None → size_of_take x ≡ None → queued_span x ≡ None → in_hand_spans (h ++ x ∷ []) ≡ hand
       → of_spans (in_hand_spans h) ≡ of_spans hand + of_spans (spans_handed_by h x) + of_entries (entries_by h x) → Matches h → Matches (h ++ x ∷ [])
   moved h x hand t z q e sums k =
@@ -119,7 +121,7 @@ module _ (p : ℕ → Bool) where
       let n : count (tickets (h ++ x ∷ [])) ≡ count (tickets h) = ap count (tickets-kept h x t) in
       omega (arith, w, i, g, d, n, sums, k)
 
-  -- the batch that is in hand stays in hand
+  -- An event that takes no batch, queues no span and says nothing of the batch leaves it in hand.
   hand-kept : (h : List DeskEvent) (x : DeskEvent) → size_of_take x ≡ None → queued_span x ≡ None → stage_by x ≡ None → in_hand_spans (h ++ x ∷ []) ≡ in_hand_spans h
   hand-kept h x z q s = λ i. in_hand_as (stage-kept h x s i) (last-kept h x z q i)
 
@@ -127,7 +129,7 @@ module _ (p : ℕ → Bool) where
   still h x t z q s g d k = moved h x (in_hand_spans h) t z q (hand-kept h x z q s)
       (let a : of_spans (spans_handed_by h x) ≡ 0 = ap of_spans g in let b : of_entries (entries_by h x) ≡ 0 = ap of_entries d in let e : of_spans (in_hand_spans h) ≡ of_spans (in_hand_spans h) + of_spans (spans_handed_by h x) + of_entries (entries_by h x) = omega (arith, a, b) in e) k
 
-  -- what was in hand, by where the batch stands
+  -- The spans in hand are known from the stage of the batch.
   in-hand-at : (h : List DeskEvent) (s : Stage) → stage h ≡ s → in_hand_spans h ≡ in_hand_as s (last_spans h)
   in-hand-at h s e = ap (λ r. in_hand_as r (last_spans h)) e
 
@@ -170,6 +172,7 @@ module _ (p : ℕ → Bool) where
   step config made h popped v a k = still h popped refl refl refl refl refl refl k
   step config made h popped_lost v a k = still h popped_lost refl refl refl refl refl refl k
 
+  -- The count of tickets in all places is the sum of the counts in each place.
   pub in-places : (h : List DeskEvent) → count (places h) ≡ total (waiting_spans h) (in_hand_spans h) (handed_spans h) (drops h)
   in-places h =
       let ws : List ℕ = map own (waiting_spans h) in
@@ -195,6 +198,7 @@ next-once t n = go (cases_order t n)
     go (inr (inl h)) = let a : t < suc n = omega arith in rw (lt-ltb t (suc n) a, lt-ltb t n h, ne_eqb n t (λ q. absurd (omega (arith, h, q)))) refl
     go (inr (inr h)) = let a : suc n ≤ t = omega arith in let b : n ≤ t = omega arith in rw (le-ltb t (suc n) a, le-ltb t n b, ne_eqb n t (λ q. absurd (omega (arith, h, q)))) refl
 
+-- A number is once among those below a bound if it is below the bound, else not at all.
 pub times-below : (t n : ℕ) → times t (range_with_len 0 n) ≡ (if nat_lt t n then 1 else 0)
 times-below t zero = let a : 0 ≤ t = omega arith in rw (le-ltb t 0 a) refl
 times-below t (suc n) =
@@ -202,6 +206,7 @@ times-below t (suc n) =
     ∙ sum_by-append (λ (u : ℕ). cond (u == t) 1 0) (range_with_len 0 n) (n ∷ [])
     ∙ ap (λ (k : ℕ). k + (0 + (if n == t then 1 else 0))) (times-below t n) ∙ next-once t n
 
+-- Each ticket that was given is in one of the places, once, and no other ticket is.
 pub each-once : EachTicketOnce
 each-once config made h w ticket =
     let p : ℕ → Bool = λ t. t == ticket in

@@ -82,21 +82,21 @@ BatchesAreTheFirst =
     × (last_spans later ≡ take (min config.batch (length (waiting_spans events)))
     (waiting_spans events))
 
--- It keeps them, whatever follows.
+-- A batch keeps its spans, whatever follows.
 abbrev pub BatchesStay : Type 0
 BatchesStay =
     (config : DeskConfig) (made : ℕ) (events more : List DeskEvent) (number : ℕ)
     → AreAllowed config made (events ++ more) → 0 < number → number ≤ last_batch events
     → batch_spans (events ++ more) number ≡ batch_spans events number
 
--- One after the other, they have the spans that were taken.
+-- The batches, one after the other, have the spans that were taken.
 abbrev pub BatchesAreTheTaken : Type 0
 BatchesAreTheTaken =
     Always (λ config made events.
     flat_map (batch_spans events) (range_with_len 1 (last_batch events)) ≡
     take (taken_count events) (accepted_spans events))
 
--- The last one has those that were taken last.
+-- The last batch has the spans that were taken last.
 abbrev pub LastBatchIsTakenLast : Type 0
 LastBatchIsTakenLast =
     Always (λ config made events.
@@ -121,13 +121,13 @@ abbrev pub settled_spans : List DeskEvent → List SpanData
 settled_spans events =
     flat_map (batch_spans events) (range_with_len 1 (settled_batches events))
 
--- They are the first that were accepted.
+-- The settled spans are the first that were accepted.
 abbrev pub SettledAreTheFirst : Type 0
 SettledAreTheFirst =
     Always (λ config made events.
     settled_spans events ≡ take (length (settled_spans events)) (accepted_spans events))
 
--- So many accepted spans are flushed where they are among these.
+-- The first `mark` accepted spans are flushed just where they are among these.
 abbrev pub FlushedAreSettled : Type 0
 FlushedAreSettled =
     Always (λ config made events. (mark : ℕ)
@@ -148,7 +148,8 @@ NamesAll pops ledger all =
     (events : List DeskEvent) → list_any pops events ≡ false
     → ledger events ≡ reverse (all events)
 
--- What is in a ledger and what was popped is, as often, what was put into it.
+-- The entries in a ledger and the popped ones, together, are those that were put into it, each as
+-- often.
 abbrev pub AddUp : (List DeskEvent → List Entry) → (List DeskEvent → List Entry)
     → (List DeskEvent → List Entry) → Type 0
 AddUp ledger gone all =
@@ -156,14 +157,14 @@ AddUp ledger gone all =
     → count_by is_it (ledger events) + count_by is_it (gone events) ≡
     count_by is_it (all events)
 
--- The ledger is of what was dropped.
+-- The ledger names what was dropped.
 abbrev pub LedgerNamesTheDrops : Type 0
 LedgerNamesTheDrops = NamesAll is_popped ledger_entries drops
 
 abbrev pub LedgerAndPoppedAreTheDrops : Type 0
 LedgerAndPoppedAreTheDrops = AddUp ledger_entries popped_entries drops
 
--- The second one is of what was lost.
+-- The second ledger names what was lost.
 abbrev pub LedgerNamesTheLosses : Type 0
 LedgerNamesTheLosses = NamesAll is_popped_lost lost_entries losses
 
@@ -177,7 +178,7 @@ LossesWereHanded =
     → times ticket (map (λ e. e.ticket) (losses events)) ≤
     times ticket (map (λ s. s.ticket) (handed_spans events)))
 
--- No dropped span has a reason of lost ones, and each lost one has.
+-- No dropped span has a reason of lost spans, and each lost span has one.
 pub record AreApart (events : List DeskEvent) : Type 0 where
   pub dropped : AllByRecursion (λ (e : Entry). is_lost e.reason ≡ false) (drops events)
   pub lost : AllByRecursion (λ (e : Entry). is_lost e.reason ≡ true) (losses events)

@@ -17,17 +17,17 @@ use Rattle.law_export.proofs.Lacks.{Lack, lack_of, lacks_not, lacks_one}
 use Rattle.law_export.proofs.BodiesAgree.{body_one}
 use Rattle.law_export.proofs.Interims.{Stands, same, first, second, align}
 
--- what comes after the interim heads
+-- The bytes are those of the interim heads, then the text, then what is left.
 comes : (limits : HeadLimits) (bytes left : List ℕ) (interims : List ResponseHead) (text : List ℕ) → ComesAfter limits (Some bytes) (Some left) interims text
     → bytes ≡ flat_map print_response interims ++ (text ++ left)
 comes limits bytes left interims text c = c.taken ∙ append_assoc (flat_map print_response interims) text left
 
--- two heads at the front of the same bytes are one
+-- Two heads at the front of the same bytes are one.
 heads : (bytes : List ℕ) (h k : ResponseHead) (r q : List ℕ) → IsResponseHead h → IsResponseHead k → bytes ≡ print_response h ++ r → bytes ≡ print_response k ++ q
     → (h ≡ k) × (r ≡ q)
 heads bytes h k r q x y e f = response_unique bytes h k r q (x, e) (y, f)
 
--- no interim head is where a final one is
+-- No interim head is where a final head is.
 final_not : (limits : HeadLimits) (bytes : List ℕ) (head : ResponseHead) (rest : List ℕ) → IsResponseHead head → ¬ (IsInterimStatus (status_code head))
     → bytes ≡ print_response head ++ rest → Stands limits bytes → ⊥
 final_not limits bytes head rest valid final e stands =
@@ -44,7 +44,7 @@ cause_of : (limits : HeadLimits) (bytes left : List ℕ) (failed : Type 0) (faul
 cause_of limits bytes left failed fault r sound ample =
     elim r.cause [ inl lacks ↦ inl (lack_of limits r.text left failed fault lacks sound ample) | inr refuses ↦ inr refuses ]
 
--- a head that is refused is bad: it is one interim head too many, or a field of it can't be kept
+-- A head that is refused is bad: it is one interim head too many, or a field of it can't be kept.
 refused : (interims : List ResponseHead) (head : ResponseHead) (fault : HttpFault) → RefusesHead interims head fault → fault ≢ faults.OutOfMemory
     → (fault ≡ faults.BadHead) × (((length interims ≡ 16) × IsInterimStatus (status_code head)) ⊎ (¬ (IsInterimStatus (status_code head)) × ¬ (All IsTaken (fields_of head))))
 refused interims head faults.BadHead x ample = (refl, x)
@@ -55,11 +55,11 @@ refused interims head faults.BadLength x ample = absurd x
 refused interims head faults.BadChunk x ample = absurd x
 refused interims head faults.TooLarge x ample = absurd x
 
--- a head's text within the limits is a whole head
+-- A head whose text is within the limits is a whole head.
 whole : (limits : HeadLimits) (text : List ℕ) (head : ResponseHead) → IsHeadText limits text head → IsHeadText limits (print_response head) head
 whole limits text head is = subst (λ t. IsHeadText limits t head) is.whole is
 
--- no interim head is where there is no reply, if fewer than 16 came before
+-- No interim head is where there is no reply, if fewer than 16 came before.
 cause_not : (limits : HeadLimits) (interims : List ResponseHead) (text left : List ℕ) (fault : HttpFault) → Cause limits interims text left fault
     → fault ≢ faults.OutOfMemory → length interims < 16 → Stands limits (text ++ left) → ⊥
 cause_not limits interims text left fault (inl lack) ample few stands =
@@ -71,7 +71,7 @@ cause_not limits interims text left fault (inr x) ample few stands =
       | inr other ↦ other.0 (subst (λ h. IsInterimStatus (status_code h)) one.0 stands.interim.1)
     ]
 
--- nor does a reply's
+-- The head of a reply is not where there is no reply.
 cause_no_reply : (limits : HeadLimits) (interims : List ResponseHead) (text left : List ℕ) (fault : HttpFault) (head : ResponseHead) (rest : List ℕ)
     → Cause limits interims text left fault → fault ≢ faults.OutOfMemory → IsHeadText limits (print_response head) head → ¬ (IsInterimStatus (status_code head))
     → All IsTaken (fields_of head) → text ++ left ≡ print_response head ++ rest → ⊥
@@ -115,6 +115,7 @@ reply_and_fault limits bytes left other_left failed other_failed reply fault r q
       | same _ e ↦ cause_no_reply limits q.interims q.text other_left fault r.head _ cause ample r.valid r.final r.kept (sym e ∙ own)
     ]
 
+-- Bytes that mean a reply mean nothing else.
 pub one_reply : BytesMeanOneReply
 one_reply limits bytes reply (Ok other) x y =
     ap Ok (reply_and_reply limits bytes x.left y.left _ _ reply other x.means y.means x.sound y.sound x.ample y.ample)
@@ -134,6 +135,7 @@ causes limits interims text left other_text other_left fault other (inr x) (inl 
 causes limits interims text left other_text other_left fault other (inr x) (inr y) ample other_ample e few =
     (refused interims y.0 other y.2 other_ample).0 ∙ sym (refused interims x.0 fault x.2 ample).0
 
+-- Bytes that mean no reply do so for one cause, unless a head has too many fields.
 pub one_fault : BytesMeanOneFault
 one_fault limits bytes fault other x y few =
     let r = x.means in

@@ -9,14 +9,16 @@ use Rattle.law_export.proofs.Bytes.{host_bytes}
 use Rattle.law_export.proofs.Sent.{Sends, is_post, not_refused, post, traces_at}
 use Rattle.law_export.proofs.Judged.{Stands}
 
--- the address, with the path of traces written out
+-- An address for traces is its host and port with the path of traces written out.
 written_out : (address : Address) → IsForTraces address → address ≡ traces_at address.host address.port
 written_out address is = λ i. record { host = address.host; port = address.port; path = is.path i }
 
+-- No read failed where none had failed before or after.
 pub never_failed : ¬ (HasFailed 0 0)
 never_failed failed = elim failed [ inl more ↦ omega (arith, more) | inr full ↦ omega (arith, full) ]
 
--- what is known of the request
+-- A request that arrives has a visible host, a port of at most 64 bits, and a size that the limits
+-- allow.
 pub sends : (limits : HeadLimits) (address : Address) (body : List ℕ) (old : Option (List ℕ)) (before after : ℕ)
     → Arrives limits address body old before after → Sends limits address.host address.port body
 sends limits address body old before after a =
@@ -27,11 +29,12 @@ sends limits address body old before after a =
       allowed = subst (λ to. IsAllowed limits to body) (written_out address a.address_is) a.allowed;
     }
 
--- and of the bytes
+-- The bytes of a request that arrives are its text and the bytes after it.
 pub known : (limits : HeadLimits) (address : Address) (body : List ℕ) (old : Option (List ℕ)) (before after : ℕ)
     → (a : Arrives limits address body old before after) → old ≡ Some (request_text (traces_at address.host address.port) body ++ a.behind)
 known limits address body old before after a = a.whole ∙ ap (λ to. Some (request_text to body ++ a.behind)) (written_out address a.address_is)
 
+-- The bytes of a request that arrives begin with a request that isn't refused, and no read failed.
 pub stands : (limits : HeadLimits) (address : Address) (body : List ℕ) (old : Option (List ℕ)) (before after : ℕ)
     → (a : Arrives limits address body old before after) → Stands limits (request_text (traces_at address.host address.port) body ++ a.behind) body before after
 stands limits address body old before after a = record {

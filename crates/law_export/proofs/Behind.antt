@@ -17,7 +17,7 @@ use Rattle.law_export.specs.Delivery.{BytesBehindAreLeft}
 use Rattle.law_export.proofs.Arrived.{known, sends}
 use Rattle.law_export.proofs.Sent.{Sends, comes_with, framed, sent_head, traces_at}
 
--- what comes after fronts of one length is one
+-- Bytes that are split after fronts of one length have one rest.
 rest_of : (a b c d : List ℕ) → a ++ b ≡ c ++ d → length a ≡ length c → b ≡ d
 rest_of [] b [] d e l = e
 rest_of [] b (y ∷ c) d e l = absurd (omega (arith, l))
@@ -26,7 +26,7 @@ rest_of (x ∷ a) b (y ∷ c) d e l =
     let tails : a ++ b ≡ c ++ d = cc in
     rest_of a b c d tails (omega (arith, l))
 
--- whatever post the bytes are, what it leaves comes after the request
+-- Whatever request the bytes are read as, it leaves the bytes after the request that was sent.
 post_leaves : (limits : HeadLimits) (host : List ℕ) (port : ℕ) (body behind left : List ℕ) (failed : Type 0) (other : HttpPost) → Sends limits host port body
     → IsPost limits (Some (request_text (traces_at host port) body ++ behind)) (Some left) failed other → left ≡ behind
 post_leaves limits host port body behind left failed other sent is =
@@ -54,6 +54,7 @@ judged_leaves limits canned host port body behind new before after reply message
   | taken post is quiet accepted read reads answer with ↦ leaves limits host port body behind new (HasFailed before after) post sent is
 ]
 
+-- Where a request is taken, no byte after it was read.
 pub behind_left : BytesBehindAreLeft
 behind_left limits canned address body old new before after written writes status message a serves =
     judged_leaves limits canned address.host address.port body a.behind new before after serves.reply message (sends limits address body old before after a)

@@ -9,7 +9,7 @@ use Rattle.http_wire.specs.Bodies.{Framing, empty, sized, chunked, to_end, unkno
 abbrev Answer : Type 0
 Answer = Result (List ℕ) HttpFault
 
--- What a body of so many bytes is, where no read failed and no memory was refused.
+-- What a body of a given size is, where no read failed and no memory was refused.
 data OfSize (limit size : ℕ) (taken left : List ℕ) (answer : Answer) : Type 0 where
   whole : answer ≡ Ok taken → length taken ≡ size → size ≤ limit → OfSize limit size taken left answer
   cut : answer ≡ Err faults.Ended → left ≡ [] → length taken < size → size ≤ limit → OfSize limit size taken left answer
@@ -42,7 +42,7 @@ of_all limit taken left failed (Err faults.BadHead) x sound ample = absurd x
 of_all limit taken left failed (Err faults.BadLength) x sound ample = absurd x
 of_all limit taken left failed (Err faults.BadChunk) x sound ample = absurd x
 
--- fronts of one length are one
+-- Fronts of one length of the same bytes are one.
 equal_fronts : (a b c d : List ℕ) → a ++ b ≡ c ++ d → length a ≡ length c → a ≡ c
 equal_fronts [] b [] d e l = refl
 equal_fronts [] b (y ∷ c) d e l = absurd (omega (arith, l))
@@ -97,6 +97,7 @@ all_one limit taken left other_taken other_left answer other x y e =
       ]
     ]
 
+-- The same bytes are one body under one framing, if no read failed and no memory was refused.
 pub body_one : (framing : Framing) (limits : HeadLimits) (taken left other_taken other_left : List ℕ) (failed other_failed : Type 0) (answer other : Answer)
     → IsBody framing limits taken (Some left) failed answer → IsBody framing limits other_taken (Some other_left) other_failed other
     → ¬ failed → ¬ other_failed → answer ≢ Err faults.OutOfMemory → other ≢ Err faults.OutOfMemory

@@ -21,8 +21,9 @@ is_visible b = nat_le 33 b && nat_lt b 127
 abbrev pub AreVisible : List ℕ → Type 0
 AreVisible bytes = AllPass is_visible bytes
 
--- ---- what they may be in
+-- ---- what visible bytes may be in
 
+-- Visible bytes may be in the value of a field.
 pub value_bytes : (bytes : List ℕ) → AreVisible bytes → AllPass is_value_byte bytes
 value_bytes bytes are = All-weaker (λ b. IsTrue (is_visible b)) (λ b. IsTrue (is_value_byte b)) (λ b is. grind (arith, nat_tests)) bytes are
 
@@ -33,12 +34,13 @@ stays : (bytes : List ℕ) → AreVisible bytes → skip_ows bytes ≡ bytes
 stays [] are = refl
 stays (b ∷ bytes) are = rw (no_blank b (All-head (λ x. IsTrue (is_visible x)) b bytes are)) refl
 
--- after a space they are a field's value as they are
+-- Visible bytes after a space are a field's value as they are.
 pub trimmed : (bytes : List ℕ) → AreVisible bytes → trim_ows (32 ∷ bytes) ≡ bytes
 trimmed bytes are = trim_ows_space bytes (stays bytes are) (stays (reverse bytes) (AllPass-reverse is_visible bytes are))
 
--- ---- which bytes are
+-- ---- which bytes are visible
 
+-- The bytes of a host's name are visible.
 pub name_bytes : (host : List ℕ) → list_all is_host_byte host ≡ true → AreVisible host
 name_bytes host are =
     All-weaker (λ b. IsTrue (is_host_byte b)) (λ b. IsTrue (is_visible b)) (λ b is. grind (arith, nat_tests)) host
@@ -50,7 +52,7 @@ address_byte b is = grind (arith, nat_tests)
 bracket_byte : (b : ℕ) → b ≡ 93 → is_visible b ≡ true
 bracket_byte b is = rw is refl
 
--- so many bytes of an address, and then a `]`
+-- Bytes of an address with a `]` after them are visible.
 closed_bytes : (bytes : List ℕ) (n : ℕ) → length bytes ≡ n + 1 → list_all is_address_byte (take n bytes) ≡ true → slice_index bytes n ≡ 93
     → AreVisible bytes
 closed_bytes [] n len are last = All-nil (λ b. IsTrue (is_visible b))
@@ -77,6 +79,7 @@ literal_bytes (b ∷ rest) is =
     (closed_bytes rest n (omega (arith, long)) (subst (λ k. list_all is_address_byte (take k rest) ≡ true) count all.1)
     (subst (λ k. slice_index host k ≡ 93) place (eqb-true (slice_index host (length host - 1)) 93 last.1)))
 
+-- The bytes of a host are visible.
 pub host_bytes : (host : List ℕ) → is_host host ≡ true → AreVisible host
 host_bytes host is = elim (or_cases (is_name host) (is_literal host) is) [
   | inl name ↦ name_bytes host (and_parts (nat_lt 0 (length host)) (list_all is_host_byte host) name).1
@@ -93,6 +96,7 @@ digits_test (b ∷ bytes) are =
     let first : is_ascii_digit b ≡ true = grind (arith, nat_tests) in
     rw (first, digits_test bytes are.1) refl
 
+-- The digits of a number of 64 bits are visible.
 pub decimal_bytes : (n : ℕ) → n < 2 ^ 64 → AreVisible (decimal n)
 decimal_bytes n fits = digits_are (decimal n) (decimal_is_IsNumeral n fits).0.1
 
@@ -102,7 +106,7 @@ below a b is = grind (arith, nat_tests)
 and_true : (a b : Bool) → a ≡ true → b ≡ true → (a && b) ≡ true
 and_true a b e f = rw (e, f) refl
 
--- a number is a length, and that length is the number
+-- The digits of a number of 64 bits are a length, and that length is the number.
 pub length_is : (n : ℕ) → n < 2 ^ 64 → (is_length (decimal n) ≡ true) × (digits_value 10 (decimal n) ≡ n)
 length_is n fits =
     let is = decimal_is_IsNumeral n fits in
@@ -113,6 +117,7 @@ length_is n fits =
 
 -- ---- four things
 
+-- A property of each of four elements holds of all elements of their list.
 pub all_four : {A : Type 0} (P : A → Type 0) (a b c d : A) → P a → P b → P c → P d → All P (a ∷ b ∷ c ∷ d ∷ [])
 all_four P a b c d first second third fourth =
     All-cons P a (b ∷ c ∷ d ∷ []) first (All-cons P b (c ∷ d ∷ []) second (All-cons P c (d ∷ []) third (All-cons P d [] fourth (All-nil P))))

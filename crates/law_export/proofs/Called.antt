@@ -13,6 +13,7 @@ use Rattle.law_export.specs.Calls.{NoneEnds, SetsNoStatus, UpdatesNoName}
 
 -- ---- the first are kept
 
+-- The first elements are kept, up to the limit, and the others are counted.
 pub first-keeps : {A : Type 0} (limit : ℕ) (all : List A) → KeepsFirst limit all (first_kept limit all)
 first-keeps limit all = record {
   front = (drop limit all, sym (take-append-drop limit all));
@@ -21,10 +22,12 @@ first-keeps limit all = record {
   sum = λ small. let size = length-take limit all in omega (arith, size, small);
 }
 
+-- The first events of a span are kept, up to the limit, and the others are counted.
 pub events-kept : (limits : SpanLimits) (start : Start) (calls : List Call) → KeepsFirst limits.events (filter_map (event_of limits) (live_calls calls)) (span limits start calls).events
 unfolding span
 events-kept limits start calls = first-keeps limits.events (filter_map (event_of limits) (live_calls calls))
 
+-- The first links of a span are kept, up to the limit, and the others are counted.
 pub links-kept : (limits : SpanLimits) (start : Start) (calls : List Call) → KeepsFirst limits.links (filter_map (link_of limits) (live_calls calls)) (span limits start calls).links
 unfolding span
 links-kept limits start calls = first-keeps limits.links (filter_map (link_of limits) (live_calls calls))
@@ -47,7 +50,7 @@ live-front : (front back : List Call) → AllByRecursion (λ c. (at : ℕ) → c
 live-front [] back h = refl
 live-front (c ∷ front) back h = live-cons c (front ++ back) ∙ ap (λ t. cond (not t) (c ∷ live_calls (front ++ back)) []) (no-end c h.0) ∙ ap (λ l. c ∷ l) (live-front front back h.1)
 
--- what counts of a call that is no end, with no end before it
+-- A call that is no end, and that comes after no end, counts.
 live-at : (front back : List Call) (c : Call) → NoneEnds front → is_end c ≡ false → live_calls (front ++ c ∷ back) ≡ front ++ c ∷ live_calls back
 live-at front back c h e = live-front front (c ∷ back) (recursion_from_All (λ d. (at : ℕ) → d ≢ end at) front h)
     ∙ ap (λ l. front ++ l) (live-cons c back ∙ ap (λ t. cond (not t) (c ∷ live_calls back) []) e)
@@ -58,7 +61,7 @@ live-end (c ∷ calls) more at = live-cons c (calls ++ end at ∷ more) ∙ ap (
 
 -- ---- the last that counts
 
--- of a call in the middle
+-- What is gathered of the calls that count has, in the middle, what the call in the middle gives.
 made-at : {A : Type 0} (h : Call → Option A) (front back : List Call) (c : Call) → NoneEnds front → is_end c ≡ false → filter_map h (live_calls (front ++ c ∷ back)) ≡ filter_map h front ++ cons_option (h c) (filter_map h (live_calls back))
 made-at h front back c none e = ap (filter_map h) (live-at front back c none e) ∙ filter_map-append h front (c ∷ live_calls back)
 
@@ -78,12 +81,14 @@ no-name (end at) h = refl
 no-names : (calls : List Call) → All UpdatesNoName calls → filter_map name_of calls ≡ []
 no-names calls h = made-none name_of UpdatesNoName no-name calls (recursion_from_All UpdatesNoName calls h)
 
+-- A span has the name of the last update before its end.
 pub last-name : (limits : SpanLimits) (start : Start) (front back : List Call) (name : List ℕ) → NoneEnds front → All UpdatesNoName (live_calls back) →
     (span limits start (front ++ update_name name ∷ back)).name ≡ name
 unfolding span
 last-name limits start front back name none h = ap (last_or start.name) (made-at name_of front back (update_name name) none refl ∙ ap (λ l. filter_map name_of front ++ name ∷ l) (no-names (live_calls back) h))
     ∙ last-append start.name (filter_map name_of front) name
 
+-- A span whose name is never updated has the name of its start.
 pub first-name : (limits : SpanLimits) (start : Start) (calls : List Call) → All UpdatesNoName (live_calls calls) → (span limits start calls).name ≡ start.name
 unfolding span
 first-name limits start calls h = ap (last_or start.name) (no-names (live_calls calls) h)
@@ -128,7 +133,7 @@ or-true : (t : Bool) → (t || true) ≡ true
 or-true true = refl
 or-true false = refl
 
--- what a list of statuses comes to, by whether Ok is among them and by the errors
+-- the final status, by whether Ok is among the statuses and by the errors among them
 abbrev status_by : Bool → List Status → Status
 status_by has errors = cond has ok (last_or unset errors)
 
@@ -145,16 +150,19 @@ error-last before later t none h =
     (filter-append is_error before (error t ∷ later) ∙ ap (λ l. filter is_error before ++ error t ∷ l) (none-error later h))
     ∙ last-append unset (filter is_error before) (error t)
 
+-- A span whose status was set to Ok before its end has this status, whatever follows.
 pub ok-is-final : (limits : SpanLimits) (start : Start) (front back : List Call) → NoneEnds front → (span limits start (front ++ set_status ok ∷ back)).status ≡ ok
 unfolding span
 ok-is-final limits start front back none = ap final_status (made-at status_of front back (set_status ok) none refl) ∙ ok-final (filter_map status_of front) (filter_map status_of (live_calls back))
 
+-- A span whose status was never set to Ok has the last Error as its status.
 pub last-error : (limits : SpanLimits) (start : Start) (front back : List Call) (message : List ℕ) → NoneEnds front → All (λ c. c ≢ set_status ok) front → All SetsNoStatus (live_calls back) →
     (span limits start (front ++ set_status (error message) ∷ back)).status ≡ error message
 unfolding span
 last-error limits start front back message none h k = ap final_status (made-at status_of front back (set_status (error message)) none refl)
     ∙ error-last (filter_map status_of front) (filter_map status_of (live_calls back)) message (no-ok front (recursion_from_All (λ c. c ≢ set_status ok) front h)) (unset-statuses (live_calls back) (recursion_from_All SetsNoStatus (live_calls back) k))
 
+-- A span whose status was set to Unset alone, or never, has the status Unset.
 pub status-unset : (limits : SpanLimits) (start : Start) (calls : List Call) → All SetsNoStatus (live_calls calls) → (span limits start calls).status ≡ unset
 unfolding span
 status-unset limits start calls h =
@@ -163,7 +171,7 @@ status-unset limits start calls h =
 
 -- ---- Unset
 
--- What comes of the calls that count is the same without one in the middle, if it is so of any
+-- A result of the calls that count is the same without one in the middle, if this holds of any
 -- calls.
 skips : {A : Type 0} (c : Call) → is_end c ≡ false → (front back : List Call) (made : List Call → A) → ((before later : List Call) → made (before ++ c ∷ later) ≡ made (before ++ later)) → made (live_calls (front ++ c ∷ back)) ≡ made (live_calls (front ++ back))
 skips c e [] back made h = ap made (live-cons c back ∙ ap (λ t. cond (not t) (c ∷ live_calls back) []) e) ∙ h [] (live_calls back)
@@ -219,6 +227,7 @@ span-without limits start at before later =
       status = status i;
     }
 
+-- A call that sets the status Unset changes nothing.
 pub unset-is-ignored : (limits : SpanLimits) (start : Start) (front back : List Call) → span limits start (front ++ set_status unset ∷ back) ≡ span limits start (front ++ back)
 unset-is-ignored limits start front back =
     let at : ℕ = first_or start.at (filter_map end_of (front ++ back)) in
@@ -249,12 +258,14 @@ same-end : (start : Start) (calls more : List Call) (at : ℕ) → first_or star
 same-end start calls more at = ap (first_or start.at) (filter_map-append end_of calls (end at ∷ more)) ∙ first-only start.at (filter_map end_of calls) at (filter_map end_of more)
     ∙ ap (first_or start.at) (sym (filter_map-append end_of calls (end at ∷ [])))
 
+-- Calls after an end change nothing.
 pub behind-the-end : (limits : SpanLimits) (start : Start) (calls more : List Call) (at : ℕ) → span limits start (calls ++ end at ∷ more) ≡ span limits start (calls ++ end at ∷ [])
 behind-the-end limits start calls more at =
     span-is limits start (calls ++ end at ∷ more)
     ∙ ap₂ (span_of limits start) (same-end start calls more at) (live-end calls more at ∙ sym (live-end calls [] at))
     ∙ sym (span-is limits start (calls ++ end at ∷ []))
 
+-- The first end is the span's end.
 pub first-end : (limits : SpanLimits) (start : Start) (calls more : List Call) (at : ℕ) → NoneEnds calls → (span limits start (calls ++ end at ∷ more)).end ≡ at
 unfolding span
 first-end limits start calls more at none = ap (first_or start.at) (filter_map-append end_of calls (end at ∷ more) ∙ ap (λ l. l ++ at ∷ filter_map end_of more) (no-ends calls (recursion_from_All (λ c. (at : ℕ) → c ≢ end at) calls none)))

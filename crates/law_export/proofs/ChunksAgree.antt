@@ -45,7 +45,7 @@ line_clash most front rest (inr full) unfinished =
     let long = length-append front rest in
     omega (arith, long, full.1, unfinished.2)
 
--- no line is where one is lacking
+-- No line is where a line is lacking.
 line_stands : (most : ℕ) (text left : List ℕ) (fault : HttpFault) (line : ChunkLine) (rest : List ℕ)
     → Lacking (OpenLine most) (BadLine most) text left fault → IsLine most line → text ++ left ≡ print_chunk_line line ++ rest → ⊥
 line_stands most text left fault line rest (ended _ none unfinished) is e =
@@ -57,7 +57,7 @@ line_stands most text left fault line rest (bad _ (inr full)) is e =
     let front = front_of text left (print_chunk_line line) rest e (omega (arith, bytes, size)) in
     full.0 line front.0 (is.valid, front.1)
 
--- two lines at the front of the same bytes are one
+-- Two lines at the front of the same bytes are one.
 same_line : (l k : ChunkLine) (a b : List ℕ) → IsChunkLine l → IsChunkLine k → print_chunk_line l ++ a ≡ print_chunk_line k ++ b → (l ≡ k) × (a ≡ b)
 same_line l k a b x y e = chunk_line_unique (print_chunk_line l ++ a) l k a b (x, refl) (y, e)
 
@@ -84,7 +84,7 @@ data_clash size front rest never unfinished =
     let may = unfinished.0 in
     never.0 (rest ++ may.0, may.1, may.2, sym (append_assoc front rest may.0) ∙ may.3)
 
--- no data is where it is lacking
+-- No data is where data is lacking.
 data_stands : (size : ℕ) (text left : List ℕ) (fault : HttpFault) (bytes rest : List ℕ)
     → Lacking (OpenData size) (BadData size) text left fault → length bytes ≡ size → text ++ left ≡ bytes ++ (crlf_bytes ++ rest) → ⊥
 data_stands size text left fault bytes rest (ended _ none unfinished) long e =
@@ -101,7 +101,7 @@ data_stands size text left fault bytes rest (bad _ never) long e =
 
 -- ---- what ends the chunks
 
--- What comes after chunks that have those bytes, where no read failed and no memory was refused.
+-- What comes after chunks with these bytes, where no read failed and no memory was refused.
 data Found (limits : HeadLimits) (bytes all : List ℕ) (answer : Answer) : Type 0 where
   whole : (line : ChunkLine) (trailers : Trailers) (rest : List ℕ) → IsLine limits.head line → chunk_size line ≡ 0 → IsTrailers limits trailers
       → all ≡ print_chunk_line line ++ (print_trailers trailers ++ rest) → answer ≡ Ok bytes → Found limits bytes all answer
@@ -130,14 +130,14 @@ found_of limits bytes text left failed answer (model.no_trailers line rest fault
     no_trailers line rest left fault is last (trailers_lacking limits rest left failed fault x sound (λ o. ample (a ∙ ap Err o)))
     (ap (λ t. t ++ left) e ∙ append_assoc (print_chunk_line line) rest left) a
 
--- lines of two sizes are two
+-- A line of size zero and a line of another size aren't at the front of the same bytes.
 apart : (l k : ChunkLine) (a b : List ℕ) (n : ℕ) → IsLine n l → IsLine n k → print_chunk_line l ++ a ≡ print_chunk_line k ++ b
     → chunk_size l ≡ 0 → 0 < chunk_size k → ⊥
 apart l k a b n x y e none some =
     let same = ap chunk_size (same_line l k a b x.valid y.valid e).0 in
     omega (arith, same, none, some)
 
--- and so are one within the limit and one past it
+-- A line within the limit and one past it aren't at the front of the same bytes.
 past : (l k : ChunkLine) (a b : List ℕ) (n long most : ℕ) → IsLine n l → IsLine n k → print_chunk_line l ++ a ≡ print_chunk_line k ++ b
     → long + chunk_size l ≤ most → most < long + chunk_size k → ⊥
 past l k a b n long most x y e fit over =
@@ -212,12 +212,12 @@ module _ (limits : HeadLimits) (bytes all : List ℕ) (answer other : Answer) (f
 
 -- ---- chunks
 
--- a chunk, and then these bytes
+-- A printed chunk is its line, its bytes and a line's end.
 printed : (chunk : Chunk) (rest : List ℕ) → print_chunk chunk ++ rest ≡ print_chunk_line chunk.line ++ (chunk.bytes ++ (crlf_bytes ++ rest))
 printed chunk rest =
     append_assoc (print_chunk_line chunk.line) (chunk.bytes ++ crlf_bytes) rest ∙ ap (λ t. print_chunk_line chunk.line ++ t) (append_assoc chunk.bytes crlf_bytes rest)
 
--- no chunk is where they end
+-- No chunk is where the chunks end.
 chunk_not : (limits : HeadLimits) (bytes all : List ℕ) (answer : Answer) (chunk : Chunk) (rest : List ℕ) → IsChunk limits.head chunk
     → length bytes + length chunk.bytes ≤ limits.body → all ≡ print_chunk_line chunk.line ++ (chunk.bytes ++ (crlf_bytes ++ rest))
     → Found limits bytes all answer → ⊥
@@ -233,14 +233,14 @@ chunk_not limits bytes all answer chunk rest valid fit e (no_data line text left
 chunk_not limits bytes all answer chunk rest valid fit e (no_trailers line _ _ _ is last _ f _) =
     apart line chunk.line _ _ limits.head is valid.line (sym f ∙ e) last valid.some
 
--- two chunks at the front of the same bytes are one
+-- Two chunks at the front of the same bytes are one.
 same_chunk : (most : ℕ) (c d : Chunk) (a b : List ℕ) → IsChunk most c → IsChunk most d → print_chunk c ++ a ≡ print_chunk d ++ b → (c.bytes ≡ d.bytes) × (a ≡ b)
 same_chunk most c d a b x y e =
     let line = same_line c.line d.line _ _ x.line.valid y.line.valid (sym (printed c a) ∙ e ∙ printed d b) in
     let bytes = fronts_same c.bytes d.bytes (crlf_bytes ++ a) (crlf_bytes ++ b) (x.size ∙ ap chunk_size line.0 ∙ sym y.size) line.1 in
     (bytes.0, let end = bytes.1 in cc)
 
--- a chunk's data is within the limit where all is
+-- The data of a first chunk is within the limit where the data of all chunks is.
 first_fits : (before : List ℕ) (chunk : Chunk) (chunks : List Chunk) (most : ℕ) → length (before ++ data_of (chunk ∷ chunks)) ≤ most
     → length before + length chunk.bytes ≤ most
 first_fits before chunk chunks most fit =
@@ -248,7 +248,7 @@ first_fits before chunk chunks most fit =
     let both = length-append chunk.bytes (data_of chunks) in
     omega (arith, all, both, fit)
 
--- the same chunks come at the front of the same bytes, and are ended in one way
+-- The chunks at the front of the same bytes are the same, and are ended in one way.
 ends_one : (limits : HeadLimits) (chunks others : List Chunk) (before all other_all : List ℕ) (answer other : Answer)
     → All (IsChunk limits.head) chunks → All (IsChunk limits.head) others
     → length (before ++ data_of chunks) ≤ limits.body → length (before ++ data_of others) ≤ limits.body
@@ -278,6 +278,7 @@ ends_one limits (c ∷ chunks) (d ∷ others) before all other_all answer other 
     (subst (λ t. length t ≤ limits.body) own fit) (subst (λ t. length t ≤ limits.body) others_are other_fit) one.1
     (subst (λ t. Found limits t all answer) own x) (subst (λ t. Found limits t other_all other) others_are y)
 
+-- The same bytes are one body in chunks, if no read failed and no memory was refused.
 pub chunks_one : (limits : HeadLimits) (taken left other_taken other_left : List ℕ) (failed other_failed : Type 0) (answer other : Answer)
     → IsChunkedBody limits taken (Some left) failed answer → IsChunkedBody limits other_taken (Some other_left) other_failed other
     → ¬ failed → ¬ other_failed → answer ≢ Err faults.OutOfMemory → other ≢ Err faults.OutOfMemory

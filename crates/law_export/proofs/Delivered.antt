@@ -24,6 +24,7 @@ verdict one_post limits address spans body old new before after reply request ca
     judged one_post limits _ body new spans before after reply request (stands limits address body old before after a) carries
     (subst (λ known. Judges limits None known new before after reply request) (known limits address body old before after a) judges)
 
+-- A batch that arrives is taken with 200, or is answered 503 for want of memory.
 pub batch_arrives : BytesMeanOnePost → BatchArrives
 batch_arrives one_post limits address spans body old new before after written writes status request carries a serves =
     let status_by = λ (r : Option PostReply). option_map (λ (x : PostReply). code_of x.status) r in
@@ -36,6 +37,7 @@ batch_arrives one_post limits address spans body old new before after written wr
           (subst (λ r. Appends written writes (option_map_or reply_text r [])) is serves.writes_it)
     ]
 
+-- A reply that broke off was that of 200 or that of 503.
 pub one_of_two : BytesMeanOnePost → BrokenReplyIsOneOfTwo
 one_of_two one_post limits address spans body old new before after written writes sent carries a breaks =
     elim (verdict one_post limits address spans body old new before after (Some breaks.reply) breaks.request carries a breaks.judges) [

@@ -15,7 +15,7 @@ abbrev lead : ResponseHead → List ℕ → List ℕ
 lead h rest =
     print_blank h.blank ++ (print_version h.minor ++ 32 ∷ (h.digits ++ (print_reason h.reason ++ (print_end h.line_end ++ rest))))
 
--- three digits are a code, whatever comes after them
+-- Three digits are a status code, whatever comes after them.
 code_of : (digits rest : List ℕ) → length digits ≡ 3 → AllPass is_ascii_digit digits → (d : ℕ × (ℕ × ℕ)) × Code d (digits ++ rest) rest
 code_of [] rest three all = absurd (omega (arith, three))
 code_of (a ∷ []) rest three all = absurd (omega (arith, three))
@@ -26,7 +26,7 @@ code_of (a ∷ b ∷ c ∷ d ∷ digits) rest three all = absurd (omega (arith, 
 abbrev Start : Type 0
 Start = List LineEnd × (ℕ × (⊤ × ((ℕ × (ℕ × ℕ)) × (Option (List ℕ) × LineEnd))))
 
--- so a head's start line is read, whatever comes after it
+-- A head's start line is read, whatever comes after it.
 starts : (h : ResponseHead) (rest : List ℕ) → IsResponseHead h → (t : Start) × ResponseStart t (lead h rest) rest
 starts h rest valid =
     let code = code_of h.digits (print_reason h.reason ++ (print_end h.line_end ++ rest)) valid.digits.0 valid.digits.1 in (
@@ -39,11 +39,12 @@ abbrev pub return_of : LineEnd → List ℕ
 return_of crlf = 13 ∷ []
 return_of lf = []
 
+-- A line's end is its carriage return, if it has one, and a line feed.
 pub return_line : (end : LineEnd) → print_end end ≡ return_of end ++ 10 ∷ []
 return_line crlf = refl
 return_line lf = refl
 
--- a front that an empty line makes a head, without that line's end
+-- A front that an empty line makes a head is this head without that line's end.
 fronts : (front : List ℕ) (h : ResponseHead) → front ++ 10 ∷ [] ≡ print_response h ++ [] → front ≡ lead h (flat_map print_field h.fields ++ return_of h.last)
 fronts front h e =
     append_cancel_right front _ (10 ∷ []) (
@@ -55,7 +56,7 @@ fronts front h e =
     regroup : (a b c d e f r l : List ℕ) → a ++ (b ++ 32 ∷ (c ++ (d ++ (e ++ ((f ++ (r ++ l)) ++ []))))) ≡ (a ++ (b ++ 32 ∷ (c ++ (d ++ (e ++ (f ++ r)))))) ++ l
     regroup a b c d e f r l = simp (append_assoc, append-nil, cons-append)
 
--- the bytes begin with its start line and with all its fields
+-- Bytes with too many fields begin with a head's start line and with all these fields.
 begins : (room : ℕ) (text left : List ℕ) (x : ResponseExceeds room text) → (w : List ℕ) × (text ++ left ≡ lead x.3 (flat_map print_field x.3.fields ++ w))
 begins room text left x = (
   return_of x.3.last ++ (x.1 ++ left),
@@ -66,6 +67,7 @@ begins room text left x = (
     regroup : (a b c d e f r x l : List ℕ) → ((a ++ (b ++ 32 ∷ (c ++ (d ++ (e ++ (f ++ r)))))) ++ x) ++ l ≡ a ++ (b ++ 32 ∷ (c ++ (d ++ (e ++ (f ++ (r ++ (x ++ l)))))))
     regroup a b c d e f r x l = simp (append_assoc, cons-append)
 
+-- Bytes that begin with too many fields are no head whose fields the limit allows.
 pub exceeds_not : (room : ℕ) (text left : List ℕ) (head : ResponseHead) (rest : List ℕ) → ResponseExceeds room text
     → ReadsResponse (text ++ left) head rest → length head.fields ≤ room → ⊥
 exceeds_not room text left head rest x reads few =

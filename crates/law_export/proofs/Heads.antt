@@ -70,16 +70,19 @@ close_line = codes "Connection: close\r\n"
 regroup : (a b c d : List ℕ) → a ++ (b ++ (c ++ d)) ≡ ((a ++ b) ++ c) ++ d
 regroup a b c d = sym (append_assoc (a ++ b) c d ∙ append_assoc a b (c ++ d))
 
+-- The head prints as the head that the client writes.
 pub head_text : (host : List ℕ) (port size : ℕ)
     → print_request (head (host_of host port) (decimal size)) ≡ request_head (record { host = host; port = port; path = traces }) size
 unfolding httparse_on_literals request_head
 head_text host port size = ap (λ t. front ++ (t ++ return)) (regroup (host_of host port ++ return) media_line (size_line (decimal size)) close_line)
 
--- ---- it is one
+-- ---- it is a request's head
 
+-- The bytes of the media type are visible.
 pub media_is : AreVisible media
 media_is = AllPass-from_list_all is_visible media refl
 
+-- The bytes of `close` are visible.
 pub close_is : AreVisible (codes "close")
 close_is = AllPass-from_list_all is_visible (codes "close") refl
 
@@ -95,6 +98,7 @@ field_is name value token are =
 ascii : (bytes : List ℕ) → AreVisible bytes → All (λ b. b < 128) bytes
 ascii bytes are = All-weaker (λ b. IsTrue (is_visible b)) (λ b. b < 128) (λ b is. grind (arith, nat_tests)) bytes are
 
+-- The head is one of a request where the bytes of its host and of its size are visible.
 pub head_is : (host size : List ℕ) → AreVisible host → AreVisible size → IsRequestHead (head host size)
 unfolding httparse_on_literals
 head_is host size host_are size_are = record {

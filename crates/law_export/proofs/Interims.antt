@@ -27,6 +27,8 @@ one_more limits x y xs ys bytes others is (same e s) = let longer : x ∷ xs ≡
 one_more limits x y xs ys bytes others is (first l s) = first (omega (arith, l)) s
 one_more limits x y xs ys bytes others is (second l s) = second (omega (arith, l)) s
 
+-- Two rows of interim heads at the front of the same bytes are one, or an interim head follows the
+-- shorter one.
 pub align : (limits : HeadLimits) (xs ys : List ResponseHead) (bytes others : List ℕ) → All (IsInterim limits) xs → All (IsInterim limits) ys
     → flat_map print_response xs ++ bytes ≡ flat_map print_response ys ++ others → Aligned limits xs ys bytes others
 align limits [] [] bytes others all each e = same refl e

@@ -120,7 +120,7 @@ judged_left one_post limits bytes body left spans before after reply request x c
       })
 ]
 
--- bytes that are known are known afterwards
+-- Where the bytes that come are known, so are those that are left.
 none_left : (limits : HeadLimits) (bytes : List ℕ) (failed : Type 0) (fault : PostFault) → HasNoPost limits (Some bytes) None failed fault → ⊥
 none_left limits bytes failed (Head fault) x = x.taken
 none_left limits bytes failed (Body fault) x = x.comes.comes
@@ -134,6 +134,8 @@ left_not limits bytes before after reply request judges = elim judges [
   | taken post is quiet accepted message reads answer with ↦ is.comes.comes
 ]
 
+-- A collector takes the spans of the request at the front of its bytes, or replies that it wants
+-- memory.
 pub judged : (one_post : BytesMeanOnePost) (limits : HeadLimits) (bytes body : List ℕ) (new : Option (List ℕ)) (spans : List SpanData) (before after : ℕ) (reply : Option PostReply) (request : Option (Message Tables.request))
     → Stands limits bytes body before after → Carries body spans
     → Judges limits None (Some bytes) new before after reply request → Verdict spans reply request

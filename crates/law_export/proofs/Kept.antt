@@ -19,11 +19,12 @@ keys-again : (n : Option ℕ) (pairs : List Attribute) (keys : List (List ℕ)) 
 keys-again n pairs [] = refl
 keys-again n pairs (k ∷ keys) = ap (λ l. k ∷ l) (keys-again n pairs keys)
 
+-- The kept keys are the first distinct ones that the model keeps.
 pub keys-are : (limits : Limits) (pairs : List Attribute) → kept_keys_of limits pairs ≡ kept_keys limits.count pairs
 unfolding attributes
 keys-are limits pairs = keys-again limits.length pairs (kept_keys limits.count pairs)
 
--- what holds of the first distinct keys holds of those that are kept
+-- A property of the first distinct keys holds of the kept keys.
 of-keys : (limits : Limits) (pairs : List Attribute) (P : List (List ℕ) → Type 0) → P (kept_keys limits.count pairs) → P (kept_keys_of limits pairs)
 of-keys limits pairs P h = subst P (sym (keys-are limits pairs)) h
 
@@ -33,6 +34,7 @@ used pairs = filter (λ k. not (is_empty k)) (keys_of pairs)
 abbrev all_keys : List Attribute → List (List ℕ)
 all_keys pairs = distinct_of bytes_eq (used pairs)
 
+-- No more attributes are kept than the limit says.
 pub at-most : (limits : Limits) (pairs : List Attribute) → length (attributes limits pairs).items ≤ limits.count
 unfolding attributes
 at-most limits pairs =
@@ -51,12 +53,15 @@ all-have-bytes : (pairs : List Attribute) → All (λ k. k ≢ []) (all_keys pai
 all-have-bytes pairs = all-distinct bytes_eq bytes_eq-Decides (λ k. k ≢ []) (used pairs)
     (All-weaker (λ k. not (is_empty k) ≡ true) (λ k. k ≢ []) has-bytes (used pairs) (filter_passes (λ k. not (is_empty k)) (keys_of pairs)))
 
+-- No kept key is empty.
 pub none-empty : (limits : Limits) (pairs : List Attribute) → All (λ k. k ≢ []) (kept_keys_of limits pairs)
 none-empty limits pairs = of-keys limits pairs (All (λ k. k ≢ [])) (All-take (λ k. k ≢ []) limits.count (all_keys pairs) (all-have-bytes pairs))
 
+-- No key is kept twice.
 pub none-twice : (limits : Limits) (pairs : List Attribute) → AllPairs (λ k l. k ≢ l) (kept_keys_of limits pairs)
 none-twice limits pairs = of-keys limits pairs (AllPairs (λ k l. k ≢ l)) (all-pairs-take (λ k l. k ≢ l) limits.count (all_keys pairs) (distinct-apart bytes_eq bytes_eq-Decides (used pairs)))
 
+-- Each kept key was set.
 pub all-set : (limits : Limits) (pairs : List Attribute) → All (Contains (keys_of pairs)) (kept_keys_of limits pairs)
 all-set limits pairs =
     let P : List ℕ → Type 0 = Contains (keys_of pairs) in
@@ -65,7 +70,7 @@ all-set limits pairs =
 
 -- ---- their order
 
--- to look for a key among the pairs that have one is to look for it among all
+-- A key that isn't empty has the same first use among the pairs with a key as among all pairs.
 named-place : (k : List ℕ) (pairs : List Attribute) → k ≢ [] → position_or_len (λ p. is_named p && bytes_eq k p.key) pairs ≡ first_use k pairs
 named-place k pairs h = ap (λ test. position_or_len test pairs) (λ i p. same p i)
   where
@@ -95,12 +100,14 @@ all-in-order pairs =
         let el = named-place l pairs hl in
         omega (arith, inside, ek, el)
 
+-- The kept keys are in the order of their first use.
 pub in-order : (limits : Limits) (pairs : List Attribute) → AllPairs (λ k l. first_use k pairs < first_use l pairs) (kept_keys_of limits pairs)
 in-order limits pairs = of-keys limits pairs (AllPairs (λ k l. first_use k pairs < first_use l pairs)) (all-pairs-take (λ k l. first_use k pairs < first_use l pairs) limits.count (all_keys pairs) (all-in-order pairs))
 
 abbrev IsLeftOut : ℕ → List Attribute → List ℕ → List (List ℕ) → Type 0
 IsLeftOut n pairs k keys = Contains keys k ⊎ ((length keys ≡ n) × All (λ l. first_use l pairs < first_use k pairs) keys)
 
+-- A key that was set is kept, unless as many as the limit says were first used before it.
 pub left-out : (limits : Limits) (pairs : List Attribute) (k : List ℕ) → k ≢ [] → Contains (keys_of pairs) k → IsLeftOut limits.count pairs k (kept_keys_of limits pairs)
 left-out limits pairs k h set = of-keys limits pairs (IsLeftOut limits.count pairs k) (go (nat_lt place-of.0 limits.count) refl)
   where
@@ -125,6 +132,7 @@ left-out limits pairs k h set = of-keys limits pairs (IsLeftOut limits.count pai
               subst (λ l. first_use l pairs < first_use k pairs) (sym kept) (subst (λ l. first_use (get_or (all_keys pairs) j d) pairs < first_use l pairs) own earlier),
         )
 
+-- Pairs that are set later remove no kept key and move none.
 pub keys-stay : (limits : Limits) (pairs more : List Attribute) → BeginsWith (kept_keys_of limits (pairs ++ more)) (kept_keys_of limits pairs)
 keys-stay limits pairs more =
     let all = begins-distinct bytes_eq (used pairs) (used more) in
@@ -153,6 +161,7 @@ value-is front back p h =
     ∙ ap (last_or (bool false)) (map-append (λ q. q.value) (filter (has_key p.key) front) (p ∷ []))
     ∙ last-append (bool false) (map (λ q. q.value) (filter (has_key p.key) front)) p.value
 
+-- A kept key has the value that was set last, cut to the limit of its texts.
 pub last-pair : (limits : Limits) (front back : List Attribute) (p : Attribute) → Contains (kept_keys_of limits (front ++ p ∷ back)) p.key → All (λ q. q.key ≢ p.key) back →
     Contains (attributes limits (front ++ p ∷ back)).items (record { key = p.key; value = cut limits.length p.value })
 unfolding attributes
@@ -164,7 +173,7 @@ last-pair limits front back p kept h =
 
 -- ---- the count of the dropped
 
--- an empty key is among none that aren't
+-- An empty key is not among keys that aren't empty.
 empty-among : (keys : List (List ℕ)) → AllByRecursion (λ k. k ≢ []) keys → list_any (λ k. bytes_eq [] k) keys ≡ false
 empty-among [] h = refl
 empty-among ([] ∷ keys) h = absurd (h.0 refl)
@@ -189,6 +198,7 @@ adds-up keys h (p ∷ pairs) =
     let named = sum_by-cons (λ q. cond (is_named q) 1 0) p pairs in
     omega (arith, ih, one, among, dropped, named)
 
+-- The pairs with a key that isn't kept are counted as dropped, up to the greatest count.
 pub others-dropped : (limits : Limits) (pairs : List Attribute) →
     (others : ℕ) × (count_by (is_among (kept_keys_of limits pairs)) pairs + others ≡ count_by is_named pairs) × ((attributes limits pairs).dropped ≡ min others (2 ^ 32 - 1))
 unfolding attributes
@@ -200,5 +210,6 @@ others-dropped limits pairs =
       refl,
     )
 
+-- Below the greatest count, the pairs with a kept key and the dropped ones are all with a key.
 pub all-add-up : (limits : Limits) (pairs : List Attribute) → count_by is_named pairs < 2 ^ 32 → count_by (is_among (kept_keys_of limits pairs)) pairs + (attributes limits pairs).dropped ≡ count_by is_named pairs
 all-add-up limits pairs small = let others = others-dropped limits pairs in omega (arith, others.1, others.2, small)

@@ -1,4 +1,4 @@
--- Why no head came, and that none then is there.
+-- Why no head came, and that no head is there then.
 use Rattle.std.proofs.Common.{◌≡◌, ◌≢◌, ℕ, ◌+◌, ◌<◌, ◌≤◌, List, [], ◌∷◌, ◌++◌, length, refl, sym, ap, ◌∙◌, arith, append-nil, append_assoc, length-append, inl, inr, Some}
 use Rattle.httparse.specs.Grammar.{ResponseHead, print_response, NeverHasResponse}
 use Rattle.httparse.specs.Spans.{ResponseExceeds}
@@ -15,6 +15,7 @@ pub data Lack (limits : HeadLimits) (text left : List ℕ) (fault : HttpFault) :
   long : fault ≡ faults.TooLarge → IsUnfinished text → length text ≡ limits.head → Lack limits text left fault
   many : fault ≡ faults.TooLarge → ResponseExceeds limits.fields text → Lack limits text left fault
 
+-- A head lacks for one of four causes, where no read failed and no memory was refused.
 pub lack_of : (limits : HeadLimits) (text left : List ℕ) (failed : Type 0) (fault : HttpFault) → LacksHead limits text (Some left) failed fault
     → ¬ failed → fault ≢ faults.OutOfMemory → Lack limits text left fault
 lack_of limits text left failed faults.Ended x sound ample = ended refl x.0 x.1 x.2
@@ -25,7 +26,7 @@ lack_of limits text left failed faults.OutOfMemory x sound ample = absurd (ample
 lack_of limits text left failed faults.BadLength x sound ample = absurd x
 lack_of limits text left failed faults.BadChunk x sound ample = absurd x
 
--- the shorter of two fronts begins the other
+-- The shorter of two fronts of the same bytes begins the other.
 pub front_of : (a b p q : List ℕ) → a ++ b ≡ p ++ q → length p ≤ length a → (more : List ℕ) × (a ≡ p ++ more)
 front_of a b [] q e l = (a, refl)
 front_of [] b (x ∷ p) q e l = absurd (omega (arith, l))
@@ -35,7 +36,7 @@ front_of (y ∷ a) b (x ∷ p) q e l =
     let rest = front_of a b p q tails (omega (arith, l)) in
     (rest.0, let is = rest.1 in cc)
 
--- no head is where none came
+-- No head is where no head came.
 pub lacks_not : (limits : HeadLimits) (text left : List ℕ) (fault : HttpFault) (head : ResponseHead) (rest : List ℕ)
     → Lack limits text left fault → IsHeadText limits (print_response head) head → text ++ left ≡ print_response head ++ rest → ⊥
 lacks_not limits text left fault head rest lack is e = elim lack [

@@ -25,7 +25,7 @@ abbrev is_unavailable : Option ℕ → Bool
 is_unavailable None = false
 is_unavailable (Some status) = status == 503
 
--- it is none of the others
+-- A reply with another status is not 503.
 other : (reply : Option PostReply) → is_unavailable (status_of reply) ≡ false → Some 503 ≡ status_of reply → ⊥
 other reply is_not e = false≢true (sym is_not ∙ sym (ap is_unavailable e))
 
@@ -56,7 +56,7 @@ module _ (limits : HeadLimits) (old new : Option (List ℕ)) (before after : ℕ
   without_message post is accepted read_faults.BadUtf8 e = absurd (other (Some (reply_to_unread read_faults.BadUtf8)) refl e)
   without_message post is accepted read_faults.TooDeep e = absurd (other (Some (reply_to_unread read_faults.TooDeep)) refl e)
 
--- no refusal is 503
+-- No refusal of a request is 503.
 refusals : (found allowed read : Bool)
     → is_unavailable (status_of (if not found then Some (plain_reply statuses.NotFound)
     else if not allowed then Some (plain_reply statuses.MethodNotAllowed)
@@ -72,6 +72,7 @@ refusal_not post =
     refusals (is_for_traces post.target) (bytes_eq post.method (codes "POST"))
     (is_protobuf (field_values post (codes "content-type")) && is_plain (field_values post (codes "content-encoding")))
 
+-- Where no reply is canned, 503 is answered only where memory is asked for.
 pub unavailable : UnavailableWantsMemory
 unavailable limits old new before after written writes request serves =
     let is = serves.status_is in

@@ -10,15 +10,17 @@ use Rattle.std.proofs.lemmas.Map.Made.{IsDistinct-from_AllPairs}
 use Rattle.model_span.specs.Attributes.{distinct_of}
 use Rattle.law_export.proofs.Lists.{contains-nil, contains-cases, contains-map, any-contains, all-distinct, distinct-apart, contains-distinct, filter-filter}
 
+-- A list with an element isn't empty.
 pub not-nothing : {A : Type 0} (x : A) (xs : List A) → x ∷ xs ≢ []
 not-nothing x xs e = omega (arith, ap length e)
 
+-- Two functions whose results have the same elements gather the same elements from a list.
 pub flat_map-permutes : {A B : Type 0} (f g : A → List B) → ((x : A) → IsPermutation (f x) (g x)) → (xs : List A) → IsPermutation (flat_map f xs) (flat_map g xs)
 flat_map-permutes f g each [] = IsPermutation-refl []
 flat_map-permutes f g each (x ∷ xs) = IsPermutation-append (f x) (g x) (flat_map f xs) (flat_map g xs) (each x) (flat_map-permutes f g each xs)
 
 module _ {A K : Type 0} (same : K → K → Bool) (decides : (x y : K) → Decides (same x y) (x ≡ y)) (key : A → K) where
-  -- what has the key
+  -- the elements that have the key
   abbrev pub part : List A → K → List A
   part xs k = filter (λ x. same k (key x)) xs
 
@@ -34,14 +36,16 @@ module _ {A K : Type 0} (same : K → K → Bool) (decides : (x y : K) → Decid
       go false e ih (inl here) = absurd (true≢false (sym ((decides k (key x)).1 (sym here)) ∙ e))
       go false e ih (inr later) = ih later
 
+  -- The part of each key of a list has an element.
   pub parts-not-empty : (xs : List A) → All (λ k. part xs k ≢ []) (keys xs)
   parts-not-empty xs = All-weaker (Contains (map key xs)) (λ k. part xs k ≢ []) (part-of-key xs) (keys xs) (all-distinct same decides (Contains (map key xs)) (map key xs) (All-contains_itself (map key xs)))
 
+  -- A list with an element has a key.
   pub keys-not-empty : (xs : List A) → xs ≢ [] → keys xs ≢ []
   keys-not-empty [] h = absurd (h refl)
   keys-not-empty (x ∷ xs) h = not-nothing (key x) (filter (λ k. not (same (key x) k)) (keys xs))
 
-  -- the key of each is one of these
+  -- the key of each element is one of these
   abbrev AreKeysOf : List K → List A → Type 0
   AreKeysOf ks xs = AllByRecursion (λ x. list_any (λ k. same k (key x)) ks ≡ true) xs
 
@@ -83,7 +87,7 @@ module _ {A K : Type 0} (same : K → K → Bool) (decides : (x y : K) → Decid
       (IsPermutation-filter_both (λ x. same k (key x)) (λ x. not (same k (key x))) (λ x. refl) xs)
       (IsPermutation-append_right (part xs k) (others k xs) (flat_map (part xs) ks) (subst (IsPermutation (others k xs)) (parts-of-others k ks xs d.0) left))
 
-  -- the parts have each just as often as it is there
+  -- The parts have each element just as often as the list has it.
   pub parts-permute : (xs : List A) → IsPermutation xs (flat_map (part xs) (keys xs))
   parts-permute xs = parts-of-keys (keys xs) xs (IsDistinct-from_AllPairs decides (keys xs) (distinct-apart same decides (map key xs)))
       (recursion_from_All (λ x. list_any (λ k. same k (key x)) (keys xs) ≡ true) xs (All-weaker (Contains xs) (λ x. list_any (λ k. same k (key x)) (keys xs) ≡ true) found xs (All-contains_itself xs)))

@@ -39,13 +39,13 @@ sizes a b c d same = sym (length-append a b) ∙ ap length same ∙ length-appen
 longer : (a b c d : List ℕ) → b ≡ [] → a ++ b ≡ c ++ d → length c ≤ length a
 longer a b c d none same = let count = sizes a b c d same in let empty = ap length none in omega (arith, count, empty)
 
--- what goes on after a front that can't begin a head can't either
+-- A text that goes on after a front that can't begin a head can't begin one either.
 goes_on : (a b c d : List ℕ) → a ++ b ≡ c ++ d → length a ≤ length c → NeverHasRequest a → NeverHasRequest c
 goes_on a b c d same shorter never more head rest reads =
     let front = front_of c d a b (sym same) shorter in
     never (front.0 ++ more) head rest (reads.0, sym (append_assoc a front.0 more) ∙ ap (λ t. t ++ more) (sym front.1) ∙ reads.1)
 
--- a text that may become a head isn't one that can't, unless it stops in its target
+-- A text that may become a head has no front that can't, unless it stops in a bad target.
 bad_not : (limits : HeadLimits) (a b c d : List ℕ) → a ++ b ≡ c ++ d → length a ≤ length c → NeverHasRequest a → IsUnfinishedRequest c
     → (d ≡ []) ⊎ (length c ≡ limits.head) → ¬ (StopsInBadTarget limits (a ++ b)) → ⊥
 bad_not limits a b c d same shorter never unfinished stops whole = elim unfinished.1 [
@@ -90,7 +90,7 @@ lacks_one limits text left other_text other_left fault other x y e few fewer who
   ]
 ]
 
--- a head whose fields are refused is bad
+-- A head whose fields are refused is bad.
 refused : (head : RequestHead) (fault : HttpFault) → RefusesFields (request_fields head) fault → fault ≢ faults.OutOfMemory → fault ≡ faults.BadHead
 refused head faults.BadHead x ample = refl
 refused head faults.OutOfMemory x ample = absurd (ample refl)
@@ -100,7 +100,7 @@ refused head faults.BadLength x ample = absurd x
 refused head faults.BadChunk x ample = absurd x
 refused head faults.TooLarge x ample = absurd x
 
--- a head's text within the limits is a whole head
+-- A head whose text is within the limits is a whole head.
 whole_text : (limits : HeadLimits) (text : List ℕ) (head : RequestHead) → IsRequestText limits text head → IsRequestText limits (print_request head) head
 whole_text limits text head is = subst (λ t. IsRequestText limits t head) is.whole is
 
@@ -130,7 +130,7 @@ head_and_head limits bytes left other_left failed other_failed fault other r q s
       ]
     ]
 
--- a head that stands isn't one that doesn't
+-- Bytes whose head has a fault don't have a head whose body has one.
 head_and_body : (limits : HeadLimits) (bytes left other_left : List ℕ) (failed other_failed : Type 0) (fault other : HttpFault)
     → HasNoPostHead limits (Some bytes) (Some left) failed fault → HasNoPostBody limits (Some bytes) (Some other_left) other_failed other
     → ¬ failed → fault ≢ faults.OutOfMemory → ⊥
@@ -154,6 +154,7 @@ body_and_body limits bytes left other_left failed other_failed fault other r q s
     let bodies = body_one _ limits r.taken left q.taken other_left failed other_failed (Err fault) (Err other) r.body body sound other_sound (λ e. ample cc) (λ e. other_ample cc) one.1 in
     cc
 
+-- Bytes that mean no request do so for one cause, but for two cases where either may be reported.
 pub one_post_fault : BytesMeanOnePostFault
 one_post_fault limits bytes (Head fault) (Head other) x y few whole =
     ap Head (head_and_head limits bytes x.left y.left _ _ fault other x.means y.means x.sound y.sound x.ample y.ample few whole)

@@ -14,7 +14,7 @@ abbrev lead : RequestHead → List ℕ → List ℕ
 lead h rest =
     print_blank h.blank ++ (h.method ++ 32 ∷ (h.target ++ 32 ∷ (print_version h.minor ++ (print_end h.line_end ++ rest))))
 
--- so a head's start line is read, whatever comes after it
+-- A head's start line is read, whatever comes after it.
 starts : (h : RequestHead) (rest : List ℕ) → IsRequestHead h → RequestStart (request_tree h).0 (lead h rest) rest
 starts h rest valid = (
   _,
@@ -26,7 +26,7 @@ starts h rest valid = (
   ),
 )
 
--- a front that an empty line makes a head, without that line's end
+-- A front that an empty line makes a head is this head without that line's end.
 fronts : (front : List ℕ) (h : RequestHead) → front ++ 10 ∷ [] ≡ print_request h ++ [] → front ≡ lead h (flat_map print_field h.fields ++ return_of h.last)
 fronts front h e =
     append_cancel_right front _ (10 ∷ []) (
@@ -38,7 +38,7 @@ fronts front h e =
     regroup : (a b c d e f r l : List ℕ) → a ++ (b ++ 32 ∷ (c ++ 32 ∷ (d ++ (e ++ ((f ++ (r ++ l)) ++ []))))) ≡ (a ++ (b ++ 32 ∷ (c ++ 32 ∷ (d ++ (e ++ (f ++ r)))))) ++ l
     regroup a b c d e f r l = simp (append_assoc, append-nil)
 
--- the bytes begin with its start line and with all its fields
+-- Bytes with too many fields begin with a head's start line and with all these fields.
 begins : (room : ℕ) (text left : List ℕ) (x : RequestExceeds room text) → (w : List ℕ) × (text ++ left ≡ lead x.3 (flat_map print_field x.3.fields ++ w))
 begins room text left x = (
   return_of x.3.last ++ (x.1 ++ left),
@@ -49,6 +49,7 @@ begins room text left x = (
     regroup : (a b c d e f r x l : List ℕ) → ((a ++ (b ++ 32 ∷ (c ++ 32 ∷ (d ++ (e ++ (f ++ r)))))) ++ x) ++ l ≡ a ++ (b ++ 32 ∷ (c ++ 32 ∷ (d ++ (e ++ (f ++ (r ++ (x ++ l)))))))
     regroup a b c d e f r x l = simp append_assoc
 
+-- Bytes that begin with too many fields are no request's head whose fields the limit allows.
 pub exceeds_not : (room : ℕ) (text left : List ℕ) (head : RequestHead) (rest : List ℕ) → RequestExceeds room text
     → ReadsRequest (text ++ left) head rest → length head.fields ≤ room → ⊥
 exceeds_not room text left head rest x reads few =

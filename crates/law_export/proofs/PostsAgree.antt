@@ -16,7 +16,7 @@ use Rattle.law_export.proofs.BodiesAgree.{body_one}
 use Rattle.law_export.proofs.Lacks.{front_of}
 use Rattle.law_export.proofs.PostFields.{exceeds_not}
 
--- no head is where none came
+-- No request's head is where no head came.
 pub lacks_not : (limits : HeadLimits) (text left : List ℕ) (failed : Type 0) (fault : HttpFault) (head : RequestHead) (rest : List ℕ)
     → LacksRequest limits text (Some left) failed fault → ¬ failed → fault ≢ faults.OutOfMemory
     → IsRequestText limits (print_request head) head → text ++ left ≡ print_request head ++ rest → ⊥
@@ -36,7 +36,7 @@ lacks_not limits text left failed faults.OutOfMemory head rest x sound ample is 
 lacks_not limits text left failed faults.BadLength head rest x sound ample is e = x
 lacks_not limits text left failed faults.BadChunk head rest x sound ample is e = x
 
--- fields that are taken aren't refused
+-- Fields that can be kept aren't refused.
 pub refuses_not : (limits : HeadLimits) (head : RequestHead) (fault : HttpFault) → RefusesFields (request_fields head) fault
     → fault ≢ faults.OutOfMemory → All IsTaken (request_fields head) → ⊥
 refuses_not limits head faults.BadHead x ample kept = x kept
@@ -47,7 +47,7 @@ refuses_not limits head faults.BadLength x ample kept = x
 refuses_not limits head faults.BadChunk x ample kept = x
 refuses_not limits head faults.TooLarge x ample kept = x
 
--- two heads at the front of the same bytes are one
+-- Two heads of requests at the front of the same bytes are one.
 pub heads : (bytes : List ℕ) (h k : RequestHead) (taken left other_taken other_left : List ℕ) → IsRequestHead h → IsRequestHead k
     → bytes ≡ (print_request h ++ taken) ++ left → bytes ≡ (print_request k ++ other_taken) ++ other_left
     → (h ≡ k) × (taken ++ left ≡ other_taken ++ other_left)
@@ -90,6 +90,7 @@ post_and_post limits bytes left other_left failed other_failed post other r q so
       body = cc;
     }
 
+-- Bytes that mean a request mean nothing else.
 pub one_post : BytesMeanOnePost
 one_post limits bytes post (Ok other) x y = post_and_post limits bytes x.left y.left _ _ post other x.means y.means x.sound y.sound
 one_post limits bytes post (Err (Head fault)) x y = post_and_head limits bytes x.left y.left _ _ post fault x.means y.means y.sound y.ample

@@ -1,4 +1,4 @@
--- Readers of what is at the front of some bytes, and the faults where it doesn't.
+-- Readers of what is at the front of some bytes, and the faults where it isn't there.
 use Rattle.std.proofs.Common.{◌≡◌, ◌⊎◌, inl, inr, refl, sym, ap, ◌∙◌, ℕ, zero, suc, List, [], ◌∷◌, ◌++◌, length, take, drop, Result, Ok, Err, ◌↔◌, arith, nat_lt, cond, Bool, true, false, ◌<◌, ◌≤◌, ◌+◌, ◌*◌, ◌%◌, ◌/◌, ◌^◌, ◌==◌}
 use Rattle.std.proofs.lemmas.Bool.{ltb-true, ltb-false, lt-ltb, le-ltb, eqb-true, eqb-false, true≢false}
 use Rattle.model_message.specs.Reading.{Fault, truncated, long_varint, bad_number, group, bad_wire_type}
@@ -16,31 +16,36 @@ abbrev fault_in : {A : Type 0} → Fault → Result A Fault → Fault
 fault_in d (Ok x) = d
 fault_in d (Err f) = f
 
+-- Equal results that are errors have equal faults.
 pub err-err : {A : Type 0} (f g : Fault) → ◌≡◌ {A = Result A Fault} (Err f) (Err g) → f ≡ g
 err-err f g e = ap (fault_in f) e
 
--- The reader refuses just what is so.
+-- The reader refuses bytes with a fault just where the relation F holds of both.
 pub record Refuses {A : Type 0} (p : Front A) (F : List ℕ → Fault → Type 0) : Type 0 where
   pub found : (bs : List ℕ) (f : Fault) → p bs ≡ Err f → F bs f
   pub again : (bs : List ℕ) (f : Fault) → F bs f → p bs ≡ Err f
 
+-- A reader that refuses by one relation refuses by each equivalent one.
 pub refuses-as : {A : Type 0} (p : Front A) (F G : List ℕ → Fault → Type 0) → Refuses p F → ((bs : List ℕ) (f : Fault) → F bs f ↔ G bs f) → Refuses p G
 refuses-as p F G h same = record {
   found = λ bs f e. (same bs f).0 (h.found bs f e);
   again = λ bs f g. h.again bs f ((same bs f).1 g);
 }
 
+-- A reader that gives a value refuses nothing.
 pub refuses-give : {A : Type 0} (x : A) → Refuses (give x) (λ bs f. ⊥)
 refuses-give x = record { found = λ bs f e. err-ok f (x, bs) (sym e); again = λ bs f h. absurd h }
 
+-- A reader that fails with a fault refuses all bytes with this fault.
 pub refuses-fail : {A : Type 0} (g : Fault) → Refuses {A = A} (fail g) (λ bs f. f ≡ g)
 refuses-fail {A = A} g = record { found = λ bs f e. sym (err-err {A = A × List ℕ} g f e); again = λ bs f h. ap Err (sym h) }
 
+-- A choice between two readers refuses what the chosen one refuses.
 pub refuses-cond : {A : Type 0} (b : Bool) (p q : Front A) (F : List ℕ → Fault → Type 0) → (b ≡ true → Refuses p F) → (b ≡ false → Refuses q F) → Refuses (cond b p q) F
 refuses-cond true p q F hp hq = hp refl
 refuses-cond false p q F hp hq = hq refl
 
--- the first is refused, or what comes after it
+-- the first part is refused, or the part after it
 abbrev pub Either : {A : Type 0} → (List ℕ → A → Type 0) → (List ℕ → Fault → Type 0) → (A → List ℕ → Fault → Type 0) → List ℕ → Fault → Type 0
 Either {A = A} S F G bs f = F bs f ⊎ ((x : A) × (front : List ℕ) × (rest : List ℕ) × S front x × G x rest f × (bs ≡ front ++ rest))
 
@@ -54,6 +59,7 @@ again-bind : {A B : Type 0} (p : Front A) (q : A → Front B) (S : List ℕ → 
 again-bind p q S F G tp hp hq bs f (inl h) = ap (λ r. after r q) (hp.again bs f h)
 again-bind p q S F G tp hp hq bs f (inr s) = ap (λ l. after (p l) q) s.5 ∙ ap (λ r. after r q) (tp.again s.1 s.2 s.0 s.3) ∙ (hq s.0).again s.2 f s.4
 
+-- Two readers in sequence refuse what the first refuses, or what the second refuses after it.
 pub refuses-bind : {A B : Type 0} (p : Front A) (q : A → Front B) (S : List ℕ → A → Type 0) (F : List ℕ → Fault → Type 0) (G : A → List ℕ → Fault → Type 0) → Takes p S → Refuses p F → ((x : A) → Refuses (q x) (G x)) →
     Refuses (p >>= q) (Either S F G)
 refuses-bind p q S F G tp hp hq = record {
@@ -61,13 +67,14 @@ refuses-bind p q S F G tp hp hq = record {
   again = again-bind p q S F G tp hp hq;
 }
 
+-- A reader whose value is mapped refuses what the reader refuses.
 pub refuses-map : {A B : Type 0} (g : A → B) (p : Front A) (S : List ℕ → A → Type 0) (F : List ℕ → Fault → Type 0) → Takes p S → Refuses p F → Refuses (map_front g p) F
 refuses-map g p S F tp hp = refuses-as _ _ _ (refuses-bind p (λ x. give (g x)) S F (λ x bs f. ⊥) tp hp (λ x. refuses-give (g x))) (λ bs f. (
   λ e. elim e [ inl h ↦ h | inr s ↦ absurd s.4 ],
   λ h. inl h,
 ))
 
--- ---- so many bytes
+-- ---- a number of bytes
 
 abbrev pub IsShort : ℕ → List ℕ → Fault → Type 0
 IsShort n bs f = (length bs < n) × (f ≡ truncated)
@@ -76,6 +83,7 @@ short-found : (n : ℕ) (bs : List ℕ) (f : Fault) (b : Bool) → nat_lt (lengt
 short-found n bs f true e h = (ltb-true _ _ e, sym (err-err {A = List ℕ × List ℕ} truncated f h))
 short-found n bs f false e h = absurd (err-ok f (take n bs, drop n bs) (sym h))
 
+-- A reader of a number of bytes refuses just where fewer are left, as cut off.
 pub refuses-next : (n : ℕ) → Refuses (next_bytes n) (IsShort n)
 refuses-next n = record {
   found = λ bs f e. short-found n bs f (nat_lt (length bs) n) refl e;
@@ -123,20 +131,22 @@ groups-again : (room : ℕ) (bs : List ℕ) (f : Fault) → NoGroups room bs f �
 groups-again room bs f (inl h) = groups-short room bs h.0 h.1 ∙ ap Err (sym h.2)
 groups-again room bs f (inr h) = ap (septets room) h.0.4 ∙ groups-long room h.0.0 h.0.1 h.0.2 h.0.3 ∙ ap Err (sym h.1)
 
+-- A reader of a varint's bytes refuses just where they are cut off or too many.
 pub refuses-groups : (room : ℕ) → Refuses (septets room) (NoGroups room)
 refuses-groups room = record { found = groups-found room; again = groups-again room }
 
--- no varint is there: it is cut off, or ten bytes are high
+-- no varint is there: it is cut off, or ten bytes are at least 128
 abbrev pub NoVarint : List ℕ → Fault → Type 0
 NoVarint bs f = NoGroups 10 bs f
 
+-- A reader of a varint refuses just where no varint is.
 pub refuses-number : Refuses number NoVarint
 unfolding number
 refuses-number = refuses-map (λ n. n % 2 ^ 64) (septets 10) _ (NoGroups 10) (takes-groups 10) (refuses-groups 10)
 
 -- ---- a payload
 
--- after a length fewer bytes are left
+-- no length is there, or fewer bytes are left after it than it says
 abbrev pub NoBytes : List ℕ → Fault → Type 0
 NoBytes bs f = NoVarint bs f ⊎ ((n : ℕ) × (front : List ℕ) × (rest : List ℕ) × IsVarint front n × IsShort n rest f × (bs ≡ front ++ rest))
 
@@ -227,6 +237,7 @@ fixed32-only wire bs f e (of_fixed32 w s) = s
 fixed32-only wire bs f e (of_group w s) = absurd (elim w [ inl x ↦ omega (arith, e, x) | inr x ↦ omega (arith, e, x) ])
 fixed32-only wire bs f e (of_type w s) = absurd (omega (arith, e, w))
 
+-- A reader of a payload refuses just where no payload of its wire type is.
 pub refuses-payload : (wire : ℕ) → Refuses (payload wire) (NoPayload wire)
 unfolding payload
 refuses-payload wire =
@@ -238,7 +249,7 @@ refuses-payload wire =
 
 -- ---- a field
 
--- after a tag: its payload is refused, or its number
+-- after a tag: its payload is refused, or its field number
 abbrev pub NoRest : ℕ → List ℕ → Fault → Type 0
 NoRest tag bs f = ((is_field_number (tag / 8) ≡ true) × NoPayload (tag % 8) bs f) ⊎ ((is_field_number (tag / 8) ≡ false) × (f ≡ bad_number))
 
@@ -250,10 +261,11 @@ takes-if : (b : Bool) (wire : ℕ) → Takes (cond b (payload wire) (fail bad_nu
 takes-if true wire = takes-as _ _ _ (takes-payload wire) (λ bs p. (λ u. (refl, u), λ u. u.1))
 takes-if false wire = takes-as _ _ _ (takes-fail bad_number) (λ bs p. (λ u. absurd u, λ u. absurd (true≢false (sym u.0))))
 
--- no field is there
+-- no field is there: its tag is no varint, or what comes after the tag is refused
 abbrev pub NoField : List ℕ → Fault → Type 0
 NoField bs f = NoVarint bs f ⊎ ((tag : ℕ) × (front : List ℕ) × (rest : List ℕ) × IsVarint front tag × NoRest tag rest f × (bs ≡ front ++ rest))
 
+-- A reader of a field refuses just where no field is.
 pub refuses-field : Refuses field NoField
 unfolding field
 refuses-field = refuses-bind number _ IsVarint NoVarint NoRest takes-number refuses-number (λ tag.

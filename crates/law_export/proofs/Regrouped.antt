@@ -46,16 +46,17 @@ groups-are : (spans : List SpanData) → groups spans ≡ map (resource_group sp
 unfolding groups groups_by
 groups-are spans = map-map _ _ (resources spans)
 
--- what holds of these holds of the groups
+-- A property of the groups as maps of keys holds of the groups.
 of-groups : (spans : List SpanData) (P : List ResourceGroup → Type 0) → P (map (resource_group spans) (resources spans)) → P (groups spans)
 of-groups spans P h = subst P (sym (groups-are spans)) h
 
--- what holds of the group of any resource holds of each group
+-- A property of the group of any resource holds of each group.
 each-group : (spans : List SpanData) (P : ResourceGroup → Type 0) → ((r : Resource) → P (resource_group spans r)) → All P (groups spans)
 each-group spans P h = of-groups spans (All P) (All-map P (resource_group spans) (resources spans) (λ k d within. h (get_or (resources spans) k d)))
 
 -- ---- the laws
 
+-- The groups have each span just as often as the list of spans has it.
 pub all-grouped : (spans : List SpanData) → IsPermutation spans (spans_of (groups spans))
 all-grouped spans = of-groups spans (λ gs. IsPermutation spans (spans_of gs))
     (subst (IsPermutation spans) (sym (flat_map-map (λ g. flat_map (λ h. h.items) g.items) (resource_group spans) (resources spans)))
@@ -67,15 +68,18 @@ all-grouped spans = of-groups spans (λ gs. IsPermutation spans (spans_of gs))
     inside r = subst (IsPermutation (of_resource spans r)) (sym (flat_map-map (λ h. h.items) (scope_group (of_resource spans r)) (scopes (of_resource spans r))))
         (parts-permute scope_eq scope_eq-Decides scope_at (of_resource spans r))
 
+-- A group's spans are those with its resource and scope, in their order.
 pub of-one-scope : (spans : List SpanData) → All (λ g. All (λ h. h.items ≡ filter (is_of g.key h.key) spans) g.items) (groups spans)
 of-one-scope spans = each-group spans (λ g. All (λ h. h.items ≡ filter (is_of g.key h.key) spans) g.items) (λ r.
     All-map (λ h. h.items ≡ filter (is_of r h.key) spans) (scope_group (of_resource spans r)) (scopes (of_resource spans r))
     (λ k d within. filter-filter (λ x. resource_eq r x.resource) (λ x. scope_eq (get_or (scopes (of_resource spans r)) k d) x.scope) spans))
 
+-- No two groups have the same resource.
 pub resource-once : (spans : List SpanData) → AllPairs (λ g h. g.key ≢ h.key) (groups spans)
 resource-once spans = of-groups spans (AllPairs (λ g h. g.key ≢ h.key))
     (all-pairs-map (resource_group spans) (λ g h. g.key ≢ h.key) (resources spans) (distinct-apart resource_eq resource_eq-Decides (map resource_at spans)))
 
+-- No two groups under a resource have the same scope.
 pub scope-once : (spans : List SpanData) → All (λ g. AllPairs (λ h i. h.key ≢ i.key) g.items) (groups spans)
 scope-once spans = each-group spans (λ g. AllPairs (λ h i. h.key ≢ i.key) g.items) (λ r.
     all-pairs-map (scope_group (of_resource spans r)) (λ h i. h.key ≢ i.key) (scopes (of_resource spans r)) (distinct-apart scope_eq scope_eq-Decides (map scope_at (of_resource spans r))))
@@ -87,6 +91,7 @@ map-not-empty f (x ∷ xs) h = not-nothing (f x) (map f xs)
 abbrev HasSpans : ResourceGroup → Type 0
 HasSpans g = (g.items ≢ []) × All (λ h. h.items ≢ []) g.items
 
+-- Each resource has a scope, and each scope has a span.
 pub none-empty : (spans : List SpanData) → All HasSpans (groups spans)
 none-empty spans = of-groups spans (All HasSpans) (All-map HasSpans (resource_group spans) (resources spans)
     (All-weaker (λ r. of_resource spans r ≢ []) (λ r. HasSpans (resource_group spans r)) has (resources spans) (parts-not-empty resource_eq resource_eq-Decides resource_at spans)))
@@ -97,11 +102,13 @@ none-empty spans = of-groups spans (All HasSpans) (All-map HasSpans (resource_gr
       All-map (λ i. i.items ≢ []) (scope_group (of_resource spans r)) (scopes (of_resource spans r)) (parts-not-empty scope_eq scope_eq-Decides scope_at (of_resource spans r)),
     )
 
+-- The resources are in the order of their first spans.
 pub resources-in-order : (spans : List SpanData) → AllPairs (λ g h. first_of_resource g.key spans < first_of_resource h.key spans) (groups spans)
 resources-in-order spans = of-groups spans (AllPairs (λ g h. first_of_resource g.key spans < first_of_resource h.key spans))
     (all-pairs-map (resource_group spans) (λ g h. first_of_resource g.key spans < first_of_resource h.key spans) (resources spans)
     (distinct-in_order resource_eq resource_eq-Decides resource_at spans))
 
+-- The scopes under a resource are in the order of their first spans.
 pub scopes-in-order : (spans : List SpanData) → All (λ g. AllPairs (λ h i. first_of_scope g.key h.key spans < first_of_scope g.key i.key spans) g.items) (groups spans)
 scopes-in-order spans = each-group spans (λ g. AllPairs (λ h i. first_of_scope g.key h.key spans < first_of_scope g.key i.key spans) g.items) (λ r.
     all-pairs-map (scope_group (of_resource spans r)) (λ h i. first_of_scope r h.key spans < first_of_scope r i.key spans) (scopes (of_resource spans r))

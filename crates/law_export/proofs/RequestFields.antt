@@ -29,10 +29,11 @@ later_pairs size = (codes "Content-Type", media) ∷ last_pairs size
 abbrev pub pairs : List ℕ → List ℕ → List NameAndValue
 pairs host size = (codes "Host", host) ∷ later_pairs size
 
+-- The fields of the request's head are its four names and values.
 pub fields_are : (host size : List ℕ) → AreVisible host → AreVisible size → request_fields (head host size) ≡ pairs host size
 fields_are host size host_are size_are = rw (trimmed host host_are, trimmed media media_is, trimmed size size_are, trimmed (codes "close") close_is) refl
 
--- ---- they are taken
+-- ---- the fields can be kept
 
 field_taken : (name value : List ℕ) → is_field_name name ≡ true → AreVisible value → IsTaken (name_and_value (field name value))
 field_taken name value test are = (
@@ -40,18 +41,19 @@ field_taken name value test are = (
   AllPass-trim_ows is_value_byte _ (All-cons (λ b. IsTrue (is_value_byte b)) 32 value refl (value_bytes value are)),
 )
 
+-- All fields of the request's head can be kept.
 pub all_taken : (host size : List ℕ) → AreVisible host → AreVisible size → All IsTaken (request_fields (head host size))
 all_taken host size host_are size_are =
     all_four IsTaken (name_and_value (host_field host)) (name_and_value media_field) (name_and_value (size_field size)) (name_and_value close_field)
     (field_taken (codes "Host") host refl host_are) (field_taken (codes "Content-Type") media refl media_is)
     (field_taken (codes "Content-Length") size refl size_are) (field_taken (codes "Connection") (codes "close") refl close_is)
 
--- ---- they are kept
+-- ---- the fields are kept
 
 abbrev one : List ℕ → List ℕ → List ℕ × List FieldValue
 one name value = (name, plain_value value ∷ [])
 
--- the same as a map keeps them
+-- the same fields as a map keeps them
 abbrev closing : Entries FieldValue
 closing = one (codes "connection") (codes "close") ∷ []
 
@@ -68,12 +70,12 @@ kept host size = one (codes "host") host ∷ later_kept size
 abbrev Agree : Entries FieldValue → List NameAndValue → List ℕ → Type 0
 Agree entries fields name = map (λ v. v.bytes) (get_all entries name) ≡ values_of name fields
 
--- a field more, of another name
+-- One more field of another name changes no value under the name.
 skip : (name value other : List ℕ) (entries : Entries FieldValue) (fields : List NameAndValue) → bytes_eq (lowercase name) other ≡ false
     → Agree entries fields other → Agree (one (lowercase name) value ∷ entries) ((name, value) ∷ fields) other
 skip name value other entries fields differ agree = rw differ agree
 
--- they are the same under a name that is written out
+-- The values are the same under a name if they are so under an equal name that is written out.
 at : (name other : List ℕ) (entries : Entries FieldValue) (fields : List NameAndValue) → bytes_eq name other ≡ true → Agree entries fields name → Agree entries fields other
 at name other entries fields same agree = subst (Agree entries fields) ((bytes_eq-Decides name other).0 same) agree
 
@@ -101,11 +103,13 @@ agree host size name = elim (cases_Bool (bytes_eq (codes "host") name)) [
   | inr f ↦ skip (codes "Host") host name (later_kept size) (later_pairs size) f (agree_later size name)
 ]
 
+-- The map of fields keeps the values of the request's fields under each name.
 pub keeps : (host size : List ℕ) → KeepsFields (kept host size) (pairs host size)
 keeps host size = record { values = agree host size; names = omega arith; count = omega arith }
 
 -- ---- how far the body goes
 
+-- The body of the request is as long as its Content-Length says.
 pub framing_is : (host size : List ℕ) (count : ℕ) → is_length size ≡ true → digits_value 10 size ≡ count → request_framing (pairs host size) ≡ sized count
 framing_is host size count is same =
     ap (λ t. framing_by_length empty (if t then Ok (Some (digits_value 10 size)) else Err faults.BadLength)) is ∙ ap sized same

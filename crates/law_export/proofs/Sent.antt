@@ -37,7 +37,7 @@ pub record Sends (limits : HeadLimits) (host : List ℕ) (port : ℕ) (body : Li
 abbrev pub sent_head : List ℕ → ℕ → List ℕ → RequestHead
 sent_head host port body = head (host_of host port) (decimal (length body))
 
--- its head comes, and then the body
+-- A request that is sent comes as its head and then its body, and the bytes after it are left.
 pub comes_with : (limits : HeadLimits) (host : List ℕ) (port : ℕ) (body behind : List ℕ) → Sends limits host port body
     → ComesWith limits (Some (request_text (traces_at host port) body ++ behind)) (Some behind) (sent_head host port body) body
 comes_with limits host port body behind sends =
@@ -60,13 +60,14 @@ same_fields : (limits : HeadLimits) (host : List ℕ) (port : ℕ) (body : List 
 same_fields limits host port body sends =
     fields_are (host_of host port) (decimal (length body)) (named host port sends.visible sends.fits) (decimal_bytes (length body) sends.allowed.counted)
 
--- the head tells the body's length
+-- The head of a request that is sent says the body's length.
 pub framed : (limits : HeadLimits) (host : List ℕ) (port : ℕ) (body : List ℕ) → Sends limits host port body
     → request_framing (request_fields (sent_head host port body)) ≡ sized (length body)
 framed limits host port body sends =
     let count = length_is (length body) sends.allowed.counted in
     ap request_framing (same_fields limits host port body sends) ∙ framing_is (host_of host port) (decimal (length body)) (length body) count.0 count.1
 
+-- A request that is sent is read as this request, and the bytes after it are left.
 pub is_post : (limits : HeadLimits) (host : List ℕ) (port : ℕ) (body behind : List ℕ) (failed : Type 0) → Sends limits host port body
     → IsPost limits (Some (request_text (traces_at host port) body ++ behind)) (Some behind) failed (post host port body)
 is_post limits host port body behind failed sends = record {
@@ -83,5 +84,6 @@ is_post limits host port body behind failed sends = record {
       (refl, refl, sends.allowed.body_bytes);
 }
 
+-- A request that is sent is not refused for its path, its method or its types.
 pub not_refused : (host : List ℕ) (port : ℕ) (body : List ℕ) → refusal_of (post host port body) ≡ None
 not_refused host port body = refl

@@ -20,10 +20,12 @@ use Rattle.law_export.proofs.Bytes.{host_bytes}
 use Rattle.law_export.proofs.Arrived.{never_failed}
 use Rattle.law_export.proofs.Sent.{is_post, post}
 
+-- The body carries the span.
 pub carried : Carries plain_body batch
 unfolding hex ended_span_of request_with read grouped_triples body_meaning
 carried = (refl, refl)
 
+-- The body means the request that has the span.
 pub means : Reads (meaning Tables.request plain_body) (request_with batch)
 unfolding hex ended_span_of request_with read
 means = (refl, refl)
@@ -36,6 +38,7 @@ allowed : IsAllowed small local plain_body
 unfolding hex request_head digits
 allowed = record { head_bytes = leb-true (length (request_head local (length plain_body))) 127 refl; four_fields = omega arith; body_bytes = omega arith; counted = omega arith }
 
+-- The request comes to a collector whose limits just allow it.
 pub comes : Arrives small local plain_body (Some request_bytes) 0 0
 unfolding hex request_head digits
 comes = record {
@@ -46,7 +49,7 @@ comes = record {
   allowed = allowed;
 }
 
--- the request, as the collector sees it
+-- The bytes of the request are read as this request, and no bytes are left.
 pub came : IsPost small (Some request_bytes) (Some []) (HasFailed 0 0) (post (codes "127.0.0.1") 4318 plain_body)
 came =
     subst (λ bytes. IsPost small (Some bytes) (Some []) (HasFailed 0 0) (post (codes "127.0.0.1") 4318 plain_body)) text

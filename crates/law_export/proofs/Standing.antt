@@ -27,11 +27,11 @@ closed-varint bs h l = record { ended = high-ended bs h; size = simp length-appe
 some : (b : ℕ) (bs : List ℕ) → b ∷ bs ≢ []
 some b bs e = omega (arith, ap length e)
 
--- so many bytes more
+-- Fewer bytes than a number can be filled up to this number.
 filled : (n : ℕ) (bs : List ℕ) → length bs < n → (more : List ℕ) × (more ≢ []) × (length (bs ++ more) ≡ n)
 filled n bs l = (replicate (n - length bs) 0, (λ e. omega (arith, l, sym (length-replicate (n - length bs) 0) ∙ ap length e)), simp (length-append, length-replicate) (omega (arith, l)))
 
--- a tag with a payload after it is a field
+-- A tag with a payload after it is a field.
 a-field : (tag : ℕ) (front rest more : List ℕ) (p : Payload) → IsVarint front tag → is_field_number (tag / 8) ≡ true → wire_type p ≡ tag % 8 → IsPayload (rest ++ more) p → (bs : List ℕ) → bs ≡ front ++ rest →
     IsField (bs ++ more) (record { number = tag / 8; payload = p })
 a-field tag front rest more p v ok type h bs e = let range = and_parts _ _ ok in record {
@@ -44,7 +44,7 @@ a-field tag front rest more p v ok type h bs e = let range = and_parts _ _ ok in
   whole = ap (λ l. l ++ more) e ∙ append_assoc front rest more;
 }
 
--- the payload goes on
+-- more bytes make a payload of this wire type
 abbrev Completes : ℕ → List ℕ → Type 0
 Completes wire rest = (more : List ℕ) × (more ≢ []) × (p : Payload) × (wire_type p ≡ wire) × IsPayload (rest ++ more) p
 
@@ -165,7 +165,7 @@ field-stays : Stays NoField
 field-stays bs more f (inl h) = elim (varint-stays bs more f h) [ inl e ↦ inl e | inr s ↦ inr (inl s) ]
 field-stays bs more f (inr s) = elim (rest-stays s.0 s.2 more f s.4) [ inl e ↦ inl e | inr t ↦ inr (inr (s.0, s.1, s.2 ++ more, s.3, t, behind bs s.1 s.2 more s.5)) ]
 
--- A proper beginning of what is spelled is cut off.
+-- A reader refuses a proper beginning of what it takes as cut off.
 cut-off : {A : Type 0} (p : Front A) (S : List ℕ → A → Type 0) (F : List ℕ → Fault → Type 0) → Takes p S → Refuses p F → Stays F →
     (bs more : List ℕ) (x : A) → more ≢ [] → S (bs ++ more) x → p bs ≡ Err truncated
 cut-off {A = A} p S F tp hp stays bs more x more_some s = go (p bs) refl
@@ -215,5 +215,6 @@ back bs bad_wire_type h = tagged bs h.1 h.0 bad_wire_type h.2 (inl (h.3, of_type
 back bs bad_utf8 h = absurd h
 back bs too_deep h = absurd h
 
+-- The front of some bytes is refused with a fault just where what the fault says is there.
 pub faults-stand : (bs : List ℕ) (f : Fault) → (field bs ≡ Err f) ↔ Stands f bs
 faults-stand bs f = (λ e. stands bs f (refuses-field.found bs f e), back bs f)

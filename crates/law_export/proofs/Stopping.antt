@@ -12,7 +12,7 @@ use Rattle.law_export.proofs.Standing.{faults-stand}
 abbrev stopped : List Field → Fault → Reading (List Field)
 stopped fields f = record { value = fields; faults = f ∷ [] }
 
--- no field at the front
+-- A row with no field at its front stops there, with the fault of that place.
 row-refused : (rest : List ℕ) (f : Fault) → rest ≢ [] → field rest ≡ Err f → row rest ≡ stopped [] f
 unfolding row row_after
 row-refused [] f some e = absurd (some refl)
@@ -38,7 +38,7 @@ rest-of b bs (c ∷ front) rest e g s =
 no-faults : (f : Fault) → [] ≡ f ∷ [] → ⊥
 no-faults f e = omega (arith, ap length e)
 
--- with one field more in front
+-- A row that stops does so too with one more field in front.
 more-front : (bs front rest : List ℕ) (g : Field) (fields : List Field) (f : Fault) → IsField front g → bs ≡ front ++ rest → StopsBehind rest fields f → StopsBehind bs (g ∷ fields) f
 more-front bs front rest g fields f h e s = record {
   front = front ++ s.front;
@@ -71,6 +71,7 @@ row-found [] (suc skip) f h = absurd (no-faults f h)
 row-found (b ∷ bs) (suc skip) f h = row-found bs skip f h
 row-found (b ∷ bs) zero f h = found-at b bs f (λ skip. row-found bs skip f) (field (b ∷ bs)) refl h
 
+-- A row with a fault has just the fields before the first place that has no field.
 pub row-stops-at : (bs : List ℕ) (fields : List Field) (f : Fault) → (row bs ≡ stopped fields f) ↔ StopsBehind bs fields f
 unfolding row
 row-stops-at bs fields f = (λ e. subst (λ l. StopsBehind bs l f) (ap (λ r. r.value) e) (row-found bs 0 f (ap (λ r. r.faults) e)), row-stops bs fields f)

@@ -1,4 +1,4 @@
--- What is lacking is so for one cause; and trailers, where they stand.
+-- A thing that is lacking lacks for one cause, and trailers that are there aren't lacking.
 use Rattle.std.proofs.Common.{◌≡◌, ◌≢◌, ℕ, Bool, ◌+◌, ◌<◌, ◌≤◌, ◌⊎◌, List, [], ◌∷◌, ◌++◌, length, refl, sym, ap, subst, ◌∙◌, inl, inr, true, false, arith, append_assoc, append-nil, length-append, Some}
 use Rattle.std.proofs.lemmas.Bool.{cases_lt, cond-false, false≢true, ne_eqb}
 use Rattle.std.specs.Prelude.{All}
@@ -19,13 +19,13 @@ pub data Lacking (Open Bad : List ℕ → Type 0) (text left : List ℕ) (fault 
   ended : fault ≡ faults.Ended → left ≡ [] → Open text → Lacking Open Bad text left fault
   bad : fault ≡ faults.BadChunk → Bad text → Lacking Open Bad text left fault
 
--- the bytes ended in no text that a bad one begins
+-- The bytes ended in no text that has a bad front.
 ended_not : (Open Bad : List ℕ → Type 0) → ((front rest : List ℕ) → Bad front → Open (front ++ rest) → ⊥)
     → (text left front rest : List ℕ) → left ≡ [] → Open text → Bad front → text ++ left ≡ front ++ rest → ⊥
 ended_not Open Bad clash text left front rest none unfinished never e =
     clash front rest never (subst Open (sym (append-nil text) ∙ ap (λ l. text ++ l) (sym none) ∙ e) unfinished)
 
--- so the same bytes lack it for one cause
+-- The same bytes lack a thing for one cause.
 pub lacking_one : (Open Bad : List ℕ → Type 0) → ((front rest : List ℕ) → Bad front → Open (front ++ rest) → ⊥)
     → (text left other_text other_left : List ℕ) (fault other : HttpFault)
     → Lacking Open Bad text left fault → Lacking Open Bad other_text other_left other → text ++ left ≡ other_text ++ other_left → other ≡ fault
@@ -45,6 +45,7 @@ OpenTrailers limits text =
 abbrev pub BadTrailers : HeadLimits → List ℕ → Type 0
 BadTrailers limits text = HasNoTrailers limits text × (NeverHasSection text ⊎ (length text ≡ limits.head) ⊎ (limits.fields < ended_lines text))
 
+-- Trailers lack since the bytes ended or went wrong, if no read failed and no memory was refused.
 pub trailers_lacking : (limits : HeadLimits) (text left : List ℕ) (failed : Type 0) (fault : HttpFault) → LacksTrailers limits text (Some left) failed fault
     → ¬ failed → fault ≢ faults.OutOfMemory → Lacking (OpenTrailers limits) (BadTrailers limits) text left fault
 trailers_lacking limits text left failed faults.Ended x sound ample = ended refl x.0 (x.1, x.2, x.3, x.4)
@@ -55,6 +56,7 @@ trailers_lacking limits text left failed faults.BadHead x sound ample = absurd x
 trailers_lacking limits text left failed faults.BadLength x sound ample = absurd x
 trailers_lacking limits text left failed faults.TooLarge x sound ample = absurd x
 
+-- A text that went wrong as trailers is no front of a text that trailers can begin with.
 pub trailers_clash : (limits : HeadLimits) (front rest : List ℕ) → BadTrailers limits front → OpenTrailers limits (front ++ rest) → ⊥
 trailers_clash limits front rest never unfinished = elim never.1 [
   | inl none ↦
@@ -72,7 +74,7 @@ trailers_clash limits front rest never unfinished = elim never.1 [
   ]
 ]
 
--- bytes that pass a test which a line feed fails end no line
+-- Bytes that pass a test which a line feed fails end no line.
 no_lines : (test : ℕ → Bool) (text : List ℕ) → test 10 ≡ false → AllPass test text → ended_lines text ≡ 0
 no_lines test [] fails all = refl
 no_lines test (b ∷ text) fails all =
@@ -85,12 +87,12 @@ end_line : (end : LineEnd) → ended_lines (print_end end) ≡ 1
 end_line crlf = refl
 end_line lf = refl
 
--- no line feed is in a name
+-- A name has no line feed.
 token_feed : is_token_byte 10 ≡ false
 unfolding is_token_byte
 token_feed = refl
 
--- a field ends one line
+-- A field ends one line.
 field_line : (field : Field) → IsField field → ended_lines (print_field field) ≡ 1
 field_line field valid =
     let parts = ap ended_lines (regroup field.name field.raw (print_end field.end)) in
@@ -104,7 +106,7 @@ field_line field valid =
     regroup : (a b c : List ℕ) → a ++ 58 ∷ b ++ c ≡ a ++ (58 ∷ (b ++ c))
     regroup a b c = simp (append_assoc, cons-append)
 
--- and fields end as many as they are
+-- Fields end as many lines as they are.
 fields_lines : (fields : List Field) → All IsField fields → ended_lines (flat_map print_field fields) ≡ length fields
 fields_lines [] all = refl
 fields_lines (field ∷ fields) all =
@@ -113,7 +115,7 @@ fields_lines (field ∷ fields) all =
     let rest = fields_lines fields (All-tail IsField field fields all) in
     omega (arith, both, one, rest)
 
--- trailers end one line more than they have fields
+-- Trailers end one line more than they have fields.
 trailers_lines : (limits : HeadLimits) (trailers : Trailers) → IsTrailers limits trailers → ended_lines (print_trailers trailers) ≡ length trailers.fields + 1
 trailers_lines limits trailers valid =
     let both = ended_lines-append (flat_map print_field trailers.fields) (print_end trailers.last) in
@@ -121,7 +123,7 @@ trailers_lines limits trailers valid =
     let last = end_line trailers.last in
     omega (arith, both, fields, last)
 
--- the last byte of a text that goes on
+-- A text that goes on after a front ends with the last byte of what goes on.
 last_goes_on : (front : List ℕ) (more : List ℕ) (b : ℕ) (before : List ℕ) → front ++ more ≡ before ++ b ∷ [] → 0 < length more
     → (rest : List ℕ) × (more ≡ rest ++ b ∷ [])
 last_goes_on [] more b before e some = (before, e)
@@ -133,7 +135,7 @@ last_goes_on (x ∷ front) more b (y ∷ before) e some =
     let tails : front ++ more ≡ before ++ b ∷ [] = cc in
     last_goes_on front more b before tails some
 
--- a proper front of trailers has ended no more lines than they have fields
+-- A proper front of trailers has ended no more lines than the trailers have fields.
 front_lines : (limits : HeadLimits) (trailers : Trailers) (front more : List ℕ) → IsTrailers limits trailers → print_trailers trailers ≡ front ++ more
     → 0 < length more → ended_lines front ≤ length trailers.fields
 front_lines limits trailers front more valid e some =
@@ -144,7 +146,7 @@ front_lines limits trailers front more valid e some =
     let tail = ap ended_lines last.1 ∙ ended_lines-append last.0 (10 ∷ []) in
     omega (arith, all, both, tail)
 
--- no trailers are where they are lacking
+-- No trailers are where trailers are lacking.
 pub trailers_stand : (limits : HeadLimits) (text left : List ℕ) (fault : HttpFault) (trailers : Trailers) (rest : List ℕ)
     → Lacking (OpenTrailers limits) (BadTrailers limits) text left fault → IsTrailers limits trailers → text ++ left ≡ print_trailers trailers ++ rest → ⊥
 trailers_stand limits text left fault trailers rest (ended _ none unfinished) valid e =

@@ -17,14 +17,15 @@ UpdatesNoName c = (name : List ℕ) → c ≢ update_name name
 
 -- ---- events and links
 
--- Of the events of the live calls. (Trace SDK, Span Limits)
+-- The first events of the live calls are kept, and the others are counted. (Trace SDK, Span Limits)
 abbrev pub FirstEventsAreKept : Type 0
 FirstEventsAreKept =
     (limits : SpanLimits) (start : Start) (calls : List Call)
     → KeepsFirst limits.events (filter_map (event_of limits) (live_calls calls))
     (span limits start calls).events
 
--- Of the links of the live calls that aren't ignored. (Trace SDK, Span Limits; Trace API, Link)
+-- The first links of the live calls that aren't ignored are kept, and the others are counted.
+-- (Trace SDK, Span Limits; Trace API, Link)
 abbrev pub FirstLinksAreKept : Type 0
 FirstLinksAreKept =
     (limits : SpanLimits) (start : Start) (calls : List Call)
@@ -39,7 +40,7 @@ OkIsFinal =
     (limits : SpanLimits) (start : Start) (front back : List Call) → NoneEnds front
     → (span limits start (front ++ set_status ok ∷ back)).status ≡ ok
 
--- To set Unset changes nothing.
+-- A call that sets Unset changes nothing.
 abbrev pub UnsetIsIgnored : Type 0
 UnsetIsIgnored =
     (limits : SpanLimits) (start : Start) (front back : List Call)

@@ -47,9 +47,9 @@ pub record IsAllowed (limits : HeadLimits) (address : Address) (body : List ℕ)
   pub body_bytes : length body ≤ limits.body
   pub counted : length body < 2 ^ 64
 
--- The request that carries the body to the address comes to a reader that had these bytes left and
--- so many failures before and after: it has the request's text, and then any bytes, and no read
--- fails. (RFC 9112, section 2.1)
+-- The request that carries the body to the address comes to a reader that had these bytes left:
+-- they are the request's text, and then any bytes, and no read fails, by the counts of failures
+-- before and after it. (RFC 9112, section 2.1)
 pub record Arrives (limits : HeadLimits) (address : Address) (body : List ℕ)
     (bytes : Option (List ℕ)) (before after : ℕ) : Type 0 where
   pub behind : List ℕ
@@ -94,7 +94,7 @@ BatchArrives =
     → Serves limits None old new before after written writes status request
     → IsDelivered spans written writes status request
 
--- The first so many bytes of a reply went out, and not all.
+-- The first `sent` bytes of a reply went out, and not all of them.
 abbrev pub IsCut : PostReply → Option (List ℕ) → Option (List ℕ) → ℕ → Type 0
 IsCut reply written writes sent =
     (sent < length (reply_text reply)) × Appends written writes (take sent (reply_text reply))

@@ -33,7 +33,7 @@ HasType P bs =
     (tag : ℕ) × (rest : List ℕ) × HasTag bs tag rest × (is_field_number (tag / 8) ≡ true)
     × P (tag % 8)
 
--- With some bytes more they are a field, or a varint in the place of the tag.
+-- With some more bytes after them, the bytes are a field, or a varint in the place of the tag.
 abbrev pub IsCutOff : List ℕ → Type 0
 IsCutOff bs =
     (more : List ℕ) × (more ≢ [])
@@ -63,7 +63,7 @@ Stands too_deep bs = ⊥
 abbrev pub FaultsSayWhatStands : Type 0
 FaultsSayWhatStands = (bs : List ℕ) (f : Fault) → (field bs ≡ Err f) ↔ Stands f bs
 
--- After these fields bytes are left that begin with no field, but what the fault says.
+-- After these fields some bytes are left that begin with no field, but with what the fault says.
 pub record StopsBehind (bs : List ℕ) (fields : List Field) (f : Fault) : Type 0 where
   pub front : List ℕ
   pub rest : List ℕ

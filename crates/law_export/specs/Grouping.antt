@@ -34,7 +34,7 @@ ScopeEqDecides = (r s : Scope) → IsTrue (scope_eq r s) ↔ (r ≡ s)
 
 -- ---- the groups
 
--- The groups have each span just as often as it is there.
+-- The groups have each span just as often as the list of spans has it.
 abbrev pub EachSpanIsGrouped : Type 0
 EachSpanIsGrouped = (spans : List SpanData) → IsPermutation spans (spans_of (groups spans))
 
@@ -65,7 +65,7 @@ ResourcesAreInOrder =
     (spans : List SpanData)
     → AllPairs (λ g h. first_of_resource g.key spans < first_of_resource h.key spans) (groups spans)
 
--- So are the scopes under a resource.
+-- The scopes under a resource are in the order of their first spans.
 abbrev pub ScopesAreInOrder : Type 0
 ScopesAreInOrder =
     (spans : List SpanData)

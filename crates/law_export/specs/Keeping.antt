@@ -11,9 +11,9 @@ use Rattle.model_span.specs.Attributes.{Limits, Kept, cut, distinct_of, is_empty
 abbrev pub BeginsWith : {A : Type 0} → List A → List A → Type 0
 BeginsWith {A} xs front = (rest : List A) × (xs ≡ front ++ rest)
 
--- Of all these the first are kept, as many as the limit says, in order. The others are counted, up
--- to the greatest number of 32 bits. (Trace SDK, Span Limits; that the first are kept, and the
--- greatest count: profile)
+-- The first of all these elements are kept, as many as the limit says, in order. The others are
+-- counted, up to the greatest number of 32 bits. (Trace SDK, Span Limits; that the first are kept,
+-- and the greatest count: profile)
 pub record KeepsFirst {A : Type 0} (limit : ℕ) (all : List A) (kept : Kept A) : Type 0 where
   pub front : BeginsWith all kept.items
   pub size : length kept.items ≡ min limit (length all)
@@ -113,7 +113,8 @@ TextIsCut =
     (n : ℕ) (cs : List ℕ) → IsTrue (all_scalars cs)
     → cut (Some n) (text (encode_utf8_all cs)) ≡ text (encode_utf8_all (take n cs))
 
--- So has each text of an array. (Common, Attribute Limits)
+-- Each text of an array has its first characters, as many as the limit says. (Common, Attribute
+-- Limits)
 abbrev pub EachTextIsCut : Type 0
 EachTextIsCut =
     (n : ℕ) (all : List (List ℕ)) → All (λ cs. IsTrue (all_scalars cs)) all

@@ -11,8 +11,8 @@ use Rattle.http_wire.specs.Devices.{HasFailed}
 use Rattle.otlp_http.specs.Heads.{IsInterim}
 use Rattle.otlp_http.specs.Replies.{HttpReply, IsReply, HasNoReply}
 
--- Bytes are a reply, or have this fault in its place, where those are left and a read failed in
--- between or not.
+-- Bytes are a reply, or have this fault in its place, where the other bytes are left and a read
+-- failed in between or not.
 abbrev pub Means : HeadLimits → List ℕ → List ℕ → Type 0 → Result HttpReply HttpFault → Type 0
 Means limits bytes left failed (Ok reply) = IsReply limits (Some bytes) (Some left) failed reply
 Means limits bytes left failed (Err fault) =
@@ -49,7 +49,7 @@ BytesMeanOneReply =
     (limits : HeadLimits) (bytes : List ℕ) (reply : HttpReply) (answer : Result HttpReply HttpFault)
     → IsMeaning limits bytes (Ok reply) → IsMeaning limits bytes answer → answer ≡ Ok reply
 
--- If they mean none, it is for one cause, unless a head has too many fields.
+-- If bytes mean no reply, it is for one cause, unless a head has too many fields.
 abbrev pub BytesMeanOneFault : Type 0
 BytesMeanOneFault =
     (limits : HeadLimits) (bytes : List ℕ) (fault other : HttpFault)

@@ -12,8 +12,8 @@ use Rattle.otlp_serve.specs.declared.fault.PostFault.TheVariants.{Head, Body}
 use Rattle.otlp_serve.specs.Answers.{field_values}
 use Rattle.otlp_serve.specs.Posts.{HttpPost, IsPost, HasNoPost}
 
--- Bytes are a request, or have this fault in its place, where those are left and a read failed in
--- between or not.
+-- Bytes are a request, or have this fault in its place, where the other bytes are left and a read
+-- failed in between or not.
 abbrev pub MeansPost : HeadLimits → List ℕ → List ℕ → Type 0 → Result HttpPost PostFault → Type 0
 MeansPost limits bytes left failed (Ok post) = IsPost limits (Some bytes) (Some left) failed post
 MeansPost limits bytes left failed (Err fault) =
@@ -67,8 +67,8 @@ pub record StopsInBadTarget (limits : HeadLimits) (bytes : List ℕ) : Type 0 wh
   pub inside : EndsInTarget text
   pub never : NeverHasRequest text
 
--- If they mean none, it is for one cause, unless a head has too many fields or stops in a bad
--- target.
+-- If bytes mean no request, it is for one cause, unless a head has too many fields or stops in a
+-- bad target.
 abbrev pub BytesMeanOnePostFault : Type 0
 BytesMeanOnePostFault =
     (limits : HeadLimits) (bytes : List ℕ) (fault other : PostFault)

@@ -1,4 +1,4 @@
-//! Laws of the faults that a row of fields may have: what is where no field does.
+//! Laws of the faults that a row of fields may have: what is at a place where no field is.
 ghost use Rattle.law_export.specs.Faults.{FaultsSayWhatStands, RowStopsAtTheFault};
 
 /// Where no field is at the front of some bytes, the fault says what is there: a field that

@@ -1,5 +1,5 @@
-//! A batch of one span, whose request and replies were written out by hand: what the laws speak of
-//! can be.
+//! A batch of one span, whose request and replies were written out by hand, as an example that what
+//! the laws speak of is possible.
 
 ghost use Rattle.std.specs.Prelude.{None, Some, []};
 ghost use Rattle.otlp_collector.specs.Answering.{Serves};

@@ -1,4 +1,4 @@
--- What a right history does at the queue, and where its last batch stands.
+-- What a right history does at the queue, and at what stage its last batch is.
 use Rattle.std.proofs.Common.{◌≡◌, refl, sym, ap, subst, ◌∙◌, ℕ, ◌+◌, ◌-◌, ◌^◌, ◌<◌, arith, List, [], ◌∷◌, ◌++◌, length, Bool, true, false, ◌||◌, Option, Some, None, slice_get, length-append}
 use Rattle.std.specs.List.{list_any}
 use Rattle.std.proofs.lemmas.List.{append-nil}
@@ -16,7 +16,7 @@ use Rattle.law_run.proofs.Values.{Has, AreOf, has-no-ticket, are-push, are-more}
 
 -- ---- accounts
 
--- where the batch is at the queue
+-- the stage at the queue of a batch with this progress
 abbrev pub stage_of : Progress → Stage
 stage_of not_out = desk.not_out
 stage_of to_encode = in_hand
@@ -42,7 +42,7 @@ module _ (run : RunConfig) (h : List Answered) (x : Answered) where
   abbrev Does : Option DeskEvent → Type 0
   Does o = event_by run.setup h x.answer x.step ≡ o
 
-  -- a step that ends no span and does nothing at the queue
+  -- A step that ends no span and does nothing at the queue keeps the account.
   pub quiet : EndsNone → Does None → stage_of (progress (h ++ x ∷ [])) ≡ stage_of (progress h) → is_shutdown x.step ≡ false → Account run h → Account run (h ++ x ∷ [])
   quiet e f p s a =
       let many : length (ended_by run.setup (h ++ x ∷ [])) ≡ length (ended_by run.setup h) = ap length e in
@@ -55,7 +55,7 @@ module _ (run : RunConfig) (h : List Answered) (x : Answered) where
         allowed = λ l. subst (AreAllowed run.desk 0) (sym same) (a.allowed (omega (arith, l, many)));
       }
 
-  -- a step that ends no span and does something at the queue
+  -- A step that ends no span and does something at the queue keeps the account.
   pub tells : (y : DeskEvent) → EndsNone → Does (Some y) → ticket_of y ≡ None → stage (desk_events run.setup h ++ y ∷ []) ≡ stage_of (progress (h ++ x ∷ [])) → desk.is_shutdown y ≡ is_shutdown x.step
       → Allowed (desk_of run.desk 0 (desk_events run.setup h)) y → Account run h → Account run (h ++ x ∷ [])
   tells y e f t p s w a =
@@ -70,7 +70,7 @@ module _ (run : RunConfig) (h : List Answered) (x : Answered) where
         allowed = λ l. subst (AreAllowed run.desk 0) (sym more) (allowed-more run.desk 0 (desk_events run.setup h) y (a.allowed (omega (arith, l, many))) w);
       }
 
-  -- a step that ends a span, which is queued or finds the queue full
+  -- A step that ends a span, which is queued or finds the queue full, keeps the account.
   pub ends : (s : SpanData) (y : DeskEvent) → ended_by run.setup (h ++ x ∷ []) ≡ ended_by run.setup h ++ s ∷ [] → Does (Some y) → Has (λ z. slice_get (ended_by run.setup h ++ s ∷ []) z.ticket ≡ Some z) y
       → ticket_of y ≡ Some s.ticket → stage_by y ≡ None → desk.is_shutdown y ≡ false → progress_by x.answer ≡ None → is_shutdown x.step ≡ false
       → (length (ended_by run.setup h) + 1 < 2 ^ 64 - 1 → Allowed (desk_of run.desk 0 (desk_events run.setup h)) y) → Account run h → Account run (h ++ x ∷ [])

@@ -194,14 +194,17 @@ and-three : (a b c : Bool) → (a && (b && c)) ≡ (a && b && c)
 and-three true b c = refl
 and-three false b c = refl
 
+-- A span is late exactly where its first end comes after a shutdown.
 pub late-behind-shutdown : OfRuns LateBehindShutdown
 late-behind-shutdown run h w before later x e = ends-are says_late (λ shut full. shut) tells-late run before x (answer-at run h w before later x e)
 
+-- A span is dropped at its end exactly where the queue is full and was not shut down.
 pub dropped-where-full : OfRuns DroppedWhereFull
 dropped-where-full run h w before later x e =
     ends-are says_full (λ shut full. not shut && full) tells-full run before x (answer-at run h w before later x e)
     ∙ and-three (is_first_end run before x.step) (not (was_shut before)) (is_full run before)
 
+-- A span is queued at its end exactly where there is room and was no shutdown.
 pub queued-where-room : OfRuns QueuedWhereRoom
 queued-where-room run h w before later x e =
     ends-are says_queued (λ shut full. not shut && not full) tells-queued run before x (answer-at run h w before later x e)
@@ -226,6 +229,7 @@ take-told run before given Step.encode = quiet-encode says_taken quiet-taken (λ
 take-told run before given (Step.attempt now) = quiet-attempt says_taken quiet-taken (λ n a o. refl) before (desk_after run before) given.outcome now (progress before)
 take-told run before given (Step.reply now word) = quiet-reply says_taken quiet-taken run before (desk_after run before) now word (progress before)
 
+-- A take gives a batch exactly where one is due and none is out.
 pub taken-where-due : OfRuns TakenWhereDue
 taken-where-due run h w before later x e = let i = answer-at run h w before later x e in ap says_taken i.is ∙ take-told run before i.given x.step
 
@@ -251,6 +255,7 @@ first-taken run before given number size Step.encode k m = absurd (true≢false 
 first-taken run before given number size (Step.attempt now) k m = absurd (true≢false m)
 first-taken run before given number size (Step.reply now word) k m = absurd (true≢false m)
 
+-- A taken batch has the next number and as many waiting spans as a batch may have.
 pub takes-the-first : OfRuns TakesTheFirst
 takes-the-first run h w before later x e number size k =
     let i = answer-at run h w before later x e in

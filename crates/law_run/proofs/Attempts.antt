@@ -1,4 +1,4 @@
--- How often a batch was sent, and what each right answer keeps of that.
+-- How often a batch was sent, and what each right answer keeps of this.
 use Rattle.std.proofs.Common.{◌≡◌, refl, sym, ap, subst, ◌∙◌, ℕ, ◌+◌, ◌<◌, ◌≤◌, ◌==◌, nat_lt, nat_le, min, arith, List, [], ◌∷◌, ◌++◌, length, Bool, true, false, true≢false, cond, ◌&&◌, map, suc, Option, Some, None, option_map, filter_map, length-append}
 use Rattle.std.specs.Prelude.{is_none, if◌then◌else◌}
 use Rattle.std.specs.List.{AllByRecursion, cons_option, range_with_len}
@@ -29,7 +29,8 @@ use Rattle.law_run.proofs.Cases.{size_by, IsSilent, EventCases, by-event, by-ans
 
 -- ---- lists
 
--- after another element
+-- All elements of a list with one more have a property that the list's elements and the new one
+-- have.
 all-more : {A : Type 0} (P : A → Type 0) (xs : List A) (y : A) → AllByRecursion P xs → P y → AllByRecursion P (xs ++ y ∷ [])
 all-more P [] y a p = (p, tt)
 all-more P (x ∷ xs) y a p = (a.0, all-more P xs y a.1 p)
@@ -58,7 +59,7 @@ of-more x (a ∷ told) = by (a.number == x.number) (of-more x told)
     by true e = ap (λ l. a ∷ l) e
     by false e = e
 
--- one more, numbered after those of its batch
+-- Attempts are numbered in order still after one more, numbered after those of its batch.
 order-more : (told : List Attempt) (a : Attempt) → AreNumbered told → a.attempt ≡ length (attempts_with a.number told) + 1 → AreNumbered (told ++ a ∷ [])
 order-more told a o e n = by (a.number == n) refl
   where
@@ -76,7 +77,7 @@ order-more told a o e n = by (a.number == n) refl
         subst (λ l. map (λ (b : Attempt). b.attempt) l ≡ range_with_len 1 (length l)) (sym same)
         (map-append (λ (b : Attempt). b.attempt) (attempts_with n told) (a ∷ []) ∙ (λ i. o n i ++ k i ∷ []) ∙ sym (range-more 1 (length (attempts_with n told))) ∙ ap (range_with_len 1) (sym many))
 
--- ---- what is so after right answers
+-- ---- what holds after right answers
 
 -- A batch that is to be judged had these attempts.
 pub record Judged (config : RetryConfig) (told : List Attempt) (number last : ℕ) (outcome : Outcome) : Type 0 where
@@ -85,13 +86,14 @@ pub record Judged (config : RetryConfig) (told : List Attempt) (number last : �
   pub earlier : List Attempt
   pub ends : told ≡ earlier ++ record { number = number; attempt = last; outcome = outcome } ∷ []
 
--- One that is to be sent again had fewer than it may have.
+-- A batch that is to be sent again had fewer attempts than it may have.
 pub record Retried (config : RetryConfig) (last since moment : ℕ) : Type 0 where
   pub some : 0 < last
   pub few : last < config.attempts
   pub from_then : since ≡ moment
 
--- the last batch, by where it stands: its number, its last attempt, and since when it may be sent
+-- What holds of the last batch at each progress: of its number, its last attempt and the moment
+-- since when it may be sent.
 abbrev pub TriedAt : RetryConfig → List Attempt → ℕ → ℕ → ℕ → Progress → Type 0
 TriedAt config told number last since not_out = Unit {0}
 TriedAt config told number last since to_encode = (last ≡ 0) × (since ≡ 0) × (0 < number)
@@ -150,9 +152,9 @@ moment-some : (h : List Answered) (x : Answered) (n : ℕ) → moment_by x.answe
 unfolding retry_moment
 moment-some h x n e = ap (last_or 0) (some-more (λ x. moment_by x.answer) h x n e) ∙ last-more 0 (filter_map (λ x. moment_by x.answer) h) n
 
--- ---- what an answer says of where the batch stood
+-- ---- what an answer says of the progress that the batch had
 
--- an attempt, by what it is
+-- An attempt is the first of its batch, or one after a moment that a reply said.
 pub data Sends (run : RunConfig) (h : List Answered) (step : Step) (number attempt : ℕ) : Type 0 where
   first : progress h ≡ to_send → attempt ≡ 1 → Sends run h step number attempt
   later : (moment : ℕ) → progress h ≡ to_retry moment → attempt ≡ last_attempt h + 1 → ((now : ℕ) → step ≡ Step.attempt now → moment ≤ now) → Sends run h step number attempt
@@ -249,6 +251,7 @@ module _ (run : RunConfig) (h : List Answered) where
   told-of given (Step.attempt now) = told-attempt given.outcome now (progress h) refl
   told-of given (Step.reply now word) = told-reply now word (progress h) refl
 
+  -- A right answer says of the last batch what its progress allows.
   pub told : (x : Answered) → IsAnswer run h x → Told run h x.step x.answer
   told x i = subst (Told run h x.step) (sym i.is) (told-of i.given x.step)
 
@@ -297,6 +300,7 @@ event-sizes setup before (x ∷ h) = by (event_by setup before x.answer x.step) 
     by None e f = ap (λ o. cons_option o (batch_sizes (events_behind setup (before ++ x ∷ []) h))) e ∙ ap (cons_option (size_by x.answer)) f
     by (Some y) e f = ap (λ o. cons_option o (batch_sizes (events_behind setup (before ++ x ∷ []) h))) e ∙ ap (cons_option (size_by x.answer)) f
 
+-- The desk counts the batches that takes gave.
 pub desk-batches : (run : RunConfig) (h : List Answered) → (desk_after run h).batches ≡ batches h
 unfolding desk_after desk_of desk_events
 desk-batches run h = ap length (event-sizes run.setup [] h)
@@ -359,7 +363,7 @@ module _ (run : RunConfig) (h : List Answered) (x : Answered) (t : Tried run h) 
       (record { told_is = attempts-none h x a; number_is = batches-none h x b; last_is = last_attempt-none h x c; since_is = moment-none h x d; progress_is = progress-some h x not_out e })
       (on-end run.retry (attempts h) number last (retry_moment h) (progress h) t)
 
-  -- the attempt after the last one
+  -- An attempt has the number after that of the last one.
   pub numbered : (step : Step) (sent_number attempt : ℕ) → Sends run h step sent_number attempt → attempt ≡ last + 1
   numbered step sent_number attempt (first e k) =
       let s : (last ≡ 0) × (retry_moment h ≡ 0) × (0 < number) = subst (TriedAt run.retry (attempts h) number last (retry_moment h)) e t.stands in
@@ -392,31 +396,37 @@ module _ (run : RunConfig) (h : List Answered) (x : Answered) (t : Tried run h) 
       })
       run.setup x.answer refl k
 
+-- Each right answer keeps what is kept of attempts.
 pub tried-step : (run : RunConfig) (h : List Answered) (x : Answered) → Tried run h → IsAnswer run h x → Tried run (h ++ x ∷ [])
 tried-step run h x t i = after-step run h x t (told run h x i)
 
+-- What is kept of attempts holds before the first step.
 pub tried-none : (run : RunConfig) → Tried run []
 unfolding progress last_attempt retry_moment
 tried-none run = record { stands = tt; counted = refl; below = tt; in_order = λ n. refl }
 
+-- What is kept of attempts holds after right answers.
 pub tried : (run : RunConfig) (h : List Answered) → AreAnswers run h → Tried run h
 tried run h w = by-steps run (Tried run) (tried-step run) h (tried-none run) w
 
--- a batch that is to be sent again had an attempt
+-- A batch that is to be sent again had an attempt.
 pub was-tried : (run : RunConfig) (h : List Answered) → Tried run h → (moment : ℕ) → progress h ≡ to_retry moment → 0 < last_attempt h
 was-tried run h t moment e = let r : Retried run.retry (last_attempt h) (retry_moment h) moment = subst (TriedAt run.retry (attempts h) (batches h) (last_attempt h) (retry_moment h)) e t.stands in r.some
 
 -- ---- the laws
 
+-- Each attempt has the number after those that its batch had.
 pub attempts-are-numbered : OfRuns (λ run. AttemptsAreNumbered)
 attempts-are-numbered run h w before rest x e number attempt outcome k =
     let t : Tried run before = tried run before (front run before (x ∷ rest) (subst (AreAnswers run) (sym e) w)) in
     let s = subst (Told run before x.step) k (told run before x (answer-at run h w before rest x e)) in
     numbered run before x t x.step number attempt s.1 ∙ ap (λ (n : ℕ). n + 1) (sym (ap (λ (n : ℕ). length (attempts_of n before)) (s.0 ∙ desk-batches run before) ∙ t.counted))
 
+-- The attempts of each batch are numbered from 1 on, in order.
 pub attempts-are-in-order : OfRuns (λ run h. AreNumbered (attempts h))
 attempts-are-in-order run h w = let t : Tried run h = tried run h w in t.in_order
 
+-- A batch has at most as many attempts as are configured.
 pub attempts-are-few : OfRuns (OfSettings AttemptsAreFew)
 attempts-are-few run h w valid before rest x e number attempt outcome k =
     let t : Tried run before = tried run before (front run before (x ∷ rest) (subst (AreAnswers run) (sym e) w)) in
@@ -425,11 +435,13 @@ attempts-are-few run h w valid before rest x e number attempt outcome k =
     let f : last_attempt before + 1 ≤ run.retry.attempts = few run before x t x.step number attempt s.1 valid.some in
     omega (arith, n, f)
 
+-- No batch has more than five attempts.
 pub attempts-are-five : OfRuns (OfSettings (λ run. AttemptsAreFiveAtMost))
 attempts-are-five run h w valid before rest x e number attempt outcome k =
     let f : attempt ≤ run.retry.attempts = attempts-are-few run h w valid before rest x e number attempt outcome k in
     let five = valid.few in omega (arith, f, five)
 
+-- No attempt comes before the moment that the last reply said.
 pub no-attempt-is-early : OfRuns (λ run. NoAttemptIsEarly)
 no-attempt-is-early run h w before rest x e now number attempt outcome i k =
     let t : Tried run before = tried run before (front run before (x ∷ rest) (subst (AreAnswers run) (sym e) w)) in
@@ -444,6 +456,7 @@ no-attempt-is-early run h w before rest x e now number attempt outcome i k =
         let r : Retried run.retry (last_attempt before) (retry_moment before) moment = subst (TriedAt run.retry (attempts before) (batches before) (last_attempt before) (retry_moment before)) p t.stands in
         let same = r.from_then in let l = f now i in omega (arith, same, l)
 
+-- What follows from a reply is what follows from the outcome of the last attempt.
 pub replies-are-decided : OfRuns RepliesAreDecided
 replies-are-decided run h w before rest x e now word n next i k =
     let t : Tried run before = tried run before (front run before (x ∷ rest) (subst (AreAnswers run) (sym e) w)) in

@@ -18,7 +18,7 @@ use Rattle.law_run.proofs.Answered.{taken-where-due}
 use Rattle.law_run.proofs.Accounts.{Account, stage_of}
 use Rattle.law_run.proofs.Steps.{account}
 
--- ---- where the last batch stands
+-- ---- whether the last batch is out
 
 abbrev is_out : Progress → Bool
 is_out not_out = false
@@ -31,7 +31,7 @@ last-behind : {A : Type 0} (d : A) (xs : List A) (y : A) (ys : List A) → last_
 last-behind d [] y ys = refl
 last-behind d (x ∷ xs) y ys = last-behind x xs y ys
 
--- what is said of a batch that is out, but for its end
+-- An answer that says where a batch is, and doesn't end it, says that it is out.
 abbrev TellsOut : Answer → Type 0
 TellsOut a = (p : Progress) → ends_batch a ≡ false → progress_by a ≡ Some p → is_out p ≡ true
 
@@ -64,7 +64,7 @@ or-right : (b c : Bool) → (b || c) ≡ false → c ≡ false
 or-right true c e = absurd (true≢false e)
 or-right false c e = e
 
--- it stays out where it isn't ended
+-- A batch stays out where no answer ends it.
 stays-out : (setup : Setup) (p : Progress) (between : List Answered) → is_out p ≡ true → list_any (λ z. ends_batch z.answer) between ≡ false → is_out (last_or p (filter_map (λ z. progress_by z.answer) between)) ≡ true
 stays-out setup p [] o n = o
 stays-out setup p (z ∷ between) o n = by (progress_by z.answer) refl (λ q k. stays-out setup q between k (or-right (ends_batch z.answer) (list_any (λ z. ends_batch z.answer) between) n))
@@ -74,7 +74,7 @@ stays-out setup p (z ∷ between) o n = by (progress_by z.answer) refl (λ q k. 
     by None e rest = rest p o
     by (Some q) e rest = rest q (told-out setup z.answer q (or-left (ends_batch z.answer) (list_any (λ z. ends_batch z.answer) between) n) e)
 
--- after a take
+-- After a take a batch is out, until an answer ends it.
 taken-out : (setup : Setup) (before between : List Answered) (x : Answered) → progress_by x.answer ≡ Some to_encode → list_any (λ z. ends_batch z.answer) between ≡ false → is_out (progress (before ++ x ∷ between)) ≡ true
 unfolding progress
 taken-out setup before between x e n =
@@ -122,6 +122,7 @@ not-out : (run : RunConfig) (h : List Answered) → Account run h → is_none (d
 unfolding desk_after desk_of
 not-out run h a e = stage-none (progress h) (last_batch (desk_events run.setup h)) (last_size (desk_events run.setup h)) (ap (λ s. is_none (out_as s (last_batch (desk_events run.setup h)) (last_size (desk_events run.setup h)))) (sym a.stands) ∙ e)
 
+-- Between two takes that give batches, an answer ends the first of these.
 pub one-batch-is-out : OfRuns (λ run. OneBatchIsOut)
 one-batch-is-out run h all before between later x y e t u = by (list_any (λ z. ends_batch z.answer) between) refl
   where

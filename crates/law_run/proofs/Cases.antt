@@ -13,7 +13,7 @@ use Rattle.model_run.specs.Answers.{progress_by, attempts_by}
 use Rattle.model_run.specs.Headline.{attempt_by}
 use Rattle.law_run.specs.Laws.{says_taken, ends_batch, moment_by, lost_by}
 
--- how many spans a batch has that is taken
+-- how many spans a taken batch has
 abbrev pub size_by : Answer → Option ℕ
 size_by (taken number size) = Some size
 size_by _ = None
@@ -41,10 +41,11 @@ pub record EventCases (step : Step) (P : Answer → Option DeskEvent → Type 0)
   pub of_dropped : (number : ℕ) (reason : Reason) → P (Answer.dropped number reason) (Some (desk.dropped reason))
   pub of_sent : (number attempt : ℕ) (outcome : Outcome) → P (sent number attempt outcome) (if attempt == 1 then Some desk.handed else None)
   pub of_replied : (number : ℕ) (next : Next) → P (replied number next) (option_map desk.settled (fate_of next))
-  -- those that do nothing there and say nothing of a batch
+  -- the answers that do nothing at the queue and say nothing of a batch
   pub of_other : (a : Answer) → IsSilent a → P a None
 
 module _ (setup : Setup) (before : List Answered) (step : Step) (P : Answer → Option DeskEvent → Type 0) (c : EventCases step P) where
+  -- What is shown of each case of an answer, with what it does at the queue, holds of every answer.
   pub by-event : (a : Answer) → P a (event_by setup before a step)
   by-event (ended (queued n)) = c.of_queued n (span_of_end setup before step n)
   by-event (ended (Ended.dropped n queue_full)) = c.of_full n (span_of_end setup before step n)
@@ -82,7 +83,7 @@ pub record AnswerCases (P : Answer → Type 0) : Type 0 where
   pub of_dropped : (number : ℕ) (reason : Reason) → P (Answer.dropped number reason)
   pub of_sent : (number attempt : ℕ) (outcome : Outcome) → P (sent number attempt outcome)
   pub of_replied : (number : ℕ) (next : Next) → P (replied number next)
-  -- those that say nothing of a batch
+  -- the answers that say nothing of a batch
   pub of_other : (a : Answer) → IsSilent a → P a
 
 answer-cases : (step : Step) (P : Answer → Type 0) → AnswerCases P → EventCases step (λ a o. P a)
@@ -100,5 +101,6 @@ answer-cases step P c = record {
   of_other = c.of_other;
 }
 
+-- What is shown of each case of an answer holds of every answer.
 pub by-answer : (P : Answer → Type 0) → AnswerCases P → Setup → (a : Answer) → P a
 by-answer P c setup a = by-event setup [] Step.flush (λ a o. P a) (answer-cases Step.flush P c) a

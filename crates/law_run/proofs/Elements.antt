@@ -12,7 +12,7 @@ times-cons n x xs = sum_by-cons (λ (t : ℕ). cond (t == n) 1 0) x xs
 times-own : (x : ℕ) (xs : List ℕ) → times x (x ∷ xs) ≡ 1 + times x xs
 times-own x xs = times-cons x x xs ∙ ap (λ b. cond b 1 0 + times x xs) (eq-eqb x x refl)
 
--- the others, where one is taken out
+-- the other elements of a list, where one is taken out
 record Without (x : ℕ) (ys : List ℕ) : Type 0 where
   others : List ℕ
   are : IsPermutation ys (x ∷ others)
@@ -31,6 +31,7 @@ without x (y ∷ ys) l = by (y == x) refl (λ k. without x ys k)
           are = IsPermutation-trans (y ∷ ys) (y ∷ x ∷ rest.others) (x ∷ y ∷ rest.others) (IsPermutation-cons y ys (x ∷ rest.others) rest.are) (IsPermutation-middle (y ∷ []) x rest.others);
         }
 
+-- Two lists in which each number is equally often have the same elements.
 pub same-elements : (xs ys : List ℕ) → ((n : ℕ) → times n xs ≡ times n ys) → IsPermutation xs ys
 same-elements [] [] e = IsPermutation-refl []
 same-elements [] (y ∷ ys) e = let t = times-own y ys in let same = e y in absurd (omega (arith, t, same))

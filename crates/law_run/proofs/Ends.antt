@@ -20,6 +20,7 @@ told step answer = record { step = step; answer = answer }
 
 -- ---- starts
 
+-- No span ends by a start.
 pub start-ends-none : (setup : Setup) (h : List Answered) (sc : ℕ) (p : Parent) (k : Kind) (at : ℕ) (name : List ℕ) (answer : Answer) → ended_by setup (h ++ told (Step.start sc p k at name) answer ∷ []) ≡ ended_by setup h
 start-ends-none setup h sc p k at name answer = by (is_shut h) refl
   where
@@ -35,10 +36,12 @@ start-ends-none setup h sc p k at name answer = by (is_shut h) refl
 abbrev pub is_first : List Answered → ℕ → Call → Bool
 is_first h n c = is_end c && nat_lt n (start_count (span_steps h)) && not (list_any is_end (calls_so_far h n))
 
--- what it exports
+-- what the call exports
 abbrev pub exports : Setup → List Answered → ℕ → Call → List SpanData
 exports setup h n c = with_tickets (length (ended_by setup h)) (option_to_list (exported_of (calls_so_far h n ++ c ∷ []) (slice_get (start_results setup (span_steps h)) n)))
 
+-- A call before the shutdown ends the span that it exports, if it is the first end of a started
+-- span.
 pub call-open : (setup : Setup) (h : List Answered) (n : ℕ) (c : Call) (answer : Answer) → is_refused answer ≡ false → is_shut h ≡ false
     → ended_by setup (h ++ told (Step.call n c) answer ∷ []) ≡ ended_by setup h ++ cond (is_first h n c) (exports setup h n c) []
 call-open setup h n c answer r e = opened ∙ by (is_end c) refl (nat_lt n (start_count (span_steps h))) refl (list_any is_end (calls_so_far h n)) refl
@@ -58,7 +61,7 @@ call-open setup h n c answer r e = opened ∙ by (is_end c) refl (nat_lt n (star
         (ended-more setup (span_steps h) n c f (ltb-true n _ g) k).0
         ∙ ap (λ es. es ++ with_tickets (length es) (option_to_list (exported_of (calls_so_far h n ++ c ∷ []) (slice_get (start_results setup (span_steps h)) n)))) (sym (ended-open setup h e))
 
--- a call that exports nothing, whether or not there was a shutdown
+-- A call that exports nothing ends no span, whether or not there was a shutdown.
 pub call-ends-none : (setup : Setup) (h : List Answered) (n : ℕ) (c : Call) (answer : Answer) → is_refused answer ≡ false → cond (is_first h n c) (exports setup h n c) [] ≡ [] → ended_by setup (h ++ told (Step.call n c) answer ∷ []) ≡ ended_by setup h
 call-ends-none setup h n c answer r none = by (is_shut h) refl
   where
@@ -70,17 +73,18 @@ if-none : {A : Type 0} (b : Bool) (xs : List A) → xs ≡ [] → cond b xs [] �
 if-none true xs e = e
 if-none false xs e = refl
 
--- no such span
+-- A start that made no span exports nothing, whatever calls follow.
 exports-missing : (calls : List Call) (o : Option StartResult) → option_and_then (λ o. o.span) o ≡ None → exported_of calls o ≡ None
 exports-missing calls None e = refl
 exports-missing calls (Some r) e = ap (option_and_then (exported_if_sampled calls)) e
 
+-- No span ends by a call on a span that doesn't exist.
 pub missing-ends-none : (setup : Setup) (h : List Answered) (n : ℕ) (c : Call) (answer : Answer) → is_refused answer ≡ false → span_at setup h n ≡ None → ended_by setup (h ++ told (Step.call n c) answer ∷ []) ≡ ended_by setup h
 missing-ends-none setup h n c answer r e =
     call-ends-none setup h n c answer r
     (if-none (is_first h n c) (exports setup h n c) (ap (λ o. with_tickets (length (ended_by setup h)) (option_to_list o)) (exports-missing (calls_so_far h n ++ c ∷ []) (slice_get (start_results setup (span_steps h)) n) e)))
 
--- no end, or a second one
+-- No span ends by a call that is no end or is a second end.
 pub later-ends-none : (setup : Setup) (h : List Answered) (n : ℕ) (c : Call) (answer : Answer) → is_refused answer ≡ false → (is_end c && not (list_any is_end (calls_so_far h n))) ≡ false → ended_by setup (h ++ told (Step.call n c) answer ∷ []) ≡ ended_by setup h
 later-ends-none setup h n c answer r e = call-ends-none setup h n c answer r (ap (λ b. cond b (exports setup h n c) []) (by (is_end c) (nat_lt n (start_count (span_steps h))) (not (list_any is_end (calls_so_far h n))) e))
   where
@@ -89,7 +93,7 @@ later-ends-none setup h n c answer r e = call-ends-none setup h n c answer r (ap
     by true false b e = refl
     by false l b e = refl
 
--- one that isn't sampled
+-- No span ends by a call on a span that isn't sampled.
 pub unsampled-ends-none : (setup : Setup) (h : List Answered) (n : ℕ) (c : Call) (answer : Answer) (s : StartedSpan) → is_refused answer ≡ false → span_at setup h n ≡ Some s → is_sampled s.decision ≡ false → ended_by setup (h ++ told (Step.call n c) answer ∷ []) ≡ ended_by setup h
 unsampled-ends-none setup h n c answer s r e d =
     let none : exported_of (calls_so_far h n ++ c ∷ []) (slice_get (start_results setup (span_steps h)) n) ≡ None =
@@ -108,6 +112,7 @@ has-started setup h n s e = by (slice_get (start_results setup (span_steps h)) n
     by None f g = cc
     by (Some r) f g = lt-ltb n (start_count (span_steps h)) (rw (outcomes-many setup (span_steps h)) at (slice_get_within (start_results setup (span_steps h)) n r f))
 
+-- The first end of a sampled span before the shutdown ends it, with the next ticket.
 pub first-end-ends : (setup : Setup) (h : List Answered) (n : ℕ) (c : Call) (answer : Answer) (s : StartedSpan) → is_refused answer ≡ false → is_shut h ≡ false → is_end c ≡ true → list_any is_end (calls_so_far h n) ≡ false → span_at setup h n ≡ Some s → is_sampled s.decision ≡ true
     → ended_by setup (h ++ told (Step.call n c) answer ∷ []) ≡ ended_by setup h ++ exported_next setup h n c s ∷ []
 first-end-ends setup h n c answer s r o e f g d =
@@ -141,6 +146,7 @@ one-more setup h Step.encode answer = same-ended setup h Step.encode answer (end
 one-more setup h (Step.attempt now) answer = same-ended setup h (Step.attempt now) answer (ended-none setup h (told (Step.attempt now) answer) refl)
 one-more setup h (Step.reply now word) answer = same-ended setup h (Step.reply now word) answer (ended-none setup h (told (Step.reply now word) answer) refl)
 
+-- A span that has ended keeps its ticket and its value, whatever follows.
 pub ended-stay : OfHistories EndedSpansStay
 ended-stay setup h [] = ([], ap (ended_by setup) (append-nil h) ∙ sym (append-nil (ended_by setup h)))
 ended-stay setup h (x ∷ more) =
@@ -191,5 +197,6 @@ none-ended : (setup : Setup) → length (ended_by setup []) ≤ 0
 unfolding ended_by
 none-ended setup = omega arith
 
+-- No more spans end than there are steps.
 pub ended-are-few : OfHistories EndedAreFew
 ended-are-few setup h = few-behind setup [] h (none-ended setup)

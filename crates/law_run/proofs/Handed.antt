@@ -30,7 +30,7 @@ use Rattle.law_run.proofs.Steps.{Accounts, accounts-step, accounts-none}
 
 -- ---- lists
 
--- each is one of so many batches
+-- each number is that of one of the first `most` batches
 abbrev AreBatches : ℕ → List ℕ → Type 0
 AreBatches most numbers = AllByRecursion (λ (n : ℕ). (0 < n) × (n ≤ most)) numbers
 
@@ -61,7 +61,7 @@ handed-more : (events : List DeskEvent) (o : Option DeskEvent) → handed_spans 
 handed-more events None = ap handed_spans (append-nil events) ∙ sym (append-nil (handed_spans events))
 handed-more events (Some y) = gather-more spans_handed_by events y
 
--- nothing; nothing, since the batch had been handed over; or the last batch
+-- An answer hands over nothing, or nothing since the batch had been handed over, or the last batch.
 data Hands (events : List DeskEvent) (a : Answer) (o : Option DeskEvent) : Type 0 where
   none : attempt_by a ≡ None → hands events o ≡ [] → Hands events a o
   again : (number attempt : ℕ) (outcome : Outcome) → a ≡ sent number attempt outcome → hands events o ≡ [] → (attempt ≡ 1 → ⊥) → Hands events a o
@@ -100,7 +100,7 @@ hands-are events step = record {
 
 -- ---- the numbers of the batches
 
--- a batch has its number among these where it had an attempt
+-- A batch has its number among those of the attempts just where it had an attempt.
 among : (n : ℕ) (told : List Attempt) → list_any (λ m. m == n) (map (λ (a : Attempt). a.number) told) ≡ nat_lt 0 (length (attempts_with n told))
 among n [] = refl
 among n (a ∷ told) = by (a.number == n) (among n told)
@@ -142,7 +142,7 @@ module _ (run : RunConfig) (h : List Answered) (x : Answered) (p : HandedOver ru
   grows : desk_events run.setup (h ++ x ∷ []) ≡ events ++ option_to_list event
   grows = events-more run.setup h x event refl
 
-  -- what was done before is allowed too
+  -- What was done at the queue before the step is allowed too.
   was-allowed : IsAllowed run (h ++ x ∷ []) → IsAllowed run h
   was-allowed l = front-allowed run.desk 0 events (option_to_list event) (subst (AreAllowed run.desk 0) grows l)
 
@@ -152,7 +152,7 @@ module _ (run : RunConfig) (h : List Answered) (x : Answered) (p : HandedOver ru
   stays : IsAllowed run (h ++ x ∷ []) → (n : ℕ) → 0 < n → n ≤ last_batch events → batch_spans events n ≡ batch_spans (events ++ option_to_list event) n
   stays l n some few = sym (batches-stay run.desk 0 events (option_to_list event) n (allowed-after l) some few)
 
-  -- the batches before have their spans still
+  -- The batches before the step have their spans still.
   before : IsAllowed run (h ++ x ∷ []) → handed_spans events ≡ flat_map (batch_spans (events ++ option_to_list event)) numbers
   before l = p.spans (was-allowed l) ∙ same-spans (batch_spans events) (batch_spans (events ++ option_to_list event)) (last_batch events) (stays l) numbers p.numbers
 
@@ -180,7 +180,7 @@ module _ (run : RunConfig) (h : List Answered) (x : Answered) (p : HandedOver ru
       ∙ (λ i. before l i ++ (ap (batch_spans events) (sym n) ∙ stays l number some (omega (arith, n)) ∙ sym (append-nil (batch_spans (events ++ option_to_list event) number))) i)
       ∙ sym (flat_map-append (batch_spans (events ++ option_to_list event)) numbers (number ∷ [])))
 
-  -- the first attempt is that of the last batch
+  -- The desk numbers its last batch as the events do.
   is-last : (desk_after run h).batches ≡ last_batch events
   unfolding desk_after desk_of
   is-last = refl
@@ -204,7 +204,7 @@ module _ (run : RunConfig) (h : List Answered) (x : Answered) (p : HandedOver ru
     own : number ≡ batches h
     own = let s = said in s.0 ∙ desk-batches run h
 
-    -- so many its batch had
+    -- The attempt's number is one more than its batch had attempts before.
     had : length (attempts_with number (attempts h)) + 1 ≡ attempt
     had =
         let s = said in
@@ -244,5 +244,6 @@ handed-first : (run : RunConfig) → HandedOver run []
 unfolding desk_events ended_by
 handed-first run = record { all = accounts-none run; numbers = tt; spans = λ l. refl }
 
+-- The spans that were handed are those of the batches that had an attempt.
 pub handed-are-the-batches : OfRuns (λ run history. IsAllowed run history → HandedAreTheBatches run.setup history (attempts history))
 handed-are-the-batches run h w = let p : HandedOver run h = by-steps run (HandedOver run) (handed-step run) h (handed-first run) w in p.spans

@@ -28,7 +28,7 @@ added : (events : List DeskEvent) (o : Option DeskEvent) → losses (events ++ o
 added events None = ap losses (append-nil events) ∙ sym (append-nil (losses events))
 added events (Some y) = gather-more losses_by events y
 
--- it is what the answer says
+-- The spans that an event loses are those that the answer says.
 by-answer : (events : List DeskEvent) (step : Step) → EventCases step (λ a o. adds events o ≡ lost_by a (last_spans events))
 by-answer events step = record {
   of_queued = λ n o. by-queued o;
@@ -73,6 +73,7 @@ lost-were-handed run h w l ticket =
     let once = handed-are-not-dropped run.setup h (none-unaccounted-for run h w l) ticket in
     (few, omega (arith, few, once))
 
+-- Lost spans are those of lost batches, were handed, are named once and for reasons of lost ones.
 pub losses-are-named : OfRuns (λ run h. IsAllowed run h → LossesAreNamed run h)
 losses-are-named run h w l = record {
   batches = batches-are-lost run.setup h;

@@ -113,7 +113,7 @@ module _ (run : RunConfig) (h : List Answered) (a : Account run h) (tried : (mom
   after-nothing-sent : (now : ℕ) → After (Step.attempt now) nothing
   after-nothing-sent now = after-nothing (Step.attempt now) (ended-none run.setup h (told (Step.attempt now) nothing) refl) refl
 
-  -- a later attempt is nothing at the queue, where the batch is with the exporter already
+  -- A later attempt does nothing at the queue, since the batch is with the exporter already.
   after-retry : (number attempt now : ℕ) (outcome : Outcome) → 1 < attempt → stage events ≡ with_exporter → After (Step.attempt now) (sent number attempt outcome)
   after-retry number attempt now outcome l e =
       quiet run h (told (Step.attempt now) (sent number attempt outcome)) (ended-none run.setup h (told (Step.attempt now) (sent number attempt outcome)) refl)
@@ -181,7 +181,7 @@ module _ (run : RunConfig) (h : List Answered) (a : Account run h) (tried : (mom
 
   -- ---- ends
 
-  -- admission is open
+  -- Before a shutdown, and with tickets left, spans are admitted.
   open-now : is_shut h ≡ false → length (ended_by run.setup h) + 1 < 2 ^ 64 - 1 → is_closed events ≡ false
   open-now e l = rw (a.shut, e) (by (length (tickets events) == 2 ^ 64 - 1) refl)
     where
@@ -189,7 +189,7 @@ module _ (run : RunConfig) (h : List Answered) (a : Account run h) (tried : (mom
       by false f = refl
       by true f = let n : length (tickets events) ≡ 2 ^ 64 - 1 = eqb-true (length (tickets events)) (2 ^ 64 - 1) f in let m = a.given in absurd (omega (arith, n, m, l))
 
-  -- after a shutdown it is not
+  -- After a shutdown no span is admitted.
   closed-now : is_shut h ≡ true → is_closed events ≡ true
   closed-now e = rw (a.shut, e) refl
 
@@ -269,6 +269,7 @@ module _ (run : RunConfig) (h : List Answered) (a : Account run h) (tried : (mom
 abbrev pub Accounts : RunConfig → List Answered → Type 0
 Accounts run h = Account run h × Tried run h
 
+-- Each right answer keeps the account and what is kept of attempts.
 pub accounts-step : (run : RunConfig) (h : List Answered) (x : Answered) → Accounts run h → IsAnswer run h x → Accounts run (h ++ x ∷ [])
 accounts-step run h x a i = (subst (λ answer. Account run (h ++ told x.step answer ∷ [])) (sym i.is) (after-step run h a.0 (was-tried run h a.1) i.given x.step), tried-step run h x a.1 i)
 
@@ -276,34 +277,42 @@ account-none : (run : RunConfig) → Account run []
 unfolding ended_by desk_events progress AreAllowed
 account-none run = record { are = tt; given = refl; stands = refl; shut = refl; allowed = λ l. tt }
 
+-- The account and what is kept of attempts hold before the first step.
 pub accounts-none : (run : RunConfig) → Accounts run []
 accounts-none run = (account-none run, tried-none run)
 
 accounts : (run : RunConfig) (h : List Answered) → AreAnswers run h → Accounts run h
 accounts run h w = by-steps run (Accounts run) (accounts-step run) h (accounts-none run) w
 
+-- The account holds after right answers.
 pub account : (run : RunConfig) (h : List Answered) → AreAnswers run h → Account run h
 account run h w = (accounts run h w).0
 
 -- ---- what waits, is in batches, or was dropped
 
+-- The spans that wait are spans that ended, each with its ticket and value.
 pub waiting-are-ended : OfRuns (λ run. WaitingAreEnded run.setup)
 waiting-are-ended run h w = let a : Account run h = account run h w in values.waiting-are-ended run.setup h a.are
 
+-- The spans of each batch are spans that ended, each with its ticket and value.
 pub batches-are-ended : OfRuns (λ run. BatchesAreEnded run.setup)
 batches-are-ended run h w = let a : Account run h = account run h w in values.batches-are-ended run.setup h a.are
 
+-- The names of lost spans are those of spans that ended, each with its ticket.
 pub losses-name-ended : OfRuns (λ run. LossesNameEnded run.setup)
 losses-name-ended run h w = let a : Account run h = account run h w in values.losses-name-ended run.setup h a.are
 
+-- The names of dropped spans are those of spans that ended, each with its ticket.
 pub drops-name-ended : OfRuns (λ run. DropsNameEnded run.setup)
 drops-name-ended run h w = let a : Account run h = account run h w in values.drops-name-ended run.setup h a.are
 
 -- ---- no span is unaccounted for
 
+-- What is done at the queue is allowed where there are tickets for all spans that end.
 pub events-are-allowed : OfRuns EventsAreAllowed
 events-are-allowed run h w l = (account run h w).allowed l
 
+-- Each span that ended before the shutdown is handed, still queued, or dropped, once.
 pub none-unaccounted-for : OfRuns NoneUnaccountedFor
 none-unaccounted-for run h w l =
     let a : Account run h = account run h w in
@@ -311,11 +320,12 @@ none-unaccounted-for run h w l =
     each-once run.desk 0 (desk_events run.setup h) l ticket ∙ ap (λ (n : ℕ). if nat_lt ticket n then 1 else 0) a.given ∙ sym (times-below ticket (length (ended_by run.setup h))) in
     same-elements (places (desk_events run.setup h)) (numbers_below (length (ended_by run.setup h))) many
 
--- how often a ticket is in the places
+-- A ticket is in the places once if a span ended with it, else not at all.
 often : (setup : Setup) (h : List Answered) → EachOnce setup h → (ticket : ℕ) → times ticket (places (desk_events setup h)) ≡ (if nat_lt ticket (length (ended_by setup h)) then 1 else 0)
 often setup h once ticket =
     sym (sum_by-IsPermutation (λ (t : ℕ). cond (t == ticket) 1 0) (places (desk_events setup h)) (numbers_below (length (ended_by setup h))) once) ∙ times-below ticket (length (ended_by setup h))
 
+-- No handed span is named as dropped, and neither is done twice.
 pub handed-are-not-dropped : OfHistories (λ setup h. EachOnce setup h → HandedAreNotDropped setup h)
 handed-are-not-dropped setup h once ticket =
     let sum = in-places (λ t. t == ticket) (desk_events setup h) in
@@ -338,6 +348,7 @@ due-closed true false c d true k = refl
 due-closed true false c d false k = rw k refl
 due-closed false b c d e k = refl
 
+-- After a shutdown each take with no batch out gives a batch where spans wait.
 pub taken-behind-shutdown : OfRuns TakenBehindShutdown
 taken-behind-shutdown run h w before later x e now shut k =
     taken-where-due run h w before later x e ∙ ap (may_take run before) k

@@ -65,7 +65,7 @@ module _ (P : SpanData → Type 0) where
   batch-has es zero a = tt
   batch-has es (suc n) a = all-slice P (batch_sizes es) (accepted_spans es) n (accepted-have es a)
 
-  -- what is dropped has a property of entries
+  -- The entries of dropped and lost spans have a property that names of such spans have.
   module _ (Q : Entry → Type 0) (names : (r : Reason) (s : SpanData) → P s → Q (entry_of r s)) where
     entries-have : (r : Reason) (ss : List SpanData) → AllByRecursion P ss → AllByRecursion Q (map (entry_of r) ss)
     entries-have r [] a = tt
@@ -101,14 +101,14 @@ module _ (P : SpanData → Type 0) where
     loss-names before popped b h = tt
     loss-names before popped_lost b h = tt
 
-    -- so it is with all names, where it is with those that an event adds
+    -- All gathered names have the property where those that each event adds have it.
     gather-names : (adds : List DeskEvent → DeskEvent → List Entry) → ((before : List DeskEvent) (x : DeskEvent) → AllByRecursion Has before → Has x → AllByRecursion Q (adds before x)) → (before es : List DeskEvent) → AllByRecursion Has before → AllByRecursion Has es → AllByRecursion Q (gather adds before es)
     gather-names adds each before [] b a = tt
     gather-names adds each before (x ∷ es) b a =
         all-append Q (adds before x) (gather adds (before ++ x ∷ []) es) (each before x b a.0)
         (gather-names adds each (before ++ x ∷ []) es (all-append Has before (x ∷ []) b (a.0, tt)) a.1)
 
--- ---- one more event, and more that is so
+-- ---- one more event, and more ended spans
 
 all-map : {A : Type 0} (P Q : A → Type 0) → ((x : A) → P x → Q x) → (xs : List A) → AllByRecursion P xs → AllByRecursion Q xs
 all-map P Q go [] a = tt
@@ -127,7 +127,7 @@ has-map P Q go (desk.settled f) h = tt
 has-map P Q go popped h = tt
 has-map P Q go popped_lost h = tt
 
--- an event that gives no ticket
+-- An event that gives no ticket has any property of its span, since it has no span.
 pub has-no-ticket : (P : SpanData → Type 0) (y : DeskEvent) → ticket_of y ≡ None → Has P y
 has-no-ticket P (desk.queued s) e = cc
 has-no-ticket P (desk.full s) e = cc
@@ -141,10 +141,11 @@ has-no-ticket P (desk.settled f) e = tt
 has-no-ticket P popped e = tt
 has-no-ticket P popped_lost e = tt
 
--- the spans of the events are of these, each at its ticket
+-- The spans of the events are among these ended spans, each at its ticket.
 abbrev pub AreOf : List SpanData → List DeskEvent → Type 0
 AreOf ended es = AllByRecursion (Has (λ s. slice_get ended s.ticket ≡ Some s)) es
 
+-- Events that speak only of ended spans still do so after one more such event.
 pub are-push : (ended : List SpanData) (es : List DeskEvent) (y : DeskEvent) → AreOf ended es → Has (λ s. slice_get ended s.ticket ≡ Some s) y → AreOf ended (es ++ y ∷ [])
 are-push ended es y a h = all-append (Has (λ s. slice_get ended s.ticket ≡ Some s)) es (y ∷ []) a (h, tt)
 
@@ -153,6 +154,7 @@ get-stays [] ys n s e = cc
 get-stays (x ∷ xs) ys zero s e = e
 get-stays (x ∷ xs) ys (suc n) s e = get-stays xs ys n s e
 
+-- Events that speak only of ended spans still do so where more spans have ended.
 pub are-more : (ended more : List SpanData) (es : List DeskEvent) → AreOf ended es → AreOf (ended ++ more) es
 are-more ended more es a =
     all-map (Has (λ s. slice_get ended s.ticket ≡ Some s)) (Has (λ s. slice_get (ended ++ more) s.ticket ≡ Some s))
@@ -164,16 +166,20 @@ module _ (setup : Setup) (h : List Answered) (a : AreOf (ended_by setup h) (desk
   named : (r : Reason) (s : SpanData) → IsEndedSpan setup h s → NamesEndedSpan setup h (entry_of r s)
   named r s e = (s, e, refl)
 
+  -- The waiting spans are ended spans where the events speak only of these.
   pub waiting-are-ended : WaitingAreEnded setup h
   waiting-are-ended = waiting-have (IsEndedSpan setup h) (desk_events setup h) a
 
+  -- The spans of each batch are ended spans where the events speak only of these.
   pub batches-are-ended : BatchesAreEnded setup h
   batches-are-ended number = batch-has (IsEndedSpan setup h) (desk_events setup h) number a
 
+  -- The names of dropped spans are those of ended spans where the events speak only of these.
   pub drops-name-ended : DropsNameEnded setup h
   drops-name-ended =
       gather-names (IsEndedSpan setup h) (NamesEndedSpan setup h) named entries_by (drop-names (IsEndedSpan setup h) (NamesEndedSpan setup h) named) [] (desk_events setup h) tt a
 
+  -- The names of lost spans are those of ended spans where the events speak only of these.
   pub losses-name-ended : LossesNameEnded setup h
   losses-name-ended =
       gather-names (IsEndedSpan setup h) (NamesEndedSpan setup h) named losses_by (loss-names (IsEndedSpan setup h) (NamesEndedSpan setup h) named) [] (desk_events setup h) tt a
@@ -215,7 +221,7 @@ never-popped step = record {
     by-settled None = tt
     by-settled (Some f) = (refl, refl)
 
--- no step takes a name off a ledger
+-- No step of a history takes a name off a ledger.
 events-pop-none : (pops : DeskEvent → Bool) → ((o : Option DeskEvent) → NotPopped o → (y : DeskEvent) → o ≡ Some y → pops y ≡ false) → (setup : Setup) (before h : List Answered) → list_any pops (events_behind setup before h) ≡ false
 events-pop-none pops none setup before [] = refl
 events-pop-none pops none setup before (x ∷ h) = by (event_by setup before x.answer x.step) (by-event setup before x.step (λ a o. NotPopped o) (never-popped x.step) x.answer) (events-pop-none pops none setup (before ++ x ∷ []) h)
@@ -232,10 +238,12 @@ not-popped-lost : (o : Option DeskEvent) → NotPopped o → (y : DeskEvent) →
 not-popped-lost None p y e = cc
 not-popped-lost (Some z) p y e = let same : z ≡ y = cc in ap is_popped_lost (sym same) ∙ p.1
 
+-- The ledger names the spans that were dropped, the newest first.
 pub ledger-names-the-dropped : (run : RunConfig) (h : List Answered) → LedgerNamesTheDropped run h
 unfolding desk_after desk_of desk_events
 ledger-names-the-dropped run h = ledger-names (events_behind run.setup [] h) (events-pop-none is_popped not-popped run.setup [] h)
 
+-- The second ledger names the spans that were lost, the newest first.
 pub ledger-names-the-lost : (run : RunConfig) (h : List Answered) → LedgerNamesTheLost run h
 unfolding desk_after desk_of desk_events
 ledger-names-the-lost run h = lost-names-all (events_behind run.setup [] h) (events-pop-none is_popped_lost not-popped-lost run.setup [] h)
@@ -255,6 +263,7 @@ granted (x ∷ h) e =
     by true false q rest k = refl
     by false false q rest k = (λ i. cons_option (span_step (q i) x.step) (rest k i))
 
+-- Where no memory was refused, the spans that end are those that the steps end.
 pub ended-by-the-steps : OfHistories EndedByTheSteps
 unfolding ended_by
 ended-by-the-steps setup h e = ap (ended_spans setup) (granted h e)

@@ -24,16 +24,16 @@ use Rattle.model_run.specs.Runs as runs
 use Rattle.model_run.specs.Answers.{RunConfig, last_length, desk_after, AreAnswers}
 use Rattle.model_run.specs.Headline.{EachOnce, Attempt, attempts, attempts_of, batch_numbers}
 
--- whatever is done, and whatever of it ends
+-- the property holds whatever is done and whatever is answered
 abbrev pub OfHistories : (Setup → List Answered → Type 0) → Type 0
 OfHistories holds = (setup : Setup) (history : List Answered) → holds setup history
 
--- where each answer is right
+-- the property holds of each run where each answer is right
 abbrev pub OfRuns : (RunConfig → List Answered → Type 0) → Type 0
 OfRuns holds =
     (run : RunConfig) (history : List Answered) → AreAnswers run history → holds run history
 
--- whatever step of a history, after those before it
+-- the property holds of each step of a history, after the steps before it
 abbrev pub AtEachStep : (List Answered → Answered → Type 0) → List Answered → Type 0
 AtEachStep holds history =
     (before later : List Answered) (x : Answered) → before ++ x ∷ later ≡ history
@@ -73,14 +73,14 @@ abbrev pub LateBehindShutdown : RunConfig → List Answered → Type 0
 LateBehindShutdown run = AtEachStep (λ before x.
     says_late x.answer ≡ (is_first_end run before x.step && was_shut before))
 
--- It is dropped at its end exactly where the queue is full and there was no shutdown. (Trace SDK,
--- Batching processor: maxQueueSize)
+-- A span is dropped at its end exactly where the queue is full and there was no shutdown. (Trace
+-- SDK, Batching processor: maxQueueSize)
 abbrev pub DroppedWhereFull : RunConfig → List Answered → Type 0
 DroppedWhereFull run = AtEachStep (λ before x.
     says_full x.answer ≡
     (is_first_end run before x.step && not (was_shut before) && is_full run before))
 
--- It waits exactly where there is room and there was no shutdown.
+-- A span is queued at its end exactly where there is room and there was no shutdown.
 abbrev pub QueuedWhereRoom : RunConfig → List Answered → Type 0
 QueuedWhereRoom run = AtEachStep (λ before x.
     says_queued x.answer ≡
@@ -103,7 +103,7 @@ says_taken _ = false
 abbrev pub TakenWhereDue : RunConfig → List Answered → Type 0
 TakenWhereDue run = AtEachStep (λ before x. says_taken x.answer ≡ may_take run before x.step)
 
--- It has the next number, and as many of the spans that wait as a batch may have. (Trace SDK,
+-- A batch has the next number, and as many of the spans that wait as a batch may have. (Trace SDK,
 -- Batching processor: maxExportBatchSize)
 abbrev pub TakesTheFirst : RunConfig → List Answered → Type 0
 TakesTheFirst run = AtEachStep (λ before x.
@@ -188,20 +188,20 @@ AttemptsAreNumbered = AtEachStep (λ before x.
     (number attempt : ℕ) (outcome : Outcome) → x.answer ≡ sent number attempt outcome
     → attempt ≡ length (attempts_of number before) + 1)
 
--- There are at most as many as are configured. (OTLP Specification, Retryable Response Codes; the
--- number: profile)
+-- A batch has at most as many attempts as are configured. (OTLP Specification, Retryable Response
+-- Codes; the number: profile)
 abbrev pub AttemptsAreFew : RunConfig → List Answered → Type 0
 AttemptsAreFew run = AtEachStep (λ before x.
     (number attempt : ℕ) (outcome : Outcome) → x.answer ≡ sent number attempt outcome
     → attempt ≤ run.retry.attempts)
 
--- No batch has more than five. (profile)
+-- No batch has more than five attempts. (profile)
 abbrev pub AttemptsAreFiveAtMost : List Answered → Type 0
 AttemptsAreFiveAtMost = AtEachStep (λ before x.
     (number attempt : ℕ) (outcome : Outcome) → x.answer ≡ sent number attempt outcome
     → attempt ≤ 5)
 
--- with settings that are taken
+-- the property holds of runs with valid retry settings
 abbrev pub OfSettings : (RunConfig → List Answered → Type 0) → RunConfig → List Answered → Type 0
 OfSettings holds run history = IsRetryConfig run.retry → holds run history
 
@@ -214,7 +214,7 @@ moment_by _ = None
 unfoldable pub retry_moment : List Answered → ℕ
 retry_moment before = last_or 0 (filter_map (λ x. moment_by x.answer) before)
 
--- None comes before that moment. (OTLP Specification, OTLP/HTTP Throttling)
+-- No attempt comes before that moment. (OTLP Specification, OTLP/HTTP Throttling)
 abbrev pub NoAttemptIsEarly : List Answered → Type 0
 NoAttemptIsEarly = AtEachStep (λ before x.
     (now number attempt : ℕ) (outcome : Outcome) → x.step ≡ Step.attempt now
@@ -251,7 +251,8 @@ EndedAreFew setup history = length (ended_by setup history) ≤ length history
 abbrev pub IsAllowed : RunConfig → List Answered → Type 0
 IsAllowed run history = AreAllowed run.desk 0 (desk_events run.setup history)
 
--- So it is, where there are tickets. (Trace SDK, Batching processor)
+-- What is done at the queue is allowed where there are tickets for all spans that end. (Trace SDK,
+-- Batching processor)
 abbrev pub EventsAreAllowed : RunConfig → List Answered → Type 0
 EventsAreAllowed run history =
     HasTickets run.setup history → IsAllowed run history
@@ -289,7 +290,7 @@ lost_by _ spans = []
 
 -- Where a reply settles the batch that is out, and its fate is that it was refused or given up, or
 -- that its reply could not be read, its spans are lost for that reason, in their order. At no other
--- step, and by no other fate, one is. (profile)
+-- step, and by no other fate, a span is lost. (profile)
 abbrev pub BatchesAreLost : Setup → List Answered → Type 0
 BatchesAreLost setup = AtEachStep (λ before x.
     let events = desk_events setup before in
@@ -320,8 +321,8 @@ NamesEndedSpan setup history e =
     (s : SpanData) × (slice_get (ended_by setup history) e.ticket ≡ Some s)
     × (e ≡ entry_of e.reason s)
 
--- So it is with the spans that wait, with those of each batch, and with those that were dropped.
--- (Trace API, End)
+-- The spans that wait, those of each batch and those that were dropped are spans that ended, each
+-- with its value and ticket. (Trace API, End)
 abbrev pub WaitingAreEnded : Setup → List Answered → Type 0
 WaitingAreEnded setup history =
     AllByRecursion (IsEndedSpan setup history) (waiting_spans (desk_events setup history))
@@ -339,9 +340,9 @@ abbrev pub LossesNameEnded : Setup → List Answered → Type 0
 LossesNameEnded setup history =
     AllByRecursion (NamesEndedSpan setup history) (losses (desk_events setup history))
 
--- All of it: a span is in the second ledger exactly where its batch was handed and came to nothing,
--- once, with that reason, its ticket and its identifiers. No dropped span has a reason of lost
--- ones, and each lost one has. (profile)
+-- All of it: a span is in the second ledger exactly where its batch was handed and lost, once, with
+-- that reason, its ticket and its identifiers. No dropped span has a reason of lost spans, and each
+-- lost span has one. (profile)
 pub record LossesAreNamed (run : RunConfig) (history : List Answered) : Type 0 where
   pub batches : BatchesAreLost run.setup history
   pub handed : LostWereHanded run.setup history

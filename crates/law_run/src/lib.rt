@@ -49,10 +49,10 @@ pub fn encodings_are_answered()
     ensures named { OfHistories DroppedBatchIsNamed }
 {}
 
-/// The attempts of a batch are numbered from 1 on, and are as many as are configured at most, and
-/// so five; none comes before the moment that the last reply said. What follows from a reply is
-/// decided by the outcome of the last attempt. (OTLP Specification, Retryable Response Codes,
-/// OTLP/HTTP Throttling)
+/// The attempts of a batch are numbered from 1 on. They are at most as many as are configured, and
+/// so at most five; no attempt comes before the moment that the last reply said. What follows from
+/// a reply is decided by the outcome of the last attempt. (OTLP Specification, Retryable Response
+/// Codes, OTLP/HTTP Throttling)
 pub fn attempts_are_answered()
     ensures numbered { OfRuns (λ run. AttemptsAreNumbered) }
     ensures in_order { OfRuns (λ run history. AreNumbered (attempts history)) }
@@ -93,8 +93,9 @@ pub fn queued_spans_are_ended()
     ensures drops { OfRuns (λ run. DropsNameEnded run.setup) }
 {}
 
-/// The second ledger names the spans of each batch that was handed to the exporter and came to
-/// nothing: each once, with the reason, and as it ended; and no others. (profile)
+/// The second ledger names the spans of each batch that was handed to the exporter and then was
+/// refused, was given up, or had a reply that could not be read: each span once, with the reason,
+/// and as it ended; and no others. (profile)
 pub fn losses_are_named()
     ensures { OfRuns (λ run history. IsAllowed run history → LossesAreNamed run history) }
 {}

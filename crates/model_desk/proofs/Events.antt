@@ -1,4 +1,4 @@
--- What each event makes of a desk: for each the desk that it leaves, whatever events were before.
+-- What each event makes of a desk: the desk that it leaves, whatever events were before it.
 use Rattle.std.proofs.Common.{◌≡◌, refl, sym, ap, ◌∙◌, subst, ℕ, ◌+◌, ◌-◌, ◌^◌, min, arith, List, [], ◌∷◌, ◌++◌, length, take, drop, Bool, true, false, true≢false, cond, ◌||◌, Some, None, length-take}
 use Rattle.std.specs.Prelude.{pos, ◌==◌, if◌then◌else◌, count_by, map, reverse, unwrap_or}
 use Rattle.std.specs.List.{list_any}
@@ -15,13 +15,13 @@ or-none : (b c : Bool) → (b || c) ≡ false → b ≡ false
 or-none true c e = absurd (true≢false e)
 or-none false c e = refl
 
--- a count that stops
+-- A count that stops at its greatest number may be stopped before each step too.
 capped-more : (n : ℕ) → capped (n + 1) ≡ capped (capped n + 1)
 capped-more n = omega arith
 
 -- ---- counts of reasons and of fates
 
--- a number with so many more, where this is so
+-- A number plus another one if the condition holds.
 abbrev raised : Bool → ℕ → ℕ → ℕ
 raised true k n = n + k
 raised false k n = n
@@ -33,7 +33,7 @@ raised-is false k n = omega arith
 count-reasons : (reason : Reason) (xs ys : List Entry) → count_of_reason reason (xs ++ ys) ≡ count_of_reason reason xs + count_of_reason reason ys
 count-reasons reason xs ys = sum_by-append (λ (e : Entry). cond (is_reason reason e.reason) 1 0) xs ys
 
--- spans dropped for one reason
+-- Entries of one reason count for that reason as many as there are spans, and none for others.
 count-named : (r reason : Reason) (spans : List SpanData) → count_of_reason r (map (entry_of reason) spans) ≡ cond (is_reason r reason) (length spans) 0
 count-named r reason [] = go (is_reason r reason)
   where
@@ -49,7 +49,7 @@ count-named r reason (s ∷ spans) = count-reasons r (entry_of reason s ∷ []) 
 counted : (r reason : Reason) (xs : List Entry) (spans : List SpanData) → count_of_reason r (xs ++ map (entry_of reason) spans) ≡ raised (is_reason r reason) (length spans) (count_of_reason r xs)
 counted r reason xs spans = count-reasons r xs (map (entry_of reason) spans) ∙ ap (λ (n : ℕ). count_of_reason r xs + n) (count-named r reason spans) ∙ raised-is (is_reason r reason) (length spans) (count_of_reason r xs)
 
--- each count is raised where it is that of the reason
+-- Each count is raised where it is that of the reason.
 with-drops : (reason : Reason) (n : ℕ) (counts : DropCounts) → record {
   queue_full = raised (is_reason Reason.queue_full reason) n counts.queue_full;
   encode_memory = raised (is_reason Reason.encode_memory reason) n counts.encode_memory;
@@ -65,6 +65,7 @@ with-drops Reason.bad_reply n counts = refl
 with-drops Reason.given_up n counts = refl
 with-drops Reason.left_handed n counts = refl
 
+-- Dropping spans for a reason raises the count of that reason by their number.
 pub counts-more : (reason : Reason) (xs : List Entry) (spans : List SpanData) → drop_counts (xs ++ map (entry_of reason) spans) ≡ with_drops reason (length spans) (drop_counts xs)
 counts-more reason xs spans = (λ i. record {
   queue_full = counted Reason.queue_full reason xs spans i;
@@ -91,6 +92,7 @@ with-fate Fate.bad_reply counts = refl
 with-fate Fate.given_up counts = refl
 with-fate Fate.abandoned counts = refl
 
+-- One more settled batch raises the count of its kind of fate by one.
 pub fates-more : (xs : List Fate) (fate : Fate) → fate_counts (xs ++ fate ∷ []) ≡ with_fate fate (fate_counts xs)
 fates-more xs fate = (λ i. record {
   delivered = of-kind Fate.delivered xs fate i;
@@ -146,38 +148,48 @@ module _ (config : DeskConfig) (made : ℕ) (h : List DeskEvent) where
     fates = fate_counts (pushed-behind fate_by h x i);
   }
 
-  -- a ticket is given while admission is open
+  -- Where spans are admitted, a new ticket closes the queue just where it is the last one.
   still-open : is_closed h ≡ false → (list_any is_shutdown h || (length (tickets h) + 1 == 2 ^ 64 - 1)) ≡ (length (tickets h) + 1 == 2 ^ 64 - 1)
   still-open c = ap (λ b. b || (length (tickets h) + 1 == 2 ^ 64 - 1)) (or-none (list_any is_shutdown h) (length (tickets h) == 2 ^ 64 - 1) c)
 
+  -- A queued span waits last and takes the next ticket, and the last possible ticket closes the
+  -- queue.
   pub queued-makes : (s : SpanData) → IsWithin h → is_closed h ≡ false → desk_of config made (h ++ queued s ∷ []) ≡ record (desk_of config made h) { waiting = waiting_spans h ++ s ∷ []; next_ticket = length (tickets h) + 1; closed = length (tickets h) + 1 == 2 ^ 64 - 1 }
   unfolding desk_of
   queued-makes s w c = shows (queued s) w ∙ (λ i. record (shown_behind config made h (queued s)) { closed = still-open c i })
 
+  -- A span that finds the queue full is the newest in the ledger, is counted and takes a ticket.
   pub full-makes : (s : SpanData) → IsWithin h → is_closed h ≡ false → desk_of config made (h ++ full s ∷ []) ≡ record (desk_of config made h) { ledger = entry_of Reason.queue_full s ∷ ledger_entries h; next_ticket = length (tickets h) + 1; closed = length (tickets h) + 1 == 2 ^ 64 - 1; dropped = with_drops Reason.queue_full 1 (drop_counts (drops h)) }
   unfolding desk_of
   full-makes s w c = shows (full s) w ∙ (λ i. record (shown_behind config made h (full s)) { closed = still-open c i; dropped = counts-more Reason.queue_full (drops h) (s ∷ []) i })
 
+  -- A late span raises the count of late spans, which stops at its greatest number.
   pub late-makes : IsWithin h → desk_of config made (h ++ late ∷ []) ≡ record (desk_of config made h) { late = capped (capped (late_count h) + 1) }
   unfolding desk_of
   late-makes w = shows late w ∙ (λ i. record (desk_of config made h) { late = capped-more (late_count h) i })
 
+  -- A flush asks for all spans accepted so far.
   pub flush-makes : IsWithin h → desk_of config made (h ++ flush ∷ []) ≡ record (desk_of config made h) { asked = taken_count h + length (waiting_spans h) }
   unfolding desk_of
   flush-makes w = shows flush w ∙ (λ i. record (desk_of config made h) { asked = accepted-adds h w i })
 
+  -- A shutdown asks for all spans accepted so far and closes the queue.
   pub shutdown-makes : IsWithin h → desk_of config made (h ++ shutdown ∷ []) ≡ record (desk_of config made h) { asked = taken_count h + length (waiting_spans h); closed = true }
   unfolding desk_of
   shutdown-makes w = shows shutdown w ∙ (λ i. record (desk_of config made h) { asked = accepted-adds h w i; closed = true })
 
+  -- A take moves the first waiting spans into a new batch, which is out and not handed.
   pub taken-makes : (now size : ℕ) → IsWithin h → desk_of config made (h ++ taken now size ∷ []) ≡ record (desk_of config made h) { waiting = drop size (waiting_spans h); out = Some (record { number = last_batch h + 1; size = size; is_handed = false }); taken = taken_count h + size; batches = last_batch h + 1; last_moment = now }
   unfolding desk_of
   taken-makes now size w = shows (taken now size) w
 
+  -- A hand-over leaves the batch out and adds its size to the count of handed spans.
   pub handed-makes : IsWithin h → desk_of config made (h ++ handed ∷ []) ≡ record (desk_of config made h) { out = out_as with_exporter (last_batch h) (last_size h); handed = length (handed_spans h) + last_size h }
   unfolding desk_of
   handed-makes w = shows handed w ∙ (λ i. record (shown_behind config made h handed) { handed = (length-as-is (last_spans h) (length (handed_spans h)) ∙ ap (λ (n : ℕ). length (handed_spans h) + n) (length-last h w)) i })
 
+  -- A drop puts the batch's spans into the ledger, counts them for the reason and leaves no batch
+  -- out.
   pub dropped-makes : (reason : Reason) → IsWithin h → desk_of config made (h ++ dropped reason ∷ []) ≡ record (desk_of config made h) { out = None; ledger = reverse (map (entry_of reason) (last_spans h)) ++ ledger_entries h; dropped = with_drops reason (length (last_spans h)) (drop_counts (drops h)) }
   unfolding desk_of
   dropped-makes reason w = shows (dropped reason) w ∙ (λ i. record (desk_of config made h) {
@@ -186,6 +198,7 @@ module _ (config : DeskConfig) (made : ℕ) (h : List DeskEvent) where
     dropped = (ap drop_counts (behind-is (map (entry_of reason) (last_spans h)) (drops h)) ∙ counts-more reason (drops h) (last_spans h)) i;
   })
 
+  -- Settling a batch with a fate leaves the desk that the model says for its spans.
   pub settled-makes : (fate : Fate) → IsWithin h → desk_of config made (h ++ settled fate ∷ []) ≡ after_settled fate (last_spans h) (desk_of config made h)
   unfolding desk_of
   settled-makes fate w = let names : List Entry = lost_names fate (last_spans h) in shows (settled fate) w ∙ (λ i. record (desk_of config made h) {
@@ -195,10 +208,12 @@ module _ (config : DeskConfig) (made : ℕ) (h : List DeskEvent) where
     fates = fates-more (fates h) fate i;
   })
 
+  -- A pop takes the newest entry off the ledger of dropped spans.
   pub popped-makes : IsWithin h → desk_of config made (h ++ popped ∷ []) ≡ record (desk_of config made h) { ledger = drop 1 (ledger_entries h) }
   unfolding desk_of
   popped-makes w = shows popped w
 
+  -- A pop takes the newest entry off the ledger of lost spans.
   pub popped-lost-makes : IsWithin h → desk_of config made (h ++ popped_lost ∷ []) ≡ record (desk_of config made h) { lost = drop 1 (lost_entries h) }
   unfolding desk_of
   popped-lost-makes w = shows popped_lost w
@@ -214,26 +229,32 @@ module _ (x : DeskEvent) (d : Desk) (after : Desk → Desk) (same : (after d).co
         is = ap after d_is.is ∙ sym (makes (allowed-within d.config made h d_is.allowed) b) ∙ ap (λ (c : DeskConfig). desk_of c made (h ++ x ∷ [])) (sym same);
       }
 
+-- A new desk is that of no event.
 pub new_desk_is : (config : DeskConfig) (made : ℕ) → IsDesk made [] (new_desk config made)
 unfolding desk_of AreAllowed
 new_desk_is config made = record { allowed = tt; is = refl }
 
+-- Pushing a span with the next ticket to the waiting ones is what a queued span does.
 pub queued_does : (d : Desk) (s : SpanData) → Allowed d (queued s) → Does (queued s) d (record d { waiting = d.waiting ++ s ∷ []; next_ticket = d.next_ticket + 1; closed = d.next_ticket + 1 == 2 ^ 64 - 1 })
 unfolding desk_of
 queued_does d s a made h d_is = follows (queued s) d (λ e. record e { waiting = e.waiting ++ s ∷ []; next_ticket = e.next_ticket + 1; closed = e.next_ticket + 1 == 2 ^ 64 - 1 }) refl a made h d_is (λ w b. queued-makes d.config made h s w b.0)
 
+-- Naming a span in the ledger and counting it is what a span does where the queue is full.
 pub full_does : (d : Desk) (s : SpanData) → Allowed d (full s) → Does (full s) d (record d { ledger = entry_of Reason.queue_full s ∷ d.ledger; next_ticket = d.next_ticket + 1; closed = d.next_ticket + 1 == 2 ^ 64 - 1; dropped = with_drops Reason.queue_full 1 d.dropped })
 unfolding desk_of
 full_does d s a made h d_is = follows (full s) d (λ e. record e { ledger = entry_of Reason.queue_full s ∷ e.ledger; next_ticket = e.next_ticket + 1; closed = e.next_ticket + 1 == 2 ^ 64 - 1; dropped = with_drops Reason.queue_full 1 e.dropped }) refl a made h d_is (λ w b. full-makes d.config made h s w b.0)
 
+-- Counting a span is what a late one does at a closed queue.
 pub late_does : (d : Desk) → d.closed ≡ true → Does late d (record d { late = capped (d.late + 1) })
 unfolding desk_of
 late_does d a made h d_is = follows late d (λ e. record e { late = capped (e.late + 1) }) refl a made h d_is (λ w b. late-makes d.config made h w)
 
+-- Asking for all accepted spans is what a flush does.
 pub flush_does : (d : Desk) → Does flush d (record d { asked = accepted_count d })
 unfolding desk_of
 flush_does d made h d_is = follows flush d (λ e. record e { asked = accepted_count e }) refl tt made h d_is (λ w b. flush-makes d.config made h w)
 
+-- Asking for all accepted spans and closing the queue is what a shutdown does.
 pub shutdown_does : (d : Desk) → Does shutdown d (record d { asked = accepted_count d; closed = true })
 unfolding desk_of
 shutdown_does d made h d_is = follows shutdown d (λ e. record e { asked = accepted_count e; closed = true }) refl tt made h d_is (λ w b. shutdown-makes d.config made h w)
@@ -243,18 +264,20 @@ in-hand-stage not_out number size e = absurd (true≢false (sym e))
 in-hand-stage in_hand number size e = refl
 in-hand-stage with_exporter number size e = absurd (true≢false (sym e))
 
+-- Marking the batch that is out as handed, and counting its spans, is what a hand-over does.
 pub handed_does : (d : Desk) → is_in_hand d.out ≡ true → Does handed d (record d { out = handed_out d.out; handed = d.handed + out_size d.out })
 unfolding desk_of
 handed_does d a made h d_is = follows handed d (λ e. record e { out = handed_out e.out; handed = e.handed + out_size e.out }) refl a made h d_is
     (λ w b. handed-makes d.config made h w ∙ sym (ap (λ s. record (desk_of d.config made h) { out = handed_out (out_as s (last_batch h) (last_size h)); handed = length (handed_spans h) + out_size (out_as s (last_batch h) (last_size h)) }) (in-hand-stage (stage h) (last_batch h) (last_size h) b)))
 
+-- Naming a batch's spans in the ledger and counting them is what dropping the batch does.
 pub dropped_does : (d : Desk) (reason : Reason) (spans : List SpanData) → Allowed d (dropped reason) → DropsSpans reason spans d (record d { out = None; ledger = reverse (map (entry_of reason) spans) ++ d.ledger; dropped = with_drops reason (length spans) d.dropped })
 unfolding desk_of
 dropped_does d reason spans a made h d_is e =
     follows (dropped reason) d (λ f. record f { out = None; ledger = reverse (map (entry_of reason) spans) ++ f.ledger; dropped = with_drops reason (length spans) f.dropped }) refl a made h d_is
     (λ w b. dropped-makes d.config made h reason w ∙ sym (ap (λ ss. record (desk_of d.config made h) { out = None; ledger = reverse (map (entry_of reason) ss) ++ ledger_entries h; dropped = with_drops reason (length ss) (drop_counts (drops h)) }) e))
 
--- where no span is lost, it makes no difference which they are
+-- Where no span is lost, it makes no difference which spans the batch has.
 same-names : (fate : Fate) (xs ys : List SpanData) → (is_loss fate ≡ true → xs ≡ ys) → lost_names fate xs ≡ lost_names fate ys
 same-names Fate.delivered xs ys e = refl
 same-names (Fate.partial rejected) xs ys e = refl
@@ -263,24 +286,28 @@ same-names Fate.bad_reply xs ys e = ap (lost_names Fate.bad_reply) (e refl)
 same-names Fate.given_up xs ys e = ap (lost_names Fate.given_up) (e refl)
 same-names Fate.abandoned xs ys e = ap (lost_names Fate.abandoned) (e refl)
 
+-- The model's desk after a settled batch is what settling the batch does.
 pub settled_does : (d : Desk) (fate : Fate) (spans : List SpanData) → is_with_exporter d.out ≡ true → SettlesSpans fate spans d (after_settled fate spans d)
 unfolding desk_of
 settled_does d fate spans a made h d_is e =
     follows (settled fate) d (after_settled fate spans) refl a made h d_is
     (λ w b. settled-makes d.config made h fate w ∙ sym (ap (λ (names : List Entry). record (desk_of d.config made h) { out = None; lost = reverse names ++ lost_entries h; lost_count = length (losses h) + length names; fates = with_fate fate (fate_counts (fates h)) }) (same-names fate spans (last_spans h) e)))
 
+-- Taking off the ledger's newest entry is what a pop does.
 pub popped_does : (d : Desk) → Does popped d (record d { ledger = drop 1 d.ledger })
 unfolding desk_of
 popped_does d made h d_is = follows popped d (λ e. record e { ledger = drop 1 e.ledger }) refl tt made h d_is (λ w b. popped-makes d.config made h w)
 
+-- Taking off the newest entry of the ledger of lost spans is what a pop of lost spans does.
 pub popped_lost_does : (d : Desk) → Does popped_lost d (record d { lost = drop 1 d.lost })
 unfolding desk_of
 popped_lost_does d made h d_is = follows popped_lost d (λ e. record e { lost = drop 1 e.lost }) refl tt made h d_is (λ w b. popped-lost-makes d.config made h w)
 
--- a batch that is taken, of so many spans
+-- The desk after a batch of this size is taken at this moment.
 abbrev after_take : ℕ → ℕ → Desk → Desk
 after_take now size d = record d { waiting = drop size d.waiting; out = Some (record { number = d.batches + 1; size = size; is_handed = false }); taken = d.taken + size; batches = d.batches + 1; last_moment = now }
 
+-- Making a batch of the first waiting spans is what a take does, and the batch has these spans.
 pub taken_does : (d : Desk) (now size : ℕ) → Allowed d (taken now size) → TakesSpans now (take size d.waiting) d (after_take now size d)
 unfolding desk_of
 taken_does d now size a made h d_is =

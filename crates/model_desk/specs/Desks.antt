@@ -67,9 +67,10 @@ pub record Desk : Type 0 where
   pub last_moment : ℕ
   -- how many spans were handed to the exporter
   pub handed : ℕ
-  -- how many of them were lost, be it that they were popped
+  -- how many of them were lost, popped ones included
   pub lost_count : ℕ
-  -- how many ended where none was admitted; this stops at the greatest number of 64 bits
+  -- how many spans ended where none was admitted; this count stops at the greatest number of 64
+  -- bits
   pub late : ℕ
   pub dropped : DropCounts
   pub fates : FateCounts
@@ -99,7 +100,7 @@ drop_counts entries = record {
   abandoned = count_of_reason Reason.abandoned entries;
 }
 
--- with so many more of a reason; spans that are lost are counted elsewhere
+-- the counts with this many more spans of a reason; spans that are lost are counted elsewhere
 abbrev pub with_drops : Reason → ℕ → DropCounts → DropCounts
 with_drops Reason.queue_full n counts = record counts { queue_full = counts.queue_full + n }
 with_drops Reason.encode_memory n counts =
@@ -135,7 +136,7 @@ fate_counts all = record {
   abandoned = count_by (is_fate Fate.abandoned) all;
 }
 
--- with one more of its kind
+-- the counts with one more batch of this fate's kind
 abbrev pub with_fate : Fate → FateCounts → FateCounts
 with_fate Fate.delivered counts = record counts { delivered = counts.delivered + 1 }
 with_fate (Fate.partial rejected) counts = record counts { partial = counts.partial + 1 }
@@ -211,13 +212,13 @@ is_due desk now =
     && (nat_le desk.config.batch (length desk.waiting) || nat_lt desk.taken desk.asked
     || desk.closed || nat_le (desk.last_moment + desk.config.delay_ms * 10 ^ 6) now)
 
--- Where so many spans were taken: whether the batch that is out, if one is, has one of the first so
--- many accepted spans. It has those that were taken last.
+-- Where `count` spans were taken: whether the batch that is out, if one is, has one of the first
+-- `mark` accepted spans. It has the spans that were taken last.
 abbrev pub is_out_before : ℕ → Option OutBatch → ℕ → Bool
 is_out_before count None mark = false
 is_out_before count (Some batch) mark = nat_lt (count - batch.size) mark
 
--- The first so many accepted spans were taken, and no batch with one of them is out. (Trace SDK,
+-- The first `mark` accepted spans were taken, and no batch with one of them is out. (Trace SDK,
 -- ForceFlush)
 abbrev pub is_flushed : Desk → ℕ → Bool
 is_flushed desk mark = nat_le mark desk.taken && not (is_out_before desk.taken desk.out mark)
@@ -237,7 +238,7 @@ abbrev pub in_hand_size : Option OutBatch → ℕ
 in_hand_size None = 0
 in_hand_size (Some batch) = if batch.is_handed then 0 else batch.size
 
--- the same, handed to the exporter
+-- the same batch, handed to the exporter
 abbrev pub handed_out : Option OutBatch → Option OutBatch
 handed_out None = None
 handed_out (Some batch) = Some (record batch { is_handed = true })

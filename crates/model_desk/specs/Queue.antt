@@ -21,7 +21,7 @@ pub data DeskEvent : Type 0 where
   late : DeskEvent
   -- (Trace SDK, ForceFlush, Shutdown)
   flush shutdown : DeskEvent
-  -- at this moment a batch of so many spans was taken
+  -- a batch was taken: its moment, and how many spans the batch has
   taken : ℕ → ℕ → DeskEvent
   -- the batch that is out was handed to the exporter; was dropped before that; was settled after it
   handed : DeskEvent
@@ -180,7 +180,7 @@ named_as (Some reason) spans = map (entry_of reason) spans
 abbrev pub lost_names : Fate → List SpanData → List Entry
 lost_names fate spans = named_as (loss_reason fate) spans
 
--- the same of one that has a fate, if it has
+-- the same of a batch that may have no fate yet, where none is lost
 abbrev pub lost_as : Option Fate → List SpanData → List Entry
 lost_as None spans = []
 lost_as (Some fate) spans = lost_names fate spans
@@ -189,7 +189,7 @@ abbrev pub losses_by : List DeskEvent → DeskEvent → List Entry
 losses_by before (settled fate) = lost_names fate (last_spans before)
 losses_by before _ = []
 
--- the lost spans, in order: those of the batches that were handed and came to nothing
+-- the lost spans, in order: those of the handed batches whose fate loses them
 abbrev pub losses : List DeskEvent → List Entry
 losses events = gather losses_by [] events
 
@@ -206,7 +206,8 @@ stack_on below [] = below
 stack_on below (push x ∷ steps) = stack_on (x ∷ below) steps
 stack_on below (pop ∷ steps) = stack_on (drop 1 below) steps
 
--- A stack of names, by which event takes the newest off, and which names each other one adds.
+-- A stack of names: `pops` says which events take the newest name off, and `adds` which names each
+-- other event adds.
 module _ (pops : DeskEvent → Bool) (adds : List DeskEvent → DeskEvent → List Entry) where
   abbrev pub stack_steps : List DeskEvent → DeskEvent → List (StackStep Entry)
   stack_steps before x = if pops x then pop ∷ [] else map push (adds before x)
@@ -217,7 +218,7 @@ module _ (pops : DeskEvent → Bool) (adds : List DeskEvent → DeskEvent → Li
   abbrev pub popped_by : List DeskEvent → DeskEvent → List Entry
   popped_by before x = if pops x then take 1 (stack_of before) else []
 
-  -- what was popped, in order: each time the newest
+  -- the names that were popped, in order: each time the newest one
   abbrev pub popped_of : List DeskEvent → List Entry
   popped_of events = gather popped_by [] events
 

@@ -35,14 +35,18 @@ own-value (ints is) = own-list int_eq (λ i. (Decides-int_eq i i).1 refl) is
 own-attributes : (pairs : List Attribute) → pointwise attribute_eq pairs pairs ≡ true
 own-attributes pairs = own-list attribute_eq (λ p. both (bytes_eq p.key p.key) (value_eq p.value p.value) (own-bytes p.key) (own-value p.value)) pairs
 
+-- The test of resources finds each equal to itself.
 pub own-resource : (r : Resource) → resource_eq r r ≡ true
 own-resource r = both _ _ (own-attributes r.attributes) (own-bytes r.schema)
 
+-- The test of scopes finds each equal to itself.
 pub own-scope : (s : Scope) → scope_eq s s ≡ true
 own-scope s = both _ _ (own-bytes s.name) (both _ _ (own-bytes s.version) (both _ _ (own-attributes s.attributes) (own-bytes s.schema)))
 
+-- The test of resources decides whether two resources are equal.
 pub resource_eq-Decides : (r s : Resource) → Decides (resource_eq r s) (r ≡ s)
 resource_eq-Decides r s = (same-resource r s, λ e. subst (λ z. resource_eq r z ≡ true) e (own-resource r))
 
+-- The test of scopes decides whether two scopes are equal.
 pub scope_eq-Decides : (r s : Scope) → Decides (scope_eq r s) (r ≡ s)
 scope_eq-Decides r s = (same-scope r s, λ e. subst (λ z. scope_eq r z ≡ true) e (own-scope r))

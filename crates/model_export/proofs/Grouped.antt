@@ -43,10 +43,12 @@ same-attribute : (p q : Attribute) → attribute_eq p q ≡ true → p ≡ q
 same-attribute p q h = let e = and_parts (bytes_eq p.key q.key) (value_eq p.value q.value) h in
     ap₂ (λ k v. record { key = k; value = v }) (same-bytes p.key q.key e.0) (same-value p.value q.value e.1)
 
+-- Resources that the test finds equal are equal.
 pub same-resource : (r s : Resource) → resource_eq r s ≡ true → r ≡ s
 same-resource r s h = let e = and_parts (pointwise attribute_eq r.attributes s.attributes) (bytes_eq r.schema s.schema) h in
     ap₂ (λ a u. record { attributes = a; schema = u }) (same-list attribute_eq same-attribute r.attributes s.attributes e.0) (same-bytes r.schema s.schema e.1)
 
+-- Scopes that the test finds equal are equal.
 pub same-scope : (r s : Scope) → scope_eq r s ≡ true → r ≡ s
 same-scope r s h =
     let name = and_parts (bytes_eq r.name s.name) _ h in
@@ -79,6 +81,7 @@ scopes-carried : (r : Resource) (hs : List ScopeGroup) → flat_map (scope_tripl
 scopes-carried r [] = refl
 scopes-carried r (h ∷ hs) = ap₂ (λ a b. a ++ b) (map-map (λ y. record { resource = resource_message r; resource_schema = r.schema; scope = scope_message h.key; scope_schema = h.key.schema; span = y }) (λ x. span_message x.span) h.items) (scopes-carried r hs)
 
+-- The spans of the request that carries some groups are the spans of these groups.
 pub carried-triples : (gs : List ResourceGroup) → triples (request_message gs) ≡ triples_of gs
 unfolding request_message triples_of
 carried-triples [] = refl
@@ -86,7 +89,7 @@ carried-triples (g ∷ gs) = ap₂ (λ a b. a ++ b) (scopes-carried g.key g.item
 
 -- ---- the groups
 
--- of a resource, and a scope under it
+-- The spans in the request of a scope under a resource are those of that group.
 scope-same : (r : Resource) (s : Scope) (spans : List SpanData) → AllByRecursion (λ x. resource_eq r x.resource ≡ true) spans →
     scope_triples (resource_message r) r.schema (scope_message s, (map (λ x. span_message x.span) (filter (λ x. scope_eq s x.scope) spans), (s.schema, tt))) ≡ map triple (filter (λ x. scope_eq s x.scope) spans)
 unfolding triple
@@ -123,6 +126,7 @@ groups-are : (spans : List SpanData) → groups spans ≡ map (of-resource spans
 unfolding groups groups_by of-resource
 groups-are spans = map-map _ _ (distinct_of resource_eq (map (λ x. x.resource) spans))
 
+-- The request that carries the groups of some spans has these spans, group by group.
 pub request-triples : (spans : List SpanData) → triples (request_message (groups spans)) ≡ grouped_triples spans
 unfolding request_message grouped_triples
 request-triples spans = rw (groups-are spans) (of-resources spans (distinct_of resource_eq (map (λ x. x.resource) spans)))

@@ -20,11 +20,12 @@ takes-counted = takes-as _ _ _ (takes-bind number next_bytes IsVarint (λ n bs x
   λ c. (length x, c.size, x, c.count, (refl, refl), c.whole),
 ))
 
--- a payload of the wire type
+-- The bytes spell the payload, which has this wire type.
 abbrev Under : ℕ → List ℕ → Payload → Type 0
 Under wire bs p = (wire_type p ≡ wire) × IsPayload bs p
 
--- of a constructor of payloads: those of its wire type are its own
+-- Where a constructor makes just the payloads of its wire type, they are read just where one is
+-- spelled.
 under : {X : Type 0} (wire : ℕ) (make : X → Payload) (S : List ℕ → X → Type 0) (p : Front X) → Takes p S → ((x : X) → wire_type (make x) ≡ wire) →
     ((bs : List ℕ) (x : X) → S bs x → IsPayload bs (make x)) → ((bs : List ℕ) (y : Payload) → Under wire bs y → (x : X) × S bs x × (y ≡ make x)) → Takes (map_front make p) (Under wire)
 under wire make S p hp type into out = takes-as _ _ _ (takes-map make p S hp) (λ bs y.
@@ -63,6 +64,7 @@ is-none wire a b c d bs (i32 n) u = d (sym u.0)
 at-type : (wire n : ℕ) (p : Front Payload) → wire ≡ n → Takes p (Under n) → Takes p (Under wire)
 at-type wire n p e h = subst (λ w. Takes p (Under w)) (sym e) h
 
+-- A payload of a wire type is read just where one of that type is spelled.
 pub takes-payload : (wire : ℕ) → Takes (payload wire) (Under wire)
 unfolding payload
 takes-payload wire =
@@ -75,6 +77,7 @@ takes-payload wire =
 abbrev AfterTag : ℕ → List ℕ → Field → Type 0
 AfterTag tag bs f = (p : Payload) × ((is_field_number (tag / 8) ≡ true) × Under (tag % 8) bs p) × (f ≡ record { number = tag / 8; payload = p })
 
+-- A wire type is below 8.
 pub type-below : (p : Payload) → wire_type p < 8
 type-below (varint n) = omega arith
 type-below (i64 n) = omega arith

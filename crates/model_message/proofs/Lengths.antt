@@ -28,7 +28,7 @@ size-left a b k l = let e = size-append a b in omega (arith, e, l)
 size-right : (a b : List Field) (k : ℕ) → size (a ++ b) < k → size b < k
 size-right a b k l = let e = size-append a b in omega (arith, e, l)
 
--- what a field holds
+-- What a field holds is shorter than the field.
 size-content : (n : ℕ) (bs : List ℕ) (k : ℕ) → size (bytes_field n bs ∷ []) < k → length bs < k
 unfolding size row_bytes field_bytes payload_bytes
 size-content n bs k l =

@@ -30,6 +30,7 @@ IsElement fixed32 = ⊥
 IsElement (repeated s) = ⊥
 
 abbrev mutual
+  -- The shape can be written: a message by its table, and a repeated field by its elements.
   pub IsShape : Shape → Type 0
   IsShape text = Unit {0}
   IsShape bytes = Unit {0}
@@ -43,6 +44,8 @@ abbrev mutual
   IsShape (message t) = IsTable 0 t
   IsShape (repeated s) = IsElement s × IsShape s
 
+  -- The table can be written: its numbers rise from above `low`, are below 2^29, and each shape can
+  -- be written.
   pub IsTable : ℕ → Table → Type 0
   IsTable low end = Unit {0}
   IsTable low (n ⦂ s ◂ t) = (low < n) × (n < 2 ^ 29) × IsShape s × IsTable n t
@@ -50,6 +53,7 @@ abbrev mutual
 -- ---- what can be written: texts are UTF-8, and numbers and lengths have their room
 
 abbrev mutual
+  -- The value of a field can be written and read back.
   pub FitsShape : PayloadReading AnyValue → (s : Shape) → ValueOf s → Type 0
   FitsShape values text t = (is_utf8 t ≡ true) × (length t < 2 ^ 64)
   FitsShape values bytes bs = length bs < 2 ^ 64
@@ -63,6 +67,7 @@ abbrev mutual
   FitsShape values (message t) r = FitsTable values t r × (length (row_bytes (table_fields t r)) < 2 ^ 64)
   FitsShape values (repeated s) xs = AllByRecursion (λ x. FitsShape values s x) xs
 
+  -- The value of each field of a message can be written and read back.
   pub FitsTable : PayloadReading AnyValue → (t : Table) → Message t → Type 0
   FitsTable values end r = Unit {0}
   FitsTable values (n ⦂ s ◂ t) r = FitsShape values s r.0 × FitsTable values t r.1
@@ -90,6 +95,7 @@ payloads-others n s (f ∷ fields) h = rw (ne_eqb f.number n h.0) (payloads-othe
 same-number : (n : ℕ) → (n == n) ≡ true
 same-number n = eq-eqb n n refl
 
+-- A payload of the right wire type, under the right number, is the one payload of the field.
 pub payloads-own : (n : ℕ) (s : Shape) (p : Payload) → wire_type p ≡ wire s → payloads n s (record { number = n; payload = p } ∷ []) ≡ p ∷ []
 unfolding payloads
 payloads-own n s p e = rw (same-number n, eq-eqb (wire_type p) (wire s) e) refl
@@ -198,6 +204,7 @@ read-skip values low (n ⦂ s ◂ t) a b h k = ap₂ (λ p q. both p q)
 
 -- ---- one field
 
+-- A text that is UTF-8 is read without a fault.
 pub utf8-ok : (bs : List ℕ) → is_utf8 bs ≡ true → utf8 bs ≡ done bs
 utf8-ok bs e = rw e refl
 
@@ -239,11 +246,12 @@ truth-back : (b : Bool) → not ((if b then 1 else 0) == 0) ≡ b
 truth-back true = refl
 truth-back false = refl
 
+-- A payload whose bytes are a row without a fault is joined as that row.
 pub joined-one : (bs : List ℕ) (fields : List Field) → row bs ≡ done fields → joined_rows (len bs ∷ []) ≡ done fields
 unfolding joined_rows
 joined-one bs fields e = ap (λ r. record { value = r.value ++ []; faults = (r.faults ++ []) ++ [] }) e ∙ ap done (append-nil fields)
 
--- the two ways to bind after nothing was met
+-- What is read on from a written message is read on from its fields.
 message-back : {A : Type 0} (next : List Field → Reading A) (n : ℕ) (s : Shape) (fields : List Field) → wire s ≡ 2 → HaveSpellings fields → joined_rows (payloads n s (bytes_field n (row_bytes fields) ∷ [])) >>= next ≡ next fields
 message-back next n s fields e h = ap (λ r. r >>= next) (ap joined_rows (payloads-own n s (len (row_bytes fields)) (sym e)) ∙ joined-one (row_bytes fields) fields (row-row_bytes fields h))
 
@@ -283,6 +291,7 @@ spellings-append : (a b : List Field) → HaveSpellings a → HaveSpellings b �
 spellings-append [] b h k = k
 spellings-append (f ∷ a) b h k = (h.0, spellings-append a b h.1 k)
 
+-- A length-delimited field whose number and length are in range has a spelling.
 pub bytes-spelling : (n : ℕ) (bs : List ℕ) → 0 < n → n < 2 ^ 29 → length bs < 2 ^ 64 → HaveSpellings (bytes_field n bs ∷ [])
 bytes-spelling n bs l u k = (record { positive = l; in_range = u; payload = k }, tt)
 
@@ -303,6 +312,7 @@ flat-spelling : {X : Type 0} (P : X → Type 0) (f : X → List Field) → ((x :
 flat-spelling P f h [] k = tt
 flat-spelling P f h (x ∷ xs) k = spellings-append (f x) (flat_map f xs) (h x k.0) (flat-spelling P f h xs k.1)
 
+-- A truth value, as a number, fits 64 bits.
 pub bit-below : (b : Bool) → (if b then 1 else 0) < 2 ^ 64
 bit-below true = omega arith
 bit-below false = omega arith
@@ -355,6 +365,7 @@ enumeration-back k l = let low : k < 2 ^ 32 = omega (arith, l) in rw (mod-eq_of_
 mutual
   unfolding read shape_fields
 
+  -- What is written of a field of a table is read back as its value.
   pub shape-back : (values : PayloadReading AnyValue) (n : ℕ) (s : Shape) (x : ValueOf s) → IsShape s → FitsShape values s x → read values s (payloads n s (shape_fields n s x)) ≡ done x
   shape-back values n text x w h = text-back values n x h.0
   shape-back values n bytes x w h = octets-back values n x
@@ -368,6 +379,7 @@ mutual
   shape-back values n (message t) x w h = flat-back (read_table values t) n (message t) (table_fields t x) (is_flat t) refl (table-spelling values 0 t x w h.0) ∙ table-back values 0 t x w h.0
   shape-back values n (repeated s) x w h = repeated-back values n s w.0 (λ y k. element-back values n s y w.0 w.1 k) x h
 
+  -- What is written of an element of a repeated field is read back as its value.
   pub element-back : (values : PayloadReading AnyValue) (n : ℕ) (s : Shape) (x : ValueOf s) → IsElement s → IsShape s → FitsShape values s x → read values s (payloads n s (element_fields n s x)) ≡ done x
   element-back values n text x el w h = absurd el
   element-back values n bytes x el w h = absurd el
@@ -381,6 +393,7 @@ mutual
   element-back values n (message t) x el w h = message-back (read_table values t) n (message t) (table_fields t x) refl (table-spelling values 0 t x w h.0) ∙ table-back values 0 t x w h.0
   element-back values n (repeated s) x el w h = absurd el
 
+  -- The fields that are written of a message are read back as the message.
   pub table-back : (values : PayloadReading AnyValue) (low : ℕ) (t : Table) (r : Message t) → IsTable low t → FitsTable values t r → read_table values t (table_fields t r) ≡ done r
   table-back values low end r h k = refl
   table-back values low (n ⦂ s ◂ t) r h k = ap₂ (λ p q. both p q)

@@ -18,17 +18,19 @@ skipped (b ∷ front) rest = skipped front rest
 past : (front rest : List ℕ) → length (front ++ rest) - length rest ≡ length front
 past front rest = simp length-append (omega arith)
 
--- at a field, whose first byte is given
+-- Bytes that begin with a field, whose first byte is given, have that field and then the row of the
+-- rest.
 row-from-field : (b : ℕ) (front rest : List ℕ) (f : Field) → IsField (b ∷ front) f → row (b ∷ front ++ rest) ≡ put f (row rest)
 unfolding row row_after
 row-from-field b front rest f s = ap (λ r. row_from r (λ left. row_after (length (front ++ rest) - length left) (front ++ rest))) (takes-field.again (b ∷ front) rest f s)
     ∙ ap (λ n. put f (row_after n (front ++ rest))) (past front rest) ∙ ap (put f) (skipped front rest)
 
--- a field has a first byte
+-- A field has a first byte.
 not-nothing : (tag rest : List ℕ) → [] ≡ tag ++ rest → IsEnded tag → ⊥
 not-nothing [] rest e h = h
 not-nothing (b ∷ tag) rest e h = absurd (omega (arith, ap length e))
 
+-- The row of bytes that begin with a field is that field and then the row of the rest.
 pub row-field : (front rest : List ℕ) (f : Field) → IsField front f → row (front ++ rest) ≡ put f (row rest)
 row-field [] rest f s = absurd (not-nothing s.tag s.rest s.whole s.is_tag.ended)
 row-field (b ∷ front) rest f s = row-from-field b front rest f s
@@ -90,7 +92,7 @@ HasPayload (i64 n) = n < 2 ^ 64
 HasPayload (len bs) = length bs < 2 ^ 64
 HasPayload (i32 n) = n < 2 ^ 32
 
--- the field has a spelling
+-- The field has a spelling: its number and its payload are in range.
 pub record HasSpelling (f : Field) : Type 0 where
   pub positive : 0 < f.number
   pub in_range : f.number < 2 ^ 29
@@ -103,6 +105,7 @@ payload-is (i64 n) l = (refl, sym (from_le_bytes-to_le_bytes_8 n l))
 payload-is (len bs) l = record { size = shortest (length bs); count = shortest-is (length bs) l; whole = refl }
 payload-is (i32 n) l = (refl, sym (from_le_bytes-to_le_bytes_4 n l))
 
+-- The bytes that a field is written as spell the field.
 pub field_bytes-is : (f : Field) → HasSpelling f → IsField (field_bytes f) f
 unfolding field_bytes
 field_bytes-is f h = record {
@@ -119,6 +122,7 @@ abbrev pub HaveSpellings : List Field → Type 0
 HaveSpellings [] = Unit {0}
 HaveSpellings (f ∷ fields) = HasSpelling f × HaveSpellings fields
 
+-- The bytes that a row is written as spell the row.
 pub row_bytes-is : (fields : List Field) → HaveSpellings fields → IsRow (row_bytes fields) fields
 unfolding row_bytes
 row_bytes-is [] h = refl

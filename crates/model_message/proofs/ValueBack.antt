@@ -15,7 +15,7 @@ use Rattle.model_message.specs.Canon.{bytes_field, unless_empty, row_bytes, valu
 use Rattle.model_message.proofs.RowLaws.{HaveSpellings, row-row_bytes}
 use Rattle.model_message.proofs.ReadBack.{utf8-ok, IsTable, FitsShape, FitsTable, joined-one, payloads-own, element-back, bytes-spelling, bit-below}
 
--- as lists
+-- the values of an array, and the pairs of a list of pairs, as lists
 abbrev pub list_of : AnyValues → List AnyValue
 list_of no_values = []
 list_of (protocol.value v vs) = v ∷ list_of vs
@@ -32,7 +32,7 @@ as_pairs-pairs_of : (ps : KeyValues) → as_pairs (pairs_of ps) ≡ ps
 as_pairs-pairs_of no_pairs = refl
 as_pairs-pairs_of (pair k v ps) = ap (pair k v) (as_pairs-pairs_of ps)
 
--- they are written as the tables say
+-- Arrays and lists of pairs are written as their tables say.
 values-as-table : (vs : AnyValues) → values_fields vs ≡ table_fields array_value (list_of vs, tt)
 unfolding value_fields table_fields
 values-as-table no_values = refl
@@ -43,7 +43,7 @@ unfolding value_fields table_fields
 pairs-as-table no_pairs = refl
 pairs-as-table (pair k v ps) = ap (λ l. bytes_field 1 (row_bytes (unless_empty 1 k ++ bytes_field 2 (row_bytes (value_fields v)) ∷ [])) ∷ l) (pairs-as-table ps)
 
--- ---- what can be written, with so many levels
+-- ---- what can be written, with a number of levels
 
 abbrev pub AllValues : (AnyValue → Type 0) → AnyValues → Type 0
 AllValues P no_values = Unit {0}
@@ -93,7 +93,7 @@ array_value-table = (omega arith, omega arith, (tt, tt), tt)
 key_value_list-table : IsTable 0 key_value_list
 key_value_list-table = (omega arith, omega arith, (tt, (omega arith, omega arith, tt, (omega arith, omega arith, tt, tt))), tt)
 
--- a message under a number, by its payload alone
+-- A message that is written is read back from its payload.
 message-read : (values : PayloadReading AnyValue) (t : Table) (r : Message t) → IsTable 0 t → FitsTable values t r → length (row_bytes (table_fields t r)) < 2 ^ 64 → read values (message t) (len (row_bytes (table_fields t r)) ∷ []) ≡ done r
 unfolding shape_fields
 message-read values t r w h l = ap (read values (message t)) (sym (payloads-own 1 (message t) (len (row_bytes (table_fields t r))) refl)) ∙ element-back values 1 (message t) r tt w (h, l)
@@ -123,6 +123,7 @@ members-back deeper P back (AnyValue.array vs) h = ap (λ r. r >>= λ x. done (A
 members-back deeper P back (AnyValue.pairs ps) h = ap (λ r. r >>= λ x. done (AnyValue.pairs (as_pairs x.0))) (pairs-read deeper P back ps h.0 h.1) ∙ ap (λ z. done (AnyValue.pairs z)) (as_pairs-pairs_of ps)
 members-back deeper P back (AnyValue.bytes bs) h = refl
 
+-- A value that fits is read back from the bytes that it is written as.
 pub value-back : (depth : ℕ) (v : AnyValue) → FitsValue depth v → value depth (len (row_bytes (value_fields v)) ∷ []) ≡ done v
 unfolding value FitsValue
 value-back zero v h = absurd h

@@ -8,7 +8,7 @@ use Rattle.model_message.specs.Canon.{septets_of, shortest}
 use Rattle.model_message.specs.Spelling.{IsEnded, number_of_septets, IsVarint}
 use Rattle.model_message.proofs.Fronts.{Takes, err-ok, ok-ok, takes-as, takes-map}
 
--- the groups of a number, at most so many
+-- the groups of a number, at most `room` of them
 pub record InGroups (room : ℕ) (bs : List ℕ) (n : ℕ) : Type 0 where
   pub ended : IsEnded bs
   pub size : length bs ≤ room
@@ -18,7 +18,7 @@ more-ended : (b : ℕ) (bs : List ℕ) → 128 ≤ b → IsEnded bs → IsEnded 
 more-ended b [] l h = absurd h
 more-ended b (c ∷ bs) l h = (l, h)
 
--- at the first byte: the last group, or one more after it
+-- The first byte is the last group, or more groups come after it.
 step : (room : ℕ) → ((bs rest : List ℕ) (n : ℕ) → septets room bs ≡ Ok (n, rest) → (front : List ℕ) × InGroups room front n × (bs ≡ front ++ rest)) →
     (b : ℕ) (bs rest : List ℕ) (n : ℕ) (t : Bool) → nat_lt b 128 ≡ t → (r : Result (ℕ × List ℕ) Fault) → septets room bs ≡ r →
     cond {A = Result (ℕ × List ℕ) Fault} t (Ok (b, bs)) (after r (λ high. give (b % 128 + 128 * high))) ≡ Ok (n, rest) →
@@ -45,6 +45,7 @@ groups-again zero (b ∷ bs) rest h l = absurd (omega (arith, l))
 groups-again (suc room) (b ∷ []) rest h l = rw (lt-ltb b 128 h) (ap (λ z. Ok (z, rest)) (sym (mod-eq_of_lt h) ∙ omega arith))
 groups-again (suc room) (b ∷ c ∷ bs) rest h l = rw (le-ltb b 128 h.0, groups-again room (c ∷ bs) rest h.1 (omega (arith, l))) refl
 
+-- Groups of seven bits are read just where they are spelled.
 pub takes-groups : (room : ℕ) → Takes (septets room) (InGroups room)
 takes-groups room = record {
   found = groups-found room;

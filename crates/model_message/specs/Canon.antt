@@ -14,8 +14,8 @@ use Rattle.model_message.specs.Messages.{wire_type}
 
 -- ---- fields as bytes
 
--- groups of seven bits, the least first, in at most one more than so many bytes (Protocol Buffers,
--- Encoding: Base 128 Varints)
+-- groups of seven bits, the least first, in at most one more than this number of bytes (Protocol
+-- Buffers, Encoding: Base 128 Varints)
 unfoldable pub septets_of : ℕ → ℕ → List ℕ
 septets_of zero n = n ∷ []
 septets_of (suc room) n =

@@ -144,7 +144,7 @@ abbrev pub member_of : Field → Option Member
 member_of f = find (λ m. is_field m.number m.shape f) members
 
 -- The payloads of the last unbroken run of a number, in a row that is given from its end. A member
--- of another number clears what stood before it. (Protocol Buffers, Encoding: Oneofs)
+-- of another number clears what came before it. (Protocol Buffers, Encoding: Oneofs)
 abbrev pub last_run : ℕ → List Field → List Payload
 last_run n back = map (λ f. f.payload) (reverse (take_while (λ f. f.number == n) back))
 
@@ -159,9 +159,9 @@ abbrev pub value_of : PayloadReading AnyValue → List Field → Reading AnyValu
 value_of deeper [] = done none
 value_of deeper (f ∷ back) = make_with deeper (member_of f) (last_run f.number (f ∷ back))
 
--- What the payloads of an AnyValue mean where so many levels are left. Its rows are joined, and
--- fields that are no member of it are skipped. Where no level is left a payload is too deep, and is
--- not looked into. (profile: the depth)
+-- What the payloads of an AnyValue mean where this number of levels is left. Its rows are joined,
+-- and fields that are no member of it are skipped. Where no level is left a payload is too deep,
+-- and is not looked into. (profile: the depth)
 unfoldable pub value : ℕ → PayloadReading AnyValue
 unfolding read joined_rows
 value zero [] = done none

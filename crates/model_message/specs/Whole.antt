@@ -39,8 +39,8 @@ IsMember P (AnyValue.array vs) = EachValue P vs
 IsMember P (AnyValue.pairs ps) = EachPair P ps
 IsMember P (AnyValue.bytes bs) = Unit {0}
 
--- A value with so many levels at most. One that is none takes a level too, since it is written,
--- empty. (profile)
+-- A value with at most this number of levels. One that is none takes a level too, since it is
+-- written, empty. (profile)
 unfoldable pub IsValue : ℕ → AnyValue → Type 0
 IsValue zero v = ⊥
 IsValue (suc depth) v = IsMember (IsValue depth) v

@@ -45,12 +45,12 @@ infixl 10 ◌>>=◌
 abbrev pub ◌>>=◌ : {A B : Type 0} → Front A → (A → Front B) → Front B
 ◌>>=◌ read next = λ bs. after (read bs) next
 
--- the next so many bytes, or `truncated` where fewer are left
+-- the next bytes, of this number, or `truncated` where fewer are left
 abbrev pub next_bytes : ℕ → Front (List ℕ)
 next_bytes n bs = if nat_lt (length bs) n then Err truncated else Ok (take n bs, drop n bs)
 
--- Groups of seven bits, the least first, at most so many. Each but the last is a byte of at least
--- 128. (Protocol Buffers, Encoding: Base 128 Varints)
+-- Groups of seven bits, the least first, at most this number of them. Each but the last is a byte
+-- of at least 128. (Protocol Buffers, Encoding: Base 128 Varints)
 unfoldable pub septets : ℕ → Front ℕ
 septets zero bs = Err long_varint
 septets (suc room) [] = Err truncated
@@ -69,7 +69,7 @@ number = do
 abbrev pub map_front : {A B : Type 0} → (A → B) → Front A → Front B
 map_front f read = read >>= (λ x. give (f x))
 
--- a length, and so many bytes (Protocol Buffers, Encoding: Length-Delimited Records)
+-- a length, and that number of bytes (Protocol Buffers, Encoding: Length-Delimited Records)
 abbrev pub counted_bytes : Front (List ℕ)
 counted_bytes = do
   n ← number
@@ -108,8 +108,8 @@ abbrev pub row_from : Result (Field × List ℕ) Fault → (List ℕ → Reading
 row_from (Ok x) rest = put x.0 (rest x.1)
 row_from (Err f) rest = record { value = []; faults = f ∷ [] }
 
--- The row of the bytes that are left after so many. The count says how many bytes of the last field
--- are to come.
+-- The row of the bytes that are left after this number of bytes, which are those of the last field
+-- that are still to come.
 unfoldable pub row_after : ℕ → List ℕ → Reading (List Field)
 unfolding field
 row_after skip [] = done []

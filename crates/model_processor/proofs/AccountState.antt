@@ -1,4 +1,4 @@
--- The same of all accounts in the book.
+-- What the lock keeps of all accounts in the book, and how it goes on where one account changes.
 use Rattle.std.proofs.Common.{◌≡◌, Bool, List, [], ◌∷◌, length, sym, refl, ap, ◌∙◌, subst, arith, ◌⊎◌, inl, inr}
 use Rattle.std.specs.Prelude.{Contains, Option, Some, None, filter_map}
 use Rattle.std.specs.List.{AllByRecursion}
@@ -13,7 +13,7 @@ use Rattle.model_processor.specs.AnyAccounts.{AnyAccount, account_in, on_pass, o
 use Rattle.model_processor.specs.Kept.{Agrees, IsOf, IsShared, Kept}
 use Rattle.model_processor.proofs.Lists.{part_same}
 
--- where no account is open, nothing is said
+-- Where no account is open, whatever the lock guards is what the accounts share.
 pub none_shared : (origin : Origin) (left : Bool) (desk : Desk) (holders : List AnyAccount) → holders ≡ [] → IsShared origin left desk holders
 none_shared origin left desk holders none h there = absurd (let few = there.1 in let e = ap length none in omega arith)
 
@@ -52,6 +52,7 @@ module _ {V W : Type 0} (part : V → Option W) where
 -- ---- the worker's account is there
 
 module _ (origin : Origin) (left : Bool) (desk : Desk) (holders : List AnyAccount) (h : AnyAccount) (k : Kept origin left desk holders) (there : Contains holders h) (is : h ≡ worker (origin_in h) (worker_in h)) where
+  -- The worker's account says what the processor began with.
   pub origin_there : origin_in h ≡ origin
   origin_there = subst (IsOf origin) is (All-contains (IsOf origin) holders h (All-from_recursion (IsOf origin) holders k.origins) there)
 
@@ -60,21 +61,25 @@ module _ (origin : Origin) (left : Bool) (desk : Desk) (holders : List AnyAccoun
       let P : AnyAccount → Type 0 = λ x. (w : WorkerAccount) → worker_account x ≡ Some w → w ≡ k.account in
       All-contains P holders h (All-from_recursion P holders (one_there worker_account holders k.account (inl k.one_worker))) there (worker_in h) (ap worker_account is)
 
+  -- The worker's account says that the worker has left just where the mark beside the desk does.
   pub left_there : (worker_in h).left ≡ left
   left_there = ap (λ (w : WorkerAccount). w.left) worker_there ∙ k.left_is
 
+  -- The desk and the accounts of the passes agree with the worker's account.
   pub agrees_there : Agrees desk (pass_accounts holders) (worker_in h)
   agrees_there = subst (Agrees desk (pass_accounts holders)) (sym worker_there) k.agrees
 
--- ---- an account is told something
+-- ---- an account learns something
 
 module _ (origin : Origin) (left : Bool) (desk desk' : Desk) (holders holders' : List AnyAccount) (h h' : AnyAccount) (shared : IsShared origin left desk holders) (r : Replaces holders h h' holders') (config : desk'.config ≡ desk.config) where
+  -- An account that is replaced by another one is in the book.
   pub open_there : Contains holders h
   open_there = contains_replaced holders h h' holders' r
 
   k : Kept origin left desk holders
   k = shared h open_there
 
+  -- What the lock keeps goes on where a pass's account learns something that agrees with the desk.
   pub kept_pass : (f : PassAccount → PassAccount) → h ≡ pass (account_in h) → h' ≡ on_pass f h
       → ((w : WorkerAccount) (new : List PassAccount) → w.left ≡ left → Replaces (pass_accounts holders) (account_in h) (f (account_in h)) new → Agrees desk (pass_accounts holders) w → Agrees desk' new w) → IsShared origin left desk' holders'
   kept_pass f is changed step other there =
@@ -91,6 +96,8 @@ module _ (origin : Origin) (left : Bool) (desk desk' : Desk) (holders holders' :
         agrees = step k.account (pass_accounts holders') k.left_is (part_replaced pass_account holders a b holders' (account_in h) (f (account_in h)) change refl refl) k.agrees;
       }
 
+  -- What the lock keeps goes on where the worker's account learns something that agrees with the
+  -- desk.
   pub kept_worker : (f : WorkerAccount → WorkerAccount) (left' : Bool) → ((worker_in h).left ≡ left → (f (worker_in h)).left ≡ left') → h ≡ worker (origin_in h) (worker_in h) → h' ≡ on_worker f h
       → ((passes : List PassAccount) → Agrees desk passes (worker_in h) → Agrees desk' passes (f (worker_in h))) → IsShared origin left' desk' holders'
   kept_worker f left' marks is changed step other there =

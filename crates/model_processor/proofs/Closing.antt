@@ -1,4 +1,4 @@
--- How the accounts of a processor begin, and what they come to.
+-- How the accounts of a processor begin, and what they say in the end.
 use Rattle.std.proofs.Common.{◌≡◌, ℕ, ◌+◌, ◌≤◌, Bool, false, List, [], ◌∷◌, ◌++◌, length, sym, refl, ap, ◌∙◌, subst, arith}
 use Rattle.std.specs.Prelude.{IsPermutation, Option, None}
 use Rattle.std.specs.List.{AllByRecursion, flat_map}
@@ -52,12 +52,13 @@ module _ (origin said of_worker : Origin) (marked : Bool) (desk : Desk) (all res
   said_is : said ≡ origin
   said_is = (each_removed (IsOf origin) all (processor said) rest r k.origins).0
 
+  -- Where as many accounts of passes are closed as there are passes, no account is left.
   pub none_left : left ≡ []
   none_left =
       let few = k.few in let one = length_removed all (processor said) rest r in let two = length_removed rest (worker of_worker w) passes q in let e = ap (λ (o : Origin). o.passes) said_is in
       nil_from_length left (omega arith)
 
-  -- the worker's account says what the processor's says
+  -- The worker's account says the same origin as the processor's.
   pub of_worker_is : of_worker ≡ said
   of_worker_is = (each_removed (IsOf origin) rest (worker of_worker w) passes q (each_removed (IsOf origin) all (processor said) rest r k.origins).1).0 ∙ sym said_is
 
@@ -66,6 +67,7 @@ module _ (origin said of_worker : Origin) (marked : Bool) (desk : Desk) (all res
       let there : worker_accounts rest ≡ k.account ∷ [] = part_kept worker_account all (processor said) rest r refl ∙ k.one_worker in
       one_removed k.account w (worker_accounts passes) (subst (λ (ws : List WorkerAccount). Removes ws w (worker_accounts passes)) there (part_removed worker_account rest (worker of_worker w) passes w q refl))
 
+  -- The desk that is left, the closed accounts of the passes and that of the worker agree.
   pub account_end : IsAccountOf said desk done w
   account_end =
       let same : pass_accounts passes ≡ pass_accounts all = part_kept pass_account rest (worker of_worker w) passes q refl ∙ part_kept pass_account all (processor said) rest r refl in
@@ -77,7 +79,7 @@ module _ (origin said of_worker : Origin) (marked : Bool) (desk : Desk) (all res
 
 -- ---- what it says
 
--- each batch was handed or dropped
+-- The spans of ended batches are those of the handed ones and those of the dropped ones.
 parted : (batches : List EndedBatch) → IsPermutation (flat_map (λ (b : EndedBatch). b.spans) batches)
     (flat_map (λ (b : EndedBatch). spans_if_settled b.ending b.spans) batches ++ flat_map (λ (b : EndedBatch). spans_if_dropped b.ending b.spans) batches)
 parted [] = IsPermutation-refl []
@@ -114,7 +116,7 @@ module _ (origin : Origin) (desk : Desk) (passes : List PassAccount) (w : Worker
       let z : length (handed_out_spans w.out) ≡ 0 = ap (λ (o : Option OutBatch). length (handed_out_spans o)) none in
       let h = x.agrees.batches.handed in omega arith
 
-  -- where the worker's account is final
+  -- Where the worker's account is final, the processor has all that its clauses say.
   pub accounted : EndByWork origin w → IsAccounted origin desk passes w
   accounted e = record {
     spans = queued_are e.none_out;
@@ -156,7 +158,7 @@ agrees_new config made accounts all = record {
   told = each_same new_account _ (λ is. cc) accounts all;
 }
 
--- a book of two accounts, of which the second is told something
+-- In a book of two accounts, of which the second learns something, the second alone changes.
 two_replaced : {V : Type 0} (x u v w : V) (new : List V) → (x ≡ v → ⊥) → Replaces (x ∷ u ∷ []) v w new → new ≡ x ∷ w ∷ []
 two_replaced {V} x u v w new apart r = by_before r.0 r.1 r.2 r.3
   where
@@ -189,8 +191,8 @@ kept_new origin made holders opened is few sizes all =
       agrees = agrees_new origin.desk made (pass_accounts opened) (new_accounts opened all).0;
     })
 
--- the same of a book in which the processor's account was opened and told, then the worker's, and
--- then those of the passes
+-- What the lock keeps holds of a new desk, once the processor's account, the worker's and those of
+-- the passes were opened in turn.
 pub kept_begins : (origin : Origin) (made : ℕ) (desk : Desk) (empty one first two second holders opened : List AnyAccount) (p p' u u' : AnyAccount) → desk ≡ new_desk origin.desk made → empty ≡ [] → one ≡ empty ++ processor new_origin ∷ [] → Replaces one p p' first → p' ≡ processor origin
     → two ≡ first ++ worker new_origin new_worker ∷ [] → u ≡ worker new_origin new_worker → Replaces two u u' second → u' ≡ worker origin new_worker → holders ≡ second ++ opened
     → length opened ≤ origin.passes → 1 ≤ origin.desk.batch → AllByRecursion (λ h. h ≡ pass new_account) opened → Kept origin false desk holders

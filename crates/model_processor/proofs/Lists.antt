@@ -13,7 +13,7 @@ use Rattle.model_processor.specs.WorkerClauses.{AreFrom, count_between}
 
 -- ---- elements
 
--- more of the one is more of both, where others come after
+-- Elements that one list has more are those that it has more with other elements after it.
 pub grown_between : {X : Type 0} (xs xs' more others : List X) → IsPermutation xs' (xs ++ more) → IsPermutation (xs' ++ others) ((xs ++ others) ++ more)
 grown_between {X} xs xs' more others grown =
     let a = IsPermutation-append_left others xs' (xs ++ more) grown in
@@ -24,6 +24,7 @@ grown_between {X} xs xs' more others grown =
 
 -- ---- each
 
+-- A property of all elements of a list holds of all that are left after a dropped front.
 pub each_drop : {X : Type 0} (P : X → Type 0) (n : ℕ) (xs : List X) → AllByRecursion P xs → AllByRecursion P (drop n xs)
 each_drop P zero xs all = all
 each_drop P (suc n) [] all = tt
@@ -32,7 +33,7 @@ each_drop P (suc n) (x ∷ xs) all = each_drop P n xs all.1
 -- ---- one account changes
 
 module _ {V W : Type 0} where
-  -- one of another kind
+  -- An account of another kind may change, and those of this kind stay the same.
   pub part_same : (part : V → Option W) (old : List V) (v w : V) (new : List V) → Replaces old v w new → part v ≡ None → part w ≡ None → filter_map part new ≡ filter_map part old
   part_same part old v w new r none none' = ap (filter_map part) r.3 ∙ filter_map-append part r.0 (w ∷ r.1) ∙ ap (λ (ws : List W). filter_map part r.0 ++ ws) (skip w none' ∙ sym (skip v none)) ∙ sym (filter_map-append part r.0 (v ∷ r.1)) ∙ sym (ap (filter_map part) r.2)
     where
@@ -41,12 +42,15 @@ module _ {V W : Type 0} where
 
 -- ---- how many tickets are between
 
+-- Spans in another order have as many tickets between two numbers.
 pub between-same : (from upto : ℕ) (xs ys : List SpanData) → IsPermutation xs ys → count_between from upto xs ≡ count_between from upto ys
 between-same from upto xs ys same = sym (sum_by-IsPermutation (λ (s : SpanData). cond (nat_le from s.ticket && nat_lt s.ticket upto) 1 0) xs ys same)
 
+-- The tickets of two lists between two numbers are as many as those of each list together.
 pub between-append : (from upto : ℕ) (xs ys : List SpanData) → count_between from upto (xs ++ ys) ≡ count_between from upto xs + count_between from upto ys
 between-append from upto xs ys = sum_by-append (λ (s : SpanData). cond (nat_le from s.ticket && nat_lt s.ticket upto) 1 0) xs ys
 
+-- All spans of a list are counted where all their tickets are between the two numbers.
 pub between-all : (from upto : ℕ) (xs : List SpanData) → AreFrom from xs → AllByRecursion (λ (s : SpanData). s.ticket < upto) xs → count_between from upto xs ≡ length xs
 between-all from upto [] a b = refl
 between-all from upto (x ∷ xs) a b =

@@ -47,6 +47,8 @@ module _ (next next' : ℕ) (es : List SpanEnd) (ss : List SpanData) (n : QueueN
     still_full : (ds : List Drop) → AllByRecursion (FoundItFull queue (all_accepted old)) ds → AllByRecursion (FoundItFull queue (all_accepted new)) ds
     still_full ds all = each_map (FoundItFull queue (all_accepted old)) (FoundItFull queue (all_accepted new)) ds (λ d was. let m = more_between d.floor d.span.ticket in omega arith) all
 
+    -- What holds of accepted spans holds with newly queued ones, if each new drop found the queue
+    -- full.
     pub queues_step : AllByRecursion (FoundItFull queue spans) (filter_map drop_in es) → Queues queue next' new (spans ++ ss)
     queues_step found = record {
       queued = same_more (all_accepted old) (all_accepted new) ss spans all_accepted_is k.queued;
@@ -63,6 +65,7 @@ module _ (next next' : ℕ) (es : List SpanEnd) (ss : List SpanData) (n : QueueN
 
 -- ---- floors
 
+-- A floor and what was asked for are kept where later tickets are queued.
 pub floor_step : (next next' : ℕ) (waiting spans ss : List SpanData) (floor : ℕ) (asked : Asked) → next ≤ next' → AreFrom next ss → KeepsFloor next waiting spans floor asked → KeepsFloor next' (waiting ++ ss) (spans ++ ss) floor asked
 floor_step next next' waiting spans ss floor asked grows from k = record {
   above = each_append (λ (s : SpanData). floor ≤ s.ticket) waiting ss k.above (each_map (λ (s : SpanData). next ≤ s.ticket) (λ (s : SpanData). floor ≤ s.ticket) ss (λ s le. let f = k.floor_given in omega arith) from);
@@ -73,7 +76,7 @@ floor_step next next' waiting spans ss floor asked grows from k = record {
       (each_append (λ (s : SpanData). asked.ticket ≤ s.ticket) (drop asked.mark spans) ss k.behind (each_map (λ (s : SpanData). next ≤ s.ticket) (λ (s : SpanData). asked.ticket ≤ s.ticket) ss (λ s le. let f = k.asked_given in omega arith) from));
 }
 
--- one pass may have asked, or be answered
+-- All floors are kept where later tickets are queued, and one pass may ask or get an answer.
 pub floors_step : (next next' : ℕ) (waiting spans ss : List SpanData) (old new : List PassAccount) (a b : PassAccount) → Replaces old a b new → next ≤ next' → AreFrom next ss → KeepsFloors next waiting spans old
     → KeepsFloor next' (waiting ++ ss) (spans ++ ss) b.floor b.asked → KeepsFloors next' (waiting ++ ss) (spans ++ ss) new
 floors_step next next' waiting spans ss old new a b r grows from k one =
@@ -81,7 +84,7 @@ floors_step next next' waiting spans ss old new a b r grows from k one =
     (each_map (λ (x : PassAccount). KeepsFloor next waiting spans x.floor x.asked) (λ (x : PassAccount). KeepsFloor next' (waiting ++ ss) (spans ++ ss) x.floor x.asked) old (λ x was. floor_step next next' waiting spans ss x.floor x.asked grows from was) k)
     one
 
--- what was asked for is flushed, where no more than so many were taken
+-- A floor rises to the ticket asked for, where as many spans were taken as were asked for.
 pub floor_flushed : (next : ℕ) (taken waiting : List SpanData) (floor : ℕ) (asked : Asked) → asked.mark ≤ length taken → KeepsFloor next waiting (taken ++ waiting) floor asked → KeepsFloor next waiting (taken ++ waiting) asked.ticket asked
 floor_flushed next taken waiting floor asked le k = record {
   above =
@@ -94,7 +97,7 @@ floor_flushed next taken waiting floor asked le k = record {
   behind = k.behind;
 }
 
--- a pass asks for all that was accepted
+-- A floor is kept where its pass asks for all spans accepted so far.
 pub floor_asked : (next : ℕ) (waiting spans : List SpanData) (floor mark : ℕ) (asked : Asked) → mark ≡ length spans → KeepsFloor next waiting spans floor asked → KeepsFloor next waiting spans floor (record { ticket = next; mark = mark })
 floor_asked next waiting spans floor mark asked is k = record {
   above = k.above;

@@ -1,5 +1,5 @@
 -- What one more step of a pass does to what the lock keeps of tickets, of late spans and of names,
--- with what that begins, and what it comes to.
+-- with how that begins and how it ends.
 use Rattle.std.proofs.Common.{◌≡◌, ℕ, ◌+◌, ◌-◌, ◌^◌, ◌<◌, ◌≤◌, Bool, true, false, List, [], ◌∷◌, ◌++◌, length, sym, refl, ap, ◌∙◌, subst, arith}
 use Rattle.std.specs.Prelude.{IsPermutation, map, ◌==◌, ◌||◌, nat_lt}
 use Rattle.std.specs.List.{AllByRecursion}
@@ -23,7 +23,7 @@ pub record News (next next' : ℕ) (es : List SpanEnd) : Type 0 where
   pub from : AllByRecursion (λ t. next ≤ t) (map ticket_of es)
   pub upto : AllByRecursion (λ t. t < next') (map ticket_of es)
 
--- no span ended, or one did, under the next ticket
+-- No ticket is new where no span ended.
 pub no_news : (next : ℕ) → News next next []
 no_news next = record {
   grows = omega arith;
@@ -33,6 +33,7 @@ no_news next = record {
   upto = tt;
 }
 
+-- One span that ends under the next ticket is all that is new.
 pub one_news : (next : ℕ) (e : SpanEnd) → ticket_of e ≡ next → News next (next + 1) (e ∷ [])
 one_news next e is = record {
   grows = omega arith;
@@ -49,6 +50,7 @@ module _ (next next' : ℕ) (es : List SpanEnd) (n : News next next' es) (old ne
   all_tickets_is : IsPermutation (all_tickets new) (all_tickets old ++ map ticket_of es)
   all_tickets_is = gathered_replaced tickets old a b new (map ticket_of es) r tickets_is
 
+  -- Tickets are given once and rise still where a pass gets new ones from the next ticket on.
   pub gives_step : GivesTickets next' new
   gives_step =
       let under = each_at (λ (x : PassAccount). AllByRecursion (λ t. t < next) (tickets x)) old a b new r k.below in
@@ -62,6 +64,7 @@ module _ (next next' : ℕ) (es : List SpanEnd) (n : News next next' es) (old ne
             (subst Rises (sym tickets_is) (rises-append (tickets a) (map ticket_of es) next was under n.rise n.from));
       }
 
+-- New accounts have no tickets, and the next ticket is 0.
 pub gives_new : (accounts : List PassAccount) → AllByRecursion (λ a. a ≡ new_account) accounts → GivesTickets 0 accounts
 gives_new accounts all = record {
   given_once = subst (λ (ns : List ℕ). IsPermutation ns []) (sym (nothing_of new_account tickets refl accounts all)) (IsPermutation-refl []);
@@ -69,6 +72,7 @@ gives_new accounts all = record {
   rising = each_same new_account _ tt accounts all;
 }
 
+-- The closed accounts have the tickets that the open ones had.
 pub gives_closed : (next : ℕ) (old done : List PassAccount) → Closes old done [] → GivesTickets next old → GivesTickets next done
 gives_closed next old done c k = record {
   given_once = IsPermutation-trans (all_tickets done) (all_tickets old) (numbers_below next) (gathered_all tickets old done c) k.given_once;
@@ -81,6 +85,7 @@ gives_closed next old done c k = record {
 abbrev pub closed_by : ℕ → ℕ → Bool
 closed_by next shutdowns = nat_lt 0 shutdowns || (next == 2 ^ 64 - 1)
 
+-- A number is itself plus zero.
 pub none_more : (n : ℕ) → n ≡ n + 0
 none_more n = omega arith
 
@@ -91,15 +96,16 @@ open-is count n is = or-none (nat_lt 0 n) (count == 2 ^ 64 - 1) is
     or-none true d e = sym e
     or-none false d e = refl
 
--- a ticket is given
+-- A given ticket closes admission just where it is the last one, if there was no shutdown.
 pub closes-last : (count n : ℕ) → false ≡ closed_by count n → (count + 1 == 2 ^ 64 - 1) ≡ closed_by (count + 1) n
 closes-last count n is = rw (open-is count n is) refl
 
--- after a shutdown none is admitted
+-- After a shutdown no span is admitted.
 pub shut-closes : (count n : ℕ) → true ≡ closed_by count (n + 1)
 shut-closes count n = grind (arith)
 
 module _ (next next' late late' : ℕ) (closed closed' : Bool) (old new : List PassAccount) (a b : PassAccount) (r : Replaces old a b new) (k : CountsLate late next closed old) where
+  -- The count of late spans, and whether spans are admitted, stay right after a step of one pass.
   pub late_step : (lates shuts : ℕ) → b.late ≡ a.late + lates → b.shutdowns ≡ a.shutdowns + shuts → ((n : ℕ) → late ≡ capped n → late' ≡ capped (n + lates)) → ((n : ℕ) → (0 < n → closed ≡ true) → 0 < n + lates → closed' ≡ true)
       → ((n : ℕ) → closed ≡ closed_by next n → closed' ≡ closed_by next' (n + shuts)) → CountsLate late' next' closed' new
   late_step lates shuts late_is shuts_is counted late_if closes =
@@ -111,6 +117,7 @@ module _ (next next' late late' : ℕ) (closed closed' : Bool) (old new : List P
         closed_is = closes (shutdown_count old) k.closed_is ∙ ap (closed_by next') (sym d);
       }
 
+-- New accounts count no late span, and spans are admitted.
 pub late_new : (accounts : List PassAccount) → AllByRecursion (λ a. a ≡ new_account) accounts → CountsLate 0 0 false accounts
 late_new accounts all = record {
   counted = ap capped (sym (zero_of new_account (λ (a : PassAccount). a.late) refl accounts all));
@@ -118,6 +125,7 @@ late_new accounts all = record {
   closed_is = ap (closed_by 0) (sym (zero_of new_account (λ (a : PassAccount). a.shutdowns) refl accounts all));
 }
 
+-- The closed accounts count the late spans that the open ones counted.
 pub late_closed : (late next : ℕ) (closed : Bool) (old done : List PassAccount) → Closes old done [] → CountsLate late next closed old → CountsLate late next closed done
 late_closed late next closed old done c k = record {
   counted = k.counted ∙ ap capped (sum_all (λ (a : PassAccount). a.late) old done c);
@@ -127,7 +135,7 @@ late_closed late next closed old done c k = record {
 
 -- ---- names of dropped spans
 
--- some more are dropped and named, and some are popped
+-- Dropped spans stay named and counted where some more are dropped and named, and some are popped.
 pub names_step : (ledger ledger' : List Entry) (counts counts' : DropCounts) (dropped dropped' popped popped' ds ps : List Entry) → IsPermutation dropped' (dropped ++ ds) → IsPermutation popped' (popped ++ ps) → IsPermutation (ds ++ ledger) (ledger' ++ ps)
     → counts' ≡ drop_counts (dropped ++ ds) → NamesDrops ledger counts dropped popped → NamesDrops ledger' counts' dropped' popped'
 names_step ledger ledger' counts counts' dropped dropped' popped popped' ds ps more gone step counted k = record {
@@ -135,7 +143,7 @@ names_step ledger ledger' counts counts' dropped dropped' popped popped' ds ps m
   counted = counted ∙ counts_same dropped' (dropped ++ ds) more;
 }
 
--- some more are lost and named, and some are popped
+-- Lost spans stay named and counted where some more are lost and named, and some are popped.
 pub losses_step : (ledger ledger' : List Entry) (count count' : ℕ) (lost lost' popped popped' ds ps : List Entry) → IsPermutation lost' (lost ++ ds) → IsPermutation popped' (popped ++ ps) → IsPermutation (ds ++ ledger) (ledger' ++ ps)
     → count' ≡ count + length ds → NamesLosses ledger count lost popped → NamesLosses ledger' count' lost' popped'
 losses_step ledger ledger' count count' lost lost' popped popped' ds ps more gone step counted k = record {
@@ -143,14 +151,14 @@ losses_step ledger ledger' count count' lost lost' popped popped' ds ps more gon
   counted = counted ∙ ap (λ (n : ℕ). n + length ds) k.counted ∙ sym (length-append lost ds) ∙ length_permutation lost' (lost ++ ds) more;
 }
 
--- the same entries, those that were popped in another order
+-- The lost spans stay named where the popped entries are in another order.
 pub losses_same : (ledger : List Entry) (count : ℕ) (lost popped popped' : List Entry) → IsPermutation popped' popped → NamesLosses ledger count lost popped → NamesLosses ledger count lost popped'
 losses_same ledger count lost popped popped' out k = record {
   named = IsPermutation-trans lost (ledger ++ popped) (ledger ++ popped') k.named (IsPermutation-append_right ledger popped popped' (IsPermutation-sym popped' popped out));
   counted = k.counted;
 }
 
--- the same entries in another order
+-- The dropped spans stay named where they and the popped entries are in another order.
 pub names_same : (ledger : List Entry) (counts : DropCounts) (dropped dropped' popped popped' : List Entry) → IsPermutation dropped' dropped → IsPermutation popped' popped → NamesDrops ledger counts dropped popped → NamesDrops ledger counts dropped' popped'
 names_same ledger counts dropped dropped' popped popped' same out k = record {
   named =

@@ -33,7 +33,7 @@ pub record Keeps (desk desk' : Desk) (ss : List SpanData) : Type 0 where
   pub handed : desk'.handed ≡ desk.handed
   pub closed : desk.closed ≡ true → (desk'.closed ≡ true) × (ss ≡ [])
 
--- its reason is that there was no room
+-- the entry's reason is that the queue had no room
 abbrev pub AsFull : Entry → Type 0
 AsFull e = e.reason ≡ queue_full
 
@@ -82,6 +82,7 @@ module _ (desk desk' : Desk) (w : WorkerAccount) (old new : List PassAccount) (a
   accepted_is : accepted desk' w ≡ accepted desk w ++ ss
   accepted_is = ap (λ (xs : List SpanData). taken_spans w ++ xs) same.waiting ∙ sym (append_assoc (taken_spans w) desk.waiting ss)
 
+  -- The desk and the accounts agree after a step of one pass that changes each part as it may.
   pub agrees_pass : Agrees desk' new w
   agrees_pass = record {
     queues = rw (same.config, accepted_is) (queues_step desk.next_ticket desk'.next_ticket es ss n old new a b r ends desk.config.queue (accepted desk w) k.queues found);
@@ -109,7 +110,7 @@ module _ (desk desk' : Desk) (w : WorkerAccount) (old new : List PassAccount) (a
 nothing_queued : (next : ℕ) → QueueNews next next [] []
 nothing_queued next = record { news = no_news next; spans = refl; spans_rise = tt; spans_from = tt; spans_upto = tt }
 
--- the floor of a pass of which nothing is known, where none was queued
+-- A floor is kept where no span was queued.
 still_above : (next : ℕ) (waiting spans : List SpanData) (floor : ℕ) (asked : Asked) → KeepsFloor next waiting spans floor asked → KeepsFloor next (waiting ++ []) (spans ++ []) floor asked
 still_above next waiting spans floor asked k = rw (append-nil waiting, append-nil spans) k
 
@@ -117,10 +118,11 @@ module _ (desk : Desk) (w : WorkerAccount) (old new : List PassAccount) (a b : P
   floor_of : KeepsFloor desk.next_ticket desk.waiting (accepted desk w) a.floor a.asked
   floor_of = each_at (λ (x : PassAccount). KeepsFloor desk.next_ticket desk.waiting (accepted desk w) x.floor x.asked) old a b new r k.floors
 
-  -- how many were accepted
+  -- The desk counts the spans that were accepted.
   pub count_is : accepted_count desk ≡ length (accepted desk w)
   count_is = ap (λ (n : ℕ). n + length desk.waiting) k.batches.taken ∙ sym (length-append (taken_spans w) desk.waiting)
 
+  -- The tickets of a pass are below the next ticket.
   pub below_is : AllByRecursion (λ t. t < desk.next_ticket) (tickets a)
   below_is = each_at (λ (x : PassAccount). AllByRecursion (λ t. t < desk.next_ticket) (tickets x)) old a b new r k.tickets.below
 
@@ -135,11 +137,11 @@ module _ (desk : Desk) (w : WorkerAccount) (old new : List PassAccount) (a b : P
       late_step desk.next_ticket desk.next_ticket desk.late desk.late desk.closed desk.closed old new a b r k.late 0 0 (l ∙ none_more a.late) (d ∙ none_more a.shutdowns)
       (λ n is. is ∙ ap capped (none_more n)) (λ n was some. was (omega arith)) (λ n is. is ∙ ap (closed_by desk.next_ticket) (none_more n))
 
-  -- where a pass is told nothing of the worker
+  -- A pass that learns nothing of the worker still says that it has left only where it has.
   still_told : b.told_left ≡ a.told_left → b.told_left ≡ true → w.left ≡ true
   still_told same is = each_at (λ (x : PassAccount). x.told_left ≡ true → w.left ≡ true) old a b new r k.told (sym same ∙ is)
 
-  -- nothing is done at the desk
+  -- The accounts agree where a pass learns something and the desk changes in what is asked alone.
   quiet : (ask : ℕ) → b.ends ≡ a.ends → b.popped ≡ a.popped → b.popped_lost ≡ a.popped_lost → b.late ≡ a.late → b.shutdowns ≡ a.shutdowns → (b.told_left ≡ true → w.left ≡ true) → KeepsFloor desk.next_ticket desk.waiting (accepted desk w) b.floor b.asked
       → Agrees (record desk { asked = ask }) new w
   quiet ask ends popped lost late shuts tells one =
@@ -148,12 +150,14 @@ module _ (desk : Desk) (w : WorkerAccount) (old new : List PassAccount) (a b : P
       (ends ∙ sym (append-nil a.ends)) (popped ∙ sym (append-nil a.popped)) tt same_ledger same_counts (same_late late shuts) tells (still_above desk.next_ticket desk.waiting (accepted desk w) b.floor b.asked one)
       tt (pops_none desk (record desk { asked = ask }) a b lost refl refl)
 
+  -- The accounts agree after a flush, which asks for all spans accepted so far.
   pub flush_agrees : (desk' : Desk) → desk' ≡ record desk { asked = accepted_count desk } → b ≡ after_flush desk.next_ticket (accepted_count desk) a → Agrees desk' new w
   flush_agrees desk' is told =
       subst (λ (d : Desk). Agrees d new w) (sym is) (quiet (accepted_count desk) (ap (λ (x : PassAccount). x.ends) told) (ap (λ (x : PassAccount). x.popped) told) (ap (λ (x : PassAccount). x.popped_lost) told) (ap (λ (x : PassAccount). x.late) told) (ap (λ (x : PassAccount). x.shutdowns) told)
       (still_told (ap (λ (x : PassAccount). x.told_left) told))
       (rw (ap (λ (x : PassAccount). x.floor) told, ap (λ (x : PassAccount). x.asked) told) (floor_asked desk.next_ticket desk.waiting (accepted desk w) a.floor (accepted_count desk) a.asked count_is floor_of)))
 
+  -- The accounts agree where a pass learns that what it asked for is flushed.
   pub flushed_agrees : is_flushed desk a.asked.mark ≡ true → b ≡ after_flushed a → Agrees desk new w
   flushed_agrees flushed told =
       let le : a.asked.mark ≤ length (taken_spans w) = let t = k.batches.taken in grind (arith) in
@@ -161,12 +165,14 @@ module _ (desk : Desk) (w : WorkerAccount) (old new : List PassAccount) (a b : P
       (still_told (ap (λ (x : PassAccount). x.told_left) told))
       (rw (ap (λ (x : PassAccount). x.floor) told, ap (λ (x : PassAccount). x.asked) told) (floor_flushed desk.next_ticket (taken_spans w) desk.waiting a.floor a.asked le floor_of))
 
+  -- The accounts agree where a pass learns that the worker has left, if it has.
   pub told_left_agrees : w.left ≡ true → b ≡ after_told_left a → Agrees desk new w
   told_left_agrees left told =
       quiet desk.asked (ap (λ (x : PassAccount). x.ends) told) (ap (λ (x : PassAccount). x.popped) told) (ap (λ (x : PassAccount). x.popped_lost) told) (ap (λ (x : PassAccount). x.late) told) (ap (λ (x : PassAccount). x.shutdowns) told)
       (λ _. left)
       (rw (ap (λ (x : PassAccount). x.floor) told, ap (λ (x : PassAccount). x.asked) told) floor_of)
 
+  -- The accounts agree after a shutdown, which asks for all accepted spans and closes the desk.
   pub shutdown_agrees : (desk' : Desk) → desk' ≡ record desk { asked = accepted_count desk; closed = true } → b ≡ after_shutdown desk.next_ticket (accepted_count desk) a → Agrees desk' new w
   shutdown_agrees desk' is told =
       let late_is : b.late ≡ a.late + 0 = ap (λ (x : PassAccount). x.late) told ∙ none_more a.late in
@@ -179,6 +185,7 @@ module _ (desk : Desk) (w : WorkerAccount) (old new : List PassAccount) (a b : P
       (ap (λ (x : PassAccount). x.ends) told ∙ sym (append-nil a.ends)) (ap (λ (x : PassAccount). x.popped) told ∙ sym (append-nil a.popped)) tt same_ledger same_counts late (still_told (ap (λ (x : PassAccount). x.told_left) told)) (still_above desk.next_ticket desk.waiting (accepted desk w) b.floor b.asked one)
       tt (pops_none desk (record desk { asked = accepted_count desk; closed = true }) a b (ap (λ (x : PassAccount). x.popped_lost) told) refl refl))
 
+  -- The accounts agree after a pass pops the newest entry of the ledger.
   pub pop_agrees : (desk' : Desk) (entry : Entry) → desk.ledger ≡ entry ∷ desk'.ledger → desk' ≡ record desk { ledger = desk'.ledger } → b ≡ after_pop entry a → Agrees desk' new w
   pop_agrees desk' entry first is told =
       let one : KeepsFloor desk.next_ticket desk.waiting (accepted desk w) b.floor b.asked = rw (ap (λ (x : PassAccount). x.floor) told, ap (λ (x : PassAccount). x.asked) told) floor_of in
@@ -190,6 +197,7 @@ module _ (desk : Desk) (w : WorkerAccount) (old new : List PassAccount) (a b : P
       same_counts (same_late (ap (λ (x : PassAccount). x.late) told) (ap (λ (x : PassAccount). x.shutdowns) told)) (still_told (ap (λ (x : PassAccount). x.told_left) told)) (still_above desk.next_ticket desk.waiting (accepted desk w) b.floor b.asked one)
       tt (pops_none desk (record desk { ledger = desk'.ledger }) a b (ap (λ (x : PassAccount). x.popped_lost) told) refl refl))
 
+  -- The accounts agree after a pass pops the newest entry of the ledger of lost spans.
   pub pop_lost_agrees : (desk' : Desk) (entry : Entry) → desk.lost ≡ entry ∷ desk'.lost → desk' ≡ record desk { lost = desk'.lost } → b ≡ after_pop_lost entry a → Agrees desk' new w
   pop_lost_agrees desk' entry first is told =
       let one : KeepsFloor desk.next_ticket desk.waiting (accepted desk w) b.floor b.asked = rw (ap (λ (x : PassAccount). x.floor) told, ap (λ (x : PassAccount). x.asked) told) floor_of in
@@ -207,6 +215,7 @@ module _ (desk : Desk) (w : WorkerAccount) (old new : List PassAccount) (a b : P
         count = refl;
       }))
 
+  -- The accounts agree after a pass drains both ledgers.
   pub drain_agrees : (desk' : Desk) (ds ls : List Entry) → IsPermutation desk.ledger ds → IsPermutation desk.lost ls → desk' ≡ record desk { ledger = []; lost = [] } → b ≡ after_drain ds ls a → Agrees desk' new w
   drain_agrees desk' ds ls all all_lost is told =
       let one : KeepsFloor desk.next_ticket desk.waiting (accepted desk w) b.floor b.asked = rw (ap (λ (x : PassAccount). x.floor) told, ap (λ (x : PassAccount). x.asked) told) floor_of in
@@ -224,6 +233,7 @@ module _ (desk : Desk) (w : WorkerAccount) (old new : List PassAccount) (a b : P
         count = refl;
       }))
 
+  -- The accounts agree after a late span is counted at a closed desk.
   pub late_agrees : (desk' : Desk) → desk.closed ≡ true → desk' ≡ record desk { late = capped (desk.late + 1) } → b ≡ after_late a → Agrees desk' new w
   late_agrees desk' closed is told =
       let one : KeepsFloor desk.next_ticket desk.waiting (accepted desk w) b.floor b.asked = rw (ap (λ (x : PassAccount). x.floor) told, ap (λ (x : PassAccount). x.asked) told) floor_of in
@@ -237,7 +247,7 @@ module _ (desk : Desk) (w : WorkerAccount) (old new : List PassAccount) (a b : P
 
   -- ---- a span ends, and is given a ticket
 
-  -- none was late, and the last ticket closes the desk
+  -- Where a ticket is given, no span was late, and the last ticket closes the desk.
   ticket_late : desk.closed ≡ false → b.late ≡ a.late → b.shutdowns ≡ a.shutdowns → CountsLate desk.late (desk.next_ticket + 1) (desk.next_ticket + 1 == 2 ^ 64 - 1) new
   ticket_late admits l d =
       late_step desk.next_ticket (desk.next_ticket + 1) desk.late desk.late desk.closed (desk.next_ticket + 1 == 2 ^ 64 - 1) old new a b r k.late 0 0 (l ∙ none_more a.late) (d ∙ none_more a.shutdowns)
@@ -246,6 +256,7 @@ module _ (desk : Desk) (w : WorkerAccount) (old new : List PassAccount) (a b : P
   open_closed : desk.closed ≡ false → {X : Type 0} → desk.closed ≡ true → X
   open_closed admits shut = absurd (let f = admits in cc)
 
+  -- The accounts agree after a span is queued under the next ticket.
   pub queued_agrees : (desk' : Desk) (s : SpanData) → desk.closed ≡ false → s.ticket ≡ desk.next_ticket → desk' ≡ record desk { next_ticket = desk.next_ticket + 1; closed = desk.next_ticket + 1 == 2 ^ 64 - 1; waiting = desk.waiting ++ s ∷ [] }
       → b ≡ record a { ends = a.ends ++ ends_of.accepted s ∷ [] } → Agrees desk' new w
   queued_agrees desk' s admits ticket is told =
@@ -258,7 +269,8 @@ module _ (desk : Desk) (w : WorkerAccount) (old new : List PassAccount) (a b : P
       (ap (λ (x : PassAccount). x.ends) told) (ap (λ (x : PassAccount). x.popped) told ∙ sym (append-nil a.popped)) tt same_ledger same_counts (ticket_late admits (ap (λ (x : PassAccount). x.late) told) (ap (λ (x : PassAccount). x.shutdowns) told)) (still_told (ap (λ (x : PassAccount). x.told_left) told)) one
       tt (pops_none desk (record desk { next_ticket = desk.next_ticket + 1; closed = desk.next_ticket + 1 == 2 ^ 64 - 1; waiting = desk.waiting ++ ss }) a b (ap (λ (x : PassAccount). x.popped_lost) told) refl refl))
 
-  -- the queue is full: those that wait have their tickets from the pass's floor on
+  -- The accounts agree after a span is dropped since the queue is full, whose waiting spans have
+  -- their tickets from the pass's floor on.
   pub full_agrees : (desk' : Desk) (d : Drop) (s : SpanData) → entry_in d ≡ entry_of queue_full s → desk.closed ≡ false → length desk.waiting ≡ desk.config.queue → d.span.ticket ≡ desk.next_ticket → d.floor ≡ a.floor
       → desk' ≡ record desk { next_ticket = desk.next_ticket + 1; closed = desk.next_ticket + 1 == 2 ^ 64 - 1; ledger = entry_in d ∷ desk.ledger; dropped = with_drops queue_full 1 desk.dropped } → b ≡ record a { ends = a.ends ++ ends_of.dropped d ∷ [] } → Agrees desk' new w
   full_agrees desk' d s named admits whole ticket floor is told =

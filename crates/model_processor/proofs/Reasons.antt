@@ -15,7 +15,7 @@ use Rattle.model_processor.specs.Batches.{EndByWork, IsByWork, IsEndByWork, Orig
 use Rattle.model_processor.specs.WorkerClauses.{all_entries}
 use Rattle.model_processor.specs.Kept.{DropAsFull}
 
--- its reason is one for which a batch may be dropped
+-- the entry's reason is one for which a batch may be dropped
 abbrev OfBatch : Entry → Type 0
 OfBatch e = can_drop_batch e.reason ≡ true
 
@@ -52,7 +52,7 @@ out_of_batch : (out : Option OutBatch) → AllByRecursion OfBatch (flat_map entr
 out_of_batch None = tt
 out_of_batch (Some b) = each_append OfBatch (entries_by (end_of b.body b.outcomes) b.spans) [] (abandoned_of_batch b.spans b.body b.outcomes) tt
 
--- work drops batches for such reasons alone, and so does who abandons one
+-- Batches are dropped for such reasons alone, by work as well as where one is abandoned.
 all_of_batch : (origin : Origin) (w : WorkerAccount) → EndByWork origin w → AllByRecursion OfBatch (worker_entries w)
 all_of_batch origin w k =
     subst (AllByRecursion OfBatch) (sym (ap (flat_map entries_in) k.ended ∙ flat_map-append entries_in k.earlier (abandon_out k.last)))
@@ -61,7 +61,7 @@ all_of_batch origin w k =
 of_batch_not_full : (reason : Reason) → can_drop_batch reason ≡ true → reason ≢ queue_full
 of_batch_not_full reason can full = absurd (let e = ap can_drop_batch full in cc)
 
--- so none is dropped as if it had found the queue full
+-- The worker drops no span for the reason that the queue was full.
 pub none_full : (origin : Origin) (w : WorkerAccount) → EndByWork origin w → AllByRecursion (λ (e : Entry). e.reason ≢ queue_full) (worker_entries w)
 none_full origin w k = each_map OfBatch (λ (e : Entry). e.reason ≢ queue_full) (worker_entries w) (λ e can. of_batch_not_full e.reason can) (all_of_batch origin w k)
 
@@ -85,7 +85,7 @@ passes_not_lost [] all = tt
 passes_not_lost (a ∷ passes) all =
     each_append NotLost (dropped_entries a) (all_dropped passes) (each_map (λ (e : Entry). e.reason ≡ queue_full) NotLost (dropped_entries a) (λ e full. ap is_lost full) all.0) (passes_not_lost passes all.1)
 
--- no dropped span has the reason of a lost one
+-- No dropped span has the reason of a lost one.
 pub none_lost : (origin : Origin) (passes : List PassAccount) (w : WorkerAccount) → DropAsFull passes → EndByWork origin w → AllByRecursion NotLost (all_entries passes w)
 none_lost origin passes w full k =
     each_append NotLost (all_dropped passes) (worker_entries w) (passes_not_lost passes full) (each_map OfBatch NotLost (worker_entries w) (λ e can. of_batch_not_lost e.reason can) (all_of_batch origin w k))
@@ -109,7 +109,7 @@ end_lost : (ending : BatchEnd) (spans : List SpanData) → AllByRecursion Lost (
 end_lost (settled body outcomes fate) spans = names_lost fate spans
 end_lost (dropped reason) spans = tt
 
--- each lost span has such a reason
+-- Each lost span has a reason of lost spans.
 pub all_lost : (ended : List EndedBatch) → AllByRecursion Lost (flat_map (λ (b : EndedBatch). lost_entries_by b.ending b.spans) ended)
 all_lost [] = tt
 all_lost (b ∷ ended) = each_append Lost (lost_entries_by b.ending b.spans) (flat_map (λ (b : EndedBatch). lost_entries_by b.ending b.spans) ended) (end_lost b.ending b.spans) (all_lost ended)

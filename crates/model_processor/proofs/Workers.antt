@@ -42,6 +42,7 @@ module _ (desk desk' : Desk) (u v : WorkerAccount) (passes : List PassAccount) (
     behind = f.behind;
   }
 
+  -- The desk and the accounts agree after a step of the worker that changes each part as it may.
   pub agrees_worker : Agrees desk' passes v
   agrees_worker = record {
     queues = rw (same.config, same.next, kept) k.queues;
@@ -60,7 +61,7 @@ one-mapped : {X Y : Type 0} (f : X → Option Y) (x : X) (o : Option Y) → f x 
 one-mapped f x None is = rw is refl
 one-mapped f x (Some y) is = rw is refl
 
--- more are named
+-- Entries that are pushed to a ledger are named by it, and the others still are.
 names_on : (ds ws ms ledger popped : List Entry) → IsPermutation (ds ++ ws) (ledger ++ popped) → IsPermutation (ds ++ (ws ++ ms)) ((reverse ms ++ ledger) ++ popped)
 names_on ds ws ms ledger popped same =
     let a : IsPermutation ((ds ++ ws) ++ ms) ((ledger ++ popped) ++ ms) = IsPermutation-append_left ms (ds ++ ws) (ledger ++ popped) same in
@@ -79,6 +80,7 @@ module _ (desk : Desk) (u : WorkerAccount) (passes : List PassAccount) (k : Agre
   abbrev ended_numbers : List ℕ
   ended_numbers = map (λ (b : EndedBatch). b.number) u.ended
 
+  -- The accounts agree after the worker takes the first waiting spans as a batch.
   pub take_agrees : (desk' : Desk) (now n : ℕ) (spans : List SpanData) → u.out ≡ None → spans ≡ take n desk.waiting → desk'.waiting ≡ drop n desk.waiting
       → desk' ≡ record desk { waiting = desk'.waiting; out = Some (record { number = desk.batches + 1; size = length spans; is_handed = false }); taken = desk.taken + length spans; batches = desk.batches + 1; last_moment = now }
       → Agrees desk' passes (after_take (desk.batches + 1) spans u)
@@ -112,6 +114,7 @@ module _ (desk : Desk) (u : WorkerAccount) (passes : List PassAccount) (k : Agre
     had : taken_spans u ≡ settled_spans ++ b.spans
     had = ap (λ (o : Option OutBatch). settled_spans ++ out_spans o) out
 
+    -- The accounts agree after the batch that is out is handed with a body.
     pub handed_agrees : (desk' : Desk) (body : List ℕ) → b.body ≡ None → desk' ≡ record desk { out = handed_out desk.out; handed = desk.handed + out_size desk.out } → Agrees desk' passes (after_handed body u)
     handed_agrees desk' body fresh is =
         let v = after_handed body u in
@@ -133,7 +136,7 @@ module _ (desk : Desk) (u : WorkerAccount) (passes : List PassAccount) (k : Agre
         })
         (λ is. is))
 
-    -- it ends
+    -- the batch ends
     module _ (v : WorkerAccount) (e : EndedBatch) (ended : v.ended ≡ u.ended ++ e ∷ []) (none : v.out ≡ None) (spans : e.spans ≡ b.spans) (drained : v.drained ≡ u.drained) where
       same_taken : taken_spans v ≡ taken_spans u
       same_taken =
@@ -158,6 +161,7 @@ module _ (desk : Desk) (u : WorkerAccount) (passes : List PassAccount) (k : Agre
       fates_more : fates v ≡ fates u ++ option_to_list (fate_in e.ending)
       fates_more = ap (filter_map (λ (x : EndedBatch). fate_in x.ending)) ended ∙ filter_map-append (λ (x : EndedBatch). fate_in x.ending) u.ended (e ∷ []) ∙ ap (λ (l : List Fate). fates u ++ l) (one-mapped (λ (x : EndedBatch). fate_in x.ending) e (fate_in e.ending) refl)
 
+    -- The accounts agree after the batch that is out, not yet handed, is dropped.
     pub drop_agrees : (desk' : Desk) (reason : Reason) → b.body ≡ None → desk' ≡ record desk { out = None; ledger = reverse (map (entry_of reason) b.spans) ++ desk.ledger; dropped = with_drops reason (length b.spans) desk.dropped } → Agrees desk' passes (after_drop reason u)
     drop_agrees desk' reason fresh is =
         let v = after_drop reason u in let e : EndedBatch = record { number = b.number; spans = b.spans; ending = batches.dropped reason } in let m = map (entry_of reason) b.spans in
@@ -186,6 +190,7 @@ module _ (desk : Desk) (u : WorkerAccount) (passes : List PassAccount) (k : Agre
         })
         (λ is. is))
 
+    -- The accounts agree after the batch that is out, once handed, is settled.
     pub settle_agrees : (desk' : Desk) (body : List ℕ) (outcomes : List Outcome) (fate : Fate) → b.body ≡ Some body → desk' ≡ after_settled fate b.spans desk → Agrees desk' passes (after_settle outcomes fate u)
     settle_agrees desk' body outcomes fate sent is =
         let v = after_settle outcomes fate u in let e : EndedBatch = record { number = b.number; spans = b.spans; ending = batches.settled body outcomes fate } in
@@ -218,6 +223,8 @@ module _ (desk : Desk) (u : WorkerAccount) (passes : List PassAccount) (k : Agre
 
   -- ---- all is drained
 
+  -- The accounts agree where the worker learns that all is drained, if no span waits or is
+  -- admitted.
   pub drained_agrees : desk.closed ≡ true → desk.waiting ≡ [] → Agrees desk passes (after_drained u)
   drained_agrees closed none =
       agrees_worker desk desk u (after_drained u) passes k (record { config = refl; next = refl; closed = refl; late = refl; left = 0; waiting = refl }) refl k.names k.losses
@@ -225,6 +232,7 @@ module _ (desk : Desk) (u : WorkerAccount) (passes : List PassAccount) (k : Agre
 
   -- ---- the worker leaves
 
+  -- The accounts agree after the worker leaves.
   pub left_agrees : Agrees desk passes (after_left u)
   left_agrees =
       agrees_worker desk desk u (after_left u) passes k (record { config = refl; next = refl; closed = refl; late = refl; left = 0; waiting = refl }) refl k.names k.losses

@@ -75,7 +75,7 @@ abbrev pub handed_with : List ℕ → Option OutBatch → Option OutBatch
 handed_with body None = None
 handed_with body (Some batch) = Some (record batch { body = Some body })
 
--- it was handed, with this body
+-- the batch was handed, with this body
 abbrev pub after_handed : List ℕ → WorkerAccount → WorkerAccount
 after_handed body account = record account { out = handed_with body account.out }
 
@@ -84,7 +84,7 @@ ended_with f None = []
 ended_with f (Some batch) =
     record { number = batch.number; spans = batch.spans; ending = f batch } ∷ []
 
--- it was dropped
+-- the batch was dropped
 abbrev pub after_drop : Reason → WorkerAccount → WorkerAccount
 after_drop reason account = record account {
   ended = account.ended ++ ended_with (λ _. batches.dropped reason) account.out;
@@ -95,7 +95,7 @@ abbrev pub settled_with : List Outcome → Fate → Option (List ℕ) → BatchE
 settled_with outcomes fate None = batches.settled [] outcomes fate
 settled_with outcomes fate (Some body) = batches.settled body outcomes fate
 
--- it was settled so, after these outcomes
+-- the batch was settled with this fate, after these outcomes
 abbrev pub after_settle : List Outcome → Fate → WorkerAccount → WorkerAccount
 after_settle outcomes fate account = record account {
   ended = account.ended ++ ended_with (λ b. settled_with outcomes fate b.body) account.out;
@@ -106,7 +106,7 @@ after_settle outcomes fate account = record account {
 abbrev pub after_drained : WorkerAccount → WorkerAccount
 after_drained account = record account { drained = true }
 
--- it leaves by this hold, or it doesn't
+-- the worker leaves in this critical section if the flag says so
 abbrev pub left_if : Bool → WorkerAccount → WorkerAccount
 left_if false account = account
 left_if true account = after_left account

@@ -39,8 +39,8 @@ pub record IsBodyOf (spans : List SpanData) (body : List ℕ) : Type 0 where
 
 -- ---- attempts
 
--- The outcome of this attempt leads to another one, or settles the batch so, whatever the moment
--- and the random word are. (OTLP Specification, OTLP/HTTP Response)
+-- The outcome of this attempt leads to another one, or settles the batch with this fate, whatever
+-- the moment and the random word are. (OTLP Specification, OTLP/HTTP Response)
 abbrev pub LeadsTo : RetryConfig → ℕ → Outcome → Option Fate → Type 0
 LeadsTo retry attempt outcome end =
     (now word : ℕ) → fate_of (next_after retry attempt outcome now word) ≡ end
@@ -65,7 +65,7 @@ pub record IsSent (origin : Origin) (spans : List SpanData) (body : List ℕ)
 
 -- ---- a batch that ended by work
 
--- The last outcome settled it so.
+-- The last outcome settled the batch with this fate.
 pub record IsSettled (origin : Origin) (spans : List SpanData) (body : List ℕ)
     (outcomes : List Outcome) (fate : Fate) : Type 0 where
   pub sent : IsSent origin spans body outcomes
@@ -78,7 +78,7 @@ IsEndByWork origin spans (settled body outcomes fate) =
     IsSettled origin spans body outcomes fate
 IsEndByWork origin spans (dropped reason) = LacksBody origin.max_body spans reason
 
--- It has as many spans as a batch may have.
+-- The batch has at least one span, and no more than a batch may have.
 pub record IsByWork (origin : Origin) (batch : EndedBatch) : Type 0 where
   pub some : 1 ≤ length batch.spans
   pub few : length batch.spans ≤ origin.desk.batch
@@ -86,19 +86,19 @@ pub record IsByWork (origin : Origin) (batch : EndedBatch) : Type 0 where
 
 -- ---- a batch that work left out
 
--- What is so of the attempts that work made of a batch of these spans: there is none yet where it
--- was not handed.
+-- What holds of the attempts that work made of a batch of these spans: there is none yet where the
+-- batch was not handed.
 abbrev pub IsSentSoFar : Origin → List SpanData → Option (List ℕ) → List Outcome → Type 0
 IsSentSoFar origin spans None outcomes = outcomes ≡ []
 IsSentSoFar origin spans (Some body) outcomes = IsSent origin spans body outcomes
 
--- It has as many spans as a batch may have.
+-- The batch has at least one span, and no more than a batch may have.
 pub record IsOutByWork (origin : Origin) (batch : OutBatch) : Type 0 where
   pub some : 1 ≤ length batch.spans
   pub few : length batch.spans ≤ origin.desk.batch
   pub sent : IsSentSoFar origin batch.spans batch.body batch.outcomes
 
--- Where it is abandoned, it is dropped, or settled if it was handed. (profile)
+-- A batch that is abandoned is dropped, or settled if it was handed. (profile)
 abbrev pub end_of : Option (List ℕ) → List Outcome → BatchEnd
 end_of None outcomes = dropped Reason.abandoned
 end_of (Some body) outcomes = settled body outcomes abandoned

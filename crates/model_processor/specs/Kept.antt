@@ -30,7 +30,7 @@ shown_out (Some batch) =
 abbrev pub accepted : Desk → WorkerAccount → List SpanData
 accepted desk account = taken_spans account ++ desk.waiting
 
--- of accepted spans, in that order, where this ticket is the next one
+-- what holds of the accepted spans, in that order, where this ticket is the next one
 pub record Queues (queue next : ℕ) (passes : List PassAccount) (spans : List SpanData)
     : Type 0 where
   pub queued : IsPermutation (all_accepted passes) spans
@@ -38,8 +38,8 @@ pub record Queues (queue next : ℕ) (passes : List PassAccount) (spans : List S
   pub below : AllByRecursion (λ (s : SpanData). s.ticket < next) spans
   pub full : DropsFoundItFull queue passes
 
--- Of a floor: none that waits is below it. And of what was asked for: after so many accepted
--- spans, all have that ticket or a later one.
+-- Of a floor: no waiting span has a ticket below it. And of what was asked for: after the first
+-- `mark` accepted spans, each span has the ticket asked for or a later one.
 pub record KeepsFloor (next : ℕ) (waiting spans : List SpanData) (floor : ℕ) (asked : Asked)
     : Type 0 where
   pub above : AreFrom floor waiting
@@ -52,7 +52,7 @@ abbrev pub KeepsFloors : ℕ → List SpanData → List SpanData → List PassAc
 KeepsFloors next waiting spans passes =
     AllByRecursion (λ (a : PassAccount). KeepsFloor next waiting spans a.floor a.asked) passes
 
--- of the batches
+-- what the desk shows of batches is what the worker's account says
 pub record Batches (desk : Desk) (account : WorkerAccount) : Type 0 where
   pub out : desk.out ≡ shown_out account.out
   pub taken : desk.taken ≡ length (taken_spans account)
@@ -68,7 +68,7 @@ DropAsFull passes =
     AllByRecursion (λ (a : PassAccount).
     AllByRecursion (λ (e : Entry). e.reason ≡ queue_full) (dropped_entries a)) passes
 
--- what is so of all
+-- a desk, the accounts of the passes and that of the worker agree in all parts
 pub record Agrees (desk : Desk) (passes : List PassAccount) (account : WorkerAccount) : Type 0 where
   pub queues : Queues desk.config.queue desk.next_ticket passes (accepted desk account)
   pub tickets : GivesTickets desk.next_ticket passes
@@ -87,8 +87,8 @@ IsOf origin (processor said) = said ≡ origin
 IsOf origin (pass account) = Unit {0}
 IsOf origin (worker said account) = said ≡ origin
 
--- What the lock keeps of the accounts of a processor that began so, with the mark beside the desk
--- of whether the worker has left.
+-- What the lock keeps of the accounts of a processor with this origin. A mark beside the desk says
+-- whether the worker has left.
 pub record Kept (origin : Origin) (left : Bool) (desk : Desk) (holders : List AnyAccount)
     : Type 0 where
   pub few : length holders ≤ origin.passes + 2
@@ -100,7 +100,7 @@ pub record Kept (origin : Origin) (left : Bool) (desk : Desk) (holders : List An
   pub left_is : account.left ≡ left
   pub agrees : Agrees desk (pass_accounts holders) account
 
--- the same, while an account is open: once none is, nothing is said of what the lock guards
+-- the same, while an account is open: once no account is open, what the lock guards may be anything
 abbrev pub IsShared : Origin → Bool → Desk → List AnyAccount → Type 0
 IsShared origin left desk holders =
     (h : AnyAccount) → Contains holders h → Kept origin left desk holders

@@ -1,7 +1,7 @@
--- What the passes of a processor know, and what that comes to.
+-- What the passes of a processor know, and what follows from it.
 pub mod Passes
 pub mod PassClauses
--- What the passes and the worker of a batch processor know, and what that comes to.
+-- What the passes and the worker of a batch processor know, and what follows from it.
 pub mod Worker
 pub mod Batches
 pub mod WorkerClauses

@@ -25,8 +25,8 @@ pub record GivesTickets (next : ℕ) (passes : List PassAccount) : Type 0 where
 
 -- ---- names of dropped spans
 
--- The entries of the dropped spans are, as often, those of the ledger and those that were popped.
--- The totals count them, each under its reason.
+-- The entries of the dropped spans are those of the ledger and those that were popped, each as
+-- often. The totals count them, each under its reason.
 pub record NamesDrops (ledger : List Entry) (counts : DropCounts) (dropped popped : List Entry)
     : Type 0 where
   pub named : IsPermutation dropped (ledger ++ popped)
@@ -34,8 +34,8 @@ pub record NamesDrops (ledger : List Entry) (counts : DropCounts) (dropped poppe
 
 -- ---- names of lost spans
 
--- The entries of the lost spans are, as often, those of the second ledger and those that were
--- popped from it. The count is how many there are.
+-- The entries of the lost spans are those of the second ledger and those that were popped from it,
+-- each as often. The count says how many there are.
 pub record NamesLosses (ledger : List Entry) (count : ℕ) (lost popped : List Entry)
     : Type 0 where
   pub named : IsPermutation lost (ledger ++ popped)
@@ -47,8 +47,8 @@ pub record NamesLosses (ledger : List Entry) (count : ℕ) (lost popped : List E
 abbrev pub is_closed : ℕ → List PassAccount → Bool
 is_closed next passes = nat_lt 0 (shutdown_count passes) || (next == 2 ^ 64 - 1)
 
--- Those that were late are counted, up to the greatest number of 64 bits. There are some only where
--- no span is admitted any more.
+-- The late spans are counted, up to the greatest number of 64 bits. There are some only where no
+-- span is admitted any more.
 pub record CountsLate (late next : ℕ) (closed : Bool) (passes : List PassAccount) : Type 0 where
   pub counted : late ≡ capped (late_count passes)
   pub late_if_closed : 0 < late_count passes → closed ≡ true

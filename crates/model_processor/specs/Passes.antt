@@ -89,12 +89,12 @@ after_drain drops losses account = record account {
   popped_lost = account.popped_lost ++ losses;
 }
 
--- a flush asked, where this ticket was the next one, and so many spans were accepted
+-- a flush asked, where this ticket was the next one, and `mark` spans were accepted
 abbrev pub after_flush : ℕ → ℕ → PassAccount → PassAccount
 after_flush ticket mark account =
     record account { asked = record { ticket = ticket; mark = mark } }
 
--- and a shutdown
+-- a shutdown asked, where this ticket was the next one, and `mark` spans were accepted
 abbrev pub after_shutdown : ℕ → ℕ → PassAccount → PassAccount
 after_shutdown ticket mark account = record account {
   asked = record { ticket = ticket; mark = mark };
@@ -105,7 +105,7 @@ after_shutdown ticket mark account = record account {
 abbrev pub after_flushed : PassAccount → PassAccount
 after_flushed account = record account { floor = account.asked.ticket }
 
--- it is not, and the worker has left
+-- what was asked for is not flushed, and the worker has left
 abbrev pub after_told_left : PassAccount → PassAccount
 after_told_left account = record account { told_left = true }
 
@@ -119,7 +119,7 @@ abbrev pub drop_in : SpanEnd → Option Drop
 drop_in (accepted span) = None
 drop_in (dropped drop) = Some drop
 
--- the entry that names it
+-- the entry that names the dropped span
 abbrev pub entry_in : Drop → Entry
 entry_in drop = entry_of drop.reason drop.span
 

@@ -8,8 +8,8 @@ use Rattle.model_span.specs.Dropped.{Reason, Entry, entry_of}
 use Rattle.model_retry.specs.Retries.{Outcome, Fate}
 use Rattle.model_desk.specs.Queue.{lost_names}
 
--- How a batch ended: it was handed to the exporter, with this body, in attempts that came to this,
--- and so it was settled; or it was dropped before.
+-- How a batch ended: it was handed to the exporter, with this body, in attempts with these
+-- outcomes, and was settled with this fate; or it was dropped before.
 pub data BatchEnd : Type 0 where
   settled : List ℕ → List Outcome → Fate → BatchEnd
   dropped : Reason → BatchEnd
@@ -20,8 +20,8 @@ pub record EndedBatch : Type 0 where
   pub spans : List SpanData
   pub ending : BatchEnd
 
--- A batch that is out: the body with which it was handed, if it was, and what its attempts came to
--- so far.
+-- A batch that is out: the body with which it was handed, if it was, and the outcomes of its
+-- attempts so far.
 pub record OutBatch : Type 0 where
   pub number : ℕ
   pub spans : List SpanData
@@ -40,7 +40,7 @@ pub record WorkerAccount : Type 0 where
 abbrev pub new_worker : WorkerAccount
 new_worker = record { ended = []; out = None; drained = false; left = false }
 
--- it has left
+-- the worker has left
 abbrev pub after_left : WorkerAccount → WorkerAccount
 after_left account = record account { left = true }
 
@@ -71,7 +71,7 @@ abbrev pub spans_with : Option (List ℕ) → List SpanData → List SpanData
 spans_with None spans = []
 spans_with (Some body) spans = spans
 
--- those of the batch that is out, if it was handed
+-- the spans of the batch that is out, if it was handed
 abbrev pub handed_out_spans : Option OutBatch → List SpanData
 handed_out_spans None = []
 handed_out_spans (Some batch) = spans_with batch.body batch.spans
@@ -93,7 +93,7 @@ abbrev pub entries_by : BatchEnd → List SpanData → List Entry
 entries_by (settled body outcomes fate) spans = []
 entries_by (dropped reason) spans = map (entry_of reason) spans
 
--- the entries of the dropped ones
+-- the entries of the dropped spans
 abbrev pub worker_entries : WorkerAccount → List Entry
 worker_entries worker =
     flat_map (λ (b : EndedBatch). entries_by b.ending b.spans) worker.ended
@@ -102,8 +102,8 @@ abbrev pub lost_entries_by : BatchEnd → List SpanData → List Entry
 lost_entries_by (settled body outcomes fate) spans = lost_names fate spans
 lost_entries_by (dropped reason) spans = []
 
--- the entries of the lost spans: those of the batches that were handed and came to nothing, each
--- with its fate's reason
+-- the entries of the lost spans: those of the handed batches whose fate loses them, each with its
+-- fate's reason
 abbrev pub worker_losses : WorkerAccount → List Entry
 worker_losses worker =
     flat_map (λ (b : EndedBatch). lost_entries_by b.ending b.spans) worker.ended
@@ -112,6 +112,6 @@ abbrev pub fate_in : BatchEnd → Option Fate
 fate_in (settled body outcomes fate) = Some fate
 fate_in (dropped reason) = None
 
--- how the handed ones were settled, in order
+-- how the handed batches were settled, in order
 abbrev pub fates : WorkerAccount → List Fate
 fates worker = filter_map (λ (b : EndedBatch). fate_in b.ending) worker.ended

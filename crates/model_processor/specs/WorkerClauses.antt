@@ -1,6 +1,6 @@
--- What a batch processor comes to: what the accounts of all its passes and the worker's final one
--- say beside the queue that is left. (Trace SDK, Batching processor, ForceFlush, Shutdown; tickets,
--- floors and the two ledgers: profile)
+-- What holds of a batch processor in the end: what the accounts of all its passes and the worker's
+-- final one say beside the queue that is left. (Trace SDK, Batching processor, ForceFlush,
+-- Shutdown; tickets, floors and the two ledgers: profile)
 use Rattle.std.specs.Prelude.{◌≡◌, ◌≢◌, ℕ, ◌≤◌, ◌&&◌, nat_le, nat_lt, true, false, List, [], ◌++◌}
 use Rattle.std.specs.Prelude.{length, map, count_by, IsPermutation}
 use Rattle.std.specs.List.{range_with_len, AllByRecursion}
@@ -22,8 +22,8 @@ tickets_of spans = map (λ (s : SpanData). s.ticket) spans
 
 -- ---- 1: spans
 
--- The spans that were queued through the passes are, as often, those of the batches that were
--- handed, those of the batches that were dropped, and those that are left.
+-- The spans that were queued through the passes are those of the batches that were handed, those of
+-- the batches that were dropped, and those that are left, each as often.
 abbrev pub QueuedAreAccounted : List SpanData → List PassAccount → WorkerAccount → Type 0
 QueuedAreAccounted left passes worker =
     IsPermutation (all_accepted passes) (handed_spans worker ++ (dropped_spans worker ++ left))
@@ -56,8 +56,8 @@ pub record TicketsAreGiven (queue next : ℕ) (passes : List PassAccount) : Type
 abbrev pub all_entries : List PassAccount → WorkerAccount → List Entry
 all_entries passes worker = all_dropped passes ++ worker_entries worker
 
--- They are named, and counted. The worker drops none as if it had found the queue full, and no
--- reason is that of a lost span.
+-- The dropped spans are named and counted. The worker drops none as if it had found the queue full,
+-- and no reason is that of a lost span.
 pub record DropsAreNamed (desk : Desk) (passes : List PassAccount) (worker : WorkerAccount)
     : Type 0 where
   pub all : NamesDrops desk.ledger desk.dropped (all_entries passes worker) (all_popped passes)
@@ -68,8 +68,8 @@ pub record DropsAreNamed (desk : Desk) (passes : List PassAccount) (worker : Wor
 
 -- ---- 4: names of lost spans
 
--- The spans of the worker's batches that were handed and came to nothing are named, each with its
--- fate's reason, and counted. No reason is that of a dropped span.
+-- The spans of the worker's batches that were handed, and whose fate loses them, are named, each
+-- with its fate's reason, and counted. No reason is that of a dropped span.
 pub record LossesAreNamed (desk : Desk) (passes : List PassAccount) (worker : WorkerAccount)
     : Type 0 where
   pub all : NamesLosses desk.lost desk.lost_count (worker_losses worker) (all_popped_lost passes)
@@ -109,7 +109,7 @@ pub record FlushesAreKept (left : List SpanData) (passes : List PassAccount)
 
 -- ---- all seven
 
--- What is so of a processor that began so, once its desk is taken out and all accounts are back.
+-- What holds of a processor with this origin, once its desk is taken out and all accounts are back.
 pub record IsAccounted (origin : Origin) (desk : Desk) (passes : List PassAccount)
     (worker : WorkerAccount) : Type 0 where
   pub spans : QueuedAreAccounted desk.waiting passes worker

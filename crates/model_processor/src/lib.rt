@@ -1,3 +1,3 @@
-//! What the passes of a processor know, and the worker of a batch processor, how that goes on with
-//! each call, and how it relates to the queue: definitions.
+//! What the passes of a processor and the worker of a batch processor know, how each call changes
+//! that, and how it relates to the queue: definitions.
 #![tactic(auto)]

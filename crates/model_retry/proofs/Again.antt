@@ -14,7 +14,7 @@ never-again (Outcome.refused status) moment e = cc
 never-again Outcome.no_reply moment e = cc
 never-again Outcome.bad moment e = cc
 
--- it follows only where there are attempts left
+-- Another attempt follows only where there are attempts left.
 pub again-few : (config : RetryConfig) (attempt : ℕ) (outcome : Outcome) (now word moment : ℕ) → next_after config attempt outcome now word ≡ again moment → attempt < config.attempts
 again-few config attempt outcome now word moment e = by (nat_lt attempt config.attempts) refl e
   where

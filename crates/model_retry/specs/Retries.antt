@@ -2,7 +2,7 @@
 -- OTLP/HTTP Response)
 use Rattle.std.specs.Prelude.{ℕ, ℤ, Option, Some, None}
 
--- when another attempt is welcome: in so many seconds, or at a date, in seconds since 1970 (RFC
+-- when another attempt is welcome: in a number of seconds, or at a date, in seconds since 1970 (RFC
 -- 9110, Retry-After)
 pub data RetryAfter : Type 0 where
   seconds date : ℕ → RetryAfter
@@ -11,7 +11,7 @@ pub data RetryAfter : Type 0 where
 pub data Outcome : Type 0 where
   -- it was taken whole
   delivered : Outcome
-  -- it was taken, but so many spans were rejected
+  -- it was taken, but this number of spans were rejected
   partial : ℤ → Outcome
   -- a status that is to be tried again, and when
   later : ℕ → Option RetryAfter → Outcome

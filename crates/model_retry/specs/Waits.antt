@@ -45,7 +45,7 @@ abbrev pub greatest_wait : ℕ
 greatest_wait = 300 * second
 
 -- How long a wait is asked for after this attempt, in nanoseconds, from a moment on, which is in
--- nanoseconds since 1970: as the reply asks, in so many seconds or until a date, or else the
+-- nanoseconds since 1970: as the reply asks, in a number of seconds or until a date, or else the
 -- backoff. (OTLP Specification, OTLP/HTTP Throttling; RFC 9110, Retry-After; with each status that
 -- is tried again: profile)
 abbrev pub asked_ns : RetryConfig → ℕ → Option RetryAfter → ℕ → ℕ → ℕ

@@ -18,6 +18,7 @@ use Rattle.model_run.specs.History.{SpanStep, Setup, StartResult, start, call, s
 pub use Rattle.model_span.proofs.Live.{all-live}
 use Rattle.model_span.proofs.Lists.{distinct-more, distinct-all, filter-keeps}
 
+-- The number of starts in two lists of steps, one after the other, is the sum of both numbers.
 pub starts-append : (xs ys : List SpanStep) → start_count (xs ++ ys) ≡ start_count xs + start_count ys
 starts-append [] ys = sym (zero-add (start_count ys))
 starts-append (start r sc p k at name ∷ xs) ys = let rest = starts-append xs ys in omega (arith, rest)
@@ -31,10 +32,12 @@ outcomes-append setup earlier [] ys = refl
 outcomes-append setup earlier (start r sc p k at name ∷ xs) ys = outcomes-append setup (earlier ++ start_result setup earlier r sc p k at name ∷ []) xs ys
 outcomes-append setup earlier (call n c ∷ xs) ys = outcomes-append setup earlier xs ys
 
+-- A call on a span changes nothing of what the starts gave.
 pub outcomes-call : (setup : Setup) (done : List SpanStep) (n : ℕ) (c : Call) → start_results setup (done ++ call n c ∷ []) ≡ start_results setup done
 unfolding start_results_behind
 outcomes-call setup done n c = outcomes-append setup [] done (call n c ∷ [])
 
+-- One more start adds what it gives to what the starts before it gave.
 pub outcomes-start : (setup : Setup) (done : List SpanStep) (r : Bool) (scope : ℕ) (p : Parent) (k : Kind) (at : ℕ) (name : List ℕ) →
     start_results setup (done ++ start r scope p k at name ∷ []) ≡ start_results setup done ++ start_result setup (start_results setup done) r scope p k at name ∷ []
 unfolding start_results_behind
@@ -48,6 +51,7 @@ outcomes-length setup earlier (start r sc p k at name ∷ steps) =
     ∙ ap (λ n. n + start_count steps) (length_push earlier (start_result setup earlier r sc p k at name)) ∙ (let e : length earlier + 1 + start_count steps ≡ length earlier + suc (start_count steps) = omega arith in e)
 outcomes-length setup earlier (call n c ∷ steps) = outcomes-length setup earlier steps
 
+-- There are as many results of starts as there are starts.
 pub outcomes-many : (setup : Setup) (steps : List SpanStep) → length (start_results setup steps) ≡ start_count steps
 outcomes-many setup steps = outcomes-length setup [] steps ∙ zero-add (start_count steps)
 
@@ -70,12 +74,15 @@ behind-last [] r sc p k at name = refl
 behind-last (start r' sc' p' k' at' name' ∷ xs) r sc p k at name = behind-last xs r sc p k at name
 behind-last (call m c ∷ xs) r sc p k at name = behind-last xs r sc p k at name
 
+-- One more step adds the call that it makes, if any, to the calls on a span that has started.
 pub calls-more : (n : ℕ) (done : List SpanStep) (x : SpanStep) → n < start_count done → calls_on n (done ++ x ∷ []) ≡ calls_on n done ++ filter_map (call_on n) (x ∷ [])
 calls-more n done x h = ap (filter_map (call_on n)) (behind-within n done (x ∷ []) h) ∙ filter_map-append (call_on n) (behind_start n done) (x ∷ [])
 
+-- A span that has not started has no calls.
 pub calls-past : (n : ℕ) (done : List SpanStep) → start_count done ≤ n → calls_on n done ≡ []
 calls-past n done h = ap (filter_map (call_on n)) (behind-past n done h)
 
+-- A span that has just started has no calls.
 pub calls-first : (done : List SpanStep) (r : Bool) (sc : ℕ) (p : Parent) (k : Kind) (at : ℕ) (name : List ℕ) → calls_on (start_count done) (done ++ start r sc p k at name ∷ []) ≡ []
 calls-first done r sc p k at name = ap (filter_map (call_on (start_count done))) (behind-last done r sc p k at name)
 
@@ -95,7 +102,7 @@ ends-append k (call n c ∷ xs) ys = by (is_end c && nat_lt n k) (ends-append k 
 abbrev among : ℕ → List ℕ → Bool
 among n ns = list_any (λ m. m == n) ns
 
--- of a span that has started before
+-- A span that has started before is among the ends just if one of its calls is an end.
 ends-during : (n k : ℕ) (steps : List SpanStep) → n < k → among n (ends_behind k steps) ≡ list_any is_end (filter_map (call_on n) steps)
 ends-during n k [] h = refl
 ends-during n k (start r sc p kind at name ∷ steps) h = ends-during n (k + 1) steps (omega (arith, h))
@@ -110,7 +117,8 @@ ends-during n k (call m c ∷ steps) h = by (is_end c) refl (m == n) refl (nat_l
     by false d true t l u rest = rw (t, d) rest
     by false d false t l u rest = rw (t, d) rest
 
--- of a span whose start is still to come, after so many others
+-- A span whose start is still to come, after `i` others, is among the ends just if one of its calls
+-- is an end.
 ends-from : (n k i : ℕ) (steps : List SpanStep) → n ≡ k + i → among n (ends_behind k steps) ≡ list_any is_end (filter_map (call_on n) (behind_start i steps))
 ends-from n k i [] h = refl
 ends-from n k zero (start r sc p kind at name ∷ steps) h = ends-during n (k + 1) steps (omega (arith, h))
@@ -124,7 +132,7 @@ ends-from n k i (call m c ∷ steps) h = by (is_end c) refl (nat_lt m k) refl (m
     by true d false u s t rest = rw (d, u) rest
     by false d l u s t rest = rw d rest
 
--- a span has ended where one of its calls is an end
+-- A span has ended just if one of its calls is an end.
 pub ends-are : (n : ℕ) (steps : List SpanStep) → among n (ends_behind 0 steps) ≡ list_any is_end (calls_on n steps)
 ends-are n steps = ends-from n 0 n steps (sym (zero-add n))
 
@@ -185,7 +193,7 @@ any-distinct p (n ∷ ns) h = by (any-distinct p ns) (p n) refl h
     by rest true e k = rw e refl
     by rest false e k = rw e (rest (any-filter p (λ m. not (same n m)) (distinct_of same ns) (rw e at k)))
 
--- only what has started has ended
+-- Only a span that has started has ended.
 ended-started : (n : ℕ) (steps : List SpanStep) → among n (ends_behind 0 steps) ≡ true → n < start_count steps
 ended-started n steps h = by (nat_lt n (start_count steps)) refl
   where
@@ -193,7 +201,7 @@ ended-started n steps h = by (nat_lt n (start_count steps)) refl
     by true e = ltb-true n (start_count steps) e
     by false e = absurd (true≢false (sym h ∙ ends-are n steps ∙ ap (list_any is_end) (calls-past n steps (ltb-false n (start_count steps) e))))
 
--- no more spans end than have started
+-- No more spans end than have started.
 pub ended-few : (steps : List SpanStep) → length (ended_numbers steps) ≤ start_count steps
 ended-few steps = length-le_from_distinct_below (ended_numbers steps) (start_count steps) (all-distinct (ends_behind 0 steps))
     (λ q h. ended-started q steps (any-distinct (same-to q) (ends_behind 0 steps) (sym (among-turned q (ended_numbers steps)) ∙ h)))
@@ -203,6 +211,7 @@ ended-few steps = length-le_from_distinct_below (ended_numbers steps) (start_cou
 
 -- ---- what is exported of them
 
+-- The first call counts, with those after it that do, unless it is an end: then none counts.
 pub live-cons : (c : Call) (calls : List Call) → live_calls (c ∷ calls) ≡ cond (not (is_end c)) (c ∷ live_calls calls) []
 live-cons c calls = take_while-cons (λ c. not (is_end c)) c calls
 
@@ -225,7 +234,7 @@ end-past d (Call.add_link c p ∷ calls) more h = end-past d calls more h
 end-past d (Call.set_status s ∷ calls) more h = end-past d calls more h
 end-past d (Call.update_name n ∷ calls) more h = end-past d calls more h
 
--- the calls after the first end count for nothing
+-- The calls after the first end change nothing of what is exported.
 pub exported-past : (s : StartedSpan) (calls more : List Call) → list_any is_end calls ≡ true → exported_span s (calls ++ more) ≡ exported_span s calls
 unfolding span
 exported-past s calls more h = rw (live-past calls more h, end-past s.start.at calls more h) refl
@@ -238,6 +247,7 @@ exported-same calls more (Some o) h = by o.span
     by None = refl
     by (Some s) = ap (λ e. cond (is_sampled s.decision) (Some e) None) (exported-past s calls more h)
 
+-- One more element at the end changes none of the elements before it.
 pub get-first : {A : Type 0} (xs : List A) (y : A) (n : ℕ) → n < length xs → slice_get (xs ++ y ∷ []) n ≡ slice_get xs n
 get-first [] y n h = absurd (omega (arith, h))
 get-first (x ∷ xs) y zero h = refl
@@ -271,7 +281,7 @@ filter_map-same : {B : Type 0} (f g : ℕ → Option B) (ns : List ℕ) → AllB
 filter_map-same f g [] h = refl
 filter_map-same f g (n ∷ ns) h = rw (h.0, filter_map-same f g ns h.1) refl
 
--- those that had ended before
+-- What is exported of the spans that had ended before is the same after one more step.
 ended-before : (setup : Setup) (done : List SpanStep) (x : SpanStep) → filter_map (exported_at setup (done ++ x ∷ [])) (ended_numbers done) ≡ exported_spans setup done
 ended-before setup done x = filter_map-same (exported_at setup (done ++ x ∷ [])) (exported_at setup done) (ended_numbers done)
     (distinct-all (λ n. exported_at setup (done ++ x ∷ []) n ≡ exported_at setup done n) same (ends_behind 0 done) (each-among _ (ends_behind 0 done) (exported-stays setup done x)))
@@ -281,7 +291,7 @@ exported-start setup done r sc p k at name =
     let x : SpanStep = start r sc p k at name in
     ap (filter_map (exported_at setup (done ++ x ∷ []))) (ap (distinct_of same) (ends-append 0 done (x ∷ []) ∙ append-nil (ends_behind 0 done))) ∙ ended-before setup done x
 
--- a call that isn't the first end of a span that has started
+-- A call that isn't the first end of a span that has started adds no ended span.
 exported-no-more : (setup : Setup) (done : List SpanStep) (n : ℕ) (c : Call) → (is_end c && nat_lt n (start_count done) && not (list_any is_end (calls_on n done))) ≡ false →
     exported_spans setup (done ++ call n c ∷ []) ≡ exported_spans setup done
 exported-no-more setup done n c h = ap (filter_map (exported_at setup (done ++ call n c ∷ []))) (ap (distinct_of same) (ends-append 0 done (call n c ∷ [])) ∙ by (is_end c) (nat_lt n (start_count done)) refl (list_any is_end (calls_on n done)) refl h) ∙ ended-before setup done (call n c)
@@ -293,7 +303,7 @@ exported-no-more setup done n c h = ap (filter_map (exported_at setup (done ++ c
     by true true u true v k = rw (zero-add, u) (distinct-more same (ends_behind 0 done) n ∙ rw (ends-are n done, v) refl)
     by true true u false v k = absurd (true≢false k)
 
--- the first end of a span that has started
+-- The first end of a span that has started adds its number to those that have ended.
 numbers-more : (done : List SpanStep) (n : ℕ) (c : Call) → is_end c ≡ true → n < start_count done → list_any is_end (calls_on n done) ≡ false → ended_numbers (done ++ call n c ∷ []) ≡ ended_numbers done ++ n ∷ []
 numbers-more done n c e l b =
     let u : nat_lt n (start_count done) ≡ true = lt-ltb n (start_count done) l in
@@ -342,15 +352,17 @@ tickets-length : (n : ℕ) (xs : List SpanData) → length (with_tickets n xs) �
 tickets-length n [] = refl
 tickets-length n (x ∷ xs) = ap suc (tickets-length (n + 1) xs)
 
+-- One more start ends no span.
 pub ended-start : (setup : Setup) (done : List SpanStep) (r : Bool) (sc : ℕ) (p : Parent) (k : Kind) (at : ℕ) (name : List ℕ) → ended_spans setup (done ++ start r sc p k at name ∷ []) ≡ ended_spans setup done
 ended-start setup done r sc p k at name = ap (with_tickets 0) (exported-start setup done r sc p k at name)
 
--- a call that isn't the first end of a span that has started
+-- A call that isn't the first end of a span that has started adds no ended span.
 pub ended-no-more : (setup : Setup) (done : List SpanStep) (n : ℕ) (c : Call) → (is_end c && nat_lt n (start_count done) && not (list_any is_end (calls_on n done))) ≡ false →
     ended_spans setup (done ++ call n c ∷ []) ≡ ended_spans setup done
 ended-no-more setup done n c h = ap (with_tickets 0) (exported-no-more setup done n c h)
 
--- the first end of a span that has started: its ticket is the number of those before it
+-- The first end of a span that has started adds what is exported of it; its ticket is the number of
+-- those before it.
 pub ended-more : (setup : Setup) (done : List SpanStep) (n : ℕ) (c : Call) → is_end c ≡ true → n < start_count done → list_any is_end (calls_on n done) ≡ false →
     (ended_spans setup (done ++ call n c ∷ []) ≡ ended_spans setup done ++ with_tickets (length (ended_spans setup done)) (option_to_list (exported_of (calls_on n done ++ c ∷ []) (slice_get (start_results setup done) n))))
     × (length (ended_spans setup done) < start_count done)
@@ -369,11 +381,12 @@ with-flag : (sampled : Bool) (flags : ℕ) → has_sampled_flag (with_sampled_fl
 with-flag true flags = eq-eqb ((flags - flags % 2 + 1) % 2) 1 (omega arith)
 with-flag false flags = let even : (flags - flags % 2 + 0) % 2 ≡ 0 = omega arith in rw even refl
 
+-- The flags of a new context have the sampled flag just if the span is sampled.
 pub sampled-flag : (parent : Option Context) (sampled : Bool) → has_sampled_flag (flags_of parent sampled) ≡ sampled
 sampled-flag None sampled = with-flag sampled 0
 sampled-flag (Some parent) sampled = with-flag sampled parent.flags
 
--- a span that has started has the flag where it is sampled
+-- A span that has started has the flag just if it is sampled.
 abbrev Flagged : Option StartedSpan → Type 0
 Flagged None = Unit {0}
 Flagged (Some s) = has_sampled_flag s.start.context.flags ≡ is_sampled s.decision
@@ -391,7 +404,7 @@ outcome-flagged setup words None parent k at name = tt
 outcome-flagged setup words (Some scope) None k at name = tt
 outcome-flagged setup words (Some scope) (Some parent) k at name = started-flagged (record { provider = setup.provider; scope = scope }) (start_request parent name k at) words
 
--- what is true of each outcome
+-- A property of the results of all starts.
 module _ (P : Option StartedSpan → Type 0) (setup : Setup) (each : (earlier : List StartResult) (r : Bool) (sc : ℕ) (p : Parent) (k : Kind) (at : ℕ) (name : List ℕ) → P (start_result setup earlier r sc p k at name).span) where
   each-push : (os earlier : List StartResult) (r : Bool) (sc : ℕ) (p : Parent) (k : Kind) (at : ℕ) (name : List ℕ) → AllByRecursion (λ o. P o.span) os → AllByRecursion (λ o. P o.span) (os ++ start_result setup earlier r sc p k at name ∷ [])
   each-push [] earlier r sc p k at name h = (each earlier r sc p k at name, tt)
@@ -408,6 +421,7 @@ module _ (P : Option StartedSpan → Type 0) (setup : Setup) (each : (earlier : 
   each-at (q ∷ os) h zero o e = let same : q ≡ o = cc in rw same at h.0
   each-at (q ∷ os) h (suc n) o e = each-at os h.1 n o e
 
+  -- What holds of the result of any start holds of the start with this number.
   pub each-outcome : (steps : List SpanStep) (n : ℕ) (o : StartResult) → slice_get (start_results setup steps) n ≡ Some o → P o.span
   each-outcome steps n o e = each-at (start_results setup steps) (each-behind [] steps tt) n o e
 
@@ -415,6 +429,7 @@ refused-flagged : (refused : Bool) (o : StartResult) → Flagged o.span → Flag
 refused-flagged true o h = tt
 refused-flagged false o h = h
 
+-- A span that a start gave has the sampled flag just if it is sampled.
 pub outcome-has-flag : (setup : Setup) (steps : List SpanStep) (n : ℕ) (o : StartResult) (s : StartedSpan) → slice_get (start_results setup steps) n ≡ Some o → o.span ≡ Some s →
     has_sampled_flag s.start.context.flags ≡ is_sampled s.decision
 outcome-has-flag setup steps n o s e f = rw f at (each-outcome Flagged setup (λ earlier r sc p k at name. refused-flagged r _ (outcome-flagged setup (words_left setup earlier) (slice_get setup.scopes sc) (parent_among earlier p) k at name)) steps n o e)

@@ -21,9 +21,11 @@ use Rattle.model_run.specs.Headline.{Attempt, attempt_by, attempts}
 abbrev counted : Answered → Option SpanStep
 counted x = span_step (is_refused x.answer) x.step
 
+-- An answered step that is nothing for the spans adds no step for them.
 pub steps-none : (h : List Answered) (x : Answered) → counted x ≡ None → span_steps (h ++ x ∷ []) ≡ span_steps h
 steps-none h x e = none-more counted h x e
 
+-- An answered step that counts for the spans adds that step for them.
 pub steps-some : (h : List Answered) (x : Answered) (s : SpanStep) → counted x ≡ Some s → span_steps (h ++ x ∷ []) ≡ span_steps h ++ s ∷ []
 steps-some h x s e = some-more counted h x s e
 
@@ -49,7 +51,7 @@ before-shut (x ∷ h) more e = take_while-cons (λ x. not (is_shutdown x.step)) 
     by true rest k = refl
     by false rest k = ap (λ l. x ∷ l) (rest k)
 
--- a first shutdown
+-- The steps before a first shutdown are all steps so far.
 before-last : (h : List Answered) (x : Answered) → is_shut h ≡ false → is_shutdown x.step ≡ true → before_shutdown (h ++ x ∷ []) ≡ h
 before-last [] x e f = take_while-cons (λ x. not (is_shutdown x.step)) x [] ∙ rw f refl
 before-last (y ∷ h) x e f = take_while-cons (λ x. not (is_shutdown x.step)) y (h ++ x ∷ []) ∙ by (is_shutdown y.step) (λ k. before-last h x k f) e
@@ -58,6 +60,7 @@ before-last (y ∷ h) x e f = take_while-cons (λ x. not (is_shutdown x.step)) y
     by true rest k = absurd (true≢false k)
     by false rest k = ap (λ l. y ∷ l) (rest k)
 
+-- After one more step there was a shutdown just if there was one before or the step is one.
 pub shut-more : (h : List Answered) (x : Answered) → is_shut (h ++ x ∷ []) ≡ (is_shut h || is_shutdown x.step)
 shut-more h x = any-more (λ x. is_shutdown x.step) h x
 
@@ -66,15 +69,17 @@ shut-still h x e f = shut-more h x ∙ rw (e, f) refl
 
 -- ---- the spans that end
 
+-- Before a shutdown, the spans that end are those that all steps so far end.
 pub ended-open : (setup : Setup) (h : List Answered) → is_shut h ≡ false → ended_by setup h ≡ ended_spans setup (span_steps h)
 unfolding ended_by
 ended-open setup h e = ap (λ l. ended_spans setup (span_steps l)) (before-open h e)
 
+-- After a shutdown, one more step ends no span.
 pub ended-shut : (setup : Setup) (h : List Answered) (x : Answered) → is_shut h ≡ true → ended_by setup (h ++ x ∷ []) ≡ ended_by setup h
 unfolding ended_by
 ended-shut setup h x e = ap (λ l. ended_spans setup (span_steps l)) (before-shut h (x ∷ []) e)
 
--- a step that is nothing for the spans
+-- A step that is nothing for the spans ends none of them.
 pub ended-none : (setup : Setup) (h : List Answered) (x : Answered) → counted x ≡ None → ended_by setup (h ++ x ∷ []) ≡ ended_by setup h
 unfolding ended_by
 ended-none setup h x e = by (is_shut h) refl (is_shutdown x.step) refl
@@ -84,7 +89,7 @@ ended-none setup h x e = by (is_shut h) refl (is_shutdown x.step) refl
     by false f true k = ap (λ l. ended_spans setup (span_steps l)) (before-last h x f k ∙ sym (before-open h f))
     by false f false k = ap (λ l. ended_spans setup (span_steps l)) (before-open (h ++ x ∷ []) (shut-still h x f k)) ∙ ap (ended_spans setup) (steps-none h x e) ∙ ap (λ l. ended_spans setup (span_steps l)) (sym (before-open h f))
 
--- a step that is something for them, while there was no shutdown
+-- A step that counts for the spans, before any shutdown, is one more step for the spans that end.
 pub ended-some : (setup : Setup) (h : List Answered) (x : Answered) (s : SpanStep) → is_shut h ≡ false → is_shutdown x.step ≡ false → counted x ≡ Some s → ended_by setup (h ++ x ∷ []) ≡ ended_spans setup (span_steps h ++ s ∷ [])
 ended-some setup h x s f k e = ended-open setup (h ++ x ∷ []) (shut-still h x f k) ∙ ap (ended_spans setup) (steps-some h x s e)
 
@@ -105,16 +110,17 @@ events-append setup before (y ∷ h) x =
     (events-append setup (before ++ y ∷ []) h x ∙ ap (λ b. events_behind setup (before ++ y ∷ []) h ++ option_to_list (event_by setup b x.answer x.step)) (append_assoc before (y ∷ []) h))
     ∙ cons-append (event_by setup before y.answer y.step) (events_behind setup (before ++ y ∷ []) h) (option_to_list (event_by setup (before ++ y ∷ h) x.answer x.step))
 
--- one more step
+-- One more step adds what it does at the queue, if anything.
 pub events-more : (setup : Setup) (h : List Answered) (x : Answered) (o : Option DeskEvent) → event_by setup h x.answer x.step ≡ o → desk_events setup (h ++ x ∷ []) ≡ desk_events setup h ++ option_to_list o
 unfolding desk_events
 events-more setup h x o e = events-append setup [] h x ∙ ap (λ p. events_behind setup [] h ++ option_to_list p) e
 
+-- What is exported of a start that gave a span is that span, if it is sampled.
 pub exported-found : (calls : List Call) (o : Option StartResult) (s : StartedSpan) → option_and_then (λ o. o.span) o ≡ Some s → exported_of calls o ≡ exported_if_sampled calls s
 exported-found calls None s e = cc
 exported-found calls (Some r) s e = ap (option_and_then (exported_if_sampled calls)) e
 
--- the span that the end of a sampled one ends
+-- The end of a sampled span ends it with all its calls, under this ticket.
 pub span-of-end : (setup : Setup) (h : List Answered) (n : ℕ) (c : Call) (ticket : ℕ) (s : StartedSpan) → span_at setup h n ≡ Some s → is_sampled s.decision ≡ true
     → span_of_end setup h (Step.call n c) ticket ≡ Some (with_ticket ticket (exported_span s (calls_so_far h n ++ c ∷ [])))
 span-of-end setup h n c ticket s e d =
@@ -124,6 +130,7 @@ span-of-end setup h n c ticket s e d =
 
 -- ---- the last batch and the attempts
 
+-- An answer that says nothing of the batch's progress leaves it as it was.
 pub progress-none : (h : List Answered) (x : Answered) → progress_by x.answer ≡ None → progress (h ++ x ∷ []) ≡ progress h
 unfolding progress
 progress-none h x e = ap (last-of) (none-more (λ x. progress_by x.answer) h x e)
@@ -131,6 +138,7 @@ progress-none h x e = ap (last-of) (none-more (λ x. progress_by x.answer) h x e
     last-of : List Progress → Progress
     last-of ps = Rattle.model_span.specs.Attributes.last_or Progress.not_out ps
 
+-- The progress of the batch is what the last answer says, where it says any.
 pub progress-some : (h : List Answered) (x : Answered) (p : Progress) → progress_by x.answer ≡ Some p → progress (h ++ x ∷ []) ≡ p
 unfolding progress
 progress-some h x p e = ap (last-of) (some-more (λ x. progress_by x.answer) h x p e) ∙ last-more Progress.not_out (filter_map (λ x. progress_by x.answer) h) p
@@ -138,15 +146,17 @@ progress-some h x p e = ap (last-of) (some-more (λ x. progress_by x.answer) h x
     last-of : List Progress → Progress
     last-of ps = Rattle.model_span.specs.Attributes.last_or Progress.not_out ps
 
+-- An answer that says no number of attempts leaves the last number as it was.
 pub last_attempt-none : (h : List Answered) (x : Answered) → attempts_by x.answer ≡ None → last_attempt (h ++ x ∷ []) ≡ last_attempt h
 unfolding last_attempt
 last_attempt-none h x e = ap (last_or 0) (none-more (λ x. attempts_by x.answer) h x e)
 
+-- The last number of attempts is what the last answer says, where it says one.
 pub last_attempt-some : (h : List Answered) (x : Answered) (n : ℕ) → attempts_by x.answer ≡ Some n → last_attempt (h ++ x ∷ []) ≡ n
 unfolding last_attempt
 last_attempt-some h x n e = ap (last_or 0) (some-more (λ x. attempts_by x.answer) h x n e) ∙ last-more 0 (filter_map (λ x. attempts_by x.answer) h) n
 
--- an answer that says nothing of where the batch stands says nothing of its attempts
+-- An answer that says nothing of the batch's progress says nothing of its attempts.
 pub quiet-attempts : (a : Answer) → progress_by a ≡ None → attempts_by a ≡ None
 quiet-attempts (taken number size) e = cc
 quiet-attempts (encoded number size) e = refl
@@ -165,9 +175,11 @@ quiet-attempts not_taken e = refl
 quiet-attempts early e = refl
 quiet-attempts nothing e = refl
 
+-- An answer that reports no attempt leaves the attempts as they were.
 pub attempts-none : (h : List Answered) (x : Answered) → attempt_by x.answer ≡ None → attempts (h ++ x ∷ []) ≡ attempts h
 attempts-none h x e = none-more (λ x. attempt_by x.answer) h x e
 
+-- An answer that reports an attempt adds it to the attempts before it.
 pub attempts-some : (h : List Answered) (x : Answered) (a : Attempt) → attempt_by x.answer ≡ Some a → attempts (h ++ x ∷ []) ≡ attempts h ++ a ∷ []
 attempts-some h x a e = some-more (λ x. attempt_by x.answer) h x a e
 
@@ -177,6 +189,7 @@ answers-behind : (run : RunConfig) (before h : List Answered) (x : Answered) →
 answers-behind run before [] x a i = (rw (append-nil before) at i, tt)
 answers-behind run before (y ∷ h) x a i = (a.0, answers-behind run (before ++ y ∷ []) h x a.1 (rw (append_assoc before (y ∷ []) h) i))
 
+-- Where all answers so far are right, and so is one more, all of them are.
 pub answers-more : (run : RunConfig) (h : List Answered) (x : Answered) → AreAnswers run h → IsAnswer run h x → AreAnswers run (h ++ x ∷ [])
 unfolding AreAnswers
 answers-more run h x a i = answers-behind run [] h x a i
@@ -185,7 +198,7 @@ answer-behind : (run : RunConfig) (first before later : List Answered) (x : Answ
 answer-behind run first [] later x w = subst (λ b. IsAnswer run b x) (sym (append-nil first)) w.0
 answer-behind run first (y ∷ before) later x w = subst (λ b. IsAnswer run b x) (append_assoc first (y ∷ []) before) (answer-behind run (first ++ y ∷ []) before later x w.1)
 
--- each answer is right after the steps before it
+-- Each answer is right after the steps before it.
 pub answer-at : (run : RunConfig) (before later : List Answered) (x : Answered) → AreAnswers run (before ++ x ∷ later) → IsAnswer run before x
 unfolding AreAnswers
 answer-at run before later x w = answer-behind run [] before later x w

@@ -12,7 +12,7 @@ use Rattle.model_run.specs.History.{Setup}
 use Rattle.model_run.specs.Runs.{Answer, sent, Answered, ended_by, desk_events}
 use Rattle.model_run.specs.Answers.{Progress, not_out, progress, last_attempt}
 
--- The numbers below n, in order: the tickets, where so many spans ended.
+-- The numbers below n, in order: the tickets, where n spans ended.
 abbrev pub numbers_below : ℕ → List ℕ
 numbers_below n = range_with_len 0 n
 

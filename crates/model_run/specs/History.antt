@@ -123,7 +123,7 @@ calls_on n steps = filter_map (call_on n) (behind_start n steps)
 -- ---- ends
 
 -- Whose ends there are, in order: for each the number of its span, where a start of this number
--- comes before, also one that gave no span. The steps come after so many starts.
+-- comes before, also one that gave no span. The steps come after `started` starts.
 abbrev pub ends_behind : ℕ → List SpanStep → List ℕ
 ends_behind started [] = []
 ends_behind started (start refused scope parent kind at name ∷ steps) =

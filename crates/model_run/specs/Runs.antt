@@ -36,10 +36,10 @@ pub data Answer : Type 0 where
   done : Answer
   ended : Ended → Answer
   flush shutdown : Answer
-  -- a batch of this number has so many spans, or none is taken
+  -- a batch of this number is taken, with this number of spans, or none is taken
   taken : ℕ → ℕ → Answer
   not_taken : Answer
-  -- the body of the batch of this number has so many bytes
+  -- the body of the batch of this number has this number of bytes
   encoded : ℕ → ℕ → Answer
   -- the batch of this number can't be encoded, and is dropped for this reason
   dropped : ℕ → Reason → Answer

@@ -27,12 +27,12 @@ none-ends : (calls : List Call) → live_calls calls ≡ calls → NoneEnds call
 none-ends [] h = tt
 none-ends (c ∷ calls) h = let k = none-ends-by c calls (is_end c) refl (sym (live-cons c calls) ∙ h) in (k.0, none-ends calls k.1)
 
--- more calls after those of which none is an end
+-- More calls after calls of which none is an end count up to their own first end.
 live-append : (calls more : List Call) → NoneEnds calls → live_calls (calls ++ more) ≡ calls ++ live_calls more
 live-append [] more h = refl
 live-append (c ∷ calls) more h = live-cons c (calls ++ more) ∙ rw h.0 (ap (λ l. c ∷ l) (live-append calls more h.1))
 
--- what is read from calls, none of which gives it
+-- Calls of which none is an end give no time of an end.
 no-end : (calls : List Call) → NoneEnds calls → filter_map end_of calls ≡ []
 no-end [] h = refl
 no-end (set_attribute p ∷ calls) h = no-end calls h.1
@@ -43,7 +43,7 @@ no-end (Call.set_status s ∷ calls) h = no-end calls h.1
 no-end (Call.update_name n ∷ calls) h = no-end calls h.1
 no-end (end at ∷ calls) h = absurd (let k = h.0 in cc)
 
--- what one more call gives, where it gives nothing
+-- A call that gives nothing of a kind adds nothing of that kind.
 gives-nothing : {B : Type 0} (f : Call → Option B) (calls : List Call) (c : Call) → f c ≡ None → filter_map f (calls ++ c ∷ []) ≡ filter_map f calls
 gives-nothing f calls c e = filter_map-append f calls (c ∷ []) ∙ rw e (append-nil (filter_map f calls))
 
@@ -54,6 +54,7 @@ gives-one f calls c x e = filter_map-append f calls (c ∷ []) ∙ rw e refl
 abbrev pub attributes_set : SpanLimits → List Call → Kept Attribute
 attributes_set limits calls = attributes (record { count = limits.attributes; length = limits.value_length }) (filter_map attribute_of calls)
 
+-- One more attribute that is set changes the attributes of the span and nothing else.
 pub span-attribute : (limits : SpanLimits) (start : Start) (calls : List Call) (p : Attribute) → live_calls calls ≡ calls →
     span limits start (calls ++ set_attribute p ∷ []) ≡ record (span limits start calls) { attributes = attributes_set limits (calls ++ set_attribute p ∷ []) }
 unfolding span
@@ -70,6 +71,7 @@ span-attribute limits start calls p h =
       gives-nothing status_of calls c refl,
     ) refl
 
+-- A call that ends the span changes its end and nothing else.
 pub span-ended : (limits : SpanLimits) (start : Start) (calls : List Call) (at : ℕ) → live_calls calls ≡ calls →
     span limits start (calls ++ end at ∷ []) ≡ record (span limits start calls) { end = at }
 unfolding span
@@ -77,7 +79,7 @@ span-ended limits start calls at h =
     let c : Call = end at in
     rw (live-append calls (c ∷ []) (none-ends calls h), live-cons c [], append-nil calls, h, gives-one end_of calls c at refl, no-end calls (none-ends calls h)) refl
 
--- a record whose attributes are those of one more pair has one more call
+-- A record whose attributes are those of one more pair has one more call.
 pub adds-attribute : (old : SpanRecord) (p : Attribute) (kept : Kept Attribute) →
     ((pairs : List Attribute) → old.span.attributes ≡ attributes (record { count = old.limits.attributes; length = old.limits.value_length }) pairs
     → kept ≡ attributes (record { count = old.limits.attributes; length = old.limits.value_length }) (pairs ++ p ∷ [])) →
@@ -101,7 +103,7 @@ adds-attribute old p kept sets = record {
           is = ap (λ (s : Span). with s kept) r.is ∙ ap (λ k. with (span old.limits start calls) k) after ∙ sym (span-attribute old.limits start calls p l);
         }
 
--- a record whose end is set has ended
+-- A record whose end is set has ended.
 pub ends-at : (old : SpanRecord) (at : ℕ) → Ends at old (record { resource = old.resource; scope = old.scope; span = record old.span { end = at }; ticket = 0 })
 ends-at old at = record {
   resource = refl;
@@ -110,7 +112,7 @@ ends-at old at = record {
   value = λ start calls r. let ended : Span → Span = λ s. record s { end = at } in ap ended r.is ∙ sym (span-ended old.limits start calls at r.none_ends);
 }
 
--- the calls after the first end count for nothing
+-- The calls after the first end count for nothing.
 pub span-behind : (limits : SpanLimits) (start : Start) (calls more : List Call) (at : ℕ) → live_calls calls ≡ calls →
     span limits start (calls ++ end at ∷ more) ≡ span limits start (calls ++ end at ∷ [])
 unfolding span
@@ -121,7 +123,7 @@ span-behind limits start calls more at h =
     let one : (rest : List Call) → filter_map end_of (calls ++ end at ∷ rest) ≡ at ∷ filter_map end_of rest = λ rest. filter_map-append end_of calls (end at ∷ rest) ∙ rw (no-end calls n) refl in
     rw (same, one more, one []) refl
 
--- a span that did not end has its start as its end
+-- A span that did not end has its start as its end.
 pub span-unended : (limits : SpanLimits) (start : Start) (calls : List Call) → live_calls calls ≡ calls →
     record (span limits start calls) { end = start.at } ≡ span limits start calls
 unfolding span
@@ -171,7 +173,7 @@ span-more limits start calls c h e none =
       given-more status_of calls c,
     ) refl
 
--- a record whose span is that of one more call has one more call
+-- A record whose span is that of one more call has one more call.
 adds : (old : SpanRecord) (c : Call) (s : Span) → is_end c ≡ false → ((start : Start) (calls : List Call) → live_calls calls ≡ calls → old.span ≡ span old.limits start calls → s ≡ span old.limits start (calls ++ c ∷ [])) →
     Adds c old (record old { span = s })
 adds old c s e more = record {
@@ -181,7 +183,7 @@ adds old c s e more = record {
 
 -- ---- events and links
 
--- of none none is kept
+-- Of no items none is kept.
 pub first-none : {A : Type 0} (limit : ℕ) → first_kept {A = A} limit [] ≡ record { items = []; dropped = 0 }
 first-none {A = A} limit =
     let kept : List A → ℕ → Kept A = λ items dropped. record { items = items; dropped = dropped } in
@@ -252,7 +254,7 @@ event-ends-not (Call.set_status s) k = absurd k
 event-ends-not (Call.update_name n) k = absurd k
 event-ends-not (end at) k = absurd k
 
--- a record whose events are those with one more has one more call
+-- A record whose events are those with one more has one more call.
 adds-event-by : (old : SpanRecord) (c : Call) (e : Event) (kept : Kept Event) → AddsEvent c → event_of old.limits c ≡ Some e →
     ((events : List Event) → old.span.events ≡ first_kept old.limits.events events → kept ≡ first_kept old.limits.events (events ++ e ∷ [])) →
     Adds c old (record old { span = record old.span { events = kept } })
@@ -268,14 +270,14 @@ adds-event-by old c e kept k i more = adds old c (record old.span { events = kep
         ap (λ s. with s kept) is ∙ ap (with (span old.limits start calls)) (more (filter_map (event_of old.limits) calls) before)
         ∙ ap (λ o. with (span old.limits start calls) (first_kept old.limits.events (filter_map (event_of old.limits) calls ++ given o))) (sym i) ∙ sym (span-event old.limits start calls c k h)
 
--- an event for which there is room
+-- An event for which there is room is kept.
 pub adds-event : (old : SpanRecord) (c : Call) (e : Event) → AddsEvent c → event_of old.limits c ≡ Some e → length old.span.events.items < old.limits.events →
     Adds c old (record old { span = record old.span { events = one_kept old.span.events e } })
 adds-event old c e k i l = adds-event-by old c e (one_kept old.span.events e) k i (λ events is.
     let room : length (first_kept old.limits.events events).items < old.limits.events = subst (λ (kept : Kept Event). length kept.items < old.limits.events) is l in
     ap (λ kept. one_kept kept e) is ∙ sym (first-kept old.limits.events events e room))
 
--- an event beyond the limit
+-- An event beyond the limit is only counted.
 pub adds-counted-event : (old : SpanRecord) (c : Call) (e : Event) → AddsEvent c → event_of old.limits c ≡ Some e → old.limits.events ≤ length old.span.events.items →
     Adds c old (record old { span = record old.span { events = one_counted old.span.events } })
 adds-counted-event old c e k i l = adds-event-by old c e (one_counted old.span.events) k i (λ events is.
@@ -308,7 +310,7 @@ adds-link-by old to pairs kept more = adds old (Call.add_link to pairs) (record 
 link-given : (limits : SpanLimits) (to : Context) (pairs : List Attribute) → is_ignored to pairs ≡ false → given (link_of limits (Call.add_link to pairs)) ≡ link limits to pairs ∷ []
 link-given limits to pairs i = ap (λ t. given (cond t None (Some (link limits to pairs)))) i
 
--- a link for which there is room
+-- A link for which there is room is kept.
 pub adds-link : (old : SpanRecord) (to : Context) (pairs : List Attribute) → is_ignored to pairs ≡ false → length old.span.links.items < old.limits.links →
     Adds (Call.add_link to pairs) old (record old { span = record old.span { links = one_kept old.span.links (link old.limits to pairs) } })
 adds-link old to pairs i l = adds-link-by old to pairs (one_kept old.span.links (link old.limits to pairs)) (λ links is.
@@ -316,7 +318,7 @@ adds-link old to pairs i l = adds-link-by old to pairs (one_kept old.span.links 
     ap (λ kept. one_kept kept (link old.limits to pairs)) is ∙ sym (first-kept old.limits.links links (link old.limits to pairs) room)
     ∙ ap (λ more. first_kept old.limits.links (links ++ more)) (sym (link-given old.limits to pairs i)))
 
--- a link beyond the limit
+-- A link beyond the limit is only counted.
 pub adds-counted-link : (old : SpanRecord) (to : Context) (pairs : List Attribute) → is_ignored to pairs ≡ false → old.limits.links ≤ length old.span.links.items →
     Adds (Call.add_link to pairs) old (record old { span = record old.span { links = one_counted old.span.links } })
 adds-counted-link old to pairs i l = adds-link-by old to pairs (one_counted old.span.links) (λ links is.
@@ -324,7 +326,7 @@ adds-counted-link old to pairs i l = adds-link-by old to pairs (one_counted old.
     ap one_counted is ∙ sym (first-counted old.limits.links links (link old.limits to pairs) full)
     ∙ ap (λ more. first_kept old.limits.links (links ++ more)) (sym (link-given old.limits to pairs i)))
 
--- a link that says nothing
+-- A link that says nothing changes nothing.
 pub adds-ignored-link : (old : SpanRecord) (to : Context) (pairs : List Attribute) → is_ignored to pairs ≡ true → Adds (Call.add_link to pairs) old old
 adds-ignored-link old to pairs i = adds-link-by old to pairs old.span.links (λ links is.
     is ∙ ap (first_kept old.limits.links) (sym (append-nil links))
@@ -340,11 +342,11 @@ or-true : (a : Bool) → (a || true) ≡ true
 or-true true = refl
 or-true false = refl
 
--- what a list of statuses comes to, by whether Ok is among them and by the errors
+-- the status that a list of statuses makes, by whether Ok is among them and by the errors
 abbrev status_by : Bool → List Status → Status
 status_by has errors = cond has ok (last_or unset errors)
 
--- the last of some errors is not Ok
+-- The last of some errors is not Ok.
 error-not-ok : (d : Status) (set : List Status) → is_ok_status d ≡ false → is_ok_status (last_or d (filter is_error set)) ≡ false
 error-not-ok d [] h = h
 error-not-ok d (unset ∷ set) h = error-not-ok d set h
@@ -395,16 +397,16 @@ adds-status-by old s new more = adds old (Call.set_status s) (record old.span { 
         let before : old.span.status ≡ final_status (filter_map status_of calls) = ap (λ (s : Span). s.status) is ∙ ap (λ cs. final_status (filter_map status_of cs)) h in
         ap (λ s. with s new) is ∙ ap (with (span old.limits start calls)) (more (filter_map status_of calls) before) ∙ sym (span-status old.limits start calls s h)
 
--- a status that counts
+-- A status that counts replaces the status of the span.
 pub adds-status : (old : SpanRecord) (s : Status) → is_ok_status old.span.status ≡ false → is_unset s ≡ false →
     Adds (Call.set_status s) old (record old { span = record old.span { status = s } })
 adds-status old s h n = adds-status-by old s s (λ set is. sym (final-set set s (sym (ap is_ok_status is) ∙ h) n))
 
--- a status after Ok
+-- A status after Ok changes nothing.
 pub adds-status-after-ok : (old : SpanRecord) (s : Status) → is_ok_status old.span.status ≡ true → Adds (Call.set_status s) old old
 adds-status-after-ok old s h = adds-status-by old s old.span.status (λ set is. is ∙ sym (final-after-ok set s (sym (ap is_ok_status is) ∙ h)))
 
--- Unset
+-- The status Unset changes nothing.
 pub adds-unset : (old : SpanRecord) (s : Status) → is_unset s ≡ true → Adds (Call.set_status s) old old
 adds-unset old unset n = adds-status-by old unset old.span.status (λ set is. is ∙ sym (final-unset set))
 adds-unset old ok n = absurd (false≢true n)
@@ -424,7 +426,7 @@ span-name limits start calls name h =
       last-more start.name (filter_map name_of calls) name,
     ) refl
 
--- a name
+-- A new name replaces the name of the span.
 pub adds-name : (old : SpanRecord) (name : List ℕ) → Adds (Call.update_name name) old (record old { span = record old.span { name = name } })
 adds-name old name = adds old (Call.update_name name) (record old.span { name = name }) refl (λ start calls h is.
     let with : Span → Span = λ s. record s { name = name } in

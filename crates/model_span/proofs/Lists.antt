@@ -20,10 +20,12 @@ distinct-more {A = A} same (x ∷ xs) y = go (same x y) refl (list_any (λ z. sa
     go false e true h = ap (λ l. x ∷ filter keep l) h
     go false e false h = ap (λ l. x ∷ filter keep l) h ∙ ap (λ l. x ∷ l) (filter-append keep (distinct_of same xs) (y ∷ []) ∙ (rw e refl))
 
+-- The last of a list with one more element at the end is that element.
 pub last-more : {A : Type 0} (d : A) (xs : List A) (y : A) → last_or d (xs ++ y ∷ []) ≡ y
 last-more d [] y = refl
 last-more d (x ∷ xs) y = last-more x xs y
 
+-- What holds of each element of a list holds of each one that a filter keeps.
 pub filter-keeps : {A : Type 0} (P : A → Type 0) (test : A → Bool) (xs : List A) → AllByRecursion P xs → AllByRecursion P (filter test xs)
 filter-keeps P test [] h = tt
 filter-keeps P test (x ∷ xs) h = go (test x) (filter-keeps P test xs h.1)
@@ -32,7 +34,7 @@ filter-keeps P test (x ∷ xs) h = go (test x) (filter-keeps P test xs h.1)
     go true k = (h.0, k)
     go false k = k
 
--- what holds of all holds of the distinct ones
+-- What holds of all holds of the distinct ones.
 pub distinct-all : {A : Type 0} (P : A → Type 0) (same : A → A → Bool) (xs : List A) → AllByRecursion P xs → AllByRecursion P (distinct_of same xs)
 distinct-all P same [] h = tt
 distinct-all P same (x ∷ xs) h = (h.0, filter-keeps P (λ y. not (same x y)) (distinct_of same xs) (distinct-all P same xs h.1))

@@ -4,7 +4,7 @@ use Rattle.std.specs.List.{list_any}
 use Rattle.std.proofs.lemmas.List.Sums.{take_while-cons}
 use Rattle.model_span.specs.Spans.{Call, is_end, live_calls}
 
--- calls of which none is an end all count
+-- Calls of which none is an end all count.
 pub all-live : (calls : List Call) → list_any is_end calls ≡ false → live_calls calls ≡ calls
 all-live [] h = refl
 all-live (c ∷ calls) h = by (all-live calls) (is_end c) refl h

@@ -62,7 +62,7 @@ any-map : {A B : Type 0} (test : B → Bool) (f : A → B) (xs : List A) → lis
 any-map test f [] = refl
 any-map test f (x ∷ xs) = ap (λ t. test (f x) || t) (any-map test f xs)
 
--- to leave out all that are another key leaves this one
+-- A filter that leaves out another key leaves this one.
 among-filter : (k x : List ℕ) → bytes_eq x k ≡ false → (keys : List (List ℕ)) → among k (filter (λ z. not (bytes_eq x z)) keys) ≡ among k keys
 among-filter k x e [] = refl
 among-filter k x e (y ∷ keys) = go (bytes_eq x y) refl (among-filter k x e keys)
@@ -104,14 +104,14 @@ value-other pairs p k e = ap (λ l. last_or (bool false) (map (λ q. q.value) l)
 abbrev at_key : Option ℕ → List Attribute → List ℕ → Attribute
 at_key n pairs k = record { key = k; value = cut n (last_value pairs k) }
 
--- the pairs of keys that aren't this one stay as they are
+-- The pairs of keys other than this one stay as they are.
 items-other : (n : Option ℕ) (pairs : List Attribute) (p : Attribute) (keys : List (List ℕ)) → among p.key keys ≡ false → map (at_key n (pairs ++ p ∷ [])) keys ≡ map (at_key n pairs) keys
 items-other n pairs p [] h = refl
 items-other n pairs p (k ∷ keys) h =
     let parts = or_parts (bytes_eq k p.key) (among p.key keys) h in
     ap₂ (λ v l. record { key = k; value = cut n v } ∷ l) (value-other pairs p k (not-same k p.key parts.0)) (items-other n pairs p keys parts.1)
 
--- and one of this key has its value
+-- A pair of this key gets its value.
 items-own : (n : Option ℕ) (pairs : List Attribute) (p : Attribute) (keys : List (List ℕ)) →
     map (at_key n (pairs ++ p ∷ [])) keys ≡ map (λ q. if has_key p.key q then record { key = q.key; value = cut n p.value } else q) (map (at_key n pairs) keys)
 items-own n pairs p [] = refl
@@ -194,7 +194,7 @@ among-turned k (l ∷ keys) = ap₂ (λ s t. s || t) (turned k l) (among-turned 
 dropped-is : (keys : List (List ℕ)) (p : Attribute) (s t : Bool) → is_empty p.key ≡ s → among p.key keys ≡ t → is_dropped keys p ≡ (not s && not t)
 dropped-is keys p s t e h = ap₂ (λ a b. not a && not b) e (among-turned p.key keys ∙ h)
 
--- a key that no pair has drops none
+-- A key that is not the pair's doesn't change whether the pair is dropped.
 dropped-same : (keys : List (List ℕ)) (k : List ℕ) (q : Attribute) (t : Bool) → (not (is_empty q.key) && bytes_eq q.key k) ≡ false → is_dropped (keys ++ k ∷ []) q ≡ is_dropped keys q
 dropped-same keys k q t h = ap (λ z. not (is_empty q.key) && not z) (any-append (λ l. has_key l q) keys (k ∷ [])) ∙ go (is_empty q.key) (bytes_eq q.key k) (list_any (λ l. has_key l q) keys) h
   where

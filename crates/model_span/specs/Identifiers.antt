@@ -41,7 +41,7 @@ trace_id words = identifier 2 words
 abbrev pub span_id : Words → Option (List ℕ)
 span_id words = identifier 1 words
 
--- the words that are left after so many
+-- the words that are left after this number of them
 abbrev pub words_after : ℕ → Words → Words
 words_after n words k = words (n + k)
 

@@ -5,6 +5,7 @@ use lib.Utf8.{encode}
 use Rattle.text_words.specs.Words.{bytes_of}
 use Rattle.otel_settings.specs.ResourcePairs.{decoded}
 
+-- An empty word spells the empty text.
 pub nothing : (word : List ℕ) → length word < 1 → decoded word ≡ Some []
 unfolding bytes_of is_utf8 chars encode
 nothing [] short = refl

@@ -12,7 +12,7 @@ use Rattle.otel_settings.specs.Pairs.{Pairs, pairs_view, last_of, non_empty, tex
 abbrev pub Borrowed : Type 0
 Borrowed = Bor (List ℕ) × Bor (List ℕ)
 
--- one pair more at the end counts, if it has the name
+-- One more pair at the end counts, if it has the name.
 last_of-append : (name : List ℕ) (pairs : Pairs) (pair : List ℕ × List ℕ)
     → last_of name (pairs ++ pair ∷ []) ≡ (if bytes_eq pair.0 name then Some pair.1 else last_of name pairs)
 unfolding last_of
@@ -29,14 +29,17 @@ more name raw i d inside =
     ∙ ap (last_of name) (map-append (λ (p : Borrowed). (p.0.now, p.1.now)) (take i raw) (get_or raw i d ∷ []))
     ∙ last_of-append name (pairs_view (take i raw)) ((get_or raw i d).0.now, (get_or raw i d).1.now)
 
+-- A next pair that has the name is the last pair of this name so far.
 pub more_same : (name : List ℕ) (raw : List Borrowed) (i : ℕ) (d : Borrowed) → i < length raw → bytes_eq (get_or raw i d).0.now name ≡ true
     → Some (get_or raw i d).1.now ≡ last_of name (pairs_view (take (i + 1) raw))
 more_same name raw i d inside same = sym (more name raw i d inside ∙ rw same refl)
 
+-- A next pair that has another name leaves the last pair of the name as it was.
 pub more_other : (name : List ℕ) (raw : List Borrowed) (i : ℕ) (d : Borrowed) → i < length raw → bytes_eq (get_or raw i d).0.now name ≡ false
     → last_of name (pairs_view (take i raw)) ≡ last_of name (pairs_view (take (i + 1) raw))
 more_other name raw i d inside differs = sym (more name raw i d inside ∙ rw differs refl)
 
+-- Before the first pair, no pair has the name.
 pub none_yet : (name : List ℕ) → None ≡ last_of name []
 unfolding last_of
 none_yet name = refl
@@ -48,6 +51,7 @@ by_name : (variable : Variable) (pairs : Pairs) (name : List ℕ) (o : Option (L
 unfolding text_set
 by_name variable pairs name o named e = ap (option_and_then non_empty) (ap (λ n. last_of n pairs) (sym named) ∙ sym e)
 
+-- A variable that no pair names is not set.
 pub nothing_set : (variable : Variable) (pairs : Pairs) (name : List ℕ) (o : Option (Bor (List ℕ))) → name ≡ name_of variable
     → option_map (λ t. t.now) o ≡ last_of name pairs → o ≡ None → None ≡ text_set variable pairs
 nothing_set variable pairs name o named e none = sym (by_name variable pairs name _ named e ∙ rw none refl)
@@ -60,10 +64,12 @@ is_filled : (bs : List ℕ) → eqb (length bs) 0 ≡ false → non_empty bs ≡
 is_filled [] h = cc
 is_filled (b ∷ bs) h = refl
 
+-- A variable whose last value is empty is not set.
 pub empty_set : (variable : Variable) (pairs : Pairs) (name : List ℕ) (o : Option (Bor (List ℕ))) (t : Bor (List ℕ)) → name ≡ name_of variable
     → option_map (λ t. t.now) o ≡ last_of name pairs → o ≡ Some t → eqb (length t.now) 0 ≡ true → None ≡ text_set variable pairs
 empty_set variable pairs name o t named e is empty = sym (by_name variable pairs name _ named e ∙ rw is (is_empty t.now empty))
 
+-- A variable whose last value isn't empty is set to this value.
 pub text_is_set : (variable : Variable) (pairs : Pairs) (name : List ℕ) (o : Option (Bor (List ℕ))) (t : Bor (List ℕ)) → name ≡ name_of variable
     → option_map (λ t. t.now) o ≡ last_of name pairs → o ≡ Some t → eqb (length t.now) 0 ≡ false → Some t.now ≡ text_set variable pairs
 text_is_set variable pairs name o t named e is filled = sym (by_name variable pairs name _ named e ∙ rw is (is_filled t.now filled))

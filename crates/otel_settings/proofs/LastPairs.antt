@@ -19,5 +19,6 @@ unfolding last_of
 last_named name value [] later h = rw (none_named name later h, (bytes_eq-Decides name name).1 refl) refl
 last_named name value (pair ∷ before) later h = rw (last_named name value before later h) refl
 
+-- The last pair of a name is the one that counts.
 pub counts : LastCounts
 counts = record { last = last_named; none = none_named }

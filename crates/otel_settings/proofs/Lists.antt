@@ -5,7 +5,7 @@ use Rattle.model_span.specs.Attributes.{Attribute, AttributeList, Kept, Limits, 
 use Rattle.otel_settings.specs.ResourcePairs.{pair_view, pairs_view}
 use Rattle.otel_settings.specs.Attributes.{attribute_of, no_limits}
 
--- one more in the list of some
+-- The list of some attributes, on which one more is set, is the list of all of them.
 pub set_more : (limits : Limits) (some : List Attribute) (p : Attribute) (a b : AttributeList) → a ≡ attribute_list limits some → SetsPair p a b
     → b ≡ attribute_list limits (some ++ p ∷ [])
 set_more limits some p a b is s =
@@ -22,6 +22,7 @@ next raw i d inside =
     ∙ ap (map attribute_of) (map-append pair_view (take i raw) (get_or raw i d ∷ []))
     ∙ map-append attribute_of (pairs_view (take i raw)) (pair_view (get_or raw i d) ∷ [])
 
+-- After the next pair is set, the list has the attributes of all pairs so far.
 pub goes_on : {A : Type 0} (raw : List (String A × String A)) (i : ℕ) (d : String A × String A) (key text : List ℕ) (a b : AttributeList)
     → i < length raw
     → a ≡ attribute_list no_limits (map attribute_of (pairs_view (take i raw)))

@@ -14,14 +14,14 @@ left_out true true x h = absurd (h (refl, refl))
 left_out true false x h = refl
 left_out false b x h = refl
 
--- a decimal number of at most 1
+-- A decimal number of at most 1 is a ratio, with the threshold of its fraction.
 pub is_ratio : (text : List ℕ) → IsTrue (is_decimal text) → numerator text ≤ denominator text
     → ratio text ≡ Some (threshold_of (numerator text) (denominator text))
 unfolding ratio
 is_ratio text decimal le =
     picked (is_decimal text) (nat_le (numerator text) (denominator text)) _ decimal (le-leb (numerator text) (denominator text) le)
 
--- any other text
+-- A text that is no decimal number of at most 1 is no ratio.
 pub no_ratio : (text : List ℕ) → (IsTrue (is_decimal text) × (numerator text ≤ denominator text) → ⊥) → ratio text ≡ None
 unfolding ratio
 no_ratio text other =

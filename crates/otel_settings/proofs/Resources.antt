@@ -5,6 +5,7 @@ use Rattle.std.proofs.lemmas.List.{map-append}
 use Rattle.otel_settings.specs.ResourcePairs.{Pair, pair_view, pairs_view}
 use Rattle.otel_settings.specs.Resources.{name_pair}
 
+-- A `service.name` pair after the other pairs is what a set service name adds to them.
 pub named_pairs : {A : Type 0} (pairs all : List (String A × String A)) (key value : String A) (name : Option (Bor (List ℕ))) (said : Bor (List ℕ)) → all ≡ pairs ++ (key, value) ∷ [] → name ≡ Some said → string_bytes key ≡ codes "service.name" → string_bytes value ≡ said.now → pairs_view all ≡ pairs_view pairs ++ name_pair (option_map (λ (t : Bor (List ℕ)). t.now) name)
 named_pairs pairs all key value name said all_is name_is key_is value_is =
     ap pairs_view all_is ∙ map-append pair_view pairs ((key, value) ∷ [])

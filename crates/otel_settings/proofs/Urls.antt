@@ -7,7 +7,7 @@ use Rattle.std.proofs.lemmas.Str.Pattern.{starts_text}
 use denote.Ref.{Bor}
 use Rattle.otel_settings.specs.Endpoints.{after_scheme, allowed, authority_of, endpoint, host_of, path_of, place_of, port_in, query_of, target_path}
 
--- what comes after a text at the front
+-- What follows a text at the front of a list is the list without as many bytes.
 pub stripped : (n s : List ℕ) (r : Option (Bor (List ℕ))) → MatchOption r (FindsTextPrefix n s None) (λ x. StripsPrefix (FindsTextPrefix n) s x.now)
     → option_map (λ t. t.now) r ≡ (if starts_with eqb s n then Some (drop (length n) s) else None)
 stripped n s None lacks = rw (← starts_text false n s lacks) refl
@@ -19,7 +19,7 @@ at_port : (is_base : Bool) (rest : List ℕ) (port : ℕ) → Some port ≡ port
     → place_of is_base rest ≡ allowed (record { host = host_of (authority_of rest); port = port; path = target_path is_base (path_of rest) (query_of rest) })
 at_port is_base rest port read = rw (← read) refl
 
--- the place of a URL by its parts
+-- The parts of a URL, found one by one, make the endpoint of the URL.
 pub by_parts : (is_base : Bool) (url rest place query authority tail host path : List ℕ) (port : ℕ)
     → Some rest ≡ after_scheme url
     → place ≡ before_first (λ b. b == 63) rest → query ≡ after_first (λ b. b == 63) rest

@@ -4,7 +4,7 @@ use Rattle.std.specs.Prelude.{Bool, ◌↔◌, bytes_eq}
 use Rattle.std.proofs.lemmas.Bool.{cases_Bool}
 use Rattle.std.proofs.lemmas.Slice.Eq.{bytes_eq-Decides}
 
--- what tells equal lists from others is whether their bytes are equal
+-- A Boolean that says whether two lists are equal says whether their bytes are equal.
 pub same_words : (r : Bool) (a b : List ℕ) → (IsTrue r ↔ (a ≡ b)) → r ≡ bytes_eq a b
 same_words true a b is = sym ((bytes_eq-Decides a b).1 (is.0 refl))
 same_words false a b is = elim (cases_Bool (bytes_eq a b)) [

@@ -10,7 +10,7 @@ ghost use Rattle.otel_settings.specs.Resources as resources;
 use crate::fault::{Instead, SettingFault, note_unread};
 use crate::pairs::text_set;
 use crate::variable::Variable;
-use otel_settings::{ResourceFault, resource_attributes, resource_pairs};
+use crate::{ResourceFault, resource_attributes, resource_pairs};
 use otlp_value::Value;
 use std::alloc::{AllocError, Allocator};
 

@@ -4,7 +4,7 @@ use Rattle.std.specs.List.{flat_map}
 use Rattle.std.proofs.lemmas.List.{drop_more}
 
 module _ {X M : Type 0} (text : M → List ℕ) (view : X → M) (xs : List X) where
-  -- one part more
+  -- One part more leaves the parts after it to be written.
   pub each-more : (at : ℕ) (x : X) (start old new : List ℕ) → at < length xs → x ≡ get_or xs at x
       → old ++ flat_map text (map view (drop at xs)) ≡ start ++ flat_map text (map view xs)
       → new ≡ old ++ text (view x)

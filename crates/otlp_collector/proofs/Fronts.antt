@@ -8,6 +8,7 @@ use Rattle.std.proofs.lemmas.Grind.{flat_map-append}
 use Rattle.std.proofs.lemmas.List.{drop_more, map-append, take-append-drop, take-append-le, take_more}
 use Rattle.otlp_collector.specs.Printed.{AppendsFront}
 
+-- What holds anyway holds where there is an error.
 pub on-err : {T E : Type 0} (r : Result T E) (P : Type 0) → P → OnErr r P
 on-err (Ok x) P p = tt
 on-err (Err e) P p = p
@@ -17,7 +18,7 @@ module _ {X M : Type 0} (text : M → List ℕ) (view : X → M) (xs : List X) w
   abbrev text-to : ℕ → List ℕ
   text-to at = flat_map text (map view (take at xs))
 
-  -- one part more
+  -- One part more makes the text of a longer front of the list.
   pub parts-more : (at : ℕ) (x : X) (old mid new : Option (List ℕ)) → at < length xs → x ≡ get_or xs at x
       → Appends old mid (flat_map text (map view (take at xs))) → Appends mid new (text (view x))
       → Appends old new (flat_map text (map view (take (at + 1) xs)))
@@ -29,7 +30,7 @@ module _ {X M : Type 0} (text : M → List ℕ) (view : X → M) (xs : List X) w
       ∙ ap (λ l. text-to at ++ l) (append-nil (text (view x))) in
       subst (Appends old new) (sym split) (Appends-trans old mid new _ _ first then)
 
-  -- a front of one part more
+  -- A front of one part more makes a front of the whole text.
   pub parts-front : (at : ℕ) (x : X) (old mid new : Option (List ℕ)) → at < length xs → x ≡ get_or xs at x
       → Appends old mid (flat_map text (map view (take at xs))) → AppendsFront mid new (text (view x))
       → AppendsFront old new (flat_map text (map view xs))

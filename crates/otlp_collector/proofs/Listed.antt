@@ -13,7 +13,7 @@ left-first zero word words = refl
 left-first (suc n) word words = refl
 
 module _ {X : Type 0} (f : X → List ℕ) (xs : List X) where
-  -- one part more
+  -- One part more, after its comma, leaves the parts after it to be written.
   pub left-more : (at : ℕ) (x : X) (start old new : List ℕ) → at < length xs → x ≡ get_or xs at x
       → old ++ left_of at (map f (drop at xs)) ≡ start ++ listed (map f xs)
       → new ≡ old ++ (comma_before at ++ f x)
@@ -26,7 +26,7 @@ module _ {X : Type 0} (f : X → List ℕ) (xs : List X) where
       rw (add-one at)
       (ap (λ l. l ++ rest) more ∙ append_assoc old (comma_before at ++ f x) rest ∙ ap (λ l. old ++ l) (sym split) ∙ before)
 
--- a part is no longer than those after a first one
+-- A part is no longer than the parts that come after a first one, with their commas.
 part-of-more : {X : Type 0} (f : X → List ℕ) (xs : List X) (at : ℕ) (d : X) → at < length xs → length (f (get_or xs at d)) ≤ length (left_of 1 (map f xs))
 part-of-more f [] at d h = absurd (omega arith)
 part-of-more f (x ∷ xs) zero d h = omega (arith, length-append (f x) (left_of 1 (map f xs)))
@@ -37,10 +37,10 @@ part-at f [] at d h = absurd (omega arith)
 part-at f (x ∷ xs) zero d h = omega (arith, length-append (f x) (left_of 1 (map f xs)))
 part-at f (x ∷ xs) (suc n) d h = omega (arith, length-append (f x) (left_of 1 (map f xs)), part-of-more f xs n d (omega arith))
 
--- a part is no longer than the list of them
+-- A part is no longer than the list of the parts.
 pub part-of : {X : Type 0} (f : X → List ℕ) (xs : List X) (at : ℕ) (x : X) → at < length xs → x ≡ get_or xs at x → length (f x) ≤ length (listed (map f xs))
 part-of f xs at x within is = subst (λ y. length (f y) ≤ length (listed (map f xs))) (sym is) (part-at f xs at x within)
 
--- one text after another
+-- Two texts that are appended in turn are appended together.
 pub behind : (old mid new first then : List ℕ) → mid ≡ old ++ first → new ≡ mid ++ then → new ≡ old ++ (first ++ then)
 behind old mid new first then to-mid to-new = to-new ∙ ap (λ l. l ++ then) to-mid ∙ append_assoc old first then

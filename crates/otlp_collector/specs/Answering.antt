@@ -49,8 +49,8 @@ reply_to_unread TooDeep = plain_reply statuses.BadRequest
 
 -- What came is answered so, if at all, and this request is taken, if any: where no request came, it
 -- is answered for its fault; where it is refused, for that; where its body has a fault, or memory
--- to read it was refused, for that; and else the body means the request. The reader, which had so
--- many bytes and failures before and after, was asked for no more than the request.
+-- to read it was refused, for that; and else the body means the request. The reader, which had
+-- these bytes and failures before and after, was asked for no more than the request.
 pub data Judges (limits : HeadLimits) (canned : Option Canned) (old new : Option (List ℕ))
     (before after : ℕ) (reply : Option PostReply) (request : Option (Message Tables.request))
     : Type 0 where
@@ -81,7 +81,7 @@ pub record Serves (limits : HeadLimits) (canned : Option Canned) (old new : Opti
   pub status_is : status ≡ option_map (λ r. code_of r.status) reply
   pub writes_it : Appends written writes (option_map_or reply_text reply [])
 
--- the reply broke off after so many bytes
+-- the reply broke off after this number of bytes
 pub record Breaks (limits : HeadLimits) (canned : Option Canned) (old new : Option (List ℕ))
     (before after : ℕ) (written writes : Option (List ℕ)) (sent : ℕ) : Type 0 where
   pub reply : PostReply

@@ -98,7 +98,7 @@ connections_text number [] = []
 connections_text number (outcome ∷ rest) =
     connection_text number outcome ++ connections_text (number + 1) rest
 
--- what is known of the output gained the texts of what can become of so many connections
+-- what is known of the output gained the texts of what can become of this many connections
 pub record PrintsConnections (limits : HeadLimits) (count : ℕ) (old new : Option (List ℕ))
     : Type 0 where
   pub outcomes : List Outcome
@@ -107,7 +107,7 @@ pub record PrintsConnections (limits : HeadLimits) (count : ℕ) (old new : Opti
   pub gained : Appends old new (connections_text 1 outcomes)
 
 -- It gained the line of the port, which is the one that was asked for where that isn't 0, and
--- after it the texts of what can become of so many connections, with bodies up to the limit.
+-- after it the texts of what can become of this many connections, with bodies up to the limit.
 pub record PrintsAll (port count max_body : ℕ) (old new : Option (List ℕ)) : Type 0 where
   pub told : ℕ
   pub named : port ≢ 0 → told ≡ port

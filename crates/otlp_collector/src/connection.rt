@@ -46,7 +46,7 @@ pub struct Answered<A: Allocator = Global> {
 /// # Errors
 ///
 /// `Stopped` where a write failed: exactly the first `sent` bytes of the reply went out, which are
-/// less than all. A request that was read is let go.
+/// less than all. A request that was read is freed.
 pub fn answer<R: FaultRead, W: FaultWrite, A: Allocator + Copy>(
     alloc: A,
     global: Global,

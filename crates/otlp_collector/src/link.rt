@@ -89,7 +89,7 @@ fn linger<S: Read + OpenStream + Drop>(clock: &impl Clock, mut stream: S) {
     }
 }
 
-/// Whether more bytes come within so many milliseconds. They are thrown away.
+/// Whether more bytes come within this many milliseconds. They are thrown away.
 fn reads_within<S: Read + OpenStream>(stream: &mut S, buf: &mut [u8], wait_ms: u64) -> bool {
     let timeout = Some(Duration::from_millis(wait_ms));
     if stream.set_read_timeout(timeout).is_err() {

@@ -47,9 +47,9 @@ pub fn run_collector<R: Net + Clock, W: Write, F: Write>(
     }
 }
 
-/// Listens at a port of 127.0.0.1, prints `listening PORT`, and serves so many connections, one
-/// after another, each with one request; where one isn't accepted, that is a connection without a
-/// reply. For each it prints `connection NUMBER STATUS`, with `none` where there was no whole
+/// Listens at a port of 127.0.0.1, prints `listening PORT`, and serves this many connections,
+/// one after another, each with one request; where one isn't accepted, that is a connection without
+/// a reply. For each it prints `connection NUMBER STATUS`, with `none` where there was no whole
 /// reply, and the lines of the spans of its request, if one was taken. What is printed of a
 /// connection is flushed before the next one is accepted. A client that is silent for 10 seconds
 /// is not waited for. What a client still sends after its reply, as the rest of a body that was
@@ -102,7 +102,7 @@ fn listen_and_serve<R: Net + Clock, W: Write>(
     )
 }
 
-/// What is read of a request whose body has at most so many bytes.
+/// What is read of a request whose body has at most this many bytes.
 fn limits_of(max_body: u64) -> HeadLimits
     ensures { result ≡ collector_limits max_body }
 {
@@ -149,7 +149,7 @@ fn print<W: Write>(output: &mut W, text: &[u8]) -> Result<(), Failure>
     }
 }
 
-/// Serves so many connections, the first of which has the number 1, and prints each.
+/// Serves this many connections, the first of which has the number 1, and prints each.
 fn serve_connections<L: OpenListener, W: Write>(
     clock: &impl Clock,
     alloc: Global,

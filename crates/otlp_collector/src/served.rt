@@ -122,7 +122,7 @@ pub fn serve<R: FaultRead, W: FaultWrite, O: FaultWrite, A: Allocator + Copy>(
 {
     match answer(alloc, global, reader, writer, limits, None) {
         Ok(answered) => print_connection(alloc, number, &answered, output),
-        // The reply broke off: there was no whole one, and the request is let go. (profile)
+        // The reply broke off: there was no whole one, and the request is given up. (profile)
         Err(_) => print_none(alloc, number, output),
     }
 }

@@ -23,7 +23,7 @@ pub record Skipped (limits : HeadLimits) (old mid : Option (List ℕ)) (interims
   pub each : All (IsInterim limits) interims
   pub taken : Consumes old mid (flat_map print_response interims)
 
--- the text that comes after them
+-- The text that is read next comes after the interim heads.
 pub comes_next : (limits : HeadLimits) (old mid new : Option (List ℕ)) (interims : List ResponseHead) (text : List ℕ)
     → Skipped limits old mid interims → length interims ≤ 16 → Consumes mid new text → ComesAfter limits old new interims text
 comes_next limits old mid new interims text skipped few taken = record {
@@ -32,7 +32,7 @@ comes_next limits old mid new interims text skipped few taken = record {
   taken = Consumes-trans old mid new _ _ skipped.taken taken;
 }
 
--- a head that covers its text and has such a status is interim
+-- A head that covers its text and has an interim status is interim.
 pub interim_from : (limits : HeadLimits) (text : List ℕ) (spans : List HeaderSpan) (found : ResponseSpans) (head : ResponseHead)
     → CoversHead limits text spans found head → IsInterimStatus found.code → IsInterim limits head
 interim_from limits text spans found head covers interim = (
@@ -40,7 +40,7 @@ interim_from limits text spans found head covers interim = (
   subst IsInterimStatus covers.1.code interim,
 )
 
--- one more of them
+-- One more interim head is skipped after the others.
 pub skip_more : (limits : HeadLimits) (old mid new : Option (List ℕ)) (interims : List ResponseHead) (text : List ℕ)
     (spans : List HeaderSpan) (found : ResponseSpans) (head : ResponseHead)
     → Skipped limits old mid interims → Consumes mid new text → CoversHead limits text spans found head → IsInterimStatus found.code
@@ -53,7 +53,7 @@ skip_more limits old mid new interims text spans found head skipped taken covers
       taken = subst (Consumes old new) (sym printed) (Consumes-trans old mid new _ _ skipped.taken taken);
     }
 
--- a fault in the place of the next head
+-- Where the next head doesn't come, there is no reply, for the same fault.
 pub final_fault : (limits : HeadLimits) (old mid new : Option (List ℕ)) (interims : List ResponseHead) (text : List ℕ)
     (first before after : ℕ) (fault : HttpFault)
     → Skipped limits old mid interims → length interims ≤ 16 → Consumes mid new text → before ≡ first
@@ -66,7 +66,7 @@ final_fault limits old mid new interims text first before after fault skipped fe
   cause = inl (subst (λ f. LacksHead limits text new (HasFailed f after) fault) same lacks);
 }
 
--- the head that isn't interim
+-- The first head that isn't interim is the final head.
 pub final_head : (limits : HeadLimits) (old mid new : Option (List ℕ)) (interims : List ResponseHead) (text : List ℕ)
     (spans : List HeaderSpan) (found : ResponseSpans) (head : ResponseHead)
     → Skipped limits old mid interims → length interims ≤ 16 → Consumes mid new text
@@ -80,7 +80,7 @@ final_head limits old mid new interims text spans found head skipped few taken c
   final = final;
 }
 
--- an interim head too many
+-- A seventeenth interim head is the fault `BadHead`.
 pub final_excess : (limits : HeadLimits) (old mid new : Option (List ℕ)) (interims : List ResponseHead) (text : List ℕ)
     (spans : List HeaderSpan) (failed : Type 0) (found : ResponseSpans) (head : ResponseHead)
     → Skipped limits old mid interims → length interims ≡ 16 → Consumes mid new text
@@ -93,7 +93,7 @@ final_excess limits old mid new interims text spans failed found head skipped ma
   cause = inr (head, covers.0, inl (many, subst IsInterimStatus covers.1.code interim));
 }
 
--- a head whose fields aren't kept
+-- Where the fields of the final head are refused, there is no reply, for the same fault.
 pub refused_fields : (limits : HeadLimits) (old new : Option (List ℕ)) (text : List ℕ) (spans : List HeaderSpan)
     (failed : Type 0) (found : ResponseSpans) (fault : HttpFault)
     → HasFinalHead limits old new text spans found → RefusesFields (map (header_bytes text) (take found.headers spans)) fault

@@ -17,7 +17,7 @@ use Rattle.otlp_http.specs.Parses.{HasKeptHead}
 use Rattle.otlp_http.specs.Persistence.{lasts_with, lasts_after}
 use Rattle.otlp_http.specs.Replies.{HttpReply, IsReply, framing_of}
 
--- a head that is kept, and then a body, are a reply, and the connection lasts by that head
+-- A head that is kept, and then a body, are a reply, and the connection lasts by that head.
 pub lasting : (limits : HeadLimits) (old mid new : Option (List ℕ)) (first before after minor status : ℕ) (kept : Entries FieldValue)
     (framing : Framing) (wait : Option RetryAfter) (body : Result (List ℕ) HttpFault) (lasts : Bool) (taken : List ℕ)
     → HasKeptHead limits old mid minor status kept → before ≡ first

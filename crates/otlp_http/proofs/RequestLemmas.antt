@@ -7,7 +7,7 @@ use Rattle.otlp_http.specs.Request.{request_head, kept_head, last_lines, text_fo
 use Rattle.otlp_http.specs.declared.request.Connection.{Connection}
 use Rattle.otlp_http.specs.declared.request.Connection.TheVariants.{Close, KeepAlive}
 
--- the parts of six lines, one after the other, are the lines
+-- The parts of six lines, one after the other, are the lines.
 lines_of_parts : (post path version host_name host colon port type size_name size close end body : List ℕ)
     → post ++ (path ++ (version ++ (end ++ (host_name ++ (host ++ (colon ++ (port ++ (end ++ (type ++ (end
     ++ (size_name ++ (size ++ (end ++ (close ++ (end ++ (end ++ body))))))))))))))))
@@ -15,7 +15,7 @@ lines_of_parts : (post path version host_name host colon port type size_name siz
     ++ ((size_name ++ size) ++ end) ++ (close ++ end) ++ end ++ body
 lines_of_parts post path version host_name host colon port type size_name size close end body = simp append_assoc
 
--- the pieces that are written are the request
+-- The pieces that are written are the request.
 pub concat_request : (connection : Connection) (address : Address) (body : List ℕ)
     → concat (codes "POST " ∷ address.path ∷ codes " HTTP/1.1\r\nHost: " ∷ address.host ∷ codes ":" ∷ decimal address.port
     ∷ codes "\r\nContent-Type: application/x-protobuf\r\nContent-Length: " ∷ decimal (length body)
@@ -32,12 +32,12 @@ concat_request KeepAlive address body =
     (decimal (length body)) (codes "Connection: keep-alive") (codes "\r\n") (body ++ [])
     ∙ ap (λ rest. kept_head address (length body) ++ rest) (append-nil body)
 
--- how long the last two lines are
+-- The last two lines have at most 26 bytes.
 last_lines_short : (connection : Connection) → length (last_lines connection) ≤ 26
 last_lines_short Close = leb-true 21 26 refl
 last_lines_short KeepAlive = leb-true 26 26 refl
 
--- how long the request is
+-- The request is no longer than 107 bytes and the parts that vary.
 pub length-text_for : (connection : Connection) (address : Address) (body : List ℕ)
     → length (text_for connection address body) ≤ 107 + (length address.path + (length address.host + (length (decimal address.port) + (length (decimal (length body)) + length body))))
 length-text_for connection address body =

@@ -22,7 +22,7 @@ abbrev pub FindsHead : HeadLimits → List ℕ → List HeaderSpan → ResponseS
 FindsHead limits text spans found =
     (head : ResponseHead) × CoversHead limits text spans found head
 
--- the spans cover the parts of a head at the front of the text, with room for so many fields
+-- the spans cover the parts of a head at the front of the text, with room for this number of fields
 abbrev pub FindsFront : List ℕ → ℕ → List HeaderSpan → ResponseSpans → Type 0
 FindsFront text room spans found =
     (head : ResponseHead) × IsResponseAt text spans found head

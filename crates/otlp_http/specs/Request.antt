@@ -5,7 +5,7 @@ use Rattle.otlp_http.specs.Address.{Address}
 use Rattle.otlp_http.specs.declared.request.Connection.{Connection}
 use Rattle.otlp_http.specs.declared.request.Connection.TheVariants.{Close, KeepAlive}
 
--- the request line, and the fields that each request has; the body has so many bytes
+-- the request line, and the fields that each request has; the body has this number of bytes
 abbrev pub first_lines : Address → ℕ → List ℕ
 first_lines address size =
     line (codes "POST " ++ address.path ++ codes " HTTP/1.1")

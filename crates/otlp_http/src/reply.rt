@@ -98,8 +98,8 @@ fn framing_of(status: u16, kept: &HeaderMap) -> Framing
 /// (profile). A reply with status 204 or 304 has no body. With Transfer-Encoding, the body
 /// comes in chunks if that is one field, `chunked` in any case of letters, and else its length
 /// isn't known (profile); without it, the length is what Content-Length says, and where
-/// there is none, the body goes to the end of the bytes. Of chunks, extensions and trailers are let
-/// go (RFC 9112, section 7.1). A read that failed is not tried again.
+/// there is none, the body goes to the end of the bytes. Of chunks, extensions and trailers are not
+/// kept (RFC 9112, section 7.1). A read that failed is not tried again.
 ///
 /// Heads, lines of chunks and trailers are read byte by byte: from a socket without a buffer below,
 /// each of their bytes costs a call of the system. A head is parsed after its first line, at its
@@ -117,8 +117,8 @@ fn framing_of(status: u16, kept: &HeaderMap) -> Framing
 /// allow; `OutOfMemory` where memory for it was refused. The reader is left where it was read up
 /// to, at most at the end of a head: of one whose first line is bad, at the end of that.
 ///
-/// After the head, the body's error is in [`Reply::body`]: `Ended` where the bytes ended
-/// before so many had come as Content-Length says, or within chunks; `Device` where a read failed;
+/// After the head, the body's error is in [`Reply::body`]: `Ended` where the bytes ended before as
+/// many had come as Content-Length says, or within chunks; `Device` where a read failed;
 /// `BadLength` where Transfer-Encoding is anything but `chunked`, or where Content-Length isn't one
 /// number of digits that fits 64 bits, in one field or in several of equal text; `BadChunk` where a
 /// chunk's line or the trailers are bad or longer than a head may be, the trailers have more fields

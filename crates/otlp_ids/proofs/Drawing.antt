@@ -10,7 +10,7 @@ use Rattle.model_span.specs.Identifiers.{Words, bytes_at, draw, first_valid, ide
 use Rattle.model_span.specs.Spans.{is_id}
 use Rattle.otlp_ids.specs.WordStream.{after_words, words_of}
 
--- the last of the places
+-- The bytes at one place more are those at the places before it and those at the last place.
 pub flat_map-range_suc : (f : ℕ → List ℕ) (place n : ℕ)
     → flat_map f (range_with_len place (suc n)) ≡ flat_map f (range_with_len place n) ++ f (place + n)
 flat_map-range_suc f place zero = rw (add-zero, append-nil) refl
@@ -18,7 +18,7 @@ flat_map-range_suc f place (suc n) =
     let same : place + suc n ≡ place + 1 + n = omega arith in
     rw same (ap (λ (bs : List ℕ). f place ++ bs) (flat_map-range_suc f (place + 1) n) ∙ sym (append_assoc (f place) (flat_map f (range_with_len (place + 1) n)) (f (place + 1 + n))))
 
--- the bytes of the words that come after others are those at their places
+-- The bytes of the words that come after others are those at their places.
 pub word_bytes-at : (bytes : ℕ → List ℕ) (s : Stream) (place n : ℕ)
     → word_bytes bytes next_u64 n (after_words place s)
     ≡ (flat_map (λ k. bytes (words_of s k)) (range_with_len place n), after_words (place + n) s)
@@ -28,7 +28,7 @@ word_bytes-at bytes s place (suc n) =
     let last = flat_map-range_suc (λ k. bytes (words_of s k)) place n in
     rw (word_bytes-at bytes s place n, add-suc place n, last) refl
 
--- the first number of a range that passes
+-- The first number of a range that passes a test is found.
 pub find-first : (p : ℕ → Bool) (a n i : ℕ) → ((k : ℕ) → k < i → p (a + k) ≡ false) → i < n → p (a + i) ≡ true
     → find p (range_with_len a n) ≡ Some (a + i)
 find-first p a zero i before within here = absurd (omega arith)
@@ -42,7 +42,7 @@ find-first p a (suc n) (suc i) before within here =
     let shifted : a + 1 + k ≡ a + suc k = omega arith in rw shifted (before (suc k) (omega arith))) (omega arith) next in
     rw (not_yet, same) rest
 
--- a range in which no number passes
+-- In a range in which no number passes the test, none is found.
 pub find-none : (p : ℕ → Bool) (a n : ℕ) → ((k : ℕ) → k < n → p (a + k) ≡ false) → find p (range_with_len a n) ≡ None
 find-none p a zero fails = refl
 find-none p a (suc n) fails =
@@ -51,7 +51,7 @@ find-none p a (suc n) fails =
     let shifted : a + 1 + k ≡ a + suc k = omega arith in rw shifted (fails (suc k) (omega arith))) in
     rw not_here rest
 
--- the words after a place are those of the stream that is left there
+-- The words after a place are those of the stream that is left there.
 pub words-shifted : (bytes : ℕ → List ℕ) (s : Stream) (place n : ℕ)
     → ◌≡◌ {A = List ℕ × Stream} (flat_map (λ k. bytes (words_of (after_words place s) k)) (range_with_len 0 n), after_words n (after_words place s))
     (flat_map (λ k. bytes (words_of s k)) (range_with_len place n), after_words (place + n) s)
@@ -62,7 +62,7 @@ words-shifted bytes s place n =
     rw zero-add at (word_bytes-at bytes (after_words place s) 0 n) in
     sym own ∙ word_bytes-at bytes s place n
 
--- a buffer that whole words fill
+-- A buffer that whole words fill has the bytes of these words.
 pub filled : (bytes : ℕ → List ℕ) (s t : Stream) (k m n : ℕ) (xs : List ℕ)
     → (take n xs, t) ≡ word_bytes bytes next_u64 k s → length xs ≤ n → k ≡ m
     → ◌≡◌ {A = List ℕ × Stream} (xs, t) (flat_map (λ k. bytes (words_of s k)) (range_with_len 0 m), after_words m s)
@@ -71,7 +71,7 @@ filled bytes s t k m n xs wrote whole same =
     let run : (xs, t) ≡ word_bytes bytes next_u64 k s = rw (take_all n xs whole) at wrote in
     rw (← same) (run ∙ rw zero-add at (word_bytes-at bytes s 0 k))
 
--- what a draw of n words gives, after i others
+-- A draw of `n` words gives the bytes of that draw in the model, after `i` other draws.
 pub drawn : (n i m : ℕ) (s t u : Stream) (bs : List ℕ) → t ≡ after_words (n * i) s → u ≡ after_words m t
     → bs ≡ bytes_at (words_of t) 0 m → m ≡ n → (bs ≡ draw n (words_of s) i) × (u ≡ after_words (n * (i + 1)) s)
 drawn n i m s t u bs before rest read same =
@@ -81,7 +81,7 @@ drawn n i m s t u bs before rest read same =
       rw (← next, rest, before, same) (ap (λ (p : List ℕ × Stream). p.1) both),
     )
 
--- the first of the draws that is valid
+-- The first draw that is valid is the identifier, and the words of the draws up to it are spent.
 pub drawn-first : (n i : ℕ) (words : Words) (bs : List ℕ) → ((k : ℕ) → k < i → is_id (draw n words k) ≡ false) → i < 8
     → bs ≡ draw n words i → is_id bs ≡ true → (identifier n words ≡ Some bs) × (words_spent n words ≡ n * (i + 1))
 unfolding first_valid
@@ -90,7 +90,7 @@ drawn-first n i words bs failed within here valid =
     find-first (λ k. is_id (draw n words k)) 0 8 i (λ k below. rw zero-add (failed k below)) within (rw (zero-add, ← here) valid) ∙ rw zero-add refl in
     (rw (found, here) refl, rw found refl)
 
--- no draw is valid
+-- Where none of eight draws is valid, there is no identifier, and the words of all are spent.
 pub drawn-none : (n : ℕ) (words : Words) → ((k : ℕ) → k < 8 → is_id (draw n words k) ≡ false)
     → (identifier n words ≡ None) × (words_spent n words ≡ n * 8)
 unfolding first_valid
@@ -99,13 +99,13 @@ drawn-none n words failed =
     find-none (λ k. is_id (draw n words k)) 0 8 (λ k below. rw zero-add (failed k below)) in
     (rw none refl, rw none refl)
 
--- what is left after words is left after words
+-- The stream after some words, and then more, is the stream after all of them.
 pub after_words-after_words : (n k : ℕ) (s : Stream) → after_words k (after_words n s) ≡ after_words (n + k) s
 unfolding after_words
 after_words-after_words n zero s = rw add-zero refl
 after_words-after_words n (suc k) s = rw (add-suc n k) (ap (λ (t : Stream). (next_u64 t).1) (after_words-after_words n k s))
 
--- the words that are left are those after the ones that are spent
+-- The words that are left are those after the ones that are spent.
 pub words_of-after_words : (n : ℕ) (s : Stream) → words_of (after_words n s) ≡ words_after n (words_of s)
 unfolding words_of
 words_of-after_words n s = fun_ext (λ k. ap (λ (t : Stream). (next_u64 t).0) (after_words-after_words n k s))

@@ -13,16 +13,17 @@ use Rattle.otlp_proto.specs.Bodies.{reason_of}
 use Rattle.otlp_proto.specs.declared.encoder.EncodeFault.{EncodeFault}
 use Rattle.otlp_proto.specs.declared.encoder.EncodeFault.TheVariants as faults
 
--- the body of the groups of some spans means these spans
+-- The body of the groups of some spans means these spans.
 pub body-means : (spans : List SpanData) (bs : List ℕ) → Reads (meaning Tables.request bs) (request_message (groups spans)) → Reads (body_meaning bs) (grouped_triples spans)
 unfolding body_meaning
 body-means spans bs h = (rw h.0 refl, ap triples h.1 ∙ request-triples spans)
 
+-- What holds of the value of an `Ok` may be weakened.
 pub if-ok : {T E : Type 0} {P Q : T → Type 0} (r : Result T E) → ((x : T) → P x → Q x) → IfOk r P → IfOk r Q
 if-ok (Ok x) f h = f x h
 if-ok (Err e) f h = tt
 
--- why there is no body
+-- The reported fault says why there is no body.
 pub lacks-body : {T : Type 0} (max : ℕ) (spans : List SpanData) (r : Result T EncodeFault) → (IsErrOf r faults.TooLarge → max < body_length (groups spans)) → IfErr r (λ fault. LacksBody max spans (reason_view (reason_of fault)))
 lacks-body max spans (Ok x) larger = tt
 lacks-body max spans (Err faults.OutOfMemory) larger = tt
@@ -30,7 +31,7 @@ lacks-body max spans (Err faults.TooLarge) larger = larger refl
 
 -- ---- what takes memory
 
--- a list that has an item has items
+-- A list that has an item is not empty.
 pub some_items : {A : Type 0} (xs : List A) (i : ℕ) → i < length xs → xs ≢ []
 some_items xs i l e = let none : length xs ≡ 0 = ap length e in omega (arith, l, none)
 
@@ -38,7 +39,7 @@ no-groups : groups [] ≡ []
 unfolding groups groups_by
 no-groups = refl
 
--- groups stand only where spans do
+-- There are groups only where there are spans.
 pub spans_grouped : {A : Type 0} (spans : List SpanData) (gs : List A) (view : A → ResourceGroup) → map view gs ≡ groups spans → gs ≢ [] → spans ≢ []
 spans_grouped spans [] view e h = absurd (h refl)
 spans_grouped [] (g ∷ gs) view e h = let none : view g ∷ map view gs ≡ [] = e ∙ no-groups in cc

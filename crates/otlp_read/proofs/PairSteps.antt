@@ -20,10 +20,11 @@ use Rattle.otlp_wire.proofs.JoinedRows.{joined-faults, joined-value, one-faults,
 use Rattle.otlp_read.proofs.MemberSteps.{members-append}
 use Rattle.otlp_wire.proofs.Named.{Within, names-within, within-joined, within-left, within-first, within-others}
 
--- the key after one more field
+-- The key is right after one more field.
 abbrev KeyMore : {A : Type 0} → PairParts A → Bor (List ℕ) → Field → Type 0
 KeyMore old key f = (fields : List Field) → old.key.now ≡ last_bytes (payloads 1 text fields) → key.now ≡ last_bytes (payloads 1 text (fields ++ f ∷ []))
 
+-- A field that holds no value leaves the value of a pair as it is.
 pub pair-skips : {A : Type 0} (depth : ℕ) (old : PairParts A) (key : Bor (List ℕ)) (f : Field) → KeyMore old key f → payloads 2 any (f ∷ []) ≡ [] →
     (fields : List Field) → HoldsPair depth old fields → HoldsPair depth (record { key = key; value = old.value }) (fields ++ f ∷ [])
 pair-skips depth old key f more skip fields h =
@@ -34,6 +35,7 @@ pair-skips depth old key f more skip fields h =
       room = λ z. subst (λ ps. ps ≡ []) same (h.room z);
     }
 
+-- A field that holds a value adds its members to those that count of the pair's value.
 pub pair-more : {A : Type 0} (depth : ℕ) (old : PairParts A) (key : Bor (List ℕ)) (new : Member A) (f : Field) (content : List ℕ) → KeyMore old key f → payloads 2 any (f ∷ []) ≡ len content ∷ [] → (depth ≡ 0 → ⊥) →
     (row content).faults ≡ [] → ((back : List Field) → Holds old.value back → Holds new (members_from_last (row content).value ++ back)) →
     (fields : List Field) → HoldsPair depth old fields → HoldsPair depth (record { key = key; value = new }) (fields ++ f ∷ [])
@@ -50,10 +52,12 @@ pair-more depth old key new f content more found deep good step fields h =
 
 -- ---- faults of the value
 
+-- A fault of the joined rows of a value is a fault of the value.
 pub value-row : (depth : ℕ) (ps : List Payload) → Within (joined_rows ps).faults (value (suc depth) ps).faults
 unfolding value
 value-row depth ps x h = within-left (joined_rows ps).faults _ x h
 
+-- Where no level is left, a value that has a payload is too deep.
 pub is-too-deep : (before : List Payload) (p : Payload) (after : List Payload) → Contains (value 0 (before ++ p ∷ after)).faults too_deep
 unfolding value
 is-too-deep [] p after = Contains-push [] too_deep
@@ -66,6 +70,7 @@ within-value : (values : PayloadReading AnyValue) (fields : List Field) → With
 unfolding read
 within-value values fields x h = within-others values 1 text (2 ⦂ any ◂ end) fields x (within-first values 2 any end fields x h)
 
+-- Where no level is left, a pair with a field that holds a value is too deep.
 pub pair-too-deep : (f : Field) (content : List ℕ) → payloads 2 any (f ∷ []) ≡ len content ∷ [] → (depth : ℕ) → depth ≡ 0 → (before after : List Field) → Contains (pair_faults depth (before ++ f ∷ after)) too_deep
 pair-too-deep f content found depth z before after =
     subst (λ d. Contains (pair_faults d (before ++ f ∷ after)) too_deep) (sym z)
@@ -73,6 +78,7 @@ pair-too-deep f content found depth z before after =
     (subst (λ ps. Contains (value 0 ps).faults too_deep) (sym (payloads-between 2 any before after f (len content) found))
     (is-too-deep (payloads 2 any before) (len content) (payloads 2 any after))))
 
+-- A fault in the row of a pair's value is a fault of the pair.
 pub pair-row-fault : (f : Field) (content : List ℕ) → payloads 2 any (f ∷ []) ≡ len content ∷ [] → (depth : ℕ) → (depth ≡ 0 → ⊥) → (fault : ReadFault) → NamesOne (row content).faults fault →
     (before after : List Field) → NamesOne (pair_faults depth (before ++ f ∷ after)) fault
 pair-row-fault f content found zero deep fault h before after = absurd (deep refl)
@@ -85,6 +91,7 @@ pair-row-fault f content found (suc depth) deep fault h before after =
 
 -- ---- before the first field
 
+-- Before its first field, a pair has an empty key and no value.
 pub pair-none : {A : Type 0} (depth : ℕ) (parts : PairParts A) → parts.key.now ≡ [] → parts.value ≡ Empty → HoldsPair depth parts []
 unfolding payloads joined_rows members_from_last
 pair-none depth parts k e = record { key = k; whole = refl; value = subst (λ m. Holds m []) (sym e) refl; room = λ _. refl }

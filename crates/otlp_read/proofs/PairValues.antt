@@ -15,32 +15,38 @@ use Rattle.otlp_wire.proofs.JoinedRows.{one-faults, one-value}
 use Rattle.otlp_wire.proofs.Named.{Within, names-within, within-first, within-others, message-fields}
 use Rattle.otlp_read.proofs.PairSteps.{value-row}
 
+-- A reading that is done reads its value, and any value equal to that.
 pub is-done : {r : Reading AnyValue} {v w : AnyValue} → r ≡ done v → w ≡ v → Reads r w
 is-done e s = (ap (λ q. q.faults) e, ap (λ q. q.value) e ∙ sym s)
 
+-- A reading reads the value that an equal reading reads.
 pub is-reading : {r q : Reading AnyValue} {v w : AnyValue} → r ≡ q → Reads q v → w ≡ v → Reads r w
 is-reading e h s = (ap (λ x. x.faults) e ∙ h.0, ap (λ x. x.value) e ∙ h.1 ∙ sym s)
 
 -- ---- a value of one payload
 
+-- A fault in the row of a value's one payload is a fault of the value.
 pub row-of-value : (depth : ℕ) (content : List ℕ) (fault : ReadFault) → NamesOne (row content).faults fault → NamesOne (value (suc depth) (len content ∷ [])).faults fault
 row-of-value depth content fault h =
     names-within (row content).faults (value (suc depth) (len content ∷ [])).faults (λ x k. value-row depth (len content ∷ []) x (subst (λ l. Contains l x) (sym (one-faults (len content))) k)) fault h
 
--- by its members
+-- A value whose rows have no fault is what its members make.
 pub value-members : (depth : ℕ) (ps : List Payload) → (joined_rows ps).faults ≡ [] → value (suc depth) ps ≡ value_of (value depth) (members_from_last (joined_rows ps).value)
 unfolding value members_from_last
 value-members depth ps e = ap (λ l. record { value = (value_of (value depth) (reverse (filter (λ f. is_some (member_of f)) (joined_rows ps).value))).value; faults = l ++ (value_of (value depth) (reverse (filter (λ f. is_some (member_of f)) (joined_rows ps).value))).faults }) e
 
+-- A value of one payload without a fault in its row is what its members make.
 pub one-value-read : (depth : ℕ) (content : List ℕ) → (row content).faults ≡ [] → value (suc depth) (len content ∷ []) ≡ value_of (value depth) (members_from_last (row content).value ++ [])
 one-value-read depth content e = value-members depth (len content ∷ []) (one-faults (len content) ∙ e) ∙ ap (value_of (value depth)) (ap members_from_last (one-value (len content)) ∙ sym (append-nil _))
 
 -- ---- a pair
 
 module _ {A : Type 0} (depth : ℕ) (parts : PairParts A) where
+  -- The value of a pair is read as what its members make, where a level is left.
   pub pair-value : (fields : List Field) → HoldsPair depth parts fields → (d : ℕ) → depth ≡ suc d → (v : AnyValue) → Reads (value_of (value d) (members_from_last (joined_rows (payloads 2 any fields)).value)) v → Reads (value depth (payloads 2 any fields)) v
   pair-value fields h d e v k = subst (λ n. Reads (value n (payloads 2 any fields)) v) (sym e) (subst (λ r. Reads r v) (sym (value-members d (payloads 2 any fields) h.whole)) k)
 
+  -- The value of a pair is none where no level is left, since it then has no payload.
   pub pair-no-value : (fields : List Field) → HoldsPair depth parts fields → depth ≡ 0 → Reads (value depth (payloads 2 any fields)) AnyValue.none
   unfolding value
   pair-no-value fields h e = subst (λ n. Reads (value n (payloads 2 any fields)) AnyValue.none) (sym e) (subst (λ ps. Reads (value 0 ps) AnyValue.none) (sym (h.room e)) (refl, refl))
@@ -49,11 +55,13 @@ module _ {A : Type 0} (depth : ℕ) (parts : PairParts A) where
     table-within : Within (read_table (value depth) Tables.key_value (row content).value).faults (read (value depth) (message Tables.key_value) (len content ∷ [])).faults
     table-within x k = message-fields (value depth) Tables.key_value (len content ∷ []) x (subst (λ l. Contains (read_table (value depth) Tables.key_value l).faults x) (sym (one-value (len content))) k)
 
+    -- A fault of the key of a pair is a fault of the pair.
     pub key-fails : (fault : ReadFault) → NamesOne (utf8 parts.key.now).faults fault → NamesOne (read (value depth) (message Tables.key_value) (len content ∷ [])).faults fault
     unfolding read
     key-fails fault k = names-within (utf8 parts.key.now).faults (read (value depth) (message Tables.key_value) (len content ∷ [])).faults
         (λ x m. table-within x (within-first (value depth) 1 text (2 ⦂ any ◂ end) (row content).value x (subst (λ t. Contains (utf8 t).faults x) h.key m))) fault k
 
+    -- A fault of what the members make of a pair's value is a fault of the pair.
     pub value-fails : (d : ℕ) → depth ≡ suc d → (fault : ReadFault) → NamesOne (value_of (value d) (members_from_last (joined_rows (payloads 2 any (row content).value)).value)).faults fault →
         NamesOne (read (value depth) (message Tables.key_value) (len content ∷ [])).faults fault
     unfolding read
@@ -61,6 +69,7 @@ module _ {A : Type 0} (depth : ℕ) (parts : PairParts A) where
         (λ x m. table-within x (within-others (value depth) 1 text (2 ⦂ any ◂ end) (row content).value x (within-first (value depth) 2 any end (row content).value x m))) fault
         (subst (λ n. NamesOne (value n (payloads 2 any (row content).value)).faults fault) (sym e) (subst (λ r. NamesOne r.faults fault) (sym (value-members d (payloads 2 any (row content).value) h.whole)) k))
 
+    -- A pair whose row, key and value have no fault is read as that key with that value.
     pub pair-read : (row content).faults ≡ [] → (key : List ℕ) (v : AnyValue) → Reads (utf8 parts.key.now) key → Reads (value depth (payloads 2 any (row content).value)) v →
         Reads (read (value depth) (message Tables.key_value) (len content ∷ [])) (key ▸ v ▸ tt)
     unfolding read

@@ -49,7 +49,7 @@ Holds (Array v) back = Runs 5 (parts_view v.items) back
 Holds (Pairs v) back = Runs 6 (parts_view v.items) back
 Holds (Bytes b) back = Begins 7 (len b.now) back
 
--- This is what counts of the fields of a pair, where a value may have so many levels.
+-- This is what counts of the fields of a pair, where a value may have `depth` levels.
 pub record HoldsPair {A : Type 0} (depth : ℕ) (parts : PairParts A) (fields : List Field)
     : Type 0 where
   pub key : parts.key.now ≡ last_bytes (payloads 1 text fields)

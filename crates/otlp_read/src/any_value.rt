@@ -130,7 +130,7 @@ struct PairParts<'a, A: Allocator> {
 }
 
 impl<'a, A: Allocator + Copy> PairParts<'a, A> {
-    /// With one field more, where a value may nest so many levels deep.
+    /// With one field more, where a value may nest `depth` levels deep.
     fn with(self, alloc: A, depth: u32, field: Field<'a>) -> Result<PairParts<'a, A>, ReadFault>
         ensures ok { IfOk result (λ parts. (fields : List Wire.Field) →
             HoldsPair depth self.entry fields →
@@ -172,7 +172,7 @@ impl<'a, A: Allocator + Copy> PairParts<'a, A> {
     }
 }
 
-/// The value of a member, where those in it may nest so many levels deep.
+/// The value of a member, where the values in it may nest `depth` levels deep.
 #[cycle(value)]
 fn value_of<A: Allocator + Copy>(
     alloc: A,
@@ -196,7 +196,7 @@ fn value_of<A: Allocator + Copy>(
     }
 }
 
-/// A value of these bytes, which may nest so many levels deep.
+/// A value of these bytes, which may nest `depth` levels deep.
 #[cycle(value)]
 fn read_value<A: Allocator + Copy>(
     alloc: A,
@@ -258,7 +258,7 @@ fn read_values<A: Allocator + Copy>(
     Ok(values)
 }
 
-/// A pair of these bytes, whose value may nest so many levels deep.
+/// A pair of these bytes, whose value may nest `depth` levels deep.
 #[cycle(value)]
 pub(crate) fn read_pair<A: Allocator + Copy>(
     alloc: A,

@@ -19,8 +19,8 @@ use crate::any_value::{AnyValue, push_attribute};
 use otlp_wire::{Field, Fields, GatherFields, ReadFault, bytes_in, copy_bytes, last_bytes, last_fixed32, last_fixed64, last_varint, low_32_bits, push_message, read_text};
 use std::alloc::{Allocator, Global};
 
-/// Whether what the span stands for went well (opentelemetry-proto, trace.proto: Status). An absent
-/// one has the defaults.
+/// Whether the operation that the span describes went well (opentelemetry-proto, trace.proto:
+/// Status). An absent one has the defaults.
 #[derive(Drop)]
 #[derive_where(Debug)]
 pub struct Status<A: Allocator = Global> {

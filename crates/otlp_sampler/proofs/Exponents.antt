@@ -17,6 +17,7 @@ use Rattle.otlp_sampler.proofs.Decimals.{digits_of_parts, front-le, ten_pos, val
 
 -- ---- the first byte that passes
 
+-- Where no byte before a place passes a test and the one at it doesn't, none up to it does.
 pub before_more : (p : ℕ → Bool) (xs : List ℕ) (i : ℕ) → ((k : ℕ) → k < i → p (get_or xs k 0) ≡ false) → p (get_or xs i 0) ≡ false
     → (k : ℕ) → k < i + 1 → p (get_or xs k 0) ≡ false
 before_more p xs i before here k less =
@@ -25,22 +26,24 @@ before_more p xs i before here k less =
       | inr later ↦ let same : i ≡ k = omega arith in subst (λ (j : ℕ). p (get_or xs j 0) ≡ false) same here
     ]
 
+-- The first byte that passes a test is at the position that the search finds.
 pub first_is : (p : ℕ → Bool) (xs : List ℕ) (i : ℕ) → i < length xs → ((k : ℕ) → k < i → p (get_or xs k 0) ≡ false) → p (get_or xs i 0) ≡ true
     → i ≡ position_or_len p xs
 first_is p xs i below before here = sym (position_or_len_is p xs i 0 (omega arith) before (λ _. here))
 
+-- A search for a byte that passes a test gives the length of the text where none passes.
 pub none_is : (p : ℕ → Bool) (xs : List ℕ) (i : ℕ) → i ≡ length xs → ((k : ℕ) → k < i → p (get_or xs k 0) ≡ false)
     → length xs ≡ position_or_len p xs
 none_is p xs i is before = sym is ∙ sym (position_or_len_is p xs i 0 (omega arith) before (λ less. absurd (omega arith)))
 
 -- ---- answers
 
--- the same answer to another question
+-- An answer to one question is the answer to another one with the same condition and value.
 pub moved : (r : Option ℕ) (P Q : Type 0) (v w : ℕ) → (P → Q) → (Q → P) → (P → v ≡ w) → SomeIff r P v → SomeIff r Q w
 moved None P Q v w there back same is = λ q. is (back q)
 moved (Some x) P Q v w there back same is = (there is.0, is.1 ∙ same is.0)
 
--- all digits, parted at any point
+-- The digits of a number, split at any place, have the share of all its digits.
 pub placed : (r : Option ℕ) (cs : List ℕ) (p : ℕ)
     → SomeIff r (digits_value 10 (take p cs ++ drop p cs) ≤ 10 ^ length (drop p cs)) (share (digits_value 10 (take p cs ++ drop p cs)) (10 ^ length (drop p cs)))
     → SomeIff r (digits_value 10 cs ≤ 10 ^ (length cs - p)) (share (digits_value 10 cs) (10 ^ (length cs - p)))
@@ -48,11 +51,12 @@ placed r cs p is =
     let whole = subst (λ (l : List ℕ). SomeIff r (digits_value 10 l ≤ 10 ^ length (drop p cs)) (share (digits_value 10 l) (10 ^ length (drop p cs)))) (take-append-drop p cs) is in
     subst (λ (k : ℕ). SomeIff r (digits_value 10 cs ≤ 10 ^ k) (share (digits_value 10 cs) (10 ^ k))) (length-drop p cs) whole
 
--- fewer of the first digits write no more
+-- Fewer of the first digits of a text write no more.
 pub front_of_front : (i p : ℕ) (cs : List ℕ) → i ≤ p → digits_value 10 (take i cs) ≤ digits_value 10 (take p cs)
 front_of_front i p cs le =
     subst (λ (l : List ℕ). digits_value 10 l ≤ digits_value 10 (take p cs)) (take-take i p cs le) (front-le i (take p cs))
 
+-- Both parts of a text of digits, split at any place, are digits.
 pub parts_at : (cs : List ℕ) (p : ℕ) → list_all is_ascii_digit cs ≡ true
     → (list_all is_ascii_digit (take p cs) ≡ true) × (list_all is_ascii_digit (drop p cs) ≡ true)
 parts_at cs p are =
@@ -63,7 +67,7 @@ parts_at cs p are =
 regrouped : (v t s : ℕ) → v * s * t ≡ v * t * s
 regrouped v t s = omega arith
 
--- the point moved to the right, within the digits
+-- A point moved to the right, within the digits, multiplies the number by a power of ten.
 pub raised : (r : Option ℕ) (v e k f : ℕ) → f ≡ e + k → SomeIff r (v ≤ 10 ^ e) (share v (10 ^ e))
     → SomeIff r (v * 10 ^ k ≤ 10 ^ f) (share (v * 10 ^ k) (10 ^ f))
 raised r v e k f is answer =
@@ -74,13 +78,13 @@ raised r v e k f is answer =
     (moved r (v ≤ 10 ^ e) (v * 10 ^ k ≤ 10 ^ e * 10 ^ k) (share v (10 ^ e)) (share (v * 10 ^ k) (10 ^ e * 10 ^ k))
     (λ le. mul-le-mul_right (10 ^ k) le) (λ le. le_of_mul-le-mul_right le (ten_pos k)) (λ _. share_is) answer)
 
--- .. to the left
+-- A point moved to the left divides the number by a power of ten.
 pub lowered : (r : Option ℕ) (v e f k : ℕ) → e ≡ f + k → SomeIff r (v ≤ 10 ^ e) (share v (10 ^ e))
     → SomeIff r (v ≤ 10 ^ f * 10 ^ k) (share v (10 ^ f * 10 ^ k))
 lowered r v e f k is answer =
     subst (λ (q : ℕ). SomeIff r (v ≤ q) (share v q)) (ap (λ (n : ℕ). 10 ^ n) is ∙ pow-add 10 f k) answer
 
--- .. and beyond the first digit
+-- A point moved to the left, past the first digit, divides the share by a power of ten.
 pub lowered_past : (v n f k m c : ℕ) → f + k ≡ n + m → v < 10 ^ n → c ≡ share v (10 ^ n)
     → (v ≤ 10 ^ f * 10 ^ k) × (c / 10 ^ m ≡ share v (10 ^ f * 10 ^ k))
 lowered_past v n f k m c is less count =
@@ -91,16 +95,17 @@ lowered_past v n f k m c is less count =
       ap (λ (x : ℕ). x / 10 ^ m) count ∙ div-div-eq-div-mul (v * 2 ^ 56) (10 ^ n) (10 ^ m) ∙ ap (λ (q : ℕ). v * 2 ^ 56 / q) power,
     )
 
+-- A number that is 0 stays 0 when it is multiplied.
 pub no_times : (v t : ℕ) → v ≡ 0 → v * t ≡ 0
 no_times v t is = ap (λ (x : ℕ). x * t) is ∙ omega arith
 
--- 0 stays 0
+-- A ratio of 0 stays 0 with any exponent, and its share is 0.
 pub nothing_raised : (v t q : ℕ) → v ≡ 0 → (v * t ≤ q) × (0 ≡ share (v * t) q)
 nothing_raised v t q is =
     let none = no_times v t is in
     (omega arith, sym (ap (λ (x : ℕ). share x q) none ∙ zero-div q))
 
--- any other number is above 1 beyond the last digit
+-- A number whose point moves to the right, past the last digit, is at most 1 only where it is 0.
 pub only_zero : (v k f : ℕ) → f < k → v * 10 ^ k ≤ 10 ^ f → v ≡ 0
 only_zero v k f less le =
     let step : 10 ^ suc f ≤ 10 ^ k = pow-le-pow_right (lit< tt) (omega arith) in
@@ -116,6 +121,7 @@ only_zero v k f less le =
 
 -- ---- exponents of any size
 
+-- A positive exponent beyond a cap gives the same answer as the cap.
 pub raised_any : (r : Option ℕ) (v e f m : ℕ) → f < m
     → SomeIff r (v * 10 ^ min e m ≤ 10 ^ f) (share (v * 10 ^ min e m) (10 ^ f))
     → SomeIff r (v * 10 ^ e ≤ 10 ^ f) (share (v * 10 ^ e) (10 ^ f))
@@ -145,6 +151,7 @@ tiny v n f k less far =
     let times : v * 2 ^ 56 < 10 ^ f * 10 ^ k = omega arith in
     (omega arith, div-eq_of_lt times)
 
+-- A negative exponent beyond a cap gives the same answer as the cap.
 pub lowered_any : (r : Option ℕ) (v n e f m : ℕ) → v < 10 ^ n → n + 17 ≤ f + m
     → SomeIff r (v ≤ 10 ^ f * 10 ^ min e m) (share v (10 ^ f * 10 ^ min e m))
     → SomeIff r (v ≤ 10 ^ f * 10 ^ e) (share v (10 ^ f * 10 ^ e))
@@ -175,14 +182,14 @@ at_sign r v n f e m p true negative less far small sign is right left =
     let alone : v ≡ v * 10 ^ 0 = omega arith in
     subst (λ (w : ℕ). SomeIff r (w ≤ 10 ^ f * 10 ^ e) (share w (10 ^ f * 10 ^ e))) alone (lowered_any r v n e f m less far here)
 
--- the digits of a decimal number
+-- The parts of the mantissa of a decimal number are digits.
 pub are_all : (text whole fraction : List ℕ) → IsTrue (is_decimal text) → whole ≡ whole_part (mantissa_part text) → fraction ≡ fraction_part (mantissa_part text)
     → IsTrue (list_all is_ascii_digit (whole ++ fraction))
 are_all text whole fraction is before after =
     let mantissa = (and_parts (are_digits (digits (mantissa_part text))) (is_exponent text) is).0 in
     rw (before, after) ((and_parts _ (list_all is_ascii_digit (digits (mantissa_part text))) mantissa).1)
 
--- no part is longer than the text
+-- No part of the mantissa is longer than the text.
 pub parts_short : (text : List ℕ) → (length (whole_part (mantissa_part text)) ≤ length text) × (length (fraction_part (mantissa_part text)) ≤ length text)
 parts_short text =
     let mantissa = length-take (position_or_len is_exponent_mark text) text in
@@ -190,7 +197,7 @@ parts_short text =
     let fraction = length-drop (position_or_len is_point (mantissa_part text) + 1) (mantissa_part text) in
     (omega arith, omega arith)
 
--- what the code finds is the number's share
+-- The count that the code finds is the share of the number that the text writes.
 pub whole_answer : (r : Option ℕ) (text whole fraction : List ℕ) (negative : Bool) (p m : ℕ)
     → IsTrue (is_decimal text) → whole ≡ whole_part (mantissa_part text) → fraction ≡ fraction_part (mantissa_part text)
     → length whole + 17 ≤ m → length fraction < m
@@ -208,9 +215,11 @@ whole_answer r text whole fraction negative p m is before after wide small sign 
 
 -- ---- the loops
 
+-- One more digit of a capped exponent gives the cap of the longer exponent.
 pub places_more : (v d n w m : ℕ) → n ≡ min v m → w ≡ v * 10 + d → min (min (n * 10) m + d) m ≡ min w m
 places_more v d n w m is more = omega arith
 
+-- A division by a power of ten goes on after one division by ten.
 pub once_more : (c p a : ℕ) → a ≡ c / 10 ^ p → 0 < p → a ≡ c / 10 / 10 ^ (p - 1)
 once_more c p a is some =
     let back : suc (p - 1) ≡ p = omega arith in
@@ -218,5 +227,6 @@ once_more c p a is some =
     let swapped : 10 ^ p ≡ 10 * 10 ^ (p - 1) = omega arith in
     is ∙ ap (λ (q : ℕ). c / q) swapped ∙ sym (div-div-eq-div-mul c 10 (10 ^ (p - 1)))
 
+-- A count of 0 stays 0, however often it is divided.
 pub no_more : (c p : ℕ) → c ≡ 0 → c / 10 ^ p ≡ c
 no_more c p is = ap (λ (x : ℕ). x / 10 ^ p) is ∙ zero-div (10 ^ p) ∙ sym is

@@ -16,11 +16,11 @@ last_bytes t long =
     let at10 = drop-cons t 10 0 (omega arith) ∙ ap (λ l. get_or t 10 0 ∷ l) at11 in
     drop-cons t 9 0 (omega arith) ∙ ap (λ l. get_or t 9 0 ∷ l) at10
 
--- each counts by its place
+-- The random part of a trace id is the number that its last seven bytes write, each by its place.
 pub random_part-is : (t : List ℕ) → length t ≡ 16
     → random_part t ≡ get_or t 9 0 * 256 ^ 6 + (get_or t 10 0 * 256 ^ 5 + (get_or t 11 0 * 256 ^ 4 + (get_or t 12 0 * 256 ^ 3 + (get_or t 13 0 * 256 ^ 2 + (get_or t 14 0 * 256 + get_or t 15 0)))))
 random_part-is t long = ap big_endian (last_bytes t long) ∙ omega arith
 
--- the number has 56 bits
+-- The random part of a trace id has at most 56 bits.
 pub random_part-lt : (t : List ℕ) → length t ≡ 16 → ((k : ℕ) → get_or t k 0 < 256) → random_part t < 2 ^ 56
 random_part-lt t long small = rw (random_part-is t long) (omega (arith, small 9, small 10, small 11, small 12, small 13, small 14, small 15))

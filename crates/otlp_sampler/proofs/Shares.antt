@@ -9,18 +9,18 @@ use Rattle.otlp_sampler.specs.Ratio.{random_part, share, threshold_of}
 use Rattle.otlp_sampler.specs.Laws.{AllAreSampled, GreaterRatiosSampleMore, NoneAreSampled, ShareIsExact, sampled_below}
 use Rattle.otlp_sampler.proofs.Identifiers.{random_part-lt}
 
--- a ratio samples no more than all numbers
+-- A ratio of at most 1 samples no more than all numbers.
 pub share_le : (n d : ℕ) → n ≤ d → n * 2 ^ 56 / d ≤ 2 ^ 56
 share_le n d le = div-le_of_le-mul d (mul-le-mul_right (2 ^ 56) le)
 
--- ratio 1 samples all
+-- Ratio 1 samples all numbers.
 pub share_whole : (d : ℕ) → 0 < d → share d d ≡ 2 ^ 56
 share_whole d pos = mul-div_cancel_left (2 ^ 56) pos
 
 regrouped : (q n d m e s : ℕ) → q * d * e ≤ n * s * e → n * e * s ≤ m * d * s → q * e * d ≤ m * s * d
 regrouped q n d m e s less more = omega arith
 
--- a greater ratio samples as many, or more
+-- A greater ratio samples as many numbers, or more.
 share-grows : (s n d m e : ℕ) → 0 < d → 0 < e → n * e ≤ m * d → n * s / d ≤ m * s / e
 share-grows s n d m e some any le =
     let q : ℕ = n * s / d in
@@ -32,6 +32,7 @@ share-grows s n d m e some any le =
 lower : (a b r s : ℕ) → a ≤ b → s - a ≤ r → s - b ≤ r
 lower a b r s le from = omega arith
 
+-- A trace that a ratio samples is sampled by each greater ratio, too.
 pub greater : GreaterRatiosSampleMore
 greater n d m e trace some any le sampled =
     let grows = share-grows (2 ^ 56) n d m e some any le in
@@ -41,6 +42,7 @@ greater n d m e trace some any le sampled =
 above : (a r s : ℕ) → a ≡ 0 → r < s → r < s - a
 above a r s nothing less = omega arith
 
+-- Ratio 0 samples no trace.
 pub none : NoneAreSampled
 none d trace some is =
     let nothing : share 0 d ≡ 0 = zero-div d in
@@ -49,6 +51,7 @@ none d trace some is =
 below : (a r s : ℕ) → a ≡ s → s - a ≤ r
 below a r s is = omega arith
 
+-- Ratio 1 samples each trace.
 pub all : AllAreSampled
 all d trace some = le-leb (threshold_of d d) (random_part trace) (below (share d d) (random_part trace) (2 ^ 56) (share_whole d some))
 
@@ -74,5 +77,6 @@ sampled_below-is : (t n : ℕ) → sampled_below t n ≡ n - t
 unfolding sampled_below
 sampled_below-is t n = omega (arith, counted t 0 n)
 
+-- A threshold samples exactly the numbers of 56 bits from itself on.
 pub exact : ShareIsExact
 exact t = sampled_below-is t (2 ^ 56)

@@ -283,7 +283,7 @@ fn count_of_fraction(whole: &[u8], fraction: &[u8], point: usize) -> u64
     count
 }
 
-/// The count divided by ten so many times, and rounded down.
+/// The count divided by ten `places` times, and rounded down.
 fn divided(count: u64, places: u64) -> u64
     ensures { result ≡ count / 10 ^ places }
 {

@@ -28,12 +28,12 @@ token_text : (word : List ℕ) → IsToken word → IsUtf8 word
 token_text word token =
     IsUtf8-from_ascii _ (IsAscii-from_all _ (All-weaker (λ b. is_token_byte b ≡ true) (λ b. b < 128) token_is_ascii word token.1))
 
--- a method is a text
+-- The method of a request is UTF-8.
 pub method_text : (limits : HeadLimits) (text : List ℕ) (spans : List HeaderSpan) (found : RequestSpans)
     → FindsRequest limits text spans found → IsUtf8 (span_bytes text found.method)
 method_text limits text spans found finds = subst IsUtf8 (sym finds.1.1.method) (token_text finds.0.method finds.1.0.valid.method)
 
--- a head whose body can't be had
+-- Where a head was kept and its body could not be read, no request came, for that fault.
 pub no_body : (limits : HeadLimits) (old mid new : Option (List ℕ)) (method target : List ℕ) (kept : Entries FieldValue)
     (framing : Framing) (taken : List ℕ) (first before after : ℕ) (fault : HttpFault)
     (head : HasKeptRequest limits old mid method target kept) → framing ≡ request_framing (request_fields head.head)

@@ -7,7 +7,7 @@ use Rattle.otlp_serve.specs.declared.status.ReplyStatus.TheVariants as statuses
 use Rattle.otlp_serve.specs.Replies.{allow_line, code_of, reason_of, reply_front, wait_line}
 use Rattle.http_wire.specs.Lines.{line}
 
--- the parts of the lines, one after the other, are the lines
+-- The parts of the lines, one after the other, are the lines.
 lines_of_parts : (version code space reason type size close allow name digits last end : List ℕ)
     → version ++ (code ++ (space ++ (reason ++ (end ++ (type ++ (end ++ (size ++ (end ++ (close ++ (end
     ++ (allow ++ (name ++ (digits ++ (last ++ end))))))))))))))
@@ -22,7 +22,7 @@ pieces status name digits last =
     ∷ codes "\r\nContent-Type: application/x-protobuf\r\nContent-Length: 0\r\nConnection: close\r\n"
     ∷ allow_line status ∷ name ∷ digits ∷ last ∷ codes "\r\n" ∷ []
 
--- are the reply
+-- The pieces, one after the other, are the reply.
 pub concat_reply : (status : ReplyStatus) (name digits last wait : List ℕ) → name ++ (digits ++ last) ≡ wait
     → concat (pieces status name digits last) ≡ reply_front status ++ (wait ++ line [])
 unfolding reply_front
@@ -63,7 +63,7 @@ sum_of_lengths : (version code space reason middle allow name digits last end : 
     ≡ length version + (length code + (length space + (length reason + (length middle + (length allow + (length name + (length digits + (length last + length end))))))))
 sum_of_lengths version code space reason middle allow name digits last end = simp length-append
 
--- and so few that they can be counted
+-- The reply has fewer than 2^64 bytes, so its length can be counted.
 pub reply_short : (status : ReplyStatus) (name digits last : List ℕ) → length name ≤ 40 → length last ≤ 40
     → length (decimal (code_of status)) + length digits ≤ 80 → length (concat (pieces status name digits last)) < 2 ^ 64
 reply_short status name digits last short_name short_last short =
@@ -80,16 +80,18 @@ wait_name seconds = if is_some seconds then codes "Retry-After: " else []
 abbrev pub wait_end : Option ℕ → List ℕ
 wait_end seconds = if is_some seconds then codes "\r\n" else []
 
--- with them it is the line
+-- The seconds, with what comes before and after them, are the line of Retry-After.
 pub wait_parts : (seconds : Option ℕ) (digits : List ℕ) → MatchOption seconds (digits ≡ []) (λ n. digits ≡ decimal n)
     → wait_name seconds ++ (digits ++ wait_end seconds) ≡ wait_line seconds
 wait_parts (Some n) digits is = ap (λ t. codes "Retry-After: " ++ (t ++ codes "\r\n")) is
 wait_parts None digits is = ap (λ t. t ++ []) is
 
+-- What comes before the seconds of Retry-After has at most 40 bytes.
 pub name_short : (seconds : Option ℕ) → length (wait_name seconds) ≤ 40
 name_short (Some n) = omega arith
 name_short None = omega arith
 
+-- What comes after the seconds of Retry-After has at most 40 bytes.
 pub end_short : (seconds : Option ℕ) → length (wait_end seconds) ≤ 40
 end_short (Some n) = omega arith
 end_short None = omega arith

@@ -32,7 +32,7 @@ reply_by large faults.BadHead = Some (plain_reply statuses.BadRequest)
 reply_by large faults.BadLength = Some (plain_reply statuses.BadRequest)
 reply_by large faults.BadChunk = Some (plain_reply statuses.BadRequest)
 
--- what a fault is answered, by where it stood
+-- what a fault is answered, by where it was found
 abbrev pub reply_to_fault : PostFault → Option PostReply
 reply_to_fault (Head fault) = reply_by statuses.RequestHeaderFieldsTooLarge fault
 reply_to_fault (Body fault) = reply_by statuses.ContentTooLarge fault

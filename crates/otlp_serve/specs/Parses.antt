@@ -23,7 +23,7 @@ abbrev pub FindsRequest : HeadLimits → List ℕ → List HeaderSpan → Reques
 FindsRequest limits text spans found =
     (head : RequestHead) × CoversRequest limits text spans found head
 
--- the spans cover the parts of a head at the front of the text, with room for so many fields
+-- the spans cover the parts of a head at the front of the text, with room for this number of fields
 abbrev pub FindsFront : List ℕ → ℕ → List HeaderSpan → RequestSpans → Type 0
 FindsFront text room spans found =
     (head : RequestHead) × IsRequestAt text spans found head

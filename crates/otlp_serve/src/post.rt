@@ -117,7 +117,7 @@ fn read_post_head<R: FaultRead, A: Allocator + Copy>(
 /// Reads a request, and no byte after it (RFC 9112, sections 2.2, 3, 5, 6.3 and 7.1). A head is
 /// what `httparse` reads by default. Its body comes in chunks where Transfer-Encoding is one field,
 /// `chunked` in any case of letters; else it has the length that Content-Length says, and there is
-/// none where neither field is there. Of chunks, extensions and trailers are let go. A read that
+/// none where neither field is there. Of chunks, extensions and trailers are not kept. A read that
 /// failed is not tried again.
 ///
 /// The head, lines of chunks and trailers are read byte by byte: from a socket without a buffer

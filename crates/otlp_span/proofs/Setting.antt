@@ -6,7 +6,7 @@ use Rattle.otlp_value.specs.declared.Value.{Value}
 use Rattle.otlp_value.specs.Value.{attribute_view, attributes_view}
 use Rattle.otlp_span.specs.Pairs.{SetsPairs}
 
--- some, and then others
+-- Pairs that are set, and then others, are set together.
 pub sets-more : {xs ys : List Attribute} {a b c : AttributeList} → SetsPairs xs a b → SetsPairs ys b c → SetsPairs (xs ++ ys) a c
 sets-more {xs = xs} {ys = ys} {a = a} {b = b} {c = c} f g = record {
   limits = g.limits ∙ f.limits;
@@ -15,15 +15,15 @@ sets-more {xs = xs} {ys = ys} {a = a} {b = b} {c = c} f g = record {
       then ∙ ap (λ l. attributes l ((pairs ++ xs) ++ ys)) f.limits ∙ ap (attributes a.limits) (append_assoc pairs xs ys);
 }
 
--- one of them
+-- One pair that is set is a list of one pair that is set.
 pub sets-one : (p : Attribute) (a b : AttributeList) → SetsPair p a b → SetsPairs (p ∷ []) a b
 sets-one p a b s = record { limits = s.limits; value = s.value }
 
--- the pairs that were set, and one more
+-- The pairs that were set, and one more after them, are set together.
 pub sets-next : {A : Type 0} (before : List (String A × Value A)) (pair : String A × Value A) (a b c : AttributeList) → SetsPairs (attributes_view before) a b → SetsPair (attribute_view pair) b c → SetsPairs (attributes_view (before ++ pair ∷ [])) a c
 sets-next before pair a b c f s = subst (λ more. SetsPairs more a c) (sym (map-append attribute_view before (pair ∷ []))) (sets-more f (sets-one (attribute_view pair) b c s))
 
--- one of those to come is now one of those that came
+-- One of the pairs to come is now one of those that came.
 pub moves-one : {X : Type 0} (all before rest after : List X) (x : X) → all ≡ before ++ rest → rest ≡ x ∷ after → all ≡ (before ++ x ∷ []) ++ after
 moves-one all before rest after x p q = p ∙ ap (λ r. before ++ r) q ∙ sym (append_assoc before (x ∷ []) after)
 

@@ -27,9 +27,9 @@ pub struct SpanData<A: Allocator = Global> {
     pub(crate) ticket: u64,
 }
 
-/// What is left of a span that was dropped, in its memory: it is only to be let go, which frees
-/// that, where it suits (profile). With an allocator of no size, as `Global`, it is as large as a
-/// pointer.
+/// What is left of a span that was dropped, in its memory: it is only to be given up, which frees
+/// that memory, where it suits (profile). With an allocator of no size, as `Global`, it is as large
+/// as a pointer.
 #[derive(Drop)]
 #[derive_where(Debug)]
 pub struct SpanRemains<A: Allocator = Global> {

@@ -48,7 +48,7 @@ impl<T, A: Allocator> Kept<T, A> {
         self.dropped
     }
 
-    /// Whether one more is kept where so many may be.
+    /// Whether one more is kept under this limit.
     pub(crate) fn has_room(&self, limit: u32) -> bool
         ensures { result ≡ nat_lt (length self.now.items) limit }
     {

@@ -206,7 +206,7 @@ pub struct Open<A: Allocator = Global> {
     pub start: u64,
 }
 
-/// What came of the operation that a span stands for (Trace API, "Set Status").
+/// The outcome of the operation that a span describes (Trace API, "Set Status").
 #[derive(Drop)]
 #[derive_where(Debug, PartialEq, Eq)]
 pub enum Status<A: Allocator = Global> {

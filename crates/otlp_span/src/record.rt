@@ -20,7 +20,7 @@ use std::alloc::{Allocator, Global};
 use std::marker::Model;
 
 /// A span while it is recorded (Trace API, "Span"): calls on it count until it is closed. One that
-/// is let go without that has ended nowhere. With an allocator of no size, as `Global`, it is as
+/// is given up without that has ended nowhere. With an allocator of no size, as `Global`, it is as
 /// large as a pointer.
 #[derive(Drop)]
 #[derive_where(Debug)]

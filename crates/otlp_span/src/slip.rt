@@ -29,7 +29,7 @@ pub struct Entry {
 /// name it takes none (profile). Slips that name spans are linked into a chain. In contracts a slip
 /// is the list of the names from it on, the newest first, and is empty while it names nothing.
 ///
-/// A chain that is let go is taken apart one slip at a time, so that a long one doesn't use up the
+/// A chain that is freed is taken apart one slip at a time, so that a long one doesn't use up the
 /// stack.
 #[cycle(slip)]
 pub struct Slip<A: Allocator = Global> {

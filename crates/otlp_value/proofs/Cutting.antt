@@ -32,7 +32,7 @@ passed (x ∷ xs) s t utf8 y =
       place = omega (arith, more.place, step.2, length-append (encode_utf8 x.1) (encode_utf8_all (seconds xs)));
     }
 
--- Where the character of that number stands, the bytes are cut to as many characters.
+-- Where the text has a character of that number, the bytes are cut to as many characters.
 pub cut-there : (bs : List ℕ) (n : ℕ) (p : ℕ × ℕ) (s u : _) → char_indices_rest s ≡ bs → char_indices_offset s ≡ 0 → IsUtf8 bs → SkipsThenYields char_indices_steps s n (Some p) u →
     take p.0 bs ≡ encode_utf8_all (take n (chars bs))
 cut-there bs n p s u rest start utf8 ran =
@@ -41,7 +41,7 @@ cut-there bs n p s u rest start utf8 ran =
     let place : length (encode_utf8_all (seconds ran.0)) ≡ p.0 = sym (ran.1.2.0 ∙ front.place ∙ zero-add _) in
     ap (take p.0) front.bytes ∙ take_at _ _ p.0 place ∙ ap encode_utf8_all (sym (ap (take n) front.read ∙ take_at (seconds ran.0) _ n many))
 
--- Where none stands, there are no more characters than that.
+-- Where the text has no such character, it has no more characters than that.
 pub cut-none : (bs : List ℕ) (n : ℕ) (s u : _) → char_indices_rest s ≡ bs → char_indices_offset s ≡ 0 → IsUtf8 bs → SkipsThenYields char_indices_steps s n None u →
     bs ≡ encode_utf8_all (take n (chars bs))
 cut-none bs n s u rest start utf8 ran =
@@ -52,7 +52,7 @@ cut-none bs n s u rest start utf8 ran =
 
 -- ---- the texts of an array
 
--- so many of the first are changed
+-- The items before an index are changed, and the others are as they were.
 abbrev pub with_first : {A : Type 0} → (A → A) → ℕ → List A → List A
 with_first f zero xs = xs
 with_first f (suc n) [] = []
@@ -66,7 +66,7 @@ with_first-more f (x ∷ xs) (suc n) d l = ap (λ ys. f x ∷ ys) (with_first-mo
     step : suc (n + 1) ≡ suc n + 1
     step = omega arith
 
--- in the end all are
+-- In the end all items are changed.
 pub with_first-all : {A : Type 0} (f : A → A) (xs : List A) (n : ℕ) → length xs ≤ n → with_first f n xs ≡ map f xs
 with_first-all f [] zero l = refl
 with_first-all f [] (suc n) l = refl
@@ -83,7 +83,7 @@ one-more f view xs i items x y so_far l new = map-set view items i y
 
 -- ---- a value
 
--- without a limit all of it stays
+-- Without a limit a value stays as it is.
 pub uncut : (v : Value) → v ≡ cut None v
 uncut (text t) = refl
 uncut (bool b) = refl

@@ -40,7 +40,7 @@ own-key a = (bytes_decides a a).1 refl
 abbrev among : List ℕ → List (List ℕ) → Bool
 among k keys = list_any (λ l. bytes_eq l k) keys
 
--- each key is once
+-- Each key occurs once.
 abbrev IsApart : List (List ℕ) → Type 0
 IsApart [] = Unit {0}
 IsApart (k ∷ keys) = (among k keys ≡ false) × IsApart keys
@@ -77,7 +77,7 @@ apart-distinct (k ∷ keys) = (left-out k (distinct_of bytes_eq keys), apart-fil
 abbrev keys_of : List Attribute → List (List ℕ)
 keys_of items = map (λ q. q.key) items
 
--- the keys that are kept are once each
+-- Each key that is kept occurs once.
 kept-apart : (limits : Limits) (pairs : List Attribute) → IsApart (keys_of (attributes limits pairs).items)
 unfolding attributes
 kept-apart limits pairs = subst IsApart (sym (back (kept_keys limits.count pairs))) (apart-take limits.count _ (apart-distinct _))
@@ -101,7 +101,7 @@ renewed-none k v (q ∷ items) h =
     let parts = or_parts (has_key k q) (list_any (has_key k) items) h in
     ap₂ (λ x l. x ∷ l) (ap (λ t. cond t (record { key = q.key; value = v }) q) parts.0) (renewed-none k v items parts.1)
 
--- a write at the place of a key that is once
+-- A write at the place of a key that occurs once renews the value of that key.
 set-renews : (k : List ℕ) (v : Value) (items : List Attribute) (i : ℕ) (d : Attribute) → IsApart (keys_of items) → i < length items → has_key k (get_or items i d) ≡ true →
     set items i (record { key = (get_or items i d).key; value = v }) ≡ map (renewed k v) items
 set-renews k v [] i d h l e = absurd (omega (arith, l))
@@ -123,7 +123,7 @@ is-lt a b l = grind (arith, nat_tests)
 not-lt : (a b : ℕ) → b ≤ a → nat_lt a b ≡ false
 not-lt a b l = grind (arith, nat_tests)
 
--- a text is empty as its length says
+-- A text is empty if its length is 0.
 pub is_empty-length : (k : List ℕ) (t : Bool) → nat_eq (length k) 0 ≡ t → is_empty k ≡ t
 is_empty-length [] t h = h
 is_empty-length (b ∷ bs) t h = sym (more (length bs)) ∙ h
@@ -161,6 +161,7 @@ sets : (limits : Limits) (old new : Kept Attribute) (p : Attribute) → ((pairs 
     SetsPair p (record { limits = limits; kept = old }) (record { limits = limits; kept = new })
 sets limits old new p h = record { limits = refl; value = λ pairs e. h pairs e ∙ ap (λ k. set_one limits k p) e ∙ sym (attributes-more limits pairs p) }
 
+-- A pair with an empty key leaves the list as it is.
 pub sets-ignored : (list : AttributeList) (p : Attribute) → is_empty p.key ≡ true → SetsPair p list list
 sets-ignored list p none =
     sets list.limits list.kept list.kept p (λ pairs e. sym (ap (λ t. set_by t (list_any (has_key p.key) list.kept.items) (nat_lt (length list.kept.items) list.limits.count) list.limits list.kept p) none))
@@ -170,11 +171,12 @@ module _ {P : Type 0} (view : P → Attribute) (limits : Limits) (pairs : List P
   abbrev old : Kept Attribute
   old = record { items = map view pairs; dropped = dropped }
 
-  -- what is set, by the tests of the key and of the room
+  -- The tests of the key and of the room decide what is set.
   by_tests : (there room : Bool) → list_any (has_key p.key) (map view pairs) ≡ there → nat_lt (length (map view pairs)) limits.count ≡ room → set_by false there room limits old p ≡ set_one limits old p
   by_tests there room s t = sym (ap (λ e. set_by e (list_any (has_key p.key) (map view pairs)) (nat_lt (length (map view pairs)) limits.count) limits old p) named
       ∙ ap₂ (λ a b. set_by false a b limits old p) s t)
 
+  -- A pair whose key is in the list replaces the value there.
   pub sets-there : (i : ℕ) (x y : P) → position (λ q. has_key p.key (view q)) pairs ≡ Some i → x ≡ get_or pairs i x → view y ≡ record { key = (view x).key; value = cut limits.length p.value } →
       SetsPair p (listed limits dropped (map view pairs)) (listed limits dropped (map view (set pairs i y)))
   sets-there i x y at is new = sets limits old _ p (λ kept e. written kept e ∙ by_tests true (nat_lt (length (map view pairs)) limits.count) found refl)
@@ -200,19 +202,22 @@ module _ {P : Type 0} (view : P → Attribute) (limits : Limits) (pairs : List P
           ∙ set-renews p.key (cut limits.length p.value) (map view pairs) i (view x) (subst (λ k. IsApart (keys_of k.items)) (sym e) (kept-apart limits kept)) inside its_key)
 
   module _ (absent : position (λ q. has_key p.key (view q)) pairs ≡ None) where
+    -- A key that has no place in the list is not in what is kept.
     pub is-new : list_any (has_key p.key) (map view pairs) ≡ false
     is-new = any-map (has_key p.key) view pairs ∙ position-None (λ q. has_key p.key (view q)) pairs absent
 
+    -- A pair with a new key is put at the end, where the count limit leaves room.
     pub sets-new : (y : P) → length pairs < limits.count → view y ≡ record { key = p.key; value = cut limits.length p.value } →
         SetsPair p (listed limits dropped (map view pairs)) (listed limits dropped (map view (pairs ++ y ∷ [])))
     sets-new y room new = sets limits old _ p (λ kept e.
         ap (λ items. record { items = items; dropped = dropped }) (map-append view pairs (y ∷ []) ∙ ap (λ q. map view pairs ++ q ∷ []) new)
         ∙ by_tests false true is-new (ap (λ n. nat_lt n limits.count) (length-map pairs view) ∙ is-lt _ _ room))
 
+    -- A pair with a new key is counted as dropped, where the list is full.
     pub sets-full : limits.count ≤ length pairs → SetsPair p (listed limits dropped (map view pairs)) (listed limits (capped_count (dropped + 1)) (map view pairs))
     sets-full full = sets limits old _ p (λ kept e. by_tests false false is-new (ap (λ n. nat_lt n limits.count) (length-map pairs view) ∙ not-lt _ _ full))
 
--- nothing is kept of no pairs
+-- Nothing is kept or counted as dropped of no pairs.
 pub attributes-nil : (limits : Limits) → record { items = []; dropped = 0 } ≡ attributes limits []
 unfolding attributes
 attributes-nil limits = ap (λ keys. record { items = map (λ k. record { key = k; value = cut limits.length (last_value [] k) }) keys; dropped = 0 }) (sym (take-nil limits.count))

@@ -46,8 +46,8 @@ impl<A: Allocator> Value<A> {
         Ok(Value::Text(copy_text(alloc, text)?))
     }
 
-    /// The value with its text, or each text of its array by itself, cut to so many Unicode scalar
-    /// values. The others stay as they are, and without a limit all do. It takes no memory.
+    /// The value with its text, or each text of its array by itself, cut to this number of Unicode
+    /// scalar values. The others stay as they are, and without a limit all do. It takes no memory.
     fn cut(self, length: Option<u32>) -> Value<A>
         ensures { value_view result ≡ cut length (value_view self) }
     {
@@ -206,7 +206,7 @@ fn append<T: Drop, A: Allocator>(
     Ok(())
 }
 
-/// Cuts a text to so many Unicode scalar values. It takes no memory.
+/// Cuts a text to this number of Unicode scalar values. It takes no memory.
 fn cut_text<A: Allocator>(text: &mut String<A>, length: u32)
     ensures { string_bytes text.new ≡ first_chars (Some length) (string_bytes text.old) }
 {
@@ -215,7 +215,7 @@ fn cut_text<A: Allocator>(text: &mut String<A>, length: u32)
     }
 }
 
-/// Cuts each of the texts to so many Unicode scalar values. It takes no memory.
+/// Cuts each of the texts to this number of Unicode scalar values. It takes no memory.
 fn cut_texts<A: Allocator>(texts: &mut [String<A>], length: u32)
     ensures { map string_bytes texts.new ≡ map (first_chars (Some length))
         (map string_bytes texts.old) }

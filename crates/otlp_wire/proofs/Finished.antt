@@ -21,6 +21,7 @@ reads-done r x h = ap₂ (λ v f. record { value = v; faults = f }) h.1 h.0
 mutual
   unfolding read
 
+  -- What is kept of the payloads of a field, read to its end, is what these payloads mean.
   pub kept-is : (values : PayloadReading AnyValue) (s : Shape) (x : Kept s) (ps : List Payload) → IsKept values s x ps → read values s ps ≡ finished values s x
   kept-is values text x ps h = ap utf8 (sym h)
   kept-is values bytes x ps h = ap done (sym h)
@@ -36,6 +37,7 @@ mutual
       ap (λ l. record { value = r.value; faults = l ++ r.faults }) h.0 ∙ gathered-is values t x (joined_rows ps).value h.1
   kept-is values (repeated s) xs ps h = reads-done (read values (repeated s) ps) xs h
 
+  -- What was gathered of the fields of a message, read to its end, is what these fields mean.
   pub gathered-is : (values : PayloadReading AnyValue) (t : Table) (x : Gathered t) (fields : List Field) → IsGathered values t x fields → read_table values t fields ≡ finished_table values t x
   gathered-is values end x fields h = refl
   gathered-is values (n ⦂ s ◂ t) x fields h =
@@ -61,11 +63,12 @@ mutual
   none-gathered values end = tt
   none-gathered values (n ⦂ s ◂ t) = (none-kept values s, none-gathered values t)
 
--- a message of one payload
+-- A message of one payload is read as what was gathered of that payload's fields.
 pub message-is : (values : PayloadReading AnyValue) (t : Table) (old new : Gathered t) (content : List ℕ) → old ≡ nothing t → GathersRow values t old new content → (row content).faults ≡ [] →
     read values (message t) (len content ∷ []) ≡ finished values (message t) new
 message-is values t old new content e step good = kept-is values (message t) new (len content ∷ []) (kept-part values t old new content step good [] (subst (λ x. IsKept values (message t) x []) (sym e) (none-kept values (message t))))
 
+-- The meaning of a body is what one length-delimited payload of the same bytes means.
 pub meaning-is : (t : Table) (body : List ℕ) → meaning t body ≡ read (value max_depth) (message t) (len body ∷ [])
 unfolding meaning read
 meaning-is t body =
@@ -74,13 +77,16 @@ meaning-is t body =
 -- ---- a message in a field
 
 module _ (t : Table) (n : ℕ) (f : Field) where
+  -- A field that is not this one of the table leaves what is kept of the message as it was.
   pub in-skips : (x : Gathered t) → payloads n (message t) (f ∷ []) ≡ [] → KeepsField (message t) n x x f
   in-skips x e fields h = subst (λ ps. IsKept (value max_depth) (message t) x ps) (sym (same-payloads n (message t) fields f e)) h
 
+  -- The fields of one more payload are added to what is kept of a message field.
   pub in-more : (x y : Gathered t) (content : List ℕ) → payloads n (message t) (f ∷ []) ≡ len content ∷ [] → GathersRow (value max_depth) t x y content → (row content).faults ≡ [] → KeepsField (message t) n x y f
   in-more x y content e step good fields h =
       subst (λ ps. IsKept (value max_depth) (message t) y ps) (sym (one-payload n (message t) fields f (len content) e)) (kept-part (value max_depth) t x y content step good (payloads n (message t) fields) h)
 
+  -- A fault of the content of a message field is a fault of that field of the table.
   pub in-fails : (content : List ℕ) → payloads n (message t) (f ∷ []) ≡ len content ∷ [] → (fault : ReadFault) → ((before after : List Field) → NamesOne (part_faults (value max_depth) t before content after) fault) →
       (before after : List Field) → NamesOne (field_faults (message t) n before f after) fault
   in-fails content e fault h before after =
@@ -99,7 +105,7 @@ within-suffix values zero t fields x h = h
 within-suffix values (suc k) end fields x h = h
 within-suffix values (suc k) (n ⦂ s ◂ t) fields x h = within-others values n s t fields x (within-suffix values k t fields x h)
 
--- the field at this place has the fault
+-- A fault that a field of the table has is a fault of the whole table.
 pub place-fails : (k : ℕ) (t rest : Table) (n : ℕ) (s : Shape) → suffix k t ≡ (n ⦂ s ◂ rest) → (f : Field) (fault : ReadFault) → ((before after : List Field) → NamesOne (field_faults s n before f after) fault) →
     (before after : List Field) → NamesOne (read_table (value max_depth) t (before ++ f ∷ after)).faults fault
 place-fails k t rest n s e f fault h before after =
@@ -109,22 +115,27 @@ place-fails k t rest n s e f fault h before after =
 
 -- ---- results
 
+-- What holds of the value of an `Ok` may be weakened.
 pub on-ok : {T E : Type 0} {P Q : T → Type 0} (r : Result T E) → ((x : T) → P x → Q x) → IfOk r P → IfOk r Q
 on-ok (Ok x) f h = f x h
 on-ok (Err e) f h = tt
 
+-- What holds of the error of an `Err` may be weakened.
 pub on-err : {T E : Type 0} {P Q : E → Type 0} (r : Result T E) → ((x : E) → P x → Q x) → IfErr r P → IfErr r Q
 on-err (Ok x) f h = tt
 on-err (Err e) f h = f e h
 
+-- Two statements about an `Ok` may be joined to one.
 pub both-ok : {T E : Type 0} {P Q R : Type 0} (r : Result T E) → (P → Q → R) → OnOk r P → OnOk r Q → OnOk r R
 both-ok (Ok x) f p q = f p q
 both-ok (Err e) f p q = tt
 
 -- ---- what was gathered
 
+-- A fault in the first field of what was gathered is a fault of the whole.
 pub finished-first : (values : PayloadReading AnyValue) (n : ℕ) (s : Shape) (t : Table) (x : Gathered (n ⦂ s ◂ t)) → Within (finished values s x.0).faults (finished_table values (n ⦂ s ◂ t) x).faults
 finished-first values n s t x y h = within-left (finished values s x.0).faults ((finished_table values t x.1).faults ++ []) y h
 
+-- A fault in the fields after the first of what was gathered is a fault of the whole.
 pub finished-others : (values : PayloadReading AnyValue) (n : ℕ) (s : Shape) (t : Table) (x : Gathered (n ⦂ s ◂ t)) → Within (finished_table values t x.1).faults (finished_table values (n ⦂ s ◂ t) x).faults
 finished-others values n s t x y h = within-right (finished values s x.0).faults ((finished_table values t x.1).faults ++ []) y (within-left (finished_table values t x.1).faults [] y h)

@@ -10,17 +10,19 @@ use Rattle.otlp_wire.proofs.OnePayload.{payloads-append}
 use Rattle.otlp_wire.specs.Response.{Counts}
 use Rattle.otlp_wire.specs.declared.response.PartialFields.{PartialFields}
 
--- the payloads of a field of a table, after a field that has none
+-- A field that is not this one of the table adds no payload.
 pub same-payloads : (n : ℕ) (s : Shape) (fields : List Field) (f : Field) → payloads n s (f ∷ []) ≡ [] → payloads n s (fields ++ f ∷ []) ≡ payloads n s fields
 same-payloads n s fields f e = payloads-append n s fields (f ∷ []) ∙ ap (λ l. payloads n s fields ++ l) e ∙ append-nil _
 
--- and after one that has one
+-- A field that is this one of the table adds its payload after the others.
 pub one-payload : (n : ℕ) (s : Shape) (fields : List Field) (f : Field) (p : Payload) → payloads n s (f ∷ []) ≡ p ∷ [] → payloads n s (fields ++ f ∷ []) ≡ payloads n s fields ++ p ∷ []
 one-payload n s fields f p e = payloads-append n s fields (f ∷ []) ∙ ap (λ l. payloads n s fields ++ l) e
 
+-- The payload of a field among others is between the payloads of those before and after it.
 pub payloads-between : (n : ℕ) (s : Shape) (before after : List Field) (f : Field) (p : Payload) → payloads n s (f ∷ []) ≡ p ∷ [] → payloads n s (before ++ f ∷ after) ≡ payloads n s before ++ p ∷ payloads n s after
 payloads-between n s before after f p e = payloads-append n s before (f ∷ after) ∙ ap (λ l. payloads n s before ++ l) (payloads-append n s (f ∷ []) after ∙ ap (λ l. l ++ payloads n s after) e)
 
+-- The last payload of a list is the one that was pushed last.
 pub last_or-push : (o : Option Payload) (ps : List Payload) (p : Payload) → last_or o (ps ++ p ∷ []) ≡ Some p
 last_or-push o [] p = refl
 last_or-push o (q ∷ ps) p = last_or-push (Some q) ps p
@@ -34,11 +36,12 @@ last-bytes : (ps : List Payload) (found : Option (Bor (List ℕ))) (old : Bor (L
 last-bytes ps None old e = ap last_bytes (append-nil ps) ∙ sym e
 last-bytes ps (Some bytes) old e = ap (λ o. bytes_in (unwrap_or o (len []))) (last_or-push None ps (len bytes.now))
 
--- after one more field
+-- The last bytes of a field of the table are right after one more field, found or not.
 pub bytes-more : (n : ℕ) (s : Shape) (fields : List Field) (f : Field) (found : Option (Bor (List ℕ))) (old : Bor (List ℕ)) → payloads n s (f ∷ []) ≡ option_to_list (option_map (λ b. len b.now) found) →
     old.now ≡ last_bytes (payloads n s fields) → (unwrap_or found old).now ≡ last_bytes (payloads n s (fields ++ f ∷ []))
 bytes-more n s fields f found old e h = sym (ap last_bytes (payloads-append n s fields (f ∷ []) ∙ ap (λ l. payloads n s fields ++ l) e) ∙ last-bytes (payloads n s fields) found old h)
 
+-- The last varint of a field of the table is right after one more field, found or not.
 pub number-more : (n : ℕ) (s : Shape) (fields : List Field) (f : Field) (found : Option ℕ) (old : ℕ) → payloads n s (f ∷ []) ≡ option_to_list (option_map varint found) →
     old ≡ last_number (payloads n s fields) → unwrap_or found old ≡ last_number (payloads n s (fields ++ f ∷ []))
 number-more n s fields f found old e h = ap (unwrap_or found) h ∙ sym (ap last_number (payloads-append n s fields (f ∷ []) ∙ ap (λ l. payloads n s fields ++ l) e) ∙ last-number (payloads n s fields) found)
@@ -47,6 +50,7 @@ last-fixed64 : (ps : List Payload) (found : Option ℕ) → last_number (ps ++ o
 last-fixed64 ps None = ap last_number (append-nil ps)
 last-fixed64 ps (Some n) = ap (λ o. number_in (unwrap_or o (varint 0))) (last_or-push None ps (i64 n))
 
+-- The last number of 8 bytes of a field of the table is right after one more field, found or not.
 pub fixed64-more : (n : ℕ) (s : Shape) (fields : List Field) (f : Field) (found : Option ℕ) (old : ℕ) → payloads n s (f ∷ []) ≡ option_to_list (option_map i64 found) →
     old ≡ last_number (payloads n s fields) → unwrap_or found old ≡ last_number (payloads n s (fields ++ f ∷ []))
 fixed64-more n s fields f found old e h = ap (unwrap_or found) h ∙ sym (ap last_number (payloads-append n s fields (f ∷ []) ∙ ap (λ l. payloads n s fields ++ l) e) ∙ last-fixed64 (payloads n s fields) found)
@@ -55,11 +59,12 @@ last-fixed32 : (ps : List Payload) (found : Option ℕ) → last_number (ps ++ o
 last-fixed32 ps None = ap last_number (append-nil ps)
 last-fixed32 ps (Some n) = ap (λ o. number_in (unwrap_or o (varint 0))) (last_or-push None ps (i32 n))
 
+-- The last number of 4 bytes of a field of the table is right after one more field, found or not.
 pub fixed32-more : (n : ℕ) (s : Shape) (fields : List Field) (f : Field) (found : Option ℕ) (old : ℕ) → payloads n s (f ∷ []) ≡ option_to_list (option_map i32 found) →
     old ≡ last_number (payloads n s fields) → unwrap_or found old ≡ last_number (payloads n s (fields ++ f ∷ []))
 fixed32-more n s fields f found old e h = ap (unwrap_or found) h ∙ sym (ap last_number (payloads-append n s fields (f ∷ []) ∙ ap (λ l. payloads n s fields ++ l) e) ∙ last-fixed32 (payloads n s fields) found)
 
--- after one more field of a partial success
+-- The payloads that count in a partial success are right after one more field.
 pub counts-more : (old : PartialFields) (f : Field) (number : Option ℕ) (bytes : Option (Bor (List ℕ))) → payloads 1 int64 (f ∷ []) ≡ option_to_list (option_map varint number) →
     payloads 2 text (f ∷ []) ≡ option_to_list (option_map (λ b. len b.now) bytes) → (spans : ℕ) (message : Bor (List ℕ)) → spans ≡ unwrap_or number old.rejected_spans → message ≡ unwrap_or bytes old.error_message →
     (fields : List Field) → Counts old fields → Counts (record { rejected_spans = spans; error_message = message }) (fields ++ f ∷ [])

@@ -13,12 +13,13 @@ use Rattle.otlp_wire.proofs.FieldsRead.{WereRead, were-read-more}
 use Rattle.otlp_wire.proofs.OnePayload.{payloads-append}
 use Rattle.otlp_wire.proofs.JoinedRows.{joined-none, joined-faults, joined-value, one-faults, one-value}
 
--- some fields of a partial success were read after others
+-- Some fields of a partial success were read after others.
 pub record PartRead (old counted : PartialFields) (whole left : Reading (List Field)) : Type 0 where
   pub fields : List Field
   pub were_read : WereRead whole left fields
   pub counts : (others : List Field) → Counts old others → Counts counted (others ++ fields)
 
+-- One field more of a partial success is read after the others.
 pub part-more : (old counted next : PartialFields) (whole left new : Reading (List Field)) (f : Field) → PartRead old counted whole left → left ≡ put f new →
     ((fields : List Field) → Counts counted fields → Counts next (fields ++ f ∷ [])) → PartRead old next whole new
 part-more old counted next whole left new f h e step = record {
@@ -27,7 +28,7 @@ part-more old counted next whole left new f h e step = record {
   counts = λ others k. subst (Counts next) (append_assoc others h.fields (f ∷ [])) (step (others ++ h.fields) (h.counts others k));
 }
 
--- some fields of a response were read
+-- Some fields of a response were read, without a fault in its partial successes.
 pub record ResponseRead (counted : PartialFields) (whole left : Reading (List Field)) : Type 0 where
   pub fields : List Field
   pub were_read : WereRead whole left fields
@@ -42,6 +43,7 @@ no-fields : (counted : PartialFields) → counted.rejected_spans ≡ 0 → count
 unfolding payloads
 no-fields counted e1 e2 = record { rejected_spans = e1; error_message = e2 }
 
+-- Before the first field of a response, the number that counts is 0 and the text is empty.
 pub response-none : (counted : PartialFields) (whole left : Reading (List Field)) → counted.rejected_spans ≡ 0 → counted.error_message.now ≡ [] → whole ≡ left → ResponseRead counted whole left
 response-none counted whole left e1 e2 e = record {
   fields = [];
@@ -50,7 +52,7 @@ response-none counted whole left e1 e2 e = record {
   counts = subst (Counts counted) (sym (ap (λ r. r.value) (partial-none ∙ joined-none))) (no-fields counted e1 e2);
 }
 
--- a field that is no partial success
+-- A field that is no partial success changes nothing that counts.
 pub response-skips : (counted : PartialFields) (whole left new : Reading (List Field)) (f : Field) → ResponseRead counted whole left → left ≡ put f new →
     payloads 1 (message Tables.partial_success) (f ∷ []) ≡ [] → ResponseRead counted whole new
 response-skips counted whole left new f h e skip =
@@ -61,7 +63,7 @@ response-skips counted whole left new f h e skip =
       counts = subst (Counts counted) (sym (ap (λ ps. (joined_rows ps).value) same)) h.counts;
     }
 
--- a partial success
+-- The fields of one more partial success without a fault are added to those that count.
 pub response-more : (counted next : PartialFields) (whole left new : Reading (List Field)) (f : Field) (content : List ℕ) → ResponseRead counted whole left → left ≡ put f new →
     payloads 1 (message Tables.partial_success) (f ∷ []) ≡ len content ∷ [] → (row content).faults ≡ [] →
     ((fields : List Field) → Counts counted fields → Counts next (fields ++ (row content).value)) → ResponseRead next whole new
@@ -74,7 +76,7 @@ response-more counted next whole left new f content h e found good step =
       counts = subst (Counts next) (sym (ap (λ l. (joined_rows l).value) more ∙ joined-value ps (len content ∷ []) ∙ ap (λ l. (joined_rows ps).value ++ l) (one-value (len content)))) (step (partial_row h.fields).value h.counts);
     }
 
--- a partial success with a fault
+-- A fault of one partial success is a fault of the response's rows.
 pub response-fails : (counted : PartialFields) (whole left new : Reading (List Field)) (f : Field) (content : List ℕ) (fault : Fault) → ResponseRead counted whole left → left ≡ put f new →
     payloads 1 (message Tables.partial_success) (f ∷ []) ≡ len content ∷ [] → Contains (row content).faults fault → Contains (whole.faults ++ (partial_row whole.value).faults) fault
 response-fails counted whole left new f content fault h e found bad =

@@ -41,6 +41,7 @@ parts-after [] (suc skip) = tt
 parts-after (b ∷ bs) (suc skip) = one-more b bs _ (parts-after bs skip)
 parts-after (b ∷ bs) zero = at-field b bs (parts-after bs) (field (b ∷ bs)) refl
 
+-- What each field of a row holds is a part of the row's bytes.
 pub parts-of_row : (bs : List ℕ) → ArePartsOf bs (row bs).value
 unfolding row
 parts-of_row bs = parts-after bs 0

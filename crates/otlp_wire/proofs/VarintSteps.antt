@@ -16,15 +16,16 @@ pub record Begun (bytes : List ℕ) (value scale i : ℕ) : Type 0 where
   pub in_range : i ≤ length bytes
   pub whole : septets 10 bytes ≡ after (septets room (drop i bytes)) (λ high. give (value + scale * high))
 
--- before the first group
+-- A low part of 0 and a scale of 1 change nothing.
 from-low : (r : Result (ℕ × List ℕ) Fault) → r ≡ after r (λ high. give (0 + 1 * high))
 from-low (Ok (n, rest)) = ap (λ k. Ok (k, rest)) (omega arith)
 from-low (Err f) = refl
 
+-- Before the first group, the low part is 0 and the scale is 1.
 pub begun-none : (bytes : List ℕ) → Begun bytes 0 1 0
 begun-none bytes = record { room = 10; count = refl; power = refl; low = omega arith; in_range = omega arith; whole = from-low (septets 10 bytes) }
 
--- one more group before those after it
+-- One more group belongs to the low part, and the groups after it are read at the next scale.
 one-higher : (value scale group : ℕ) (r : Result (ℕ × List ℕ) Fault) →
     after (after r (λ high. give (group + 128 * high))) (λ high. give (value + scale * high)) ≡ after r (λ high. give (value + group * scale + scale * 128 * high))
 one-higher value scale group (Ok (n, rest)) = ap (λ k. Ok (k, rest)) (omega arith)
@@ -35,10 +36,11 @@ higher : (room value scale b : ℕ) (bs : List ℕ) → 128 ≤ b →
 unfolding septets
 higher room value scale b bs l = rw (le-ltb b 128 l) (one-higher value scale (b % 128) (septets room bs))
 
--- what is left begins with the byte
+-- What is left begins with the byte at the index.
 front : (bytes : List ℕ) (i b : ℕ) → i < length bytes → b ≡ get_or bytes i 0 → drop i bytes ≡ b ∷ drop (suc i) bytes
 front bytes i b l e = drop-cons bytes i 0 l ∙ ap (λ c. c ∷ drop (suc i) bytes) (sym e)
 
+-- A byte of at least 128 adds its group to the low part of the number.
 pub begun-more : (bytes : List ℕ) (value scale i b group : ℕ) → Begun bytes value scale i → i < 10 → i < length bytes → b ≡ get_or bytes i 0 → group ≡ b % 128 → 128 ≤ b → Begun bytes (value + group * scale) (scale * 128) (i + 1)
 begun-more bytes value scale i b group h ten l e g more =
     let below : group * scale ≤ 127 * scale = mul-le-mul_right scale (omega (arith, g)) in record {
@@ -67,10 +69,12 @@ unfolding septets
 no-room zero bs e = refl
 no-room (suc room) bs e = absurd (omega (arith, e))
 
+-- Where the bytes end before the last group, the varint is truncated.
 pub is-truncated : (bytes : List ℕ) (value scale i : ℕ) → Begun bytes value scale i → i < 10 → length bytes ≤ i → Err truncated ≡ number bytes
 unfolding number
 is-truncated bytes value scale i h ten l = ended value scale (septets 10 bytes) (septets h.room (drop i bytes)) h.whole truncated (rw (drop_all i bytes l) (no-byte h.room (omega (arith, h.count))))
 
+-- Where ten groups were read and none was the last, the varint is too long.
 pub is-long : (bytes : List ℕ) (value scale i : ℕ) → Begun bytes value scale i → 10 ≤ i → Err long_varint ≡ number bytes
 unfolding number
 is-long bytes value scale i h ten = ended value scale (septets 10 bytes) (septets h.room (drop i bytes)) h.whole long_varint (no-room h.room (drop i bytes) (omega (arith, h.count)))
@@ -80,6 +84,7 @@ unfolding septets
 last-group zero b bs l low = absurd (omega (arith, l))
 last-group (suc room) b bs l low = rw (lt-ltb b 128 low) refl
 
+-- A byte below 128 is the last group, and the number is read, in its low 64 bits.
 pub is-number : (bytes : List ℕ) (value scale i b group : ℕ) → Begun bytes value scale i → i < 10 → i < length bytes → b ≡ get_or bytes i 0 → group ≡ b % 128 → b < 128 →
     Ok ((value + group * scale) % 2 ^ 64, take (length bytes - (i + 1)) (drop (i + 1) bytes)) ≡ number bytes
 unfolding number
@@ -97,5 +102,6 @@ first-byte b bs low = sym (
     ap (λ t. after t (λ n. give (n % 2 ^ 64))) (last-group 10 b bs (omega arith) low)
     ∙ ap (λ k. Ok (k, bs)) (mod-eq_of_lt (omega arith)))
 
+-- A byte below 128 is a varint of one byte, which is its number.
 pub one-byte : (bytes rest : List ℕ) (b n : ℕ) → bytes ≡ b ∷ rest → n ≡ b → b < 128 → Ok (n, rest) ≡ number bytes
 one-byte bytes rest b n whole same low = ap (λ k. Ok (k, rest)) same ∙ (first-byte b rest low ∙ ap number (sym whole))

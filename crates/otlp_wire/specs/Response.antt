@@ -52,12 +52,12 @@ message_text (partial ▸ rest) = partial.1.0
 abbrev pub rejected_in : Message Tables.response → ℤ
 rejected_in (partial ▸ rest) = partial.0
 
--- The reading is whole, and says that so many spans were rejected.
+-- The reading is whole, and says that this number of spans were rejected.
 pub record Rejects (reading : Reading (Message Tables.response)) (rejected : ℤ) : Type 0 where
   pub whole : reading.faults ≡ []
   pub is : rejected ≡ rejected_in reading.value
 
--- what was taken in part as fields, where so many spans were rejected, in two's complement, and
--- that is the message (opentelemetry-proto, trace_service.proto: ExportTracePartialSuccess)
+-- what was taken in part as fields, with the number of rejected spans in two's complement, and the
+-- message (opentelemetry-proto, trace_service.proto: ExportTracePartialSuccess)
 abbrev pub partial_fields : ℕ → List ℕ → List Field
 partial_fields rejected why = number_field 1 rejected ++ (unless_empty 2 why ++ [])

@@ -19,13 +19,13 @@ FitsCapacity p v = vec_len v + length (payload_bytes p) ≤ vec_capacity v
 abbrev pub IsLeastSize : ℕ → ℕ → Type 0
 IsLeastSize n size = (bytes : List ℕ) → IsVarint bytes n → size ≤ length bytes
 
--- some spelling of the number as a varint has so many bytes
+-- some spelling of the number as a varint has this number of bytes
 pub record IsReachedSize (n size : ℕ) : Type 0 where
   pub spelling : List ℕ
   pub spells : IsVarint spelling n
   pub exact : length spelling ≡ size
 
--- so many bytes have room from the place on
+-- these bytes have room from the place on
 abbrev pub FitsAt : List ℕ → ℕ → List ℕ → Type 0
 FitsAt bytes at out = at + length bytes ≤ length out
 

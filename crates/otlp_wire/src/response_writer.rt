@@ -19,7 +19,7 @@ fn put_len<A: Allocator>(out: &mut Vec<u8, A>, number: u8, bytes: &[u8]) -> Resu
     ensures { OnOk result
         (out.new.items ≡ out.old.items ++ field_bytes (bytes_field number bytes.now)) }
 {
-    // (wire type 2: a length, and so many bytes)
+    // (wire type 2: a length, and that number of bytes)
     write_varint(out, number as u64 * 8 + 2)?;
     write_len(out, bytes)
 }

@@ -81,6 +81,7 @@ module _ (cmd : Command) (program : Text) (rules : List Rule) (is : app_of cmd �
   same-length : length (args_of cmd) ≡ length rules
   same-length = sym (length-map (args_of cmd) rule_of) ∙ ap (λ (a : App). length a.top.rules) is
 
+  -- The argument of a command at some place has the rule that is at this place among its rules.
   pub rule-at : (k : ℕ) (d : Arg) → k < length rules → rule_of (slice_index_or (args_of cmd) k d) ≡ slice_index_or rules k (rule_of d)
   rule-at k d lt =
       let long = same-length in
@@ -181,6 +182,7 @@ module _ (cmd : Command) (program : Text) (rules : List Rule) (is : app_of cmd �
         let same : v.now ≡ t = ap (λ (o : Option (List ℕ)). unwrap_or o t) one in
         subst (IsUnsignedIn least most) same (is-in w v.now key (All-get_or (λ v. PassesArg p.built w v.now) (v ∷ vs) 0 v (omega arith) all))
 
+    -- A text that clap finds for a number option is a number within the option's bounds.
     pub is-within : (t : List ℕ) → one_text (found_of m) id ≡ Some t → IsUnsignedIn least most t
     is-within t found = by (matched_of (found_of m) id) refl found
       where
@@ -206,6 +208,7 @@ first-arg : (xs : List Arg) → 0 < length xs → Arg
 first-arg [] lt = absurd (omega (arith, lt))
 first-arg (x ∷ xs) lt = x
 
+-- The numbers that clap finds for all options of a command are within their bounds.
 pub are-valid : (cmd : Command) (m : ArgMatches) (program : Text) (os : List NumberOption) (ts : List TextOption) (f : Option FlagOption) → app_of cmd ≡ with_flag (app_of_options program os ts) f
     → are_distinct (codes "help" ∷ codes "version" ∷ [] ∷ map (λ (r : Rule). r.id) (with_flag (app_of_options program os ts) f).top.rules) ≡ true → IsParsedFrom cmd m → All (IsValid (rows_of (found_of m))) os
 are-valid cmd m program os ts f is own p k o lt =
@@ -222,6 +225,7 @@ are-valid cmd m program os ts f is own p k o lt =
     is-within cmd program rules app each own_names m p k d few name.least name.most (ap (λ (r : Rule). r.parser) at) t
     (ap (one_text (found_of m)) (ap (λ (r : Rule). r.id) at) ∙ (one_text-rows (found_of m) name.name.now ∙ e)))
 
+-- A command line that clap accepts has a valid number for each of its number options.
 pub all-valid : (cmd : Command) (line : CommandLine) (r : Result ArgMatches Error) → app_of cmd ≡ app_of_line line → IsTrue (has_own_names line) → IfOk r (IsParsedFrom cmd) → IfOk r (λ m. All (IsValid (rows_of (found_of m))) line.numbers.now)
 all-valid cmd line (Ok m) is own parsed = are-valid cmd m line.program.now line.numbers.now line.texts.now line.flag is own parsed
 all-valid cmd line (Err e) is own parsed = tt

@@ -18,7 +18,7 @@ cause-at app words kinds.OutOfMemory e h = tt
 cause-at app words k e (inl memory) = cc
 cause-at app words k e (inr among) = (k, among, λ same. cc, λ same. cc)
 
--- the fault that an error of clap is has its cause
+-- A fault that clap's error is turned into has a cause in the words.
 pub cause-of : {A T : Type 0} (app : App) (words : List (String A)) (e : Error) (r : Result T ArgFault) → HasKind (word_faults app words) e → IsErrAnd r (λ f. f ≡ fault_of_error e) → IfErr r (IsCause app words)
 cause-of app words e (Ok t) h is = tt
 cause-of app words e (Err f) h is = subst (IsCause app words) (sym is) (cause-at app words (kind_of e) e h)

@@ -25,14 +25,14 @@ is-number : (E : Type 0) (G : List ℕ → Result ℕ E → Type 0) (default : �
 is-number E G default None r none some number only = ap (λ x. unwrap_or x default) (none refl)
 is-number E G default (Some t) r none some number only = ap (λ x. unwrap_or x default) (is-read E G t r (some t refl) only number)
 
--- an option's number, or its default
+-- The number that is read of an option is the one that clap found, or its default.
 pub number-found : (f : Found) (name : Text) (E : Type 0) (G : List ℕ → Result ℕ E → Type 0) (default : ℕ) (r : Option ℕ) → IfSome (one_of name (rows_of f)) IsNumber
     → (one_text f name ≡ None → r ≡ None) → ((t : List ℕ) → one_text f name ≡ Some t → ReadsOne G t r) → ((u : List ℕ) (x : Result ℕ E) → G u x → ParsesUnsigned 64 10 u x)
     → unwrap_or r default ≡ number_of_option name default (rows_of f)
 number-found f name E G default r number none some only =
     is-number E G default (one_of name (rows_of f)) r (λ e. none (one_text-rows f name ∙ e)) (λ t e. some t (one_text-rows f name ∙ e)) number only
 
--- what an option takes is a number
+-- A text that a number option takes is a number of 64 bits.
 pub valid-number : (o : Option Text) (least most : ℕ) → IfSome o (IsUnsignedIn least most) → IfSome o IsNumber
 valid-number None least most valid = tt
 valid-number (Some t) least most valid = (valid.0, valid.1)
@@ -44,6 +44,7 @@ number-within None least most default valid sound =
     (leb-true least default parts.0, leb-true default most parts.1)
 number-within (Some t) least most default valid sound = (valid.2, valid.3)
 
+-- Each number that a program reads of valid words is within its option's bounds.
 pub are-within : {A : Type 0} (app : App) (words : List (String A)) (os : List NumberOption) → All (IsValid (matches_of app (texts_of words))) os → IsTrue (has_sound_defaults os) → AreWithin app os words
 are-within app words [] valid sound = tt
 are-within app words (o ∷ os) valid sound =

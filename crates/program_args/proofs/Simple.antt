@@ -68,6 +68,7 @@ each-number : (os : List NumberOption) → EachOption (map rule_of_number os)
 each-number [] = tt
 each-number (o ∷ os) = (number-is o, each-number os)
 
+-- Each of a list of option rules is a simple rule.
 pub each-at : (rules : List Rule) → EachOption rules → (k : ℕ) (r : Rule) → k < length rules → (slice_index_or rules k r).is_simple ≡ true
 each-at [] each k r lt = absurd (omega (arith, lt))
 each-at (x ∷ rules) each zero r lt = each.0.simple
@@ -103,11 +104,13 @@ filled-single n i (r ∷ rules) each = neither _ _ (each.0.single n i) (filled-s
 each-with : (rules : List Rule) → EachOption rules → EachOption ((rules ++ help_rule ∷ []) ++ version_rule ∷ [])
 each-with rules each = each-push (rules ++ help_rule ∷ []) version_rule (each-push rules help_rule each help-is) version-is
 
+-- A command of option rules, help and the version is one that the model of clap covers.
 pub simple-with : (program : Text) (rules : List Rule) → EachOption rules → is_simple (app_with program rules) ≡ true
 simple-with program rules each =
     let all = each-with rules each in
     both _ _ (both _ _ (all-simple rules each) refl) (both _ _ (both _ _ (filled-simple 1 _ all) (ap not (filled-single _ 1 _ all))) refl)
 
+-- A command of option rules, help and the version is simple and has no further constraints.
 pub free-with : (program : Text) (rules : List Rule) → EachOption rules → is_simple_and_free (app_with program rules) ≡ true
 free-with program rules each =
     let all = each-with rules each in
@@ -115,17 +118,18 @@ free-with program rules each =
 
 -- ---- those of a command line
 
--- the command of one option more
+-- A command of some number options, with one option more, is the command of one more of them.
 pub numbers-more : (program : Text) (os : List NumberOption) (i : ℕ) (o : NumberOption) → i < length os → with_rule (app_of_numbers program (take i os)) (rule_of_number (slice_index_or os i o)) ≡ app_of_numbers program (take (i + 1) os)
 numbers-more program os i o lt = ap (app_with program) (sym (map_more rule_of_number os i o lt))
 
+-- A command of some text options, with one option more, is the command of one more of them.
 pub texts-more : (program : Text) (os : List NumberOption) (ts : List TextOption) (i : ℕ) (t : TextOption) → i < length ts
     → with_rule (app_of_options program os (take i ts)) (rule_of_text (slice_index_or ts i t)) ≡ app_of_options program os (take (i + 1) ts)
 texts-more program os ts i t lt =
     let ns = map rule_of_number os in
     ap (app_with program) (append_assoc ns (map rule_of_text (take i ts)) (rule_of_text (slice_index_or ts i t) ∷ []) ∙ ap (λ (rs : List Rule). ns ++ rs) (sym (map_more rule_of_text ts i t lt)))
 
--- before the first of them
+-- A command of no text option yet is the command of the number options.
 pub texts-none : (program : Text) (os : List NumberOption) (ts : List TextOption) → app_of_options program os (take 0 ts) ≡ app_of_numbers program os
 texts-none program os ts = ap (app_with program) (append-nil (map rule_of_number os))
 
@@ -133,6 +137,7 @@ abbrev pub rules_with : List NumberOption → List TextOption → Option FlagOpt
 rules_with os ts None = map rule_of_number os ++ map rule_of_text ts
 rules_with os ts (Some f) = (map rule_of_number os ++ map rule_of_text ts) ++ flag_rule f.name.now ∷ []
 
+-- The command of a line is one of the rules of its numbers, its texts and its flag, if it has one.
 pub app-is : (program : Text) (os : List NumberOption) (ts : List TextOption) (f : Option FlagOption) → with_flag (app_of_options program os ts) f ≡ app_with program (rules_with os ts f)
 app-is program os ts None = refl
 app-is program os ts (Some f) = refl
@@ -140,6 +145,7 @@ app-is program os ts (Some f) = refl
 each-option : (os : List NumberOption) (ts : List TextOption) → EachOption (map rule_of_number os ++ map rule_of_text ts)
 each-option os ts = each-both (map rule_of_number os) (map rule_of_text ts) (each-number os) (each-text ts)
 
+-- Each rule of a command line is an option rule.
 pub each-rule : (os : List NumberOption) (ts : List TextOption) (f : Option FlagOption) → EachOption (rules_with os ts f)
 each-rule os ts None = each-option os ts
 each-rule os ts (Some f) = each-push (map rule_of_number os ++ map rule_of_text ts) (flag_rule f.name.now) (each-option os ts) (flag-is f.name.now)
@@ -149,6 +155,7 @@ number-option-at os rules k o r lt =
     let long = length-map os rule_of_number in
     get_or_append_left (map rule_of_number os) rules r k (omega (arith, long, lt)) ∙ get_or-map rule_of_number os k o r lt
 
+-- The first rules of a command line are those of its number options, in their order.
 pub number-rule-at : (os : List NumberOption) (ts : List TextOption) (f : Option FlagOption) (k : ℕ) (o : NumberOption) (r : Rule) → k < length os → slice_index_or (rules_with os ts f) k r ≡ rule_of_number (slice_index_or os k o)
 number-rule-at os ts None k o r lt = number-option-at os (map rule_of_text ts) k o r lt
 number-rule-at os ts (Some f) k o r lt =
@@ -156,6 +163,7 @@ number-rule-at os ts (Some f) k o r lt =
     let longer = length-append (map rule_of_number os) (map rule_of_text ts) in
     get_or_append_left (map rule_of_number os ++ map rule_of_text ts) (flag_rule f.name.now ∷ []) r k (omega (arith, long, longer, lt)) ∙ number-option-at os (map rule_of_text ts) k o r lt
 
+-- A command line has a rule for each of its number options.
 pub number-within-rules : (os : List NumberOption) (ts : List TextOption) (f : Option FlagOption) (k : ℕ) → k < length os → k < length (rules_with os ts f)
 number-within-rules os ts None k lt =
     let long = length-map os rule_of_number in
@@ -176,10 +184,12 @@ module _ {A : Type 0} (cmd : Command) (line : CommandLine) (words : List (String
   same : app_of cmd ≡ app_with line.program.now rules
   same = is ∙ app-is line.program.now line.numbers.now line.texts.now line.flag
 
+  -- The faults that clap may report of a command are those of the words on its command line.
   pub faults-are : (is_simple_and_free (app_of cmd) ≡ true → FailsBy (fault_of (app_of cmd) (texts_of words)) r) → FailsBy (word_faults (app_of_line line) words) r
   faults-are kinds =
       subst (λ (a : App). FailsBy (fault_of a (texts_of words)) r) is (kinds (ap is_simple_and_free same ∙ free-with line.program.now rules (each-rule line.numbers.now line.texts.now line.flag)))
 
+  -- The values that clap finds are those that the words give to the options of the line.
   pub rows-are : IfOk r (HasMatchesOf (app_of cmd) (texts_of words)) → IfOk r (λ m. rows_of (found_of m) ≡ matches_of (app_of_line line) (texts_of words))
   rows-are matches = by r matches
     where

@@ -49,7 +49,7 @@ abbrev pub without_least : ℕ → ℕ → ℕ → waiting.RetryConfig
 without_least attempts initial_ms max_ms =
     record { attempts = attempts; initial_ms = initial_ms; max_ms = max_ms; least_ms = 0 }
 
--- five attempts, waits of at most 1 second first and of at most 30 seconds that nobody asks for,
--- and no least wait (profile)
+-- five attempts, waits of at most 1 second first and of at most 30 seconds where no reply asks for
+-- one, and no least wait (profile)
 abbrev pub default_retry : waiting.RetryConfig
 default_retry = without_least 5 1000 30000

@@ -53,7 +53,7 @@ impl Model for RetryConfig {
 }
 
 impl RetryConfig {
-    /// A batch is sent so many times at most, 1 to 5. The wait after its first attempt is
+    /// A batch is sent at most `attempts` times, 1 to 5. The wait after its first attempt is
     /// `initial_ms` milliseconds at most, 1 to 30,000, after each later one at most twice as long
     /// as after the one before it, and never above `max_ms`, which is from `initial_ms` to
     /// 300,000, where the collector asks for none. There is no least wait. (profile)

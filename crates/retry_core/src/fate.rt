@@ -5,7 +5,7 @@
 pub enum Fate {
     /// It was taken whole.
     Delivered,
-    /// It was taken but for so many spans, which were rejected ("Partial Success").
+    /// It was taken but for this number of spans, which were rejected ("Partial Success").
     Partial(i64),
     /// It was refused for good, with this HTTP status.
     Refused(u16),
@@ -13,6 +13,6 @@ pub enum Fate {
     BadReply,
     /// No attempt succeeded, and it was the last one.
     GivenUp,
-    /// Who was to hand it on has left (profile).
+    /// The worker that was to hand it on has left (profile).
     Abandoned,
 }

@@ -26,7 +26,7 @@ pub enum Cause {
 pub enum Next {
     /// Nothing: the batch was taken.
     Done,
-    /// Nothing: the batch was taken, but so many of its spans were rejected.
+    /// Nothing: the batch was taken, but this number of its spans were rejected.
     Partial(i64),
     /// Another attempt, not before this moment, in nanoseconds since 1970.
     Again(u64),
@@ -82,12 +82,12 @@ fn last_next(outcome: &Outcome) -> Next
 ///
 /// `Later` and `NoReply` are followed by another attempt, unless this one was the last. The wait
 /// before it is `initial_ms` after the first attempt, and twice as long after each later one, up
-/// to `max_ms`; the word, modulo half of that and one more, takes off so many milliseconds, which
-/// are half of the wait at most. What a reply asks for is in place of it, up to 300 seconds: so
-/// many seconds, or until a date, so at once where that has passed. No wait is shorter than
-/// `least_ms`. The moment is 2^64 - 1 where it would be later. The last attempt is followed by
-/// `GiveUp(Attempts)`. At every attempt `Delivered` gives `Done`, `Partial` itself, and `Refused`
-/// and `Bad` give up. (profile)
+/// to `max_ms`; the word, modulo half of that and one more, is the number of milliseconds that are
+/// taken off, which are half of the wait at most. What a reply asks for is in place of it, up to
+/// 300 seconds: a number of seconds, or until a date, so at once where that has passed. No wait is
+/// shorter than `least_ms`. The moment is 2^64 - 1 where it would be later. The last attempt is
+/// followed by `GiveUp(Attempts)`. At every attempt `Delivered` gives `Done`, `Partial` itself, and
+/// `Refused` and `Bad` give up. (profile)
 ///
 /// The attempt is one of 1 to `config.attempts()`.
 pub fn decide(config: &RetryConfig, attempt: u32, outcome: &Outcome, now: u64, word: u64) -> Next

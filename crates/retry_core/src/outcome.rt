@@ -1,20 +1,20 @@
-//! What comes of an attempt to send a batch.
+//! The outcome of an attempt to send a batch.
 
 /// When a collector asks to be tried again. (RFC 9110, "Retry-After")
 #[derive(Clone, Copy, Debug, PartialEq, Eq)]
 pub enum RetryAfter {
-    /// In so many seconds.
+    /// In this number of seconds.
     Seconds(u64),
     /// At this moment, in seconds since 1970.
     Date(u64),
 }
 
-/// What came of an attempt. (OTLP Specification, "OTLP/HTTP Response")
+/// The outcome of an attempt. (OTLP Specification, "OTLP/HTTP Response")
 #[derive(Clone, Copy, Debug, PartialEq, Eq)]
 pub enum Outcome {
     /// The collector took the whole batch, as far as it says. ("Full Success")
     Delivered,
-    /// It took the batch, but rejected so many spans. ("Partial Success")
+    /// It took the batch, but rejected this number of spans. ("Partial Success")
     Partial(i64),
     /// A status after which the batch is to be sent again. ("Retryable Response Codes")
     Later {

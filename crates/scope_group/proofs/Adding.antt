@@ -10,7 +10,7 @@ use Rattle.indexmap.proofs.MapLemmas.{index-first}
 use Rattle.indexmap.proofs.RemoveLemmas.{own_first}
 use Rattle.scope_group.specs.Keyed.{groups_of, with_item}
 
--- a key that equals the last one is where that is
+-- A key that equals the last one is at the place of the last one.
 pub last-index : {K X : Type 0} (eq : K → K → Bool) → IsEquivalence eq → (es : List (K × X)) (last key : K) (v : X) → IsDistinct eq (keys_of es) →
     slice_get es (length es - 1) ≡ Some (last, v) → eq last key ≡ true → Some (length es - 1) ≡ position (eq key) (keys_of es)
 last-index eq laws es last key v unique there same =
@@ -28,7 +28,7 @@ behind eq k x old new p (e ∷ es) (suc i) l same before at =
     let other : eq k e.0 ≡ false = before 0 (omega arith) in
     rw other (ap (λ gs. record { key = e.0; items = e.1.items } ∷ gs) (behind eq k x old new p es i (omega (arith, l)) same (λ j h. before (suc j) (omega (arith, h))) at))
 
--- an item after those of its key
+-- An item that is put after those of its key is added as in the model.
 pub added-behind : {K T A : Type 0} (eq : K → K → Bool) (es : List (K × Vec T A)) (k : K) (x : T) (i : ℕ) (old new : Vec T A) → position (eq k) (keys_of es) ≡ Some i → slice_get (values_of es) i ≡ Some old → new.items ≡ old.items ++ x ∷ [] →
     groups_of (set_value_at es i new) ≡ with_item eq (groups_of es) k x
 added-behind eq es k x i old new there at p =
@@ -46,7 +46,7 @@ looked-up {K = K} {T = T} {A = A} eq k x none new empty (e ∷ es) p = go (eq k 
     go true q rest = ap (λ ys. record { key = e.0; items = ys } ∷ groups_of es) q
     go false q rest = ap (λ gs. record { key = e.0; items = e.1.items } ∷ gs) (rest q)
 
--- an item whose key is looked up
+-- An item whose key is looked up is added as in the model.
 pub added-by-entry : {K T A : Type 0} (eq : K → K → Bool) (es : List (K × Vec T A)) (k : K) (x : T) (none old new : Vec T A) (after : List (K × Vec T A)) → none.items ≡ [] → old ≡ unwrap_or (lookup (eq k) es) none → new.items ≡ old.items ++ x ∷ [] →
     after ≡ insert_entry eq es k new → groups_of after ≡ with_item eq (groups_of es) k x
 added-by-entry eq es k x none old new after empty had p is = ap groups_of is ∙ looked-up eq k x none new empty es (p ∙ ap (λ v. v.items ++ x ∷ []) had)

@@ -13,7 +13,7 @@ use Rattle.model_span.specs.Spans.{Resource, SpanData}
 use Rattle.model_export.specs.Export.{Group, ResourceGroup, scope_eq, resource_eq, groups_by, groups}
 use Rattle.scope_group.specs.Keyed.{group_view, with_item}
 
--- an equality is lawful
+-- A test that decides equality is an equivalence.
 pub equivalence : {K : Type 0} (same : K → K → Bool) → ((j k : K) → Decides (same j k) (j ≡ k)) → IsEquivalence same
 equivalence same d = record {
   refl = λ k. (d k k).1 refl;
@@ -50,7 +50,7 @@ distinct-apart : {K : Type 0} (same : K → K → Bool) (ks : List K) → Apart 
 distinct-apart same [] = tt
 distinct-apart same (k ∷ ks) = (others-kept same k (distinct_of same ks), apart-filter same (λ j. not (same k j)) (distinct_of same ks) (distinct-apart same ks))
 
--- a key is among the distinct ones just if it is among all
+-- A key is among the distinct ones just if it is among all.
 any-distinct : {K : Type 0} (same : K → K → Bool) → IsEquivalence same → (k : K) (ks : List K) → list_any (λ j. same j k) (distinct_of same ks) ≡ list_any (λ j. same j k) ks
 any-distinct same laws k [] = refl
 any-distinct {K = K} same laws k (i ∷ ks) = go (same i k) refl (any-distinct same laws k ks)
@@ -107,7 +107,7 @@ module _ {K A : Type 0} (same : K → K → Bool) (laws : IsEquivalence same) (k
       go true e r rest = absurd (true≢false r)
       go false e r rest = rw (laws.symm k (key_of x), e) (rest r)
 
-  -- the last item comes after those of its key, or alone after all groups
+  -- The last item comes after those of its key, or alone after all groups.
   pub groups-more : (xs : List A) (x : A) → groups_by same key_of (xs ++ x ∷ []) ≡ with_item same (groups_by same key_of xs) (key_of x) x
   unfolding groups_by
   groups-more xs x =
@@ -125,7 +125,7 @@ module _ {K A : Type 0} (same : K → K → Bool) (laws : IsEquivalence same) (k
           map-append (group_at (xs ++ x ∷ [])) (distinct_of same (map key_of xs)) (key_of x ∷ [])
           ∙ ap (λ g. map (group_at (xs ++ x ∷ [])) (distinct_of same (map key_of xs)) ++ g ∷ []) (sym (own-more xs x (key_of x) (laws.refl (key_of x))) ∙ ap (λ ys. record { key = key_of x; items = ys ++ x ∷ [] }) (none-yet xs (key_of x) e))
 
--- an item more, seen by views that agree on keys
+-- One more item, seen by views that agree on keys, is one more item in the view.
 with_item-seen : {K J T U : Type 0} (eq : K → K → Bool) (same : J → J → Bool) (key : K → J) (item : T → U) → ((j k : K) → eq j k ≡ same (key j) (key k)) → (gs : List (Group K T)) (k : K) (x : T) →
     map (group_view key item) (with_item eq gs k x) ≡ with_item same (map (group_view key item) gs) (key k) (item x)
 with_item-seen eq same key item agree [] k x = refl
@@ -136,7 +136,7 @@ with_item-seen {K = K} {T = T} eq same key item agree (g ∷ gs) k x = go (eq k 
     go true rest = ap (λ ys. record { key = key g.key; items = ys } ∷ map (group_view key item) gs) (map-append item g.items (x ∷ []))
     go false rest = ap (λ hs. group_view key item g ∷ hs) rest
 
--- groups that were those of some items are those of one more
+-- Groups that were those of some items are, with one more item, the groups of those and that item.
 pub one-more : {K J T U : Type 0} (same : J → J → Bool) (key : K → J) (item : T → U) (key_of : U → J) → IsEquivalence same → (eq : K → K → Bool) (old new : List (Group K T)) (k : K) (x : T) (ys zs : List U) →
     new ≡ with_item eq old k x → ((j l : K) → eq j l ≡ same (key j) (key l)) → map (group_view key item) old ≡ groups_by same key_of ys → key k ≡ key_of (item x) → zs ≡ ys ++ item x ∷ [] →
     map (group_view key item) new ≡ groups_by same key_of zs
@@ -145,6 +145,7 @@ one-more same key item key_of laws eq old new k x ys zs p agree before q r =
     ∙ ap₂ (λ gs j. with_item same gs j (item x)) before q
     ∙ sym (groups-more same laws key_of ys (item x)) ∙ ap (groups_by same key_of) (sym r)
 
+-- No items make no groups.
 pub no-groups : {K A : Type 0} (same : K → K → Bool) (key_of : A → K) → groups_by same key_of [] ≡ []
 unfolding groups_by
 no-groups same key_of = refl
@@ -154,12 +155,12 @@ no-groups same key_of = refl
 abbrev pub by_scope : Group Resource SpanData → ResourceGroup
 by_scope g = record { key = g.key; items = groups_by scope_eq (λ x. x.scope) g.items }
 
--- where none is left all are grouped
+-- Where no group is left, all spans are grouped.
 pub all-grouped : (xs : List ResourceGroup) (left all : List (Group Resource SpanData)) (spans : List SpanData) → xs ++ map by_scope left ≡ map by_scope all → left ≡ [] → all ≡ groups_by resource_eq (λ x. x.resource) spans → xs ≡ groups spans
 unfolding groups
 all-grouped xs left all spans h none e = sym (append-nil xs) ∙ ap (λ ys. xs ++ map by_scope ys) (sym none) ∙ h ∙ ap (map by_scope) e
 
--- where one is left there are spans
+-- Where a group is left, there are spans.
 pub some-spans : (xs : List ResourceGroup) (left more all : List (Group Resource SpanData)) (y : Group Resource SpanData) (spans : List SpanData) → xs ++ map by_scope left ≡ map by_scope all → left ≡ y ∷ more →
     all ≡ groups_by resource_eq (λ x. x.resource) spans → spans ≢ []
 some-spans xs left more all y spans h some e empty =
@@ -170,6 +171,7 @@ some-spans xs left more all y spans h some e empty =
     by [] p = cc
     by (z ∷ zs) p = cc
 
+-- What holds anyway holds where there is an error.
 pub on-err : {T E P : Type 0} (r : Result T E) → P → OnErr r P
 on-err (Ok x) p = tt
 on-err (Err e) p = p

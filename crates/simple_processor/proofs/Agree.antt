@@ -20,7 +20,7 @@ use Rattle.simple_processor.specs.AnyAccounts.{Origin, AnyAccount, account_in, o
 use Rattle.simple_processor.specs.Kept.{Agrees, IsOf, IsShared, Kept}
 use Rattle.simple_processor.proofs.Lists.{images_more}
 
--- What a step of one pass does to what the lock guards, to what the exporter tells and to the
+-- What a step of one pass does to what the lock guards, to what the exporter shows and to the
 -- pass's account: the parts that are more, and how each total goes on.
 pub record Step (told told' : Option (List Handed)) (s s' : State) (a b : PassAccount) : Type 0 where
   pub es : List SpanEnd
@@ -53,12 +53,13 @@ pub record Step (told told' : Option (List Handed)) (s s' : State) (a b : PassAc
   pub late_if_closed : (n : ℕ) → (0 < n → s.closed ≡ true) → 0 < n + lates → s'.closed ≡ true
   pub closed : (n : ℕ) → s.closed ≡ closed_by (ticket_count s) n → s'.closed ≡ closed_by (ticket_count s') (n + shuts)
 
+-- An exporter that gains some attempts and then others gains both.
 pub gains_more : (xs ys : List Handed) (a b d : Option (List Handed)) → Gains xs a b → Gains ys b d → Gains (xs ++ ys) a d
 gains_more xs ys None b d first then = then ∙ ap (option_map (λ (had : List Handed). had ++ ys)) first
 gains_more xs ys (Some had) b d first then =
     then ∙ ap (option_map (λ (all : List Handed). all ++ ys)) first ∙ ap Some (append_assoc had xs ys)
 
--- more spans were handed, some of them are lost, and some names were popped
+-- The lost spans are named and counted again after more are handed, lost or popped.
 losses_more : (bodies new_bodies : List Handed) (accepted accepted' more : List SpanData) (lost lost' : List Entry) (count count' : ℕ) (popped popped' ls : List Entry) (handings : List Handing)
     → IsPermutation accepted' (accepted ++ more) → more ≡ map (λ (x : Handing). x.span) handings → AreTold handings new_bodies → IsPermutation (losses_of handings ++ lost) (lost' ++ ls) → count' ≡ count + length (losses_of handings)
     → IsPermutation popped' (popped ++ ls) → LossesAreTold bodies accepted lost count popped → LossesAreTold (bodies ++ new_bodies) accepted' lost' count' popped'
@@ -115,6 +116,7 @@ module _ (had told told' : Option (List Handed)) (s s' : State) (old new : List 
       (subst (AllByRecursion (LacksItsBody s.max_body)) (sym drops_are)
       (each_append (LacksItsBody s.max_body) (drops a) (filter_map drop_in st.es) (each_at (Lack s.max_body) old a b new r k.lacking) st.lacking))
 
+  -- What the lock guards agrees with the accounts again after a step of one pass.
   pub agrees_step : Agrees had told' s' new
   agrees_step = record {
     bodies = k.bodies ++ st.bodies;
@@ -131,7 +133,7 @@ module _ (had told told' : Option (List Handed)) (s s' : State) (old new : List 
     late = late_step (ticket_count s) (ticket_count s') s.late s'.late s.closed s'.closed old new a b r k.late st.lates st.shuts st.late st.shutdowns st.counted st.late_if_closed st.closed;
   }
 
--- the same of all accounts
+-- What the lock keeps of all accounts is still so after a step of one pass.
 pub kept_step : (origin : Origin) (told told' : Option (List Handed)) (s s' : State) (holders holders' : List AnyAccount) (a b : PassAccount)
     → Replaces holders (pass a) (pass b) holders' → Kept origin told s holders → Step told told' s s' a b → Kept origin told' s' holders'
 kept_step origin told told' s s' holders holders' a b r k st = record {
@@ -141,11 +143,11 @@ kept_step origin told told' s s' holders holders' a b r k st = record {
   agrees = agrees_step origin.had told told' s s' (pass_accounts holders) (pass_accounts holders') a b (part_replaced pass_account holders (pass a) (pass b) holders' a b r refl refl) k.agrees st;
 }
 
--- what is kept while the lock guards something
+-- What the lock keeps of all accounts is so while it guards something.
 pub kept_of : {D : Type 0} (told : D → Option (List Handed)) (state : D → State) (origin : Origin) (o : Option D) (export : D) (holders : List AnyAccount) → IsShared told state origin o holders → o ≡ Some export → Kept origin (told export) (state export) holders
 kept_of told state origin o export holders inv is = subst (λ x. IsShared told state origin x holders) is inv
 
--- the same of an account that was recognized and told
+-- What the lock keeps is still so after a step on an account that was recognized and changed.
 pub kept_told : (origin : Origin) (told told' : Option (List Handed)) (s s' : State) (holders known holders' : List AnyAccount) (h known_h h' : AnyAccount) (f : PassAccount → PassAccount)
     → Kept origin told s holders → known ≡ holders → known_h ≡ h → h ≡ pass (account_in h) → Replaces known known_h h' holders' → h' ≡ on_pass f known_h → Step told told' s s' (account_in h) (f (account_in h)) → Kept origin told' s' holders'
 kept_told origin told told' s s' holders known holders' h known_h h' f k same same_h is r changed st =

@@ -1,4 +1,4 @@
--- How the accounts of a processor begin, and what they come to.
+-- How the accounts of a processor begin and end.
 use Rattle.std.proofs.Common.{◌≡◌, ℕ, ◌+◌, ◌≤◌, List, [], ◌∷◌, ◌++◌, length, sym, refl, ap, ◌∙◌, subst, arith}
 use Rattle.std.specs.Prelude.{IsPermutation, Option, Some, None, OnSome, map, drop}
 use Rattle.std.specs.List.{AllByRecursion}
@@ -56,6 +56,7 @@ of_passes : (origin : Origin) (holders : List AnyAccount) → AllByRecursion (λ
 of_passes origin [] all = tt
 of_passes origin (h ∷ holders) all = (subst (IsOf origin) (sym all.0) tt, of_passes origin holders all.1)
 
+-- What the lock guards of a new processor agrees with its account and those of its unused passes.
 pub kept_new : (origin : Origin) (holders opened : List AnyAccount) → holders ≡ processor origin ∷ opened → length opened ≤ origin.passes → AllByRecursion (λ h. h ≡ pass new_account) opened → Kept origin origin.had (new_state origin.max_body) holders
 kept_new origin holders opened is few all =
     subst (λ (hs : List AnyAccount). Kept origin origin.had (new_state origin.max_body) hs) (sym is) (record {
@@ -65,8 +66,8 @@ kept_new origin holders opened is few all =
       agrees = agrees_new origin.had origin.max_body (pass_accounts opened) (new_accounts opened all);
     })
 
--- the same of a book in which the processor's account was opened and told, and then those of its
--- passes
+-- What the lock guards of a new processor agrees with a book in which its account was opened and
+-- set, and then those of its passes.
 pub kept_begins : (origin : Origin) (told : Option (List Handed)) (s : State) (empty one recorded holders opened : List AnyAccount) (u w : AnyAccount)
     → told ≡ origin.had → s ≡ new_state origin.max_body → empty ≡ [] → one ≡ empty ++ processor new_origin ∷ [] → Replaces one u w recorded → w ≡ processor origin → holders ≡ recorded ++ opened
     → length opened ≤ origin.passes → AllByRecursion (λ h. h ≡ pass new_account) opened → Kept origin told s holders
@@ -103,17 +104,21 @@ agrees_closed had told s old done k c =
 -- the processor's own account is closed, and then those of all its passes
 module _ (origin said : Origin) (told : Option (List Handed)) (s : State) (all rest left : List AnyAccount) (done : List PassAccount) (k : Kept origin told s all) (r : Removes all (processor said) rest) (c : Closes (pass_accounts rest) done (pass_accounts left))
     (counted : length rest ≡ length left + length done) (enough : said.passes ≤ length done) where
+  -- The processor's account says what the processor began with.
   pub said_is : said ≡ origin
   said_is = (each_removed (IsOf origin) all (processor said) rest r k.origins).0
 
+  -- No account is left once the processor's and those of all passes are closed.
   pub none_left : left ≡ []
   none_left =
       let few = k.few in let one = length_removed all (processor said) rest r in let e = ap (λ (o : Origin). o.passes) said_is in
       nil_from_length left (omega arith)
 
+  -- The greatest body is the one that the processor began with.
   pub max_end : s.max_body ≡ said.max_body
   max_end = k.max_body ∙ ap (λ (o : Origin). o.max_body) (sym said_is)
 
+  -- What the lock guards agrees with the closed accounts of the passes.
   pub agrees_end : Agrees said.had told s done
   agrees_end =
       let whole : Closes (pass_accounts all) done [] = subst (λ (xs : List PassAccount). Closes xs done []) (part_kept pass_account all (processor said) rest r refl) (subst (λ (hs : List AnyAccount). Closes (pass_accounts rest) done (pass_accounts hs)) none_left c) in
@@ -124,12 +129,13 @@ module _ (origin said : Origin) (told : Option (List Handed)) (s : State) (all r
 since_is : (h bodies : List Handed) → drop (length h) (h ++ bodies) ≡ bodies
 since_is h bodies = drop_at h bodies (length h) refl
 
+-- An exporter has gained the attempts that it shows since the processor was made.
 pub keeps : (had told : Option (List Handed)) (bodies : List Handed) → Gains bodies had told → Gains (told_since had told) had told
 keeps None told bodies g = g
 keeps (Some h) told bodies g =
     subst (λ o. Gains (told_since (Some h) o) (Some h) o) (sym g) (ap (λ (xs : List Handed). Some (h ++ xs)) (sym (since_is h bodies)))
 
--- what is so of the attempts, is so where the exporter tells
+-- A fact of the attempts is true of those that an exporter shows, where it shows its attempts.
 pub on_told : (P : List Handed → Type 0) (had told : Option (List Handed)) (bodies : List Handed) → Gains bodies had told → P bodies → OnSome told (P (told_since had told))
 on_told P None told bodies g p = subst (λ o. OnSome o (P (told_since None o))) (sym g) tt
 on_told P (Some h) told bodies g p = subst (λ o. OnSome o (P (told_since (Some h) o))) (sym g) (subst P (sym (since_is h bodies)) p)
@@ -141,26 +147,34 @@ module _ (origin : Origin) (told : Option (List Handed)) (t : Totals) (ledger lo
   count_is : ticket_count x.state ≡ given_tickets t
   count_is = let a = x.totals.handed in let b = ap (λ d. d.encode_memory) x.totals.dropped in let m = ap (λ d. d.too_large) x.totals.dropped in omega arith
 
+  -- An exporter that shows its attempts has one for each span that the passes know as handed.
   pub spans_are : OnSome told (IsPermutation (map attempt_of_span (all_accepted accounts)) (map attempt_in (told_since had told)))
   spans_are = on_told (λ bodies. IsPermutation (map attempt_of_span (all_accepted accounts)) (map attempt_in bodies)) had told x.agrees.bodies x.agrees.gains x.agrees.sent
 
+  -- The totals count each attempt of the exporter by how it ended.
   pub fates_are : OnSome told (fate_counts_view t.fates ≡ fate_counts (fates_of (told_since had told)))
   fates_are = on_told (λ bodies. fate_counts_view t.fates ≡ fate_counts (fates_of bodies)) had told x.agrees.bodies x.agrees.gains (x.totals.fates ∙ x.agrees.fates)
 
+  -- No body that the exporter shows is longer than it may be.
   pub fits_are : OnSome told (AllByRecursion (Fits origin.max_body) (told_since had told))
   fits_are = on_told (AllByRecursion (Fits origin.max_body)) had told x.agrees.bodies x.agrees.gains (subst (λ (most : ℕ). AllByRecursion (Fits most) x.agrees.bodies) x.max_body x.agrees.fits)
 
+  -- Each dropped span has no body alone, or one that would be longer than it may be.
   pub lacking_are : AllByRecursion (λ (a : PassAccount). AllByRecursion (LacksItsBody origin.max_body) (drops a)) accounts
   lacking_are = subst (λ (most : ℕ). AllByRecursion (λ (a : PassAccount). AllByRecursion (LacksItsBody most) (drops a)) accounts) x.max_body x.agrees.lacking
 
+  -- The tickets that the passes were given are just those that the totals count.
   pub tickets_are : GivesTickets (given_tickets t) accounts
   tickets_are = subst (λ (n : ℕ). GivesTickets n accounts) count_is x.agrees.tickets
 
+  -- The ledger and the popped entries name each dropped span, and the totals count them.
   pub names_are : NamesDrops ledger (drop_counts_view t.dropped) (all_dropped accounts) (all_popped accounts)
   names_are = rw (x.ledger_is, x.totals.dropped) x.agrees.names
 
+  -- The second ledger and the popped entries name each lost span, and the totals count them.
   pub losses_are : OnSome told (LossesAreTold (told_since had told) (all_accepted accounts) lost t.lost (all_popped_lost accounts))
   losses_are = on_told (λ bodies. LossesAreTold bodies (all_accepted accounts) lost t.lost (all_popped_lost accounts)) had told x.agrees.bodies x.agrees.gains (rw (x.lost_is, x.totals.lost) x.agrees.losses)
 
+  -- The totals count the late spans of all passes, which came where none was admitted.
   pub late_are : CountsLate t.late (given_tickets t) t.closed accounts
   late_are = subst (λ (n : ℕ). CountsLate t.late n t.closed accounts) count_is (rw (x.totals.late, x.totals.closed) x.agrees.late)

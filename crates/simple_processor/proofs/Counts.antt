@@ -10,6 +10,7 @@ use Rattle.drop_ledger.specs.Counts.{drop_counts_view}
 use Rattle.drop_ledger.specs.declared.counts.DropCounts.{DropCounts}
 use Rattle.simple_processor.specs.ExportStates.{CountsOne}
 
+-- A span without a body is counted once, for the reason of its fault.
 pub counts_one : (fault : EncodeFault) (old new : DropCounts) → drop_counts_view new ≡ with_drops (reason_view (reason_of fault)) 1 (drop_counts_view old) → CountsOne (reason_view (reason_of fault)) old new
 counts_one faults.OutOfMemory old new is =
     let memory : new.encode_memory ≡ old.encode_memory + 1 = ap (λ (d : model.DropCounts). d.encode_memory) is in

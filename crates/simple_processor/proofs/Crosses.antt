@@ -49,12 +49,13 @@ module _ (J E : RattleType) (g : naming.Ghosts J.Denot) (h : exporter.Ghosts E.D
   lock_sync : IsSync lock
   lock_sync = search (sendable, shared_send, heap.crosses) depth 30
 
+  -- A pass is `Send` where its exporter's and its runtime's values are.
   pub pass_send : (R : RattleType) → IsSend R → IsSend (SimplePass.the_row J E R Heap.the_row g h ghosts)
   pass_send R r = view_send _ _ _ _ _ (
       declared_send (pass.the_type J E R Heap.the_row g h ghosts)
       (heap.Arc-send lock lock_send lock_sync, (account.the_send J AccountState.the_row g, (as_row_send (row_field R) r, tt)))
       )
 
--- the same where the exporter keeps in memory what it is handed
+-- A pass whose exporter keeps all in memory is `Send` where its runtime's value is.
 pub memory_pass_send : (J R : RattleType) (g : naming.Ghosts J.Denot) → IsSend R → IsSend (SimplePass.the_row J memory R Heap.the_row g memory_exports ghosts)
 memory_pass_send J R g r = pass_send J memory g memory_exports memory_send R r

@@ -24,11 +24,12 @@ use Rattle.simple_processor.specs.Bodies.{Handing, fates_of, lost_by_attempt, lo
 use Rattle.simple_processor.specs.ExportStates.{State, Answers, IsDropped, IsHanded, IsLate, Pops, PopsLost, drop_count, drops_in, is_last_ticket, ticket_count, with_drop}
 use Rattle.simple_processor.proofs.Agree.{Step}
 
+-- An exporter that is unchanged has gained no attempt.
 pub gains_nothing : (told told' : Option (List Handed)) → told' ≡ told → Gains [] told told'
 gains_nothing None told' same = same
 gains_nothing (Some had) told' same = same ∙ ap Some (sym (append-nil had))
 
--- a step at which no span is answered a ticket
+-- a step at which no span has a ticket as its answer
 module _ (told told' : Option (List Handed)) (s s' : State) (a b : PassAccount) (unsent : told' ≡ told) (handed_same : s'.handed ≡ s.handed) (drops_same : drops_in s' ≡ drops_in s) (max_same : s'.max_body ≡ s.max_body) (fates_same : s'.fates ≡ s.fates) (ends_same : b.ends ≡ a.ends)
     (ps ls : List Entry) (lates shuts : ℕ) (popped : b.popped ≡ a.popped ++ ps) (popped_lost : b.popped_lost ≡ a.popped_lost ++ ls) (lost : IsPermutation s.lost (s'.lost ++ ls)) (count_kept : s'.lost_count ≡ s.lost_count) (late : b.late ≡ a.late + lates) (shutdowns : b.shutdowns ≡ a.shutdowns + shuts)
     (names : IsPermutation s.ledger (s'.ledger ++ ps)) (counted : (n : ℕ) → s.late ≡ capped n → s'.late ≡ capped (n + lates))
@@ -37,6 +38,7 @@ module _ (told told' : Option (List Handed)) (s s' : State) (a b : PassAccount) 
   count_same : ticket_count s' ≡ ticket_count s
   count_same = let e = handed_same in let f : drop_count s' ≡ drop_count s = ap (λ (d : DropCounts). d.encode_memory + d.too_large) drops_same in omega arith
 
+  -- A change at which no span has a ticket is a step of a pass.
   pub quiet : Step told told' s s' a b
   quiet = record {
     es = [];
@@ -90,6 +92,7 @@ late_end told told' s s' span a l =
     (λ n was some. ap (λ (x : State). x.closed) l.state ∙ l.closed)
     (λ n is. ap (λ (x : State). x.closed) l.state ∙ is ∙ ap (closed_by (ticket_count s)) (none_more n))
 
+-- A shutdown is a step of a pass.
 pub shutdown_step : (told told' : Option (List Handed)) (s s' : State) (a : PassAccount) → told' ≡ told → s' ≡ record s { closed = true } → Step told told' s s' a (after_shutdown a)
 shutdown_step told told' s s' a unsent is =
     quiet told told' s s' a (after_shutdown a) unsent (ap (λ (x : State). x.handed) is) (ap drops_in is) (ap (λ (x : State). x.max_body) is) (ap (λ (x : State). x.fates) is) refl
@@ -99,6 +102,7 @@ shutdown_step told told' s s' a unsent is =
     (λ n was some. ap (λ (x : State). x.closed) is)
     (λ n was. ap (λ (x : State). x.closed) is ∙ shut-closes (ticket_count s) n)
 
+-- A pop from the ledger is a step of a pass.
 pub pop_step : (told told' : Option (List Handed)) (s s' : State) (a : PassAccount) (entry : Entry) → told' ≡ told → Pops s (Some entry) s' → Step told told' s s' a (after_pop entry a)
 pop_step told told' s s' a entry unsent p =
     quiet told told' s s' a (after_pop entry a) unsent (ap (λ (x : State). x.handed) p.1) (ap drops_in p.1) (ap (λ (x : State). x.max_body) p.1) (ap (λ (x : State). x.fates) p.1) refl
@@ -108,6 +112,7 @@ pop_step told told' s s' a entry unsent p =
     (λ n was some. ap (λ (x : State). x.closed) p.1 ∙ was (omega arith))
     (λ n was. ap (λ (x : State). x.closed) p.1 ∙ was ∙ ap (closed_by (ticket_count s)) (none_more n))
 
+-- A pop from the ledger of lost spans is a step of a pass.
 pub pop_lost_step : (told told' : Option (List Handed)) (s s' : State) (a : PassAccount) (entry : Entry) → told' ≡ told → PopsLost s (Some entry) s' → Step told told' s s' a (after_pop_lost entry a)
 pop_lost_step told told' s s' a entry unsent p =
     quiet told told' s s' a (after_pop_lost entry a) unsent (ap (λ (x : State). x.handed) p.1) (ap drops_in p.1) (ap (λ (x : State). x.max_body) p.1) (ap (λ (x : State). x.fates) p.1) refl
@@ -224,7 +229,7 @@ dropped_step told told' s s' span why ticket a d =
       closed = λ n is. ap (λ (x : State). x.closed) d.state ∙ ap is_last_ticket d.is_next ∙ closes-now s (ticket_count s) n d.admits is ∙ ap (λ (m : ℕ). closed_by m (n + 0)) (sym count);
     }
 
--- the end of a span, by its answer
+-- The end of a span is a step of a pass, whatever its answer is.
 pub end_step : (told told' : Option (List Handed)) (s s' : State) (span : SpanData) (answer : Ended) (a : PassAccount) → Answers told told' s span answer s' → Step told told' s s' a (after_end answer span a)
 end_step told told' s s' span (answers.Handed ticket) a x = handed_step told told' s s' span ticket a x
 end_step told told' s s' span (answers.Dropped ticket why) a x = dropped_step told told' s s' span why ticket a x
@@ -233,7 +238,7 @@ end_step told told' s s' span (answers.Queued ticket) a x = absurd x
 end_step told told' s s' span answers.NotSampled a x = absurd x
 end_step told told' s s' span answers.AlreadyEnded a x = absurd x
 
--- which answers there are
+-- The answer to the end of a span is one that a simple processor gives.
 pub end_answer : (told told' : Option (List Handed)) (s s' : State) (span : SpanData) (answer : Ended) → Answers told told' s span answer s' → is_simple_answer answer ≡ true
 end_answer told told' s s' span (answers.Handed ticket) x = refl
 end_answer told told' s s' span (answers.Dropped ticket codes.EncodeMemory) x = refl

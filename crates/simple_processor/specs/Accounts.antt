@@ -8,7 +8,7 @@ use Rattle.trace_api.specs.declared.pass.Ended.{Ended}
 use Rattle.trace_api.specs.declared.pass.Ended.TheVariants as answers
 use Rattle.model_processor.specs.Passes.{PassAccount, after_accepted, after_dropped, after_late}
 
--- a span that ended, and what was answered
+-- a pass's account after the end of a span, by the answer
 abbrev pub after_end : Ended → SpanData → PassAccount → PassAccount
 after_end (answers.Handed ticket) span account = after_accepted ticket span account
 after_end (answers.Dropped ticket reason) span account =

@@ -34,7 +34,7 @@ pass_account (pass account) = Some account
 abbrev pub pass_accounts : List AnyAccount → List PassAccount
 pass_accounts holders = filter_map pass_account holders
 
--- what a pass's account learns changes that account alone
+-- a change of a pass's account, and of no other
 abbrev pub on_pass : (PassAccount → PassAccount) → AnyAccount → AnyAccount
 on_pass f (processor origin) = processor origin
 on_pass f (pass account) = pass (f account)

@@ -43,7 +43,7 @@ LacksItsBody max_body d = LacksBody max_body (d.span ∷ []) d.reason
 abbrev pub fates_of : List Handed → List Fate
 fates_of bodies = filter_map (λ (h : Handed). fate_of (next_of h.outcome)) bodies
 
--- A span that was handed, and what its one attempt came to.
+-- A span that was handed, and the outcome of its one attempt.
 pub record Handing : Type 0 where
   pub span : SpanData
   pub outcome : Outcome
@@ -56,14 +56,14 @@ lost_by_attempt x = lost_as (fate_of (next_of x.outcome)) (x.span ∷ [])
 abbrev pub losses_of : List Handing → List Entry
 losses_of handings = flat_map lost_by_attempt handings
 
--- These were handed one by one: the bodies mean their spans, and came to their outcomes.
+-- These were handed one by one: the bodies mean their spans, and had their outcomes.
 pub record AreTold (handings : List Handing) (bodies : List Handed) : Type 0 where
   pub attempts : map (λ (x : Handing). attempt_of_span x.span) handings ≡ map attempt_in bodies
   pub outcomes : map (λ (x : Handing). x.outcome) handings
       ≡ map (λ (h : Handed). h.outcome) bodies
 
--- Each accepted span was handed, in a body of its own. Those whose attempt came to nothing are
--- named, each for its fate's reason, and counted.
+-- Each accepted span was handed, in a body of its own. Those whose attempt failed are named, each
+-- for its fate's reason, and counted.
 pub record LossesAreTold (bodies : List Handed) (accepted : List SpanData) (lost : List Entry)
     (count : ℕ) (popped : List Entry) : Type 0 where
   pub handings : List Handing

@@ -74,7 +74,7 @@ ticket_count s = s.handed + drop_count s
 abbrev pub is_last_ticket : ℕ → Bool
 is_last_ticket ticket = ticket + 1 == 2 ^ 64 - 1
 
--- how the counts hang together
+-- how the counts agree with each other
 pub record AreCounts (s : State) : Type 0 where
   pub tickets : ticket_count s < 2 ^ 64
   pub admits : s.closed ≡ false → ticket_count s < 2 ^ 64 - 1
@@ -100,7 +100,7 @@ pub record CountsOne (reason : Reason) (old new : drops.DropCounts) : Type 0 whe
   pub others : IsOfEncodings old → IsOfEncodings new
   pub state : (s : State) → with_counts new s ≡ with_drop reason (with_counts old s)
 
--- An exporter that shows its attempts has one more, the one of this span, and this came of it.
+-- An exporter that shows its attempts has one more, the one of this span, with this outcome.
 pub record IsSent (max_body : ℕ) (told told' : Option (List Handed)) (span : SpanData)
     (outcome : Outcome) : Type 0 where
   pub body : Handed

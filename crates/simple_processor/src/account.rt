@@ -59,7 +59,7 @@ impl<E: Exporter> Change<AccountState, Began<E>> for Begins<E> {
     }) };
 }
 
-/// A span that ended, and what was answered.
+/// A span that ended, and the answer to its end.
 #[derive(Drop)]
 pub(crate) struct SpanEnded<A: Allocator> {
     pub(crate) span: Snapshot<SpanData<A>>,
@@ -109,5 +109,5 @@ impl Change<AccountState, Entry> for Pops {
 }
 
 /// The accounts of one processor, before it is made: `SimpleProcessor::new` opens them. In
-/// contracts it is their name, by which a type parameter stands for this one processor.
+/// contracts it is their name, by which a type parameter names this one processor.
 pub type SimpleBlank = Blank<AccountState>;

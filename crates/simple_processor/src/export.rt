@@ -95,8 +95,8 @@ impl<E: Exporter, A: Allocator + Copy> ExportState<E, A> {
     }
 
     /// Takes a span that has ended, under the next ticket, and hands it to the exporter alone.
-    /// Where it has no body, the ledger names it, and where its attempt came to nothing, the second
-    /// one does. After a shutdown it is only counted. Where the next ticket would be 2^64 - 1, the
+    /// Where it has no body, the ledger names it, and where its attempt failed, the second one
+    /// does. After a shutdown it is only counted. Where the next ticket would be 2^64 - 1, the
     /// export closes as by a shutdown.
     pub(crate) fn admit(&mut self, mut span: SpanData<A>) -> Ended
         ensures { Answers (E.handed self.old.exporter) (E.handed self.new.exporter)
@@ -202,7 +202,7 @@ fn name<A: Allocator>(ledger: &mut Ledger<A>, span: SpanData<A>, reason: Reason)
     ledger.push(span.into_slip(), entry);
 }
 
-/// Counts a span more that has no body.
+/// Counts one more span that has no body.
 fn count_one(dropped: &mut DropCounts, fault: &EncodeFault)
     requires { dropped.old.encode_memory + dropped.old.too_large < 2 ^ 64 - 1 }
     ensures { CountsOne (reason_view (reason_of fault.now)) dropped.old dropped.new }

@@ -88,7 +88,7 @@ impl<J: Naming, E: Exporter, R: Wait, A: Allocator + Copy> SimplePass<J, E, R, A
     }
 
     /// Takes the newest entry out of the ledger of lost spans, if there is one: of a span that was
-    /// handed to the exporter, and whose attempt came to nothing (profile).
+    /// handed to the exporter, and whose attempt failed (profile).
     pub fn pop_lost(&mut self) -> Option<Entry>
         ensures some { IfSome result
             (λ entry. self.new ≡ after_pop_lost (entry_view entry) self.old) }

@@ -79,7 +79,7 @@ pub struct SimpleParts<J: Naming, E: Exporter, R, A: Allocator = Global> {
     pub passes: Vec<SimplePass<J, E, R, A>, A>,
 }
 
-/// What a processor comes to.
+/// What is left of a processor in the end.
 #[derive(Drop)]
 #[derive_where(Debug; E)]
 pub struct SimpleAccounts<E, A: Allocator = Global> {
@@ -90,12 +90,11 @@ pub struct SimpleAccounts<E, A: Allocator = Global> {
     pub totals: Totals,
     /// The names of the dropped spans that were not popped.
     pub ledger: Ledger<A>,
-    /// The names of the lost spans: each was handed to the exporter, and its attempt came to
-    /// nothing.
+    /// The names of the lost spans: each was handed to the exporter, and its attempt failed.
     pub lost: Ledger<A>,
 }
 
-/// A pass is missing: all that was to be closed out.
+/// A pass is missing. It gives back all that was to be closed out.
 #[derive(Drop)]
 #[derive_where(Debug)]
 pub struct SimpleMissing<J: Naming, E: Exporter, R, A: Allocator = Global> {
@@ -106,9 +105,9 @@ pub struct SimpleMissing<J: Naming, E: Exporter, R, A: Allocator = Global> {
 }
 
 impl<J: Naming, E: Exporter, R: Copy, A: Allocator + Copy> SimpleProcessor<J, E, R, A> {
-    /// A processor over this exporter, with so many passes, 1 to [`MAX_PASSES`]. A span whose body
-    /// would have more than `max_body` bytes is dropped (profile). The blank becomes its accounts:
-    /// a type parameter stands for its name, and so for this one processor.
+    /// A processor over this exporter, with this number of passes, 1 to [`MAX_PASSES`]. A span
+    /// whose body would have more than `max_body` bytes is dropped (profile). The blank becomes its
+    /// accounts: a type parameter gives its name, and so names this one processor.
     ///
     /// # Errors
     ///
@@ -169,7 +168,7 @@ impl<J: Naming, E: Exporter, R: Copy, A: Allocator + Copy> SimpleProcessor<J, E,
 }
 
 impl<J: Naming, E: Exporter, R: Wait + Copy, A: Allocator + Copy> SimpleProcessor<J, E, R, A> {
-    /// Ends the processor, once all its passes are back, and answers what they come to.
+    /// Ends the processor, once all its passes are back, and answers what is left of it.
     ///
     /// # Errors
     ///
@@ -185,7 +184,7 @@ impl<J: Naming, E: Exporter, R: Wait + Copy, A: Allocator + Copy> SimpleProcesso
         ensures given_back { IfErr result (λ m. (m.processor ≡ self) × (m.passes ≡ passes)) }
 
         // What an exporter shows of the time since the processor was made: one attempt for each
-        // span that a pass was answered was handed, whose body means this span alone.
+        // span that was answered `Handed` on a pass, whose body means this span alone.
         ensures keeps { IfOk result (λ a.
             Gains (told_since self.had (E.handed a.exporter)) self.had (E.handed a.exporter)) }
         ensures spans { IfOk result (λ a. OnSome (E.handed a.exporter)
@@ -211,9 +210,8 @@ impl<J: Naming, E: Exporter, R: Wait + Copy, A: Allocator + Copy> SimpleProcesso
         ensures only_without_body { IfOk result (λ a. (a.totals.dropped.queue_full ≡ 0)
             × (a.totals.dropped.abandoned ≡ 0)) }
 
-        // A span whose attempt came to nothing is named in the second ledger, until its entry is
-        // popped: refused, given up since no more attempt is made, or with a reply that can't be
-        // read.
+        // A span whose attempt failed is named in the second ledger, until its entry is popped:
+        // refused, given up since no more attempt is made, or with a reply that can't be read.
         ensures losses { IfOk result (λ a. OnSome (E.handed a.exporter)
             (LossesAreTold (told_since self.had (E.handed a.exporter))
             (all_accepted passes.items) a.lost a.totals.lost (all_popped_lost passes.items))) }

@@ -1,4 +1,4 @@
-//! What threads share, with the accounts of those who share it.
+//! What threads share, with their accounts.
 ghost use Rattle.std.specs.Prelude.{◌≡◌, ◌≤◌, vec_len, true, option_map, IfSome, IfNone};
 ghost use Rattle.otlp_span.specs.Dropped.{entry_view};
 ghost use Rattle.model_processor.specs.Passes.{after_pop, after_pop_lost};

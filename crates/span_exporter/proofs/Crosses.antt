@@ -13,6 +13,7 @@ use Rattle.span_exporter.specs.declared.exporter.Exporter as exporter
 abbrev pub memory : RattleType
 memory = MemoryExporter.the_row Heap.the_row ghosts
 
+-- An exporter over memory of the heap is `Send`.
 pub memory_send : IsSend memory
 memory_send = search (sendable, declared_send, as_row_send, heap.crosses) depth 60 fits 20000
 

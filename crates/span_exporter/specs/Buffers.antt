@@ -2,7 +2,7 @@
 use Rattle.std.specs.Prelude.{◌≡◌, ℕ, ◌≤◌, List, [], ◌∷◌, vec_capacity}
 use Rattle.std.specs.declared.vec.Vec.{Vec}
 
--- an empty one, with room for so many bytes
+-- an empty one, with room for this number of bytes
 pub record IsBuffer {A : Type 0} (least : ℕ) (buffer : Vec ℕ A) : Type 0 where
   pub empty : buffer.items ≡ []
   pub room : least ≤ vec_capacity buffer

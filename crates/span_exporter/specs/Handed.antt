@@ -3,7 +3,7 @@ use Rattle.std.specs.Prelude.{◌≡◌, ℕ, List, [], ◌∷◌, ◌++◌, Opt
 use Rattle.model_retry.specs.Retries.{Outcome}
 
 -- An attempt to send a batch: the batch's number, which attempt of it this is, from 1 on, the body,
--- and what came of it. (Trace SDK, Export)
+-- and its outcome. (Trace SDK, Export)
 pub record Handed : Type 0 where
   pub number : ℕ
   pub attempt : ℕ

@@ -6,6 +6,6 @@ pub record Room : Type 0 where
   pub size : ℕ
   pub attempts : ℕ
 
--- for how many bodies of so many bytes there is room
+-- for how many bodies of this size there is room
 abbrev pub room_for : Room → ℕ → ℕ
 room_for room len = if nat_le len room.size then room.attempts else 0

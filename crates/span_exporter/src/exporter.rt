@@ -11,14 +11,14 @@ use retry_core::Outcome;
 /// beforehand (profile).
 ///
 /// An `impl` says by its ghost member `handed` what it was handed, or that it doesn't say, and by
-/// `room` for how many attempts of a body of so many bytes it has room.
+/// `room` for how many attempts of a body of a given size it has room.
 pub trait Exporter {
     ghost handed: { Self → Option (List model.Handed) };
 
     ghost room: { Self → ℕ → ℕ };
 
-    /// Makes room for so many attempts to send a body of at most `size` bytes. What room there was
-    /// before doesn't add to it. Nothing is sent.
+    /// Makes room for this number of attempts to send a body of at most `size` bytes. What room
+    /// there was before doesn't add to it. Nothing is sent.
     ///
     /// # Errors
     ///
@@ -31,8 +31,8 @@ pub trait Exporter {
         ensures refused { OnErr result (self.new ≡ self.old) };
 
     /// Attempts to send a body, for which there is room: the batch's number, which attempt of this
-    /// batch it is, from 1 on, and the bytes. The outcome is what came of it. It takes up the room
-    /// of one attempt. (Trace SDK, "Export(batch)")
+    /// batch it is, from 1 on, and the bytes. The answer is the outcome. It takes up the room of
+    /// one attempt. (Trace SDK, "Export(batch)")
     fn export(&mut self, number: u64, attempt: u32, body: &[u8]) -> Outcome
         requires { 0 < room self.old (length body.now) }
         ensures handed { Gains (handing number attempt body.now (outcome_view result))

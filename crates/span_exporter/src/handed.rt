@@ -13,6 +13,6 @@ pub struct Handed<A: Allocator = Global> {
     pub attempt: u32,
     /// The body that was to be sent.
     pub body: Vec<u8, A>,
-    /// What came of it.
+    /// Its outcome.
     pub outcome: Outcome,
 }

@@ -1,4 +1,4 @@
-//! The outcomes of the attempts to come.
+//! The outcomes of later attempts.
 ghost use Rattle.std.specs.Prelude.{◌≡◌, drop, map};
 ghost use Rattle.retry_core.specs.Retries.{outcome_view};
 ghost use Rattle.span_exporter.specs.Memory.{next_outcome};

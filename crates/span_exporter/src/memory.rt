@@ -77,8 +77,8 @@ impl<A: Allocator + Copy> Exporter for MemoryExporter<A> {
 
     ghost room = { λ m. room_for m.room };
 
-    /// Makes room for so many attempts of a body of at most `size` bytes: for the bodies, and for
-    /// the list of what it is handed. What room was left from before is given back.
+    /// Makes room for this number of attempts of a body of at most `size` bytes: for the bodies,
+    /// and for the list of what it is handed. What room was left from before is given back.
     ///
     /// # Errors
     ///

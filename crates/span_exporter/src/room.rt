@@ -37,7 +37,7 @@ impl<A: Allocator + Copy> Room<A> {
         }
     }
 
-    /// Room for so many bodies of `size` bytes.
+    /// Room for this number of bodies of `size` bytes.
     pub(crate) fn new(alloc: A, size: usize, attempts: usize) -> Result<Room<A>, AllocError>
         ensures { IfOk result (λ room. room ≡ record { size = size; attempts = attempts }) }
     {
@@ -60,7 +60,7 @@ impl<A: Allocator> Room<A> {
     }
 }
 
-/// So many empty buffers with room for `size` bytes.
+/// This number of empty buffers with room for `size` bytes.
 fn buffers<A: Allocator + Copy>(
     alloc: A,
     size: usize,

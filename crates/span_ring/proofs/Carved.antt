@@ -78,7 +78,7 @@ module _ (R P : RattleType) (g : Ghosts P.Denot) {M : Type 1} {𝓤 : Ura M} (�
   abbrev s : ℕ
   s = type_size R
 
-  -- a `Vec` without items is its room and the rest
+  -- A `Vec` without items splits into its room and the rest of it.
   pub room_out : (us : List Val) → ent 𝓤 (sem 𝓛 ((V.the_row R P g).own_val v us)) (sep 𝓤 (sem 𝓛 (places_own R v.ptr 0 [] v.cap)) (sem 𝓛 ((Emptied R P g).own_val v us)))
   room_out us = let from_here = λ (o : ℕ). let same : o ≡ (0 + 0) * s + o = omega (arith, zero-mul s) in same in qed 𝓛 (‵ ((V.the_row R P g).own_val v us) ∷ []) ∵ fsplit ! $ move ! (1 ∷ []) $ fsplit ! $ flt_l ! (λ fits.
       in_a_block ! v.ptr (λ (p : Ptr). in_block p (Block p v.len v.items)) (id⊢ 𝓤 (never 𝓤)) (λ b o at.
@@ -91,6 +91,7 @@ module _ (R P : RattleType) (g : Ghosts P.Denot) {M : Type 1} {𝓤 : Ura M} (�
       rewrite ! 0 (λ (p : Ptr). ‵ (places_own R p 0 [] v.cap)) (sym at) refl $ move ! (1 ∷ []) $
       rewrite ! 0 (λ (p : Ptr). ‵ (in_block p (Frees p))) (sym at) refl $ flt_i ! (v.cap * s) (2 ^ 63) fits $ fjoin ! $ move ! (2 ∷ 0 ∷ []) $ fjoin ! $ move ! (1 ∷ 0 ∷ []) $ done !))
 
+  -- The room of a `Vec` and the rest of it are the `Vec` without items again.
   pub room_in : (before after : ℕ) → before + after ≡ v.cap → (us : List Val)
       → ent 𝓤 (sep 𝓤 (sem 𝓛 (places_own R v.ptr before [] after)) (sem 𝓛 ((Emptied R P g).own_val v us))) (sem 𝓛 ((V.the_row R P g).own_val v us))
   room_in before after whole us = qed 𝓛 (‵ (places_own R v.ptr before [] after) ∷ ‵ ((Emptied R P g).own_val v us) ∷ []) ∵
@@ -111,7 +112,7 @@ mark = one (vstruct vnil)
 abbrev pub two : Val → Val → Val
 two u w = vstruct (vcons u (vcons w vnil))
 
--- a mark has no bytes, so that it is made of nothing
+-- The mark in `Places` has no bytes, so it is made of nothing.
 pub mark_made : (R : RattleType) {M : Type 1} {𝓤 : Ura M} (𝓛 : Logic 𝓤) → ent 𝓤 (emp 𝓤) (sem 𝓛 ((Struct (shape (places.the_type R))).own_val (tt, tt) (mark ∷ [])))
 mark_made R 𝓛 = let Mark : RattleType = marker.the_row RawPtr in let none : Val = vstruct vnil in
     qed 𝓛 [] ∵ nothing ! $ feq_i ! (List Val) (none ∷ []) (none ∷ []) refl $ fjoin ! $ fpack ! (Valss []) (within (Declared.shape (marker.the_type RawPtr)) tt (none ∷ [])) tt $

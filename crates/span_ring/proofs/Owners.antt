@@ -41,6 +41,7 @@ module _ (R P : RattleType) (g : Ghosts P.Denot) where
   abbrev pub emptied : Owning
   emptied = lending (V.struct R P g) (V.the_codes R.Denot P.Denot R.coded P.coded) (frees R P g) (λ v _ κ. vec_shares R v.ptr zero v.cap [] κ)
 
+  -- A `Vec` without its room is a type that can be owned and lent.
   pub emptied_law : Laws R → Laws P → Law (Emptied R P g)
   emptied_law L K = of_Lends (V.struct R P g) (V.the_codes R.Denot P.Denot R.coded P.coded) (frees R P g) (λ v _ κ. vec_shares R v.ptr zero v.cap [] κ)
       (λ d p. lent_shr_laws R L.shr_laws d.ptr zero d.cap [])
@@ -48,9 +49,11 @@ module _ (R P : RattleType) (g : Ghosts P.Denot) where
       (λ M 𝓤 𝓛 d p. let l = (Emptied R P g).lives in let fits = flt (d.cap * type_size R) (2 ^ 63) in
       Lends-both 𝓛 fits (in_block d.ptr _) (said fits) (lent_at (Array R zero) d.ptr []) l (Lends-said 𝓛 fits tt l) (Lends-block R 𝓛 l d.ptr _))
 
+  -- A `Vec` without its room can be shared as a field of a struct.
   pub emptied_shared : Laws R → Laws P → Sharable (field emptied)
   emptied_shared L K = lending_shared emptied (emptied_law L K)
 
+-- Every pointer is a well-typed machine value.
 pub ptr_good : (p : Ptr) → T (has_ty ty_ptr (ptr_val p)) × WT (ptr_val p)
 ptr_good (block_ptr b o) = (tt, tt)
 ptr_good null_ptr = (tt, record { fits = lit< tt })

@@ -20,11 +20,12 @@ use denote.Shares.{Shares-less}
 use denote.Struct.Lending.{Lends, Lends-both, Lends-nothing, Lends-said, Lends-false, Lends-first}
 use Rattle.span_ring.specs.Places.{items_own, small, places_own, places_lent}
 
+-- What a `&` to the places holds satisfies the laws of shared references.
 pub places_laws : (R : RattleType) → RowLaws R → (p : Ptr) (before : ℕ) (xs : List R.Denot) (after : ℕ) → ShrLaws (places_lent R p before xs after)
 places_laws R laws (block_ptr b o) before xs after = beside_shr_laws _ _ (said_shr_laws (small R before xs after) tt) (elements_shr_laws R laws xs b (before * type_size R + o))
 places_laws R laws null_ptr before xs after = said_shr_laws ffalse tt
 
--- of two parts the first is let go for the lifetime
+-- A pair of parts lends what its second part lends; the first part is given up for the lifetime.
 Lends-second : {M : Type 1} {𝓤 : Ura M} (𝓛 : Logic 𝓤) (F G : Fml) (t : Lft → Fml) (l : Lft) → Lends 𝓛 G t l → Lends 𝓛 (fsep F G) t l
 Lends-second {𝓤 = 𝓤} 𝓛 F G t l lends κ ts inc sp = qed 𝓛 (‵ (fbor κ (fsep F G)) ∷ raw (lfts 𝓛 ts) ∷ []) {P = 𝓛.H.⇛ (sep 𝓤 (sem 𝓛 (t κ)) (lfts 𝓛 ts))} (
     updating ! $ use2 𝓛 (later (‵ (beside nothing t κ) ⊛ raw (lfts 𝓛 ts))) (Lends-both 𝓛 F G nothing t l (Lends-nothing 𝓛 F l) lends κ ts inc sp) $ await ! tt $ split ! $
@@ -47,6 +48,7 @@ module _ {M : Type 1} {𝓤 : Ura M} (𝓛 : Logic 𝓤) (l : Lft) (R : RattleTy
     abbrev Seen : Lft → Fml
     Seen = elements_shared R xs b (before * type_size R + o)
 
+  -- The places lend their items, and the room stays unused for the lifetime.
   pub Lends-places : (p : Ptr) (before : ℕ) (xs : List R.Denot) (after : ℕ) → Lends 𝓛 (places_own R p before xs after) (places_lent R p before xs after) l
   Lends-places (block_ptr b o) before xs after =
       Lends-both 𝓛 (small R before xs after) _ (said (small R before xs after)) (Seen b o before xs after) l (Lends-said 𝓛 (small R before xs after) tt l)

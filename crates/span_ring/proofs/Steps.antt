@@ -8,7 +8,7 @@ use Rattle.span_ring.specs.Segments.{items_of, AreFull, AreSpare, AreSegments, o
 use Rattle.span_ring.proofs.Lengths.{length_items_of, one_more_spare}
 
 module _ {X : Type 0} (queue batch : ℕ) (full : List (RunView X)) (filling : RunView X) where
-  -- where the ring isn't full, but the segment that is being filled is, there is a spare one
+  -- Where the ring isn't full but the segment being filled is, there is a spare segment.
   pub spare_to_fill : (spare : List (RunView X)) (len : ℕ) (run_out : Bool) → AreSegments full filling spare len queue batch run_out → len ≢ queue
       → length filling.items ≡ batch → 0 < length spare
   spare_to_fill [] len true are more filled =
@@ -17,7 +17,7 @@ module _ {X : Type 0} (queue batch : ℕ) (full : List (RunView X)) (filling : R
   spare_to_fill (s ∷ spare) len run_out are more filled = omega arith
 
 module _ {X : Type 0} (queue batch : ℕ) (full : List (RunView X)) (filling : RunView X) (spare : List (RunView X)) (len : ℕ) where
-  -- a segment comes back without items
+  -- A segment that comes back without items is spare.
   pub given_back : (s : RunView X) → AreSegments full filling spare len queue batch true → s.items ≡ [] → s.room ≡ batch
       → AreSegments full filling (spare ++ s ∷ []) len queue batch false
   given_back s are none room =
@@ -34,7 +34,7 @@ module _ {X : Type 0} (queue batch : ℕ) (full : List (RunView X)) (filling : R
         enough = subst (λ (n : ℕ). queue ≤ n * batch) same are.enough;
       }
 
-  -- an item is put after the others, for which there is room
+  -- An item that is put after the others, where there is room, keeps the segments in order.
   pub pushed : (full' : List (RunView X)) (filling' : RunView X) (spare' : List (RunView X)) (run_out : Bool) (x : X)
       → AreSegments full filling spare len queue batch run_out → len ≢ queue → items_of full' filling' ≡ items_of full filling → AreFull batch full'
       → (length filling'.items < batch) × (filling'.room ≡ batch) → AreSpare batch spare' → length full' + length spare' ≡ length full + length spare
@@ -56,13 +56,13 @@ module _ {X : Type 0} (queue batch : ℕ) (full : List (RunView X)) (filling : R
         enough = subst (λ (n : ℕ). queue ≤ n * batch) same are.enough;
       }
 
-  -- a run of a ring with items has some
+  -- A run of a ring that holds items has at least one item.
   pub run_has_items : (run_out : Bool) (run : RunView X) → AreSegments full filling spare len queue batch run_out → len ≢ 0
       → run.items ≡ take batch (items_of full filling) → 0 < length run.items
   run_has_items run_out run are some front =
       let positive = are.sizes.positive in omega (arith, length-take batch (items_of full filling), ap length front, are.counted)
 
-  -- the first segment with items leaves as a run
+  -- When the first segment with items leaves as a run, the segments that stay are in order.
   pub taken : (full' : List (RunView X)) (filling' : RunView X) (spare' : List (RunView X)) (run : RunView X)
       → AreSegments full filling spare len queue batch false → items_of full filling ≡ run.items ++ items_of full' filling' → 0 < length run.items → AreFull batch full'
       → (length filling'.items ≤ batch) × (filling'.room ≡ batch) → AreSpare batch spare' → length full' + length spare' + 1 ≡ length full + length spare

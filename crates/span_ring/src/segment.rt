@@ -32,7 +32,7 @@ impl<T, A: Allocator> Model for Segment<T, A> {
 }
 
 impl<T, A: Allocator> Segment<T, A> {
-    /// An empty segment. It takes the memory for so many items.
+    /// An empty segment. It takes the memory for this many items.
     pub(crate) fn with_room(alloc: A, room: usize) -> Result<Segment<T, A>, AllocError>
         ensures { IfOk result (λ segment. segment ≡ empty_run room) }
     {

@@ -21,7 +21,7 @@ pub(crate) struct Segments<T, A: Allocator = Global> {
 }
 
 impl<T, A: Allocator + Copy> Segments<T, A> {
-    /// One segment to be filled, and so many spare ones. It takes the memory for all.
+    /// One segment to be filled, and this many spare ones. It takes the memory for all.
     #[tactic(auto, using(crate::proofs::Lengths::segments))]
     pub(crate) fn with_room(
         alloc: A,

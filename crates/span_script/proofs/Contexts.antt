@@ -19,14 +19,14 @@ nothing_there : {X E : Type 0} (r : Result X E) → (IsOk r → ⊥) → result_
 nothing_there (Ok x) h = absurd (h refl)
 nothing_there (Err e) h = refl
 
--- bytes that are no text are no digits
+-- Bytes that aren't UTF-8 are no hexadecimal digits.
 pub no_digits : (count : ℕ) (word : List ℕ) → (IsUtf8 word → ⊥) → hex_bytes count word ≡ None
 unfolding hex_bytes
 no_digits count word h = nothing_there (decode_sized word count) (λ ok.
     let digits = ((IsOk-decode_sized word count).0 ok).1 in
     h (IsUtf8-from_ascii word (IsAscii-from_all word (λ k d within. small_digit _ (digits k d within)))))
 
--- what the digits of an identifier spell
+-- An identifier is read exactly from a word of the right number of hexadecimal digits.
 pub digits_read : {X E : Type 0} (bytes : X → List ℕ) (count : ℕ) (word : List ℕ) (r : Result X E) (q : Result X WordFault)
     → IfOk r (λ id. decode_of word ≡ Ok (bytes id)) → (IsOk r ↔ ((length word ≡ 2 * count) × AllPass is_hex_digit word))
     → q ≡ result_or r (Err Bad) → Gives bytes q (hex_bytes count word)

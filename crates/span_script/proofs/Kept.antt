@@ -66,7 +66,7 @@ or_standard : (o : Option DeskConfig) → IfSome o IsSized → IsSized (unwrap_o
 or_standard None sized = record { positive = omega arith; fits = omega arith; limited = omega arith }
 or_standard (Some c) sized = sized
 
--- the script in the code has sizes that a queue may have
+-- The queue and batch sizes of a script that is read are sizes that a queue may have.
 pub sizes : {A : Type 0} (c : CodeScript A) (s : Script) (text : List ℕ) → Means c s → script_read text ≡ Ok s → IsRingSize c.desk.queue c.desk.batch
 sizes c s text means e = subst IsSized (sym means.desk) (or_standard s.desk (text_kept s text e))
 
@@ -93,6 +93,7 @@ bad_place n m s (line ∷ lines) e =
           (suc p.0, omega (arith, p.1), omega (arith, p.2), p.3)
     ]
 
+-- The number of the bad line in a refused text is that of a line of the text, which isn't empty.
 pub bad_line_is : (text : List ℕ) (m : ℕ) → script_read text ≡ Err m → IsLine text m
 bad_line_is text m e =
     let p = bad_place 1 m no_script (lines_of text) (text_read text ∙ e) in

@@ -153,7 +153,7 @@ no_words_more ls l e = words_more ls l ∙ rw e (append-nil (flat_map words_in l
 scope_count : (ls : List Line) → length (scopes_of ls) ≡ 0 + length (filter_map scope_in ls)
 scope_count ls = length-map (filter_map scope_in ls) _ ∙ sym (zero-add (length (filter_map scope_in ls)))
 
--- which are a script with it
+-- Lines are a script with one more line where they are one and the line fits them.
 pub is_last : (ls : List Line) (l : Line) → is_script (ls ++ l ∷ []) ≡ (is_script ls && fits (contents_of ls) l)
 is_last ls (words ws) =
     let l = words ws in
@@ -301,7 +301,7 @@ next_attribute ls k p numbers =
     (same_each _ _ (filter_map scope_in ls) (λ q. ap (λ ps. with_attributes ps q.1) (on_last ls q.0 k p))
     ∙ placed_on 0 k k p (λ n. filter_map (attribute_on n) ls) (filter_map scope_in ls) (omega arith) numbers)
 
--- what they say with it
+-- A script with one more line that fits says what the line adds to it.
 pub contents_last : (ls : List Line) (l : Line) → is_script ls ≡ true → fits (contents_of ls) l ≡ true → contents_of (ls ++ l ∷ []) ≡ extended_script (contents_of ls) l
 contents_last ls (words ws) is e =
     let l = words ws in

@@ -143,6 +143,7 @@ sized_words : (ws : List (List ℕ)) → IfSome (entry_of ws) IsSizedLine
 sized_words [] = tt
 sized_words (name ∷ arguments) = sized_entry name arguments
 
+-- A line that is read and sets the queue's sizes sets sizes that a queue may have.
 pub sized_line : (bytes : List ℕ) → IfSome (line_of bytes) IsSizedLine
 unfolding line_of
 sized_line bytes = sized_words (slice_split (λ b. b == 32) bytes)

@@ -11,6 +11,7 @@ use Rattle.text_words.specs.Words.{◌>>=◌, number_below}
 use Rattle.span_script.specs.Calls.{call_of}
 use Rattle.span_script.specs.Steps.{call_step, call_step_of, step_on_span, step_of}
 
+-- Bytes that aren't UTF-8 differ from every keyword that is.
 pub other_than : (name keyword : List ℕ) → (IsUtf8 name → ⊥) → is_utf8 keyword ≡ true → bytes_eq name keyword ≡ false
 other_than name keyword h text = elim (cases_Bool (bytes_eq name keyword)) [
   | inl e ↦ absurd (h (subst IsUtf8 (sym ((bytes_eq-Decides name keyword).0 e)) (IsUtf8-from_is_utf8 keyword text)))
@@ -49,7 +50,7 @@ no_step_on_span name words h =
     )
     (no_call_step name words h)
 
--- nor a step
+-- Bytes that aren't UTF-8 name no step.
 pub no_step : (name : List ℕ) (words : List (List ℕ)) → (IsUtf8 name → ⊥) → step_of name words ≡ None
 unfolding step_of is_utf8 chars encode
 no_step name words h =

@@ -1,4 +1,4 @@
--- What a draft comes to, line after line, is what the lines are together.
+-- The script that a draft becomes, line after line, is the script of all lines together.
 use Rattle.std.proofs.Common.{◌≡◌, ℕ, ◌+◌, ◌<◌, Bool, true, not, List, [], ◌∷◌, ◌++◌, length, get_or, take, drop, Option, Some, None, Result, Ok, Err, inl, inr, refl, sym, ap, ◌∙◌, arith, append-nil, append_assoc, length-append, take-append-drop}
 use lib.Seq.{take-append-le, take-append-add}
 use Rattle.std.specs.Prelude.{is_some, ok_or, filter}
@@ -66,6 +66,7 @@ both None l = refl
 both (Some ls) None = sym (nothing_after (script_if ls) None refl)
 both (Some ls) (Some y) = if_last ls y
 
+-- The script of some lines and one more is the script of the lines, extended by the last one.
 pub script_last : (lines : List (List ℕ)) (line : List ℕ) → script_of (lines ++ line ∷ []) ≡ (script_of lines >>= λ s. line_read s line)
 unfolding script_of line_read
 script_last lines [] =
@@ -136,7 +137,7 @@ agrees before (line ∷ rest) s e = by (λ t h. agrees (before ++ line ∷ []) r
         ∙ later t (now ∙ h)
         ∙ ap (λ ls. ok_or (script_of ls) (first_bad_line ls)) together
 
--- what is read of a text, line after line
+-- A text read line after line gives the script of all its lines, or its first bad line.
 pub text_read : (text : List ℕ) → lines_read 1 no_script (lines_of text) ≡ script_read text
 unfolding script_of
 text_read text = agrees [] (lines_of text) no_script refl

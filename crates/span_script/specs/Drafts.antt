@@ -60,7 +60,7 @@ pub record Holds {A : Type 0} (d : Draft A) (s : Script) : Type 0 where
   pub attributes : HoldsAttributes d s
   pub steps : HoldsSteps d s
 
--- ---- how a draft goes on: `proofs/Together` has that it comes to what the lines are together
+-- ---- how a draft goes on: `proofs/Together` proves that it becomes the script of all lines
 
 abbrev pub no_script : Script
 no_script = record {

@@ -20,7 +20,7 @@ numbered_outcome_of name number =
     option_map Outcome.refused (number_below (2 ^ 16) number)
     else None
 
--- when another attempt is welcome: `none`, where nothing is asked for, or in so many seconds
+-- when another attempt is welcome: `none`, where nothing is asked for, or in this many seconds
 unfoldable pub wait_of_word : List ℕ → Option (Option RetryAfter)
 wait_of_word word =
     if bytes_eq word (codes "none") then Some None

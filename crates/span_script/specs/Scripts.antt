@@ -114,7 +114,7 @@ abbrev pub numbered_from : ℕ → List (ℕ × spans.Scope) → Bool
 numbered_from n [] = true
 numbered_from n ((number, x) ∷ scopes) = number == n && numbered_from (n + 1) scopes
 
--- Attributes are set on scopes that come before them. The lines come after so many scopes.
+-- Attributes are set on scopes that come before them. The lines come after this many scopes.
 abbrev pub on_scopes_before : ℕ → List Line → Bool
 on_scopes_before n [] = true
 on_scopes_before n (scope number x ∷ lines) = on_scopes_before (n + 1) lines

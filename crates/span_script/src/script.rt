@@ -97,7 +97,7 @@ impl<A: Allocator + Copy> Script<A> {
         Ok(Script::from_draft(alloc, draft)?)
     }
 
-    /// The script that a draft has come to.
+    /// The script that a draft has become.
     fn from_draft(alloc: A, draft: Draft<A>) -> Result<Script<A>, OutOfMemory>
         ensures { IfOk result (λ script. (s : ScriptRead) → Holds draft s → Means script s) }
     {

@@ -68,8 +68,8 @@ fn root<S: Sampler + Drop, A: Allocator + Copy>(
     started.expect(rt, "a root starts")
 }
 
-/// How a root is answered that ends on a pass, which this sampler decides on, of a resource with
-/// this schema.
+/// The answer to the end of a root on a pass, where this sampler decides on the root and its
+/// resource has this schema.
 pub(crate) fn end_in<S: Sampler + Drop, A: Allocator + Copy, P: EndPass<SpanData<A>>>(
     rt: &impl Abort,
     alloc: A,
@@ -80,7 +80,7 @@ pub(crate) fn end_in<S: Sampler + Drop, A: Allocator + Copy, P: EndPass<SpanData
     root(rt, alloc, sampler, schema).end(pass, END)
 }
 
-/// How a root is answered that is sampled and ends on a pass.
+/// The answer to the end of a sampled root on a pass.
 pub(crate) fn end<A: Allocator + Copy, P: EndPass<SpanData<A>>>(
     rt: &impl Abort,
     alloc: A,
@@ -108,7 +108,8 @@ pub(crate) fn exporter<A: Allocator + Copy>(
     MemoryExporter::new(alloc, Vec::from_slice(alloc, outcomes).expect(rt, "memory"))
 }
 
-/// Asserts that these name so many spans, the last of which has this ticket, the newest first.
+/// Asserts that these name this number of spans, the last of which has this ticket, the newest
+/// first.
 pub(crate) fn assert_named(
     rt: &impl Abort,
     names: &[Entry],
@@ -124,7 +125,7 @@ pub(crate) fn assert_named(
     }
 }
 
-/// So many spans wait at most, and a batch has so many. The delay is as long as it can be.
+/// At most `queue` spans wait, and a batch has `batch`. The delay is as long as it can be.
 pub(crate) fn config(queue: usize, batch: usize) -> BatchConfig {
     BatchConfig {
         desk: DeskConfig {
@@ -226,7 +227,7 @@ pub(crate) fn make<J: Naming, R: Wait + Abort + Copy, A: Allocator + Copy>(
     made.expect(&rt, "a processor")
 }
 
-/// So many spans end on the first pass. Each is queued, from this ticket on.
+/// This number of spans ends on the first pass. Each is queued, from this ticket on.
 pub(crate) fn queue<J: Naming, R: Wait + Abort, A: Allocator + Copy>(
     rt: &R,
     alloc: A,
@@ -240,7 +241,7 @@ pub(crate) fn queue<J: Naming, R: Wait + Abort, A: Allocator + Copy>(
     }
 }
 
-/// Works so many turns at this moment. All of them are spent.
+/// Works this number of turns at this moment. All of them are spent.
 pub(crate) fn work<J, R, A, E>(
     rt: R,
     alloc: A,
@@ -280,7 +281,7 @@ impl batch_processor::Clock for Minutes {
     }
 }
 
-/// What a processor comes to: its totals, and the names of dropped and of lost spans, the newest
+/// What is left of a processor: its totals, and the names of dropped and of lost spans, the newest
 /// one first.
 #[derive(Drop)]
 pub(crate) struct Left<A: Allocator = Global> {
@@ -305,7 +306,7 @@ pub(crate) fn close_out<J: Naming, R: Wait + Copy, A: Allocator + Copy>(
     processor.close_out(passes, worker)
 }
 
-/// What a processor comes to whose passes are all back.
+/// What is left of a processor whose passes are all back.
 pub(crate) fn close<J: Naming, R: Wait + Abort + Copy, A: Allocator + Copy>(
     rt: R,
     alloc: A,

@@ -19,9 +19,10 @@ use std::thread::{self, Threads};
 use std::time::{Clock, Duration};
 use trace_api::Ended;
 
-/// Two spans are taken, and the worker leaves after so many turns, twice. From then on it takes no
-/// step: a span that ends waits, though a batch would be due. So many times a lost span's name is
-/// popped. Answers what is left, the names that were popped, and how many attempts there were.
+/// Two spans are taken, and the worker leaves after this number of turns, twice. From then on it
+/// takes no step: a span that ends waits, though a batch would be due. A lost span's name is popped
+/// `pops` times. Answers what is left, the names that were popped, and how many attempts there
+/// were.
 fn leave_after<J, R>(
     rt: R,
     alloc: Global,
@@ -174,7 +175,7 @@ fn a_flush_that_waits_reports_that_the_worker_left(rt: HostRuntime) {
     assert_equal(&rt, left, 1);
 }
 
-/// A worker that is let go leaves: who asks after that isn't kept waiting.
+/// A worker that is dropped leaves: a flush or a shutdown after that doesn't wait.
 fn let_go<J, R>(rt: R, alloc: Global, blank: BatchBlank)
 where
     J: Naming,

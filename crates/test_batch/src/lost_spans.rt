@@ -1,5 +1,4 @@
-//! Batches that were handed over and came to nothing: which spans are named, why, and in which
-//! order.
+//! Batches that were handed over and not delivered: which spans are named, why, and in which order.
 ghost use Rattle.std.specs.Prelude.{◌≡◌};
 
 use crate::equal::{assert_equal, assert_equal_at};
@@ -22,7 +21,8 @@ const LATER: Outcome = Outcome::Later {
     after: None,
 };
 
-/// What is sent: so many spans, two in a batch, in so many turns, while the collector answers so.
+/// What is sent: a number of spans, two in a batch, in a number of turns, while the collector has
+/// these answers.
 #[derive(Clone, Copy)]
 struct Job<'a> {
     spans: u64,
@@ -30,7 +30,7 @@ struct Job<'a> {
     outcomes: &'a [Outcome],
 }
 
-/// Pops so many names of lost spans, or as many as there are.
+/// Pops this number of names of lost spans, or as many as there are.
 fn pop_all<J: Naming, R: Wait + Abort>(
     rt: &R,
     alloc: Global,

@@ -18,8 +18,8 @@ use std::sync::atomic::AtomicU64;
 use std::thread::Threads;
 use std::time::Clock;
 
-/// Asserts that each of so many spans, and one after the shutdown, was handed over, or dropped
-/// since the queue was full, or late, and that none is left.
+/// Asserts that each of this number of spans, and one after the shutdown, was handed over, or
+/// dropped since the queue was full, or late, and that none is left.
 fn assert_balanced(rt: &impl Abort, left: &Left, attempts: u64, ended: u64) {
     let (totals, named) = (left.totals, left.names.len() as u64);
     assert_equal(rt, (totals.closed, totals.late >= 1), (true, true));
@@ -43,7 +43,7 @@ fn assert_balanced(rt: &impl Abort, left: &Left, attempts: u64, ended: u64) {
     assert_equal(rt, counted.saturating_add(totals.late), all);
 }
 
-/// Does a task with so many passes, in which so many spans end, and one after the shutdown. Each
+/// Does a task with this number of passes and of spans that end, and one after the shutdown. Each
 /// was handed over, once, in a body, or dropped, or late. Answers how many were handed over, and
 /// how many were late.
 fn balance<J, R>(

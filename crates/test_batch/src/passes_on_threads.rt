@@ -27,10 +27,11 @@ pub(crate) const ASKING: u64 = 1;
 /// The other thread was answered.
 pub(crate) const ANSWERED: u64 = 2;
 
-/// How often one looks whether another thread has come so far. Then a test fails.
+/// How often a test looks whether another thread has come this far. Then it fails.
 pub(crate) const LOOKS: u32 = 1_000_000;
 
-/// Looks so often whether this stage is reached, and lets others go first at each thousandth look.
+/// Looks `looks` times whether this stage is reached, and lets others go first at each thousandth
+/// look.
 pub(crate) fn is_reached(rt: &impl Clock, stage: &AtomicU64, wanted: u64, looks: u32) -> bool {
     for look in 0..looks {
         if stage.load(Ordering::SeqCst) >= wanted {
@@ -43,10 +44,9 @@ pub(crate) fn is_reached(rt: &impl Clock, stage: &AtomicU64, wanted: u64, looks:
     false
 }
 
-/// A processor that is made with so many passes, holds so many spans in its queue at most, and
-/// sends batches of so many, whose bodies have at most so many bytes; what is done with its passes;
-/// and the turns of its worker, in which all is to be drained. One that finds nothing to do takes
-/// some milliseconds.
+/// How many passes a processor has, how many spans its queue and a batch have at most, and how many
+/// bytes a body has at most; what is done with its passes; and the turns of its worker, in which
+/// all is to be drained. One that finds nothing to do takes some milliseconds.
 #[derive(Clone, Copy)]
 pub(crate) struct Plan {
     pub(crate) passes: usize,
@@ -60,28 +60,29 @@ pub(crate) struct Plan {
 /// What is done with the passes of a processor, before it is shut down.
 #[derive(Clone, Copy)]
 pub(crate) enum Task {
-    /// A thread for each pass ends so many spans. Each is queued, or finds the queue full.
+    /// A thread for each pass ends this number of spans. Each is queued, or finds the queue full.
     EndMany(u64),
     /// The same, but the first pass shuts the processor down meanwhile, so that spans are late.
     EndLate(u64),
-    /// A thread for each pass but the first ends so many spans. Meanwhile the first one pops their
-    /// names: each of them is refused. All have room in the queue, and fill their batches.
+    /// A thread for each pass but the first ends this number of spans. Meanwhile the first one pops
+    /// their names: each of them is refused. All have room in the queue, and fill their batches.
     LoseMany(u64),
-    /// So many spans end on the first pass, each a millisecond or two after the one before is sent.
+    /// This number of spans ends on the first pass, each a millisecond or two after the one before
+    /// is sent.
     EndSpaced(u64),
     /// A span ends while another one is being sent.
     EndWhileSending,
     /// A flush on the first pass, which ended nothing, asks for a span that ended on the last one,
     /// and whose batch isn't full.
     Flush,
-    /// A flush asks for a span, which nobody sends until the worker leaves.
+    /// A flush asks for a span, which no thread sends until the worker leaves.
     FlushUntilItLeaves,
     /// A thread ends three spans on the first pass. After it the last pass shuts the processor
     /// down, and then a span is late.
     EndThree,
 }
 
-/// Ends so many spans on a pass.
+/// Ends this number of spans on a pass.
 fn end_spans<J: Naming, R: Wait + Abort + Copy>(
     rt: R,
     alloc: Global,
@@ -100,7 +101,7 @@ fn end_spans<J: Naming, R: Wait + Abort + Copy>(
     }
 }
 
-/// Pops the names of so many lost spans on a pass, as they come: each ticket once.
+/// Pops the names of this number of lost spans on a pass, as they come: each ticket once.
 fn pop_each<J: Naming, R: Wait + Abort + Clock>(
     rt: &R,
     alloc: Global,
@@ -124,7 +125,7 @@ fn pop_each<J: Naming, R: Wait + Abort + Clock>(
 }
 
 /// The first pass pops the names of lost spans, while each other one has a thread of its own, which
-/// ends so many.
+/// ends this number.
 fn lose_on_each<J, R>(rt: R, alloc: Global, passes: &mut [Pass<J, R>], spans: u64)
 where
     J: Naming + Send + Sync + 'static,
@@ -146,8 +147,8 @@ where
     );
 }
 
-/// Each pass has a thread of its own, which ends so many spans, but for the first one, where that
-/// is to shut the processor down.
+/// Each pass has a thread of its own, which ends this number of spans, but for the first one, where
+/// that is to shut the processor down.
 fn end_on_each<J, R>(rt: R, alloc: Global, passes: &mut [Pass<J, R>], spans: u64, shuts_down: bool)
 where
     J: Naming + Send + Sync + 'static,
@@ -178,8 +179,8 @@ fn has_moved(rt: &impl Clock, moment: &AtomicU64, was: u64) -> bool {
     false
 }
 
-/// Ends so many spans on a pass, each a while after the one before is sent, when the worker waits.
-/// The exporter is to set the moment of each after its end.
+/// Ends this number of spans on a pass, each a while after the one before is sent, when the worker
+/// waits. The exporter is to set the moment of each after its end.
 fn end_spaced<J: Naming, R: Wait + Abort + Clock + Copy>(
     rt: R,
     alloc: Global,
@@ -272,7 +273,7 @@ where
     passes
 }
 
-/// Works until all is drained, which takes no more than so many turns.
+/// Works until all is drained, which takes no more than this number of turns.
 fn drain<J, R, E>(rt: R, alloc: Global, worker: &mut WorkerPass<J, R>, exporter: &mut E, turns: u64)
 where
     J: Naming,

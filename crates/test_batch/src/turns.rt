@@ -166,9 +166,9 @@ fn assert_shown<J: Naming, R: Wait + Abort + Copy>(
     assert_equal(&rt, shown.as_str(), want);
 }
 
-/// A batch of one span is in hand after so many turns, while a pass is missing. What was to be
-/// closed out is let go. Answers the names that the missing pass finds: of dropped spans, and of
-/// lost ones.
+/// A batch of one span is in hand after this number of turns, while a pass is missing. What was to
+/// be closed out is dropped. Answers the names that the missing pass finds: of dropped spans, and
+/// of lost ones.
 fn let_go<J, R>(
     rt: R,
     alloc: Global,
@@ -212,8 +212,8 @@ fn what_was_handed_and_is_discarded_is_named_as_lost(rt: HostRuntime) {
     assert_equal(&rt, names, ([None, None], lost));
 }
 
-/// What is done: so many spans end in each of these schemas, and then the worker is called so
-/// often, for so many turns each time, while the collector answers so.
+/// What is done: a number of spans ends in each of these schemas, and then the worker is called a
+/// number of times, for a number of turns each time, while the collector has these answers.
 #[derive(Drop)]
 struct Job<'a> {
     config: BatchConfig,
@@ -291,7 +291,8 @@ fn run_job<R: Wait + Abort + time::Clock + Copy>(
     do_job::<Brand, R>(rt, alloc, BatchBlank::new(), job)
 }
 
-/// Sends 800 spans, three in a batch, in so many calls of the worker, for so many turns each time.
+/// Sends 800 spans, three in a batch, in this number of calls of the worker, for this number of
+/// turns each time.
 fn send_800<R: Wait + Abort + time::Clock + Copy>(
     rt: R,
     alloc: Global,
@@ -341,7 +342,7 @@ fn assert_sent(
     }
 }
 
-/// How a batch of two spans ends that is in hand after so many turns.
+/// How a batch of two spans that is in hand after this number of turns ends.
 #[test]
 fn a_batch_in_hand_is_abandoned(rt: HostRuntime) {
     for (turns, attempts, abandoned) in [(1, 0, 2), (2, 0, 2), (3, 1, 0), (4, 1, 0)] {

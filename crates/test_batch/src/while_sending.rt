@@ -1,4 +1,4 @@
-//! What another thread is answered while a batch is sent or dropped, and how soon one is sent.
+//! The answers to another thread while a batch is sent or dropped, and how soon one is sent.
 ghost use Rattle.std.specs.Prelude.{◌≡◌};
 
 use crate::equal::assert_equal;
@@ -17,8 +17,8 @@ use std::sync::atomic::{AtomicU64, Ordering};
 use std::thread::Threads;
 use std::time::Clock;
 
-/// An exporter that holds its reply until another thread was answered, or it has looked so often.
-/// It counts what it is handed, and at how much of it the thread was answered.
+/// An exporter that holds its reply until another thread was answered, or its looks are used up. It
+/// counts what it is handed, and at how much of it the thread was answered.
 #[derive(Drop)]
 struct Watching<'a, R: Clock> {
     rt: R,
@@ -61,8 +61,8 @@ fn plan(passes: usize, batch: usize, max_body: usize, task: Task) -> Plan {
     }
 }
 
-/// Carries a plan out. Answers how many batches were sent, at how many of them the exporter saw, in
-/// so many looks, that the other thread was answered, and how many spans were dropped.
+/// Carries a plan out. Answers how many batches were sent, at how many of them the exporter saw,
+/// within its looks, that the other thread was answered, and how many spans were dropped.
 fn watch<J, R>(
     rt: R,
     alloc: Global,
@@ -169,9 +169,9 @@ where
     (exporter.sent, exporter.quick)
 }
 
-/// The worker waits for five milliseconds where nobody wakes it. A span that ends a millisecond or
-/// two after the worker began to wait, and fills a batch, is sent long before that time is over, or
-/// mostly so on a busy machine.
+/// The worker waits for five milliseconds where no thread wakes it. A span that ends a millisecond
+/// or two after the worker began to wait, and fills a batch, is sent long before that time is over,
+/// or mostly so on a busy machine.
 #[test]
 fn a_batch_that_fills_wakes_the_worker(rt: HostRuntime) {
     let plan = plan(1, 1, DEFAULT_MAX_BODY, Task::EndSpaced(40));

@@ -58,8 +58,8 @@ pub(crate) fn sampled<A: Allocator + Copy>(rt: &impl Abort, alloc: A) -> Span<A>
     root(rt, alloc, AlwaysOn, "")
 }
 
-/// How a root is answered that ends on a pass, which this sampler decides on, of a resource with
-/// this schema.
+/// The answer to the end of a root on a pass, where this sampler decides on the root and its
+/// resource has this schema.
 pub(crate) fn end_in<S: Sampler + Drop, A: Allocator + Copy, P: EndPass<SpanData<A>>>(
     rt: &impl Abort,
     alloc: A,
@@ -70,7 +70,7 @@ pub(crate) fn end_in<S: Sampler + Drop, A: Allocator + Copy, P: EndPass<SpanData
     root(rt, alloc, sampler, schema).end(pass, END)
 }
 
-/// How a root is answered that is sampled and ends on a pass.
+/// The answer to the end of a sampled root on a pass.
 pub(crate) fn end<A: Allocator + Copy, P: EndPass<SpanData<A>>>(
     rt: &impl Abort,
     alloc: A,

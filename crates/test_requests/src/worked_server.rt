@@ -23,7 +23,7 @@ pub fn names()
     ensures no_original { original_method (codes "TRACE") ≡ None }
 {}
 
-/// What came of requests (Semantic Conventions, "HTTP spans", "Status").
+/// The results of requests (Semantic Conventions, "HTTP spans", "Status").
 pub fn endings()
     ensures good { ending_of 200 ≡ record { status = Some 200; error_type = None } }
     ensures of_the_client { ending_of 499 ≡ record { status = Some 499; error_type = None } }

@@ -4,7 +4,7 @@ use Rattle.std.specs.Prelude.{option_map}
 use denote.Ref.{Bor}
 use Rattle.text_words.specs.Words.{in_front, each_of}
 
--- the words behind references
+-- the words that references point to
 abbrev pub words_at : List (Bor (List ℕ)) → List (List ℕ)
 words_at words = map (λ w. w.now) words
 
@@ -16,7 +16,7 @@ behind front rest = option_map (λ ys. front ++ ys) rest
 abbrev pub rest_of : {Y : Type 0} → (List ℕ → Option Y) → List (Bor (List ℕ)) → ℕ → Option (List Y)
 rest_of read words i = each_of read (words_at (drop i words))
 
--- one more in front of what is still to be read
+-- One more item, appended to those that were read, comes before those that are still to be read.
 pub one_more : {Y : Type 0} (front : List Y) (y : Y) (rest : Option (List Y)) → behind (front ++ y ∷ []) rest ≡ behind front (in_front (Some y) rest)
 one_more front y None = refl
 one_more front y (Some ys) = ap Some (append_assoc front (y ∷ []) ys)

@@ -25,7 +25,7 @@ digits_are_ascii (c ∷ cs) h =
     let p = and_parts (is_ascii_digit c) (all_ascii_digits cs) h in
     IsAscii-cons c cs (small_digit c p.0) (digits_are_ascii cs p.1)
 
--- digits are text
+-- Decimal digits are UTF-8.
 pub digits_are_text : (w : List ℕ) → all_ascii_digits w ≡ true → IsUtf8 w
 digits_are_text w d = IsUtf8-from_ascii w (digits_are_ascii w d)
 
@@ -41,11 +41,11 @@ by_cases (c ∷ cs) (Err e) p d =
       | inr above ↦ rw (d, le-ltb (decimal_value (c ∷ cs)) (2 ^ 64) above) refl
     ]
 
--- what `parse` gives of digits
+-- `parse` gives of decimal digits the number that they write, where 64 bits hold it.
 pub number_parsed : {E : Type 0} (w : List ℕ) (r : Result ℕ E) → ParsesUnsigned 64 10 w r → all_ascii_digits w ≡ true → result_ok r ≡ number_below (2 ^ 64) w
 number_parsed w r h d = by_cases w r (parse_digits numerals 64 w r h d) d
 
--- a test of each byte is the test of all of them
+-- A test of each byte for being a digit is the test of all bytes together.
 pub all_digits : (w : List ℕ) → list_all is_ascii_digit w ≡ all_ascii_digits w
 all_digits [] = refl
 all_digits (c ∷ cs) = ap (λ b. is_ascii_digit c && b) (all_digits cs)

@@ -118,6 +118,7 @@ some_read : (c : ℕ) (cs t : List ℕ) → SpellsBytes (c ∷ cs) t → 0 < len
 some_read c cs [] h = cc
 some_read c cs (b ∷ bs) h = omega arith
 
+-- A word that is read as a text spells this text.
 pub text_spelled : (w t : List ℕ) → text_of w ≡ Some t → SpellsText w t
 unfolding text_of
 text_spelled [] t e = cc
@@ -142,6 +143,7 @@ text_bytes (c ∷ cs) t some e u = elim (cases_Bool (bytes_eq (c ∷ cs) (codes 
   | inr h ↦ rw h (ap (λ o. o >>= utf8_of) e ∙ rw (is_utf8-from_IsUtf8 t u) refl)
 ]
 
+-- A word that spells a text is read as this text.
 pub text_again : (w t : List ℕ) → SpellsText w t → text_of w ≡ Some t
 unfolding text_of
 text_again w t (inl p) = rw (p.0, p.1) refl

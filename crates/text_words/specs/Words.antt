@@ -40,7 +40,7 @@ signed_number (c ∷ cs) =
     if c == 45 then option_map (λ n. neg_ℤ (pos n)) (number_below (2 ^ 63 + 1) cs)
     else option_map pos (number_below (2 ^ 63) (c ∷ cs))
 
--- the bytes that hexadecimal digits of either case spell, two digits each, if they are so many
+-- the bytes that hexadecimal digits of either case spell, two digits each, if they are this many
 unfoldable pub hex_bytes : ℕ → List ℕ → Option (List ℕ)
 hex_bytes count word = result_ok (decode_sized word count)
 
@@ -125,6 +125,6 @@ abbrev pub SpellsText : List ℕ → List ℕ → Type 0
 SpellsText word text =
     ((word ≡ 37 ∷ []) × (text ≡ [])) ⊎ ((0 < length text) × SpellsBytes word text × IsUtf8 text)
 
--- a word stands for a text just where it spells it (profile)
+-- a word stands for a text exactly where it spells it (profile)
 abbrev pub TextsAreSpelled : Type 0
 TextsAreSpelled = (word text : List ℕ) → (text_of word ≡ Some text) ↔ SpellsText word text

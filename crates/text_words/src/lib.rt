@@ -216,9 +216,9 @@ pub fn text<A: Allocator>(alloc: A, word: &[u8]) -> Result<String<A>, WordFault>
     }
 }
 
-/// A word stands for a text just where it spells it: each byte of the text by itself, unless it is
-/// `%`, or by `%` and two hexadecimal digits, one byte after the other; and a text without bytes by
-/// `%` alone. (profile)
+/// A word stands for a text exactly where it spells it: each byte of the text by itself, unless it
+/// is `%`, or by `%` and two hexadecimal digits, one byte after the other; and a text without bytes
+/// by `%` alone. (profile)
 pub fn texts_are_spelled()
     ensures { TextsAreSpelled }
 {}

@@ -19,11 +19,12 @@ after-both a (suc b) s = rw add-suc (ap (λ t. (next_u64 t).1) (after-both a b s
 words-both : (a b : ℕ) (words : Words) → words_after b (words_after a words) ≡ words_after (a + b) words
 words-both a b words = fun_ext (λ k. ap words (let same : a + (b + k) ≡ a + b + k = omega arith in same))
 
+-- A random stream from which nothing was drawn has spent no words.
 pub none-spent : (s : Stream) → Spends (λ words. 0) s s
 unfolding after_words
 none-spent s = record { stream = refl; words = fun_ext (λ k. ap (words_of s) (sym (zero-add k))) }
 
--- a trace, and no identifier in it
+-- A start that drew a trace identifier but no span identifier has no identifiers.
 pub no-trace : (parent : Option Context) (s t : Stream) → None ≡ trace_of parent (words_of s) → Spends (trace_words parent) s t →
     (None ≡ ids_of parent (words_of s)) × Spends (ids_words parent) s t
 unfolding ids_of ids_words
@@ -32,7 +33,7 @@ no-trace parent s t e spent =
     let all : ids_words parent (words_of s) ≡ n = rw (← e) (add-zero n) in
     (rw (← e) refl, record { stream = spent.stream ∙ ap (λ k. after_words k s) (sym all); words = spent.words ∙ ap (λ k. words_after k (words_of s)) (sym all) })
 
--- what is drawn after a trace
+-- A span identifier that is drawn after a trace identifier completes the identifiers of the start.
 pub behind-trace : (parent : Option Context) (trace : List ℕ) (id : Option (List ℕ)) (s t u : Stream) → Some trace ≡ trace_of parent (words_of s) → Spends (trace_words parent) s t →
     id ≡ span_id (words_of t) → Spends (words_spent 1) t u →
     (option_map (λ i. record { trace = trace; span = i }) id ≡ ids_of parent (words_of s)) × Spends (ids_words parent) s u
@@ -50,20 +51,22 @@ behind-trace parent trace id s t u e spent f more =
 
 -- ---- the span that starts
 
+-- A start without identifiers starts no span.
 pub not-started : (tracer : Tracer) (a : StartRequest) (words : Words) → None ≡ ids_of a.parent words → started_span tracer a words ≡ None
 unfolding started_span
 not-started tracer a words e = rw (← e) refl
 
+-- A start with identifiers starts the span that the sampler's decision on its trace makes.
 pub has-started : (tracer : Tracer) (a : StartRequest) (words : Words) (ids : Ids) → Some ids ≡ ids_of a.parent words → started_span tracer a words ≡ Some (started_span_as tracer a ids (decision_of tracer a ids.trace))
 unfolding started_span
 has-started tracer a words ids e = rw (← e) refl
 
--- memory that starting takes, of the same start in other words
+-- Equal starts with equal decisions take memory alike.
 pub takes-memory : (tracer : Tracer) {a b : StartRequest} (ids : Ids) {d e : Decision} → a ≡ b → d ≡ e → StartTakesMemory (started_span_as tracer a ids d) → StartTakesMemory (started_span_as tracer b ids e)
 takes-memory tracer {a = a} ids {e = e} p q h =
     subst (λ x. StartTakesMemory (started_span_as tracer x ids e)) p (subst (λ y. StartTakesMemory (started_span_as tracer a ids y)) q h)
 
--- a refusal of memory where starting takes some
+-- A start that takes memory may answer that memory is missing.
 pub refused : (there : Option StartedSpan) (s : StartedSpan) (r : Result HeldSpan StartFault) → IsErrAnd r (λ fault. fault ≡ OutOfMemory) → there ≡ Some s → StartTakesMemory s → StartsAs there r
 refused there s (Ok span) h e t = absurd h
 refused there s (Err NoRandomness) h e t = cc

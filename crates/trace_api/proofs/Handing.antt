@@ -14,7 +14,7 @@ use Rattle.trace_api.specs.declared.pass.Ended.TheVariants as ends
 use Rattle.trace_api.specs.Endings.{Ending, ending_calls}
 use Rattle.trace_api.specs.Ends.{EndsAs, Handed, HandedBy}
 
--- none of these calls is an end
+-- None of the calls that describe the outcome of a request is an end.
 pub none-ends : (e : Ending) → list_any is_end (ending_calls e) ≡ false
 none-ends e = by e.status e.error_type
   where
@@ -58,7 +58,7 @@ handed {P = P} admits s calls at old new answer none x = by (is_recording s.deci
     by true f false g = rw (f, g) (x.not_sampled (open-state true f) (rw (none, f, g) refl)).untouched
     by false f b g = rw f (x.not_sampled (open-state false f) (rw (none, f) refl)).untouched
 
--- a span that is said more of, and then ends
+-- A span that gets further calls and then ends is handed to the pass with these and the end.
 pub ends-as : {P : Type 0} (admits : P → SpanData → Ended → P → Type 0) (more : List Call) (at : ℕ) (first said : HeldSpan) (old new : P) (answer : Ended) → list_any is_end more ≡ false
     → DoesAll more first said → EndFacts admits at said old answer new → EndsAs admits more at first old new
 ends-as admits more at first said old new answer none-more does x = record {

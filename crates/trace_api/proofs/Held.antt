@@ -44,6 +44,7 @@ does c x old new t = record {
       (t.value s calls (list_any is_end calls) (is_recording s.decision) refl refl (was ∙ state-is s calls (list_any is_end calls) (is_recording s.decision) refl refl));
 }
 
+-- A call that changes the record of a recording span is done on the held span.
 pub does-recorded : (c : Call) (x : Context) (old new : SpanRecord) → is_end c ≡ false → Adds c old new →
     Does c (record { context = x; state = recording old }) (record { context = x; state = recording new })
 does-recorded c x old new k a = does c x (recording old) (recording new) (record { value = by })
@@ -66,7 +67,7 @@ does-recorded c x old new k a = does c x (recording old) (recording new) (record
             ap (λ a. make a r.resource r.scope r.span) l ∙ ap (λ b. make t.limits b r.scope r.span) m
             ∙ ap (λ y. make t.limits t.resource y r.span) n ∙ ap (λ z. make t.limits t.resource t.scope z) o
 
--- where calls don't count
+-- A call other than an end leaves a span that records nothing as it is.
 pub does-nothing : (c : Call) (x : Context) (state : SpanState) → is_end c ≡ false → is_recording_state state ≡ false →
     Does c (record { context = x; state = state }) (record { context = x; state = state })
 does-nothing c x state k n = does c x state state (record { value = by state n })
@@ -80,6 +81,7 @@ does-nothing c x state k n = does c x state state (record { value = by state n }
     by ended n s calls false false e f h = cc
     by ended n s calls true d e f h = sym (state-is s (calls ++ c ∷ []) true d (any-more c calls true false e k) f)
 
+-- An end leaves a held span in the ended state.
 pub does-end : (at : ℕ) (x : Context) (state : SpanState) → Does (end at) (record { context = x; state = state }) (record { context = x; state = ended })
 does-end at x state = does (end at) x state ended (record { value = by })
   where
@@ -89,15 +91,17 @@ does-end at x state = does (end at) x state ended (record { value = by })
 
 -- ---- no call yet
 
+-- A span that its sampler dropped records nothing before its first call.
 pub held-dropped : (s : StartedSpan) → is_recording s.decision ≡ false → record { context = s.start.context; state = not_recording } ≡ held_span s []
 unfolding held_span
 held-dropped s e = rw e refl
 
+-- A span that its sampler records is recording before its first call.
 pub held-recorded : (s : StartedSpan) → is_recording s.decision ≡ true → record { context = s.start.context; state = recording (recorded s []) } ≡ held_span s []
 unfolding held_span
 held-recorded s e = rw e refl
 
--- a name counts only where the span is recorded
+-- The name of a span that isn't recorded makes no difference to the held span.
 pub held-as-named : (tracer : Tracer) (parent : Option Context) (kept name : List ℕ) (kind : Kind) (at : ℕ) (ids : Ids) (d : Decision) → (is_recording d ≡ true → kept ≡ name) →
     held_span (started_span_as tracer (record { parent = parent; name = kept; kind = kind; at = at }) ids d) []
     ≡ held_span (started_span_as tracer (record { parent = parent; name = name; kind = kind; at = at }) ids d) []
@@ -111,12 +115,14 @@ held-as-named tracer parent kept name kind at ids d h = by (is_recording d) refl
     by true e = ap (λ n. held_span (named n) []) (h e)
     by false e = sym (held-dropped (named kept) e) ∙ held-dropped (named name) e
 
+-- The record of a span without calls has the span's own limits, resource, scope and start.
 pub recorded-is : (limits : SpanLimits) (resource : Resource) (scope : Scope) (start : Start) (s : StartedSpan) → limits ≡ s.limits → resource ≡ s.resource → scope ≡ s.scope → start ≡ s.start →
     record { limits = limits; resource = resource; scope = scope; span = span limits start [] } ≡ recorded s []
 recorded-is limits resource scope start s l r c t = rw (l, r, c, t) refl
 
 -- ---- a span's state in the code
 
+-- A state of the code that isn't `Recording` records nothing in the model.
 pub not-recorded : {A : Type 0} (state : State A) → ((r : SpanRecord) → state ≡ states.Recording r → ⊥) → is_recording_state (state_view state) ≡ false
 not-recorded (states.Recording r) h = absurd (h r refl)
 not-recorded states.NotRecording h = refl

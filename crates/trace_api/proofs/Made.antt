@@ -26,6 +26,7 @@ same-state s calls c false true e f k n = absurd (no-true (sym (recorded s calls
     no-true h = cc
 same-state s calls c false false e f k n = rw (any-more c calls false e k, e, f) refl
 
+-- A call other than an end leaves a held span that records nothing as it is.
 pub does-nothing : (c : Call) (h : HeldSpan) → is_end c ≡ false → is_recording_state h.state ≡ false → Does c h h
 unfolding held_span
 does-nothing c h k n = record {
@@ -43,17 +44,18 @@ append-nothing : {A : Type 0} (xs : List A) → xs ++ [] ≡ xs
 append-nothing [] = refl
 append-nothing (x ∷ xs) = ap (λ ys. x ∷ ys) (append-nothing xs)
 
+-- A held span on which no call is made stays as it is.
 pub does-none : (h : HeldSpan) → DoesAll [] h h
 does-none h = record { context = refl; value = λ s calls e. e ∙ ap (held_span s) (sym (append-nothing calls)) }
 
--- some, and then others
+-- The calls of two lists, made one list after the other, are the calls of the joined list.
 pub does-both : (xs ys : List Call) (a b c : HeldSpan) → DoesAll xs a b → DoesAll ys b c → DoesAll (xs ++ ys) a c
 does-both xs ys a b c f g = record {
   context = g.context ∙ f.context;
   value = λ s calls e. g.value s (calls ++ xs) (f.value s calls e) ∙ ap (held_span s) (append_assoc calls xs ys);
 }
 
--- some, and then one
+-- The calls of a list and one call after them are the calls of the longer list.
 pub does-one-more : (xs : List Call) (call : Call) (a b c : HeldSpan) → DoesAll xs a b → Does call b c → DoesAll (xs ++ call ∷ []) a c
 does-one-more xs call a b c f g = does-both xs (call ∷ []) a b c f (record { context = g.context; value = g.value })
 
@@ -68,12 +70,13 @@ next-call f g xs i d h =
     ap (λ n. take n calls) (add-one i) ∙ take-suc calls i (f (g d)) outer
     ∙ ap (λ c. take i calls ++ c ∷ []) (get_or-map f (map g xs) i (g d) (f (g d)) inner ∙ ap f (get_or-map g xs i d (g d) h))
 
--- the call of the item at an index
+-- After the call for the item at an index, the calls for one more item are made.
 pub makes-at : {X Y : Type 0} (f : Y → Call) (g : X → Y) (xs : List X) (i : ℕ) (d : X) (a b c : HeldSpan) → i < length xs →
     DoesAll (take i (map f (map g xs))) a b → Does (f (g (get_or xs i d))) b c → DoesAll (take (i + 1) (map f (map g xs))) a c
 makes-at f g xs i d a b c h all one =
     subst (λ more. DoesAll more a c) (sym (next-call f g xs i d h)) (does-one-more (take i (map f (map g xs))) (f (g (get_or xs i d))) a b c all one)
 
+-- After the call for the next item of a loop, the calls for one more item are made.
 pub makes-next : {X Y : Type 0} (f : Y → Call) (g : X → Y) (xs : List X) (i : ℕ) (x : X) (a b c : HeldSpan) → i < length xs → x ≡ get_or xs i x →
     DoesAll (take i (map f (map g xs))) a b → Does (f (g x)) b c → DoesAll (take (i + 1) (map f (map g xs))) a c
 makes-next f g xs i x a b c h e all one = makes-at f g xs i x a b c h all (subst (λ y. Does (f (g y)) b c) e one)
@@ -81,10 +84,12 @@ makes-next f g xs i x a b c h e all one = makes-at f g xs i x a b c h all (subst
 same-length : {X Y : Type 0} (f : Y → Call) (g : X → Y) (xs : List X) → length xs ≡ length (map f (map g xs))
 same-length f g xs = sym (length-map (map g xs) f ∙ length-map xs g)
 
+-- Once the index reaches the length of the list, the calls for all its items are made.
 pub makes-all : {X Y : Type 0} (f : Y → Call) (g : X → Y) (xs : List X) (i : ℕ) (a b : HeldSpan) → length xs ≤ i →
     DoesAll (take i (map f (map g xs))) a b → DoesAll (map f (map g xs)) a b
 makes-all f g xs i a b h all = subst (λ more. DoesAll more a b) (take_all i (map f (map g xs)) (subst (λ n. n ≤ i) (same-length f g xs) h)) all
 
+-- A loop that stops at an index has made only the first calls.
 pub makes-first : {X Y : Type 0} (f : Y → Call) (g : X → Y) (xs : List X) (i : ℕ) (a b c : HeldSpan) → i < length xs →
     DoesAll (take i (map f (map g xs))) a b → c ≡ b → DoesFirst (map f (map g xs)) a c
 makes-first f g xs i a b c h all same = record {
@@ -101,11 +106,13 @@ counted-before a b same counts = by (is_recording_state a.state) refl
     by true e = e
     by false e = ap (λ (h : HeldSpan). is_recording_state h.state) (sym (same e)) ∙ counts
 
+-- Two steps in a row leave a span that isn't recording as it is, if each of them does.
 pub ignored-next : (a b c : HeldSpan) → IgnoredUnlessRecording a b → IgnoredUnlessRecording b c → IgnoredUnlessRecording a c
 ignored-next a b c f g e = g (ap (λ (h : HeldSpan). is_recording_state h.state) (f e) ∙ e) ∙ f e
 
 -- ---- answers
 
+-- A fact that holds anyway holds in the case of an error.
 pub on-err : {T E P : Type 0} (r : Result T E) → P → OnErr r P
 on-err (Ok x) h = tt
 on-err (Err e) h = h

@@ -24,7 +24,7 @@ records s h e counts = by (is_recording s.decision) refl
         let off : is_recording_state (state_after s []) ≡ false = rw f refl in
         f ∙ (sym off ∙ on)
 
--- no span, for the reason of the start
+-- A start with calls gives no span where the start alone gives none, for the same reason.
 pub as-not-started : (there : Option StartedSpan) (calls : List Call) (r : Result HeldSpan StartFault) (fault : StartFault) → IsErrAnd r (λ f. f ≡ fault) → StartsAs there (Err fault) → StartsWith there calls r
 as-not-started there calls (Ok span) fault h is = absurd h
 as-not-started there calls (Err NoRandomness) NoRandomness h is = is
@@ -32,12 +32,12 @@ as-not-started there calls (Err OutOfMemory) OutOfMemory h is = is
 as-not-started there calls (Err NoRandomness) OutOfMemory h is = cc
 as-not-started there calls (Err OutOfMemory) NoRandomness h is = cc
 
--- memory that was refused to a call that counts
+-- A start with calls may lack memory where the started span records its calls.
 pub as-refused : (there : Option StartedSpan) (calls : List Call) (r : Result HeldSpan StartFault) (h : HeldSpan) → IsErrAnd r (λ f. f ≡ OutOfMemory) → StartsAs there (Ok h) → is_recording_state h.state ≡ true → StartsWith there calls r
 as-refused there calls (Ok span) h e is counts = absurd e
 as-refused there calls (Err NoRandomness) h e is counts = cc
 as-refused there calls (Err OutOfMemory) h e is counts = (is.0, is.1, inl (records is.0 h is.2 counts))
 
--- the span after the calls of two lists
+-- A span that starts and then gets the calls of two lists is the start with all these calls.
 pub as-called : (there : Option StartedSpan) (xs ys : List Call) (a b c : HeldSpan) → StartsAs there (Ok a) → DoesAll xs a b → DoesAll ys b c → StartsWith there (xs ++ ys) (Ok c)
 as-called there xs ys a b c is f g = (is.0, is.1, (does-both xs ys a b c f g).value is.0 [] is.2)

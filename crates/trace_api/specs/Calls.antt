@@ -1,4 +1,4 @@
--- What calls on a span come to.
+-- What calls on a span do.
 use Rattle.std.specs.Prelude.{◌≡◌, ℕ, Bool, ◌&&◌, IsTrue, Option, Some, None, Result, Ok, Err}
 use Rattle.model_span.specs.Spans.{SpanData, SpanRecord, Ends}
 use Rattle.model_span.specs.Identifiers.{has_sampled_flag}

@@ -1,7 +1,7 @@
 //! Spans as a program makes them (OpenTelemetry Trace API): a provider gives tracers, a tracer
 //! starts spans, and an ended span goes to a pass.
 //!
-//! Spans said shortly: an extension trait over [`Span`](crate::Span), whose calls copy names,
+//! Short calls on spans: an extension trait over [`Span`](crate::Span), whose calls copy names,
 //! keys and texts that are lent to them.
 //!
 //! Each call means what calls of the Trace API mean that hand over copies.

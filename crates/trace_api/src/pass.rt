@@ -61,7 +61,7 @@ impl<A: Allocator> Model for BodyPass<A> {
 }
 
 impl<A: Allocator> BodyPass<A> {
-    /// Keeps no span yet, and has room for so many. Where this is none, it takes no memory.
+    /// Keeps no span yet, and has room for `room` spans. Where this is 0, it takes no memory.
     ///
     /// # Errors
     ///

@@ -49,7 +49,7 @@ impl From<OutOfMemory> for StartFault {
     }
 }
 
-/// What the spans of a program have in common: who decides on them, what makes them, and how much
+/// What the spans of a program have in common: what samples them, what makes them, and how much
 /// they keep (Trace API, "TracerProvider").
 #[derive(Drop)]
 #[derive_where(Debug; S)]

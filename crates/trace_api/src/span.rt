@@ -32,8 +32,8 @@ enum State<A: Allocator> {
 }
 
 /// A span that has started (Trace API, "Span"). Calls on it count until its first end. On a span
-/// that its sampler dropped none does. A span that is let go without an end goes to no pass: unlike
-/// in opentelemetry-rust, nothing ends it.
+/// that its sampler dropped none does. A span that is dropped without an end goes to no pass:
+/// unlike in opentelemetry-rust, nothing ends it.
 #[derive(Drop)]
 #[derive_where(Debug)]
 pub struct Span<A: Allocator = Global> {

@@ -5,6 +5,7 @@ use Rattle.trace_context.specs.Outgoing.{traceparent_text}
 use Rattle.trace_context.specs.Tracestate.{tracestate}
 use Rattle.trace_context.specs.Carriers.{Field, outgoing, state_fields}
 
+-- The `traceparent` of a valid context and then its state fields are its outgoing fields.
 pub added : (c : Context) (old mid new : List Field) (text state : List ℕ) → is_valid c ≡ true
     → text ≡ traceparent_text c → state ≡ tracestate (c.state ∷ [])
     → mid ≡ old ++ (codes "traceparent", text) ∷ [] → new ≡ mid ++ state_fields state → new ≡ old ++ outgoing c

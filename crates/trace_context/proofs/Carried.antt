@@ -36,6 +36,7 @@ goes_out : (c : Context) → IsTrue (is_valid c) → tracestate (c.state ∷ [])
 unfolding outgoing
 goes_out c valid same = rw (valid, same) refl
 
+-- A valid context with a well-formed state is read back from its outgoing fields.
 pub contexts_read_back : (c : Context) → HasSizes c → IsTrue (is_valid c) → tracestate (c.state ∷ []) ≡ c.state
     → extracted (outgoing c) ≡ Some (record (as_read c) { state = c.state })
 contexts_read_back c sizes valid same =

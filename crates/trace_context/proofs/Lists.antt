@@ -7,7 +7,7 @@ use Rattle.std.proofs.lemmas.Grind.{flat_map-append}
 abbrev pub nows : List (Bor (List ℕ)) → List (List ℕ)
 nows xs = map (λ x. x.now) xs
 
--- what is made of one item more
+-- The list made of one more item is the list so far and what is made of this item.
 pub flat_more : {X Y : Type 0} (f : X → List Y) (xs : List X) (i : ℕ) (d : X) → i < length xs
     → flat_map f (take (i + 1) xs) ≡ flat_map f (take i xs) ++ f (get_or xs i d)
 flat_more f xs i d inside =
@@ -15,7 +15,7 @@ flat_more f xs i d inside =
     ∙ flat_map-append f (take i xs) (get_or xs i d ∷ [])
     ∙ ap (λ last. flat_map f (take i xs) ++ last) (append-nil (f (get_or xs i d)))
 
--- the same of items that are lent
+-- The list made of one more lent item is the list so far and what is made of this item.
 pub nows_more : {Y : Type 0} (f : List ℕ → List Y) (xs : List (Bor (List ℕ))) (i : ℕ) (d : Bor (List ℕ)) → i < length xs
     → flat_map f (nows (take (i + 1) xs)) ≡ flat_map f (nows (take i xs)) ++ f (get_or xs i d).now
 nows_more f xs i d inside =

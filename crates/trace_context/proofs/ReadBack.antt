@@ -148,6 +148,7 @@ flags_spelled flags =
 kept_twice : (flags : ℕ) → kept_flags (kept_flags flags) ≡ kept_flags flags
 kept_twice flags = omega arith
 
+-- A valid context is read back from the text of its `traceparent`, except for its state.
 pub read_back : (c : Context) → HasSizes c → IsTrue (is_valid c) → traceparent (traceparent_text c) ≡ Some (as_read c)
 unfolding traceparent_text
 read_back c sizes valid =

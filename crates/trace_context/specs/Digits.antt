@@ -8,7 +8,7 @@ use Rattle.hex.specs.Hex.{decode_sized}
 unfoldable pub is_lower_digit : ℕ → Bool
 is_lower_digit b = (nat_le 48 b && nat_le b 57) || (nat_le 97 b && nat_le b 102)
 
--- the bytes that such digits spell, two digits each, if they are so many
+-- the bytes that such digits spell, two digits each, if there are this many bytes
 unfoldable pub lower_bytes : ℕ → List ℕ → Option (List ℕ)
 lower_bytes count text =
     if list_all is_lower_digit text then result_ok (decode_sized text count) else None

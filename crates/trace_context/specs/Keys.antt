@@ -19,7 +19,7 @@ is_digit b = nat_le 48 b && nat_le b 57
 unfoldable pub is_key_byte : ℕ → Bool
 is_key_byte b = is_lower_letter b || is_digit b || b == 95 || b == 45 || b == 42 || b == 47
 
--- a letter, and up to so many bytes after it
+-- a letter, and up to this many bytes after it
 unfoldable pub is_name : ℕ → List ℕ → Bool
 is_name most [] = false
 is_name most (b ∷ bytes) =

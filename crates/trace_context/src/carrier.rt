@@ -21,8 +21,8 @@ pub const TRACEPARENT: &str = "traceparent";
 /// The field that carries the trace state (W3C Trace Context, "Tracestate Header").
 pub const TRACESTATE: &str = "tracestate";
 
-/// The names of the fields that [`inject`] adds: who uses a carrier again takes them out before
-/// (OpenTelemetry Specification, "Propagators API", "Fields").
+/// The names of the fields that [`inject`] adds: a program that uses a carrier again takes them out
+/// before (OpenTelemetry Specification, "Propagators API", "Fields").
 pub fn fields() -> [&'static str; 2]
     ensures { map (λ name. name.now) result
         ≡ codes "traceparent" ∷ codes "tracestate" ∷ [] }

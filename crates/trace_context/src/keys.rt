@@ -40,7 +40,7 @@ fn are_key_bytes(bytes: &[u8]) -> bool
     bytes.iter().all(|byte| is_key_byte(*byte))
 }
 
-/// Whether these are a letter, and up to so many bytes of a key after it.
+/// Whether these are a letter, and up to this many bytes of a key after it.
 #[tactic(auto, unfolding(crate::specs::Keys::is_name))]
 fn is_name(most: usize, text: &[u8]) -> bool
     ensures { result ≡ spec.is_name most text.now }

@@ -10,7 +10,7 @@ use Rattle.program_args.specs.declared.fault.ArgFault.TheVariants as faults
 use Rattle.trace_demo.specs.Args.{IsInRange}
 use Rattle.trace_demo.specs.Command.{HaveLargeBatch, IsCause, batch_in, command, queue_in}
 
--- a fault of the command line alone is one of the program
+-- A fault of the command line alone is a fault of the program.
 pub cause-of : {A T : Type 0} (words : List (String A)) (r : Result T ArgFault) → IfErr r (given.IsCause command words) → IfErr r (IsCause words)
 cause-of words (Ok value) cause = tt
 cause-of words (Err (faults.Help text)) cause = cause
@@ -18,15 +18,14 @@ cause-of words (Err (faults.Version text)) cause = cause
 cause-of words (Err (faults.Mistake text)) cause = inl cause
 cause-of words (Err faults.OutOfMemory) cause = tt
 
--- and so is that of a batch that is too large
+-- A mistake where the batch is above the queue is a fault of the program.
 pub cause-of-batch : {A : Type 0} (words : List (String A)) (fault : ArgFault) → IsMistake fault → HaveLargeBatch words → IsCause words fault
 cause-of-batch words (faults.Help text) mistake large = absurd mistake
 cause-of-batch words (faults.Version text) mistake large = absurd mistake
 cause-of-batch words (faults.Mistake text) mistake large = inr large
 cause-of-batch words faults.OutOfMemory mistake large = tt
 
--- numbers that are within their bounds, and for which there are no arguments: the batch is too
--- large
+-- Numbers that are each within their bounds, and refused together, have a batch above the queue.
 pub large-batch : {A : Type 0} (words : List (String A)) (threads spans queue batch : ℕ) → ¬ IsInRange threads spans queue batch → IsTaken command words
     → threads ≡ number_in command (codes "threads") 4 words → spans ≡ number_in command (codes "spans") 1000 words → queue ≡ queue_in words → batch ≡ batch_in words
     → IsWithin 1 63 (number_in command (codes "threads") 4 words) → IsWithin 1 1_000_000 (number_in command (codes "spans") 1000 words) → IsWithin 1 65_536 (queue_in words) → IsWithin 1 65_536 (batch_in words) → HaveLargeBatch words

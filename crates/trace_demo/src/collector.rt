@@ -123,8 +123,8 @@ fn serve(alloc: Global, stream: &TcpStream, canned: Option<Canned>) -> Option<Se
     Some(Served::Request(answered))
 }
 
-/// The reply to the good body with this number, from 0 on: 200, 502, 429, 200 over and over. Who is
-/// to try again may do so at once.
+/// The reply to the good body with this number, from 0 on: 200, 502, 429, 200 over and over. A
+/// client that is to try again may do so at once.
 fn reply_of(turn: u64) -> Option<Canned> {
     let status = match turn % 4 {
         1 => CannedStatus::BadGateway,

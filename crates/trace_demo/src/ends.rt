@@ -12,8 +12,8 @@ use std::sync::Arc;
 use std::time;
 use trace_api::{EndPass, Ended, Provider, Tracer};
 
-/// Ends so many spans on each thread. The generator of the first one begins with this seed, that of
-/// each further one with one more, modulo 2^64.
+/// Ends this number of spans on each thread. The generator of the first one begins with this seed,
+/// that of each further one with one more, modulo 2^64.
 #[derive(Drop)]
 pub(crate) struct Ends<R> {
     pub(crate) rt: R,
@@ -27,7 +27,7 @@ impl<R: time::Clock + Copy> Work for Ends<R> {
     type Output = Option<u64>;
 
     /// Ends the spans, of a provider and a generator of their own. The names of those that are
-    /// dropped are let go, on this thread too.
+    /// dropped are freed, on this thread too.
     fn work<P: ServicePass>(&self, thread: usize, pass: &mut P) -> Option<u64> {
         let seed = self.seed.wrapping_add(thread as u64);
         let clock = SystemClock::new(self.rt);
@@ -47,8 +47,8 @@ pub(crate) fn ended_on_all(outputs: &[Option<u64>]) -> Option<u64> {
     Some(all)
 }
 
-/// Ends so many spans of a provider and a generator of their own: how many were queued or dropped.
-/// `None` where memory was refused.
+/// Ends this number of spans of a provider and a generator of their own: how many were queued or
+/// dropped. `None` where memory was refused.
 fn end_spans<P: EndPass<SpanData>>(
     alloc: Global,
     clock: &impl Clock,

@@ -103,7 +103,7 @@ where
     Some(Sums::new(ended, taken, served.desk.totals(), collected))
 }
 
-/// What the threads ended, and what the service came to that posted it.
+/// What the threads ended, and the end of the service that posted it.
 type Traced<R> = Done<Option<u64>, Tally<R>, NewestNames>;
 
 /// Ends the spans on threads of a service that posts to the collector at this port, and counts

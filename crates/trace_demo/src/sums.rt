@@ -11,11 +11,11 @@ use std::io::Write;
 /// lost, or of batches that were taken in part.
 #[derive(Debug, Clone, Copy, PartialEq, Eq)]
 pub(crate) struct Sums {
-    /// How many ends were answered that they were queued or dropped.
+    /// How many ends had the answer that the span was queued or dropped.
     pub(crate) ended: u64,
     /// How many were in batches that were taken whole, as the replies say.
     pub(crate) delivered: u64,
-    /// How many are lost: their batch was handed to the exporter, and came to nothing.
+    /// How many are lost: their batch was handed to the exporter, and not delivered.
     pub(crate) lost: u64,
     /// How many were in batches of which the collector rejected some spans: no reply says which.
     pub(crate) partial: u64,

@@ -1,4 +1,4 @@
-//! What is answered to a step.
+//! The answer to a step.
 
 use otlp_ids::{SpanId, TraceId};
 use otlp_span::Reason;
@@ -61,7 +61,7 @@ pub enum Answer {
         batch: u64,
         /// Which attempt of the batch it was, from 1 on.
         attempt: u32,
-        /// What came of it.
+        /// Its outcome.
         outcome: Outcome,
     },
     /// To an attempt: its moment comes before the one from which the batch is to be sent again.

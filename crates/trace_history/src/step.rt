@@ -10,8 +10,8 @@ use std::alloc::{Allocator, Global};
 pub enum Parent<A: Allocator = Global> {
     /// None: the span is the root of a trace.
     Root,
-    /// The span with this number, counted from 0 by the starts so far. It need not be there: that
-    /// is for whoever runs the steps to say.
+    /// The span with this number, counted from 0 by the starts so far. It need not be there: the
+    /// code that runs the steps says whether it is.
     Span(u32),
     /// A span of elsewhere: of another process where the context is remote. The context may be
     /// invalid.
@@ -61,7 +61,7 @@ pub enum Step<A: Allocator = Global> {
         /// When.
         at: u64,
     },
-    /// Judges what came of the attempt.
+    /// Judges the outcome of the attempt.
     Reply {
         /// When.
         at: u64,

@@ -1,6 +1,6 @@
 //! Spans as a program makes them (OpenTelemetry Trace API; Trace SDK, "Span Limits", "Sampling"): a
 //! [`Provider`] gives tracers, a [`Tracer`] starts spans, and the end of a [`Span`] hands it to an
-//! [`EndPass`]. With [`start_span`] and [`SpanExt`] the same is said shortly: names, keys and
+//! [`EndPass`]. With [`start_span`] and [`SpanExt`] the same takes fewer words: names, keys and
 //! values are lent and copied.
 pub use otlp_ids::{IdFault, OutOfMemory, SpanContext, SpanId, TraceFlags, TraceId};
 pub use otlp_sampler::{AlwaysOff, AlwaysOn, Decision, ParentBased, RatioFault, Sampler, TraceIdRatio};

@@ -1,4 +1,4 @@
--- One more step of a run at its queue: where it comes after it.
+-- One more step of a run at its queue: its state after the step.
 use Rattle.std.proofs.Common.{◌≡◌, refl, sym, ap, subst, ◌∙◌, ℕ, ◌+◌, ◌<◌, ◌≤◌, arith, List, [], ◌∷◌, ◌++◌, length, Bool, true, false, ◌||◌, ◌⊎◌, Option, Some, None, inl, inr}
 use Rattle.std.specs.Prelude.{if◌then◌else◌}
 use Rattle.std.proofs.lemmas.Bool.{ne_eqb, lt-ltb, le-ltb, le-leb, lt-leb}
@@ -56,6 +56,7 @@ abbrev pub attempts_in : Option headline.PendingBatch → ℕ
 attempts_in None = 0
 attempts_in (Some b) = b.attempts
 
+-- The batch that the model shows as out has the progress of the history.
 pub progress-is : (p : Progress) (spans : List SpanData) (number attempts : ℕ) (o : Option headline.PendingBatch) → o ≡ pending_as p spans number attempts → progress_in o ≡ p
 progress-is model.not_out spans number attempts o e = ap progress_in e
 progress-is model.to_encode spans number attempts o e = ap progress_in e
@@ -69,6 +70,7 @@ pub record Shows (b : headline.PendingBatch) (p : Progress) (es : List SpanData)
   pub spans : b.spans ≡ es
   pub attempts : b.attempts ≡ k
 
+-- A batch that the model shows as out has the progress, number, spans and attempts of the history.
 pub shows : (b : headline.PendingBatch) (p : Progress) (spans : List SpanData) (number attempts : ℕ) → Some b ≡ pending_as p spans number attempts → Shows b p spans number attempts
 shows b model.not_out spans number attempts e = cc
 shows b model.to_encode spans number attempts e = record { stage = ap progress_in e; number = ap number_in e; spans = ap spans_in e; attempts = ap attempts_in e }
@@ -76,14 +78,14 @@ shows b model.to_send spans number attempts e = record { stage = ap progress_in 
 shows b (model.to_judge outcome) spans number attempts e = record { stage = ap progress_in e; number = ap number_in e; spans = ap spans_in e; attempts = ap attempts_in e }
 shows b (model.to_retry moment) spans number attempts e = record { stage = ap progress_in e; number = ap number_in e; spans = ap spans_in e; attempts = ap attempts_in e }
 
--- what ends a batch is no retry
+-- A reply that ends a batch leaves none out.
 ends-batch : (number : ℕ) (next : Next) (fate : Fate) → fate_of next ≡ Some fate → progress_by (runs.replied number next) ≡ Some model.not_out
 ends-batch number retries.done fate e = refl
 ends-batch number (retries.Next.partial rejected) fate e = refl
 ends-batch number (retries.again moment) fate e = cc
 ends-batch number (retries.give_up cause) fate e = refl
 
--- the number that the desk knows
+-- the number of the desk's batch that is out
 abbrev number_out : Option OutBatch → ℕ
 number_out None = 0
 number_out (Some b) = b.number
@@ -112,12 +114,13 @@ module _ {S R : Type 0} (meaning : S → SamplerMeaning) (stream : R → Stream)
   unfolding desk_of
   number-is = ap (λ d. d.batches) at.history.is
 
-  -- a step that changes nothing
+  -- A step that changes nothing leaves a run's state as its steps mean.
   idle-on : (x : Answered) → IsQuiet x.answer x.step → Rattle.model_run.specs.History.span_step (is_refused x.answer) x.step ≡ None → is_shutdown x.step ≡ false → IsAnswer run h x → Stands meaning stream run (h ++ x ∷ []) table desk out
   idle-on x q e f right = quiet-on meaning stream run h table desk out at x table q (same-spans x e) (ended-none run.setup h x e) f no-more right
 
   -- ---- flush and shutdown
 
+  -- A run's state is still what its steps mean after a flush.
   pub flush-on : (desk2 : Desk) → desk2 ≡ record desk { asked = accepted_count desk } → Does queue.flush desk desk2 → Stands meaning stream run (h ++ record { step = flush; answer = runs.Answer.flush } ∷ []) table desk2 out
   flush-on desk2 is does =
       let x : Answered = record { step = flush; answer = runs.Answer.flush } in
@@ -127,6 +130,7 @@ module _ {S R : Type 0} (meaning : S → SamplerMeaning) (stream : R → Stream)
       (out-stays meaning stream run h table desk out at x (events ++ queue.flush ∷ []) refl (events-more run.setup h x (Some queue.flush) refl) (last-kept events queue.flush refl refl) (ap length (sizes-kept events queue.flush refl)))
       (record { given = record { refused = false; outcome = delivered }; is = refl })
 
+  -- A run's state is still what its steps mean after a shutdown.
   pub shutdown-on : (desk2 : Desk) → desk2 ≡ record desk { asked = accepted_count desk; closed = true } → Does queue.shutdown desk desk2 → Stands meaning stream run (h ++ record { step = shutdown; answer = runs.Answer.shutdown } ∷ []) table desk2 out
   shutdown-on desk2 is does =
       let x : Answered = record { step = shutdown; answer = runs.Answer.shutdown } in
@@ -163,6 +167,7 @@ module _ {S R : Type 0} (meaning : S → SamplerMeaning) (stream : R → Stream)
       idle-on (record { step = take now; answer = runs.not_taken }) (record { event = λ setup h. refl; stage = refl; attempt = refl }) refl refl
       (record { given = record { refused = false; outcome = delivered }; is = right ∙ ap (λ d. take_answer d now) (desk-is meaning stream run h table desk out at) })
 
+  -- A run's state is still what its steps mean after a take, with a batch or without one.
   pub take-on : (now : ℕ) (answer : CodeAnswer) (desk2 : Desk) (out2 : Option Out) → answer_view answer ≡ take_answer desk now → Takes now answer desk out desk2 out2
       → Stands meaning stream run (h ++ record { step = take now; answer = answer_view answer } ∷ []) table desk2 out2
   take-on now (answers.Taken number count) desk2 out2 right t = taken-on now number count desk2 out2 right t
@@ -195,7 +200,7 @@ module _ {S R : Type 0} (meaning : S → SamplerMeaning) (stream : R → Stream)
   number-of : (o : Out) → out ≡ Some o → o.batch.number ≡ (desk_after run h).batches
   number-of o e = let sh = out-shows o e in sh.number ∙ sym number-is ∙ ap (λ k. k.batches) (desk-is meaning stream run h table desk out at)
 
-  -- nothing is done where the batch is elsewhere, or none is out
+  -- A step for no batch that is out leaves a run's state as its steps mean.
   nothing-on : (step : Step) (answer : CodeAnswer) (desk2 : Desk) (out2 : Option Out) → IsIdle out answer out2 → desk2 ≡ desk → is_shutdown step ≡ false
       → ((refused : Bool) → Rattle.model_run.specs.History.span_step refused step ≡ None) → IsAnswer run h (record { step = step; answer = runs.nothing })
       → Stands meaning stream run (h ++ record { step = step; answer = answer_view answer } ∷ []) table desk2 out2
@@ -228,7 +233,7 @@ module _ {S R : Type 0} (meaning : S → SamplerMeaning) (stream : R → Stream)
             ∙ ap (encode_answer run h (desk_after run h) false) (sym p);
       }))
 
-  -- why it is dropped
+  -- A drop for want of memory, or of a body that is too large, is the right answer.
   lacks-answer : (o : Out) → out ≡ Some o → o.stage ≡ to_encode → (reason : Reason) → LacksBody run.max_body o.batch.spans (reason_view reason) → IsAnswer run h (record { step = encode; answer = Answer.dropped (desk_after run h).batches (reason_view reason) })
   lacks-answer o e s EncodeMemory l =
       let sh = out-shows o e in
@@ -249,7 +254,7 @@ module _ {S R : Type 0} (meaning : S → SamplerMeaning) (stream : R → Stream)
   lacks-answer o e s GivenUp l = absurd l
   lacks-answer o e s LeftHanded l = absurd l
 
-  -- its spans are named, and it is out no more
+  -- A run's state is still what its steps mean where the batch is dropped.
   dropped-on : (o : Out) → out ≡ Some o → o.stage ≡ to_encode → (number : ℕ) (reason : Reason) (desk2 : Desk) (out2 : Option Out) → DropsBatch run.max_body o.batch number reason desk desk2 out2
       → Stands meaning stream run (h ++ record { step = encode; answer = Answer.dropped number (reason_view reason) } ∷ []) table desk2 out2
   dropped-on o e s number reason desk2 out2 t =
@@ -281,7 +286,7 @@ module _ {S R : Type 0} (meaning : S → SamplerMeaning) (stream : R → Stream)
   encodes-batch o e s answers.Early desk2 out2 t = absurd t
   encodes-batch o e s answers.Nothing desk2 out2 t = absurd t
 
-  -- where the batch is elsewhere
+  -- An encoding of a batch at another stage is rightly answered `Nothing`.
   idle-encode : (p : Progress) → progress h ≡ p → ((d : Desk) → encode_answer run h d false p ≡ runs.nothing) → IsAnswer run h (record { step = encode; answer = runs.nothing })
   idle-encode p e f = record { given = record { refused = false; outcome = delivered }; is = sym (ap (encode_answer run h (desk_after run h) false) e ∙ f (desk_after run h)) }
 
@@ -301,6 +306,7 @@ module _ {S R : Type 0} (meaning : S → SamplerMeaning) (stream : R → Stream)
       by None e t = idle None e model.not_out (out-none e) (λ d. refl) t
       by (Some o) e t = staged o e o.stage refl t
 
+  -- A run's state is still what its steps mean after an encoding, whatever its answer is.
   pub encode-on : (max_body : ℕ) → run.max_body ≡ max_body → (answer : CodeAnswer) (desk2 : Desk) (out2 : Option Out) → Encodes max_body out answer desk desk2 out2
       → Stands meaning stream run (h ++ record { step = encode; answer = answer_view answer } ∷ []) table desk2 out2
   encode-on max_body same answer desk2 out2 t = encode-at answer desk2 out2 (subst (λ m. Encodes m out answer desk desk2 out2) (sym same) t)
@@ -368,6 +374,7 @@ module _ {S R : Type 0} (meaning : S → SamplerMeaning) (stream : R → Stream)
     retry-on (inl t) = again-on t
     retry-on (inr t) = early-on t
 
+  -- A run's state is still what its steps mean after an attempt, whatever its answer is.
   pub attempt-on : (now : ℕ) (answer : CodeAnswer) (desk2 : Desk) (out2 : Option Out) (before after : Option (List Handed)) → Sends now out answer desk desk2 out2 before after
       → Stands meaning stream run (h ++ record { step = attempt now; answer = answer_view answer } ∷ []) table desk2 out2
   attempt-on now answer desk2 out2 before after t = by out refl t
@@ -456,6 +463,7 @@ module _ {S R : Type 0} (meaning : S → SamplerMeaning) (stream : R → Stream)
       by None e t = idle None e model.not_out (out-none e) (λ d. refl) t
       by (Some o) e t = staged o e o.stage refl t
 
+  -- A run's state is still what its steps mean after a reply, whatever its answer is.
   pub reply-on : (retry : RetryConfig) → run.retry ≡ retry → (now word : ℕ) (answer : CodeAnswer) (desk2 : Desk) (out2 : Option Out) → Replies retry now word out answer desk desk2 out2
       → Stands meaning stream run (h ++ record { step = reply now word; answer = answer_view answer } ∷ []) table desk2 out2
   reply-on retry same now word answer desk2 out2 t = reply-at now word answer desk2 out2 (subst (λ r. Replies r now word out answer desk desk2 out2) (sym same) t)

@@ -1,4 +1,4 @@
--- The bodies that were sent go on to be those of their batches.
+-- The bodies that were sent stay those of their batches.
 use Rattle.std.proofs.Common.{◌≡◌, sym, ap, subst, ◌∙◌, ℕ, zero, suc, ◌+◌, ◌≤◌, arith, refl, Option, Some, slice_get, List, [], ◌∷◌, ◌++◌, length, length-append}
 use Rattle.std.specs.Option.{option_to_list}
 use Rattle.std.specs.List.{AllByRecursion}
@@ -25,6 +25,7 @@ last-grows events more =
     let n : last_batch (events ++ more) ≡ last_batch events + length (batch_sizes more) = ap length (filter_map-append size_of_take events more) ∙ length-append (batch_sizes events) (batch_sizes more) in
     omega (arith, n)
 
+-- A handed body is still that of its batch after one more step of the run.
 pub body-stays : BatchesStay → (setup : Setup) (h : List Answered) (x : Answered) (desk : Desk) → IsDesk 0 (desk_events setup (h ++ x ∷ [])) desk → (handed : Handed) → HasItsBody setup h handed → HasItsBody setup (h ++ x ∷ []) handed
 body-stays stay setup h x desk after handed m = record {
   means = record {
@@ -55,14 +56,14 @@ at-index P [] all i x e = cc
 at-index P (y ∷ xs) all zero x e = let same : y ≡ x = cc in subst P same all.0
 at-index P (y ∷ xs) all (suc i) x e = at-index P xs all.1 i x e
 
--- the bytes are those of the batch with the number
+-- The attempts of one batch have the same bytes.
 repeats : (setup : Setup) (h : List Answered) (more : List Handed) → AllByRecursion (HasItsBody setup h) more → RepeatsBytes more
 repeats setup h more all i j a b e f n =
     let first : HasItsBody setup h a = at-index (HasItsBody setup h) more all i a e in
     let second : HasItsBody setup h b = at-index (HasItsBody setup h) more all j b f in
     first.bytes ∙ ap (λ k. body_bytes (groups (batch_spans (desk_events setup h) k))) n ∙ sym second.bytes
 
--- ---- what an exporter tells, and the attempts that the answers speak of
+-- ---- what an exporter shows, and the attempts that the answers speak of
 
 all-mean : (setup : Setup) (h : List Answered) (more : List Handed) → AllByRecursion (HasItsBody setup h) more → AllByRecursion (MeansItsBatch setup h) more
 all-mean setup h [] all = tt
@@ -76,6 +77,7 @@ module _ (run : RunConfig) (h : List Answered) (old new : Option (List Handed)) 
   told-is : IsTold h old new t.more
   told-is = record { gains = t.gains; are = t.are }
 
+  -- An exporter that shows all attempts, each with the body of its batch, gives the run's headline.
   pub headline : EachOnce run.setup h → AreAsEnded run.setup h → LedgerNamesTheDropped run h → HandedAreTheBatches run.setup h (attempts h) → AreNumbered (attempts h) → Headline run h old new
   headline once values ledger handed numbered = record {
     each_once = once;
@@ -89,5 +91,6 @@ module _ (run : RunConfig) (h : List Answered) (old new : Option (List Handed)) 
     repeats = repeats run.setup h t.more t.bodies;
   }
 
+  -- All bodies that the exporter has gained are written as the canon has it.
   pub canonical : AreCanonical run h old new
   canonical = record { more = t.more; told = told-is; bytes = all-canonical run.setup h t.more t.bodies }

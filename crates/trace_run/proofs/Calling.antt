@@ -1,4 +1,4 @@
--- One more step of a run that is a call on a span: where it comes after it.
+-- One more step of a run that is a call on a span: its state after the call.
 use Rattle.std.proofs.Common.{◌≡◌, refl, sym, ap, subst, ◌∙◌, ℕ, ◌-◌, ◌^◌, ◌<◌, List, [], ◌∷◌, ◌++◌, length, false, Option, None, IfSome}
 use Rattle.rand_core.specs.Stream.{Stream}
 use Rattle.model_span.specs.Sampling.{SamplerMeaning}
@@ -22,7 +22,7 @@ use Rattle.trace_run.proofs.Telling.{end-tells}
 
 module _ {S R : Type 0} (meaning : S → SamplerMeaning) (stream : R → Stream) (run : RunConfig) (h : List Answered) (table : TableWith S R) (desk : Desk) (out : Option Out)
     (at : Stands meaning stream run h table desk out) (n : ℕ) where
-  -- what an end comes to, whatever the table was the result of
+  -- what becomes of an end, whatever steps made the table
   abbrev pub EndsWith : Call → CodeAnswer → Desk → Type 0
   EndsWith c answer desk2 = IfSome (end_of c) (λ now. (setup : Setup) (steps : List SpanStep) → IsTable meaning stream setup steps table → EndsAs Admits (span_numbered setup steps n) (calls_on n steps) now desk answer desk2)
 
@@ -34,6 +34,7 @@ module _ {S R : Type 0} (meaning : S → SamplerMeaning) (stream : R → Stream)
   no-end c e answer table2 desk2 right same takes many =
       subst (λ d. Stands meaning stream run (h ++ record { step = Step.call n c; answer = answer_view answer } ∷ []) table2 d out) (sym same) (call-on meaning stream run h table desk out at n c (answer_view answer) table2 e (right e) takes many)
 
+  -- A run's state is still what its steps mean after a call on a span.
   pub called : (c : Call) (answer : CodeAnswer) (table2 : TableWith S R) (desk2 : Desk) → length h < 2 ^ 64 - 1 → Right c answer → (is_end c ≡ false → desk2 ≡ desk) → EndsWith c answer desk2
       → TakesStep meaning stream (Step.call n c) (answer_view answer) table table2 → length table2.spans ≡ length table.spans
       → Stands meaning stream run (h ++ record { step = Step.call n c; answer = answer_view answer } ∷ []) table2 desk2 out
@@ -48,6 +49,7 @@ module _ {S R : Type 0} (meaning : S → SamplerMeaning) (stream : R → Stream)
   quiet : (answer : CodeAnswer) (c : Call) → is_end c ≡ false → Right c answer → attempt_by (answer_view answer) ≡ None
   quiet answer c e right = ap attempt_by (right e) ∙ (quiet-call (is_refused (answer_view answer)) (calls_on n (span_steps h)) c (span_numbered run.setup (span_steps h) n) Step.flush).attempt
 
+  -- The answer to a call on a span speaks of no attempt.
   pub called-tells : (c : Call) (answer : CodeAnswer) (desk2 : Desk) → Right c answer → EndsWith c answer desk2 → attempt_by (answer_view answer) ≡ None
   called-tells (end now) answer desk2 right ended = end-tells (span_numbered run.setup (span_steps h) n) (calls_on n (span_steps h)) now desk desk2 answer (ended run.setup (span_steps h) at.spans)
   called-tells (set_attribute p) answer desk2 right ended = quiet answer (set_attribute p) refl right

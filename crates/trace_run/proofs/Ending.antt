@@ -1,4 +1,4 @@
--- One more step of a run that is an end: where it comes after it.
+-- One more step of a run that is an end: its state after the end.
 use Rattle.std.proofs.Common.{◌≡◌, refl, sym, ap, subst, ◌∙◌, ℕ, ◌+◌, ◌-◌, ◌^◌, ◌<◌, ◌==◌, nat_lt, arith, List, [], ◌∷◌, ◌++◌, length, Bool, true, false, cond, ◌&&◌, not, Option, Some, None, slice_get, option_map, inl, inr, ◌⊎◌}
 use Rattle.std.specs.List.{list_any}
 use Rattle.std.specs.Option.{option_to_list, option_and_then}
@@ -94,11 +94,11 @@ module _ {S R : Type 0} (meaning : S → SamplerMeaning) (stream : R → Stream)
       by true f = ended-shut run.setup h (answered answer) f
       by false f = ended-some run.setup h (answered answer) (SpanStep.call n (end now)) f refl (rw r refl) ∙ no-more s e why ∙ sym (ended-open run.setup h f)
 
-  -- what is right to answer
+  -- An answer to an end that is the model's for its span is right.
   right-by : (answer : Answer) (s : Option StartedSpan) → span_numbered run.setup steps n ≡ s → answer ≡ call_answer run h (desk_after run h) false n (end now) s → IsAnswer run h (answered answer)
   right-by answer s e f = record { given = record { refused = false; outcome = delivered }; is = f ∙ ap (call_answer run h (desk_after run h) false n (end now)) (sym e) }
 
-  -- an end that the queue doesn't see
+  -- A run's state is still what its steps mean after an end that the queue doesn't see.
   alone-on : (answer : Answer) (s : Option StartedSpan) (table2 : TableWith S R) → IsQuiet answer step → is_refused answer ≡ false → span_numbered run.setup steps n ≡ s
       → (list_any is_end calls ≡ true) ⊎ (option_and_then (exported_if_sampled later-calls) s ≡ None) → answer ≡ call_answer run h (desk_after run h) false n (end now) s
       → TakesStep meaning stream step answer table table2 → length table2.spans ≡ length table.spans → Stands meaning stream run (h ++ answered answer ∷ []) table2 desk out
@@ -209,7 +209,7 @@ module _ {S R : Type 0} (meaning : S → SamplerMeaning) (stream : R → Stream)
           (ap (λ d. d.config) is) (ap (λ d. d.out) is) (ap (λ d. d.next_ticket) is) (ap (λ d. d.closed) is) (last-kept (desk_events run.setup h) (queue.full (with_ticket k span)) refl refl) refl takes many small
           (right-by (runs.ended (runs.Ended.dropped k queue_full)) (Some s) there (ap runs.ended (sym (end-is false admits_more true full))))
 
-    -- whatever the queue says of it
+    -- A run's state is still what its steps mean, however the queue admits the span.
     admitted-on : (table2 : TableWith S R) (desk2 : Desk) (said : Ended) → Admits desk span said desk2 → TakesStep meaning stream step (answer_view (answers.Ended said)) table table2 → length table2.spans ≡ length table.spans → length h < 2 ^ 64 - 1
         → Stands meaning stream run (h ++ answered (answer_view (answers.Ended said)) ∷ []) table2 desk2 out
     admitted-on table2 desk2 said admits takes many small = by desk.closed refl (length desk.waiting == desk.config.queue) refl
@@ -237,6 +237,7 @@ module _ {S R : Type 0} (meaning : S → SamplerMeaning) (stream : R → Stream)
 
   -- ---- any end
 
+  -- A run's state is still what its steps mean after an end, whatever becomes of the span.
   pub end-on : (table2 : TableWith S R) (desk2 : Desk) (answer : CodeAnswer) → EndsAs Admits (span_numbered run.setup steps n) calls now desk answer desk2 → TakesStep meaning stream step (answer_view answer) table table2
       → length table2.spans ≡ length table.spans → length h < 2 ^ 64 - 1 → Stands meaning stream run (h ++ answered (answer_view answer) ∷ []) table2 desk2 out
   end-on table2 desk2 answer ends-as takes many small = by (span_numbered run.setup steps n) refl ends-as

@@ -12,7 +12,7 @@ use Rattle.trace_run.specs.Places.{IsBehind}
 use Rattle.trace_run.specs.declared.text.place.Place.{Place}
 use mir.Val.{bool_byte}
 
--- a test as a number
+-- A test as a number is 1 where it is true, and else 0.
 pub one-if : (b : Bool) → bool_byte b ≡ cond b 1 0
 one-if true = refl
 one-if false = refl
@@ -26,6 +26,7 @@ sent-more before x =
     let attempted : Answered → Option _ = λ (y : Answered). attempt_by y.answer in
     ap length (filter_map-append attempted before (x ∷ [])) ∙ length-some (attempt_by x.answer) (attempts before)
 
+-- A place after some steps becomes the place after one more, once it counts this step.
 pub behind-more : (before : List Answered) (x : Answered) (old new : Place) → IsBehind before old
     → new.starts ≡ old.starts + cond (is_start x.step) 1 0
     → new.sent ≡ old.sent + cond (is_some (attempt_by x.answer)) 1 0
@@ -37,6 +38,7 @@ behind-more before x old new is starts-is sent-is = record {
 
 -- ---- there are no more starts and attempts than steps
 
+-- A history has no more starts than steps.
 pub starts-few : (before : List Answered) → starts before ≤ length before
 starts-few before = count_by-le-length (λ (x : Answered). is_start x.step) before
 
@@ -48,5 +50,6 @@ few-some f (x ∷ xs) = go (f x) (few-some f xs)
     go None h = omega arith
     go (Some y) h = omega arith
 
+-- A history has no more attempts than steps.
 pub sent-few : (before : List Answered) → length (attempts before) ≤ length before
 sent-few before = few-some (λ (x : Answered). attempt_by x.answer) before

@@ -1,4 +1,4 @@
--- A whole run: where it comes after its first steps, and after all.
+-- A whole run: its state after its first steps, and after all.
 use Rattle.std.proofs.Common.{◌≡◌, refl, sym, ap, subst, ◌∙◌, ℕ, suc, ◌+◌, ◌<◌, arith, List, [], ◌∷◌, ◌++◌, length, take, append_assoc, Option, Some, None, option_map, get_or}
 use Rattle.std.proofs.Math.Seq.{take-suc}
 use Rattle.std.specs.Option.{option_to_list}
@@ -24,6 +24,7 @@ use Rattle.trace_run.specs.Headline.{told_attempt}
 
 -- ---- histories
 
+-- The history of one more step with its answer is the history before and this step.
 pub view-push : {A : Type 0} (steps : List (CodeStep A)) (answers : List CodeAnswer) (step : CodeStep A) (answer : CodeAnswer) → length answers ≡ length steps
     → history_view (steps ++ step ∷ []) (answers ++ answer ∷ []) ≡ history_view steps answers ++ record { step = step_view step; answer = answer_view answer } ∷ []
 view-push [] [] step answer e = refl
@@ -31,19 +32,20 @@ view-push [] (a ∷ answers) step answer e = absurd (omega (arith, e))
 view-push (s ∷ steps) [] step answer e = absurd (omega (arith, e))
 view-push (s ∷ steps) (a ∷ answers) step answer e = ap (λ l. record { step = step_view s; answer = answer_view a } ∷ l) (view-push steps answers step answer (omega (arith, e)))
 
+-- A history has as many entries as steps, where each step has an answer.
 pub view-length : {A : Type 0} (steps : List (CodeStep A)) (answers : List CodeAnswer) → length answers ≡ length steps → length (history_view steps answers) ≡ length steps
 view-length [] [] e = refl
 view-length [] (a ∷ answers) e = refl
 view-length (s ∷ steps) [] e = absurd (omega (arith, e))
 view-length (s ∷ steps) (a ∷ answers) e = ap suc (view-length steps answers (omega (arith, e)))
 
--- ---- what the exporter tells
+-- ---- what the exporter shows
 
 all-append : (P : Handed → Type 0) (xs ys : List Handed) → AllByRecursion P xs → AllByRecursion P ys → AllByRecursion P (xs ++ ys)
 all-append P [] ys a b = b
 all-append P (x ∷ xs) ys a b = (a.0, all-append P xs ys a.1 b)
 
--- where what bodies mean goes on to hold
+-- An exporter still shows the attempts where a fact of their bodies goes on to hold.
 pub tells-still : (told : List Attempt) (means still : Handed → Type 0) (first second : Option (List Handed)) → ((handed : Handed) → means handed → still handed) → TellsAll told means first second → TellsAll told still first second
 tells-still told means still first second go a = record { more = a.more; gains = a.gains; are = a.are; bodies = all a.more a.bodies }
   where
@@ -51,6 +53,7 @@ tells-still told means still first second go a = record { more = a.more; gains =
     all [] h = tt
     all (x ∷ xs) h = (go x h.0, all xs h.1)
 
+-- An exporter that is unchanged has gained no attempt.
 pub tells-none : (means : Handed → Type 0) (at : Option (List Handed)) → TellsAll [] means at at
 tells-none means at = record { more = []; gains = by at; are = refl; bodies = tt }
   where
@@ -58,6 +61,7 @@ tells-none means at = record { more = []; gains = by at; are = refl; bodies = tt
     by None = refl
     by (Some had) = ap Some (sym (append-nil had))
 
+-- The attempts that an exporter gains in two stretches, one after the other, are gained in both.
 pub tells-more : (told more : List Attempt) (means : Handed → Type 0) (first second third : Option (List Handed)) → TellsAll told means first second → TellsAll more means second third → TellsAll (told ++ more) means first third
 tells-more told more means first second third a b = record {
   more = a.more ++ b.more;
@@ -74,12 +78,14 @@ one-of : {B : Type 0} (o : Option B) → Rattle.std.specs.List.cons_option o [] 
 one-of None = refl
 one-of (Some x) = refl
 
+-- The attempts of a history with one more step are those before and this step's, if it has one.
 pub attempts-push : (h : List Answered) (x : Answered) → attempts (h ++ x ∷ []) ≡ attempts h ++ option_to_list (attempt_by x.answer)
 attempts-push h x = filter_map-append (λ y. attempt_by y.answer) h (x ∷ []) ∙ ap (λ l. attempts h ++ l) (one-of (attempt_by x.answer))
 
 -- ---- before the first step and after the last one
 
 module _ {S R : Type 0} (meaning : S → SamplerMeaning) (stream : R → Stream) (run : RunConfig) where
+  -- A run's state before its first step is what no steps mean.
   pub stands-first : (table : TableWith S R) (desk : Desk) → IsTable meaning stream run.setup [] table → table.spans ≡ [] → desk ≡ new_desk run.desk 0 → IsDesk 0 [] desk → Stands meaning stream run [] table desk None
   unfolding desk_events ended_by AreAnswers Rattle.model_run.specs.Answers.progress
   stands-first table desk spans none is history = record {
@@ -94,20 +100,23 @@ module _ {S R : Type 0} (meaning : S → SamplerMeaning) (stream : R → Stream)
     answers = tt;
   }
 
+  -- The steps of a run whose state is what they mean are allowed at its queue.
   pub is-allowed : (h : List Answered) (table : TableWith S R) (desk : Desk) (out : Option Out) → Stands meaning stream run h table desk out → IsAllowed run h
   is-allowed h table desk out at = subst (λ config. AreAllowed config 0 (desk_events run.setup h)) at.config at.history.allowed
 
--- what holds of each run holds of one that has taken all its steps
+-- A law of each run holds of a run that has taken all its steps.
 pub of-law : {A : Type 0} (holds : RunConfig → List Answered → Type 0) → OfRuns holds → (run : RunConfig) (steps first : List (CodeStep A)) (answers : List CodeAnswer) → first ≡ steps → AreAnswers run (history_view first answers) → holds run (history_view steps answers)
 of-law holds law run steps first answers all w = subst (λ xs. holds run (history_view xs answers)) all (law run (history_view first answers) w)
 
 -- ---- the first steps of a list
 
+-- The history of the answered first steps has as many entries as there are answers.
 pub behind-length : {A : Type 0} (steps : List (CodeStep A)) (answers : List CodeAnswer) (i : ℕ) → length answers ≡ i → i < length steps → length (history_view (take i steps) answers) ≡ i
 behind-length steps answers i e l =
     let m : length (take i steps) ≡ i = length-take-le i steps (omega (arith, l)) in
     view-length (take i steps) answers (e ∙ sym m) ∙ m
 
+-- The history of the first steps grows by the next step and its answer.
 pub behind-push : {A : Type 0} (steps : List (CodeStep A)) (answers : List CodeAnswer) (i : ℕ) (step : CodeStep A) (answer : CodeAnswer) → length answers ≡ i → i < length steps → step ≡ get_or steps i step
     → history_view (take (i + 1) steps) (answers ++ answer ∷ []) ≡ history_view (take i steps) answers ++ record { step = step_view step; answer = answer_view answer } ∷ []
 behind-push steps answers i step answer e l s =

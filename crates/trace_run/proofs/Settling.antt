@@ -6,7 +6,7 @@ use Rattle.model_desk.specs.Desks.{Desk, OutBatch, out_size}
 use Rattle.batch_desk.specs.Batch.{BatchView}
 use Rattle.batch_desk.specs.Desk.{CanSettle, IsOut}
 
--- It was handed, and none of its spans was let go.
+-- A batch that was handed, with all its spans, can be settled.
 pub can-settle : (d : Desk) (b : BatchView) (fate : Fate) → IsOut true d b → CanSettle d fate b.number b.room (length b.spans)
 can-settle d b fate o = record {
   out = ap (option_map (λ (x : OutBatch). (x.number, x.is_handed))) o.out;

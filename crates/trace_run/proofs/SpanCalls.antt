@@ -31,17 +31,19 @@ use Rattle.trace_run.proofs.SpanSteps.{AreAfter, set-same, spans-called, spans-s
 
 -- ---- facts of answers
 
+-- A promise of the error case holds where the result is an error.
 pub where-refused : {T E : Type 0} {P : Type 0} (r : Result T E) → is_err r ≡ true → OnErr r P → P
 where-refused (Ok x) e h = absurd (true≢false (sym e))
 where-refused (Err x) e h = h
 
+-- A promise of the success case holds where the result is no error.
 pub where-made : {T E : Type 0} {P : Type 0} (r : Result T E) → is_err r ≡ false → OnOk r P → P
 where-made (Ok x) e h = h
 where-made (Err x) e h = absurd (true≢false e)
 
 -- ---- calls
 
--- a call of the code that isn't one of the ends
+-- A call of the code that isn't an end is no end in the model.
 pub not-end : {A : Type 0} (c : SpanCall A) → ((at : ℕ) → c ≡ calls.End at → ⊥) → (is_end (call_view c) ≡ false) × (end_of (call_view c) ≡ None)
 not-end (calls.SetAttribute key value) h = (refl, refl)
 not-end (calls.AddEvent name at pairs) h = (refl, refl)
@@ -51,7 +53,7 @@ not-end (calls.SetStatus status) h = (refl, refl)
 not-end (calls.UpdateName name) h = (refl, refl)
 not-end (calls.End at) h = absurd (h at refl)
 
--- a call is an end or it isn't
+-- A call is an end or it isn't.
 which : (c : Call) → ((is_end c ≡ false) × (end_of c ≡ None)) ⊎ ((at : ℕ) × (c ≡ end at))
 which (Call.set_attribute p) = inl (refl, refl)
 which (Call.add_event n a p) = inl (refl, refl)
@@ -61,7 +63,7 @@ which (Call.set_status s) = inl (refl, refl)
 which (Call.update_name n) = inl (refl, refl)
 which (Call.end at) = inr (at, refl)
 
--- a call that is no end, where calls don't count
+-- A call that is no end changes nothing on a span that isn't recording.
 pub does-nothing : (c : Call) (h : HeldSpan) → is_end c ≡ false → is_recording_state h.state ≡ false → Does c h h
 unfolding held_span
 does-nothing c h k n = record { context = refl; value = λ s calls e. e ∙ stays s calls (rw e at n) }
@@ -79,7 +81,7 @@ does-nothing c h k n = record { context = refl; value = λ s calls e. e ∙ stay
         let held : SpanState → HeldSpan = λ x. record { context = s.start.context; state = x } in
         ap held (by s calls (list_any is_end calls) refl (is_recording s.decision) refl n)
 
--- calls on a span that is recorded count
+-- Calls on a span that is recording count.
 live-is : (s : StartedSpan) (calls : List Call) → is_recording_state (held_span s calls).state ≡ true → is_live s calls ≡ true
 unfolding held_span
 live-is s calls = by (list_any is_end calls) refl (is_recording s.decision) refl
@@ -213,7 +215,7 @@ module _ {S R : Type 0} (meaning : S → SamplerMeaning) (stream : R → Stream)
   words-kept : words_of (stream new.rng) ≡ words_left setup (start_results setup (steps ++ call n c ∷ []))
   words-kept = ap (λ r. words_of (stream r)) g ∙ h.words ∙ ap (words_left setup) (sym (outcomes-call setup steps n c))
 
-  -- there is no such span
+  -- A call on a span that doesn't exist leaves the table that of the steps and this call.
   missed-is : new.spans ≡ old.spans → ((h : HeldSpan) → slice_get old.spans n ≡ Some (Some h) → ⊥) → IsTable meaning stream setup (steps ++ call n c ∷ []) new
   missed-is s missing = record {
     tracers = ap (map (tracer_view meaning)) t ∙ h.tracers;
@@ -222,7 +224,7 @@ module _ {S R : Type 0} (meaning : S → SamplerMeaning) (stream : R → Stream)
     spans = rw s (spans-same setup steps n c old.spans h.spans missing);
   }
 
-  -- it was made
+  -- A call that was made leaves the table that of the steps and this call.
   called-is : (held held' : HeldSpan) → HasSpan setup steps n held → Does c held held' → new.spans ≡ slice_set old.spans n (Some held') → IsTable meaning stream setup (steps ++ call n c ∷ []) new
   called-is held held' x does s = record {
     tracers = ap (map (tracer_view meaning)) t ∙ h.tracers;
@@ -231,7 +233,7 @@ module _ {S R : Type 0} (meaning : S → SamplerMeaning) (stream : R → Stream)
     spans = rw s (spans-called setup steps n c old.spans x.o x.s held' h.spans x.there x.is_span (does.value x.s (calls_on n steps) x.held_is) h.many);
   }
 
-  -- nothing was made
+  -- A call for which memory was refused leaves the table that of the steps alone.
   refused-is : new.spans ≡ old.spans → IsTable meaning stream setup (steps ++ []) new
   refused-is s = rw (append-nil steps) (record {
     tracers = ap (map (tracer_view meaning)) t ∙ h.tracers;
@@ -240,7 +242,7 @@ module _ {S R : Type 0} (meaning : S → SamplerMeaning) (stream : R → Stream)
     spans = rw s h.spans;
   })
 
-  -- whatever came of it
+  -- The table after a call is that of the steps and this call, where it counts.
   pub table-is : {P : Type 0} (admits : P → SpanData → Ended → P → Type 0) (before after : P) (answer : Answer) (slot : Option (Option HeldSpan)) → slice_get old.spans n ≡ slot → CallsAmong admits n c slot old.spans before answer new.spans after →
       IsTable meaning stream setup (steps ++ span_steps (record { step = program.call n c; answer = answer_view answer } ∷ [])) new
   table-is admits before after answer None e x = rw x.answered (missed-is x.spans (none-there old.spans n e))
@@ -255,9 +257,10 @@ module _ {S R : Type 0} (meaning : S → SamplerMeaning) (stream : R → Stream)
       rw ends.answered (called-is held x.0 (has-span setup steps n old.spans held h.spans e) does x.1))
       (which c)
 
--- ---- what is answered
+-- ---- the answer to a call
 
 module _ {S R P : Type 0} (meaning : S → SamplerMeaning) (stream : R → Stream) (admits : P → SpanData → Ended → P → Type 0) (n : ℕ) (old : TableWith S R) (news : List (Option HeldSpan)) (before after : P) (answer : Answer) where
+  -- The answer to a call that is no end is the one that the steps before it mean.
   pub answered-is : (c : Call) (slot : Option (Option HeldSpan)) → slice_get old.spans n ≡ slot → CallsAmong admits n c slot old.spans before answer news after → is_end c ≡ false →
       (setup : Setup) (steps : List SpanStep) → IsTable meaning stream setup steps old → answer_view answer ≡ answer_to_call (is_refused (answer_view answer)) (calls_so_far steps n) c (span_numbered setup steps n)
   answered-is c None e x k setup steps h = let none = numbered-none setup steps n old.spans h.spans (none-there old.spans n e) in rw (x.answered, none) refl
@@ -270,17 +273,19 @@ module _ {S R P : Type 0} (meaning : S → SamplerMeaning) (stream : R → Strea
       (λ m. let live : is_live has.s (calls_on n steps) ≡ true = live-is has.s (calls_on n steps) (subst (λ y. is_recording_state y.state ≡ true) has.held_is m.1) in rw (m.0, numbered, live, m.2) refl)
       (made-by c held x.0 answer (x.2.made k))
 
+  -- A call that is no end leaves the pass as it was.
   pub asks-nothing-is : (c : Call) (slot : Option (Option HeldSpan)) → CallsAmong admits n c slot old.spans before answer news after → is_end c ≡ false → after ≡ before
   asks-nothing-is c None x k = x.untouched
   asks-nothing-is c (Some None) x k = x.untouched
   asks-nothing-is c (Some (Some held)) x k = x.2.asks_nothing k
 
+  -- A call leaves the number of slots in the table as it was.
   pub many-is : (c : Call) (slot : Option (Option HeldSpan)) → CallsAmong admits n c slot old.spans before answer news after → length news ≡ length old.spans
   many-is c None x = ap length x.spans
   many-is c (Some None) x = ap length x.spans
   many-is c (Some (Some held)) x = ap length x.1 ∙ length-set old.spans n (Some x.0)
 
-  -- an end
+  -- An end on a slot answers and asks the pass as the steps before it mean.
   end-is : (at : ℕ) (slot : Option (Option HeldSpan)) → slice_get old.spans n ≡ slot → CallsAmong admits n (end at) slot old.spans before answer news after →
       (setup : Setup) (steps : List SpanStep) → IsTable meaning stream setup steps old → EndsAs admits (span_numbered setup steps n) (calls_so_far steps n) at before answer after
   end-is at None e x setup steps h =
@@ -296,6 +301,7 @@ module _ {S R P : Type 0} (meaning : S → SamplerMeaning) (stream : R → Strea
       let ends : EndsSpan admits at (held_span has.s (calls_on n steps)) before answer x.0 after = subst (λ y. EndsSpan admits at y before answer x.0 after) has.held_is x.2.ended in
       rw numbered (ends-as admits has.s (calls_on n steps) at x.0 before after answer flag ends)
 
+  -- An end answers and asks the pass as the steps before it mean.
   pub ended-is : (c : Call) (slot : Option (Option HeldSpan)) → slice_get old.spans n ≡ slot → CallsAmong admits n c slot old.spans before answer news after →
       IfSome (end_of c) (λ at. (setup : Setup) (steps : List SpanStep) → IsTable meaning stream setup steps old → EndsAs admits (span_numbered setup steps n) (calls_so_far steps n) at before answer after)
   ended-is c slot e x = ⊎_elim

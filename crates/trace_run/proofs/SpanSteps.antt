@@ -28,6 +28,7 @@ use Rattle.trace_run.specs.Opens.{ComesTo, Opens, OpensAs}
 
 -- ---- words
 
+-- The words that one more start leaves are those after the words that all starts spent.
 pub words-push : (os : List StartResult) (o : StartResult) (words : Words) → words_after o.spent (words_after (sum_by (λ o. o.spent) os) words) ≡ words_after (sum_by (λ o. o.spent) (os ++ o ∷ [])) words
 words-push os o words = fun_ext (λ k. ap words (let e = sum_by_push (λ o. o.spent) os o in let f : sum_by (λ o. o.spent) os + (o.spent + k) ≡ sum_by (λ o. o.spent) (os ++ o ∷ []) + k = omega (arith, e) in f))
 
@@ -59,11 +60,13 @@ set-other (x ∷ xs) zero (suc m) y h = refl
 set-other (x ∷ xs) (suc n) zero y h = refl
 set-other (x ∷ xs) (suc n) (suc m) y h = set-other xs n m y (ne-eqb n m (λ e. true≢false (sym (eq-eqb (suc n) (suc m) (ap suc e)) ∙ h)))
 
+-- A list in which an element is set to what it is already is unchanged.
 pub set-same : {A : Type 0} (xs : List A) (n : ℕ) (y : A) → slice_get xs n ≡ Some y → slice_set xs n y ≡ xs
 set-same [] n y h = refl
 set-same (x ∷ xs) zero y h = let same : x ≡ y = cc in rw same refl
 set-same (x ∷ xs) (suc n) y h = ap (λ zs. x ∷ zs) (set-same xs n y h)
 
+-- A list of length 0 is empty.
 pub nothing-left : {X : Type 0} (l : List X) → length l ≡ 0 → l ≡ []
 nothing-left [] h = refl
 nothing-left (x ∷ xs) h = absurd (omega (arith, h))
@@ -74,6 +77,7 @@ nothing-left (x ∷ xs) h = absurd (omega (arith, h))
 abbrev pub AreAfter : (ℕ → List Call) → List StartResult → List (Option HeldSpan) → Type 0
 AreAfter calls os spans = (n : ℕ) → slice_get spans n ≡ option_map (span_after (calls n)) (slice_get os n)
 
+-- A parent that a start names has the same context in the table and in the history.
 pub parent-same : (calls : ℕ → List Call) (os : List StartResult) (spans : List (Option HeldSpan)) → AreAfter calls os spans → (p : Parent) → parent_in spans p ≡ parent_among os p
 unfolding held_span
 parent-same calls os spans h root = refl
@@ -88,7 +92,7 @@ parent-same calls os spans h (numbered n) = rw (h n) (by (slice_get os n))
     by None = refl
     by (Some o) = within o.span
 
--- a span, or none, for one more start
+-- The slots are right after one more start, with a span or without one.
 pub spans-start : (setup : Setup) (done : List SpanStep) (r : Bool) (sc : ℕ) (p : Parent) (k : Kind) (at : ℕ) (name : List ℕ) (spans : List (Option HeldSpan)) (span : Option HeldSpan) →
     length spans ≡ length (start_results setup done) → AreAfter (λ n. calls_on n done) (start_results setup done) spans → span ≡ span_after [] (start_result setup (start_results setup done) r sc p k at name) →
     AreAfter (λ n. calls_on n (done ++ start r sc p k at name ∷ [])) (start_results setup (done ++ start r sc p k at name ∷ [])) (spans ++ span ∷ [])
@@ -136,7 +140,7 @@ calls-other m n c done e = by (nat_lt m (start_count done)) refl
 calls-own : (n : ℕ) (c : Call) (done : List SpanStep) → n < start_count done → calls_on n (done ++ call n c ∷ []) ≡ calls_on n done ++ c ∷ []
 calls-own n c done h = calls-more n done (call n c) h ∙ ap (λ cs. calls_on n done ++ cs) (let own : filter_map (call_on n) (call n c ∷ []) ≡ c ∷ [] = rw (eq-eqb n n refl) refl in own)
 
--- a call on a span that isn't there
+-- A call on a span that doesn't exist leaves the slots right.
 pub spans-same : (setup : Setup) (done : List SpanStep) (n : ℕ) (c : Call) (spans : List (Option HeldSpan)) → AreAfter (λ m. calls_on m done) (start_results setup done) spans →
     ((h : HeldSpan) → slice_get spans n ≡ Some (Some h) → ⊥) → AreAfter (λ m. calls_on m (done ++ call n c ∷ [])) (start_results setup (done ++ call n c ∷ [])) spans
 spans-same setup done n c spans h missing m = rw (outcomes-call setup done n c) (by (n == m) refl)
@@ -159,7 +163,7 @@ spans-same setup done n c spans h missing m = rw (outcomes-call setup done n c) 
     by true e = h m ∙ none (slice_get os m) refl (eqb-true n m e)
     by false e = h m ∙ ap (λ cs. option_map (span_after cs) (slice_get os m)) (sym (calls-other m n c done e))
 
--- a call on a span that is there
+-- A call on an existing span leaves the slots right, with its effect on this span.
 pub spans-called : (setup : Setup) (done : List SpanStep) (n : ℕ) (c : Call) (spans : List (Option HeldSpan)) (o : StartResult) (s : StartedSpan) (new : HeldSpan) → AreAfter (λ m. calls_on m done) (start_results setup done) spans →
     slice_get (start_results setup done) n ≡ Some o → o.span ≡ Some s → new ≡ held_span s (calls_on n done ++ c ∷ []) → length spans ≡ length (start_results setup done) →
     AreAfter (λ m. calls_on m (done ++ call n c ∷ [])) (start_results setup (done ++ call n c ∷ [])) (slice_set spans n (Some new))
@@ -180,7 +184,7 @@ spans-called setup done n c spans o s new h e f g many m = rw (outcomes-call set
         rw (← same) (rw (e, calls-own n c done started_span) (set-own spans n (Some new) (rw many within) ∙ ap Some (ap Some g ∙ rw f refl)))
     by false i = set-other spans n m (Some new) i ∙ h m ∙ ap (λ cs. option_map (span_after cs) (slice_get os m)) (sym (calls-other m n c done i))
 
--- ---- the tracer of a scope, and what a start comes to
+-- ---- the tracer of a scope, and the result of a start
 
 tracer-there : {T : Type 0} (view : T → Tracer) (provider : Provider) (tracers : List T) (scopes : List Scope) (n : ℕ) (t : T) →
     map view tracers ≡ model_tracers provider scopes → slice_get tracers n ≡ Some t → (scope : Scope) × (slice_get scopes n ≡ Some scope) × (view t ≡ record { provider = provider; scope = scope })
@@ -211,7 +215,7 @@ tracer-past view provider tracers scopes n e none = by (slice_get scopes n) refl
 abbrev pub is_there : Setup → List StartResult → ℕ → Parent → Bool
 is_there setup os sc p = is_some (slice_get setup.scopes sc) && is_some (parent_among os p)
 
--- neither word nor span, where the scope or the parent isn't there
+-- A start takes no word and gives no span where the scope or the parent doesn't exist.
 comes-to-none : (setup : Setup) (os : List StartResult) (sc : ℕ) (p : Parent) (k : Kind) (at : ℕ) (name : List ℕ) (words : Words) → (slice_get setup.scopes sc ≡ None) ⊎ (parent_among os p ≡ None) →
     ComesTo (start_result setup os false sc p k at name) (is_there setup os sc p) words words (Err answers.NoSpan)
 comes-to-none setup os sc p k at name words h = rw (none h) (record { words = none-spent words; opens = (away h, refl) })
@@ -236,7 +240,7 @@ comes-to-none setup os sc p k at name words h = rw (none h) (record { words = no
     away (inl e) = rw e refl
     away (inr e) = rw e (neither (is_some (slice_get setup.scopes sc)))
 
--- what a tracer that is there made of it
+-- A start whose scope and parent exist has the result of its tracer.
 comes-to : (setup : Setup) (os : List StartResult) (sc : ℕ) (p : Parent) (k : Kind) (at : ℕ) (name : List ℕ) (before after : Words) (t : Tracer) (scope : Scope) (parent : Option Context) (result : Result HeldSpan Answer) →
     slice_get setup.scopes sc ≡ Some scope → t ≡ record { provider = setup.provider; scope = scope } → parent_among os p ≡ Some parent → before ≡ words_left setup os →
     OpensAs true (started_span t (start_request parent name k at) before) result → after ≡ words_after (ids_words (start_request parent name k at).parent before) before →
@@ -245,12 +249,12 @@ comes-to setup os sc p k at name before after t scope parent result there tracer
 
 -- ---- a start
 
--- the words that a start takes are the same where it gives no span
+-- A start takes the same words where memory is refused for its span.
 spent-same : (r : Bool) (o : StartResult) → (unless_refused r o).spent ≡ o.spent
 spent-same true o = refl
 spent-same false o = refl
 
--- one more start
+-- The table is that of the steps and one more start, with its slot and its words.
 pub started-is : {S R : Type 0} (meaning : S → SamplerMeaning) (stream : R → Stream) (setup : Setup) (steps : List SpanStep) (r : Bool) (sc : ℕ) (p : Parent) (k : Kind) (at : ℕ) (name : List ℕ) (old new : TableWith S R) (span : Option HeldSpan) →
     IsTable meaning stream setup steps old → new.tracers ≡ old.tracers → new.spans ≡ old.spans ++ span ∷ [] →
     words_of (stream new.rng) ≡ words_after (start_result setup (start_results setup steps) false sc p k at name).spent (words_of (stream old.rng)) →
@@ -274,7 +278,7 @@ started-is meaning stream setup steps r sc p k at name old new span h t items sp
     more : start_results setup (steps ++ start r sc p k at name ∷ []) ≡ os ++ o ∷ []
     more = outcomes-start setup steps r sc p k at name
 
--- what is answered to a start, and the span of its slot
+-- the answer to a start, and the span of its slot
 pub record TellsStart (there : Bool) (o : StartResult) (answer : Answer) (span : Option HeldSpan) : Type 0 where
   pub answered : answer_view answer ≡ start_answer there (is_refused (answer_view answer)) o.span
   pub slot : span ≡ span_after [] (unless_refused (is_refused (answer_view answer)) o)
@@ -298,10 +302,11 @@ tells-none there o (answers.Replied batch next) h = absurd h
 tells-none there o answers.Early h = absurd h
 tells-none there o answers.Nothing h = absurd h
 
+-- A start without a span has the answer of the model, and an empty slot.
 pub comes-none : {there : Bool} {o : StartResult} {before after : Words} (answer : Answer) → ComesTo o there before after (Err answer) → TellsStart there o answer None
 comes-none {there = there} {o = o} answer h = tells-none there o answer h.opens
 
--- a span
+-- A start with a span has the answer of the model, and the span in its slot.
 pub comes-span : {there : Bool} {o : StartResult} {before after : Words} {span : HeldSpan} (trace id : List ℕ) → ComesTo o there before after (Ok span) → trace ≡ span.context.trace → id ≡ span.context.span →
     (Rattle.model_run.specs.Runs.started (record { trace = trace; span = id }) ≡ start_answer there false o.span) × (Some span ≡ span_after [] o)
 unfolding held_span
@@ -312,6 +317,7 @@ comes-span {span = span} trace id h t i =
 
 -- ---- nothing is done yet
 
+-- A table without spans, with the words of the setup, is the table of no steps.
 pub begun : {S R : Type 0} (meaning : S → SamplerMeaning) (stream : R → Stream) (setup : Setup) (t : TableWith S R) → map (tracer_view meaning) t.tracers ≡ model_tracers setup.provider setup.scopes →
     words_of (stream t.rng) ≡ setup.words → t.spans ≡ [] → IsTable meaning stream setup [] t
 unfolding start_results_behind
@@ -325,6 +331,7 @@ begun meaning stream setup t tracers w s = record {
     none : (n : ℕ) → slice_get [] n ≡ option_map (span_after (calls_on n [])) (slice_get [] n)
     none n = refl
 
+-- The tracers of a provider are in the model the tracers of its meaning, one for each scope.
 pub tracers-are : {S : Type 0} (meaning : S → SamplerMeaning) (provider : ProviderWith S) (scopes : List Scope) (tracers : List (TracerWith S)) → tracers ≡ tracers_of provider scopes →
     map (tracer_view meaning) tracers ≡ model_tracers (record { sampler = meaning provider.sampler; resource = provider.resource; limits = provider.limits }) scopes
 tracers-are meaning provider scopes tracers e = ap (map (tracer_view meaning)) e ∙ all scopes
@@ -344,18 +351,20 @@ memory-is s (inr e) = rw e (either (is_recording s.decision))
     either true = refl
     either false = refl
 
--- what is said of a start that a tracer made
+-- the answer to a start, by the result of the tracer
 abbrev pub said_of : Result HeldSpan StartFault → Result HeldSpan Answer
 said_of (Ok span) = Ok span
 said_of (Err faults.NoRandomness) = Err answers.NoRandomness
 said_of (Err faults.OutOfMemory) = Err answers.OutOfMemory
 
+-- A span that a tracer starts, or its fault, opens as the model says where scope and parent exist.
 pub opens-as : (there : Option StartedSpan) (r : Result HeldSpan StartFault) → StartsAs there r → OpensAs true there (said_of r)
 opens-as there (Ok span) h = h
 opens-as there (Err faults.NoRandomness) h = (refl, h)
 opens-as there (Err faults.OutOfMemory) h = (h.0, h.1, memory-is h.0 h.2)
 
 module _ {S R : Type 0} (meaning : S → SamplerMeaning) (stream : R → Stream) (sc : ℕ) (p : Parent) (k : Kind) (at : ℕ) (name : List ℕ) (old : TableWith S R) where
+  -- A start in a scope that doesn't exist opens no span and changes nothing.
   pub opens-no-scope : slice_get old.tracers sc ≡ None → Opens meaning stream sc p k at name old (Err answers.NoSpan) old
   opens-no-scope e = record {
     tracers = refl;
@@ -364,6 +373,7 @@ module _ {S R : Type 0} (meaning : S → SamplerMeaning) (stream : R → Stream)
     comes = λ setup steps h. comes-to-none setup (start_results setup steps) sc p k at name (words_of (stream old.rng)) (inl (tracer-past (tracer_view meaning) setup.provider old.tracers setup.scopes sc h.tracers e));
   }
 
+  -- A start under a parent that doesn't exist opens no span and changes nothing.
   pub opens-no-parent : parent_in old.spans p ≡ None → Opens meaning stream sc p k at name old (Err answers.NoSpan) old
   opens-no-parent e = record {
     tracers = refl;
@@ -374,6 +384,7 @@ module _ {S R : Type 0} (meaning : S → SamplerMeaning) (stream : R → Stream)
         comes-to-none setup os sc p k at name (words_of (stream old.rng)) (inr (sym (parent-same (λ n. calls_on n steps) os old.spans h.spans p) ∙ e));
   }
 
+  -- A start in an existing scope, under an existing parent, opens what the tracer starts.
   pub opens-with : (new : TableWith S R) (tracer : TracerWith S) (parent : Option Context) (r : Result HeldSpan StartFault) (result : Result HeldSpan Answer) → new.tracers ≡ old.tracers → new.spans ≡ old.spans → new.room ≡ old.room →
       slice_get old.tracers sc ≡ Some tracer → parent_in old.spans p ≡ Some parent → StartsAs (started_span (tracer_view meaning tracer) (start_request parent name k at) (words_of (stream old.rng))) r → result ≡ said_of r →
       words_of (stream new.rng) ≡ words_after (ids_words (start_request parent name k at).parent (words_of (stream old.rng))) (words_of (stream old.rng)) → Opens meaning stream sc p k at name old result new

@@ -1,4 +1,4 @@
--- One more step of a run: where it comes after it.
+-- One more step of a run: its state after the step.
 use Rattle.std.proofs.Common.{◌≡◌, refl, sym, ap, subst, ◌∙◌, ℕ, ◌+◌, ◌≤◌, arith, List, [], ◌∷◌, ◌++◌, length, Bool, true, false, cond, ◌||◌, ◌&&◌, Option, Some, None}
 use Rattle.std.specs.Option.{option_to_list}
 use Rattle.std.proofs.lemmas.List.{append-nil, length_push}
@@ -21,6 +21,7 @@ use Rattle.trace_run.specs.Table.{IsTable, TableWith, TakesStep, answer_to_start
 use Rattle.trace_run.specs.Out.{Out, shown, IsTied}
 use Rattle.trace_run.specs.State.{Stands}
 
+-- A disjunction with `false` is its first part.
 pub or-false : (b : Bool) → (b || false) ≡ b
 or-false true = refl
 or-false false = refl
@@ -32,6 +33,7 @@ pub record IsQuiet (answer : Answer) (step : Step) : Type 0 where
   pub stage : progress_by answer ≡ None
   pub attempt : attempt_by answer ≡ None
 
+-- The queue and the batch that is out don't see the answer to a start.
 pub quiet-start : (there refused : Bool) (s : Option StartedSpan) (step : Step) → IsQuiet (start_answer there refused s) step
 quiet-start true refused None step = record { event = λ setup h. refl; stage = refl; attempt = refl }
 quiet-start false refused None step = record { event = λ setup h. refl; stage = refl; attempt = refl }
@@ -41,6 +43,7 @@ quiet-start there refused (Some s) step = by (refused && takes_memory s)
     by true = record { event = λ setup h. refl; stage = refl; attempt = refl }
     by false = record { event = λ setup h. refl; stage = refl; attempt = refl }
 
+-- The queue and the batch that is out don't see the answer to a call that is no end.
 pub quiet-call : (refused : Bool) (calls : List Call) (c : Call) (s : Option StartedSpan) (step : Step) → IsQuiet (answer_to_call refused calls c s) step
 quiet-call refused calls c None step = record { event = λ setup h. refl; stage = refl; attempt = refl }
 quiet-call refused calls c (Some s) step = by (refused && call_takes_memory s calls c)
@@ -49,17 +52,19 @@ quiet-call refused calls c (Some s) step = by (refused && call_takes_memory s ca
     by true = record { event = λ setup h. refl; stage = refl; attempt = refl }
     by false = record { event = λ setup h. refl; stage = refl; attempt = refl }
 
+-- A desk with the same batch out and the same settings still knows the batch that is out.
 pub tied-kept : (old new : Desk) (out : Option Out) → new.out ≡ old.out → new.config ≡ old.config → IsTied old out → IsTied new out
 tied-kept old new None o c t = o ∙ t
 tied-kept old new (Some b) o c t = record { out = o ∙ t.out; room = t.room ∙ ap (λ k. k.batch) (sym c) }
 
 module _ {S R : Type 0} (meaning : S → SamplerMeaning) (stream : R → Stream) (run : RunConfig) (h : List Answered) (table : TableWith S R) (desk : Desk) (out : Option Out)
     (at : Stands meaning stream run h table desk out) where
+  -- The desk of a run is the one that its steps mean.
   pub desk-is : desk ≡ desk_after run h
   unfolding desk_after
   desk-is = at.history.is ∙ ap (λ c. desk_of c 0 (desk_events run.setup h)) at.config
 
-  -- where no span more ends that is admitted
+  -- A run's state is still what its steps mean after a step that ends no admitted span.
   pub stands-on : (x : Answered) (table2 : TableWith S R) (desk2 : Desk) (out2 : Option Out) (o : Option DeskEvent) → IsTable meaning stream run.setup (span_steps (h ++ x ∷ [])) table2
       → ended_by run.setup (h ++ x ∷ []) ≡ ended_by run.setup h → event_by run.setup h x.answer x.step ≡ o
       → IsDesk 0 (desk_events run.setup h ++ option_to_list o) desk2 → desk2.config ≡ desk.config → desk2.next_ticket ≡ desk.next_ticket → desk2.closed ≡ (is_shut h || is_shutdown x.step)
@@ -77,12 +82,12 @@ module _ {S R : Type 0} (meaning : S → SamplerMeaning) (stream : R → Stream)
     answers = answers-more run h x at.answers right;
   }
 
-  -- the batch that is out stays so
+  -- A step that the batch that is out doesn't see leaves it as shown.
   pub out-stays : (x : Answered) (events : List DeskEvent) → progress_by x.answer ≡ None → desk_events run.setup (h ++ x ∷ []) ≡ events → last_spans events ≡ last_spans (desk_events run.setup h) → last_batch events ≡ last_batch (desk_events run.setup h)
       → shown out ≡ pending_after run.setup (h ++ x ∷ [])
   out-stays x events p e s b = at.out_is ∙ (λ i. pending_as (sym (progress-none h x p) i) (sym (ap last_spans e ∙ s) i) (sym (ap last_batch e ∙ b) i) (sym (last_attempt-none h x (quiet-attempts x.answer p)) i))
 
-  -- a step that only the spans see
+  -- A run's state is still what its steps mean after a step that only the spans see.
   pub quiet-on : (x : Answered) (table2 : TableWith S R) → IsQuiet x.answer x.step → IsTable meaning stream run.setup (span_steps (h ++ x ∷ [])) table2 → ended_by run.setup (h ++ x ∷ []) ≡ ended_by run.setup h
       → is_shutdown x.step ≡ false → length table2.spans ≤ length table.spans + 1 → IsAnswer run h x → Stands meaning stream run (h ++ x ∷ []) table2 desk out
   quiet-on x table2 q spans same unshut few right =
@@ -90,7 +95,7 @@ module _ {S R : Type 0} (meaning : S → SamplerMeaning) (stream : R → Stream)
       stands-on x table2 desk out None spans same (q.event run.setup h) (subst (λ es. IsDesk 0 es desk) (sym (append-nil (desk_events run.setup h))) at.history)
       refl refl (at.closed ∙ sym (ap (λ b. is_shut h || b) unshut ∙ or-false (is_shut h))) few at.tied (out-stays x (desk_events run.setup h) q.stage events refl refl) right
 
-  -- the spans after a step that a table has taken
+  -- The spans after a step that the table has taken are what the steps mean.
   pub spans-on : (x : Answered) (table2 : TableWith S R) → TakesStep meaning stream x.step x.answer table table2 → IsTable meaning stream run.setup (span_steps (h ++ x ∷ [])) table2
   spans-on x table2 takes = subst (λ steps. IsTable meaning stream run.setup steps table2) (sym (filter_map-append (λ y. Rattle.model_run.specs.History.span_step (is_refused y.answer) y.step) h (x ∷ []))) (takes run.setup (span_steps h) at.spans)
 
@@ -103,6 +108,7 @@ module _ {S R : Type 0} (meaning : S → SamplerMeaning) (stream : R → Stream)
       by true s = ended-shut run.setup h x s
       by false s = ended-some run.setup h x (SpanStep.start r sc p k now name) s (ap is_shutdown e) (rw (e, f) refl) ∙ ended-start run.setup (span_steps h) r sc p k now name ∙ sym (ended-open run.setup h s)
 
+  -- A run's state is still what its steps mean after a start.
   pub start-on : (sc : ℕ) (p : Parent) (k : Kind) (now : ℕ) (name : List ℕ) (answer : Answer) (table2 : TableWith S R) → answer ≡ answer_to_start run.setup (span_steps h) (is_refused answer) sc p k now name
       → TakesStep meaning stream (Step.start sc p k now name) answer table table2 → length table2.spans ≡ length table.spans + 1
       → Stands meaning stream run (h ++ record { step = Step.start sc p k now name; answer = answer } ∷ []) table2 desk out
@@ -122,6 +128,7 @@ module _ {S R : Type 0} (meaning : S → SamplerMeaning) (stream : R → Stream)
       by false f true s = ended-shut run.setup h x s
       by false f false s = ended-some run.setup h x (SpanStep.call n c) s refl (rw f refl) ∙ ended-no-more run.setup (span_steps h) n c (rw e refl) ∙ sym (ended-open run.setup h s)
 
+  -- A run's state is still what its steps mean after a call that is no end.
   pub call-on : (n : ℕ) (c : Call) (answer : Answer) (table2 : TableWith S R) → is_end c ≡ false → answer ≡ answer_to_call (is_refused answer) (calls_on n (span_steps h)) c (span_numbered run.setup (span_steps h) n)
       → TakesStep meaning stream (Step.call n c) answer table table2 → length table2.spans ≡ length table.spans
       → Stands meaning stream run (h ++ record { step = Step.call n c; answer = answer } ∷ []) table2 desk out
@@ -134,5 +141,6 @@ module _ {S R : Type 0} (meaning : S → SamplerMeaning) (stream : R → Stream)
       by None = refl
       by (Some s) = rw e refl
 
+-- The answer to a start speaks of no attempt.
 pub start-tells : (there refused : Bool) (s : Option StartedSpan) (answer : Answer) → answer ≡ start_answer there refused s → attempt_by answer ≡ None
 start-tells there refused s answer e = ap attempt_by e ∙ (quiet-start there refused s Step.flush).attempt

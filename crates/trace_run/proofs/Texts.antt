@@ -1,4 +1,4 @@
--- What is written of a run, with what is left to write.
+-- The lines that are written of a run, with the steps that are left to write.
 use Rattle.std.proofs.Common.{◌≡◌, sym, ap, ◌∙◌, ℕ, ◌+◌, ◌-◌, ◌^◌, ◌<◌, arith, List, [], ◌∷◌, ◌++◌, length, length-append, append_assoc, append-nil, ◌⊎◌, inl, inr}
 use Rattle.trace_history.specs.Answers.{answer_view, history_view}
 use Rattle.trace_history.specs.Steps.{step_view}
@@ -11,7 +11,7 @@ use Rattle.trace_run.specs.Places.{IsBehind}
 use Rattle.trace_run.proofs.Places.{starts-few, sent-few}
 use Rattle.trace_run.specs.declared.text.place.Place.{Place}
 
--- Of these steps some have their lines after the old text, and the next one is in this place.
+-- Some of these steps have their lines after the old text, and the next step is in this place.
 pub record Written {A : Type 0} (handed : List Handed) (steps : List (Step A)) (answers : List Answer) (old new : List ℕ) (place : Place)
     (later : List (Step A)) (rest : List Answer) : Type 0 where
   pub before : List Answered
@@ -20,6 +20,7 @@ pub record Written {A : Type 0} (handed : List Handed) (steps : List (Step A)) (
   pub text : new ++ lines_behind handed before (history_view later rest) ≡ old ++ answers_text handed (history_view steps answers)
 
 module _ {A : Type 0} (handed : List Handed) (steps : List (Step A)) (answers : List Answer) (old : List ℕ) where
+  -- Before the first line, no step has a line, and all are left to write.
   pub written-first : (place : Place) (later : List (Step A)) (rest : List Answer) → IsBehind [] place → later ≡ steps → rest ≡ answers
       → Written handed steps answers old old place later rest
   written-first place later rest is all-steps all-answers = record {
@@ -29,6 +30,7 @@ module _ {A : Type 0} (handed : List Handed) (steps : List (Step A)) (answers : 
     text = λ i. old ++ lines_behind handed [] (history_view (all-steps i) (all-answers i));
   }
 
+  -- One more line moves the next step to those that have a line.
   pub written-more : (text next : List ℕ) (place after : Place) (step : Step A) (answer : Answer) (later : List (Step A)) (rest : List Answer)
       → (w : Written handed steps answers old text place (step ∷ later) (answer ∷ rest))
       → ((before : List Answered) → IsBehind before place → next ≡ text ++ line_of handed before (record { step = step_view step; answer = answer_view answer }))
@@ -47,6 +49,7 @@ module _ {A : Type 0} (handed : List Handed) (steps : List (Step A)) (answers : 
             ∙ w.text;
       }
 
+  -- The counts of starts and attempts fit in 64 bits as long as a step is left to write.
   pub room-left : (text : List ℕ) (place : Place) (step : Step A) (left later : List (Step A)) (rest : List Answer) → Written handed steps answers old text place left rest
       → left ≡ step ∷ later → length steps < 2 ^ 64 → (place.starts < 2 ^ 64 - 1) × (place.sent < 2 ^ 64 - 1)
   room-left text place step left later rest w more few = (
@@ -58,6 +61,7 @@ module _ {A : Type 0} (handed : List Handed) (steps : List (Step A)) (answers : 
   unfolding lines_behind
   nothing-left text before = sym (append-nil text)
 
+  -- The text has all lines once no step or no answer is left.
   pub written-all : (text : List ℕ) (place : Place) (later : List (Step A)) (rest : List Answer) → Written handed steps answers old text place later rest
       → (later ≡ []) ⊎ (rest ≡ []) → text ≡ old ++ answers_text handed (history_view steps answers)
   written-all text place [] rest w end = nothing-left text w.before ∙ w.text

@@ -1,4 +1,4 @@
--- What comes of an end. (Trace API, End; Trace SDK, OnEnd)
+-- The result of an end. (Trace API, End; Trace SDK, OnEnd)
 use Rattle.std.specs.Prelude.{◌≡◌, ℕ, Bool, true, false, List, [], ◌∷◌, ◌++◌, Option, Some, None}
 use Rattle.std.specs.Prelude.{IsTrue}
 use Rattle.std.specs.List.{list_any}
@@ -11,13 +11,13 @@ use Rattle.trace_api.specs.declared.pass.Ended.TheVariants as ends
 use Rattle.trace_history.specs.declared.answer.Answer.{Answer}
 use Rattle.trace_history.specs.declared.answer.Answer.TheVariants as answers
 
--- this is answered, and no pass was asked
+-- this is the answer, and no pass was asked
 pub record AnswersAlone {P : Type 0} (said : Answer) (old : P) (answer : Answer) (new : P)
     : Type 0 where
   pub answered : answer ≡ said
   pub untouched : new ≡ old
 
--- the pass was asked for this span, and what it said is answered
+-- the pass was asked for this span, and what it said is the answer
 pub record AnswersPass {P : Type 0} (admits : P → SpanData → Ended → P → Type 0)
     (span : SpanData) (old : P) (answer : Answer) (new : P) : Type 0 where
   pub said : Ended
@@ -34,7 +34,7 @@ EndsBy admits false false span old answer new =
     AnswersAlone (answers.Ended ends.NotSampled) old answer new
 EndsBy admits false true span old answer new = AnswersPass admits span old answer new
 
--- What comes of an end at this moment, on a span with these calls, if there is one: its first end
+-- The result of an end at this moment, on a span with these calls, if there is one: its first end
 -- goes to the pass, where it is sampled.
 abbrev pub EndsAs : {P : Type 0} → (P → SpanData → Ended → P → Type 0) → Option StartedSpan
     → List Call → ℕ → P → Answer → P → Type 0

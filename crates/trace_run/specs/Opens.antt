@@ -24,7 +24,7 @@ OpensAs there started (Err answers.OutOfMemory) =
     (s : StartedSpan) × (started ≡ Some s) × (takes_memory s ≡ true)
 OpensAs there started (Err _) = ⊥
 
--- what a start comes to, and the words that are left after it
+-- the result of a start, and the words that are left after it
 pub record ComesTo (o : StartResult) (there : Bool) (before after : Words)
     (result : Result HeldSpan Answer) : Type 0 where
   pub words : after ≡ words_after o.spent before

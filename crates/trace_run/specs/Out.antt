@@ -25,7 +25,7 @@ use Rattle.model_run.specs.Answers as model
 use Rattle.model_run.specs.Headline as headline
 
 -- how far the batch is: it is to be encoded, or this body is to be sent, or it was sent in this
--- attempt, and this came of it, or it had so many attempts and is to be sent again, from this
+-- attempt, with this outcome, or it had this number of attempts and is to be sent again, from this
 -- moment on
 pub data ExportStage : Type 0 where
   to_encode : ExportStage
@@ -155,7 +155,7 @@ pub record DoesNothing (out : Option Out) (answer : Answer) (old new : Desk) (la
   pub idle : IsIdle out answer later
   pub desk_same : new ≡ old
 
--- The batch has a body of so many bytes, which is to be sent.
+-- The batch has a body of this size, which is to be sent.
 pub record HasBody (max_body : ℕ) (batch : BatchView) (number size : ℕ) (old new : Desk)
     (later : Option Out) : Type 0 where
   pub body : List ℕ
@@ -260,7 +260,7 @@ Sends now None answer old new later before after =
 Sends now (Some o) answer old new later before after =
     SendsAt now o.stage o answer old new later before after
 
--- What came of it settles the batch.
+-- The outcome settles the batch.
 pub record Settles (decided : retries.Next) (batch : BatchView) (answer : Answer)
     (old new : Desk) (later : Option Out) : Type 0 where
   pub next : Next
@@ -296,7 +296,7 @@ JudgesAt retry now word (to_judge body attempt outcome) o answer old new later =
     Judges (next_after retry attempt outcome now word) body attempt o.batch answer old new later
 JudgesAt retry now word _ o answer old new later = DoesNothing (Some o) answer old new later
 
--- What came of the last attempt is judged, if the batch that is out was sent.
+-- The outcome of the last attempt is judged, if the batch that is out was sent.
 abbrev pub Replies : RetryConfig → ℕ → ℕ → Option Out → Answer → Desk → Desk → Option Out → Type 0
 Replies retry now word None answer old new later = DoesNothing None answer old new later
 Replies retry now word (Some o) answer old new later =

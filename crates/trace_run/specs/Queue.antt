@@ -1,4 +1,4 @@
--- What comes of a span that ends in a run's queue. (Trace SDK, OnEnd; Batching processor)
+-- The result of the end of a span in a run's queue. (Trace SDK, OnEnd; Batching processor)
 use Rattle.std.specs.Prelude.{◌≡◌}
 use Rattle.model_span.specs.Spans.{SpanData}
 use Rattle.model_desk.specs.Desks.{Desk, Does}

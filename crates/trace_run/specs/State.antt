@@ -1,4 +1,4 @@
--- Where a run comes after some steps.
+-- The state of a run after some steps.
 use Rattle.std.specs.Prelude.{◌≡◌, ℕ, ◌+◌, ◌-◌, ◌^◌, ◌<◌, ◌≤◌, List, [], ◌∷◌, ◌++◌, length, map}
 use Rattle.std.specs.Prelude.{Option}
 use Rattle.std.specs.Option.{option_to_list}
@@ -31,7 +31,7 @@ pub record Stands {S R : Type 0} (meaning : S → SamplerMeaning) (stream : R �
   pub out_is : shown out ≡ pending_after run.setup h
   pub answers : AreAnswers run h
 
--- One more step: whatever steps were before, it comes after these and this one.
+-- One more step: whatever steps were before, the state is what these and this one mean.
 abbrev pub GoesOn : {S R : Type 0} → (S → SamplerMeaning) → (R → Stream) → RetryConfig → ℕ
     → Answered → TableWith S R → Desk → Option Out → TableWith S R → Desk → Option Out → Type 0
 GoesOn meaning stream retry max_body x table desk out table2 desk2 out2 =
@@ -54,7 +54,7 @@ pub record TellsAll (told : List Attempt) (means : Handed → Type 0)
   pub are : map told_attempt more ≡ told
   pub bodies : AllByRecursion means more
 
--- the attempt that this answer speaks of, if it does
+-- the attempt that this answer speaks of, if it speaks of one
 abbrev pub Tells : Answer → (Handed → Type 0) → Option (List Handed) → Option (List Handed)
     → Type 0
 Tells answer means old new = TellsAll (option_to_list (attempt_by answer)) means old new

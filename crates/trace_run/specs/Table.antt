@@ -1,5 +1,5 @@
--- What a table of spans is after some steps, and what is answered to the next one. (Trace API,
--- Span Creation, Span operations)
+-- What a table of spans is after some steps, and the answer to the next one. (Trace API, Span
+-- Creation, Span operations)
 use Rattle.std.specs.Prelude.{◌≡◌, ℕ, Bool, false, ◌&&◌, if◌then◌else◌, List, [], ◌∷◌, ◌++◌, length}
 use Rattle.std.specs.Prelude.{map, Option, Some, None, is_some, option_map, slice_get}
 use Rattle.std.specs.Option.{option_and_then}
@@ -44,7 +44,7 @@ tracers_of provider scopes = map (λ scope. record { provider = provider; scope 
 abbrev pub model_tracers : Provider → List Scope → List Tracer
 model_tracers provider scopes = map (λ scope. record { provider = provider; scope = scope }) scopes
 
--- the span that a start came to, after these calls
+-- the span that a start gave, after these calls
 abbrev pub span_after : List Call → StartResult → Option HeldSpan
 span_after calls o = option_map (λ s. held_span s calls) o.span
 
@@ -77,7 +77,7 @@ span_numbered setup steps n =
 abbrev pub calls_so_far : List SpanStep → ℕ → List Call
 calls_so_far steps n = calls_on n steps
 
--- What is answered to a start, where memory is refused to it or not.
+-- The answer to a start, where memory is refused to it or not.
 abbrev pub answer_to_start : Setup → List SpanStep → Bool → ℕ → Parent → Kind → ℕ → List ℕ → Answer
 answer_to_start setup steps refused scope parent kind at name =
     let earlier = start_results setup steps in
@@ -85,7 +85,7 @@ answer_to_start setup steps refused scope parent kind at name =
     start_answer there refused
     (start_result setup earlier false scope parent kind at name).span
 
--- What is answered to this call, which is no end, on a span with these calls, if there is one.
+-- The answer to this call, which is no end, on a span with these calls, if there is one.
 abbrev pub answer_to_call : Bool → List Call → Call → Option StartedSpan → Answer
 answer_to_call refused calls c None = no_span
 answer_to_call refused calls c (Some s) =

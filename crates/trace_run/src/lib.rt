@@ -1,4 +1,4 @@
-//! Runs: a program's steps, from the start of a span to what came of its batch, over a queue and an
+//! Runs: a program's steps, from the start of a span to the fate of its batch, over a queue and an
 //! exporter (OpenTelemetry Trace API; Trace SDK, "Batching processor").
 #![tactic(auto)]
 

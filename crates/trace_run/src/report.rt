@@ -11,7 +11,7 @@ use std::marker::Model;
 use trace_history::Answer;
 
 /// What a run leaves: its answers, its queue with the ledger, and the batch that is out, if one is.
-/// It isn't let go: `close` ends that batch.
+/// It isn't dropped: `close` ends that batch.
 #[derive_where(Debug)]
 pub struct RunReport<A: Allocator = Global> {
     pub(crate) answers: Vec<Answer, A>,
@@ -53,7 +53,7 @@ impl<A: Allocator> RunReport<A> {
         self.out.as_ref().map(|out| &out.batch)
     }
 
-    /// Ends the batch that is out, if one is, since nobody hands it on any more: it is settled as
+    /// Ends the batch that is out, if one is, since no step hands it on any more: it is settled as
     /// `Abandoned` where it was handed to the exporter, and the second ledger names its spans as
     /// `LeftHanded`; else it is dropped, and the ledger names its spans as `Abandoned`. Nothing
     /// else changes. (profile)

@@ -1,4 +1,4 @@
-//! The batch that is out: it is taken, encoded, sent, and judged by what came of that.
+//! The batch that is out: it is taken, encoded, sent, and judged by its outcome.
 ghost use Rattle.std.specs.Prelude.{◌≡◌, ◌<◌, ◌≤◌, ◌+◌, ℕ, IfOk, IsErrOf, length, false};
 ghost use Rattle.model_export.specs.Export.{groups, body_length};
 ghost use Rattle.model_desk.specs.Desks.{DropsSpans};
@@ -30,13 +30,13 @@ pub(crate) enum ExportStage<A: Allocator> {
     ToSend {
         body: Vec<u8, A>,
     },
-    /// It was sent in this attempt, and this came of it.
+    /// It was sent in this attempt, with this outcome.
     ToJudge {
         body: Vec<u8, A>,
         attempt: u32,
         outcome: Outcome,
     },
-    /// It had so many attempts, and is to be sent again from this moment on.
+    /// It had this number of attempts, and is to be sent again from this moment on.
     ToRetry {
         body: Vec<u8, A>,
         attempts: u32,
@@ -156,7 +156,7 @@ fn encode_spans<E: Exporter, A: Allocator + Copy>(
 }
 
 /// Drops a batch that can't be encoded: the ledger names its spans, for the reason that the fault
-/// comes to.
+/// gives.
 fn drop_batch<A: Allocator>(desk: &mut Desk<A>, batch: Batch<A>, fault: EncodeFault) -> Answer
     requires { IsOut false desk.old batch }
     ensures answered { result ≡ Dropped batch.number (reason_of fault) }
@@ -268,8 +268,8 @@ fn send_body<E: Exporter, A: Allocator>(
     (answer, Some(BatchExport { batch, stage }))
 }
 
-/// Judges what came of the last attempt, if the batch that is out was sent: it is settled, or it is
-/// to be sent again.
+/// Judges the outcome of the last attempt, if the batch that is out was sent: it is settled, or it
+/// is to be sent again.
 pub(crate) fn judge_batch<A: Allocator>(
     retry: &RetryConfig,
     desk: &mut Desk<A>,

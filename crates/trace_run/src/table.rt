@@ -67,8 +67,8 @@ impl<S: Sampler, R: Rng, A: Allocator + Copy> fmt::Debug for SpanTable<'_, S, R,
 }
 
 impl<'a, S: Sampler, R: Rng + Drop, A: Allocator + Copy> SpanTable<'a, S, R, A> {
-    /// No span has started yet. There is a tracer of the provider for each scope, and room for so
-    /// many starts; identifiers are drawn from `rng`.
+    /// No span has started yet. There is a tracer of the provider for each scope, and room for this
+    /// number of starts; identifiers are drawn from `rng`.
     ///
     /// # Errors
     ///

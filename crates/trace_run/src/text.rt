@@ -3,7 +3,7 @@
 //!
 //! A line is words with a space between them. It begins with the word of its step. In the line of a
 //! start, a call or an end, the number of the span comes next: starts are counted from 0. Then
-//! comes what the step was answered. Numbers are decimal, identifiers and bodies are lower case
+//! comes the answer to the step. Numbers are decimal, identifiers and bodies are lower case
 //! hexadecimal digits.
 
 mod answers;

@@ -42,8 +42,8 @@ use trace_history::Step;
 /// Each sampled span that ends before the shutdown is waiting, or in the batch that is out and was
 /// not handed over yet, or was handed to the exporter, or is named by the ledger as dropped: once,
 /// and as its calls made it. A batch is sent again, with the same bytes, where its reply asks for
-/// that (OTLP Specification, "Retryable Response Codes"). Where a batch that was handed over comes
-/// to nothing, the second ledger names its spans.
+/// that (OTLP Specification, "Retryable Response Codes"). Where a batch that was handed over is not
+/// delivered, the second ledger names its spans.
 ///
 /// The desk of `config` is of sizes that `Desk::new` takes.
 ///
@@ -101,8 +101,8 @@ pub fn run<S: Sampler + Drop, R: Rng + Drop, E: Exporter, A: Allocator + Copy>(
         (λ run. HandedAreNotDropped run.setup)) }
     ensures ledger { IfOk result
         (OfRun S.meaning R.stream config steps.now LedgerNamesTheDropped) }
-    // The second ledger names the spans of each batch that was handed and came to nothing: once,
-    // with the reason, and no others.
+    // The second ledger names the spans of each batch that was handed and not delivered: once, with
+    // the reason, and no others.
     ensures losses { IfOk result
         (OfRun S.meaning R.stream config steps.now LossesAreNamed) }
 

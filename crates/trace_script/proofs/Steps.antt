@@ -48,6 +48,7 @@ unfolding after_words next_u64 stream_of
 words-behind ws zero = refl
 words-behind ws (suc n) = ap (λ t. (next_u64 t).1) (words-behind ws n) ∙ ap (λ p. p.1) (next_u64-stream_of (steps_u64_high next) (drop n ws)) ∙ ap stream (drop-next n ws)
 
+-- The words of a generator's stream are those of the script, and then zeros.
 pub words-are : (ws : List ℕ) → words_of (stream ws) ≡ words_of_list ws
 unfolding words_of next_u64 stream_of
 words-are ws = fun_ext (λ n. ap (λ t. (next_u64 t).0) (words-behind ws n) ∙ get_or-drop n ws 0 0 ∙ ap (λ i. get_or ws i 0) (add-zero n))
@@ -138,7 +139,7 @@ module _ (setup : Setup) (done : List SpanStep) (n at : ℕ) where
 abbrev Table : Type 0
 Table = TableWith ScriptSampler (List ℕ)
 
--- no span ends
+-- A step that starts a span and ends none keeps the record of the spans.
 pub started : (sc : ℕ) (p : Parent) (k : Kind) (at : ℕ) (name : List ℕ) (answer : Answer) (old new : Table) (before : Body) → is_refused answer ≡ false → TakesStep meaning stream (program.start sc p k at name) answer old new
     → length old.spans + 1 ≤ old.room → length new.spans ≡ length old.spans + 1 → new.room ≡ old.room → Records (granted (program.start sc p k at name)) old before new before
 started sc p k at name answer old new before granted-it takes enough many room setup done h = record {
@@ -158,6 +159,7 @@ which (Call.set_status s) = inl (refl, refl)
 which (Call.update_name n) = inl (refl, refl)
 which (Call.end at) = inr (at, refl)
 
+-- A step that makes a call on a span, be it an end or not, keeps the record of the spans.
 pub called : (n : ℕ) (c : Call) (answer : CodeAnswer) (old new : Table) (before after : Body) → is_refused (answer_view answer) ≡ false → TakesStep meaning stream (program.call n c) (answer_view answer) old new
     → (is_end c ≡ false → after ≡ before)
     → IfSome (end_of c) (λ at. (setup : Setup) (steps : List SpanStep) → IsTable meaning stream setup steps old → EndsAs Admits (span_numbered setup steps n) (calls_so_far steps n) at before answer after)
@@ -180,16 +182,17 @@ called n c answer old new before after granted-it takes other ends many room set
         let said : EndsAs Admits (span_numbered setup done n) (calls_so_far done n) at before answer after = (rw e at ends) setup done h.spans in
         rw e (ended-keeps setup done n at old.room answer before after h.kept enough h.bound (span_numbered setup done n) refl said)
 
--- a step that isn't for the spans
+-- A step that isn't about spans keeps the record of the spans.
 pub idle : (old : Table) (before : Body) → Records [] old before old before
 idle old before setup done h = rw (append-nil done) h
 
 -- ---- lists of steps
 
+-- Two lists of steps that keep the record of the spans do so one after the other.
 pub records-more : (a b : List SpanStep) (t0 t1 t2 : Table) (p0 p1 p2 : Body) → Records a t0 p0 t1 p1 → Records b t1 p1 t2 p2 → Records (a ++ b) t0 p0 t2 p2
 records-more a b t0 t1 t2 p0 p1 p2 f g setup done h = rw (sym (append_assoc done a b)) (g setup (done ++ a) (f setup done h))
 
--- what counts of one step and of those after it
+-- The steps that count are those of the first step and those after it, if it is no shutdown.
 pub granted-cons : (x : Step) (xs : List Step) → is_shutdown x ≡ false → granted_steps (x ∷ xs) ≡ granted x ++ granted_steps xs
 granted-cons x xs e = ap (filter_map (span_step false)) (take_while-cons (λ y. not (is_shutdown y)) x xs ∙ ap (λ b. cond (not b) (x ∷ take_while (λ y. not (is_shutdown y)) xs) []) e) ∙ by (span_step false x)
   where
@@ -197,9 +200,11 @@ granted-cons x xs e = ap (filter_map (span_step false)) (take_while-cons (λ y. 
     by None = refl
     by (Some s) = refl
 
+-- No step counts from a shutdown on.
 pub granted-shut : (x : Step) (xs : List Step) → is_shutdown x ≡ true → granted_steps (x ∷ xs) ≡ []
 granted-shut x xs e = ap (filter_map (span_step false)) (take_while-cons (λ y. not (is_shutdown y)) x xs ∙ ap (λ b. cond (not b) (x ∷ take_while (λ y. not (is_shutdown y)) xs) []) e)
 
+-- The starts among some steps are the one of the first step, if it is one, and those after it.
 pub starts-cons : (x : Step) (xs : List Step) → start_steps (x ∷ xs) ≡ start_steps (x ∷ []) + start_steps xs
 starts-cons x xs = by (begins x)
   where
@@ -211,11 +216,12 @@ one-more : {X Y : Type 0} (b : Bool) (x : X) (xs : List X) (y : Y) (ys : List Y)
 one-more true x xs y ys e = ap suc e
 one-more false x xs y ys e = e
 
--- the starts among the steps
+-- The starts among the steps of a script are as many as in the model.
 pub starts-among : {X : Type 0} (view : X → Step) (xs : List X) → length (filter (λ x. begins (view x)) xs) ≡ start_steps (map view xs)
 starts-among view [] = refl
 starts-among view (x ∷ xs) = one-more (begins (view x)) x (filter (λ y. begins (view y)) xs) (view x) (filter begins (map view xs)) (starts-among view xs)
 
+-- At most as many steps are starts as there are steps.
 pub starts-few : (steps : List Step) → start_steps steps ≤ length steps
 starts-few [] = omega arith
 starts-few (x ∷ steps) = by (begins x) (starts-few steps)
@@ -224,7 +230,7 @@ starts-few (x ∷ steps) = by (begins x) (starts-few steps)
     by true h = omega (arith, h)
     by false h = omega (arith, h)
 
--- nothing is done yet
+-- Before the first step, a table without spans and an empty body are the record of no steps.
 pub begun : (setup : Setup) (steps : List Step) (table : Table) (pass : Body) → IsTable meaning stream setup [] table → table.spans ≡ [] → table.room ≡ start_steps steps → pass ≡ keeping [] (start_steps steps) → start_steps steps < 2 ^ 64
     → Stands setup [] table pass
 begun setup steps table pass is empty room kept bound = record {
@@ -234,10 +240,11 @@ begun setup steps table pass is empty room kept bound = record {
   bound = rw room bound;
 }
 
--- the next of these
+-- A list from a place on begins with the item at this place.
 pub next-item : {X : Type 0} (xs : List X) (i : ℕ) (x : X) → i < length xs → x ≡ get_or xs i x → drop i xs ≡ x ∷ drop (i + 1) xs
 next-item xs i x small is = drop-cons xs i x small ∙ ap (λ y. y ∷ drop (suc i) xs) (sym is) ∙ (let e : suc i ≡ i + 1 = omega arith in ap (λ j. x ∷ drop j xs) e)
 
+-- A list from its end on is empty.
 pub none-left : {X : Type 0} (xs : List X) (i : ℕ) → length xs ≤ i → drop i xs ≡ []
 none-left [] i h = drop-nil i
 none-left (x ∷ xs) zero h = absurd (omega (arith, h))
@@ -245,6 +252,6 @@ none-left (x ∷ xs) (suc i) h = none-left xs i (omega (arith, h))
 
 -- ---- scripts
 
--- what a script is
+-- The spans that end in the script of the code are those of the script that was read.
 pub same-script : {A : Type 0} (c : CodeScript A) (read : Script) → Means c read → ended_spans (setup_view c) (granted_steps (map step_view c.steps.items)) ≡ spans_of read
 same-script c read m = rw (m.words, m.sampler, m.limits, m.resource, m.scopes, m.steps) refl

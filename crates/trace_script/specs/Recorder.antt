@@ -39,7 +39,7 @@ start_steps steps = length (filter begins steps)
 abbrev pub meaning : ScriptSampler → SamplerMeaning
 meaning s = meaning_of s.0
 
--- these spans are kept, and so many may be
+-- these spans are kept, and at most this many may be kept
 abbrev pub keeping : List SpanData → ℕ → Body
 keeping spans room = record { spans = spans; room = room; dropped = 0 }
 

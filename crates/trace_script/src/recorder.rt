@@ -115,7 +115,7 @@ fn take_step<A: Allocator + Copy>(
     }
 }
 
-/// The answer is want of memory, or not.
+/// The answer is lack of memory, or not.
 fn unless_refused(answer: Answer) -> Result<(), OutOfMemory>
     ensures { OnOk result (is_refused (answer_view answer) ≡ false) }
 {

@@ -6,10 +6,12 @@ use Rattle.circular_buffer.specs.Buffer.{keep_last}
 use Rattle.trace_store.specs.Stores.{AreNewest, AreWithin, Evicts, Kept}
 use Rattle.trace_store.specs.Traces.{traces_of}
 
+-- All traces are the newest traces, where no trace was left out.
 pub all_newest : {S : Type 0} (size : S → ℕ) (spans bytes : ℕ) (all : List (ℕ × List S)) → AreNewest size spans bytes all all
 all_newest size spans bytes all = record { older = []; split = sym (append-nil all); needed = λ next others e. cc }
 
--- one more was evicted, with which they were too many
+-- The newest traces stay the newest ones when the last of them is evicted, where with it they were
+-- out of bounds.
 pub one_older : {S : Type 0} (size : S → ℕ) (spans bytes : ℕ) (all newest left : List (ℕ × List S)) (oldest : ℕ × List S)
     → AreNewest size spans bytes all newest → ¬ AreWithin size spans bytes newest → newest ≡ left ++ oldest ∷ []
     → AreNewest size spans bytes all left
@@ -21,14 +23,15 @@ one_older size spans bytes all newest left oldest h many split = record {
       many (subst (AreWithin size spans bytes) (ap (λ x. left ++ x ∷ []) (sym same) ∙ sym split) w);
 }
 
--- where there are too many, there is one
+-- Traces that aren't within the bounds are at least one trace.
 pub some_there : {S : Type 0} (size : S → ℕ) (spans bytes : ℕ) (traces : List (ℕ × List S)) → ¬ AreWithin size spans bytes traces → 0 < length traces
 some_there size spans bytes [] many = absurd (many (record { spans_fit = omega arith; bytes_fit = omega arith }))
 some_there size spans bytes (t ∷ ts) many = omega arith
 
 -- ---- names
 
--- the last n, where some come after the last n
+-- The last n of a list's last n items and some further items are the last n of the whole list and
+-- these items.
 pub last_more : {X : Type 0} (n : ℕ) (xs ys : List X) → length ys ≤ n → keep_last n (keep_last n xs ++ ys) ≡ keep_last n (xs ++ ys)
 last_more n xs ys fits =
     let cut = length-drop (length xs - n) xs in
@@ -45,7 +48,7 @@ last_all n xs fits =
     let none : length xs - n ≡ 0 = omega arith in
     ap (keep_last n) (append-nil xs) ∙ ap (λ k. drop k xs) none
 
--- none went
+-- A store that evicted nothing names and counts what it did before.
 pub none_evicted : {S : Type 0} (k : Kept S) → length k.last_evicted ≤ 1000 → k.evicted_traces ≤ 2 ^ 64 - 1 → Evicts k.traces k k
 none_evicted k fits low = record {
   older = [];
@@ -53,7 +56,7 @@ none_evicted k fits low = record {
   named = record { count = omega arith; names = sym (last_all 1000 k.last_evicted fits) };
 }
 
--- one more went
+-- When the oldest trace goes as well, is counted and is named, the evictions so far include it.
 pub one_evicted : {S : Type 0} (all : List (ℕ × List S)) (old mid new : Kept S) (oldest : ℕ × List S)
     → Evicts all old mid → mid.traces ≡ new.traces ++ oldest ∷ []
     → new.evicted_traces ≡ min (mid.evicted_traces + 1) (2 ^ 64 - 1)
@@ -75,10 +78,12 @@ one_evicted all old mid new oldest h split count names =
       };
     }
 
+-- The last n items of a list are at most n.
 pub last_fits : {X : Type 0} (n : ℕ) (xs : List X) → length (keep_last n xs) ≤ n
 last_fits n xs = omega (arith, length-drop (length xs - n) xs)
 
--- what is counted and named is the same, where spans came before others went
+-- The evicted traces are counted and named in the same way where spans were added before the
+-- eviction.
 pub evicts_from : {S : Type 0} (mid new old : Kept S) (all : List (ℕ × List S)) → mid.traces ≡ all → mid.evicted_traces ≡ old.evicted_traces → mid.last_evicted ≡ old.last_evicted
     → Evicts mid.traces mid new → Evicts all old new
 evicts_from mid new old all traces count names h = record {

@@ -11,7 +11,7 @@ use Rattle.std.proofs.lemmas.Bool.{cases_Bool}
 use borrow.Author.Tests.{ltb-true, ltb-false}
 use Rattle.trace_store.specs.SpanParts.{ArePartsOf, BeginsPart, JoinsLast, entries_of, entries_of_part, keys_of}
 
--- some of the first spans, so many, is of the trace with this number
+-- one of the first n spans is of the trace with this number
 pub record IsAmong {S : Type 0} (spans : List (ℕ × S)) (n key : ℕ) : Type 0 where
   pub place : ℕ
   pub within : place < n
@@ -48,9 +48,11 @@ rises zs x y h lt k within =
           omega (arith, first, second, lt)
     ]
 
+-- The keys of parts with one more part end with the key of that part.
 pub keys_push : {S : Type 0} (parts : List (ℕ × List S)) (part : ℕ × List S) → keys_of (parts ++ part ∷ []) ≡ keys_of parts ++ part.0 ∷ []
 keys_push parts part = map-append (λ p. p.0) parts (part ∷ [])
 
+-- The entries of parts with one more part end with the entries of that part.
 pub entries_push : {S : Type 0} (parts : List (ℕ × List S)) (part : ℕ × List S) → entries_of (parts ++ part ∷ []) ≡ entries_of parts ++ entries_of_part part
 entries_push parts part = flat_map-append entries_of_part parts (part ∷ []) ∙ ap (λ l. entries_of parts ++ l) (append-nil (entries_of_part part))
 
@@ -75,7 +77,7 @@ next_among spans done rest key span whole = record {
   is = λ d. next_key spans done rest key span d whole;
 }
 
--- it comes to the open part
+-- When the next span comes to the open part, the spans so far are still in parts.
 pub joined : {S : Type 0} (spans done rest : List (ℕ × S)) (parts parts' : List (ℕ × List S)) (k : ℕ) (ss : List S) (last' : ℕ × List S) (key : ℕ) (span : S)
     → done ++ (key, span) ∷ rest ≡ spans → AreOpen spans done parts (k, ss) → JoinsLast key span parts parts' (k, ss) last' → AreOpen spans (done ++ (key, span) ∷ []) parts' last'
 joined spans done rest parts parts' k [] last' key span whole h j =
@@ -109,7 +111,7 @@ some_length : {S : Type 0} (ss : List S) → ss ≢ [] → 0 < length ss
 some_length [] h = absurd (h refl)
 some_length (s ∷ ss) h = omega arith
 
--- it begins a part
+-- When the next span begins a part, the spans so far are still in parts.
 pub begins : {S : Type 0} (spans done rest : List (ℕ × S)) (parts parts' : List (ℕ × List S)) (last last' : ℕ × List S) (key : ℕ) (span : S)
     → IsNonDecreasingBy (λ e. e.0) spans
     → done ++ (key, span) ∷ rest ≡ spans → AreOpen spans done parts last → BeginsPart key span parts parts' last last' → AreOpen spans (done ++ (key, span) ∷ []) parts' last'
@@ -134,6 +136,7 @@ begins {S} spans done rest parts parts' last last' key span sorted whole h b =
     subst (λ l. AreOpen spans (done ++ (key, span) ∷ []) l last') (sym b.put)
     (subst (λ l. AreOpen spans (done ++ (key, span) ∷ []) (parts ++ last ∷ []) l) (sym b.one) one)
 
+-- After the next span, whether it joined the open part or began one, the spans are in parts.
 pub one_more : {S : Type 0} (spans done rest : List (ℕ × S)) (parts parts' : List (ℕ × List S)) (last last' : ℕ × List S) (key : ℕ) (span : S)
     → IsNonDecreasingBy (λ e. e.0) spans
     → done ++ (key, span) ∷ rest ≡ spans → AreOpen spans done parts last → (JoinsLast key span parts parts' last last' ⊎ BeginsPart key span parts parts' last last')
@@ -143,7 +146,7 @@ one_more spans done rest parts parts' last last' key span sorted whole h put = e
   | inr b ↦ begins spans done rest parts parts' last last' key span sorted whole h b
 ]
 
--- where no span came, there is no part
+-- Where no span came, the spans are in no parts.
 pub closed_empty : {S : Type 0} (spans done : List (ℕ × S)) (parts : List (ℕ × List S)) (k : ℕ) (ss : List S) → done ≡ spans → ss ≡ [] → AreOpen spans done parts (k, ss) → ArePartsOf spans parts
 closed_empty {S} spans done parts k ss whole none h =
     let no_parts : parts ≡ [] = h.empty none in
@@ -151,7 +154,7 @@ closed_empty {S} spans done parts k ss whole none h =
     let start : ArePartsOf {S = S} [] [] = record { all = refl; some = All-nil (λ (part : ℕ × List S). 0 < length part.1); rising = λ i within. absurd (omega arith) } in
     subst (λ l. ArePartsOf l parts) (sym nothing ∙ whole) (subst (λ l. ArePartsOf [] l) (sym no_parts) start)
 
--- the open part is the last one
+-- The open part is the last part, once all spans have come.
 pub closed : {S : Type 0} (spans done : List (ℕ × S)) (parts parts' : List (ℕ × List S)) (last : ℕ × List S) → done ≡ spans → last.1 ≢ [] → parts' ≡ parts ++ last ∷ [] → AreOpen spans done parts last → ArePartsOf spans parts'
 closed {S} spans done parts parts' last whole some put h =
     subst (λ l. ArePartsOf l parts') whole (subst (λ l. ArePartsOf done l) (sym put) (record {
@@ -160,10 +163,12 @@ closed {S} spans done parts parts' last whole some put h =
       rising = h.rising some;
     }))
 
+-- A list of length 0 is empty.
 pub is_none : {S : Type 0} (ss : List S) → nat_eq (length ss) 0 ≡ true → ss ≡ []
 is_none [] h = refl
 is_none (s ∷ ss) h = absurd (omega (arith, eqb-true (length (s ∷ ss)) 0 h))
 
+-- A list whose length isn't 0 isn't empty.
 pub some_there : {S : Type 0} (ss : List S) → nat_eq (length ss) 0 ≡ false → ss ≢ []
 some_there [] h e = cc
 some_there (s ∷ ss) h e = cc

@@ -21,7 +21,7 @@ use Rattle.otlp_read.specs.declared.request.ResourceSpans.{ResourceSpans}
 use Rattle.otlp_read.specs.declared.request.ScopeSpans.{ScopeSpans}
 use Rattle.trace_store.specs.Requests.{Placed, IsOfOneTrace, key_of, keyed, keyed_of, placed_after, placed_of, share_of, spans_of_parts, spans_of_resource, spans_of_scope, trace_of}
 
--- a span that was put under its resource and its scope
+-- A kept span has the resource and the scope under which it was put.
 pub placed : {A : Type 0} (kept : Arc (ViewSpan A) A) (span : Span A) (r r' : Arc (ViewResource A) A) (s s' : Arc (ViewScope A) A) (shared : ℕ)
     → arc_value kept ≡ record { span = span; resource = r; scope = s; shared = shared } → arc_value r ≡ arc_value r' → arc_value s ≡ arc_value s'
     → placed_of kept ≡ record { resource = arc_value r'; scope = arc_value s'; span = span; shared = shared }
@@ -30,11 +30,11 @@ placed {A} kept span r r' s s' shared is same_r same_s =
     ∙ ap (λ x. let p : Placed A = record { resource = x; scope = arc_value s; span = span; shared = shared } in p) same_r
     ∙ ap (λ x. let p : Placed A = record { resource = arc_value r'; scope = x; span = span; shared = shared } in p) same_s
 
--- one more of a list that is kept
+-- A kept span that is appended to a list is its last entry, under its key.
 pub kept_more : {A : Type 0} (old new : List (ℕ × Arc (ViewSpan A) A)) (key : ℕ) (kept : Arc (ViewSpan A) A) (p : Placed A) → new ≡ old ++ (key, kept) ∷ [] → placed_of kept ≡ p → keyed_of new ≡ keyed_of old ++ (key, p) ∷ []
 kept_more old new key kept p push is = ap keyed_of push ∙ map-append (λ e. (e.0, placed_of e.1)) old ((key, kept) ∷ []) ∙ ap (λ e. keyed_of old ++ (key, e) ∷ []) is
 
--- what is counted with the next one
+-- The bytes counted with the next span are its share of the resource and the scope.
 pub counted : {A : Type 0} (r : ViewResource A) (s made : ViewScope A) (before : Option ℕ) (trace size own bytes shared : ℕ)
     → size ≡ at_most_64_bits (resource_bytes r) → own ≡ at_most_64_bits (scope_bytes made) → s ≡ made → bytes ≡ min (size + own) (2 ^ 64 - 1)
     → shared ≡ (if option_eq nat_eq before (Some trace) then 0 else bytes) → shared ≡ share_of r s before trace
@@ -42,7 +42,7 @@ counted r s made before trace size own bytes shared first second is sum share =
     let all : bytes ≡ at_most_64_bits (resource_bytes r + scope_bytes s) = omega (arith, first, second, ap scope_bytes is, sum) in
     share ∙ ap (λ n. if option_eq nat_eq before (Some trace) then 0 else n) all
 
--- the next of those that are left was appended
+-- After the next span of a scope is appended, the rest of the scope completes the same list.
 pub next_placed : {A : Type 0} (r : ViewResource A) (s : ViewScope A) (before : Option ℕ) (rest rest' : List (Span A)) (x : Span A) (old new whole : List (ℕ × Placed A)) (trace shared : ℕ)
     → old ++ map keyed (placed_after r s before rest) ≡ whole → rest ≡ x ∷ rest' → trace ≡ trace_of x → shared ≡ share_of r s before trace
     → new ≡ old ++ (trace, record { resource = r; scope = s; span = x; shared = shared }) ∷ []
@@ -56,13 +56,14 @@ next_placed {A} r s before rest rest' x old new whole trace shared inv next same
     ∙ append_assoc old ((trace, q shared) ∷ []) (map keyed (placed_after r s (Some trace) rest'))
     ∙ ap (λ l. old ++ l) one ∙ inv
 
+-- After one more item of a loop, the list ends with the entries of all items so far.
 pub some_pushed : {X Y Z : Type 0} (k : Y → Z) (f : X → List Y) (start old new : List Z) (done : List X) (x : X)
     → old ≡ start ++ map k (flat_map f done) → new ≡ old ++ map k (f x) → new ≡ start ++ map k (flat_map f (done ++ x ∷ []))
 some_pushed k f start old new done x before push =
     push ∙ ap (λ l. l ++ map k (f x)) before ∙ append_assoc start (map k (flat_map f done)) (map k (f x))
     ∙ ap (λ l. start ++ l) (sym (ap (map k) (flat_map-append f done (x ∷ []) ∙ ap (λ l. flat_map f done ++ l) (append-nil (f x))) ∙ map-append k (flat_map f done) (f x)))
 
--- the spans of a scope are done
+-- Once no span of a scope is left, all spans of the scope are appended.
 pub scope_done : {A : Type 0} (start now : List (ℕ × Placed A)) (r : ViewResource A) (s : ViewScope A) (before : Option ℕ) (group : ScopeSpans A) (rest : List (Span A))
     → now ++ map keyed (placed_after r s before rest) ≡ start ++ map keyed (placed_after r s None group.spans.items) → rest ≡ [] → s ≡ record { scope = group.scope; schema_url = group.schema_url }
     → now ≡ start ++ map keyed (spans_of_scope r group)
@@ -70,13 +71,14 @@ scope_done start now r s before group rest h ends is =
     sym (append-nil now) ∙ ap (λ l. now ++ map keyed (placed_after r s before l)) (sym ends)
     ∙ h ∙ ap (λ x. start ++ map keyed (placed_after r x None group.spans.items)) is
 
--- those of a resource
+-- Once no scope of a resource is left, all spans of the resource are appended.
 pub resource_done : {A : Type 0} (start now : List (ℕ × Placed A)) (r : ViewResource A) (group : ResourceSpans A) (done : List (ScopeSpans A))
     → now ≡ start ++ map keyed (flat_map (spans_of_scope r) done) → done ≡ group.scope_spans.items → r ≡ record { resource = group.resource; schema_url = group.schema_url }
     → now ≡ start ++ map keyed (spans_of_resource group)
 resource_done start now r group done h ends is =
     h ∙ ap (λ l. start ++ map keyed (flat_map (spans_of_scope r) l)) ends ∙ ap (λ x. start ++ map keyed (flat_map (spans_of_scope x) group.scope_spans.items)) is
 
+-- What holds of a result's value carries over to whatever follows from it.
 pub if_ok : {T E : Type 0} (P Q : T → Type 0) (r : Result T E) → ((x : T) → P x → Q x) → IfOk r P → IfOk r Q
 if_ok P Q (Ok x) f h = f x h
 if_ok P Q (Err e) f h = h
@@ -101,7 +103,7 @@ parts_spans (p ∷ ps) =
     map-append (λ e. placed_of e.1) (entries_of_part p) (entries_of ps)
     ∙ ap₂ (λ l m. l ++ m) (part_spans p.0 p.1) (parts_spans ps)
 
--- the spans of the parts are those of the request
+-- The spans of the parts are those of the request, in some order.
 pub parts_are : {A : Type 0} (found sorted : List (ℕ × Arc (ViewSpan A) A)) (spans : List (Placed A)) (parts : List (ℕ × List (Arc (ViewSpan A) A)))
     → keyed_of found ≡ map keyed spans → IsPermutation found sorted → sorted ≡ entries_of parts → IsPermutation spans (spans_of_parts parts)
 parts_are found sorted spans parts keys order whole =
@@ -140,7 +142,7 @@ of_traces (p ∷ ps) h =
     (one_trace p.0 p.1 (all_left HasKey (keyed_of (entries_of_part p)) (keyed_of (entries_of ps)) both))
     (of_traces ps (all_right HasKey (keyed_of (entries_of_part p)) (keyed_of (entries_of ps)) both))
 
--- each span of a part is of its trace
+-- Each span of a part is of the part's trace.
 pub parts_keep : {A : Type 0} (found sorted : List (ℕ × Arc (ViewSpan A) A)) (spans : List (Placed A)) (parts : List (ℕ × List (Arc (ViewSpan A) A)))
     → keyed_of found ≡ map keyed spans → IsPermutation found sorted → sorted ≡ entries_of parts → All IsOfOneTrace parts
 parts_keep found sorted spans parts keys order whole =

@@ -14,6 +14,7 @@ pub record IsGiving {S : Type 0} (size : S → ℕ) (bytes : ℕ) (all left : Li
   pub needed : (next : ℕ × List S) (others : List (ℕ × List S)) → older ≡ next ∷ others → byte_count size others < bytes
 
 module _ {S : Type 0} (size : S → ℕ) (bytes : ℕ) (all : List (ℕ × List S)) where
+  -- Before any trace is given up, all traces are left.
   pub none_given : IsGiving size bytes all all
   none_given = record { older = []; split = sym (append-nil all); needed = λ next others e. cc }
 
@@ -24,6 +25,7 @@ module _ {S : Type 0} (size : S → ℕ) (bytes : ℕ) (all : List (ℕ × List 
       → ¬ (bytes ≤ before - byte_count size left) → byte_count size older < bytes
   few_older before left older whole split few = let sum = given_bytes left older split in grind (arith, whole, sum, few)
 
+  -- The oldest trace may be given up as well, where those given up so far take too few bytes.
   pub one_given : (before : ℕ) (left left' : List (ℕ × List S)) (oldest : ℕ × List S) → before ≡ byte_count size all
       → IsGiving size bytes all left → ¬ (bytes ≤ before - byte_count size left) → left ≡ left' ++ oldest ∷ []
       → IsGiving size bytes all left'
@@ -35,6 +37,7 @@ module _ {S : Type 0} (size : S → ℕ) (bytes : ℕ) (all : List (ℕ × List 
         subst (λ x. byte_count size x < bytes) same (few_older before left h.older whole h.split few);
   }
 
+  -- Traces without the oldest one take no more bytes than all traces took at first.
   pub less_left : (before : ℕ) (left left' : List (ℕ × List S)) (oldest : ℕ × List S) → before ≡ byte_count size all
       → IsGiving size bytes all left → left ≡ left' ++ oldest ∷ [] → byte_count size left' ≤ before
   less_left before left left' oldest whole h split =
@@ -45,6 +48,7 @@ module _ {S : Type 0} (size : S → ℕ) (bytes : ℕ) (all : List (ℕ × List 
   enough_given before left older whole split (inl e) = inl (omega (arith, whole, given_bytes left older split, e))
   enough_given before left older whole split (inr e) = inr e
 
+  -- The traces left have made room once enough bytes were given up or no trace is left.
   pub makes_room : (before : ℕ) (left : List (ℕ × List S)) → before ≡ byte_count size all
       → IsGiving size bytes all left → ((bytes ≤ before - byte_count size left) ⊎ (left ≡ [])) → MakesRoom size bytes all left
   makes_room before left whole h enough = record {
@@ -54,5 +58,6 @@ module _ {S : Type 0} (size : S → ℕ) (bytes : ℕ) (all : List (ℕ × List 
     needed = h.needed;
   }
 
+  -- No more traces are left than there were at first.
   pub fewer_left : (left : List (ℕ × List S)) → IsGiving size bytes all left → length left ≤ length all
   fewer_left left h = omega (arith, ap length h.split, length-append left h.older)

@@ -10,13 +10,13 @@ next_service : {A : Type 0} (xs : List (String A × Received A)) (at : ℕ) (x :
 unfolding service_in
 next_service xs at x within is = ap service_in (drop_more xs at x within ∙ ap (λ y. y ∷ drop (at + 1) xs) (sym is))
 
--- it is said here
+-- An attribute that says the service, after none that does, says the service of all attributes.
 pub service_said : {A : Type 0} (xs : List (String A × Received A)) (at : ℕ) (x : String A × Received A) (name : List ℕ) → at < length xs → x ≡ get_or xs at x
     → Some name ≡ service_value x → service_in (drop at xs) ≡ service_in xs → name ≡ service_in xs
 service_said xs at x name within is found before =
     ap (λ o. unwrap_or o (service_in (drop (at + 1) xs))) found ∙ sym (next_service xs at x within is) ∙ before
 
--- it isn't
+-- An attribute that doesn't say the service leaves it to the attributes after it.
 pub service_unsaid : {A : Type 0} (xs : List (String A × Received A)) (at : ℕ) (x : String A × Received A) → at < length xs → x ≡ get_or xs at x
     → None ≡ service_value x → service_in (drop at xs) ≡ service_in xs → service_in (drop (at + 1) xs) ≡ service_in xs
 service_unsaid xs at x within is none before =

@@ -102,6 +102,7 @@ same_facts : {A : Type 0} (r r' : Option (ViewSpan A)) (s s' e e' n n' f f' : �
     → ◌≡◌ {A = TraceFacts (ViewSpan A)} (record { root = r; start_time_unix_nano = s; end_time_unix_nano = e; span_count = n; error_count = f }) (record { root = r'; start_time_unix_nano = s'; end_time_unix_nano = e'; span_count = n'; error_count = f' })
 same_facts r r' s s' e e' n n' f f' hr hs he hn hf = rw (hr, hs, he, hn, hf) refl
 
+-- A digest is the joined one of two digests where each of its parts is joined from theirs.
 pub joined_is : {A : Type 0} (a b : TraceFacts (ViewSpan A)) (r : Option (ViewSpan A)) (s e n f : ℕ) → r ≡ root_between a.root b.root → s ≡ min a.start_time_unix_nano b.start_time_unix_nano
     → e ≡ max a.end_time_unix_nano b.end_time_unix_nano → n ≡ min (a.span_count + b.span_count) (2 ^ 64 - 1) → f ≡ min (a.error_count + b.error_count) (2 ^ 64 - 1)
     → ◌≡◌ {A = TraceFacts (ViewSpan A)} (record { root = r; start_time_unix_nano = s; end_time_unix_nano = e; span_count = n; error_count = f }) (joined a b)
@@ -110,5 +111,6 @@ joined_is a b r s e n f hr hs he hn hf = same_facts _ _ _ _ _ _ _ _ _ _ hr hs he
 digest-append : {A : Type 0} (xs ys : List (ViewSpan A)) → digest_of (xs ++ ys) ≡ joined (digest_of xs) (digest_of ys)
 digest-append xs ys = same_facts _ _ _ _ _ _ _ _ _ _ (root-append xs ys) (earliest-append xs ys) (latest-append xs ys) (count-append xs ys) (errors-append xs ys)
 
+-- The digest of kept spans and of others after them is the joined digest of both.
 pub kept-append : {A : Type 0} (xs ys : List (Arc (ViewSpan A) A)) → digest_of_kept (xs ++ ys) ≡ joined (digest_of_kept xs) (digest_of_kept ys)
 kept-append xs ys = ap digest_of (map-append arc_value xs ys) ∙ digest-append (map arc_value xs) (map arc_value ys)

@@ -36,7 +36,7 @@ popped : {S : Type 0} (c after : LruCache ℕ (List S)) (k : ℕ) (spans : List 
 popped c after k spans last popping =
     last_split c.entries (k, spans) last ∙ ap (λ x. x ++ (k, spans) ∷ []) (sym (ap (λ x. x.entries) popping))
 
--- what was popped, if there was any
+-- A popped trace was the last one of the cache, and where none was popped, the cache was empty.
 pub oldest_of : {S : Type 0} (c after : LruCache ℕ (List S)) (o : Option (ℕ × List S))
     → o ≡ slice_get c.entries (length c.entries - 1)
     → after ≡ lru_cache (take (length c.entries - 1) c.entries) c.cap
@@ -44,6 +44,7 @@ pub oldest_of : {S : Type 0} (c after : LruCache ℕ (List S)) (o : Option (ℕ 
 oldest_of c after None none popping = no_last c.entries (sym none)
 oldest_of c after (Some oldest) some popping = popped c after oldest.0 oldest.1 (sym some) popping
 
+-- A sum over traces is the sum over all but the last one, and the value of the last one.
 pub sum_last : {S : Type 0} (f : List S → ℕ) (es left : List (ℕ × List S)) (k : ℕ) (spans : List S)
     → es ≡ left ++ (k, spans) ∷ []
     → sum_by f (values_of es) ≡ sum_by f (values_of left) + f spans
@@ -57,7 +58,7 @@ of_found : {S : Type 0} (f : List S → ℕ) (o : Option (List S)) → f [] ≡ 
 of_found f None none = none
 of_found f (Some spans) none = refl
 
--- what those of one trace come to, and those of the others, is all
+-- The sum over one trace and the sum over the others make the sum over all traces.
 found_sum : {S : Type 0} (f : List S → ℕ) (es : List (ℕ × List S)) (k : ℕ) → f [] ≡ 0
     → sum_by f (values_of (remove_entry (nat_eq k) es)) + f (spans_of es k) ≡ sum_by f (values_of es)
 found_sum f es k none =
@@ -71,12 +72,15 @@ with_sum f es k more none adds =
     let whole : sum_by f (values_of (with_spans es k more)) ≡ 0 + f (spans_of es k ++ more) + sum_by f (values_of (remove_entry (nat_eq k) es)) = sum_by-append f ((spans_of es k ++ more) ∷ []) (values_of (remove_entry (nat_eq k) es)) in
     whole ∙ omega (arith, found_sum f es k none, adds)
 
+-- A trace has at most as many spans as all traces together.
 pub spans_le : {S : Type 0} (es : List (ℕ × List S)) (k : ℕ) → length (spans_of es k) ≤ span_count es
 spans_le es k = omega (arith, found_sum length es k refl)
 
+-- Traces with more spans of one trace have that many more spans.
 pub with_count : {S : Type 0} (es : List (ℕ × List S)) (k : ℕ) (more : List S) → span_count (with_spans es k more) ≡ span_count es + length more
 with_count es k more = with_sum length es k more refl (length-append (spans_of es k) more)
 
+-- Traces with more spans of one trace take as many more bytes as these spans take.
 pub with_bytes : {S : Type 0} (size : S → ℕ) (es : List (ℕ × List S)) (k : ℕ) (more : List S)
     → byte_count size (with_spans es k more) ≡ byte_count size es + sum_by size more
 with_bytes size es k more = with_sum (sum_by size) es k more refl (sum_by-append size (spans_of es k) more)

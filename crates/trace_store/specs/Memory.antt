@@ -10,7 +10,7 @@ use Rattle.trace_store.specs.declared.memory.Kind.TheVariants.{Status, Pair, Val
 use Rattle.trace_store.specs.declared.memory.Content.{Content}
 use Rattle.trace_store.specs.declared.memory.Content.TheVariants.{Nothing, Bytes, Message}
 
--- What is kept of the fields of a message: of a text or of bytes themselves, and of a message so
+-- What is kept of the fields of a message: of a text or of bytes themselves, and of a message this
 -- many bytes besides what is kept of its fields. 48 is for a value, 64 for a pair, and a pair has a
 -- value. Numbers have their place in the message. (opentelemetry-proto; the sizes: profile)
 abbrev pub contents : Kind → List (ℕ × Content)
@@ -34,7 +34,7 @@ contents Pairs = (1, Message 112 Pair) ∷ []
 abbrev pub content_of : Kind → ℕ → Content
 content_of kind number = unwrap_or (lookup (nat_eq number) (contents kind)) Nothing
 
--- how many bytes these bytes take as such a content, where a message takes so many
+-- how many bytes these bytes take as such a content, where a message takes a given number
 abbrev pub content_size : (Kind → List ℕ → ℕ) → Content → List ℕ → ℕ
 content_size size Nothing bs = 0
 content_size size Bytes bs = length bs
@@ -50,8 +50,8 @@ payload_size size content _ = 0
 abbrev pub field_size : (Kind → List ℕ → ℕ) → Kind → Field → ℕ
 field_size size kind field = payload_size size (content_of kind field.number) field.payload
 
--- How many bytes the fields of a message take, up to the first fault in its bytes. Messages nest so
--- many levels deep at most, and those that nest deeper take none.
+-- How many bytes the fields of a message take, up to the first fault in its bytes. Messages nest
+-- this many levels deep at most, and those that nest deeper take none.
 unfoldable pub message_size : ℕ → Kind → List ℕ → ℕ
 message_size zero kind bs = 0
 message_size (suc depth) kind bs = sum_by (field_size (message_size depth) kind) (row bs).value

@@ -12,11 +12,11 @@ use Rattle.trace_store.specs.declared.span.ViewScope.{ViewScope}
 abbrev pub at_most_64_bits : ℕ → ℕ
 at_most_64_bits n = min n (2 ^ 64 - 1)
 
--- a key, and a value that takes so many bytes
+-- a key, and a value that takes this many bytes
 abbrev pub pair_step : {A : Type 0} → String A × ℕ → ℕ
 pair_step pair = 64 + string_len pair.0 + pair.1
 
--- one level of a value, where each value inside takes so many bytes
+-- one level of a value, where each value inside takes this many bytes
 abbrev pub value_step : {A : Type 0} → AnyValue-F A ℕ → ℕ
 value_step AnyValue-F.Empty = 48
 value_step (AnyValue-F.Text t) = 48 + string_len t

@@ -55,8 +55,8 @@ pub record Evicts {S : Type 0} (all : List (ℕ × List S)) (old new : Kept S) :
   pub split : all ≡ new.traces ++ older
   pub named : AreNamed old new older
 
--- These are the newest of all traces: the older ones take at least so many bytes together, or none
--- is left. With one trace fewer they would take less.
+-- These are the newest of all traces: the older ones take at least this many bytes together, or
+-- none is left. With one trace fewer they would take less.
 pub record MakesRoom {S : Type 0} (size : S → ℕ) (bytes : ℕ) (all newest : List (ℕ × List S))
     : Type 0 where
   pub older : List (ℕ × List S)

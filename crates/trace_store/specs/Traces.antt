@@ -20,7 +20,7 @@ with_spans traces trace spans =
 abbrev pub span_count : {S : Type 0} → List (ℕ × List S) → ℕ
 span_count traces = sum_by length (values_of traces)
 
--- how many bytes they take, where a span takes so many
+-- how many bytes all traces take, where the function says how many a span takes
 abbrev pub byte_count : {S : Type 0} → (S → ℕ) → List (ℕ × List S) → ℕ
 byte_count size traces = sum_by (sum_by size) (values_of traces)
 

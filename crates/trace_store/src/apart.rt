@@ -31,7 +31,7 @@ fn share_of(bytes: u64, before: Option<u128>, trace: u128) -> u64
     if before == Some(trace) { 0 } else { bytes }
 }
 
-/// Appends a span of this trace, with which so many bytes are counted of what it shares.
+/// Appends a span of this trace, with which this many bytes are counted of what it shares.
 fn push_span<A: Allocator + Copy>(
     found: &mut Vec<Keyed<A>, A>,
     resource: &Arc<ViewResource<A>, A>,
@@ -65,7 +65,7 @@ fn push_span<A: Allocator + Copy>(
     Ok(found.push((trace, kept))?)
 }
 
-/// Appends the spans of a scope, whose resource takes so many bytes.
+/// Appends the spans of a scope, whose resource takes this many bytes.
 fn push_scope<A: Allocator + Copy>(
     found: &mut Vec<Keyed<A>, A>,
     resource: &Arc<ViewResource<A>, A>,

@@ -31,7 +31,7 @@ const NAMED: usize = 1_000;
 pub struct Limits {
     /// How many spans.
     pub max_spans: u64,
-    /// How many bytes their sizes come to.
+    /// How many bytes all of them take.
     pub max_bytes: u64,
 }
 
@@ -244,7 +244,7 @@ impl<S: SpanSize + Drop, D: Digest<S>, H: BuildHasher + Drop, A: Allocator + Cop
         self.traces.len()
     }
 
-    /// Whether traces that took so many bytes gave up at least so many, or all.
+    /// Whether of traces that took `before` bytes at least `bytes` were given up, or all of them.
     fn has_given(&self, before: u64, bytes: u64) -> bool
         requires { byte_count S.size_of self.now.traces ≤ before }
         ensures value { IsTrue result ↔ (
@@ -255,7 +255,7 @@ impl<S: SpanSize + Drop, D: Digest<S>, H: BuildHasher + Drop, A: Allocator + Cop
         self.traces.is_empty() || before - self.bytes >= bytes
     }
 
-    /// Evicts the oldest traces until they come to at least so many bytes, or none is left, and
+    /// Evicts the oldest traces until they took at least this many bytes, or none is left, and
     /// answers how many went.
     pub(crate) fn make_room(&mut self, bytes: u64) -> u64
         ensures room { MakesRoom S.size_of bytes self.old.traces self.new.traces }

@@ -49,7 +49,7 @@ pub(crate) enum Content {
     Nothing,
     /// A text or bytes.
     Bytes,
-    /// A message, which takes so many bytes besides what is kept of its fields.
+    /// A message, which takes this many bytes besides what is kept of its fields.
     Message(u64, Kind),
 }
 
@@ -218,7 +218,7 @@ fn in_pairs(number: u32) -> Content
     }
 }
 
-/// How many bytes a field of a message of this kind takes, where the messages in it nest so many
+/// How many bytes a field of a message of this kind takes, where the messages in it nest this many
 /// levels deep at most.
 #[cycle(memory)]
 fn field_size(kind: Kind, depth: u32, field: Field<'_>) -> u64
@@ -235,7 +235,7 @@ fn field_size(kind: Kind, depth: u32, field: Field<'_>) -> u64
     }
 }
 
-/// How many bytes the fields of a message of this kind take, where messages nest so many levels
+/// How many bytes the fields of a message of this kind take, where messages nest this many levels
 /// deep at most.
 #[cycle(memory)]
 fn message_size(kind: Kind, depth: u32, bytes: &[u8]) -> u64

@@ -45,7 +45,7 @@ pub(crate) fn byte_total<S: SpanSize, A: Allocator>(parts: &[Part<S, A>]) -> Opt
     Some(total)
 }
 
-/// Takes out the newest traces, so many.
+/// Takes out this many of the newest traces.
 fn take_back<S: Drop, D: Digest<S>, H: BuildHasher, A: Allocator>(
     traces: &mut Traces<S, D, H, A>,
     count: usize,

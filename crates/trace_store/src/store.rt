@@ -135,7 +135,7 @@ impl<S: SpanSize + Drop, D: Digest<S>, H: BuildHasher + Drop, A: Allocator + Cop
         Ok(())
     }
 
-    /// Gives up the oldest traces, as few as will do, until their spans come to at least so many
+    /// Gives up the oldest traces, as few as will do, until their spans took at least this many
     /// bytes or no trace is left, and answers how many traces went. They are counted and named as
     /// evicted ones. So a caller that is refused memory gets some back.
     pub fn make_room(&mut self, bytes: u64) -> u64

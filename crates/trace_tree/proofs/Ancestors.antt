@@ -6,6 +6,7 @@ use Rattle.trace_tree.specs.Cycles.{HasAncestor, parent, above, EndsAtTop, topmo
 use Rattle.trace_tree.specs.Walks.{LeadsTo}
 
 module _ (parents : List (Option ℕ)) where
+  -- The parent of an ancestor is an ancestor.
   pub ancestor_push : {k m p : ℕ} → HasAncestor parents k m → parent_at parents m ≡ Some p → HasAncestor parents k p
   ancestor_push (parent e) f = above e (parent f)
   ancestor_push (above e h) f = above e (ancestor_push h f)
@@ -14,6 +15,7 @@ module _ (parents : List (Option ℕ)) where
   ancestor_trans (parent e) h = above e h
   ancestor_trans (above e g) h = above e (ancestor_trans g h)
 
+  -- A span has at most one parent.
   pub one_parent : (k p q : ℕ) → parent_at parents k ≡ Some p → parent_at parents k ≡ Some q → p ≡ q
   one_parent k p q e f = same_Some p q (sym e ∙ f)
 
@@ -36,6 +38,7 @@ module _ (parents : List (Option ℕ)) where
   cycle_step : (k m : ℕ) → HasAncestor parents k k → parent_at parents k ≡ Some m → HasAncestor parents m m
   cycle_step k m round e = ancestor_push (leads_strictly m k (first_step m round e) round) e
 
+  -- The ancestors of a span on a cycle are on cycles, too.
   pub cycle_along : {k a : ℕ} → HasAncestor parents k k → HasAncestor parents k a → HasAncestor parents a a
   cycle_along round (parent {k = k} {p = p} e) = cycle_step k p round e
   cycle_along round (above {k = k} {p = p} e h) = cycle_along (cycle_step k p round e) h
@@ -45,6 +48,7 @@ module _ (parents : List (Option ℕ)) where
   cycle_back round (above {k = k} {p = p} e h) =
       ancestor_trans (cycle_back (cycle_step k p round e) h) (leads_strictly p k (first_step p round e) round)
 
+  -- A walk that leads to a span leads to the parent of this span.
   pub leads_push : (k m p : ℕ) → LeadsTo parents k m → parent_at parents m ≡ Some p → LeadsTo parents k p
   leads_push k m p l e = elim l [
     | inl same ↦ inr (subst (λ x. HasAncestor parents x p) (sym same) (parent e))
@@ -59,13 +63,14 @@ module _ (parents tree : List (Option ℕ)) (opened : IsOpened parents tree) whe
   ends_along (parent {k = k} {p = p} e) h = ends_step k p e h
   ends_along (above {k = k} {p = p} e g) h = ends_step k p e (ends_along g h)
 
-  -- what leads to a span that ends at the top ends there
+  -- A span that leads to one that ends at the top ends there, too.
   pub ends_leads : (k a : ℕ) → LeadsTo parents k a → EndsAtTop tree a → EndsAtTop tree k
   ends_leads k a l h = elim l [
     | inl same ↦ subst (λ x. EndsAtTop tree x) (sym same) h
     | inr g ↦ ends_along g h
   ]
 
+  -- A span without a parent ends at the top.
   pub ends_at_none : (k : ℕ) → parent_at parents k ≡ None → EndsAtTop tree k
   ends_at_none k e = elim (opened.each k) [ inl same ↦ topmost (same ∙ e) | inr cut ↦ topmost cut.0 ]
 
@@ -84,7 +89,7 @@ module _ (parents tree : List (Option ℕ)) (opened : IsOpened parents tree) whe
     | inr cut ↦ (k, inl refl, cut.0, cut.1)
   ]
 
-  -- the span that opens a cycle has no parent left
+  -- A span that opens a cycle has no parent in the opened tree.
   pub opener_is_cut : (k : ℕ) → EndsAtTop tree k → OpensCycle parents k → parent_at tree k ≡ None
   opener_is_cut k ends opens =
       let t = opened_on_cycle ends opens.on_cycle in
@@ -97,7 +102,7 @@ module _ (parents tree : List (Option ℕ)) (opened : IsOpened parents tree) whe
             subst (λ x. parent_at tree x ≡ None) same t.2
       ]
 
--- one more span without a parent
+-- A tree in which more spans lost their parents still ends at the top where it did.
 pub ends_cut : (tree cut : List (Option ℕ)) → ((k : ℕ) → (parent_at cut k ≡ parent_at tree k) ⊎ (parent_at cut k ≡ None))
     → {k : ℕ} → EndsAtTop tree k → EndsAtTop cut k
 ends_cut tree cut each (topmost {k = k} e) = elim (each k) [ inl same ↦ topmost (same ∙ e) | inr none ↦ topmost none ]

@@ -28,6 +28,7 @@ after_same : (P Q : List Row → Row → Type 0) (G : Row → Type 0) → ((l : 
 after_same P Q G f l [] g h = tt
 after_same P Q G f l (r ∷ rows) g h = (f l r g.0 h.0, after_same P Q G f (l ++ r ∷ []) rows g.1 h.1)
 
+-- A list of spans has as many parents, given or missing, as spans.
 pub parents_length : (spans : List TreeSpan) → length (parents_of spans) ≡ length spans
 unfolding parents_of
 parents_length spans = length-map spans (parent_of spans)
@@ -38,6 +39,7 @@ pub record Facts (spans : List TreeSpan) (tree : List (Option ℕ)) (places : Li
   pub placed : ArePlaced spans (parents_of spans) tree places
   pub by_start : AreByStart spans order
 
+-- The parents, the places and the order that the code found are those of the spans.
 pub facts : (spans : List TreeSpan) (found parents again tree here there : List (Option ℕ)) (places known : List Place) (order sorted : List (ℕ × ℕ))
     → found ≡ parents_of spans → parents ≡ found → again ≡ found → here ≡ tree → there ≡ tree → known ≡ places → sorted ≡ order
     → IsTree parents tree → ArePlaced spans again here places → AreByStart spans (places_of order) → Facts spans there known (places_of sorted)
@@ -51,6 +53,7 @@ facts spans found parents again tree here there places known order sorted f p a 
 
 module _ (spans : List TreeSpan) (tree : List (Option ℕ)) (places : List Place) (order : List ℕ) (rows : List Row)
     (fact : Facts spans tree places order) (w : AreRowsOf tree places order rows) where
+  -- Each span has exactly one row.
   pub arranged_once : ArePlaces (length spans) (map (λ (r : Row). r.index) rows)
   arranged_once = subst (λ n. ArePlaces n (map (λ (r : Row). r.index) rows)) fact.placed.same_length w.all
 
@@ -87,6 +90,7 @@ module _ (spans : List TreeSpan) (tree : List (Option ℕ)) (places : List Place
   place_by_is k h true None None er eu ed = er
   place_by_is k h false None None er eu ed = (er, eu)
 
+  -- Each row has the place that its span has in the tree.
   pub arranged_places : All (λ (r : Row). IsPlace spans r.index r.place) rows
   arranged_places k d h =
       let here = All-from_recursion (λ (r : Row). r.index < length spans) rows within k d h in
@@ -97,11 +101,13 @@ module _ (spans : List TreeSpan) (tree : List (Option ℕ)) (places : List Place
           subst (IsPlace spans r.index) (sym (place_is r here e))
           (place_by_is r.index here (is_root_at spans r.index) (parent_at (parents_of spans) r.index) (parent_at tree r.index) refl refl refl)
 
+  -- Each row is at the top or below the row of its parent.
   pub arranged_nested : EachAfter (HangsInTree spans) [] rows
   arranged_nested = after_same (λ l (r : Row). IsNested (parent_at tree r.index) l r) (HangsInTree spans) (λ (r : Row). tree_parent spans r ≡ parent_at tree r.index)
       (λ l r e h. subst (λ o. IsNested o l r) (sym e) h) [] rows
       (recursion_from_All (λ (r : Row). tree_parent spans r ≡ parent_at tree r.index) rows each_parent) w.nested
 
+  -- Rows with the same parent are in the order of their starts.
   pub arranged_ordered : AllPairs (AreInOrder spans) rows
   arranged_ordered i j d less h same =
       let first : i < length rows = omega arith in

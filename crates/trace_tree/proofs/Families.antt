@@ -13,6 +13,7 @@ pub record IsGrouped (tree : List (Option ℕ)) (places tops : List ℕ) (childr
   pub count : length children ≡ length tree
   pub below_each : (p : ℕ) → p < length tree → get_or children p [] ≡ children_of tree places p
 
+-- Before the first span, no span is at the top and none is a child.
 pub grouped_first : (tree : List (Option ℕ)) (children : List (List ℕ)) → children ≡ replicate (length tree) [] → IsGrouped tree [] [] children
 grouped_first tree children e = record {
   at_top = refl;
@@ -27,6 +28,7 @@ kept_no : (p : ℕ → Bool) (ks : List ℕ) (k : ℕ) → p k ≡ false → fil
 kept_no p ks k e = filter-append p ks (k ∷ []) ∙ ap (λ b. filter p ks ++ cond b (k ∷ []) []) e ∙ append-nil (filter p ks)
 
 module _ (tree : List (Option ℕ)) (places tops : List ℕ) (children : List (List ℕ)) (k : ℕ) (g : IsGrouped tree places tops children) where
+  -- A span without a parent goes to those at the top.
   pub grouped_top : parent_at tree k ≡ None → IsGrouped tree (places ++ k ∷ []) (tops ++ k ∷ []) children
   grouped_top none = record {
     at_top = ap (λ l. l ++ k ∷ []) g.at_top ∙ sym (kept_yes (is_top tree) places k (ap is_none none));
@@ -34,6 +36,7 @@ module _ (tree : List (Option ℕ)) (places tops : List ℕ) (children : List (L
     below_each = λ p h. g.below_each p h ∙ sym (kept_no (is_child tree p) places k (ap (λ o. is_parent o p) none));
   }
 
+  -- A span with a parent goes to the children of this parent.
   pub grouped_child : (q : ℕ) → parent_at tree k ≡ Some q → q < length tree → IsGrouped tree (places ++ k ∷ []) tops (set children q (get_or children q [] ++ k ∷ []))
   grouped_child q some within = record {
     at_top = g.at_top ∙ sym (kept_no (is_top tree) places k (ap is_none some));
@@ -48,11 +51,11 @@ module _ (tree : List (Option ℕ)) (places tops : List ℕ) (children : List (L
     ];
   }
 
--- the places of one more start
+-- The places of one more start end with the place of this start.
 pub places_more : (starts : List (ℕ × ℕ)) (i : ℕ) (d : ℕ × ℕ) → i < length starts → places_of (take (i + 1) starts) ≡ places_of (take i starts) ++ (get_or starts i d).1 ∷ []
 places_more starts i d h = map_more (λ (s : ℕ × ℕ). s.1) starts i d h
 
--- one more child, or one more at the top
+-- After one more span with a parent, the spans so far are in their families.
 pub step_child : (tree : List (Option ℕ)) (order : List (ℕ × ℕ)) (i : ℕ) (d : ℕ × ℕ) (tops after : List ℕ) (children later : List (List ℕ))
     → IsGrouped tree (places_of (take i order)) tops children → i < length order → (q : ℕ) → parent_at tree (get_or order i d).1 ≡ Some q → q < length tree
     → after ≡ tops → later ≡ set children q (get_or children q [] ++ (get_or order i d).1 ∷ [])
@@ -63,6 +66,7 @@ step_child tree order i d tops after children later g within q some listed same 
     (subst (λ cs. IsGrouped tree (places_of (take i order) ++ (get_or order i d).1 ∷ []) tops cs) (sym more)
     (grouped_child tree (places_of (take i order)) tops children (get_or order i d).1 g q some listed)))
 
+-- After one more span without a parent, the spans so far are in their families.
 pub step_top : (tree : List (Option ℕ)) (order : List (ℕ × ℕ)) (i : ℕ) (d : ℕ × ℕ) (tops after : List ℕ) (children later : List (List ℕ))
     → IsGrouped tree (places_of (take i order)) tops children → i < length order → parent_at tree (get_or order i d).1 ≡ None
     → after ≡ tops ++ (get_or order i d).1 ∷ [] → later ≡ children
@@ -73,13 +77,14 @@ step_top tree order i d tops after children later g within none more same =
     (subst (λ cs. IsGrouped tree (places_of (take i order) ++ (get_or order i d).1 ∷ []) (tops ++ (get_or order i d).1 ∷ []) cs) (sym same)
     (grouped_top tree (places_of (take i order)) tops children (get_or order i d).1 g none)))
 
+-- Once all spans are put in, each span has its children.
 pub grouped_all : (tree : List (Option ℕ)) (order : List (ℕ × ℕ)) (i : ℕ) (tops : List ℕ) (children : List (List ℕ))
     → IsGrouped tree (places_of (take i order)) tops children → length order ≤ i → AreChildren tree (places_of order) children
 grouped_all tree order i tops children g past = record {
   each = λ p h. g.below_each p (subst (λ n. p < n) g.count h) ∙ ap (λ l. children_of tree (places_of l) p) (take_all i order past);
 }
 
--- the list of the children's vectors, with one more child
+-- The lists of children, with one more child of a parent, are those of the changed vectors.
 pub child_added : {Z : Type 0} (children : List (Vec ℕ Z)) (parent k : ℕ) (old new : Vec ℕ Z) → parent < length children → old ≡ get_or children parent old
     → new.items ≡ old.items ++ k ∷ []
     → lists_of (set children parent new) ≡ set (lists_of children) parent (get_or (lists_of children) parent [] ++ k ∷ [])
@@ -88,7 +93,7 @@ child_added {Z} children parent k old new within read more =
     ∙ ap (λ l. set (lists_of children) parent l)
     (more ∙ ap (λ l. l ++ k ∷ []) (ap (λ (v : Vec ℕ Z). v.items) read ∙ sym (get_or-map (λ (v : Vec ℕ Z). v.items) children parent old [] within)))
 
--- the children in the vector of a span
+-- The vector of a span holds the span's children.
 pub child_family : {Z : Type 0} (tree : List (Option ℕ)) (order : List ℕ) (children : List (Vec ℕ Z)) (p : ℕ) (v : Vec ℕ Z) → AreChildren tree order (lists_of children)
     → p < length children → v ≡ get_or children p v → v.items ≡ children_of tree order p
 child_family {Z} tree order children p v a within read =

@@ -66,17 +66,19 @@ place_found i a b m n c long e is =
     cond-true (ltb b n) (Some b) None (lt-ltb b n within) ∙ ap Some here ∙ ap Some parts.1
 
 module _ {X : Type 0} (p : X → Bool) (xs : List X) (y : X) where
-  -- the new one changes nothing where it fails the test, or another one passed it before
+  -- An item that fails a test leaves the first place that passes it as it was.
   pub place_kept : p y ≡ false → position p (xs ++ y ∷ []) ≡ position p xs
   place_kept fails = place_same (position_or_len p xs) (position_or_len p (xs ++ y ∷ [])) (length xs) (length (xs ++ y ∷ []))
       (prefix_len-le-length (λ x. not (p x)) xs) (length-append xs (y ∷ []))
       (position_or_len_push p xs y ∙ ap (λ b. cond (eqb (position_or_len p xs) (length xs)) (length xs + cond b 0 1) (position_or_len p xs)) fails)
 
+  -- An item that is the first to pass a test has its own place as the first one.
   pub place_new : position p xs ≡ None → p y ≡ true → position p (xs ++ y ∷ []) ≡ Some (length xs)
   place_new none passes = place_last (position_or_len p xs) (position_or_len p (xs ++ y ∷ [])) (length xs) (length (xs ++ y ∷ []))
       (prefix_len-le-length (λ x. not (p x)) xs) (length-append xs (y ∷ [])) none
       (position_or_len_push p xs y ∙ ap (λ b. cond (eqb (position_or_len p xs) (length xs)) (length xs + cond b 0 1) (position_or_len p xs)) passes)
 
+  -- An item that passes a test after another one leaves the first place as it was.
   pub place_before : (i : ℕ) → position p xs ≡ Some i → position p (xs ++ y ∷ []) ≡ Some i
   place_before i e = place_found i (position_or_len p xs) (position_or_len p (xs ++ y ∷ [])) (length xs) (length (xs ++ y ∷ [])) (cond (p y) 0 1)
       (length-append xs (y ∷ [])) e (position_or_len_push p xs y)
@@ -87,7 +89,7 @@ at_least x y e = omega arith
 least : (x y : ℕ) → y < x → y ≤ x
 least x y h = omega arith
 
--- two keys tie just where their bytes are the same
+-- Two keys tie exactly where their bytes are the same.
 pub ties_is : (xs ys : List ℕ) → is_eq (slice_cmp nat_cmp xs ys) ≡ bytes_eq xs ys
 ties_is [] [] = refl
 ties_is [] (y ∷ ys) = refl
@@ -102,6 +104,7 @@ ties_is (x ∷ xs) (y ∷ ys) = elim (cases_order x y) [
 
 -- a span whose identifier is new, and one whose identifier another span had
 module _ (taken : List TreeSpan) (x : TreeSpan) where
+  -- A span with a new identifier becomes the first span with it, and others stay.
   pub id_new : (q : List ℕ) (old : Option ℕ) → place_of_id taken x.span_id.now ≡ None → old ≡ place_of_id taken q
       → cond (is_eq (slice_cmp nat_cmp x.span_id.now q)) (Some (length taken)) old ≡ place_of_id (taken ++ x ∷ []) q
   id_new q old none is = elim (cases_Bool (bytes_eq x.span_id.now q)) [
@@ -115,6 +118,7 @@ module _ (taken : List TreeSpan) (x : TreeSpan) where
         ∙ is ∙ sym (place_kept (has_id q) taken x other)
   ]
 
+  -- A span with an identifier that another span had changes the first place of no identifier.
   pub id_known : (q : List ℕ) (i : ℕ) → place_of_id taken x.span_id.now ≡ Some i → place_of_id (taken ++ x ∷ []) q ≡ place_of_id taken q
   id_known q i found = elim (cases_Bool (bytes_eq x.span_id.now q)) [
     | inl same ↦
@@ -135,7 +139,7 @@ each_of spans [] k p e = absurd (none-some p e)
 each_of spans (s ∷ ss) zero p e = of_span spans s p e
 each_of spans (s ∷ ss) (suc k) p e = each_of spans ss k p e
 
--- the parents of spans are in the list
+-- The parents of spans are in the list of these spans.
 pub parents_in_list : (spans : List TreeSpan) → AreInList (parents_of spans)
 unfolding parents_of
 parents_in_list spans = record {
@@ -159,6 +163,7 @@ module _ (spans : List TreeSpan) (i : ℕ) (d : TreeSpan) (within : i < length s
       upto : i ≤ length spans
       upto = omega arith
 
+  -- A map in which a new identifier is put has the places of the identifiers so far.
   pub ids_new : is_some found ≡ false → new ≡ cond (is_eq (slice_cmp nat_cmp (get_or spans i d).span_id.now q)) (Some i) old
       → new ≡ place_of_id (take (i + 1) spans) q
   ids_new none is =
@@ -167,6 +172,7 @@ module _ (spans : List TreeSpan) (i : ℕ) (d : TreeSpan) (within : i < length s
       ∙ id_new (take i spans) (get_or spans i d) q old (sym had ∙ no_place found none) before
       ∙ ap (λ l. place_of_id l q) (sym (take_more spans i d within))
 
+  -- A map that stays, where the identifier is known, has the places of the identifiers so far.
   pub ids_known : is_some found ≡ true → new ≡ old → new ≡ place_of_id (take (i + 1) spans) q
   ids_known some is =
       let known = some_place found some in
@@ -176,6 +182,7 @@ module _ (spans : List TreeSpan) (i : ℕ) (d : TreeSpan) (within : i < length s
 
 -- ---- the parents of the first spans
 
+-- After one more parent is appended, the list has the parents of the spans so far.
 pub parents_more : (spans : List TreeSpan) (i : ℕ) (d : TreeSpan) (items after : List (Option ℕ)) (p : Option ℕ) → i < length spans
     → items ≡ map (parent_of spans) (take i spans) → after ≡ items ++ p ∷ [] → p ≡ parent_of spans (get_or spans i d)
     → after ≡ map (parent_of spans) (take (i + 1) spans)
@@ -183,13 +190,15 @@ parents_more spans i d items after p within had more is =
     more ∙ ap (λ l. l ++ p ∷ []) had ∙ ap (λ o. map (parent_of spans) (take i spans) ++ o ∷ []) is
     ∙ sym (map_more (parent_of spans) spans i d within)
 
+-- Once all spans are done, the list has the parents of all spans.
 pub parents_all : (spans : List TreeSpan) (i : ℕ) (items : List (Option ℕ)) → items ≡ map (parent_of spans) (take i spans) → length spans ≤ i → items ≡ parents_of spans
 unfolding parents_of
 parents_all spans i items had past = had ∙ ap (map (parent_of spans)) (take_all i spans past)
 
--- the parent of a span, by whether it names none, and by the map
+-- A span that names no parent has none.
 pub parent_none : (spans : List TreeSpan) (s : TreeSpan) → names_none s ≡ true → None ≡ parent_of spans s
 parent_none spans s none = sym (cond-true (names_none s) None (place_of_id spans s.parent_span_id.now) none)
 
+-- A span that names a parent has the first span with this identifier as its parent.
 pub parent_some : (spans : List TreeSpan) (s : TreeSpan) → names_none s ≡ false → place_of_id spans s.parent_span_id.now ≡ parent_of spans s
 parent_some spans s some = sym (cond-false (names_none s) None (place_of_id spans s.parent_span_id.now) some)

@@ -15,6 +15,7 @@ unseen zero k = refl
 unseen (suc n) zero = refl
 unseen (suc n) (suc k) = unseen n k
 
+-- Before the first walk, no span is marked and no cycle is opened.
 pub opening_first : (parents : List (Option ℕ)) (marks : List Mark) → marks ≡ replicate (length parents) Unseen → AreOpenBefore parents parents marks 0
 opening_first parents marks all =
     let none : (k : ℕ) → mark_at marks k ≡ Unseen = λ k. ap (λ ms. mark_at ms k) all ∙ unseen (length parents) k in
@@ -41,10 +42,12 @@ cycle_is_not_seen s e = cc
 cycle_is_marked : OnCycle ≡ Unseen → ⊥
 cycle_is_marked e = cc
 
+-- Once a walk has started from each span, the parents that are left are a tree.
 pub opening_all : (parents tree : List (Option ℕ)) (marks : List Mark) → AreOpenBefore parents tree marks (length parents) → IsTree parents tree
 opening_all parents tree marks b = record { opened = b.opened; ends = λ k within. b.ends k (b.seen k within) }
 
 module _ (parents tree : List (Option ℕ)) (old new : List Mark) (start : ℕ) (b : AreOpenBefore parents tree old start) where
+  -- No mark of earlier walks is one of the walk from the next span.
   pub fresh : IsFresh old start
   fresh = record { none = λ k e. let h : start < start = b.from k start e in absurd (never start h) }
     where
@@ -65,6 +68,7 @@ module _ (parents tree : List (Option ℕ)) (old new : List Mark) (start : ℕ) 
         λ e. b.seen k less (sym (w.kept k (b.seen k less)) ∙ e)
   ]
 
+  -- A walk that ends at the top or at an earlier walk opens no further cycle.
   pub opening_up : (last : ℕ) → IsWalkUp parents old new start last → AreOpenBefore parents tree new (start + 1)
   opening_up last up = record {
     opened = b.opened;
@@ -130,6 +134,7 @@ module _ (parents tree : List (Option ℕ)) (old new : List Mark) (start : ℕ) 
       ];
     }
 
+    -- A walk that ends in a cycle opens it at the first span of the cycle.
     pub opening_round : (last : List Mark) → IsRemarked new last start → AreOpenBefore parents (set tree first None) last (start + 1)
     unfolding cut
     opening_round last r = opening_cut last r

@@ -110,6 +110,7 @@ awaits_none (Some p) = eq-eqb 0 0 refl
 -- ---- rows of one depth
 
 module _ (places : List Place) (depth : ℕ) where
+  -- The rows of some spans have the indices of these spans.
   pub indices_of : (ks : List ℕ) → indices (map (row_at places depth) ks) ≡ ks
   indices_of [] = refl
   indices_of (k ∷ ks) = ap (λ l. k ∷ l) (indices_of ks)
@@ -144,6 +145,7 @@ module _ (tree : List (Option ℕ)) (places : List Place) (order : List ℕ) whe
       subst (λ l. IsPermutation order (l ++ filter (waits tree []) order)) (sym (indices_of places 0 (tops_of tree order)))
       (IsPermutation-filter_both (is_top tree) (waits tree []) (λ k. awaits_none (parent_at tree k)) order)
 
+  -- Before the first row, the pile has the rows of the spans at the top.
   pub partway_first : IsPartway tree places order [] (map (row_at places 0) (tops_of tree order))
   unfolding tops
   partway_first = record {
@@ -227,6 +229,7 @@ module _ (tree : List (Option ℕ)) (places : List Place) (order : List ℕ) (ro
       let inner = times-append k (indices (x ∷ pile)) (filter (waits tree (indices rows)) order) in
       sym whole ∙ outer ∙ ap (λ m. times k (indices rows) + m) inner
 
+  -- The span of the first row on the pile is in the list.
   pub next_in_list : x.index < n
   next_in_list = elim (cases_lt x.index n) [
     | inl h ↦ h
@@ -250,6 +253,7 @@ module _ (tree : List (Option ℕ)) (places : List Place) (order : List ℕ) (ro
       none : (a b c : ℕ) → 1 ≡ a + ((1 + b) + c) → a ≡ 0
       none a b c e = omega arith
 
+  -- Fewer rows than spans are done while a row is on the pile.
   pub room : length rows < n
   room =
       let whole = length_permutation order (indices rows ++ (indices (x ∷ pile) ++ filter (waits tree (indices rows)) order)) w.each_once in
@@ -403,6 +407,7 @@ module _ (tree : List (Option ℕ)) (places : List Place) (order : List ℕ) (ro
     siblings = siblings_after;
   }
 
+  -- After the first row of the pile is done, the rows of its children come next.
   pub partway_more : IsPartway tree places order (rows ++ x ∷ []) (map (row_at places (x.depth + 1)) (children_of tree order x.index) ++ pile)
   unfolding lower children
   partway_more = partway_after
@@ -419,6 +424,7 @@ range_within a (suc m) n e =
     let next : a + 1 + m ≡ n = omega arith in
     (less, range_within (a + 1) m n next)
 
+-- Each place of a list is below the length of the list.
 pub places_within : (n : ℕ) (order : List ℕ) → ArePlaces n order → Each (λ k. k < n) order
 places_within n order all = recursion_from_All (λ k. k < n) order
     (All-permutation (λ k. k < n) (range_with_len 0 n) order all (All-from_recursion (λ k. k < n) (range_with_len 0 n) (range_within 0 n n (none n))))
@@ -447,6 +453,7 @@ module _ (tree : List (Option ℕ)) (places : List Place) (order : List ℕ) (ro
   rows_once = subst (IsPermutation order) (append-nil (indices rows))
       (subst (λ l. IsPermutation order (indices rows ++ l)) none_waits w.each_once)
 
+  -- Once the pile is empty, the rows are those of the whole tree.
   pub partway_all : length places ≡ n → AreRowsOf tree places order rows
   partway_all long = record {
     all = subst (λ m. ArePlaces m (indices rows)) (sym long) (IsPermutation-trans (range_with_len 0 n) order (indices rows) all rows_once);
@@ -458,10 +465,12 @@ module _ (tree : List (Option ℕ)) (places : List Place) (order : List ℕ) (ro
 
 -- ---- the steps of the code, which has the pile the other way round
 
+-- Each place in the order of the starts is below the number of spans.
 pub order_within : (n : ℕ) (order : List (ℕ × ℕ)) → ArePlaces n (places_of order) → All (λ (s : ℕ × ℕ). s.1 < n) order
 order_within n order all = All-from_recursion (λ (s : ℕ × ℕ). s.1 < n) order
     (Each-unmap (λ k. k < n) (λ (s : ℕ × ℕ). s.1) order (places_within n (places_of order) all))
 
+-- Each place in a family is below the number of spans.
 pub family_within : (n m : ℕ) (order family : List ℕ) (p : ℕ → Bool) → ArePlaces n order → m ≡ n → family ≡ filter p order → All (λ k. k < m) family
 family_within n m order family p all same is =
     subst (λ l. All (λ k. k < m) l) (sym is)
@@ -471,6 +480,7 @@ family_within n m order family p all same is =
 turned : (front : List Row) (pile : List Row) → reverse (pile ++ reverse front) ≡ front ++ reverse pile
 turned front pile = reverse-append pile (reverse front) ∙ ap (λ l. l ++ reverse pile) (reverse-reverse front)
 
+-- The code's first pile has the rows of the spans at the top, in reverse.
 pub partway_init : (tree : List (Option ℕ)) (places : List Place) (order tops : List ℕ) (rows old pile : List Row) → rows ≡ [] → old ≡ []
     → pile ≡ old ++ reverse (map (row_at places 0) tops) → tops ≡ tops_of tree order → IsPartway tree places order rows (reverse pile)
 partway_init tree places order tops rows old pile none empty is family =
@@ -483,15 +493,19 @@ module _ (tree : List (Option ℕ)) (places : List Place) (order : List ℕ) (ro
   opened_pile : IsPartway tree places order rows (x ∷ reverse rest)
   opened_pile = subst (IsPartway tree places order rows) (ap reverse popped ∙ reverse-append rest (x ∷ [])) w
 
+  -- The span of a popped row is in the list.
   pub popped_in_list : x.index < n
   popped_in_list = next_in_list tree places order rows (reverse rest) x n all opened_pile
 
+  -- Fewer rows than spans are done when a row is popped.
   pub popped_room : length rows < n
   popped_room = room tree places order rows (reverse rest) x n all opened_pile
 
+  -- A popped row is no deeper than the number of rows that are done.
   pub popped_depth : x.depth ≤ length rows
   popped_depth = opened_pile.shallow.0
 
+  -- After the code pops a row and piles up its children, the rows are partway again.
   pub partway_step : (more after : List Row) (family : List ℕ) → more ≡ rows ++ x ∷ [] → after ≡ rest ++ reverse (map (row_at places (x.depth + 1)) family)
       → family ≡ children_of tree order x.index → IsPartway tree places order more (reverse after)
   partway_step more after family is piled below_x =

@@ -9,6 +9,7 @@ use Rattle.trace_tree.specs.declared.cycles.Mark.TheVariants.{Unseen, SeenFrom, 
 use Rattle.trace_tree.proofs.Sets.{set_cases}
 use Rattle.trace_tree.proofs.Ancestors.{one_parent, cycle_along, leads_push}
 
+-- The mark of a walk isn't the mark of a cycle.
 pub seen_is_not_cycle : (start : ℕ) → SeenFrom start ≢ OnCycle
 seen_is_not_cycle start e = cc
 
@@ -38,6 +39,7 @@ pub record IsRounding (parents : List (Option ℕ)) (old new : List Mark) (start
   pub first_visited : IsVisited old new start first ⊎ (first ≡ at)
 
 module _ (parents : List (Option ℕ)) (old : List Mark) (start entry : ℕ) (round : IsRound parents old start entry) where
+  -- A walk round a cycle is at its entry at first, and has marked nothing yet.
   pub rounding_first : length old ≡ length parents → entry < length parents → IsRounding parents old old start entry entry entry
   rounding_first long within = record {
     at_in_list = within;
@@ -166,6 +168,7 @@ module _ (parents : List (Option ℕ)) (old : List Mark) (start entry : ℕ) (ro
         first_visited = inl least_after;
       }
 
+      -- A walk round a cycle goes on to the parent, and keeps the first span in the list so far.
       pub rounding_more : p < length parents → IsRounding parents old (set new at OnCycle) start entry (min first at) p
       unfolding marked least
       rounding_more within = rounding_on within
@@ -195,6 +198,7 @@ module _ (parents : List (Option ℕ)) (old : List Mark) (start entry : ℕ) (ro
       visited_first : IsVisited old new start first
       visited_first = elim w.first_visited [ inl v ↦ v | inr same ↦ visited_at first same ]
 
+      -- Once a walk round a cycle is back, the first span that it passed opens the cycle.
       pub rounded : OpensCycle parents first
       rounded = record {
         on_cycle = elim w.leads_first [
@@ -204,10 +208,11 @@ module _ (parents : List (Option ℕ)) (old : List Mark) (start entry : ℕ) (ro
         first = λ a h. (w.passed a (visited_above h visited_first)).least;
       }
 
+    -- A walk round a cycle has changed only marks of its own walk, to marks of a cycle.
     pub remarked : IsRemarked old new start
     remarked = record { same_length = w.same_length; each = w.each }
 
-    -- a span with the mark of the walk has a parent
+    -- A span with the mark of the walk round a cycle has a parent.
     pub never_none : parent_at parents at ≡ None → ⊥
     never_none none = let c = round.closed at w.here in none_is_some c.0 (sym none ∙ c.1)
       where

@@ -3,7 +3,7 @@ use Rattle.std.proofs.Common.{◌≡◌, ◌≢◌, sym, subst, ℕ, ◌<◌, �
 use Rattle.std.proofs.lemmas.Bool.{cases_eq, cond-true, cond-false}
 use Rattle.std.proofs.lemmas.List.Sums.{sum_by-set}
 
--- the new element is in its place, and any other place is as it was
+-- A write to a list puts the new item in its place and leaves all other places as they were.
 pub set_cases : {X : Type 0} (xs : List X) (i : ℕ) (a d : X) → i < length xs → (k : ℕ)
     → ((k ≡ i) × (get_or (set xs i a) k d ≡ a)) ⊎ ((k ≢ i) × (get_or (set xs i a) k d ≡ get_or xs k d))
 set_cases {X} xs i a d within k =
@@ -13,7 +13,7 @@ set_cases {X} xs i a d within k =
       | inr other ↦ inr (other, get_or-set_other xs i k a d other)
     ]
 
--- one fewer passes
+-- A write that replaces an item that passes a test by one that doesn't leaves fewer that pass.
 pub fewer_pass : {X : Type 0} (p : X → Bool) (xs : List X) (i : ℕ) (a d : X) → i < length xs → p (get_or xs i d) ≡ true → p a ≡ false
     → count_by p (set xs i a) < count_by p xs
 fewer_pass p xs i a d within passes fails =

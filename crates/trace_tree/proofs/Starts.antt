@@ -89,6 +89,7 @@ module _ (spans : List TreeSpan) (old new : List Start) (starts : AreStarts span
   distinct : AllPairs (λ x y. x ≢ y) (places_of new)
   distinct = All-from_Pairs (λ x y. x ≢ y) (places_of new) (all_distinct (places_of new) (places_once (length spans) (places_of new) all_places))
 
+  -- The sorted starts of spans give the places of the spans by their start.
   pub sorted_by_start : IsSortedBy before new → AreByStart spans (places_of new)
   sorted_by_start sorted = record {
     all = all_places;
@@ -119,6 +120,7 @@ module _ (spans : List TreeSpan) (old new : List Start) (starts : AreStarts span
 
 -- ---- before the sort
 
+-- A range that is longer by one ends with the number after the others.
 pub range_more : (a n : ℕ) → range_with_len a (suc n) ≡ range_with_len a n ++ (a + n) ∷ []
 range_more a zero = ap (λ k. k ∷ []) (omega arith)
 range_more a (suc n) = ap (λ l. a ∷ l) (range_more (a + 1) n ∙ ap (λ k. range_with_len (a + 1) n ++ k ∷ []) (omega arith))
@@ -134,9 +136,11 @@ pub record AreStartsBefore (spans : List TreeSpan) (i : ℕ) (starts : List Star
   pub places : places_of starts ≡ range_with_len 0 i
   pub each : All (λ (s : Start). s.0 ≡ start_at spans s.1) starts
 
+-- Before the first span, the list of starts is empty.
 pub starts_first : (spans : List TreeSpan) → AreStartsBefore spans 0 []
 starts_first spans = record { places = refl; each = All-nil (λ (s : Start). s.0 ≡ start_at spans s.1) }
 
+-- After the start of one more span, the list has the starts of the spans so far.
 pub starts_more : (spans : List TreeSpan) (i : ℕ) (starts : List Start) (d : TreeSpan) → AreStartsBefore spans i starts → i < length spans
     → AreStartsBefore spans (i + 1) (starts ++ ((get_or spans i d).start_time_unix_nano, i) ∷ [])
 starts_more spans i starts d h within = record {
@@ -148,5 +152,6 @@ starts_more spans i starts d h within = record {
       (sym (get_or-map (λ (s : TreeSpan). s.start_time_unix_nano) spans i d 0 within));
 }
 
+-- Once all spans are done, the list has the starts of all spans.
 pub starts_all : (spans : List TreeSpan) (i : ℕ) (starts : List Start) → AreStartsBefore spans i starts → i ≡ length spans → AreStarts spans starts
 starts_all spans i starts h e = record { places = h.places ∙ ap (λ n. range_with_len 0 n) e; each = h.each }

@@ -11,12 +11,15 @@ abbrev pub times : ℕ → List ℕ → ℕ
 times k [] = 0
 times k (x ∷ xs) = cond (eqb x k) (1 + times k xs) (times k xs)
 
+-- A number is once more in a list with itself in front.
 pub times-same : (k x : ℕ) (xs : List ℕ) → x ≡ k → times k (x ∷ xs) ≡ 1 + times k xs
 times-same k x xs e = cond-true (eqb x k) (1 + times k xs) (times k xs) (eq-eqb x k e)
 
+-- A number is as often in a list with another number in front.
 pub times-other : (k x : ℕ) (xs : List ℕ) → (x ≡ k → ⊥) → times k (x ∷ xs) ≡ times k xs
 times-other k x xs ne = cond-false (eqb x k) (1 + times k xs) (times k xs) (ne_eqb x k ne)
 
+-- A number is in a joined list as often as in both parts together.
 pub times-append : (k : ℕ) (xs ys : List ℕ) → times k (xs ++ ys) ≡ times k xs + times k ys
 times-append k [] ys = omega arith
 times-append k (x ∷ xs) ys =
@@ -35,6 +38,7 @@ times-append k (x ∷ xs) ys =
 counted : (k : ℕ) (xs : List ℕ) → times k xs ≡ sum_by (λ x. cond (eqb x k) 1 0) xs
 counted k xs = is_count_by (times k) (λ x. eqb x k) refl (λ x ys. refl) xs
 
+-- A number is as often in a list as in any other order of it.
 pub times-permutation : (k : ℕ) (xs ys : List ℕ) → IsPermutation xs ys → times k ys ≡ times k xs
 times-permutation k xs ys h = counted k ys ∙ sum_by-IsPermutation (λ x. cond (eqb x k) 1 0) xs ys h ∙ sym (counted k xs)
 
@@ -74,18 +78,20 @@ in_range a (suc n) k h g = elim (cases_eq a k) [
 ]
 
 module _ (n : ℕ) (places : List ℕ) (all : ArePlaces n places) where
+  -- Each place of a list is once among all places.
   pub times-place : (k : ℕ) → k < n → times k places ≡ 1
   times-place k within =
       let low : 0 ≤ k = omega arith in
       let high : k < 0 + n = omega arith in
       times-permutation k (range_with_len 0 n) places all ∙ in_range 0 n k low high
 
+  -- A number past the end of a list isn't among its places.
   pub times-past : (k : ℕ) → n ≤ k → times k places ≡ 0
   times-past k past =
       let high : 0 + n ≤ k = omega arith in
       times-permutation k (range_with_len 0 n) places all ∙ past_range 0 n k high
 
--- a number that fails a test isn't among those that pass it
+-- A number that fails a test isn't among the numbers that pass it.
 pub times-filter_out : (p : ℕ → Bool) (k : ℕ) → p k ≡ false → (xs : List ℕ) → times k (filter p xs) ≡ 0
 times-filter_out p k fails [] = refl
 times-filter_out p k fails (x ∷ xs) = elim (cases_Bool (p x)) [
@@ -95,11 +101,12 @@ times-filter_out p k fails (x ∷ xs) = elim (cases_Bool (p x)) [
   | inr miss ↦ ap (times k) (cond-false (p x) (x ∷ filter p xs) (filter p xs) miss) ∙ times-filter_out p k fails xs
 ]
 
+-- A filter whose test no item passes leaves no item.
 pub filter_none : (p : ℕ → Bool) (xs : List ℕ) → Each (λ k. p k ≡ false) xs → filter p xs ≡ []
 filter_none p [] all = refl
 filter_none p (x ∷ xs) all = cond-false (p x) (x ∷ filter p xs) (filter p xs) all.0 ∙ filter_none p xs all.1
 
--- what passes the one test passes just one of two others
+-- The numbers that pass either of two exclusive tests are those of the one and of the other.
 pub filter_split : (w c v : ℕ → Bool) → ((k : ℕ) → w k ≡ (c k || v k)) → ((k : ℕ) → c k ≡ true → v k ≡ false)
     → (xs : List ℕ) → IsPermutation (filter w xs) (filter c xs ++ filter v xs)
 filter_split w c v each apart [] = IsPermutation-refl []

@@ -8,6 +8,7 @@ use Rattle.trace_tree.specs.declared.cycles.Mark.TheVariants.{Unseen, SeenFrom}
 use Rattle.trace_tree.proofs.Sets.{set_cases}
 use Rattle.trace_tree.proofs.Ancestors.{ancestor_push}
 
+-- The mark of a walk is a mark.
 pub seen_is_marked : (start : ℕ) → SeenFrom start ≢ Unseen
 seen_is_marked start e = cc
 
@@ -24,6 +25,7 @@ pub record IsWalking (parents : List (Option ℕ)) (old new : List Mark) (start 
       → (p : ℕ) × (parent_at parents k ≡ Some p) × ((mark_at new p ≡ SeenFrom start) ⊎ (p ≡ at))
 
 module _ (parents : List (Option ℕ)) (old : List Mark) (start : ℕ) where
+  -- A walk is at its start at first, and has marked nothing yet.
   pub walking_first : length old ≡ length parents → start < length parents → IsFresh old start → IsWalking parents old old start start
   walking_first long within fresh = record {
     at_in_list = within;
@@ -119,12 +121,14 @@ module _ (parents : List (Option ℕ)) (old : List Mark) (start : ℕ) where
       leads = λ k m. inr (w.leads k m);
     }
 
+    -- A walk that comes to a mark of an earlier walk ends there.
     pub walked_up : mark_at new at ≢ Unseen → mark_at new at ≢ SeenFrom start → IsWalkUp parents old new start at
     walked_up marked_here other = record {
       walk = walked marked_here;
       ends = elim (w.each at) [ inl e ↦ inr (λ u. marked_here (e ∙ u)) | inr e ↦ absurd (other e) ];
     }
 
+    -- A walk that comes to one of its own marks has found a cycle.
     pub walked_round : mark_at new at ≡ SeenFrom start → IsWalk parents old new start at × IsRound parents new start at
     walked_round here = (
       walked (λ u. seen_is_marked start (sym here ∙ u)),
@@ -136,10 +140,12 @@ module _ (parents : List (Option ℕ)) (old : List Mark) (start : ℕ) where
       },
     )
 
+    -- A walk marks the span that it is at, and goes on to the parent.
     pub walking_more : (p : ℕ) → parent_at parents at ≡ Some p → p < length parents → mark_at new at ≡ Unseen → IsWalking parents old (set new at (SeenFrom start)) start p
     unfolding marked
     walking_more p e within unseen = walking_on p e within unseen
 
+    -- A walk that comes to an unmarked span without a parent marks it and ends at the top.
     pub walked_to_top : parent_at parents at ≡ None → mark_at new at ≡ Unseen → IsWalkUp parents old (set new at (SeenFrom start)) start at
     unfolding marked
     walked_to_top none unseen = walked_top none unseen

@@ -14,7 +14,7 @@ earlier_start time span = min time span.start_time_unix_nano
 abbrev pub later_end : ℕ → TreeSpan → ℕ
 later_end time span = max time (end_of span)
 
--- the column of a time in a trace that takes so long, where the whole of it has so many columns
+-- the column of a time in a trace that takes this long, where all of it has this many columns
 abbrev pub column_of : ℕ → ℕ → ℕ → ℕ
 column_of width whole time = if whole == 0 then 0 else time * width / whole
 

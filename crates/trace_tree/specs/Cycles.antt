@@ -28,7 +28,7 @@ pub record IsOpened (parents tree : List (Option ℕ)) : Type 0 where
   pub each : (k : ℕ) → (parent_at tree k ≡ parent_at parents k)
       ⊎ ((parent_at tree k ≡ None) × OpensCycle parents k)
 
--- so many of them have that no cycle is left
+-- enough of these spans have lost their parent that no cycle is left
 pub record IsTree (parents tree : List (Option ℕ)) : Type 0 where
   pub opened : IsOpened parents tree
   pub ends : (k : ℕ) → k < length parents → EndsAtTop tree k

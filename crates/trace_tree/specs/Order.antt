@@ -15,7 +15,7 @@ abbrev pub precedes : List TreeSpan → ℕ → ℕ → Bool
 precedes spans i j = nat_lt (start_at spans i) (start_at spans j)
     || (start_at spans i == start_at spans j && nat_lt i j)
 
--- all places of a list of so many, in some order
+-- all places of a list of n items, in some order
 abbrev pub ArePlaces : ℕ → List ℕ → Type 0
 ArePlaces n places = IsPermutation (range_with_len 0 n) places
 

@@ -15,14 +15,14 @@ is_hidden_char c = list_any (λ (r : ℕ × ℕ). nat_le r.0 c && nat_le c r.1) 
 abbrev pub shown_char : ℕ → ℕ
 shown_char c = if is_hidden_char c then 63 else c
 
--- a name in so many columns: with spaces (32) after it, or cut, with `~` (126) in the last column
+-- a name in this many columns: with spaces (32) after it, or cut, with `~` (126) in the last column
 unfoldable pub name_text : ℕ → List ℕ → List ℕ
 name_text room shown =
     if nat_le (length shown) room
     then encode_utf8_all shown ++ replicate (room - length shown) 32
     else encode_utf8_all (take (room - 1) shown) ++ 126 ∷ []
 
--- a time with three digits, in a unit of so many nanoseconds
+-- a time with three digits, in a unit of this many nanoseconds
 unfoldable pub scaled : ℕ → ℕ → List ℕ → List ℕ
 scaled nanos unit name =
     if nat_lt (nanos / unit) 10 then decimal (nanos / unit) ++ codes "."

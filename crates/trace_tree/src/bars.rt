@@ -42,7 +42,7 @@ pub(crate) fn latest_end(spans: &[TreeSpan]) -> u64
     latest
 }
 
-/// The column of a time in a trace, where the whole trace has so many columns.
+/// The column of a time in a trace, where the whole trace has this many columns.
 fn column_of(width: usize, whole: u64, time: u64) -> u128
     ensures { result ≡ column_of width whole time }
 {

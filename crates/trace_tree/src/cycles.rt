@@ -115,7 +115,7 @@ fn open_from(
     tree[first] = None;
 }
 
-/// Marks of so many spans that no walk came to.
+/// Marks of this many spans that no walk came to.
 fn unseen<A: Allocator>(alloc: A, count: usize) -> Result<Vec<Mark, A>, OutOfMemory>
     ensures { IfOk result (λ marks. marks.items ≡ replicate count Mark.Unseen) }
 {

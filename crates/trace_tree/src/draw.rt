@@ -13,7 +13,7 @@ use std::alloc::Allocator;
 /// How many columns a name has, with the spaces before it.
 const LABEL: usize = 40;
 
-/// A row is indented by two spaces for each row above it, for so many of them at most.
+/// A row is indented by two spaces for each row above it, for at most this many of them.
 const DEEPEST: usize = 12;
 
 /// Appends the name of a span, indented by its depth.
@@ -111,7 +111,7 @@ fn push_row<A: Allocator + Copy>(
 }
 
 /// Appends a line for each row (profile): the name of its span, indented by two spaces for each
-/// row above it; a bar of so many columns between two `|`, which shows when the span ran within
+/// row above it; a bar of `width` columns between two `|`, which shows when the span ran within
 /// the time from the earliest start to the latest end of all spans; how long it ran, with three
 /// digits; and what else is to be said of it: `error`, `parent not received` or `cycle`.
 ///

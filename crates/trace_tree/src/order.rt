@@ -45,7 +45,7 @@ pub(crate) struct Families<A: Allocator> {
     pub(crate) children: Vec<Vec<usize, A>, A>,
 }
 
-/// No children for so many spans.
+/// No children for this many spans.
 fn no_children<A: Allocator + Copy>(
     alloc: A,
     count: usize,

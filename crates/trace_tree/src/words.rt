@@ -10,7 +10,7 @@ use crate::span::Place;
 use otlp_ids::OutOfMemory;
 use std::alloc::Allocator;
 
-/// Appends spaces, so many.
+/// Appends this many spaces.
 pub(crate) fn push_spaces<A: Allocator>(
     out: &mut String<A>,
     count: usize,
@@ -24,7 +24,7 @@ pub(crate) fn push_spaces<A: Allocator>(
     Ok(())
 }
 
-/// Appends marks of a bar, so many.
+/// Appends this many marks of a bar.
 pub(crate) fn push_marks<A: Allocator>(out: &mut String<A>, count: usize) -> Result<(), OutOfMemory>
     ensures { OnOk result (string_bytes out.new
         ≡ string_bytes out.old ++ replicate count 35) }
@@ -82,8 +82,8 @@ fn shown_chars<A: Allocator>(alloc: A, name: &str) -> Result<Vec<char, A>, OutOf
     Ok(name.chars().map(shown_char).collect(alloc)?)
 }
 
-/// Appends a name in so many columns, one for each character: cut, with `~` in the last column, or
-/// with spaces after it.
+/// Appends a name in this many columns, one for each character: cut, with `~` in the last column,
+/// or with spaces after it.
 pub(crate) fn push_name<A: Allocator + Copy>(
     out: &mut String<A>,
     name: &str,
@@ -97,7 +97,7 @@ pub(crate) fn push_name<A: Allocator + Copy>(
     push_cut(out, &shown, room)
 }
 
-/// Appends characters in so many columns.
+/// Appends characters in this many columns.
 #[tactic(auto, unfolding(crate::specs::Words::name_text))]
 fn push_cut<A: Allocator>(
     out: &mut String<A>,
@@ -116,7 +116,7 @@ fn push_cut<A: Allocator>(
     Ok(out.push('~')?)
 }
 
-/// Appends a time with three digits, in a unit of so many nanoseconds.
+/// Appends a time with three digits, in a unit of this many nanoseconds.
 #[tactic(auto, unfolding(crate::specs::Words::scaled))]
 fn push_scaled<A: Allocator>(
     out: &mut String<A>,

@@ -31,11 +31,11 @@ module _ {S P : Type 0} (answers : S → Turn P → S → Type 0) (writes : P �
   chain-then most s place (act ∷ some) more m p t after one two =
       (one.0, one.1, one.2, chain-then most one.0 one.1 some more m p t after one.3 two)
 
-  -- nothing was done
+  -- No act leads from a state and a place to the same ones.
   pub leads-none : (most : ℕ) (s : S) (place : Place P) → Leads answers writes most s place s place
   leads-none most s place = record { acts = []; chain = (refl, inl refl) }
 
-  -- a run of a connection, up to an equal place
+  -- A run of a connection leads from its beginning to a place that is equal to its end.
   pub leads-by : (most : ℕ) (s : S) (place : Place P) (before : List ℕ) (t : S) (after : Place P) (now : List ℕ) (aborted : Bool) (end : Place P)
       → Runs answers writes most s place before t after now aborted → end ≡ after → Leads answers writes most s place t end
   leads-by most s place before t after now aborted end run same = record {
@@ -43,7 +43,7 @@ module _ {S P : Type 0} (answers : S → Turn P → S → Type 0) (writes : P �
     chain = subst (λ (p : Place P). Chain answers writes most s place run.acts t p) (sym same) run.chain;
   }
 
-  -- one after another, with the same bound
+  -- Acts, and then further ones with the same bound, lead from the first state to the last one.
   pub leads-then : (most bound : ℕ) (s : S) (place : Place P) (m : S) (p : Place P) (t : S) (after : Place P) → bound ≡ most
       → Leads answers writes most s place m p → Leads answers writes bound m p t after → Leads answers writes most s place t after
   leads-then most bound s place m p t after same one two =

@@ -9,13 +9,14 @@ use Rattle.trace_view.specs.declared.complaint.Line.TheVariants.{First, Since}
 abbrev pub no_complaint : Complaint
 no_complaint = record { told = 0; last_ms = None }
 
--- the line on what wasn't told yet: at once where there was no line before, else a minute after it
+-- the line on what wasn't reported yet: at once where there was no line before, else a minute after
+-- it
 abbrev pub line_after : Option ℕ → ℕ → ℕ → Option Line
 line_after None untold now = Some First
 line_after (Some last) untold now =
     if nat_le (last + 60_000) now then Some (Since untold) else None
 
--- the line that is due at a moment, where there have been so many refusals
+-- the line that is due at a moment, after this number of refusals
 abbrev pub line_due : Complaint → ℕ → ℕ → Option Line
 line_due complaint count now = if nat_lt complaint.told count
     then line_after complaint.last_ms (count - complaint.told) now else None

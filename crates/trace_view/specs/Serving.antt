@@ -17,7 +17,7 @@ IsSeen peer = IfSome (stage_at (phase_of peer.connection) peer.is_shut)
     (λ stage. peer.clock.stage ≡ stage)
 
 -- some acts lead from one state of the service and place of a connection to another, one after
--- another, where a body has at most so many bytes
+-- another, where a body has at most this number of bytes
 pub record Leads {S P : Type 0} (answers : S → Turn P → S → Type 0) (writes : P → List ℕ → Type 0)
     (most : ℕ) (s : S) (place : Place P) (t : S) (after : Place P) : Type 0 where
   pub acts : List (Act P)

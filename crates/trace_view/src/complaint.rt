@@ -10,14 +10,14 @@ pub(crate) const BETWEEN_LINES_MS: u64 = 60_000;
 pub enum Line {
     /// On the first refusal of its kind.
     First,
-    /// On so many refusals since the line before.
+    /// On this number of refusals since the line before.
     Since(u64),
 }
 
 /// What was reported of the refusals of one kind.
 #[derive(Clone, Copy, Debug, PartialEq, Eq)]
 pub struct Complaint {
-    /// Of how many refusals lines have told.
+    /// How many refusals the lines so far are about.
     pub told: u64,
     /// When the last line was due, in milliseconds, if one was.
     pub last_ms: Option<u64>,
@@ -34,8 +34,8 @@ impl Complaint {
         }
     }
 
-    /// The line that is due at this moment, in milliseconds, where there have been so many refusals
-    /// of the kind: one on the first refusal, and later at most one a minute, with the count.
+    /// The line that is due at this moment, in milliseconds, after this number of refusals of the
+    /// kind: one on the first refusal, and later at most one a minute, with the count.
     pub fn line(self, count: u64, now_ms: u64) -> Option<Line>
         ensures { result ≡ line_due self count now_ms }
     {
@@ -51,8 +51,8 @@ impl Complaint {
         }
     }
 
-    /// What was reported after that line, at the same moment and count: the first line tells of
-    /// one refusal, and a later one of all.
+    /// What was reported after that line, at the same moment and count: the first line is about one
+    /// refusal, and a later one about all.
     pub fn after(self, line: Option<Line>, count: u64, now_ms: u64) -> Complaint
         ensures { result ≡ after_line self line count now_ms }
     {

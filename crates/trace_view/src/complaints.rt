@@ -22,8 +22,8 @@ impl Complaints {
         }
     }
 
-    /// The line that is due at this moment, in milliseconds, on the refusals with this status, of
-    /// which there have been so many.
+    /// The line that is due at this moment, in milliseconds, on the refusals with this status,
+    /// whose number so far is given.
     ///
     /// # Errors
     ///

@@ -1,4 +1,4 @@
-//! The peers of the program: who joins, has a turn, and leaves.
+//! The peers of the program: they join, have turns, and leave.
 
 use crate::peer::{Peer, Turn};
 use http_connection::{Connection, Limits, Pieces, Service};
@@ -138,8 +138,8 @@ where
             .register(peer.stream(), Token(key), both_ways())
     }
 
-    /// Accepts the peers that wait, so many at most that the others have their turn soon, and notes
-    /// when the next ones are accepted. Answers how many they were.
+    /// Accepts the peers that wait, at most as many as let the others have their turn soon, and
+    /// notes when the next ones are accepted. Answers how many they were.
     pub(crate) fn accept(&mut self, now_ms: u64) -> usize {
         for accepted in 0..ACCEPTS {
             match self.listener.accept() {

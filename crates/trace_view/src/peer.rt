@@ -211,9 +211,9 @@ impl<T: Read + Write, P: Pieces + Drop> Peer<T, P> {
     }
 
     /// Reads, answers and writes, until the stream would have to be waited for, or others are to
-    /// have a turn. Each request that is whole is answered by the service, in order, and no other is
-    /// (see [`Connection::advance`]). So many bytes as `room` may still be pending beside what the connection holds.
-    /// The moment is in milliseconds.
+    /// have a turn. Each request that is whole is answered by the service, in order, and no other
+    /// is (see [`Connection::advance`]). As many bytes as `room` says may still be pending beside
+    /// what the connection holds. The moment is in milliseconds.
     pub fn serve<S: Service<Pieces = P>>(
         &mut self,
         service: &mut S,

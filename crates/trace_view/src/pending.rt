@@ -11,7 +11,7 @@ pub struct Pending {
 }
 
 impl Pending {
-    /// No connection holds a byte, and they may hold so many.
+    /// No connection holds a byte, and together they may hold this number.
     pub fn new(most: u64) -> Pending
         ensures { result ≡ record { held = 0; most = most } }
     {
@@ -25,7 +25,7 @@ impl Pending {
         self.most.saturating_sub(self.held)
     }
 
-    /// Notes that a connection which held so many bytes now holds so many: what is held is the sum
+    /// Notes that a connection which held `before` bytes now holds `after`: what is held is the sum
     /// over all connections again.
     pub fn change(&mut self, before: u64, after: u64)
         ensures most { self.new.most ≡ self.old.most }

@@ -7,7 +7,7 @@ use crate::args::ViewArgs;
 use crate::failure::{Failure, ListenFault, tell};
 use crate::report::report;
 use http_connection::Limits;
-use trace_view::{Complaints, End, Peers, Settings, StageTimes};
+use crate::{Complaints, End, Peers, Settings, StageTimes};
 use std::alloc::Global;
 use std::hash::RandomState;
 use std::io::{self, Write};

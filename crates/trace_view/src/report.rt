@@ -1,7 +1,7 @@
 //! The lines on refused requests.
 
 use http::StatusCode;
-use trace_view::{Complaints, Line};
+use crate::{Complaints, Line};
 use std::io::Write;
 use view_service::Tallies;
 

@@ -60,7 +60,8 @@ module _ {S R D Link P : Type 0} (meaning : S → SamplerMeaning) (stream : R �
     untraced = n;
   }
 
-  -- by whether it has ended
+  -- A traced client gets its result, and hands over the request's span or counts the request as
+  -- untraced.
   pub gets : (old new : ClientWith S R D) (parent : Option Context) (address : Address) (before after : P) (result : Result HttpReply GetFault) (begun at : ℕ) (span : Option HeldSpan) (fields : List Field) (has_ended : Bool)
       → IfSome span (HasStarted (tracer_view meaning old.tracer) (stream old.rng) (stream new.rng) parent address begun)
       → fields ≡ carried_by (option_map (λ (held : HeldSpan). held.context) span)

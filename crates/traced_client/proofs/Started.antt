@@ -11,6 +11,7 @@ use Rattle.trace_api.specs.Request.{StartsWith}
 use Rattle.trace_api.specs.declared.provider.StartFault.{StartFault}
 use Rattle.traced_client.specs.Spans.{StartsClient, client_start}
 
+-- A client span that starts with attributes has these, and spends the words of its identifiers.
 pub starts-client : (tracer : Tracer) (old new : Stream) (parent : Option Context) (pairs : List Attribute) (at : ℕ) (result : Result HeldSpan StartFault)
     → StartsWith (started_span tracer (client_start parent at) (words_of old)) (map set_attribute pairs ++ []) result
     → Spends (ids_words (valid_parent parent)) old new

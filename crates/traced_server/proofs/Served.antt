@@ -49,7 +49,7 @@ module _ {S H P R : Type 0} (meaning : S → SamplerMeaning) (stream : R → Str
     untraced = n;
   }
 
-  -- by whether it has ended
+  -- A traced server answers a request, and hands over its span or counts the request as untraced.
   pub serves : (old new : Serving S H P R) (request : Request (List ℕ)) (response : Response) (left : P) (route : Option (List ℕ)) (begun at : ℕ) (span : Option HeldSpan) (has_ended : Bool)
       → routes old.handler request route
       → IfSome span (HasStarted (tracer_view meaning old.tracer) (stream old.rng) (stream new.rng) route old.server request begun)

@@ -11,6 +11,7 @@ use Rattle.trace_api.specs.Request.{StartsWith}
 use Rattle.trace_api.specs.declared.provider.StartFault.{StartFault}
 use Rattle.traced_server.specs.Spans.{StartsServer}
 
+-- A server span that starts with attributes has these, and spends the words of its identifiers.
 pub starts-server : (tracer : Tracer) (old new : Stream) (parent : Option Context) (name : List ℕ) (pairs : List Attribute) (at : ℕ) (result : Result HeldSpan StartFault)
     → StartsWith (started_span tracer (start_request parent name server at) (words_of old)) (map set_attribute pairs ++ []) result
     → Spends (ids_words (valid_parent parent)) old new

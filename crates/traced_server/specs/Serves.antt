@@ -42,7 +42,7 @@ serving s = record {
 }
 
 -- What a handler says of its answers: with the context of the request's span, it gives this
--- response, or none for want of memory.
+-- response, or none for lack of memory.
 abbrev pub Answers : Type 0 → Type 0 → Type 1
 Answers H P = H → P → Request (List ℕ) → Option Context → Option Response → H → P → Type 0
 

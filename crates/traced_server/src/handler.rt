@@ -21,7 +21,7 @@ pub trait Handler<P> {
     ghost routes: { Self → Request (List ℕ) → Option (List ℕ) → Type 0 } = { λ _ _ _. ⊤ };
 
     /// From the first state and the first pass, with the context of the request's span, this
-    /// response answers the request, or there is none for want of memory, and the second state and
+    /// response answers the request, or there is none for lack of memory, and the second state and
     /// the second pass are left. An `impl` says so, if it can say that.
     ghost answers: { Self → P → Request (List ℕ) → Option Context → Option Response → Self → P
         → Type 0 } = { λ _ _ _ _ _ _ _. ⊤ };
@@ -34,7 +34,7 @@ pub trait Handler<P> {
 
     /// Fills `response`, which comes as a 200 with no header and no body. `parent` is the context
     /// of the request's span, for spans of the handler's own, which end on `pass`. There is none
-    /// where the request has no span for want of memory.
+    /// where the request has no span for lack of memory.
     ///
     /// # Errors
     ///

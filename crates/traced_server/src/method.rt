@@ -19,8 +19,8 @@ pub(crate) fn is_known(method: &str) -> bool
     )
 }
 
-/// The method as an attribute has it: `_OTHER` where it isn't known, since who sends requests may
-/// make up any number of them.
+/// The method as an attribute has it: `_OTHER` where it isn't known, since clients may make up
+/// any number of them.
 pub(crate) fn method_value(method: &str) -> &str
     ensures { result.now ≡ spec.method_value method.now }
 {

@@ -4,6 +4,7 @@ use Rattle.view_reply.specs.Formats.{format_fields, safety_fields, type_of}
 use Rattle.view_reply.specs.declared.format.Format.{Format}
 use Rattle.view_reply.specs.declared.format.Format.TheVariants as formats
 
+-- The fields of every format but Protobuf are its content type and the browser's safety fields.
 pub safe_unless : (format : Format) → format ≢ formats.Protobuf
     → format_fields format ≡ (codes "content-type", type_of format) ∷ safety_fields
 safe_unless formats.Html other = refl

@@ -28,7 +28,7 @@ code_of denials.OutOfMemory = 503
 code_of denials.NoRoom = 503
 code_of denials.UnknownVersion = 505
 
--- what a client is told, in words
+-- what an answer says to a client, in words
 abbrev pub message_of : Denial → List ℕ
 message_of denials.BadRequest = codes "the request can't be read as HTTP/1.1"
 message_of denials.BadBody =

@@ -67,7 +67,7 @@ impl Denial {
         }
     }
 
-    /// What the client is told: what is wrong, and what to do.
+    /// What the answer says to the client: what is wrong, and what to do.
     pub fn message(self) -> &'static str
         ensures value { result.now ≡ message_of self }
         ensures short { length result.now < 128 }

@@ -3,7 +3,7 @@ use Rattle.std.proofs.Common.{◌≡◌, ◌∙◌, ℕ, List, ◌++◌, ap, sym
 use Rattle.std.proofs.lemmas.List.{append_cancel_left, append_cancel_right}
 use Rattle.std.specs.Str.Pattern.{FindsTextPrefix, FindsTextSuffix, StripsPrefix, StripsSuffix}
 
--- the digits are what is left
+-- The digits between a front and an end of a path are what is left without these.
 pub left_between : (front end path rest left digits : List ℕ)
     → StripsPrefix (FindsTextPrefix front) path rest → StripsSuffix (FindsTextSuffix end) rest left
     → path ≡ front ++ (digits ++ end) → left ≡ digits

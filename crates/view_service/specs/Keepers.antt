@@ -6,8 +6,8 @@ use Rattle.std.specs.List.Sorted.{IsPermutation}
 use Rattle.trace_store.specs.Stores.{AreNewest, Evicts, MakesRoom, Store}
 use Rattle.trace_store.specs.Traces.{span_count, with_parts}
 
--- A store has received the parts, and keeps the newest traces within its limits. Those that went are
--- counted and named.
+-- A store has received the parts, and keeps the newest traces within its limits. Those that went
+-- are counted and named.
 pub record KeepsParts {S : Type 0} (size : S → ℕ) (old : Store S) (parts : List (ℕ × List S))
     (new : Store S) : Type 0 where
   pub received : new.kept.received ≡ old.kept.received + span_count parts
@@ -19,7 +19,7 @@ pub record KeepsParts {S : Type 0} (size : S → ℕ) (old : Store S) (parts : L
   pub max_spans : new.max_spans ≡ old.max_spans
   pub max_bytes : new.max_bytes ≡ old.max_bytes
 
--- A store gave up the oldest traces, as few as come to so many bytes; all, where they don't. Those
+-- A store gave up the oldest traces, as few as take this many bytes; all, where they don't. Those
 -- that went are counted and named.
 pub record GivesUp {S : Type 0} (size : S → ℕ) (old : Store S) (bytes : ℕ) (new : Store S)
     : Type 0 where
@@ -29,7 +29,7 @@ pub record GivesUp {S : Type 0} (size : S → ℕ) (old : Store S) (bytes : ℕ)
   pub max_spans : new.max_spans ≡ old.max_spans
   pub max_bytes : new.max_bytes ≡ old.max_bytes
 
--- Who has kept so many spans in a store that others share has kept these too.
+-- A keeper that has kept this many spans in a shared store has kept these parts, too.
 abbrev pub CountsParts : {S : Type 0} → ℕ → List (ℕ × List S) → ℕ → Type 0
 CountsParts old parts new = new ≡ old + span_count parts
 

@@ -64,7 +64,7 @@ denial_by reply = denial_by_status reply.status
 abbrev pub size_of_body : List ℕ → ℕ
 size_of_body body = at_most_64_bits (request_size body)
 
--- it takes more memory than so much
+-- the reading of a body takes more bytes of memory than there is room for
 abbrev pub lack_of_room : List ℕ → ℕ → Option Denial
 lack_of_room body room = if nat_lt room (size_of_body body) then Some denials.NoRoom else None
 
@@ -72,8 +72,8 @@ abbrev pub denial_or : Option PostReply → Option Denial → Option Denial
 denial_or (Some reply) other = Some (denial_by reply)
 denial_or None other = other
 
--- Why a request isn't read, where so many bytes may still be pending: it isn't for a collector, or
--- its reading takes more.
+-- Why a request isn't read, where this many bytes may still be pending: it isn't for a collector,
+-- or its reading takes more.
 abbrev pub denial_of : HttpPost → ℕ → Option Denial
 denial_of post room = denial_or (refusal_of post) (lack_of_room post.body room)
 
@@ -84,7 +84,7 @@ unread_by (Wire fault) = reasons.Fault
 unread_by BadUtf8 = reasons.Fault
 unread_by TooDeep = reasons.Fault
 
--- the body isn't read, for one of its faults or for want of memory
+-- the body isn't read, for one of its faults or for lack of memory
 abbrev pub IsUnread : List ℕ → Unread → Type 0
 IsUnread body unread = (fault : ReadFault)
     × NamesOne (meaning Tables.request body).faults fault × (unread ≡ unread_by fault)
@@ -105,14 +105,15 @@ HasParts {A} body parts = (request : Request A)
 abbrev pub Keeping : Type 0 → Type 0 → Type 1
 Keeping A K = K → Parts A → K → Type 0
 
--- What keeps spans has given up the oldest traces for so many bytes, and is then so.
+-- A keeper of spans in the first state has given up the oldest traces for this many bytes, which
+-- leaves the second state.
 abbrev pub Giving : Type 0 → Type 1
 Giving K = K → ℕ → K → Type 0
 
--- What becomes of a request, where so many bytes may still be pending: why it is refused, or nothing
--- where it is taken. It is taken only where its body was read, and its parts were kept before. Where
--- it is refused, what keeps the spans is as it was; but for want of memory it has given up the
--- oldest traces for as many bytes as the request takes.
+-- What becomes of a request, where this many bytes may still be pending: why it is refused, or
+-- nothing where it is taken. It is taken only where its body was read, and its parts were kept
+-- before. Where it is refused, what keeps the spans is as it was; but where memory was
+-- lacking, it has given up the oldest traces for as many bytes as the request takes.
 pub data Receives {A K : Type 0} (keeps : Keeping A K) (gives_up : Giving K) (old : K)
     (post : HttpPost) (room : ℕ) (denial : Option Denial) (new : K) : Type 0 where
   refused : (reason : Denial) → denial_of post room ≡ Some reason → denial ≡ Some reason

@@ -43,8 +43,9 @@ pub record HasAnswered {K P : Type 0} (old new : ViewService K P) (status : ℕ)
   pub hosts : hosts_of new ≡ hosts_of old
   pub pages : pages_of new ≡ pages_of old
 
--- Why a request is refused by its head, where so many bytes may still be pending: it is for another
--- host, or its body, if it says how long that is, is longer; or nothing more may be pending.
+-- Why a request is refused by its head, where this many bytes may still be pending: it is for
+-- another host, or its body, if it says how long that is, is longer; or nothing more may be
+-- pending.
 abbrev pub head_denial : List (List ℕ) → Head → Option ℕ → ℕ → Option Denial
 head_denial hosts head body room =
     if not (allows_head hosts head) then Some denials.Host
@@ -63,8 +64,8 @@ denial_by refusals.UnknownVersion = denials.UnknownVersion
 
 module _ {A K P R S : Type 0} (keeps : Keeping A K) (gives_up : Giving K) (lends : Lending K S)
     (draws : Drawing P S) (writes : Writing R) where
-  -- A whole request is answered, where so many bytes may still be pending: one to receive spans, one
-  -- to receive what isn't taken, or one for a page. Only the first one changes what is kept.
+  -- A whole request is answered, where this many bytes may still be pending: one to receive spans,
+  -- one to receive what isn't taken, or one for a page. Only the first one changes what is kept.
   pub data Answers (old : ViewService K P) (request : HttpRequest (List ℕ)) (room : ℕ)
       (response : Response) (rest : Option R) (new : K) : Type 0 where
     received : bytes_eq (uri_path (head_of request).uri) (codes "/v1/traces") ≡ true

@@ -33,16 +33,16 @@ pub trait TraceKeeper<S, D: Digest<S>> {
     // From the first state, the parts of a request were kept, and the second state is left.
     ghost keeps: { Self → List (ℕ × List S) → Self → Type 0 };
 
-    // From the first state, the oldest traces were given up for so many bytes, and the second state
-    // is left.
+    // From the first state, the oldest traces were given up for this many bytes, and the second
+    // state is left.
     ghost gives_up: { Self → ℕ → Self → Type 0 };
 
-    // In this state, this may be lent of a trace: its spans, or nothing. An `impl` says so, if it can
-    // say that.
+    // In this state, this may be lent of a trace: its spans, or nothing. An `impl` says so, if it
+    // can say that.
     ghost lends: { Self → ℕ → Option (List S) → Type 0 } = { λ _ _ _. ⊤ };
 
-    // In this state, these may be listed of the traces that a test takes, so many at most. An `impl`
-    // says so, if it can say that.
+    // In this state, these may be listed of the traces that a test takes, at most this many. An
+    // `impl` says so, if it can say that.
     ghost lists: { Self → (ℕ → List S → Bool) → ℕ → List (ℕ × D) → Type 0 } = { λ _ _ _ _. ⊤ };
 
     /// Keeps the parts of a request, each a trace and spans of it: all, or none.
@@ -55,7 +55,7 @@ pub trait TraceKeeper<S, D: Digest<S>> {
         ensures kept { OnOk result (keeps self.old parts.items self.new) }
         ensures refused { OnErr result (self.new ≡ self.old) };
 
-    /// Gives up the oldest traces, until their spans come to so many bytes or none is left. It takes
+    /// Gives up the oldest traces, until their spans took this many bytes or none is left. It takes
     /// no memory.
     fn make_room(&mut self, bytes: u64)
         ensures { gives_up self.old bytes self.new };
@@ -134,7 +134,7 @@ where
     }
 }
 
-/// The newest traces of a store that a filter takes, so many at most.
+/// The newest traces of a store that a filter takes, at most this many.
 ///
 /// # Errors
 ///

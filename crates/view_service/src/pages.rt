@@ -61,7 +61,7 @@ pub trait Pages<S, D> {
         query: &str,
     ) -> Result<Option<Self::Filter>, AllocError>;
 
-    /// A list of traces, the newest first, which a filter took of so many that are kept.
+    /// A list of traces, the newest first, which a filter took of this many kept traces.
     fn list(
         &self,
         out: &mut Vec<u8>,

@@ -50,7 +50,7 @@ fn fixed_route(path: &str) -> Option<Route>
     }
 }
 
-/// The trace whose digits stand between these, if the path is so.
+/// The trace whose digits are between these texts, if the path has this form.
 fn trace_between(path: &str, front: &str, end: &str) -> Option<TraceId>
     ensures { MatchOption result (NamesNone front.now end.now path.now)
         (NamesTrace front.now end.now path.now) }

@@ -28,9 +28,9 @@ use trace_store::{TraceDigest, ViewSpan};
 ///
 /// It is asked only under its own hosts. A request is answered 200 there only where its body was
 /// read, and its spans were kept before. Any other answer leaves the keeper as it was, but that it
-/// gives up its oldest traces where memory was refused. Each answer is counted by its status. A call
-/// fails only where memory for the answer is refused: nothing was kept then, and the connection
-/// ends.
+/// gives up its oldest traces where memory was refused. Each answer is counted by its status. A
+/// call fails only where memory for the answer is refused: nothing was kept then, and the
+/// connection ends.
 #[derive(Drop)]
 pub struct ViewService<K, P> {
     alloc: Global,
@@ -133,8 +133,8 @@ where
     K: TraceKeeper<Arc<ViewSpan>, TraceDigest>,
     P: Pages<Arc<ViewSpan>, TraceDigest>,
 {
-    /// Makes a blank response the answer to a whole request, and counts it, where so many bytes may
-    /// still be pending. Where the answer isn't whole, what is answered here writes the rest.
+    /// Makes a blank response the answer to a whole request, and counts it, where this many bytes
+    /// may still be pending. Where the answer isn't whole, what is answered here writes the rest.
     ///
     /// # Errors
     ///

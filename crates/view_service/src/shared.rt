@@ -27,12 +27,12 @@ impl Model for SpansKept {
     ghost view = { λ _. 0 };
 }
 
-/// The account of who has kept none.
+/// The account of a keeper that has kept no spans.
 impl Opening<SpansKept> for SpansKept {
     ghost first = { 0 };
 }
 
-/// So many more are kept.
+/// This many more spans are kept.
 struct Keeps;
 
 impl Change<SpansKept, u64> for Keeps {
@@ -41,8 +41,8 @@ impl Change<SpansKept, u64> for Keeps {
     ghost after = { λ said count. said + count };
 }
 
-/// What the lock of a shared store guards: the store, and the book of who has kept how many spans
-/// in it. The spans that it has received are those that its keepers have kept.
+/// What the lock of a shared store guards: the store, and the book of how many spans each keeper
+/// has kept in it. The spans that it has received are those that its keepers have kept.
 #[derive(Drop)]
 pub struct KeptSpans<J: Naming, S: SpanSize, D: Digest<S>, H: BuildHasher> {
     store: TraceStore<S, D, H, Global>,
@@ -51,7 +51,7 @@ pub struct KeptSpans<J: Naming, S: SpanSize, D: Digest<S>, H: BuildHasher> {
 }
 
 impl<J: Naming, S: SpanSize + Drop, D: Digest<S>, H: BuildHasher + Drop> KeptSpans<J, S, D, H> {
-    /// A store without spans, and so many accounts.
+    /// A store without spans, and this many accounts.
     fn open(
         alloc: Global,
         store: TraceStore<S, D, H, Global>,
@@ -85,7 +85,7 @@ impl<J: Naming, S: SpanSize + Drop, D: Digest<S>, H: BuildHasher + Drop> KeptSpa
         Ok(())
     }
 
-    /// Gives up the oldest traces, until their spans come to so many bytes or none is left.
+    /// Gives up the oldest traces, until their spans took this many bytes or none is left.
     fn make_room(&mut self, bytes: u64) {
         let _ = self.store.make_room(bytes);
     }
@@ -108,7 +108,7 @@ impl<J: Naming, S: SpanSize, D: Digest<S>, H: BuildHasher, R> Model
     ghost view = { λ k. k.account };
 }
 
-/// So many keepers of one store, which has no spans yet.
+/// This many keepers of one store, which has no spans yet.
 ///
 /// # Errors
 ///

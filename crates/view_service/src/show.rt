@@ -24,7 +24,7 @@ use view_reply::{
 };
 use trace_store::{TraceDigest, ViewSpan, trace_key};
 
-/// The list shows so many traces at most.
+/// The list shows this many traces at most.
 const LISTED: usize = 1_000;
 
 /// What the page of a route is written in.

@@ -26,7 +26,7 @@ extension_is (Some text) e = AllPass-from_list_all is_extension_byte text e
 abbrev pub is_line : ChunkLine → Bool
 is_line l = (nat_lt 0 (length l.digits) && nat_le (length l.digits) 16) && (list_all is_ascii_hexdigit l.digits && (list_all is_ows l.pad && is_extension l.extension))
 
--- a line that is written out
+-- A line that passes the test is a line of a chunk.
 pub line_valid : (l : ChunkLine) → is_line l ≡ true → IsChunkLine l
 line_valid l e =
     let parts = both (nat_lt 0 (length l.digits) && nat_le (length l.digits) 16) _ e in
@@ -39,6 +39,7 @@ line_valid l e =
       extension = extension_is l.extension last.1;
     }
 
+-- A line that passes the test and is short enough is a line within the limit.
 pub line_is : (most : ℕ) (l : ChunkLine) → is_line l ≡ true → nat_le (length (print_chunk_line l)) most ≡ true → IsLine most l
 line_is most l e bytes = record { valid = line_valid l e; bytes = leb-true (length (print_chunk_line l)) most bytes }
 
@@ -46,7 +47,7 @@ line_is most l e bytes = record { valid = line_valid l e; bytes = leb-true (leng
 abbrev pub plain : List ℕ → ChunkLine
 plain digits = record { digits = digits; pad = []; extension = None }
 
--- trailers that are written out
+-- Trailers whose fields pass the test and that are short enough are trailers within the limits.
 pub trailers_are : (limits : HeadLimits) (t : Trailers) → list_all is_field t.fields ≡ true → nat_le (length t.fields) limits.fields ≡ true
     → nat_le (length (print_trailers t)) limits.head ≡ true → IsTrailers limits t
 trailers_are limits t valid few bytes = record {
@@ -57,12 +58,12 @@ trailers_are limits t valid few bytes = record {
 
 -- ---- whole bodies
 
--- no chunk came before the text that ends the chunks
+-- A text that ends the chunks, with no chunk before it, is a whole chunked body.
 pub no_chunks : (limits : HeadLimits) (text : List ℕ) {left : Option (List ℕ)} {failed : Type 0} {answer : Result (List ℕ) HttpFault}
     → EndsChunks limits [] text left failed answer → IsChunkedBody limits text left failed answer
 no_chunks limits text ends = record { chunks = []; text = text; each = All-nil (IsChunk limits.head); fit = omega arith; whole = refl; ends = ends }
 
--- one chunk that is written out came before it
+-- One chunk that is written out and then a text that ends the chunks are a whole chunked body.
 pub one_chunk : (limits : HeadLimits) (c : Chunk) (text : List ℕ) {taken : List ℕ} {left : Option (List ℕ)} {failed : Type 0} {answer : Result (List ℕ) HttpFault}
     → IsChunk limits.head c → nat_le (length (data_of (c ∷ []))) limits.body ≡ true → taken ≡ flat_map print_chunk (c ∷ []) ++ text
     → EndsChunks limits (data_of (c ∷ [])) text left failed answer → IsChunkedBody limits taken left failed answer
@@ -75,7 +76,7 @@ one_chunk limits c text is fit taken ends = record {
   ends = ends;
 }
 
--- a chunk that is written out
+-- A chunk whose line passes the test and counts its bytes is a chunk within the limit.
 pub chunk_is : (most : ℕ) (c : Chunk) → is_line c.line ≡ true → nat_le (length (print_chunk_line c.line)) most ≡ true
     → nat_lt 0 (chunk_size c.line) ≡ true → length c.bytes ≡ chunk_size c.line → IsChunk most c
 chunk_is most c line bytes some size = record { line = line_is most c.line line bytes; some = ltb-true 0 (chunk_size c.line) some; size = size }
@@ -89,30 +90,31 @@ wiki = record { line = plain (codes "4"); bytes = codes "wiki" }
 abbrev no_fields : Trailers
 no_fields = record { fields = []; last = crlf }
 
--- the last chunk's line came, and the empty line
+-- The line of the last chunk and an empty line end the chunks.
 pub plain_end : {bytes : List ℕ} {left : Option (List ℕ)} {failed : Type 0} → EndsChunks usual bytes (codes "0\r\n\r\n") left failed (Ok bytes)
 unfolding httparse_on_literals
 plain_end = whole (plain (codes "0")) no_fields (line_is usual.head (plain (codes "0")) refl refl) refl (trailers_are usual no_fields refl refl refl) refl refl
 
--- a body of one chunk, whatever comes after it
+-- A body of one chunk is read, whatever comes after it.
 pub abc_body : (left : List ℕ) → IsChunkedBody usual (codes "3\r\nabc\r\n0\r\n\r\n") (Some left) ⊥ (Ok (codes "abc"))
 unfolding httparse_on_literals
 abc_body left = one_chunk usual abc (codes "0\r\n\r\n") (chunk_is usual.head abc refl refl refl refl) refl refl plain_end
 
 -- ---- no line, no trailers
 
--- a text without a line feed has no line, and no trailers
+-- A text without a line feed has no line of a chunk.
 pub has_no_line : (text : List ℕ) → list_any is_line_feed text ≡ false → HasNoChunkLine text
 has_no_line text none l rest reads =
     let ends = line_ends l in
     false≢true (sym none ∙ ap (list_any is_line_feed) (reads.1 ∙ ap (λ t. t ++ rest) ends.1) ∙ line_feed_in ends.0 rest)
 
+-- A text without a line feed has no trailers.
 pub has_no_trailers : (limits : HeadLimits) (text : List ℕ) → list_any is_line_feed text ≡ false → HasNoTrailers limits text
 has_no_trailers limits text none t rest reads =
     let ends = trailers_end t in
     false≢true (sym none ∙ ap (list_any is_line_feed) (reads.1 ∙ ap (λ t. t ++ rest) ends.1) ∙ line_feed_in ends.0 rest)
 
--- no line begins with a g
+-- No line of a chunk begins with a g.
 pub no_g : NeverHasChunkLine (codes "g")
 unfolding print_chunk_line
 no_g more l rest reads = begins_not l.digits reads.0.digits.0 reads.0.digits.2 reads.1
@@ -124,7 +126,7 @@ no_g more l rest reads = begins_not l.digits reads.0.digits.0 reads.0.digits.2 r
         let heads : ◌≡◌ {A = ℕ} 103 d = cc in
         false≢true (ap is_ascii_hexdigit heads ∙ All-head (λ b. is_ascii_hexdigit b ≡ true) d digits all)
 
--- no trailers without a field begin with an A
+-- No trailers begin with an A where no field is allowed.
 pub no_a : (limits : HeadLimits) (more : List ℕ) → limits.fields ≡ 0 → HasNoTrailers limits (65 ∷ more)
 no_a limits more zero t rest reads = begins_not t.fields t.last reads.0.few reads.1
   where

@@ -22,17 +22,19 @@ use Rattle.otlp_http.specs.Heads.{fields_of, IsHeadText, IsInterim}
 use Rattle.otlp_http.specs.HeadLaws.{head_ends}
 use Rattle.worked_http.specs.Replied.{AreReply, usual}
 
+-- Both parts of a conjunction that is true are true.
 pub both : (a b : Bool) → (a && b) ≡ true → (a ≡ true) × (b ≡ true)
 both true b e = (refl, e)
 both false b e = absurd (false≢true e)
 
--- each item that is tested is so
+-- Each item of a list whose items all pass a test is as the test says.
 pub all_of : {A : Type 0} (P : A → Type 0) (test : A → Bool) → ((x : A) → test x ≡ true → P x) → (xs : List A) → list_all test xs ≡ true → All P xs
 all_of P test one [] e = All-nil P
 all_of P test one (x ∷ xs) e =
     let parts = both (test x) (list_all test xs) e in
     All-cons P x xs (one x parts.0) (all_of P test one xs parts.1)
 
+-- What holds of an item holds of each item of a list of copies of it.
 pub all_equal : {A : Type 0} (P : A → Type 0) (x : A) → P x → (count : ℕ) → All P (replicate count x)
 all_equal P x is zero = All-nil P
 all_equal P x is (suc count) = All-cons P x (replicate count x) is (all_equal P x is count)
@@ -40,6 +42,7 @@ all_equal P x is (suc count) = All-cons P x (replicate count x) is (all_equal P 
 abbrev pub is_field : Field → Bool
 is_field f = is_token f.name && list_all is_value_byte f.raw
 
+-- A field that passes the test is a field.
 pub field_is : (f : Field) → is_field f ≡ true → IsField f
 field_is f e =
     let parts = both (is_token f.name) (list_all is_value_byte f.raw) e in
@@ -51,6 +54,7 @@ is_head h =
     (nat_le h.minor 1 && length h.digits == 3)
     && ((list_all is_ascii_digit h.digits && list_all is_value_byte (reason_phrase h.reason)) && list_all is_field h.fields)
 
+-- A head that passes the test is the head of a response.
 pub head_is : (h : ResponseHead) → is_head h ≡ true → IsResponseHead h
 head_is h e =
     let parts = both (nat_le h.minor 1 && length h.digits == 3) _ e in
@@ -64,6 +68,7 @@ head_is h e =
       fields = all_of IsField is_field field_is h.fields rest.1;
     }
 
+-- A head that passes the test and is short enough is the text of a head within the limits.
 pub head_text : (limits : HeadLimits) (h : ResponseHead) → is_head h ≡ true → nat_le (length (print_response h)) limits.head ≡ true
     → nat_le (length h.fields) limits.fields ≡ true → IsHeadText limits (print_response h) h
 head_text limits h e bytes fields = record {
@@ -81,6 +86,7 @@ taken_is field e =
     let parts = both (is_field_name field.0) (list_all is_kept_byte field.1) e in
     (IsFieldName-from_test field.0 parts.0, AllPass-from_list_all is_kept_byte field.1 parts.1)
 
+-- Fields that pass the test are fields that are taken.
 pub all_taken : (fields : List NameAndValue) → list_all is_taken fields ≡ true → All IsTaken fields
 all_taken fields e = all_of IsTaken is_taken taken_is fields e
 
@@ -96,7 +102,7 @@ answered digits reason one = record { blank = []; minor = 1; digits = digits; re
 abbrev pub interim : ResponseHead
 interim = record { blank = []; minor = 1; digits = codes "100"; reason = Some (codes "Continue"); line_end = crlf; fields = []; last = crlf }
 
--- a reply whose head is written out, after interim heads
+-- A head that is written out, after interim heads, and a body after it are a reply.
 pub replied : (interims : List ResponseHead) (head : ResponseHead) (taken : List ℕ) {bytes left : List ℕ} {status : ℕ} {wait : Option RetryAfter} {body : Result (List ℕ) HttpFault}
     → All (IsInterim usual) interims → nat_le (length interims) 16 ≡ true
     → Consumes (Some bytes) (Some left) (flat_map print_response interims ++ (print_response head ++ taken))
@@ -127,11 +133,12 @@ or_true : (a : Bool) → (a || true) ≡ true
 or_true true = refl
 or_true false = refl
 
+-- A text with a line feed in it passes the test for a line feed.
 pub line_feed_in : (front rest : List ℕ) → list_any is_line_feed ((front ++ 10 ∷ []) ++ rest) ≡ true
 line_feed_in [] rest = refl
 line_feed_in (b ∷ front) rest = ap (λ t. is_line_feed b || t) (line_feed_in front rest) ∙ or_true (is_line_feed b)
 
--- a text without a line feed has no head at its front
+-- A text without a line feed has no head of a response at its front.
 pub no_line : (text : List ℕ) → list_any is_line_feed text ≡ false → HasNoResponse text
 no_line text none h rest reads =
     let ends = head_ends h in
@@ -142,6 +149,6 @@ begins_not [] minor after more e = let heads : ◌≡◌ {A = ℕ} 120 72 = cc i
 begins_not (crlf ∷ blank) minor after more e = let heads : ◌≡◌ {A = ℕ} 120 13 = cc in omega (arith, heads)
 begins_not (lf ∷ blank) minor after more e = let heads : ◌≡◌ {A = ℕ} 120 10 = cc in omega (arith, heads)
 
--- no head begins with an x
+-- No head of a response begins with an x.
 pub no_x : NeverHasResponse (codes "x")
 no_x more h rest reads = begins_not h.blank h.minor _ more (reads.1 ∙ print_response-append h rest)

@@ -19,11 +19,11 @@ feed_at : (front rest : List ℕ) → has_feed (front ++ 10 ∷ rest) ≡ true
 feed_at [] rest = refl
 feed_at (byte ∷ front) rest = or_true (byte == 10) _ (feed_at front rest)
 
--- a text without one
+-- A text without a line feed is a line that hasn't ended.
 pub no_feed : (line : List ℕ) → has_feed line ≡ false → IsUnended line
 no_feed line none front rest e = false≢true (sym none ∙ ap has_feed e ∙ feed_at front rest)
 
--- a text that begins so has a line that isn't empty
+-- A text that begins with a byte that is no line end has a line that isn't empty.
 pub not_blank : (byte : ℕ) (rest : List ℕ) → byte ≢ 10 → byte ≢ 13 → ¬ (AreBlank (byte ∷ rest))
 not_blank byte rest feed cr blank = go blank.0 blank.1
   where
@@ -32,12 +32,12 @@ not_blank byte rest feed cr blank = go blank.0 blank.1
     go (lf ∷ ends) e = feed cc
     go (crlf ∷ ends) e = cr cc
 
--- a line that isn't empty
+-- A line of two bytes or more isn't empty.
 pub not_empty : (first second : ℕ) (rest : List ℕ) → ¬ (IsEmptyLine (first ∷ second ∷ rest))
 not_empty first second rest (inl e) = let sizes = ap length e in omega (arith, sizes)
 not_empty first second rest (inr e) = let sizes = ap length e in omega (arith, sizes)
 
--- the place after a text
+-- After a line feed and a part of a line, a head is at this part of a line.
 pub at_place : (front line : List ℕ) (begun : Bool) (part : LinePart) → has_feed line ≡ false → HasBegun begun (front ++ 10 ∷ []) → IsPart part line
     → IsPlace ((front ++ 10 ∷ []) ++ line) (record { begun = begun; line = part })
 at_place front line begun part none has is = record {
@@ -50,7 +50,7 @@ at_place front line begun part none has is = record {
   part = is;
 }
 
--- the place within the first line
+-- Before the first line feed, a head is within its first line.
 pub at_first : (line : List ℕ) → has_feed line ≡ false → ¬ (IsEmptyLine line) → IsPlace line (record { begun = false; line = parts.Text })
 at_first line none filled = record {
   lines = [];

@@ -27,6 +27,7 @@ is_target target = nat_lt 0 (length target) && (list_all is_uri_byte target && l
 abbrev pub is_request : RequestHead → Bool
 is_request h = is_token h.method && (is_target h.target && (nat_le h.minor 1 && list_all is_field h.fields))
 
+-- A head that passes the test is the head of a request.
 pub request_is : (h : RequestHead) → is_request h ≡ true → IsRequestHead h
 request_is h e =
     let parts = both (is_token h.method) _ e in
@@ -63,7 +64,7 @@ came limits h taken comes is bytes fields kept = record {
   kept = all_taken (request_fields h) kept;
 }
 
--- a request whose head is written out
+-- A head that is written out and a body after it are a request.
 pub posted : (head : RequestHead) (taken : List ℕ) {bytes left : List ℕ} {post : HttpPost}
     → Consumes (Some bytes) (Some left) (print_request head ++ taken)
     → is_request head ≡ true → nat_le (length (print_request head)) usual.head ≡ true → nat_le (length head.fields) usual.fields ≡ true
@@ -81,7 +82,7 @@ posted head taken comes is bytes fields kept method target keeps body = record {
   body = body;
 }
 
--- a head that is written out, and why its body didn't come
+-- A head that is written out, after which the body fails, is no request, for the body's fault.
 pub without_body : (limits : HeadLimits) (head : RequestHead) (taken : List ℕ) {bytes left : List ℕ} {fault : HttpFault}
     → Consumes (Some bytes) (Some left) (print_request head ++ taken)
     → is_request head ≡ true → nat_le (length (print_request head)) limits.head ≡ true → nat_le (length head.fields) limits.fields ≡ true
@@ -91,7 +92,7 @@ pub without_body : (limits : HeadLimits) (head : RequestHead) (taken : List ℕ)
 without_body limits head taken comes is bytes fields kept body =
     record { head = head; taken = taken; comes = came limits head taken comes is bytes fields kept; body = body }
 
--- a field is kept under its name in lower case
+-- A field is kept under its name in lower case.
 pub one_field : (name value : List ℕ) → KeepsFields (under (lowercase name) (value ∷ [])) ((name, value) ∷ [])
 one_field name value = record {
   values = λ key. elim (cases_Bool (bytes_eq (lowercase name) key)) [ inl t ↦ rw t refl | inr f ↦ rw f refl ];
@@ -99,7 +100,7 @@ one_field name value = record {
   count = omega arith;
 }
 
--- a text without a line feed has no head at its front
+-- A text without a line feed has no head of a request at its front.
 pub no_line : (text : List ℕ) → list_any is_line_feed text ≡ false → HasNoRequest text
 no_line text none h rest reads =
     let ends = head_ends h in

@@ -9,6 +9,7 @@ use Rattle.model_run.specs.Answers.{RunConfig, Given, answer_to, AreAnswers}
 use Rattle.model_run.proofs.More.{answers-more}
 use Rattle.worked_run.specs.Worked.{is_sent, history_behind, history}
 
+-- A history whose answers are right has right answers after more steps of the definition.
 pub history-behind-right : (run : RunConfig) (scarce : List ℕ) (before : List Answered) (outcomes : List Outcome) (steps : List Step) → AreAnswers run before → AreAnswers run (history_behind run scarce before outcomes steps)
 unfolding history_behind AreAnswers
 history-behind-right run scarce before outcomes [] w = w
@@ -18,6 +19,7 @@ history-behind-right run scarce before outcomes (step ∷ later) w =
     history-behind-right run scarce (before ++ x ∷ []) (if is_sent x.answer then drop 1 outcomes else outcomes) later
     (answers-more run before x w (record { given = given; is = refl }))
 
+-- Each answer in a history by the definition is right.
 pub history-right : (run : RunConfig) (steps : List Step) → AreAnswers run (history run steps)
 unfolding history AreAnswers
 history-right run steps = history-behind-right run [] [] [] steps tt

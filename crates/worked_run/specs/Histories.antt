@@ -124,6 +124,6 @@ unfoldable pub AllAllowed : DeskConfig → List DeskEvent → Type 0
 unfolding desk_of AreAllowed
 AllAllowed config events = AreAllowed config 0 events
 
--- the batch with this number and so many spans, in hand
+-- the batch with this number and this many spans, in hand
 abbrev pub in_hand_batch : ℕ → ℕ → Option OutBatch
 in_hand_batch number size = Some (record { number = number; size = size; is_handed = false })

@@ -1,4 +1,4 @@
--- A history in which a batch is sent again, and what it comes to. (OTLP Specification, Retryable
+-- A history in which a batch is sent again, and its outcome. (OTLP Specification, Retryable
 -- Response Codes, OTLP/HTTP Throttling)
 use Rattle.std.specs.Prelude.{ℕ, List, [], ◌∷◌, ◌++◌, Option, Some, map}
 use Rattle.model_span.specs.Spans.{SpanData}

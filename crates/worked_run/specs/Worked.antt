@@ -94,7 +94,7 @@ queue_of queue = record {
 abbrev pub bodies_of : ℕ → RunConfig
 bodies_of greatest = record (queue_of 4) { max_body = greatest }
 
--- a queue of so many, and one attempt
+-- a queue of this many spans, and one attempt
 abbrev pub once_of : ℕ → RunConfig
 once_of queue = record {
   setup = setup_with always_on counting;
@@ -135,7 +135,7 @@ first = starts 0 root
 abbrev pub child : Step
 child = starts 0 (Parent.numbered 0)
 
--- it, and so many children
+-- the first span, and this many children of it
 abbrev pub family : ℕ → List Step
 family children = first ∷ replicate children child
 
@@ -229,7 +229,7 @@ not_sampled = Answer.ended runs.not_sampled
 abbrev pub already_ended : Answer
 already_ended = Answer.ended runs.already_ended
 
--- the batch of this number is encoded, in so many bytes, and delivered
+-- the batch of this number is encoded, in this many bytes, and delivered
 abbrev pub delivers : ℕ → ℕ → List Answer
 delivers number size =
     Answer.encoded number size ∷ sent number 1 Outcome.delivered
@@ -333,12 +333,12 @@ unfoldable pub worked_batch : ℕ → List SpanData
 unfolding worked_events
 worked_batch number = batch_spans worked_events number
 
--- where the batch comes after the first so many steps
+-- how far the batch has come after the first n steps
 unfoldable pub progress_after : ℕ → Progress
 unfolding progress
 progress_after n = progress (take n worked)
 
--- an attempt of this batch that came to nothing
+-- an attempt of this batch that got no reply
 abbrev pub tried : ℕ → ℕ → Attempt
 tried number attempt = record { number = number; attempt = attempt; outcome = no_reply }
 

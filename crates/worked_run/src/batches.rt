@@ -109,7 +109,7 @@ pub fn outcomes()
         replied 1 (give_up attempts) ∷ queued 1 ∷ Answer.flush ∷ taken 2 1 ∷ delivers 2 80 }
 {}
 
-/// The second ledger names the spans of a batch that came to nothing.
+/// The second ledger names the spans of a batch that was lost.
 #[tactic(auto, unfolding(crate::specs::Worked::lost_by))]
 pub fn losses()
     ensures refused { lost_by (Outcome.refused 400 ∷ []) (once_of 4)

@@ -34,8 +34,8 @@ pub fn ledgers()
         (ends (0 ∷ 1 ∷ []) ++ taken 10 2 ∷ handed ∷ settled Fate.given_up ∷ []) ≡ [] }
 {}
 
-/// The second ledger names the spans of a batch that was handed and came to nothing, the newest
-/// first, each with the reason.
+/// The second ledger names the spans of a batch that was handed and lost, the newest first, each
+/// with the reason.
 pub fn losses_of_batches()
     ensures given_up { lost_entries (two_handed ++ settled Fate.given_up ∷ []) ≡
         named given_up 1 ∷ named given_up 0 ∷ [] }

@@ -56,7 +56,7 @@ pub fn closings()
     ensures last { is_closed (2 ^ 64 - 1) (first ∷ []) ≡ true }
 {}
 
-/// What a processor of a queue of 2 spans comes to, where ticket 3's batch was not handed and is
+/// The end of a processor of a queue of 2 spans, where ticket 3's batch was not handed and is
 /// abandoned: nothing is left, and 4 is the next ticket.
 pub fn accounts()
     ensures spans { QueuedAreAccounted [] both (abandon (worker_with (out_with None []))) }

@@ -35,7 +35,7 @@ unfoldable pub read_response : List ℕ → Reading (Message response)
 unfolding meaning septets is_utf8 chars encode
 read_response bytes = meaning response bytes
 
--- the first so many bytes, then one byte fewer, down to one byte
+-- the first n bytes, then one byte fewer, down to one byte
 abbrev pub beginnings : ℕ → List ℕ → List (List ℕ)
 beginnings zero bytes = []
 beginnings (suc n) bytes = take (suc n) bytes ∷ beginnings n bytes
@@ -47,18 +47,18 @@ abbrev pub with_size : List ℕ → List ℕ
 with_size bytes = let n =
     length bytes in (if nat_lt n 128 then n ∷ [] else (n % 128 + 128) ∷ n / 128 ∷ []) ++ bytes
 
--- a value in so many arrays
+-- a value in this many arrays
 unfoldable pub in_arrays : ℕ → List ℕ → List ℕ
 unfolding hex
 in_arrays zero value = value
 in_arrays (suc n) value = hex "2a" ++ with_size (hex "0a" ++ with_size (in_arrays n value))
 
--- the number 1 in so many arrays
+-- the number 1 in this many arrays
 unfoldable pub nested_arrays : ℕ → List ℕ
 unfolding hex in_arrays
 nested_arrays n = in_arrays n (hex "18 01")
 
--- the number 1 in so many lists of pairs
+-- the number 1 in this many lists of pairs
 unfoldable pub nested_lists : ℕ → List ℕ
 unfolding hex
 nested_lists zero = hex "18 01"

@@ -39,7 +39,7 @@ zero_context =
 abbrev pub pair : String → Value → Attribute
 pair key value = record { key = codes key; value = value }
 
--- what is kept of pairs: at most so many, and texts of at most so many characters
+-- what is kept of pairs: at most this many pairs, and texts of at most this many characters
 unfoldable pub kept : ℕ → Option ℕ → List Attribute → Kept Attribute
 unfolding attributes chars encode
 kept count length pairs = attributes (record { count = count; length = length }) pairs

@@ -203,11 +203,11 @@ unfoldable pub ended_by : SamplerMeaning → List ℕ → List SpanStep → List
 unfolding start_results_behind started_span ids_of ids_words first_valid span chars encode
 ended_by sampler words steps = ended_spans (setup_with sampler words) steps
 
--- a start that takes so many words and gives this span
+-- a start that takes this many words and gives this span
 abbrev pub gives : ℕ → StartedSpan → StartResult
 gives spent s = record { spent = spent; span = Some s }
 
--- a start that takes so many words and gives no span
+-- a start that takes this many words and gives no span
 abbrev pub gives_none : ℕ → StartResult
 gives_none spent = record { spent = spent; span = None }
 

@@ -8,7 +8,7 @@ ghost use Rattle.worked_trace.specs.Samples.{pair, set, kept};
 ghost use Rattle.worked_trace.specs.Bytes.{a_with};
 ghost use Rattle.worked_trace.specs.Written.{limited_bytes};
 
-/// At most so many keys are kept: the first ones that were set, each with its last value. Later
+/// At most this many keys are kept: the first ones that were set, each with its last value. Later
 /// pairs with other keys are dropped, and each of them is counted. (the order and the count:
 /// profile)
 #[tactic(auto, unfolding(crate::specs::Samples::kept))]
@@ -29,7 +29,7 @@ pub fn count_limit()
     ensures greatest_count { capped_count (2 ^ 32) ≡ 2 ^ 32 - 1 }
 {}
 
-/// A text is cut to so many characters (Unicode scalar values), and so is each text of an array.
+/// A text is cut to this many characters (Unicode scalar values), and so is each text of an array.
 #[tactic(auto, unfolding(crate::specs::Hex::hex, crate::specs::Samples::kept))]
 pub fn length_limit()
     // Two of three e with an acute accent, which take two bytes each.

@@ -19,7 +19,7 @@ ghost use Rattle.worked_trace.specs.Steps.{remote_parent};
 ghost use Rattle.worked_trace.specs.Steps.{begun_in, span_between, begin, begin_refused};
 ghost use Rattle.worked_trace.specs.Steps.{outcomes_by, ended_by, gives, gives_none, exported_in};
 
-/// What starts come to, each after the ones before it: the words that it takes, and its span.
+/// The results of starts, each after the ones before it: the words that it takes, and its span.
 #[tactic(auto, unfolding(crate::specs::Hex::hex, crate::specs::Steps::outcomes_by))]
 pub fn outcomes()
     // A root in scope s and its child in scope t.

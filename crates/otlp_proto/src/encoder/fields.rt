@@ -15,7 +15,7 @@ pub enum WireType {
     Varint,
     /// Eight bytes.
     SixtyFourBit,
-    /// A length, and so many bytes.
+    /// A length, and that number of bytes.
     LengthDelimited,
     /// Four bytes.
     ThirtyTwoBit,

@@ -54,7 +54,7 @@ impl Length {
         self.0
     }
 
-    /// Counts so many bytes more.
+    /// Counts this number of bytes more.
     fn add(&mut self, len: usize)
         ensures { self.new.0 ≡ saturated (self.old.0 + len) }
     {
@@ -116,7 +116,7 @@ impl<A: Allocator> Buffer<A> {
         Ok(Buffer { bytes, at: 0 })
     }
 
-    /// Whether so many bytes more have room.
+    /// Whether there is room for this number of bytes more.
     fn has_room(&self, len: usize) -> bool
         ensures { (front : List ℕ) (room : ℕ) → self.now ≡ Cursor.filled front room →
             (result ≡ true → len ≤ room) × (result ≡ false → room < len) }

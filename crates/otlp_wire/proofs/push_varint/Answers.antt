@@ -13,7 +13,7 @@ push_reserved-requires g c =
     let i = c.loop-unwritten.invariant in
     omega (arith, ap length (high_groups i.room c.loop-unwritten.unwritten c.loop-unwritten-test.true i.in_range).first)
 
--- after one more byte
+-- After one more byte, the number is begun with one more group.
 begun-more : {A : Type 0} (value rest : ℕ) (old out new : Vec ℕ A) → (i : Begun A value old out rest) → MoreGroups i.room rest →
     new.items ≡ out.items ++ (rest % 128 + 128) ∷ [] → vec_len new ≡ vec_len out + 1 → vec_capacity new ≡ vec_capacity out → Begun A value old new (rest / 128)
 begun-more value rest old out new i more items len capacity = record {
@@ -36,7 +36,7 @@ push_reserved-requires-2 g c =
     let i = c.loop-unwritten.invariant in
     omega (arith, ap length (low_groups i.room c.loop-unwritten.unwritten c.loop-unwritten-test.false))
 
--- after the last byte
+-- After the last byte, the shortest varint of the number is appended.
 begun-all : {A : Type 0} (value rest : ℕ) (old out new : Vec ℕ A) → (i : Begun A value old out rest) → rest < 128 →
     new.items ≡ out.items ++ rest ∷ [] → new.items ≡ old.items ++ shortest value
 begun-all value rest old out new i l items = rw (items, ← i.whole, low_groups i.room rest l) refl

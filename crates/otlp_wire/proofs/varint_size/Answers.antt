@@ -15,7 +15,7 @@ loop-uncounted-preserved c =
     let more = high_groups i.room c.loop-uncounted.uncounted c.loop-uncounted-test.true i.in_range in
     record { room = more.less; in_range = more.in_range; positive = omega arith; in_room = omega (arith, more.one_less); whole = omega (arith, ap length more.first) }
 
--- at the last group
+-- At the last group, the count is the size of the shortest varint.
 all-counted : (value size rest : ℕ) → Counted value size rest → rest < 128 → length (shortest value) ≡ size
 all-counted value size rest i l = omega (arith, i.whole, ap length (low_groups i.room rest l))
 

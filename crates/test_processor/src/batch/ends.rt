@@ -57,8 +57,8 @@ fn popped_names_are_no_longer_in_the_ledger(rt: HostRuntime) {
     pop_full::<Brand, HostRuntime>(rt, rt.alloc(), BatchBlank::new());
 }
 
-/// Three of four spans find the queue full. A pass drains their names, the oldest first, and none is
-/// left in the ledger: not for another drain, and not for a pop.
+/// Three of four spans find the queue full. A pass drains their names, the oldest first, and none
+/// is left in the ledger: not for another drain, and not for a pop.
 fn drain_full<J: Naming, R: Wait + Abort + Copy>(rt: R, alloc: Global, blank: BatchBlank)
     requires { blank ≡ J.name }
 {
@@ -135,7 +135,7 @@ fn a_missing_pass_is_given_back(rt: HostRuntime) {
     give_back::<Brand, HostRuntime>(rt, rt.alloc(), BatchBlank::new());
 }
 
-/// How many passes a processor has that is to have so many, with these settings.
+/// How many passes a processor that is to have this number of passes, with these settings, has.
 fn count_passes<J: Naming, R: Wait + Abort + Copy>(
     rt: R,
     alloc: Global,

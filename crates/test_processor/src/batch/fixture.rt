@@ -20,7 +20,8 @@ use std::sync::Wait;
 use std::time::Clock;
 use trace_api::{Ended, WordsRng};
 
-/// Asserts that these name so many spans, the last of which has this ticket, the newest first.
+/// Asserts that these name this number of spans, the last of which has this ticket, the newest
+/// first.
 pub(crate) fn assert_named(
     rt: &impl Abort,
     names: &[Entry],
@@ -36,7 +37,7 @@ pub(crate) fn assert_named(
     }
 }
 
-/// So many spans wait at most, and a batch has so many. The delay is as long as it can be.
+/// At most `queue` spans wait, and a batch has `batch`. The delay is as long as it can be.
 pub(crate) fn config(queue: usize, batch: usize) -> BatchConfig {
     BatchConfig {
         desk: DeskConfig {
@@ -113,7 +114,7 @@ pub(crate) fn make<J: Naming, R: Wait + Abort + Copy, A: Allocator + Copy>(
     made.expect(&rt, "a processor")
 }
 
-/// So many spans end on the first pass. Each is queued, from this ticket on.
+/// This number of spans ends on the first pass. Each is queued, from this ticket on.
 pub(crate) fn queue<J: Naming, R: Wait + Abort, A: Allocator + Copy>(
     rt: &R,
     alloc: A,
@@ -127,7 +128,7 @@ pub(crate) fn queue<J: Naming, R: Wait + Abort, A: Allocator + Copy>(
     }
 }
 
-/// Works so many turns at this moment. All of them are spent.
+/// Works this number of turns at this moment. All of them are spent.
 pub(crate) fn work<J, R, A, E>(
     rt: R,
     alloc: A,
@@ -149,14 +150,14 @@ where
     assert_equal(&rt, end, WorkEnd::TurnsSpent);
 }
 
-/// What a processor comes to: its totals, and the names of dropped spans, the newest one first.
+/// What is left of a processor: its totals, and the names of dropped spans, the newest one first.
 #[derive(Drop)]
 pub(crate) struct Left<A: Allocator = Global> {
     pub(crate) totals: Totals,
     pub(crate) names: Vec<Entry, A>,
 }
 
-/// What a processor comes to whose passes are all back.
+/// What is left of a processor whose passes are all back.
 pub(crate) fn close<J: Naming, R: Wait + Abort + Copy, A: Allocator + Copy>(
     rt: R,
     alloc: A,

@@ -205,8 +205,8 @@ fn a_shutdown_makes_spans_late(rt: HostRuntime) {
     shut_down::<Brand, HostRuntime>(rt, rt.alloc(), SimpleBlank::new());
 }
 
-/// How a span is answered whose body has 70 bytes, where a body may have so many; the name that is
-/// popped then; and how many were handed, and dropped as too large.
+/// The answer to the end of a span whose body has 70 bytes, where a body may have this number; the
+/// name that is popped then; and how many were handed, and dropped as too large.
 fn end_within<J: Naming, R: Wait + Abort + Copy>(
     rt: R,
     alloc: Global,
@@ -243,7 +243,7 @@ fn a_span_whose_body_is_too_large_is_named(rt: HostRuntime) {
     }
 }
 
-/// How many passes a processor has that is to have so many.
+/// How many passes a processor that is to have this number of passes has.
 fn count_passes<J: Naming, R: Wait + Abort + Copy>(
     rt: R,
     alloc: Global,

@@ -59,7 +59,7 @@ where
     made.expect(&rt, "a processor")
 }
 
-/// What a processor comes to whose passes are all back.
+/// What is left of a processor whose passes are all back.
 pub(crate) fn close<J, E, R, A>(
     rt: R,
     processor: SimpleProcessor<J, E, R, A>,

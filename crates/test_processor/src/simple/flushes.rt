@@ -31,7 +31,7 @@ const BEGIN: u32 = 1_000_000_000;
 /// Turns that it waits for the flush to answer.
 const ANSWER: u32 = 20_000_000;
 
-/// Whether this stage is reached within so many turns.
+/// Whether this stage is reached within this number of turns.
 fn is_reached(stage: &AtomicU64, wanted: u64, turns: u32) -> bool {
     for _ in 0..turns {
         if stage.load(Ordering::SeqCst) >= wanted {

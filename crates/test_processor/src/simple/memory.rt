@@ -48,7 +48,7 @@ fn end_two<J: Naming, R: Wait + Abort + Copy, A: Allocator + Copy>(
 }
 
 /// Two spans end on scarce memory. Which was refused memory, and whether its entry is popped or
-/// stays in the ledger, is reported by what the processor comes to.
+/// stays in the ledger, is reported by what is left of the processor.
 fn end_scarce<J: Naming, R: Wait + Abort + Copy, A: Allocator + Copy>(
     rt: R,
     ample: A,

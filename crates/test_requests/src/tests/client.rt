@@ -19,7 +19,7 @@ use traced_client::{Client, ClientParts, GetFault};
 /// Words of traces and of spans.
 const WORDS: [u64; 6] = [1, 2, 3, 4, 5, 6];
 
-/// What came of a client's requests.
+/// The results of a client's requests.
 #[derive(Drop)]
 struct Came {
     /// A line for each reply: its status and its body, or why there is none.

@@ -1,4 +1,4 @@
-//! A service that the tests ask, and what it came to.
+//! A service that the tests ask, and its results.
 use batch_processor::ManualClock;
 use bytes::{BufMut, Bytes};
 use http::{Request, StatusCode};
@@ -54,7 +54,7 @@ impl<P> Handler<P> for Probe {
     }
 }
 
-/// What a service came to.
+/// The results of a service.
 #[derive(Drop)]
 pub(crate) struct Came {
     /// What it wrote.

@@ -125,7 +125,7 @@ fn the_oldest_trace_goes_whole(rt: HostRuntime) -> Result<(), Fail> {
 }
 
 /// What is seen of a store of three traces of one, two and two spans, 50 bytes in all, that gave up
-/// traces until they came to so many bytes, and how many traces went.
+/// traces until these had at least this number of bytes, and how many traces went.
 fn roomy<A: Allocator + Copy>(
     alloc: A,
     bytes: u64,

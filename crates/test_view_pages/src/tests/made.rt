@@ -28,7 +28,7 @@ fn id_of<A: Allocator>(alloc: A, id: u32) -> Result<Vec<u8, A>, OutOfMemory> {
     Ok(Vec::from_slice(alloc, u64::from(id).to_be_bytes().as_slice())?)
 }
 
-/// So many milliseconds after the first moment.
+/// This number of milliseconds after the first moment.
 fn moment(ms: u32) -> u64 {
     BASE.saturating_add(u64::from(ms).saturating_mul(1_000_000))
 }

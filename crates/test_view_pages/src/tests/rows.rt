@@ -18,7 +18,7 @@ fn summary<'a>(name: &'a str, service: &'a str, start: u64) -> Summary<'a> {
     }
 }
 
-/// The list of these, with this query in its links, where a host takes so many traces.
+/// The list of these, with this query in its links, where a host takes this number of traces.
 fn list(
     alloc: Global,
     query: &str,
@@ -38,7 +38,7 @@ fn list(
     Ok(page)
 }
 
-/// The same text so many times.
+/// The same text this number of times.
 fn repeated<A: Allocator>(alloc: A, text: &str, times: u64) -> Result<String<A>, OutOfMemory> {
     let mut all = String::new(alloc);
     for _ in 0..times {
@@ -47,7 +47,7 @@ fn repeated<A: Allocator>(alloc: A, text: &str, times: u64) -> Result<String<A>,
     Ok(all)
 }
 
-/// The list of one trace, whose root and service have names of so many characters.
+/// The list of one trace, whose root and service have names of this number of characters.
 fn named(alloc: Global, character: &str, times: u64) -> Result<String, OutOfMemory> {
     let name = repeated(alloc, character, times)?;
     list(alloc, "", "", &[summary(&name, &name, 0)], 1)

@@ -59,7 +59,7 @@ fn a_list_has_an_object_for_each_trace(rt: HostRuntime) -> Result<(), Fail> {
     Ok(())
 }
 
-/// The same text so many times.
+/// The same text this number of times.
 fn repeated<A: Allocator>(alloc: A, text: &str, times: u64) -> Result<String<A>, AllocError> {
     let mut all = String::new(alloc);
     for _ in 0..times {
@@ -68,7 +68,7 @@ fn repeated<A: Allocator>(alloc: A, text: &str, times: u64) -> Result<String<A>,
     Ok(all)
 }
 
-/// The list of one trace, whose service and root have names of so many characters.
+/// The list of one trace, whose service and root have names of this number of characters.
 fn named(alloc: Global, character: &str, times: u64) -> Result<Vec<u8>, AllocError> {
     let name = repeated(alloc, character, times)?;
     let plain = line();

@@ -199,7 +199,7 @@ fn a_large_trace_is_drawn(rt: HostRuntime) -> Result<(), Fail> {
 /// A part of a long name: 32 bytes of UTF-8.
 const PART: &str = "</b><script>\"&'\u{202e}\u{2066}<li data='0";
 
-/// A name of so many such parts.
+/// A name of this number of such parts.
 fn long_name(alloc: Global, count: usize) -> Result<String, OutOfMemory> {
     let mut name = String::new(alloc);
     for _ in 0..count {

@@ -16,7 +16,7 @@ use span_exporter::Handed;
 use std::alloc::Allocator;
 use trace_history::{Answer, Step};
 
-/// Appends a line for each step of a run, with what it was answered (profile):
+/// Appends a line for each step of a run, with its answer (profile):
 ///
 /// - `start N TRACE SPAN`, or `start N` and `no-randomness`, `out-of-memory` or `no-span`;
 /// - `call N` and `ok`, `out-of-memory` or `no-span`;
@@ -35,7 +35,7 @@ use trace_history::{Answer, Step};
 /// during the run, and no bytes where there is none.
 ///
 /// An answer that isn't one to such a step is reported as `none` in place of what would be there; a
-/// flush and a shutdown have their line whatever they are answered, and an end that is answered
+/// flush and a shutdown have their line whatever their answer is, and an end with the answer
 /// `Handed` has `handed TICKET`. A step without an answer has no line, nor has an answer without a
 /// step.
 ///

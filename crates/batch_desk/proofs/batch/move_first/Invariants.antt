@@ -2,7 +2,7 @@ use Rattle.std.proofs.Common.{◌≡◌, ◌+◌, ◌++◌, drop, length, take}
 use Rattle.std.specs.Prelude.{vec_capacity, vec_len}
 use Rattle.batch_desk.proofs.batch.move_first.Given as goal
 
--- so many are moved, and the others are left
+-- the first spans are moved, and the others are left
 abbrev pub invariant-loop : goal.invariant-loop
 invariant-loop g l = record {
   moved : l.into.items ≡ l.initial.into.items ++ take l.counter l.initial.run.items;

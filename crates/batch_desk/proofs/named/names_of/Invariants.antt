@@ -4,7 +4,7 @@ use Rattle.model_span.specs.Dropped.{entry_of}
 use Rattle.otlp_span.specs.Dropped.{reason_view}
 use Rattle.batch_desk.proofs.named.names_of.Given as goal
 
--- the names that stand, the oldest first, and those of what is left, are all
+-- the names so far, the oldest first, and those of what is left, are all
 abbrev pub invariant-loop : goal.invariant-loop
 invariant-loop g l = record {
   ledger : reverse l.newest_first ++ map (entry_of (reason_view l.reason)) l.run.items

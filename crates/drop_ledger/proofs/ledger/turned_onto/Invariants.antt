@@ -3,7 +3,7 @@ use Rattle.std.specs.Option.{ForSome}
 use Rattle.otlp_span.specs.Slips.{entries_of, is_named}
 use Rattle.drop_ledger.proofs.ledger.turned_onto.Given as goal
 
--- what is left, turned round and put on what stands, is the whole
+-- what is left, reversed and put onto the chain so far, is the whole
 abbrev pub invariant-loop-rest : goal.invariant-loop-rest
 invariant-loop-rest g l = record {
   all : reverse (entries_of l.rest) ++ entries_of l.turned

@@ -5,7 +5,7 @@ use Rattle.httparse.specs.Grammar.{ResponseHead, print_response}
 use Rattle.otlp_http.specs.Heads.{IsInterim}
 use Rattle.otlp_http.proofs.head.read_final_head.Given as goal
 
--- so many interim heads were read, and nothing failed
+-- `_skipped` interim heads were read, and nothing failed
 abbrev pub invariant-loop-skipped : goal.invariant-loop-skipped
 invariant-loop-skipped g l =
     let remaining = g.R.FaultRead.remaining in

@@ -9,15 +9,15 @@ use Rattle.otlp_value.specs.Value.{attribute_view, limits_view}
 use Rattle.otlp_value.proofs.Setting.{is_empty-length, is-new, sets-full, sets-ignored, sets-new, sets-there}
 use Rattle.otlp_value.proofs.AttributeList.set.Goals as goal
 
--- a pair with its value cut, as a pair of the model
+-- Pairs of the same key with equal values are equal.
 with_value : (k : List ℕ) (v w : Value) → v ≡ w → ◌≡◌ {A = Attribute} (record { key = k; value = v }) (record { key = k; value = w })
 with_value k v w e = ap (λ x. record { key = k; value = x }) e
 
--- what the test of the key says
+-- The key is empty if the test of its length says so.
 emptiness : {A : Type 0} (key : String A) (r t : Bool) → r ≡ nat_eq (string_len key) 0 → r ≡ t → is_empty (string_bytes key) ≡ t
 emptiness key r t e h = is_empty-length (string_bytes key) t (ap (λ n. nat_eq n 0) (sym key.bytes.ok.0) ∙ sym e ∙ h)
 
--- what the look-up found, of the key and the pairs themselves
+-- What the look-up found is the place of the key among the pairs.
 place : {A : Type 0} (key : String A) (pairs seen : List (String A × declared.Value A)) (text : List ℕ) (r o : Option ℕ) → text ≡ string_bytes key → seen ≡ pairs →
     r ≡ position (λ p. has_key text (attribute_view p)) seen → r ≡ o → position (λ p. has_key (string_bytes key) (attribute_view p)) pairs ≡ o
 place key pairs seen text r o k s e h = ap₂ (λ a b. position (λ p. has_key a (attribute_view p)) b) (sym k) (sym s) ∙ sym e ∙ h

@@ -20,14 +20,14 @@ bounds-out-next-2 c =
     let i = c.loop-unwritten.invariant in
     omega (arith, i.len, i.has_room, ap length (low_groups i.room c.loop-unwritten.unwritten c.loop-unwritten-test.false))
 
--- one byte more at the end of what is there
+-- One byte that is written at the next place comes after the bytes that were written.
 more-front : (old out begun : List ℕ) (at next b : ℕ) → next < length out → take next out ≡ take at old ++ begun → take (next + 1) (set out next b) ≡ take at old ++ (begun ++ b ∷ [])
 more-front old out begun at next b l e = take_more_set out next b l ∙ ap (λ bs. bs ++ b ∷ []) e ∙ append_assoc (take at old) begun (b ∷ [])
 
 fewer-behind : (old out : List ℕ) (next b : ℕ) → next < length out → length out ≡ length old → drop next out ≡ drop next old → drop (next + 1) (set out next b) ≡ drop (next + 1) old
 fewer-behind old out next b l len e = drop-set-lt (next + 1) out next b (omega arith) ∙ (sym (drop-drop 1 next out) ∙ ap (drop 1) e ∙ drop-drop 1 next old)
 
--- after one more byte
+-- After one more byte, the number is begun with one more group.
 begun-more : (value at : ℕ) (old out : List ℕ) (next rest : ℕ) → (i : Begun value at old out next rest) → MoreGroups i.room rest → next < length out →
     Begun value at old (set out next (rest % 128 + 128)) (next + 1) (rest / 128)
 begun-more value at old out next rest i more l =
@@ -49,7 +49,7 @@ loop-unwritten-preserved c =
     let more = high_groups i.room c.loop-unwritten.unwritten c.loop-unwritten-test.true i.in_range in
     begun-more c.args.value c.args.at c.args.out.now c.loop-unwritten.out c.loop-unwritten.next c.loop-unwritten.unwritten i more (omega (arith, i.len, i.has_room, ap length more.first))
 
--- after the last byte
+-- After the last byte, the shortest varint of the number is put at the place.
 begun-all : (value at : ℕ) (old out : List ℕ) (next rest : ℕ) → (i : Begun value at old out next rest) → rest < 128 → PutsAt (shortest value) at old (set out next rest) (next + 1)
 begun-all value at old out next rest i low =
     let last = low_groups i.room rest low in

@@ -36,6 +36,7 @@ use Rattle.span_ring.specs.contracts.room.attach.Key.{name as #self}
 use Rattle.span_ring.proofs.room.attach.Statement.{statement}
 use Rattle.span_ring.proofs.room.attach.Code as code
 
+-- The machine code of `attach` satisfies its contract.
 pub attach_spec : {M : Type 1} → statement M
 attach_spec 𝓤 𝓛 𝓜 𝓡 wired X Z L K g d dd allocator glue =
     let H = 𝓛.H in let 𝓣 = tables 𝓤 H 𝓜 𝓡 𝓡.env in let R : RattleType = param 0 X in let P : RattleType = param 1 Z in

@@ -42,6 +42,7 @@ use denote.Triple.Spec.{triple_of}
 use denote.Triple.Table.{framed}
 use denote.Triple.Walked.{Stays, walk_of, stay_dropped, Goes-dropped}
 
+-- `allocate` keeps its contract: it refuses its one call, and else asks the inner allocator.
 pub allocate_spec : {M : Type 1} → statement M
 allocate_spec 𝓤 𝓛 𝓜 𝓡 wired B laws g d dd met drops =
     let Z : Al = record { row = B; laws = laws; g = g; d = d; drops = dd } in

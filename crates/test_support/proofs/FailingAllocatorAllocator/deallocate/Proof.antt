@@ -37,6 +37,7 @@ use denote.Triple.Spec.{triple_of}
 use denote.Triple.Table.{framed}
 use denote.Triple.Walked.{Stays, walk_of, stay_dropped, Goes-dropped}
 
+-- `deallocate` keeps its contract: it gives the block back to the inner allocator.
 pub deallocate_spec : {M : Type 1} → statement M
 deallocate_spec 𝓤 𝓛 𝓜 𝓡 wired B laws g d dd met drops =
     let Z : Al = record { row = B; laws = laws; g = g; d = d; drops = dd } in

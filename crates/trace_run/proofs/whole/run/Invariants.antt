@@ -6,7 +6,7 @@ use Rattle.trace_run.specs.Run.{run_config}
 use Rattle.trace_run.specs.State.{Stands, HasItsBody, TellsAll}
 use Rattle.trace_run.proofs.whole.run.Given as goal
 
--- It comes after the steps so far, and the exporter tells their attempts.
+-- Its state is what the steps so far mean, and the exporter shows their attempts.
 abbrev pub invariant-loop-step : goal.invariant-loop-step
 invariant-loop-step g l = record {
   stands : Stands g.S.Sampler.meaning g.R.Rng.stream (run_config g.S.Sampler.meaning g.R.Rng.stream l.fn.config) (history_view (take l.step-index l.steps) l.answers.items) l.running.table l.running.queue l.out;

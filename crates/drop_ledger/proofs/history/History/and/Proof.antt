@@ -25,6 +25,7 @@ use Rattle.drop_ledger.specs.contracts.history.History.and.Key.{name as #self}
 use Rattle.drop_ledger.proofs.history.History.and.Statement.{statement}
 use Rattle.drop_ledger.proofs.history.History.and.Code as code
 
+-- `and` keeps its contract: it gives the history with one more item.
 pub and_spec : {M : Type 1} → statement M
 and_spec 𝓤 𝓛 𝓜 𝓡 wired U _ =
     let T = ended U in let c = clauses U 𝓛 𝓜.mem 𝓡.returns in

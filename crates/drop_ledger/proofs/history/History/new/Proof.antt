@@ -20,6 +20,7 @@ use Rattle.drop_ledger.specs.contracts.history.History.new.Key.{name as #self}
 use Rattle.drop_ledger.proofs.history.History.new.Statement.{statement}
 use Rattle.drop_ledger.proofs.history.History.new.Code as code
 
+-- `new` keeps its contract: it gives an empty history.
 pub new_spec : {M : Type 1} → statement M
 new_spec 𝓤 𝓛 𝓜 𝓡 wired U _ =
     let T = ended U in let c = clauses U 𝓛 𝓜.mem 𝓡.returns in

@@ -13,6 +13,7 @@ use Rattle.span_ring.specs.contracts.places.Places as C
 use Rattle.span_ring.proofs.PlacesLaws.{places_laws, Lends-places}
 use Rattle.span_ring.proofs.places.Places.TheLaw.Statement.{statement}
 
+-- A `&` to the places satisfies the law of its type.
 pub shares : (R : RattleType) (L : Laws R) → statement R L
 shares R L = of_Lends (C.struct R) (C.the_codes R.Denot R.coded (marker.the_row RawPtr).coded) (C.the_heap R) (C.the_lent R)
     (λ d p. places_laws R L.shr_laws d.at d.before d.items d.after) (copy_shared (marker.the_field RawPtr) (field_copy (marker.the_type RawPtr) tt), tt)

@@ -20,6 +20,7 @@ module _ (R : RattleType) (item : IsSync R) (κ : Lft) where
   places_sync (block_ptr b o) before xs after = (tt, items_sync b (before * type_size R + o) xs)
   places_sync null_ptr before xs after = tt
 
+-- Places are `Sync` where their items are.
 pub sync : (R : RattleType) → IsSync R → IsSync (places.the_row R)
 sync R item = let O = places.the_type R in record {
   shared = λ d b o κ. ((struct_sync (shape O) (search sendable, tt)).shared (to O d) b o κ, places_sync R item κ d.at d.before d.items d.after);

@@ -39,6 +39,7 @@ use Rattle.span_ring.specs.contracts.places.Places.write.Key.{name as #self}
 use Rattle.span_ring.proofs.places.Places.write.Statement.{statement}
 use Rattle.span_ring.proofs.places.Places.write.Code as code
 
+-- The machine code of `write` satisfies its contract.
 pub write_spec : {M : Type 1} → statement M
 write_spec 𝓤 𝓛 𝓜 𝓡 wired X L =
     let H = 𝓛.H in let 𝓣 = tables 𝓤 H 𝓜 𝓡 𝓡.env in let R : RattleType = param 0 X in let O : RattleType = places.the_row R in let τ = layout X in let s = size τ in

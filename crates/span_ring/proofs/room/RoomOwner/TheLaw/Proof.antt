@@ -12,6 +12,7 @@ use Rattle.span_ring.specs.contracts.room.RoomOwner.TheInside as inside
 use Rattle.span_ring.proofs.Owners.{emptied, emptied_shared}
 use Rattle.span_ring.proofs.room.RoomOwner.TheLaw.Statement.{statement}
 
+-- A `&` to the owner of a room satisfies the law of its type.
 pub shares : (R P : RattleType) (g : Ghosts P.Denot) (L : Laws R) (K : Laws P) → statement R P g L K
 unfolding part_of
 shares R P g L K = let parts = field (emptied R P g) ∷ [] in let it = inside.the_type R P g in record {

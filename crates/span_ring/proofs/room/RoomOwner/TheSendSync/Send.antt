@@ -26,6 +26,7 @@ pointer_send = search sendable
 count_send : IsSend usize
 count_send = search sendable
 
+-- The owner of a room is `Send` where its allocator is.
 pub send : (R A : RattleType) (g : Ghosts A.Denot) → IsSend A → Frees g g.dealloc_token → IsSend (owner.the_row R A g)
 send R A g alloc frees =
     let O = emptied R A g in let all : AllSend (fields O) = (pointer_send, (count_send, (count_send, (alloc, tt)))) in

@@ -22,6 +22,7 @@ pointer_sync = search sendable
 count_sync : IsSync usize
 count_sync = search sendable
 
+-- The owner of a room is `Sync` where its allocator is.
 pub sync : (R A : RattleType) (g : Ghosts A.Denot) → IsSync A → IsSync (owner.the_row R A g)
 sync R A g alloc =
     let O = emptied R A g in

@@ -37,6 +37,7 @@ use Rattle.span_ring.specs.contracts.room.RoomOwner.base.Key.{name as #self}
 use Rattle.span_ring.proofs.room.RoomOwner.base.Statement.{statement}
 use Rattle.span_ring.proofs.room.RoomOwner.base.Code as code
 
+-- The machine code of `base` satisfies its contract.
 pub base_spec : {M : Type 1} → statement M
 unfolding tables_of
 base_spec 𝓤 𝓛 𝓜 𝓡 wired X Z L K g d dd allocator glue =
