@@ -48,8 +48,8 @@ module _ {V : Type 0} where
   -- ---- what all have
 
   module _ {X : Type 0} (f : V → List X) where
-    at : (before : List V) (v : V) (behind : List V) → flat_map f (before ++ v ∷ behind) ≡ flat_map f before ++ (f v ++ flat_map f behind)
-    at before v behind = flat_map-append f before (v ∷ behind)
+    at : (before : List V) (v : V) (appended : List V) → flat_map f (before ++ v ∷ appended) ≡ flat_map f before ++ (f v ++ flat_map f appended)
+    at before v appended = flat_map-append f before (v ∷ appended)
 
     -- The gathered entries of all grow by what one account has more, in some order.
     pub gathered_replaced : (old : List V) (v w : V) (new : List V) (more : List X) → Replaces old v w new → f w ≡ f v ++ more → IsPermutation (flat_map f new) (flat_map f old ++ more)
@@ -187,9 +187,9 @@ module _ {V : Type 0} where
     one_of : (v : V) (w : W) (rest : List V) → part v ≡ Some w → filter_map part (v ∷ rest) ≡ w ∷ filter_map part rest
     one_of v w rest is = rw is refl
 
-    around : (before : List V) (v : V) (w : W) (behind : List V) → part v ≡ Some w → filter_map part (before ++ v ∷ behind) ≡ filter_map part before ++ w ∷ filter_map part behind
-    around before v w behind is =
-        filter_map-append part before (v ∷ behind) ∙ ap (λ (ws : List W). filter_map part before ++ ws) (one_of v w behind is)
+    around : (before : List V) (v : V) (w : W) (appended : List V) → part v ≡ Some w → filter_map part (before ++ v ∷ appended) ≡ filter_map part before ++ w ∷ filter_map part appended
+    around before v w appended is =
+        filter_map-append part before (v ∷ appended) ∙ ap (λ (ws : List W). filter_map part before ++ ws) (one_of v w appended is)
 
     -- A change of an account of one kind is a change among the accounts of this kind.
     pub part_replaced : (old : List V) (v w : V) (new : List V) (a b : W) → Replaces old v w new → part v ≡ Some a → part w ≡ Some b → Replaces (filter_map part old) a b (filter_map part new)

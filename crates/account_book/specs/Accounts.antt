@@ -10,14 +10,14 @@ open_of ((false, v) ∷ rows) = open_of rows
 -- One account said v, and now says w; the others say what they said.
 abbrev pub Replaces : {V : Type 0} → List V → V → V → List V → Type 0
 Replaces {V} old v w new =
-    (before : List V) × (behind : List V)
-    × (old ≡ before ++ v ∷ behind) × (new ≡ before ++ w ∷ behind)
+    (before : List V) × (appended : List V)
+    × (old ≡ before ++ v ∷ appended) × (new ≡ before ++ w ∷ appended)
 
 -- One account, which said v, is gone; the others say what they said.
 abbrev pub Removes : {V : Type 0} → List V → V → List V → Type 0
 Removes {V} old v new =
-    (before : List V) × (behind : List V)
-    × (old ≡ before ++ v ∷ behind) × (new ≡ before ++ behind)
+    (before : List V) × (appended : List V)
+    × (old ≡ before ++ v ∷ appended) × (new ≡ before ++ appended)
 
 -- These accounts were closed, one after the other, and the others are left.
 abbrev pub Closes : {V : Type 0} → List V → List V → List V → Type 0

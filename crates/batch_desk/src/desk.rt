@@ -172,7 +172,7 @@ impl<A: Allocator> Desk<A> {
         ensures mark { result ≡ accepted_count self.old }
         ensures desk { self.new ≡ record self.old { asked = accepted_count self.old } }
         ensures history { Does events.flush self.old self.new }
-        ensures unchanged_behind_shutdown { self.old.closed ≡ true
+        ensures unchanged_after_shutdown { self.old.closed ≡ true
             → self.old.next_ticket < 2 ^ 64 - 1 → self.new ≡ self.old }
     {
         let accepted = self.taken + self.ring.len() as u64;
@@ -190,7 +190,7 @@ impl<A: Allocator> Desk<A> {
           closed = true;
         } }
         ensures history { Does events.shutdown self.old self.new }
-        ensures unchanged_behind_shutdown { self.old.closed ≡ true
+        ensures unchanged_after_shutdown { self.old.closed ≡ true
             → self.old.next_ticket < 2 ^ 64 - 1 → self.new ≡ self.old }
     {
         let mark = self.flush();

@@ -20,8 +20,8 @@ length-head_for Close address size = simp length-append (omega arith)
 length-head_for KeepAlive address size = simp length-append (omega arith)
 
 -- a front of a text that reaches into its second piece
-take_behind : (text front rest : List ℕ) (n : ℕ) → text ≡ front ++ rest → take (length front + n) text ≡ front ++ take n rest
-take_behind text front rest n is =
+take_after : (text front rest : List ℕ) (n : ℕ) → text ≡ front ++ rest → take (length front + n) text ≡ front ++ take n rest
+take_after text front rest n is =
     take-add (length front) n text
     ∙ ap (λ t. take (length front) t ++ take n (drop (length front) t)) is
     ∙ ap (λ l. l ++ take n (drop (length front) (front ++ rest))) (take_at front rest (length front) refl)
@@ -60,12 +60,12 @@ module _ {Link : Type 0} {shown : Shown Link} where
       }
 
   -- A write that stops in the second piece of a text, after the first, stops in the text.
-  pub stopped_behind : (text front rest : List ℕ) (old mid new : Link) → text ≡ front ++ rest → IsSent shown front old mid
+  pub stopped_after : (text front rest : List ℕ) (old mid new : Link) → text ≡ front ++ rest → IsSent shown front old mid
       → IsStopped shown rest mid new → IsStopped shown text old new
-  stopped_behind text front rest old mid new is first second =
+  stopped_after text front rest old mid new is first second =
       let all = ap length is ∙ length-append front rest in
       let within = second.short in
-      let part : take (length front + second.count) text ≡ front ++ take second.count rest = take_behind text front rest second.count is in record {
+      let part : take (length front + second.count) text ≡ front ++ take second.count rest = take_after text front rest second.count is in record {
         count = length front + second.count;
         short = omega (arith, all, within);
         written = subst (Appends (shown.contents old) (shown.contents new)) (sym part) (Appends-trans _ _ _ front _ first.written second.written);

@@ -112,14 +112,14 @@ fields_lines (field ∷ fields) =
 -- Too many fields are too many lines.
 pub exceeds_lines : (room : ℕ) (text : List ℕ) → SectionExceeds room text → room < ended_lines text
 exceeds_lines room text x =
-    let front : x.0 ≡ flat_map print_field x.3 = append_cancel_right x.0 (flat_map print_field x.3) (10 ∷ []) (x.4.1 ∙ nothing_behind (flat_map print_field x.3)) in
+    let front : x.0 ≡ flat_map print_field x.3 = append_cancel_right x.0 (flat_map print_field x.3) (10 ∷ []) (x.4.1 ∙ nothing_later (flat_map print_field x.3)) in
     let whole = ap ended_lines (x.2 ∙ ap (λ t. t ++ x.1) front) ∙ ended_lines-append (flat_map print_field x.3) x.1 in
     let many = fields_lines x.3 in
     let few = x.5 in
     omega (arith, whole, many, few)
   where
-    nothing_behind : (a : List ℕ) → (a ++ 10 ∷ []) ++ [] ≡ a ++ 10 ∷ []
-    nothing_behind a = simp append_assoc
+    nothing_later : (a : List ℕ) → (a ++ 10 ∷ []) ++ [] ≡ a ++ 10 ∷ []
+    nothing_later a = simp append_assoc
 
 -- A parse that refuses trailers stops the reading of trailers, with the same fault.
 pub stopped_by : (text : List ℕ) (room : ℕ) (fault : HttpFault) → ParsesTrailers text room (Err fault) → IsStoppedTrailers text room fault

@@ -260,12 +260,12 @@ not_due text byte other due = other (grown.push_last text (due.lines ++ due.line
 more_unended : (line : List ℕ) (byte : ℕ) → IsUnended line → (byte ≡ 10 → ⊥) → IsUnended (line ++ byte ∷ [])
 more_unended line byte unended other front rest e = elim (grown.push_split line byte front (10 ∷ rest) e) [
   | inl both ↦ let none = ap length both.0 in omega (arith, none)
-  | inr both ↦ behind both.0 both.1 (append_cancel_left front (both.0 ++ byte ∷ []) (10 ∷ rest) (sym (append_assoc front both.0 (byte ∷ [])) ∙ ap (λ t. t ++ byte ∷ []) (sym both.1) ∙ e))
+  | inr both ↦ appended both.0 both.1 (append_cancel_left front (both.0 ++ byte ∷ []) (10 ∷ rest) (sym (append_assoc front both.0 (byte ∷ [])) ∙ ap (λ t. t ++ byte ∷ []) (sym both.1) ∙ e))
 ]
   where
-    behind : (more : List ℕ) → line ≡ front ++ more → more ++ byte ∷ [] ≡ 10 ∷ rest → ⊥
-    behind [] f g = other cc
-    behind (x ∷ more) f g = let first : x ≡ 10 = cc in unended front more (f ∙ ap (λ y. front ++ y ∷ more) first)
+    appended : (more : List ℕ) → line ≡ front ++ more → more ++ byte ∷ [] ≡ 10 ∷ rest → ⊥
+    appended [] f g = other cc
+    appended (x ∷ more) f g = let first : x ≡ 10 = cc in unended front more (f ∙ ap (λ y. front ++ y ∷ more) first)
 
 more_text : (part : LinePart) (line : List ℕ) (byte : ℕ) → IsPart part line → (part ≡ parts.Nothing → byte ≡ 13 → ⊥) → ¬ (IsEmptyLine (line ++ byte ∷ []))
 more_text part line byte is other (inl e) =

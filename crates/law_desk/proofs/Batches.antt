@@ -7,30 +7,30 @@ use Rattle.std.proofs.lemmas.List.Elements.{filter_map-append}
 use Rattle.model_span.specs.Spans.{SpanData}
 use Rattle.model_span.specs.Attributes.{last_or}
 use Rattle.model_desk.specs.Queue.{DeskEvent, queued, full, late, flush, shutdown, taken, handed, dropped, settled, popped, popped_lost, queued_span, accepted_spans, size_of_take, batch_sizes, taken_count, waiting_spans, slices, batch_spans, last_spans, last_size}
-use Rattle.model_desk.specs.Desks.{DeskConfig, desk_of, Allowed, AreAllowedBehind, AreAllowed}
+use Rattle.model_desk.specs.Desks.{DeskConfig, desk_of, Allowed, AreAllowedAfter, AreAllowed}
 use Rattle.model_desk.proofs.Lists.{sum-cons, slice-stays, length-slices, get-at, get-front}
 use Rattle.model_desk.proofs.Steps.{IsWithin, sizes-kept, accepted-kept, last-kept, accepted-queued, last-queued, length-last, count-taken, last-taken, number-taken, size-taken, by-steps, within-step, allowed-within}
 use Rattle.law_desk.specs.Queues.{BatchesAreTheFirst, BatchesStay, BatchesAreTheTaken, LastBatchIsTakenLast}
 
 -- ---- parts of a history
 
-front-behind : (config : DeskConfig) (made : ℕ) (before xs ys : List DeskEvent) → AreAllowedBehind config made before (xs ++ ys) → AreAllowedBehind config made before xs
-front-behind config made before [] ys w = tt
-front-behind config made before (x ∷ xs) ys w = (w.0, front-behind config made (before ++ x ∷ []) xs ys w.1)
+front-after : (config : DeskConfig) (made : ℕ) (before xs ys : List DeskEvent) → AreAllowedAfter config made before (xs ++ ys) → AreAllowedAfter config made before xs
+front-after config made before [] ys w = tt
+front-after config made before (x ∷ xs) ys w = (w.0, front-after config made (before ++ x ∷ []) xs ys w.1)
 
 -- If a history is allowed, so is each front part of it.
 pub front-allowed : (config : DeskConfig) (made : ℕ) (xs ys : List DeskEvent) → AreAllowed config made (xs ++ ys) → AreAllowed config made xs
 unfolding AreAllowed
-front-allowed config made xs ys w = front-behind config made [] xs ys w
+front-allowed config made xs ys w = front-after config made [] xs ys w
 
-last-behind : (config : DeskConfig) (made : ℕ) (before xs : List DeskEvent) (x : DeskEvent) → AreAllowedBehind config made before (xs ++ x ∷ []) → Allowed (desk_of config made (before ++ xs)) x
-last-behind config made before [] x w = subst (λ b. Allowed (desk_of config made b) x) (sym (append-nil before)) w.0
-last-behind config made before (y ∷ xs) x w = subst (λ b. Allowed (desk_of config made b) x) (append_assoc before (y ∷ []) xs) (last-behind config made (before ++ y ∷ []) xs x w.1)
+last-after : (config : DeskConfig) (made : ℕ) (before xs : List DeskEvent) (x : DeskEvent) → AreAllowedAfter config made before (xs ++ x ∷ []) → Allowed (desk_of config made (before ++ xs)) x
+last-after config made before [] x w = subst (λ b. Allowed (desk_of config made b) x) (sym (append-nil before)) w.0
+last-after config made before (y ∷ xs) x w = subst (λ b. Allowed (desk_of config made b) x) (append_assoc before (y ∷ []) xs) (last-after config made (before ++ y ∷ []) xs x w.1)
 
 -- The last event of an allowed history is allowed at the desk that those before it made.
 pub last-allowed : (config : DeskConfig) (made : ℕ) (h : List DeskEvent) (x : DeskEvent) → AreAllowed config made (h ++ x ∷ []) → Allowed (desk_of config made h) x
 unfolding AreAllowed
-last-allowed config made h x w = last-behind config made [] h x w
+last-allowed config made h x w = last-after config made [] h x w
 
 -- ---- a batch that is taken
 
@@ -96,26 +96,26 @@ batches-are-taken config made h w =
 
 -- ---- the last batch
 
-abbrev behind_others : ℕ → ℕ → List SpanData → List SpanData
-behind_others size count spans = drop (count - size) (take count spans)
+abbrev after_others : ℕ → ℕ → List SpanData → List SpanData
+after_others size count spans = drop (count - size) (take count spans)
 
 record TakenLast (h : List DeskEvent) : Type 0 where
   within : IsWithin h
-  is : last_spans h ≡ behind_others (last_size h) (taken_count h) (accepted_spans h)
+  is : last_spans h ≡ after_others (last_size h) (taken_count h) (accepted_spans h)
 
-last-same : (h : List DeskEvent) (x : DeskEvent) → size_of_take x ≡ None → queued_span x ≡ None → last_spans h ≡ behind_others (last_size h) (taken_count h) (accepted_spans h) → last_spans (h ++ x ∷ []) ≡ behind_others (last_size (h ++ x ∷ [])) (taken_count (h ++ x ∷ [])) (accepted_spans (h ++ x ∷ []))
-last-same h x e q k = last-kept h x e q ∙ k ∙ sym (λ i. behind_others (last_or 0 (sizes-kept h x e i)) (sum (sizes-kept h x e i)) (accepted-kept h x q i))
+last-same : (h : List DeskEvent) (x : DeskEvent) → size_of_take x ≡ None → queued_span x ≡ None → last_spans h ≡ after_others (last_size h) (taken_count h) (accepted_spans h) → last_spans (h ++ x ∷ []) ≡ after_others (last_size (h ++ x ∷ [])) (taken_count (h ++ x ∷ [])) (accepted_spans (h ++ x ∷ []))
+last-same h x e q k = last-kept h x e q ∙ k ∙ sym (λ i. after_others (last_or 0 (sizes-kept h x e i)) (sum (sizes-kept h x e i)) (accepted-kept h x q i))
 
 last-step : (config : DeskConfig) (made : ℕ) (h : List DeskEvent) (x : DeskEvent) → TakenLast h → Allowed (desk_of config made h) x → TakenLast (h ++ x ∷ [])
 last-step config made h x k a = record { within = within-step config made h x k.within a; is = go x k.is }
   where
-    go : (x : DeskEvent) → last_spans h ≡ behind_others (last_size h) (taken_count h) (accepted_spans h) → last_spans (h ++ x ∷ []) ≡ behind_others (last_size (h ++ x ∷ [])) (taken_count (h ++ x ∷ [])) (accepted_spans (h ++ x ∷ []))
+    go : (x : DeskEvent) → last_spans h ≡ after_others (last_size h) (taken_count h) (accepted_spans h) → last_spans (h ++ x ∷ []) ≡ after_others (last_size (h ++ x ∷ [])) (taken_count (h ++ x ∷ [])) (accepted_spans (h ++ x ∷ []))
     go (queued s) e = last-queued h s k.within ∙ e ∙ ap (drop (taken_count h - last_size h)) (sym (take-append-le (taken_count h) (accepted_spans h) (s ∷ []) k.within))
-        ∙ sym (λ i. behind_others (last_or 0 (sizes-kept h (queued s) refl i)) (sum (sizes-kept h (queued s) refl i)) (accepted-queued h s i))
+        ∙ sym (λ i. after_others (last_or 0 (sizes-kept h (queued s) refl i)) (sum (sizes-kept h (queued s) refl i)) (accepted-queued h s i))
     go (taken now size) e =
         let n : taken_count h + size - size ≡ taken_count h = omega arith in
         last-taken h now size k.within ∙ sym (drop-take (taken_count h) size (accepted_spans h)) ∙ ap (λ (m : ℕ). drop m (take (taken_count h + size) (accepted_spans h))) (sym n)
-        ∙ sym (λ i. behind_others (size-taken h now size i) (count-taken h now size i) (accepted-kept h (taken now size) refl i))
+        ∙ sym (λ i. after_others (size-taken h now size i) (count-taken h now size i) (accepted-kept h (taken now size) refl i))
     go (full s) e = last-same h (full s) refl refl e
     go late e = last-same h late refl refl e
     go flush e = last-same h flush refl refl e
@@ -130,4 +130,4 @@ last-step config made h x k a = record { within = within-step config made h x k.
 pub last-is-last : LastBatchIsTakenLast
 last-is-last config made h w =
     let k : TakenLast h = by-steps config made TakenLast (last-step config made) h (record { within = omega arith; is = refl }) w in
-    k.is ∙ ap (λ (n : ℕ). behind_others n (taken_count h) (accepted_spans h)) (sym (length-last h k.within))
+    k.is ∙ ap (λ (n : ℕ). after_others n (taken_count h) (accepted_spans h)) (sym (length-last h k.within))

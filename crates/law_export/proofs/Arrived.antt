@@ -31,19 +31,19 @@ sends limits address body old before after a =
 
 -- The bytes of a request that arrives are its text and the bytes after it.
 pub known : (limits : HeadLimits) (address : Address) (body : List ℕ) (old : Option (List ℕ)) (before after : ℕ)
-    → (a : Arrives limits address body old before after) → old ≡ Some (request_text (traces_at address.host address.port) body ++ a.behind)
-known limits address body old before after a = a.whole ∙ ap (λ to. Some (request_text to body ++ a.behind)) (written_out address a.address_is)
+    → (a : Arrives limits address body old before after) → old ≡ Some (request_text (traces_at address.host address.port) body ++ a.appended)
+known limits address body old before after a = a.whole ∙ ap (λ to. Some (request_text to body ++ a.appended)) (written_out address a.address_is)
 
 -- The bytes of a request that arrives begin with a request that isn't refused, and no read failed.
 pub stands : (limits : HeadLimits) (address : Address) (body : List ℕ) (old : Option (List ℕ)) (before after : ℕ)
-    → (a : Arrives limits address body old before after) → Stands limits (request_text (traces_at address.host address.port) body ++ a.behind) body before after
+    → (a : Arrives limits address body old before after) → Stands limits (request_text (traces_at address.host address.port) body ++ a.appended) body before after
 stands limits address body old before after a = record {
   post = post address.host address.port body;
   is = record {
-    left = a.behind;
+    left = a.appended;
     old = 0;
     new = 0;
-    means = is_post limits address.host address.port body a.behind (HasFailed 0 0) (sends limits address body old before after a);
+    means = is_post limits address.host address.port body a.appended (HasFailed 0 0) (sends limits address body old before after a);
     sound = never_failed;
     ample = λ lacks. lacks;
   };

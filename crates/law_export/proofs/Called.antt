@@ -259,8 +259,8 @@ same-end start calls more at = ap (first_or start.at) (filter_map-append end_of 
     ∙ ap (first_or start.at) (sym (filter_map-append end_of calls (end at ∷ [])))
 
 -- Calls after an end change nothing.
-pub behind-the-end : (limits : SpanLimits) (start : Start) (calls more : List Call) (at : ℕ) → span limits start (calls ++ end at ∷ more) ≡ span limits start (calls ++ end at ∷ [])
-behind-the-end limits start calls more at =
+pub after-the-end : (limits : SpanLimits) (start : Start) (calls more : List Call) (at : ℕ) → span limits start (calls ++ end at ∷ more) ≡ span limits start (calls ++ end at ∷ [])
+after-the-end limits start calls more at =
     span-is limits start (calls ++ end at ∷ more)
     ∙ ap₂ (span_of limits start) (same-end start calls more at) (live-end calls more at ∙ sym (live-end calls [] at))
     ∙ sym (span-is limits start (calls ++ end at ∷ []))

@@ -25,6 +25,6 @@ pub mod Sent
 pub mod Judged
 pub mod Arrived
 pub mod Delivered
-pub mod Behind
+pub mod After
 pub mod Memory
 pub mod SmallBatch

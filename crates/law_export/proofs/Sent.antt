@@ -38,14 +38,14 @@ abbrev pub sent_head : List ℕ → ℕ → List ℕ → RequestHead
 sent_head host port body = head (host_of host port) (decimal (length body))
 
 -- A request that is sent comes as its head and then its body, and the bytes after it are left.
-pub comes_with : (limits : HeadLimits) (host : List ℕ) (port : ℕ) (body behind : List ℕ) → Sends limits host port body
-    → ComesWith limits (Some (request_text (traces_at host port) body ++ behind)) (Some behind) (sent_head host port body) body
-comes_with limits host port body behind sends =
+pub comes_with : (limits : HeadLimits) (host : List ℕ) (port : ℕ) (body appended : List ℕ) → Sends limits host port body
+    → ComesWith limits (Some (request_text (traces_at host port) body ++ appended)) (Some appended) (sent_head host port body) body
+comes_with limits host port body appended sends =
     let hosts = named host port sends.visible sends.fits in
     let sizes = decimal_bytes (length body) sends.allowed.counted in
     let text = head_text host port (length body) in
     record {
-      comes = ap (λ t. (t ++ body) ++ behind) (sym text);
+      comes = ap (λ t. (t ++ body) ++ appended) (sym text);
       valid = record {
         valid = head_is (host_of host port) (decimal (length body)) hosts sizes;
         whole = refl;
@@ -68,19 +68,19 @@ framed limits host port body sends =
     ap request_framing (same_fields limits host port body sends) ∙ framing_is (host_of host port) (decimal (length body)) (length body) count.0 count.1
 
 -- A request that is sent is read as this request, and the bytes after it are left.
-pub is_post : (limits : HeadLimits) (host : List ℕ) (port : ℕ) (body behind : List ℕ) (failed : Type 0) → Sends limits host port body
-    → IsPost limits (Some (request_text (traces_at host port) body ++ behind)) (Some behind) failed (post host port body)
-is_post limits host port body behind failed sends = record {
+pub is_post : (limits : HeadLimits) (host : List ℕ) (port : ℕ) (body appended : List ℕ) (failed : Type 0) → Sends limits host port body
+    → IsPost limits (Some (request_text (traces_at host port) body ++ appended)) (Some appended) failed (post host port body)
+is_post limits host port body appended failed sends = record {
   head = sent_head host port body;
   taken = body;
-  comes = comes_with limits host port body behind sends;
+  comes = comes_with limits host port body appended sends;
   method = refl;
   target = refl;
   fields =
       subst (KeepsFields (kept (host_of host port) (decimal (length body)))) (sym (same_fields limits host port body sends))
       (keeps (host_of host port) (decimal (length body)));
   body =
-      subst (λ f. IsBody f limits body (Some behind) failed (Ok body)) (sym (framed limits host port body sends))
+      subst (λ f. IsBody f limits body (Some appended) failed (Ok body)) (sym (framed limits host port body sends))
       (refl, refl, sends.allowed.body_bytes);
 }
 

@@ -42,7 +42,7 @@ allowed = record { head_bytes = leb-true (length (request_head local (length pla
 pub comes : Arrives small local plain_body (Some request_bytes) 0 0
 unfolding hex request_head digits
 comes = record {
-  behind = [];
+  appended = [];
   whole = refl;
   sound = never_failed;
   address_is = record { target = record { host = refl; path = refl; short = omega arith }; port = omega arith; path = refl };

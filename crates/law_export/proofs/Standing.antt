@@ -138,12 +138,12 @@ stands bs f (inr s) = elim s.4 [
 abbrev Stays : (List ℕ → Fault → Type 0) → Type 0
 Stays F = (bs more : List ℕ) (f : Fault) → F bs f → (f ≡ truncated) ⊎ F (bs ++ more) f
 
-behind : (bs front rest more : List ℕ) → bs ≡ front ++ rest → bs ++ more ≡ front ++ (rest ++ more)
-behind bs front rest more e = ap (λ l. l ++ more) e ∙ append_assoc front rest more
+appended : (bs front rest more : List ℕ) → bs ≡ front ++ rest → bs ++ more ≡ front ++ (rest ++ more)
+appended bs front rest more e = ap (λ l. l ++ more) e ∙ append_assoc front rest more
 
 varint-stays : Stays NoVarint
 varint-stays bs more f (inl h) = inl h.2
-varint-stays bs more f (inr h) = inr (inr ((h.0.0, h.0.1 ++ more, h.0.2, h.0.3, behind bs h.0.0 h.0.1 more h.0.4), h.1))
+varint-stays bs more f (inr h) = inr (inr ((h.0.0, h.0.1 ++ more, h.0.2, h.0.3, appended bs h.0.0 h.0.1 more h.0.4), h.1))
 
 bytes-stays : Stays NoBytes
 bytes-stays bs more f (inl h) = elim (varint-stays bs more f h) [ inl e ↦ inl e | inr s ↦ inr (inl s) ]
@@ -163,7 +163,7 @@ rest-stays tag bs more f (inr h) = inr (inr h)
 
 field-stays : Stays NoField
 field-stays bs more f (inl h) = elim (varint-stays bs more f h) [ inl e ↦ inl e | inr s ↦ inr (inl s) ]
-field-stays bs more f (inr s) = elim (rest-stays s.0 s.2 more f s.4) [ inl e ↦ inl e | inr t ↦ inr (inr (s.0, s.1, s.2 ++ more, s.3, t, behind bs s.1 s.2 more s.5)) ]
+field-stays bs more f (inr s) = elim (rest-stays s.0 s.2 more f s.4) [ inl e ↦ inl e | inr t ↦ inr (inr (s.0, s.1, s.2 ++ more, s.3, t, appended bs s.1 s.2 more s.5)) ]
 
 -- A reader refuses a proper beginning of what it takes as cut off.
 cut-off : {A : Type 0} (p : Front A) (S : List ℕ → A → Type 0) (F : List ℕ → Fault → Type 0) → Takes p S → Refuses p F → Stays F →

@@ -77,8 +77,8 @@ NameBeginsAsGiven =
 -- ---- end. (Trace API, End)
 
 -- Calls after an end change nothing.
-abbrev pub CallsBehindTheEndAreIgnored : Type 0
-CallsBehindTheEndAreIgnored =
+abbrev pub CallsAfterTheEndAreIgnored : Type 0
+CallsAfterTheEndAreIgnored =
     (limits : SpanLimits) (start : Start) (calls more : List Call) (at : ℕ)
     → span limits start (calls ++ end at ∷ more) ≡ span limits start (calls ++ end at ∷ [])
 

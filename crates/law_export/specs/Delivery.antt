@@ -52,8 +52,8 @@ pub record IsAllowed (limits : HeadLimits) (address : Address) (body : List ℕ)
 -- before and after it. (RFC 9112, section 2.1)
 pub record Arrives (limits : HeadLimits) (address : Address) (body : List ℕ)
     (bytes : Option (List ℕ)) (before after : ℕ) : Type 0 where
-  pub behind : List ℕ
-  pub whole : bytes ≡ Some (request_text address body ++ behind)
+  pub appended : List ℕ
+  pub whole : bytes ≡ Some (request_text address body ++ appended)
   pub sound : ¬ (HasFailed before after)
   pub address_is : IsForTraces address
   pub allowed : IsAllowed limits address body
@@ -111,14 +111,14 @@ BrokenReplyIsOneOfTwo =
     ⊎ IsCut (plain_reply statuses.Ok) written writes sent
 
 -- Where a request is taken, with a canned reply or without, no byte after it was read.
-abbrev pub BytesBehindAreLeft : Type 0
-BytesBehindAreLeft =
+abbrev pub BytesAfterAreLeft : Type 0
+BytesAfterAreLeft =
     (limits : HeadLimits) (canned : Option Canned) (address : Address) (body : List ℕ)
     (old new : Option (List ℕ)) (before after : ℕ) (written writes : Option (List ℕ))
     (status : Option ℕ) (message : Message Tables.request)
     → (arrives : Arrives limits address body old before after)
     → Serves limits canned old new before after written writes status (Some message)
-    → new ≡ Some arrives.behind
+    → new ≡ Some arrives.appended
 
 -- ---- why a collector is unavailable
 

@@ -64,7 +64,7 @@ abbrev pub FaultsSayWhatStands : Type 0
 FaultsSayWhatStands = (bs : List ℕ) (f : Fault) → (field bs ≡ Err f) ↔ Stands f bs
 
 -- After these fields some bytes are left that begin with no field, but with what the fault says.
-pub record StopsBehind (bs : List ℕ) (fields : List Field) (f : Fault) : Type 0 where
+pub record StopsAfter (bs : List ℕ) (fields : List Field) (f : Fault) : Type 0 where
   pub front : List ℕ
   pub rest : List ℕ
   pub spelled : IsRow front fields
@@ -77,4 +77,4 @@ pub record StopsBehind (bs : List ℕ) (fields : List Field) (f : Fault) : Type 
 abbrev pub RowStopsAtTheFault : Type 0
 RowStopsAtTheFault =
     (bs : List ℕ) (fields : List Field) (f : Fault)
-    → (row bs ≡ record { value = fields; faults = f ∷ [] }) ↔ StopsBehind bs fields f
+    → (row bs ≡ record { value = fields; faults = f ∷ [] }) ↔ StopsAfter bs fields f

@@ -1,6 +1,6 @@
 //! One batch, end to end: what a collector takes of the request that carries a body of spans.
 ghost use Rattle.law_export.specs.Delivery.{BatchArrives, BrokenReplyIsOneOfTwo};
-ghost use Rattle.law_export.specs.Delivery.{BytesBehindAreLeft, UnavailableWantsMemory};
+ghost use Rattle.law_export.specs.Delivery.{BytesAfterAreLeft, UnavailableWantsMemory};
 
 use crate::requests::bytes_mean_one_request;
 
@@ -16,7 +16,7 @@ use crate::requests::bytes_mean_one_request;
 pub fn a_batch_arrives()
     ensures whole { BatchArrives }
     ensures broken_off { BrokenReplyIsOneOfTwo }
-    ensures behind { BytesBehindAreLeft }
+    ensures appended { BytesAfterAreLeft }
     ensures unavailable { UnavailableWantsMemory }
 {
     bytes_mean_one_request();

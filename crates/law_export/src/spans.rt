@@ -10,7 +10,7 @@ ghost use Rattle.law_export.specs.Keeping.{KeptAndDroppedAddUp};
 ghost use Rattle.law_export.specs.Calls.{FirstEventsAreKept, FirstLinksAreKept, OkIsFinal};
 ghost use Rattle.law_export.specs.Calls.{UnsetIsIgnored, LastErrorCounts, StatusBeginsUnset};
 ghost use Rattle.law_export.specs.Calls.{LastNameCounts, NameBeginsAsGiven};
-ghost use Rattle.law_export.specs.Calls.{CallsBehindTheEndAreIgnored, FirstEndCounts};
+ghost use Rattle.law_export.specs.Calls.{CallsAfterTheEndAreIgnored, FirstEndCounts};
 ghost use Rattle.law_export.specs.Grouping.{ResourceEqDecides, ScopeEqDecides, EachSpanIsGrouped};
 ghost use Rattle.law_export.specs.Grouping.{GroupsAreOfOneScope, EachResourceIsOnce};
 ghost use Rattle.law_export.specs.Grouping.{EachScopeIsOnce, NoGroupIsEmpty, ResourcesAreInOrder};
@@ -83,7 +83,7 @@ pub fn name_laws()
 
 /// A span ends at its first end, and the calls after it change nothing. (Trace API, End)
 pub fn end_laws()
-    ensures behind { CallsBehindTheEndAreIgnored }
+    ensures appended { CallsAfterTheEndAreIgnored }
     ensures first { FirstEndCounts }
 {}
 

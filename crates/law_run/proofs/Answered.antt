@@ -13,7 +13,7 @@ use Rattle.model_run.specs.Steps.{Step}
 use Rattle.model_run.specs.History.{Setup}
 use Rattle.model_run.specs.Runs.{Ended, queued, late, not_sampled, already_ended, Answer, started, no_randomness, no_span, out_of_memory, done, ended, taken, not_taken, encoded, sent, early, replied, nothing, Answered, span_at, calls_so_far}
 use Rattle.model_run.specs.Answers.{RunConfig, Given, Progress, not_out, to_encode, to_send, to_judge, to_retry, takes_memory, call_takes_memory, start_answer, end_answer, call_answer, take_answer, encode_answer, attempt_answer, reply_answer, last_length, desk_after, answer_to, progress, last_attempt, IsAnswer}
-use Rattle.law_run.specs.Laws.{is_first_end, was_shut, is_full, says_late, says_full, says_queued, may_take, says_taken, LateBehindShutdown, DroppedWhereFull, QueuedWhereRoom, TakenWhereDue, TakesTheFirst, OfRuns}
+use Rattle.law_run.specs.Laws.{is_first_end, was_shut, is_full, says_late, says_full, says_queued, may_take, says_taken, LateAfterShutdown, DroppedWhereFull, QueuedWhereRoom, TakenWhereDue, TakesTheFirst, OfRuns}
 use Rattle.law_run.proofs.Histories.{answer-at}
 
 -- ---- a test that fails at every answer but ends, takes, encodings and attempts
@@ -195,8 +195,8 @@ and-three true b c = refl
 and-three false b c = refl
 
 -- A span is late exactly where its first end comes after a shutdown.
-pub late-behind-shutdown : OfRuns LateBehindShutdown
-late-behind-shutdown run h w before later x e = ends-are says_late (λ shut full. shut) tells-late run before x (answer-at run h w before later x e)
+pub late-after-shutdown : OfRuns LateAfterShutdown
+late-after-shutdown run h w before later x e = ends-are says_late (λ shut full. shut) tells-late run before x (answer-at run h w before later x e)
 
 -- A span is dropped at its end exactly where the queue is full and was not shut down.
 pub dropped-where-full : OfRuns DroppedWhereFull

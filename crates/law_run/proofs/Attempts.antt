@@ -19,7 +19,7 @@ use Rattle.model_retry.proofs.Again.{again-few}
 use Rattle.law_desk.proofs.Batches.{range-more}
 use Rattle.model_run.specs.Steps.{Step}
 use Rattle.model_run.specs.History.{Setup}
-use Rattle.model_run.specs.Runs.{Answer, started, out_of_memory, done, ended, taken, not_taken, encoded, sent, early, replied, Answered, span_at, calls_so_far, event_by, events_behind, desk_events}
+use Rattle.model_run.specs.Runs.{Answer, started, out_of_memory, done, ended, taken, not_taken, encoded, sent, early, replied, Answered, span_at, calls_so_far, event_by, events_after, desk_events}
 use Rattle.model_run.specs.Answers.{RunConfig, Progress, not_out, to_encode, to_send, to_judge, to_retry, progress_by, progress, attempts_by, last_attempt, takes_memory, call_takes_memory, Given, start_answer, end_answer, call_answer, take_answer, last_length, encode_answer, attempt_answer, reply_answer, desk_after, answer_to, IsAnswer, AreAnswers}
 use Rattle.model_run.specs.Headline.{Attempt, attempt_by, attempts, attempts_with, attempts_of, AreNumbered}
 use Rattle.model_run.proofs.More.{progress-none, progress-some, last_attempt-none, last_attempt-some, attempts-none, attempts-some}
@@ -292,13 +292,13 @@ sizes-are step = record {
     by-settled None = refl
     by-settled (Some f) = refl
 
-event-sizes : (setup : Setup) (before h : List Answered) → batch_sizes (events_behind setup before h) ≡ filter_map (λ x. size_by x.answer) h
+event-sizes : (setup : Setup) (before h : List Answered) → batch_sizes (events_after setup before h) ≡ filter_map (λ x. size_by x.answer) h
 event-sizes setup before [] = refl
 event-sizes setup before (x ∷ h) = by (event_by setup before x.answer x.step) (by-event setup before x.step (λ a o. size_in o ≡ size_by a) (sizes-are x.step) x.answer) (event-sizes setup (before ++ x ∷ []) h)
   where
-    by : (o : Option DeskEvent) → size_in o ≡ size_by x.answer → batch_sizes (events_behind setup (before ++ x ∷ []) h) ≡ filter_map (λ x. size_by x.answer) h → filter_map size_of_take (cons_option o (events_behind setup (before ++ x ∷ []) h)) ≡ cons_option (size_by x.answer) (filter_map (λ x. size_by x.answer) h)
-    by None e f = ap (λ o. cons_option o (batch_sizes (events_behind setup (before ++ x ∷ []) h))) e ∙ ap (cons_option (size_by x.answer)) f
-    by (Some y) e f = ap (λ o. cons_option o (batch_sizes (events_behind setup (before ++ x ∷ []) h))) e ∙ ap (cons_option (size_by x.answer)) f
+    by : (o : Option DeskEvent) → size_in o ≡ size_by x.answer → batch_sizes (events_after setup (before ++ x ∷ []) h) ≡ filter_map (λ x. size_by x.answer) h → filter_map size_of_take (cons_option o (events_after setup (before ++ x ∷ []) h)) ≡ cons_option (size_by x.answer) (filter_map (λ x. size_by x.answer) h)
+    by None e f = ap (λ o. cons_option o (batch_sizes (events_after setup (before ++ x ∷ []) h))) e ∙ ap (cons_option (size_by x.answer)) f
+    by (Some y) e f = ap (λ o. cons_option o (batch_sizes (events_after setup (before ++ x ∷ []) h))) e ∙ ap (cons_option (size_by x.answer)) f
 
 -- The desk counts the batches that takes gave.
 pub desk-batches : (run : RunConfig) (h : List Answered) → (desk_after run h).batches ≡ batches h

@@ -27,9 +27,9 @@ is_out to_send = true
 is_out (to_judge outcome) = true
 is_out (to_retry moment) = true
 
-last-behind : {A : Type 0} (d : A) (xs : List A) (y : A) (ys : List A) → last_or d (xs ++ y ∷ ys) ≡ last_or y ys
-last-behind d [] y ys = refl
-last-behind d (x ∷ xs) y ys = last-behind x xs y ys
+last-after : {A : Type 0} (d : A) (xs : List A) (y : A) (ys : List A) → last_or d (xs ++ y ∷ ys) ≡ last_or y ys
+last-after d [] y ys = refl
+last-after d (x ∷ xs) y ys = last-after x xs y ys
 
 -- An answer that says where a batch is, and doesn't end it, says that it is out.
 abbrev TellsOut : Answer → Type 0
@@ -80,7 +80,7 @@ unfolding progress
 taken-out setup before between x e n =
     ap is_out
     (ap (last_or not_out) (filter_map-append (λ z. progress_by z.answer) before (x ∷ between) ∙ ap (λ o. filter_map (λ z. progress_by z.answer) before ++ cons_option o (filter_map (λ z. progress_by z.answer) between)) e)
-    ∙ last-behind not_out (filter_map (λ z. progress_by z.answer) before) to_encode (filter_map (λ z. progress_by z.answer) between))
+    ∙ last-after not_out (filter_map (λ z. progress_by z.answer) before) to_encode (filter_map (λ z. progress_by z.answer) between))
     ∙ stays-out setup to_encode between refl n
 
 says-taken : Setup → (a : Answer) → says_taken a ≡ true → progress_by a ≡ Some to_encode

@@ -186,12 +186,12 @@ few-more setup h Step.encode answer = same-few setup h Step.encode answer (ended
 few-more setup h (Step.attempt now) answer = same-few setup h (Step.attempt now) answer (ended-none setup h (told (Step.attempt now) answer) refl)
 few-more setup h (Step.reply now word) answer = same-few setup h (Step.reply now word) answer (ended-none setup h (told (Step.reply now word) answer) refl)
 
-few-behind : (setup : Setup) (h more : List Answered) → length (ended_by setup h) ≤ length h → length (ended_by setup (h ++ more)) ≤ length (h ++ more)
-few-behind setup h [] l = subst (λ g. length (ended_by setup g) ≤ length g) (sym (append-nil h)) l
-few-behind setup h (x ∷ more) l =
+few-after : (setup : Setup) (h more : List Answered) → length (ended_by setup h) ≤ length h → length (ended_by setup (h ++ more)) ≤ length (h ++ more)
+few-after setup h [] l = subst (λ g. length (ended_by setup g) ≤ length g) (sym (append-nil h)) l
+few-after setup h (x ∷ more) l =
     let one : length (ended_by setup (h ++ x ∷ [])) ≤ length (ended_by setup h) + 1 = few-more setup h x.step x.answer in
     let longer : length (h ++ x ∷ []) ≡ length h + 1 = length-append h (x ∷ []) in
-    subst (λ g. length (ended_by setup g) ≤ length g) (append_assoc h (x ∷ []) more) (few-behind setup (h ++ x ∷ []) more (omega (arith, one, longer, l)))
+    subst (λ g. length (ended_by setup g) ≤ length g) (append_assoc h (x ∷ []) more) (few-after setup (h ++ x ∷ []) more (omega (arith, one, longer, l)))
 
 none-ended : (setup : Setup) → length (ended_by setup []) ≤ 0
 unfolding ended_by
@@ -199,4 +199,4 @@ none-ended setup = omega arith
 
 -- No more spans end than there are steps.
 pub ended-are-few : OfHistories EndedAreFew
-ended-are-few setup h = few-behind setup [] h (none-ended setup)
+ended-are-few setup h = few-after setup [] h (none-ended setup)

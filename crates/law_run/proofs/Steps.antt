@@ -24,7 +24,7 @@ use Rattle.model_run.specs.Runs.{Ended, queued, late, not_sampled, already_ended
 use Rattle.model_run.specs.Answers.{RunConfig, Given, Progress, not_out, to_encode, to_send, to_judge, to_retry, last_attempt, progress_by, progress, takes_memory, call_takes_memory, start_answer, end_answer, call_answer, take_answer, last_length, encode_answer, attempt_answer, reply_answer, desk_after, answer_to, IsAnswer, AreAnswers}
 use Rattle.model_run.proofs.More.{is_shut, ended-shut, ended-none, span-of-end, progress-none, progress-some}
 use Rattle.model_run.specs.Headline.{numbers_below, EachOnce}
-use Rattle.law_run.specs.Laws.{OfHistories, OfRuns, HandedAreNotDropped, TakenBehindShutdown, was_shut, may_take, EventsAreAllowed, NoneUnaccountedFor, WaitingAreEnded, BatchesAreEnded, DropsNameEnded, LossesNameEnded}
+use Rattle.law_run.specs.Laws.{OfHistories, OfRuns, HandedAreNotDropped, TakenAfterShutdown, was_shut, may_take, EventsAreAllowed, NoneUnaccountedFor, WaitingAreEnded, BatchesAreEnded, DropsNameEnded, LossesNameEnded}
 use Rattle.law_run.proofs.Histories.{by-steps, front}
 use Rattle.law_run.proofs.Answered.{taken-where-due}
 use Rattle.law_run.proofs.Ends.{told, start-ends-none, missing-ends-none, later-ends-none, unsampled-ends-none, exported_next, first-end-ends}
@@ -349,8 +349,8 @@ due-closed true false c d false k = rw k refl
 due-closed false b c d e k = refl
 
 -- After a shutdown each take with no batch out gives a batch where spans wait.
-pub taken-behind-shutdown : OfRuns TakenBehindShutdown
-taken-behind-shutdown run h w before later x e now shut k =
+pub taken-after-shutdown : OfRuns TakenAfterShutdown
+taken-after-shutdown run h w before later x e now shut k =
     taken-where-due run h w before later x e ∙ ap (may_take run before) k
     ∙ ap (λ b. b && is_none (desk_after run before).out)
     (due-closed (nat_lt 0 (length (desk_after run before).waiting)) (nat_le (desk_after run before).config.batch (length (desk_after run before).waiting)) (desk_after run before).closed

@@ -12,7 +12,7 @@ use Rattle.model_desk.proofs.Lists.{all-append}
 use Rattle.law_desk.proofs.Ledgers.{ledger-names, lost-names-all}
 use Rattle.model_run.specs.Steps.{Step, is_shutdown}
 use Rattle.model_run.specs.History.{Setup, span_step, ended_spans, granted_steps}
-use Rattle.model_run.specs.Runs.{Answered, is_refused, span_steps, before_shutdown, ended_by, event_by, events_behind, desk_events}
+use Rattle.model_run.specs.Runs.{Answered, is_refused, span_steps, before_shutdown, ended_by, event_by, events_after, desk_events}
 use Rattle.model_run.specs.Answers.{RunConfig, desk_after}
 use Rattle.model_retry.specs.Retries.{Fate, fate_of}
 use Rattle.law_run.specs.Laws.{OfHistories, IsEndedSpan, NamesEndedSpan, WaitingAreEnded, BatchesAreEnded, DropsNameEnded, EndedByTheSteps, LossesNameEnded, LedgerNamesTheDropped, LedgerNamesTheLost}
@@ -222,11 +222,11 @@ never-popped step = record {
     by-settled (Some f) = (refl, refl)
 
 -- No step of a history takes a name off a ledger.
-events-pop-none : (pops : DeskEvent → Bool) → ((o : Option DeskEvent) → NotPopped o → (y : DeskEvent) → o ≡ Some y → pops y ≡ false) → (setup : Setup) (before h : List Answered) → list_any pops (events_behind setup before h) ≡ false
+events-pop-none : (pops : DeskEvent → Bool) → ((o : Option DeskEvent) → NotPopped o → (y : DeskEvent) → o ≡ Some y → pops y ≡ false) → (setup : Setup) (before h : List Answered) → list_any pops (events_after setup before h) ≡ false
 events-pop-none pops none setup before [] = refl
 events-pop-none pops none setup before (x ∷ h) = by (event_by setup before x.answer x.step) (by-event setup before x.step (λ a o. NotPopped o) (never-popped x.step) x.answer) (events-pop-none pops none setup (before ++ x ∷ []) h)
   where
-    by : (o : Option DeskEvent) → NotPopped o → list_any pops (events_behind setup (before ++ x ∷ []) h) ≡ false → list_any pops (cons_option o (events_behind setup (before ++ x ∷ []) h)) ≡ false
+    by : (o : Option DeskEvent) → NotPopped o → list_any pops (events_after setup (before ++ x ∷ []) h) ≡ false → list_any pops (cons_option o (events_after setup (before ++ x ∷ []) h)) ≡ false
     by None p rest = rest
     by (Some y) p rest = rw (none (Some y) p y refl, rest) refl
 
@@ -241,12 +241,12 @@ not-popped-lost (Some z) p y e = let same : z ≡ y = cc in ap is_popped_lost (s
 -- The ledger names the spans that were dropped, the newest first.
 pub ledger-names-the-dropped : (run : RunConfig) (h : List Answered) → LedgerNamesTheDropped run h
 unfolding desk_after desk_of desk_events
-ledger-names-the-dropped run h = ledger-names (events_behind run.setup [] h) (events-pop-none is_popped not-popped run.setup [] h)
+ledger-names-the-dropped run h = ledger-names (events_after run.setup [] h) (events-pop-none is_popped not-popped run.setup [] h)
 
 -- The second ledger names the spans that were lost, the newest first.
 pub ledger-names-the-lost : (run : RunConfig) (h : List Answered) → LedgerNamesTheLost run h
 unfolding desk_after desk_of desk_events
-ledger-names-the-lost run h = lost-names-all (events_behind run.setup [] h) (events-pop-none is_popped_lost not-popped-lost run.setup [] h)
+ledger-names-the-lost run h = lost-names-all (events_after run.setup [] h) (events-pop-none is_popped_lost not-popped-lost run.setup [] h)
 
 -- ---- without refusals
 

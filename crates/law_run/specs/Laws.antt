@@ -69,8 +69,8 @@ says_queued (ended (runs.queued ticket)) = true
 says_queued _ = false
 
 -- A span is late exactly where its first end comes after a shutdown. (Trace SDK, Shutdown)
-abbrev pub LateBehindShutdown : RunConfig → List Answered → Type 0
-LateBehindShutdown run = AtEachStep (λ before x.
+abbrev pub LateAfterShutdown : RunConfig → List Answered → Type 0
+LateAfterShutdown run = AtEachStep (λ before x.
     says_late x.answer ≡ (is_first_end run before x.step && was_shut before))
 
 -- A span is dropped at its end exactly where the queue is full and there was no shutdown. (Trace
@@ -112,8 +112,8 @@ TakesTheFirst run = AtEachStep (λ before x.
     (number ≡ desk.batches + 1) × (size ≡ min run.desk.batch (length desk.waiting)))
 
 -- After a shutdown each take with none out gives what waits. (Trace SDK, Shutdown)
-abbrev pub TakenBehindShutdown : RunConfig → List Answered → Type 0
-TakenBehindShutdown run = AtEachStep (λ before x.
+abbrev pub TakenAfterShutdown : RunConfig → List Answered → Type 0
+TakenAfterShutdown run = AtEachStep (λ before x.
     (now : ℕ) → was_shut before ≡ true → x.step ≡ Step.take now
     → let desk = desk_after run before in
     says_taken x.answer ≡ (nat_lt 0 (length desk.waiting) && is_none desk.out))

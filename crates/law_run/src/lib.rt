@@ -6,9 +6,9 @@ ghost use Rattle.std.specs.Prelude.{List};
 ghost use Rattle.model_run.specs.Runs.{Answered};
 ghost use Rattle.model_run.specs.Answers.{RunConfig};
 ghost use Rattle.model_run.specs.Headline.{EachOnce, attempts, AreNumbered};
-ghost use Rattle.law_run.specs.Laws.{OfHistories, OfRuns, LateBehindShutdown, DroppedWhereFull};
+ghost use Rattle.law_run.specs.Laws.{OfHistories, OfRuns, LateAfterShutdown, DroppedWhereFull};
 ghost use Rattle.law_run.specs.Laws.{QueuedWhereRoom, TakenWhereDue, TakesTheFirst};
-ghost use Rattle.law_run.specs.Laws.{TakenBehindShutdown, OneBatchIsOut, EncodedWhereItFits};
+ghost use Rattle.law_run.specs.Laws.{TakenAfterShutdown, OneBatchIsOut, EncodedWhereItFits};
 ghost use Rattle.law_run.specs.Laws.{DroppedUnencoded, DroppedBatchIsNamed, AttemptsAreNumbered};
 ghost use Rattle.law_run.specs.Laws.{AttemptsAreFew, AttemptsAreFiveAtMost, OfSettings};
 ghost use Rattle.law_run.specs.Laws.{NoAttemptIsEarly, RepliesAreDecided, EndedSpansStay};
@@ -21,7 +21,7 @@ ghost use Rattle.law_run.specs.Laws.{DropsNameEnded, EndedByTheSteps, LossesAreN
 /// queue is full, and waits where it isn't. Nothing else is late, dropped there or queued. (Trace
 /// SDK, OnEnd, Shutdown, Batching processor: maxQueueSize)
 pub fn ends_are_answered()
-    ensures late { OfRuns LateBehindShutdown }
+    ensures late { OfRuns LateAfterShutdown }
     ensures full { OfRuns DroppedWhereFull }
     ensures queued { OfRuns QueuedWhereRoom }
 {}
@@ -32,7 +32,7 @@ pub fn ends_are_answered()
 pub fn takes_are_answered()
     ensures due { OfRuns TakenWhereDue }
     ensures first { OfRuns TakesTheFirst }
-    ensures shutdown { OfRuns TakenBehindShutdown }
+    ensures shutdown { OfRuns TakenAfterShutdown }
 {}
 
 /// At most one batch is out: it is settled or dropped before a next one is taken. (profile)

@@ -8,7 +8,7 @@ use Rattle.model_span.specs.Dropped.{Reason, Entry, entry_of, is_reason, count_o
 use Rattle.model_retry.specs.Retries.{Fate}
 use Rattle.model_desk.specs.Queue.{is_late, DeskEvent, queued, full, late, flush, shutdown, taken, handed, dropped, settled, popped, popped_lost, asks, asked_count, accepted_spans, queued_span, size_of_take, ticket_of, tickets, taken_count, waiting_spans, last_batch, last_spans, last_size, Stage, not_out, in_hand, with_exporter, stage, stage_by, stack_on, moment_of_take, last_moment, spans_handed_by, handed_spans, fate_by, fates, entries_by, drops, ledger_entries, stack_steps, is_popped, is_popped_lost, losses_by, losses, lost_entries, lost_names, late_count, is_shutdown, is_closed}
 use Rattle.model_desk.specs.Desks.{DeskConfig, Desk, DropCounts, FateCounts, drop_counts, with_drops, is_fate, fate_counts, with_fate, capped, out_as, desk_of, accepted_count, is_in_hand, is_with_exporter, handed_out, out_size, new_desk, Allowed, AreAllowed, IsDesk, Does, DropsSpans, SettlesSpans, TakesSpans, is_loss, after_settled}
-use Rattle.model_desk.proofs.Lists.{count-more, gather-more, stack-pushes, push_as, drop_as, one_as, plus_as, length_as, behind_as, length-as-is, length-behind, behind-is, pushed-behind, one-behind, sum-behind, last-behind}
+use Rattle.model_desk.proofs.Lists.{count-more, gather-more, stack-pushes, push_as, drop_as, one_as, plus_as, length_as, after_as, length-as-is, length-after, after-is, pushed-after, one-after, sum-after, last-after}
 use Rattle.model_desk.proofs.Steps.{IsWithin, waiting-more, ledger-more, asked-more, shut-more, length-last, accepted-adds, last-taken, allowed-more, allowed-within}
 
 or-none : (b c : Bool) → (b || c) ≡ false → b ≡ false
@@ -106,8 +106,8 @@ fates-more xs fate = (λ i. record {
 -- ---- the desk after each event
 
 -- What a desk shows after one more event, each part by what the event says of it.
-abbrev shown_behind : DeskConfig → ℕ → List DeskEvent → DeskEvent → Desk
-shown_behind config made h x = record {
+abbrev shown_after : DeskConfig → ℕ → List DeskEvent → DeskEvent → Desk
+shown_after config made h x = record {
   config = config;
   waiting = drop_as (size_of_take x) (push_as (queued_span x) (waiting_spans h));
   out = out_as (unwrap_or (stage_by x) (stage h)) (one_as (size_of_take x) (last_batch h)) (unwrap_or (size_of_take x) (last_size h));
@@ -122,30 +122,30 @@ shown_behind config made h x = record {
   handed = length_as (spans_handed_by h x) (length (handed_spans h));
   lost_count = length_as (losses_by h x) (length (losses h));
   late = capped (raised (is_late x) 1 (late_count h));
-  dropped = drop_counts (behind_as (entries_by h x) (drops h));
+  dropped = drop_counts (after_as (entries_by h x) (drops h));
   fates = fate_counts (push_as (fate_by x) (fates h));
 }
 
 module _ (config : DeskConfig) (made : ℕ) (h : List DeskEvent) where
-  shows : (x : DeskEvent) → IsWithin h → desk_of config made (h ++ x ∷ []) ≡ shown_behind config made h x
+  shows : (x : DeskEvent) → IsWithin h → desk_of config made (h ++ x ∷ []) ≡ shown_after config made h x
   unfolding desk_of
   shows x w = λ i. record {
     config = config;
     waiting = (waiting-more h x w) i;
-    out = out_as (last-behind stage_by h x not_out i) (one-behind size_of_take h x i) (last-behind size_of_take h x 0 i);
+    out = out_as (last-after stage_by h x not_out i) (one-after size_of_take h x i) (last-after size_of_take h x 0 i);
     ledger = (ledger-more h x is_popped entries_by) i;
     lost = (ledger-more h x is_popped_lost losses_by) i;
-    next_ticket = (one-behind ticket_of h x) i;
-    taken = (sum-behind size_of_take h x) i;
-    batches = (one-behind size_of_take h x) i;
+    next_ticket = (one-after ticket_of h x) i;
+    taken = (sum-after size_of_take h x) i;
+    batches = (one-after size_of_take h x) i;
     asked = (asked-more h x) i;
-    closed = (shut-more h x) i || (one-behind ticket_of h x i == 2 ^ 64 - 1);
-    last_moment = last-behind moment_of_take h x made i;
-    handed = (ap length (gather-more spans_handed_by h x) ∙ length-behind (handed_spans h) (spans_handed_by h x)) i;
-    lost_count = (ap length (gather-more losses_by h x) ∙ length-behind (losses h) (losses_by h x)) i;
+    closed = (shut-more h x) i || (one-after ticket_of h x i == 2 ^ 64 - 1);
+    last_moment = last-after moment_of_take h x made i;
+    handed = (ap length (gather-more spans_handed_by h x) ∙ length-after (handed_spans h) (spans_handed_by h x)) i;
+    lost_count = (ap length (gather-more losses_by h x) ∙ length-after (losses h) (losses_by h x)) i;
     late = capped ((count-more is_late h x ∙ raised-is (is_late x) 1 (late_count h)) i);
-    dropped = drop_counts ((gather-more entries_by h x ∙ sym (behind-is (entries_by h x) (drops h))) i);
-    fates = fate_counts (pushed-behind fate_by h x i);
+    dropped = drop_counts ((gather-more entries_by h x ∙ sym (after-is (entries_by h x) (drops h))) i);
+    fates = fate_counts (pushed-after fate_by h x i);
   }
 
   -- Where spans are admitted, a new ticket closes the queue just where it is the last one.
@@ -156,12 +156,12 @@ module _ (config : DeskConfig) (made : ℕ) (h : List DeskEvent) where
   -- queue.
   pub queued-makes : (s : SpanData) → IsWithin h → is_closed h ≡ false → desk_of config made (h ++ queued s ∷ []) ≡ record (desk_of config made h) { waiting = waiting_spans h ++ s ∷ []; next_ticket = length (tickets h) + 1; closed = length (tickets h) + 1 == 2 ^ 64 - 1 }
   unfolding desk_of
-  queued-makes s w c = shows (queued s) w ∙ (λ i. record (shown_behind config made h (queued s)) { closed = still-open c i })
+  queued-makes s w c = shows (queued s) w ∙ (λ i. record (shown_after config made h (queued s)) { closed = still-open c i })
 
   -- A span that finds the queue full is the newest in the ledger, is counted and takes a ticket.
   pub full-makes : (s : SpanData) → IsWithin h → is_closed h ≡ false → desk_of config made (h ++ full s ∷ []) ≡ record (desk_of config made h) { ledger = entry_of Reason.queue_full s ∷ ledger_entries h; next_ticket = length (tickets h) + 1; closed = length (tickets h) + 1 == 2 ^ 64 - 1; dropped = with_drops Reason.queue_full 1 (drop_counts (drops h)) }
   unfolding desk_of
-  full-makes s w c = shows (full s) w ∙ (λ i. record (shown_behind config made h (full s)) { closed = still-open c i; dropped = counts-more Reason.queue_full (drops h) (s ∷ []) i })
+  full-makes s w c = shows (full s) w ∙ (λ i. record (shown_after config made h (full s)) { closed = still-open c i; dropped = counts-more Reason.queue_full (drops h) (s ∷ []) i })
 
   -- A late span raises the count of late spans, which stops at its greatest number.
   pub late-makes : IsWithin h → desk_of config made (h ++ late ∷ []) ≡ record (desk_of config made h) { late = capped (capped (late_count h) + 1) }
@@ -186,7 +186,7 @@ module _ (config : DeskConfig) (made : ℕ) (h : List DeskEvent) where
   -- A hand-over leaves the batch out and adds its size to the count of handed spans.
   pub handed-makes : IsWithin h → desk_of config made (h ++ handed ∷ []) ≡ record (desk_of config made h) { out = out_as with_exporter (last_batch h) (last_size h); handed = length (handed_spans h) + last_size h }
   unfolding desk_of
-  handed-makes w = shows handed w ∙ (λ i. record (shown_behind config made h handed) { handed = (length-as-is (last_spans h) (length (handed_spans h)) ∙ ap (λ (n : ℕ). length (handed_spans h) + n) (length-last h w)) i })
+  handed-makes w = shows handed w ∙ (λ i. record (shown_after config made h handed) { handed = (length-as-is (last_spans h) (length (handed_spans h)) ∙ ap (λ (n : ℕ). length (handed_spans h) + n) (length-last h w)) i })
 
   -- A drop puts the batch's spans into the ledger, counts them for the reason and leaves no batch
   -- out.
@@ -195,7 +195,7 @@ module _ (config : DeskConfig) (made : ℕ) (h : List DeskEvent) where
   dropped-makes reason w = shows (dropped reason) w ∙ (λ i. record (desk_of config made h) {
     out = None;
     ledger = stack-pushes (ledger_entries h) (map (entry_of reason) (last_spans h)) i;
-    dropped = (ap drop_counts (behind-is (map (entry_of reason) (last_spans h)) (drops h)) ∙ counts-more reason (drops h) (last_spans h)) i;
+    dropped = (ap drop_counts (after-is (map (entry_of reason) (last_spans h)) (drops h)) ∙ counts-more reason (drops h) (last_spans h)) i;
   })
 
   -- Settling a batch with a fate leaves the desk that the model says for its spans.

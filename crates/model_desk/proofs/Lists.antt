@@ -69,32 +69,32 @@ plus_as (Some k) n = n + k
 
 module _ {A B : Type 0} (f : A → Option B) (xs : List A) (x : A) where
   -- A filter_map over one more element has that element's value, if any, at its end.
-  pub pushed-behind : filter_map f (xs ++ x ∷ []) ≡ push_as (f x) (filter_map f xs)
-  pushed-behind = go (f x) refl
+  pub pushed-after : filter_map f (xs ++ x ∷ []) ≡ push_as (f x) (filter_map f xs)
+  pushed-after = go (f x) refl
     where
       go : (o : Option B) → f x ≡ o → filter_map f (xs ++ x ∷ []) ≡ push_as o (filter_map f xs)
       go None e = none-more f xs x e
       go (Some y) e = some-more f xs x y e
 
   -- A filter_map over one more element is longer by one if the element maps to a value.
-  pub one-behind : length (filter_map f (xs ++ x ∷ [])) ≡ one_as (f x) (length (filter_map f xs))
-  one-behind = ap length pushed-behind ∙ go (f x)
+  pub one-after : length (filter_map f (xs ++ x ∷ [])) ≡ one_as (f x) (length (filter_map f xs))
+  one-after = ap length pushed-after ∙ go (f x)
     where
       go : (o : Option B) → length (push_as o (filter_map f xs)) ≡ one_as o (length (filter_map f xs))
       go None = refl
       go (Some y) = length-append (filter_map f xs) (y ∷ [])
 
   -- The last value of a filter_map is that of the newest element, or else the last one before it.
-  pub last-behind : (d : B) → last_or d (filter_map f (xs ++ x ∷ [])) ≡ unwrap_or (f x) (last_or d (filter_map f xs))
-  last-behind d = ap (last_or d) pushed-behind ∙ go (f x)
+  pub last-after : (d : B) → last_or d (filter_map f (xs ++ x ∷ [])) ≡ unwrap_or (f x) (last_or d (filter_map f xs))
+  last-after d = ap (last_or d) pushed-after ∙ go (f x)
     where
       go : (o : Option B) → last_or d (push_as o (filter_map f xs)) ≡ unwrap_or o (last_or d (filter_map f xs))
       go None = refl
       go (Some y) = last-more d (filter_map f xs) y
 
 -- The sum of a filter_map grows by the number to which one more element maps, if any.
-pub sum-behind : {A : Type 0} (f : A → Option ℕ) (xs : List A) (x : A) → sum (filter_map f (xs ++ x ∷ [])) ≡ plus_as (f x) (sum (filter_map f xs))
-sum-behind f xs x = ap sum (pushed-behind f xs x) ∙ go (f x)
+pub sum-after : {A : Type 0} (f : A → Option ℕ) (xs : List A) (x : A) → sum (filter_map f (xs ++ x ∷ [])) ≡ plus_as (f x) (sum (filter_map f xs))
+sum-after f xs x = ap sum (pushed-after f xs x) ∙ go (f x)
   where
     go : (o : Option ℕ) → sum (push_as o (filter_map f xs)) ≡ plus_as o (sum (filter_map f xs))
     go None = refl
@@ -102,25 +102,25 @@ sum-behind f xs x = ap sum (pushed-behind f xs x) ∙ go (f x)
 
 -- A pushed element and a further drop do the same to what a dropped front left as to the whole
 -- list.
-pub drop-behind : {A : Type 0} (o : Option ℕ) (p : Option A) (ns : List ℕ) (xs : List A) → sum ns ≤ length xs → drop (sum (push_as o ns)) (push_as p xs) ≡ drop_as o (push_as p (drop (sum ns) xs))
-drop-behind None None ns xs w = refl
-drop-behind None (Some y) ns xs w = drop-append-le (sum ns) xs (y ∷ []) w
-drop-behind (Some n) None ns xs w = ap (λ k. drop k xs) (sum-more ns n) ∙ sym (drop-drop n (sum ns) xs)
-drop-behind (Some n) (Some y) ns xs w = ap (λ k. drop k (xs ++ y ∷ [])) (sum-more ns n) ∙ sym (drop-drop n (sum ns) (xs ++ y ∷ [])) ∙ ap (drop n) (drop-append-le (sum ns) xs (y ∷ []) w)
+pub drop-after : {A : Type 0} (o : Option ℕ) (p : Option A) (ns : List ℕ) (xs : List A) → sum ns ≤ length xs → drop (sum (push_as o ns)) (push_as p xs) ≡ drop_as o (push_as p (drop (sum ns) xs))
+drop-after None None ns xs w = refl
+drop-after None (Some y) ns xs w = drop-append-le (sum ns) xs (y ∷ []) w
+drop-after (Some n) None ns xs w = ap (λ k. drop k xs) (sum-more ns n) ∙ sym (drop-drop n (sum ns) xs)
+drop-after (Some n) (Some y) ns xs w = ap (λ k. drop k (xs ++ y ∷ [])) (sum-more ns n) ∙ sym (drop-drop n (sum ns) (xs ++ y ∷ [])) ∙ ap (drop n) (drop-append-le (sum ns) xs (y ∷ []) w)
 
 -- A list with these elements after it, if there are some, and its length.
-abbrev pub behind_as : {A : Type 0} → List A → List A → List A
-behind_as [] xs = xs
-behind_as (y ∷ ys) xs = xs ++ y ∷ ys
+abbrev pub after_as : {A : Type 0} → List A → List A → List A
+after_as [] xs = xs
+after_as (y ∷ ys) xs = xs ++ y ∷ ys
 
 abbrev pub length_as : {A : Type 0} → List A → ℕ → ℕ
 length_as [] n = n
 length_as (y ∷ ys) n = n + length (y ∷ ys)
 
--- `behind_as` appends its first list to its second one.
-pub behind-is : {A : Type 0} (ys xs : List A) → behind_as ys xs ≡ xs ++ ys
-behind-is [] xs = sym (append-nil xs)
-behind-is (y ∷ ys) xs = refl
+-- `after_as` appends its first list to its second one.
+pub after-is : {A : Type 0} (ys xs : List A) → after_as ys xs ≡ xs ++ ys
+after-is [] xs = sym (append-nil xs)
+after-is (y ∷ ys) xs = refl
 
 -- `length_as` adds the length of a list to a number.
 pub length-as-is : {A : Type 0} (ys : List A) (n : ℕ) → length_as ys n ≡ n + length ys
@@ -128,8 +128,8 @@ length-as-is [] n = omega arith
 length-as-is (y ∷ ys) n = refl
 
 -- The length of two appended lists is that of the first raised by that of the second.
-pub length-behind : {A : Type 0} (xs ys : List A) → length (xs ++ ys) ≡ length_as ys (length xs)
-length-behind xs ys = length-append xs ys ∙ sym (length-as-is ys (length xs))
+pub length-after : {A : Type 0} (xs ys : List A) → length (xs ++ ys) ≡ length_as ys (length xs)
+length-after xs ys = length-append xs ys ∙ sym (length-as-is ys (length xs))
 
 -- ---- what is gathered
 

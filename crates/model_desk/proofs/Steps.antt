@@ -7,8 +7,8 @@ use Rattle.model_span.specs.Attributes.{last_or}
 use Rattle.model_span.specs.Spans.{SpanData}
 use Rattle.model_span.specs.Dropped.{Entry}
 use Rattle.model_desk.specs.Queue.{DeskEvent, queued, full, late, flush, shutdown, taken, handed, dropped, settled, popped, popped_lost, gather, ticket_of, tickets, queued_span, accepted_spans, size_of_take, batch_sizes, taken_count, waiting_spans, last_batch, last_spans, last_size, Stage, not_out, stage_by, stage, spans_handed_by, handed_spans, entries_by, drops, stack_on, stack_steps, stack_of, asks, marks_by, asked_count, is_shutdown}
-use Rattle.model_desk.specs.Desks.{DeskConfig, desk_of, Allowed, AreAllowedBehind, AreAllowed}
-use Rattle.model_desk.proofs.Lists.{none-more, some-more, last-more, any-more, sum-more, gather-more, stack-append, push_as, drop_as, pushed-behind, drop-behind, last_slice, last-slice-stays, last-slice-more, length-last-slice}
+use Rattle.model_desk.specs.Desks.{DeskConfig, desk_of, Allowed, AreAllowedAfter, AreAllowed}
+use Rattle.model_desk.proofs.Lists.{none-more, some-more, last-more, any-more, sum-more, gather-more, stack-append, push_as, drop_as, pushed-after, drop-after, last_slice, last-slice-stays, last-slice-more, length-last-slice}
 
 -- ---- what an event leaves as it was
 
@@ -81,7 +81,7 @@ module _ (h : List DeskEvent) (x : DeskEvent) where
 
   -- The waiting spans after an event are those before it with its span queued and its batch taken.
   pub waiting-more : IsWithin h → waiting_spans (h ++ x ∷ []) ≡ drop_as (size_of_take x) (push_as (queued_span x) (waiting_spans h))
-  waiting-more w = (λ i. drop (sum (pushed-behind size_of_take h x i)) (pushed-behind queued_span h x i)) ∙ drop-behind (size_of_take x) (queued_span x) (batch_sizes h) (accepted_spans h) w
+  waiting-more w = (λ i. drop (sum (pushed-after size_of_take h x i)) (pushed-after queued_span h x i)) ∙ drop-after (size_of_take x) (queued_span x) (batch_sizes h) (accepted_spans h) w
 
   -- An event that is no shutdown leaves a queue shut down or not, as it was.
   pub shut-kept : is_shutdown x ≡ false → list_any is_shutdown (h ++ x ∷ []) ≡ list_any is_shutdown h
@@ -145,26 +145,26 @@ module _ (h : List DeskEvent) (now size : ℕ) where
 
 -- ---- allowed events
 
-behind-more : (config : DeskConfig) (made : ℕ) (before later : List DeskEvent) (x : DeskEvent) → AreAllowedBehind config made before later → Allowed (desk_of config made (before ++ later)) x → AreAllowedBehind config made before (later ++ x ∷ [])
-behind-more config made before [] x w a = (subst (λ b. Allowed (desk_of config made b) x) (append-nil before) a, tt)
-behind-more config made before (y ∷ later) x w a = (w.0, behind-more config made (before ++ y ∷ []) later x w.1 (subst (λ b. Allowed (desk_of config made b) x) (sym (append_assoc before (y ∷ []) later)) a))
+after-more : (config : DeskConfig) (made : ℕ) (before later : List DeskEvent) (x : DeskEvent) → AreAllowedAfter config made before later → Allowed (desk_of config made (before ++ later)) x → AreAllowedAfter config made before (later ++ x ∷ [])
+after-more config made before [] x w a = (subst (λ b. Allowed (desk_of config made b) x) (append-nil before) a, tt)
+after-more config made before (y ∷ later) x w a = (w.0, after-more config made (before ++ y ∷ []) later x w.1 (subst (λ b. Allowed (desk_of config made b) x) (sym (append_assoc before (y ∷ []) later)) a))
 
 -- Allowed events followed by one that their desk allows are allowed.
 pub allowed-more : (config : DeskConfig) (made : ℕ) (h : List DeskEvent) (x : DeskEvent) → AreAllowed config made h → Allowed (desk_of config made h) x → AreAllowed config made (h ++ x ∷ [])
 unfolding AreAllowed
-allowed-more config made h x w a = behind-more config made [] h x w a
+allowed-more config made h x w a = after-more config made [] h x w a
 
 -- what holds before the first event, and is kept by each that is allowed
 module _ (config : DeskConfig) (made : ℕ) (P : List DeskEvent → Type 0) (step : (h : List DeskEvent) (x : DeskEvent) → P h → Allowed (desk_of config made h) x → P (h ++ x ∷ [])) where
-  by-steps-behind : (h later : List DeskEvent) → P h → AreAllowedBehind config made h later → P (h ++ later)
-  by-steps-behind h [] p w = subst P (sym (append-nil h)) p
-  by-steps-behind h (x ∷ later) p w = subst P (append_assoc h (x ∷ []) later) (by-steps-behind (h ++ x ∷ []) later (step h x p w.0) w.1)
+  by-steps-after : (h later : List DeskEvent) → P h → AreAllowedAfter config made h later → P (h ++ later)
+  by-steps-after h [] p w = subst P (sym (append-nil h)) p
+  by-steps-after h (x ∷ later) p w = subst P (append_assoc h (x ∷ []) later) (by-steps-after (h ++ x ∷ []) later (step h x p w.0) w.1)
 
   -- A property that holds before the first event and that each allowed event keeps holds after
   -- allowed events.
   pub by-steps : (h : List DeskEvent) → P [] → AreAllowed config made h → P h
   unfolding AreAllowed
-  by-steps h p w = by-steps-behind [] h p w
+  by-steps h p w = by-steps-after [] h p w
 
 within-same : (h : List DeskEvent) (x : DeskEvent) → size_of_take x ≡ None → queued_span x ≡ None → IsWithin h → IsWithin (h ++ x ∷ [])
 within-same h x e q w = omega (arith, w, ap sum (sizes-kept h x e), ap length (accepted-kept h x q))

@@ -291,14 +291,14 @@ Allowed desk (settled fate) = is_with_exporter desk.out ≡ true
 Allowed desk popped = Unit {0}
 Allowed desk popped_lost = Unit {0}
 
-abbrev pub AreAllowedBehind : DeskConfig → ℕ → List DeskEvent → List DeskEvent → Type 0
-AreAllowedBehind config made before [] = Unit {0}
-AreAllowedBehind config made before (x ∷ events) =
-    Allowed (desk_of config made before) x × AreAllowedBehind config made (before ++ x ∷ []) events
+abbrev pub AreAllowedAfter : DeskConfig → ℕ → List DeskEvent → List DeskEvent → Type 0
+AreAllowedAfter config made before [] = Unit {0}
+AreAllowedAfter config made before (x ∷ events) =
+    Allowed (desk_of config made before) x × AreAllowedAfter config made (before ++ x ∷ []) events
 
 -- each event is allowed after those before it
 unfoldable pub AreAllowed : DeskConfig → ℕ → List DeskEvent → Type 0
-AreAllowed config made events = AreAllowedBehind config made [] events
+AreAllowed config made events = AreAllowedAfter config made [] events
 
 -- ---- one more event
 

@@ -36,11 +36,11 @@ row-field [] rest f s = absurd (not-nothing s.tag s.rest s.whole s.is_tag.ended)
 row-field (b ∷ front) rest f s = row-from-field b front rest f s
 
 -- the row with more fields before it
-abbrev pub behind : List Field → Reading (List Field) → Reading (List Field)
-behind fields r = record { value = fields ++ r.value; faults = r.faults }
+abbrev pub appended : List Field → Reading (List Field) → Reading (List Field)
+appended fields r = record { value = fields ++ r.value; faults = r.faults }
 
 -- The row of a row's bytes with more after them: its fields, and then the row of what is after.
-pub row-append : (bs rest : List ℕ) (fields : List Field) → IsRow bs fields → row (bs ++ rest) ≡ behind fields (row rest)
+pub row-append : (bs rest : List ℕ) (fields : List Field) → IsRow bs fields → row (bs ++ rest) ≡ appended fields (row rest)
 row-append bs rest [] s = ap (λ l. row (l ++ rest)) s
 row-append bs rest (f ∷ fields) s =
     ap (λ l. row (l ++ rest)) s.4 ∙ ap row (append_assoc s.0 s.1 rest) ∙ row-field s.0 (s.1 ++ rest) f s.2 ∙ ap (put f) (row-append s.1 rest fields s.3)
@@ -50,7 +50,7 @@ unfolding row row_after
 row-nothing = refl
 
 row-again : (bs : List ℕ) (fields : List Field) → IsRow bs fields → row bs ≡ done fields
-row-again bs fields s = ap row (sym (append-nil bs)) ∙ row-append bs [] fields s ∙ ap (behind fields) row-nothing ∙ ap done (append-nil fields)
+row-again bs fields s = ap row (sym (append-nil bs)) ∙ row-append bs [] fields s ∙ ap (appended fields) row-nothing ∙ ap done (append-nil fields)
 
 -- ---- what is read is spelled
 

@@ -153,7 +153,7 @@ agrees_new config made accounts all = record {
     counted = refl;
   };
   late = late_new accounts all;
-  floors = each_same new_account _ (record { above = tt; floor_given = omega arith; asked_given = omega arith; mark_given = omega arith; behind = tt }) accounts all;
+  floors = each_same new_account _ (record { above = tt; floor_given = omega arith; asked_given = omega arith; mark_given = omega arith; appended = tt }) accounts all;
   batches = record { out = refl; taken = refl; numbered = refl; handed = refl; fates_are = refl; drained = λ h. cc };
   told = each_same new_account _ (λ is. cc) accounts all;
 }
@@ -162,11 +162,11 @@ agrees_new config made accounts all = record {
 two_replaced : {V : Type 0} (x u v w : V) (new : List V) → (x ≡ v → ⊥) → Replaces (x ∷ u ∷ []) v w new → new ≡ x ∷ w ∷ []
 two_replaced {V} x u v w new apart r = by_before r.0 r.1 r.2 r.3
   where
-    by_before : (before behind : List V) → x ∷ u ∷ [] ≡ before ++ v ∷ behind → new ≡ before ++ w ∷ behind → new ≡ x ∷ w ∷ []
-    by_before [] behind is then' = absurd (apart (let e : x ≡ v = cc in e))
-    by_before (y ∷ []) behind is then' =
-        let same : x ≡ y = cc in let none : behind ≡ [] = cc in then' ∙ ap (λ (a : V). a ∷ w ∷ behind) (sym same) ∙ ap (λ (l : List V). x ∷ w ∷ l) none
-    by_before (y ∷ z ∷ before) behind is then' = let long = ap length is in let parts = length-append before (v ∷ behind) in absurd (omega arith)
+    by_before : (before appended : List V) → x ∷ u ∷ [] ≡ before ++ v ∷ appended → new ≡ before ++ w ∷ appended → new ≡ x ∷ w ∷ []
+    by_before [] appended is then' = absurd (apart (let e : x ≡ v = cc in e))
+    by_before (y ∷ []) appended is then' =
+        let same : x ≡ y = cc in let none : appended ≡ [] = cc in then' ∙ ap (λ (a : V). a ∷ w ∷ appended) (sym same) ∙ ap (λ (l : List V). x ∷ w ∷ l) none
+    by_before (y ∷ z ∷ before) appended is then' = let long = ap length is in let parts = length-append before (v ∷ appended) in absurd (omega arith)
 
 new_accounts : (holders : List AnyAccount) → AllByRecursion (λ h. h ≡ pass new_account) holders → AllByRecursion (λ a. a ≡ new_account) (pass_accounts holders) × (worker_accounts holders ≡ [])
 new_accounts [] all = (tt, refl)

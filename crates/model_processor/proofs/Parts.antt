@@ -72,8 +72,8 @@ floor_step next next' waiting spans ss floor asked grows from k = record {
   floor_given = let f = k.floor_given in omega arith;
   asked_given = let f = k.asked_given in omega arith;
   mark_given = let e = length-append spans ss in let m = k.mark_given in omega arith;
-  behind = subst (AreFrom asked.ticket) (sym (drop-append-le asked.mark spans ss k.mark_given))
-      (each_append (λ (s : SpanData). asked.ticket ≤ s.ticket) (drop asked.mark spans) ss k.behind (each_map (λ (s : SpanData). next ≤ s.ticket) (λ (s : SpanData). asked.ticket ≤ s.ticket) ss (λ s le. let f = k.asked_given in omega arith) from));
+  appended = subst (AreFrom asked.ticket) (sym (drop-append-le asked.mark spans ss k.mark_given))
+      (each_append (λ (s : SpanData). asked.ticket ≤ s.ticket) (drop asked.mark spans) ss k.appended (each_map (λ (s : SpanData). next ≤ s.ticket) (λ (s : SpanData). asked.ticket ≤ s.ticket) ss (λ s le. let f = k.asked_given in omega arith) from));
 }
 
 -- All floors are kept where later tickets are queued, and one pass may ask or get an answer.
@@ -88,13 +88,13 @@ floors_step next next' waiting spans ss old new a b r grows from k one =
 pub floor_flushed : (next : ℕ) (taken waiting : List SpanData) (floor : ℕ) (asked : Asked) → asked.mark ≤ length taken → KeepsFloor next waiting (taken ++ waiting) floor asked → KeepsFloor next waiting (taken ++ waiting) asked.ticket asked
 floor_flushed next taken waiting floor asked le k = record {
   above =
-      let all = each_drop (λ (s : SpanData). asked.ticket ≤ s.ticket) (length taken - asked.mark) (drop asked.mark (taken ++ waiting)) k.behind in
+      let all = each_drop (λ (s : SpanData). asked.ticket ≤ s.ticket) (length taken - asked.mark) (drop asked.mark (taken ++ waiting)) k.appended in
       let sum : asked.mark + (length taken - asked.mark) ≡ length taken = omega arith in
       subst (AreFrom asked.ticket) (drop-drop (length taken - asked.mark) asked.mark (taken ++ waiting) ∙ ap (λ (n : ℕ). drop n (taken ++ waiting)) sum ∙ drop_at taken waiting (length taken) refl) all;
   floor_given = k.asked_given;
   asked_given = k.asked_given;
   mark_given = k.mark_given;
-  behind = k.behind;
+  appended = k.appended;
 }
 
 -- A floor is kept where its pass asks for all spans accepted so far.
@@ -104,5 +104,5 @@ floor_asked next waiting spans floor mark asked is k = record {
   floor_given = k.floor_given;
   asked_given = omega arith;
   mark_given = omega arith;
-  behind = subst (AreFrom next) (sym (ap (λ (n : ℕ). drop n spans) is ∙ ap (drop (length spans)) (sym (append-nil spans)) ∙ drop_at spans [] (length spans) refl)) tt;
+  appended = subst (AreFrom next) (sym (ap (λ (n : ℕ). drop n spans) is ∙ ap (drop (length spans)) (sym (append-nil spans)) ∙ drop_at spans [] (length spans) refl)) tt;
 }

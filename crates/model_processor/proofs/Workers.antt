@@ -39,7 +39,7 @@ module _ (desk desk' : Desk) (u v : WorkerAccount) (passes : List PassAccount) (
     floor_given = let e = same.next in let g = f.floor_given in omega arith;
     asked_given = let e = same.next in let g = f.asked_given in omega arith;
     mark_given = f.mark_given;
-    behind = f.behind;
+    appended = f.appended;
   }
 
   -- The desk and the accounts agree after a step of the worker that changes each part as it may.

@@ -46,7 +46,7 @@ pub record KeepsFloor (next : ℕ) (waiting spans : List SpanData) (floor : ℕ)
   pub floor_given : floor ≤ next
   pub asked_given : asked.ticket ≤ next
   pub mark_given : asked.mark ≤ length spans
-  pub behind : AreFrom asked.ticket (drop asked.mark spans)
+  pub appended : AreFrom asked.ticket (drop asked.mark spans)
 
 abbrev pub KeepsFloors : ℕ → List SpanData → List SpanData → List PassAccount → Type 0
 KeepsFloors next waiting spans passes =

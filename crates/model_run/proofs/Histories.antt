@@ -14,7 +14,7 @@ use Rattle.model_span.specs.Sampling.{is_sampled}
 use Rattle.model_span.specs.Identifiers.{Words, has_sampled_flag, with_sampled_flag}
 use Rattle.model_span.specs.Starts.{StartRequest, Ids, StartedSpan, Tracer, start_request, decision_of, exported_span, flags_of, ids_of, started_span, started_span_as}
 use Rattle.model_run.specs.Steps.{Parent}
-use Rattle.model_run.specs.History.{SpanStep, Setup, StartResult, start, call, start_count, unless_refused, start_result, start_result_in, parent_among, words_left, start_results_behind, start_results, behind_start, call_on, calls_on, ends_behind, ended_numbers, exported_of, exported_if_sampled, exported_spans, with_tickets, ended_spans}
+use Rattle.model_run.specs.History.{SpanStep, Setup, StartResult, start, call, start_count, unless_refused, start_result, start_result_in, parent_among, words_left, start_results_after, start_results, later_start, call_on, calls_on, ends_after, ended_numbers, exported_of, exported_if_sampled, exported_spans, with_tickets, ended_spans}
 pub use Rattle.model_span.proofs.Live.{all-live}
 use Rattle.model_span.proofs.Lists.{distinct-more, distinct-all, filter-keeps}
 
@@ -26,25 +26,25 @@ starts-append (call n c ∷ xs) ys = starts-append xs ys
 
 -- ---- outcomes
 
-outcomes-append : (setup : Setup) (earlier : List StartResult) (xs ys : List SpanStep) → start_results_behind setup earlier (xs ++ ys) ≡ start_results_behind setup (start_results_behind setup earlier xs) ys
-unfolding start_results_behind
+outcomes-append : (setup : Setup) (earlier : List StartResult) (xs ys : List SpanStep) → start_results_after setup earlier (xs ++ ys) ≡ start_results_after setup (start_results_after setup earlier xs) ys
+unfolding start_results_after
 outcomes-append setup earlier [] ys = refl
 outcomes-append setup earlier (start r sc p k at name ∷ xs) ys = outcomes-append setup (earlier ++ start_result setup earlier r sc p k at name ∷ []) xs ys
 outcomes-append setup earlier (call n c ∷ xs) ys = outcomes-append setup earlier xs ys
 
 -- A call on a span changes nothing of what the starts gave.
 pub outcomes-call : (setup : Setup) (done : List SpanStep) (n : ℕ) (c : Call) → start_results setup (done ++ call n c ∷ []) ≡ start_results setup done
-unfolding start_results_behind
+unfolding start_results_after
 outcomes-call setup done n c = outcomes-append setup [] done (call n c ∷ [])
 
 -- One more start adds what it gives to what the starts before it gave.
 pub outcomes-start : (setup : Setup) (done : List SpanStep) (r : Bool) (scope : ℕ) (p : Parent) (k : Kind) (at : ℕ) (name : List ℕ) →
     start_results setup (done ++ start r scope p k at name ∷ []) ≡ start_results setup done ++ start_result setup (start_results setup done) r scope p k at name ∷ []
-unfolding start_results_behind
+unfolding start_results_after
 outcomes-start setup done r scope p k at name = outcomes-append setup [] done (start r scope p k at name ∷ [])
 
-outcomes-length : (setup : Setup) (earlier : List StartResult) (steps : List SpanStep) → length (start_results_behind setup earlier steps) ≡ length earlier + start_count steps
-unfolding start_results_behind
+outcomes-length : (setup : Setup) (earlier : List StartResult) (steps : List SpanStep) → length (start_results_after setup earlier steps) ≡ length earlier + start_count steps
+unfolding start_results_after
 outcomes-length setup earlier [] = sym (add-zero (length earlier))
 outcomes-length setup earlier (start r sc p k at name ∷ steps) =
     outcomes-length setup (earlier ++ start_result setup earlier r sc p k at name ∷ []) steps
@@ -57,44 +57,44 @@ outcomes-many setup steps = outcomes-length setup [] steps ∙ zero-add (start_c
 
 -- ---- calls
 
-behind-within : (n : ℕ) (xs ys : List SpanStep) → n < start_count xs → behind_start n (xs ++ ys) ≡ behind_start n xs ++ ys
-behind-within n [] ys h = absurd (omega (arith, h))
-behind-within zero (start r sc p k at name ∷ xs) ys h = refl
-behind-within (suc n) (start r sc p k at name ∷ xs) ys h = behind-within n xs ys (omega (arith, h))
-behind-within n (call m c ∷ xs) ys h = behind-within n xs ys h
+after-within : (n : ℕ) (xs ys : List SpanStep) → n < start_count xs → later_start n (xs ++ ys) ≡ later_start n xs ++ ys
+after-within n [] ys h = absurd (omega (arith, h))
+after-within zero (start r sc p k at name ∷ xs) ys h = refl
+after-within (suc n) (start r sc p k at name ∷ xs) ys h = after-within n xs ys (omega (arith, h))
+after-within n (call m c ∷ xs) ys h = after-within n xs ys h
 
-behind-past : (n : ℕ) (xs : List SpanStep) → start_count xs ≤ n → behind_start n xs ≡ []
-behind-past n [] h = refl
-behind-past zero (start r sc p k at name ∷ xs) h = absurd (omega (arith, h))
-behind-past (suc n) (start r sc p k at name ∷ xs) h = behind-past n xs (omega (arith, h))
-behind-past n (call m c ∷ xs) h = behind-past n xs h
+after-past : (n : ℕ) (xs : List SpanStep) → start_count xs ≤ n → later_start n xs ≡ []
+after-past n [] h = refl
+after-past zero (start r sc p k at name ∷ xs) h = absurd (omega (arith, h))
+after-past (suc n) (start r sc p k at name ∷ xs) h = after-past n xs (omega (arith, h))
+after-past n (call m c ∷ xs) h = after-past n xs h
 
-behind-last : (xs : List SpanStep) (r : Bool) (sc : ℕ) (p : Parent) (k : Kind) (at : ℕ) (name : List ℕ) → behind_start (start_count xs) (xs ++ start r sc p k at name ∷ []) ≡ []
-behind-last [] r sc p k at name = refl
-behind-last (start r' sc' p' k' at' name' ∷ xs) r sc p k at name = behind-last xs r sc p k at name
-behind-last (call m c ∷ xs) r sc p k at name = behind-last xs r sc p k at name
+after-last : (xs : List SpanStep) (r : Bool) (sc : ℕ) (p : Parent) (k : Kind) (at : ℕ) (name : List ℕ) → later_start (start_count xs) (xs ++ start r sc p k at name ∷ []) ≡ []
+after-last [] r sc p k at name = refl
+after-last (start r' sc' p' k' at' name' ∷ xs) r sc p k at name = after-last xs r sc p k at name
+after-last (call m c ∷ xs) r sc p k at name = after-last xs r sc p k at name
 
 -- One more step adds the call that it makes, if any, to the calls on a span that has started.
 pub calls-more : (n : ℕ) (done : List SpanStep) (x : SpanStep) → n < start_count done → calls_on n (done ++ x ∷ []) ≡ calls_on n done ++ filter_map (call_on n) (x ∷ [])
-calls-more n done x h = ap (filter_map (call_on n)) (behind-within n done (x ∷ []) h) ∙ filter_map-append (call_on n) (behind_start n done) (x ∷ [])
+calls-more n done x h = ap (filter_map (call_on n)) (after-within n done (x ∷ []) h) ∙ filter_map-append (call_on n) (later_start n done) (x ∷ [])
 
 -- A span that has not started has no calls.
 pub calls-past : (n : ℕ) (done : List SpanStep) → start_count done ≤ n → calls_on n done ≡ []
-calls-past n done h = ap (filter_map (call_on n)) (behind-past n done h)
+calls-past n done h = ap (filter_map (call_on n)) (after-past n done h)
 
 -- A span that has just started has no calls.
 pub calls-first : (done : List SpanStep) (r : Bool) (sc : ℕ) (p : Parent) (k : Kind) (at : ℕ) (name : List ℕ) → calls_on (start_count done) (done ++ start r sc p k at name ∷ []) ≡ []
-calls-first done r sc p k at name = ap (filter_map (call_on (start_count done))) (behind-last done r sc p k at name)
+calls-first done r sc p k at name = ap (filter_map (call_on (start_count done))) (after-last done r sc p k at name)
 
 -- ---- ends
 
-ends-append : (k : ℕ) (xs ys : List SpanStep) → ends_behind k (xs ++ ys) ≡ ends_behind k xs ++ ends_behind (k + start_count xs) ys
-ends-append k [] ys = ap (λ n. ends_behind n ys) (sym (add-zero k))
-ends-append k (start r sc p kind at name ∷ xs) ys = ends-append (k + 1) xs ys ∙ ap (λ n. ends_behind (k + 1) xs ++ ends_behind n ys) (let e : k + 1 + start_count xs ≡ k + suc (start_count xs) = omega arith in e)
+ends-append : (k : ℕ) (xs ys : List SpanStep) → ends_after k (xs ++ ys) ≡ ends_after k xs ++ ends_after (k + start_count xs) ys
+ends-append k [] ys = ap (λ n. ends_after n ys) (sym (add-zero k))
+ends-append k (start r sc p kind at name ∷ xs) ys = ends-append (k + 1) xs ys ∙ ap (λ n. ends_after (k + 1) xs ++ ends_after n ys) (let e : k + 1 + start_count xs ≡ k + suc (start_count xs) = omega arith in e)
 ends-append k (call n c ∷ xs) ys = by (is_end c && nat_lt n k) (ends-append k xs ys)
   where
-    by : (b : Bool) → ends_behind k (xs ++ ys) ≡ ends_behind k xs ++ ends_behind (k + start_count xs) ys →
-        cond b (n ∷ ends_behind k (xs ++ ys)) (ends_behind k (xs ++ ys)) ≡ cond b (n ∷ ends_behind k xs) (ends_behind k xs) ++ ends_behind (k + start_count xs) ys
+    by : (b : Bool) → ends_after k (xs ++ ys) ≡ ends_after k xs ++ ends_after (k + start_count xs) ys →
+        cond b (n ∷ ends_after k (xs ++ ys)) (ends_after k (xs ++ ys)) ≡ cond b (n ∷ ends_after k xs) (ends_after k xs) ++ ends_after (k + start_count xs) ys
     by true h = ap (λ l. n ∷ l) h
     by false h = h
 
@@ -103,13 +103,13 @@ abbrev among : ℕ → List ℕ → Bool
 among n ns = list_any (λ m. m == n) ns
 
 -- A span that has started before is among the ends just if one of its calls is an end.
-ends-during : (n k : ℕ) (steps : List SpanStep) → n < k → among n (ends_behind k steps) ≡ list_any is_end (filter_map (call_on n) steps)
+ends-during : (n k : ℕ) (steps : List SpanStep) → n < k → among n (ends_after k steps) ≡ list_any is_end (filter_map (call_on n) steps)
 ends-during n k [] h = refl
 ends-during n k (start r sc p kind at name ∷ steps) h = ends-during n (k + 1) steps (omega (arith, h))
 ends-during n k (call m c ∷ steps) h = by (is_end c) refl (m == n) refl (nat_lt m k) refl (ends-during n k steps h)
   where
-    by : (e : Bool) → is_end c ≡ e → (s : Bool) → (m == n) ≡ s → (l : Bool) → nat_lt m k ≡ l → among n (ends_behind k steps) ≡ list_any is_end (filter_map (call_on n) steps) →
-        among n (ends_behind k (call m c ∷ steps)) ≡ list_any is_end (filter_map (call_on n) (call m c ∷ steps))
+    by : (e : Bool) → is_end c ≡ e → (s : Bool) → (m == n) ≡ s → (l : Bool) → nat_lt m k ≡ l → among n (ends_after k steps) ≡ list_any is_end (filter_map (call_on n) steps) →
+        among n (ends_after k (call m c ∷ steps)) ≡ list_any is_end (filter_map (call_on n) (call m c ∷ steps))
     by true d true t true u rest = rw (t, d, u, t) refl
     by true d false t true u rest = rw (t, d, u, t) rest
     by true d true t false u rest = absurd (let e : m ≡ n = eqb-true m n t in let f : k ≤ m = ltb-false m k u in omega (arith, h, e, f))
@@ -119,21 +119,21 @@ ends-during n k (call m c ∷ steps) h = by (is_end c) refl (m == n) refl (nat_l
 
 -- A span whose start is still to come, after `i` others, is among the ends just if one of its calls
 -- is an end.
-ends-from : (n k i : ℕ) (steps : List SpanStep) → n ≡ k + i → among n (ends_behind k steps) ≡ list_any is_end (filter_map (call_on n) (behind_start i steps))
+ends-from : (n k i : ℕ) (steps : List SpanStep) → n ≡ k + i → among n (ends_after k steps) ≡ list_any is_end (filter_map (call_on n) (later_start i steps))
 ends-from n k i [] h = refl
 ends-from n k zero (start r sc p kind at name ∷ steps) h = ends-during n (k + 1) steps (omega (arith, h))
 ends-from n k (suc i) (start r sc p kind at name ∷ steps) h = ends-from n (k + 1) i steps (omega (arith, h))
 ends-from n k i (call m c ∷ steps) h = by (is_end c) refl (nat_lt m k) refl (m == n) refl (ends-from n k i steps h)
   where
-    by : (e : Bool) → is_end c ≡ e → (l : Bool) → nat_lt m k ≡ l → (s : Bool) → (m == n) ≡ s → among n (ends_behind k steps) ≡ list_any is_end (filter_map (call_on n) (behind_start i steps)) →
-        among n (ends_behind k (call m c ∷ steps)) ≡ list_any is_end (filter_map (call_on n) (behind_start i steps))
+    by : (e : Bool) → is_end c ≡ e → (l : Bool) → nat_lt m k ≡ l → (s : Bool) → (m == n) ≡ s → among n (ends_after k steps) ≡ list_any is_end (filter_map (call_on n) (later_start i steps)) →
+        among n (ends_after k (call m c ∷ steps)) ≡ list_any is_end (filter_map (call_on n) (later_start i steps))
     by true d true u true t rest = absurd (let e : m ≡ n = eqb-true m n t in let f : m < k = ltb-true m k u in omega (arith, h, e, f))
     by true d true u false t rest = rw (d, u, t) rest
     by true d false u s t rest = rw (d, u) rest
     by false d l u s t rest = rw d rest
 
 -- A span has ended just if one of its calls is an end.
-pub ends-are : (n : ℕ) (steps : List SpanStep) → among n (ends_behind 0 steps) ≡ list_any is_end (calls_on n steps)
+pub ends-are : (n : ℕ) (steps : List SpanStep) → among n (ends_after 0 steps) ≡ list_any is_end (calls_on n steps)
 ends-are n steps = ends-from n 0 n steps (sym (zero-add n))
 
 -- ---- the numbers of those that have ended
@@ -194,7 +194,7 @@ any-distinct p (n ∷ ns) h = by (any-distinct p ns) (p n) refl h
     by rest false e k = rw e (rest (any-filter p (λ m. not (same n m)) (distinct_of same ns) (rw e at k)))
 
 -- Only a span that has started has ended.
-ended-started : (n : ℕ) (steps : List SpanStep) → among n (ends_behind 0 steps) ≡ true → n < start_count steps
+ended-started : (n : ℕ) (steps : List SpanStep) → among n (ends_after 0 steps) ≡ true → n < start_count steps
 ended-started n steps h = by (nat_lt n (start_count steps)) refl
   where
     by : (b : Bool) → nat_lt n (start_count steps) ≡ b → n < start_count steps
@@ -203,8 +203,8 @@ ended-started n steps h = by (nat_lt n (start_count steps)) refl
 
 -- No more spans end than have started.
 pub ended-few : (steps : List SpanStep) → length (ended_numbers steps) ≤ start_count steps
-ended-few steps = length-le_from_distinct_below (ended_numbers steps) (start_count steps) (all-distinct (ends_behind 0 steps))
-    (λ q h. ended-started q steps (any-distinct (same-to q) (ends_behind 0 steps) (sym (among-turned q (ended_numbers steps)) ∙ h)))
+ended-few steps = length-le_from_distinct_below (ended_numbers steps) (start_count steps) (all-distinct (ends_after 0 steps))
+    (λ q h. ended-started q steps (any-distinct (same-to q) (ends_after 0 steps) (sym (among-turned q (ended_numbers steps)) ∙ h)))
   where
     same-to : ℕ → ℕ → Bool
     same-to q m = m == q
@@ -262,7 +262,7 @@ outcome-stays setup done (call m c) n h = ap (λ os. slice_get os n) (outcomes-c
 abbrev exported_at : Setup → List SpanStep → ℕ → Option SpanData
 exported_at setup steps n = exported_of (calls_on n steps) (slice_get (start_results setup steps) n)
 
-exported-stays : (setup : Setup) (done : List SpanStep) (x : SpanStep) (n : ℕ) → among n (ends_behind 0 done) ≡ true → exported_at setup (done ++ x ∷ []) n ≡ exported_at setup done n
+exported-stays : (setup : Setup) (done : List SpanStep) (x : SpanStep) (n : ℕ) → among n (ends_after 0 done) ≡ true → exported_at setup (done ++ x ∷ []) n ≡ exported_at setup done n
 exported-stays setup done x n h =
     let l : n < start_count done = ended-started n done h in
     ap (exported_of (calls_on n (done ++ x ∷ []))) (outcome-stays setup done x n l)
@@ -284,12 +284,12 @@ filter_map-same f g (n ∷ ns) h = rw (h.0, filter_map-same f g ns h.1) refl
 -- What is exported of the spans that had ended before is the same after one more step.
 ended-before : (setup : Setup) (done : List SpanStep) (x : SpanStep) → filter_map (exported_at setup (done ++ x ∷ [])) (ended_numbers done) ≡ exported_spans setup done
 ended-before setup done x = filter_map-same (exported_at setup (done ++ x ∷ [])) (exported_at setup done) (ended_numbers done)
-    (distinct-all (λ n. exported_at setup (done ++ x ∷ []) n ≡ exported_at setup done n) same (ends_behind 0 done) (each-among _ (ends_behind 0 done) (exported-stays setup done x)))
+    (distinct-all (λ n. exported_at setup (done ++ x ∷ []) n ≡ exported_at setup done n) same (ends_after 0 done) (each-among _ (ends_after 0 done) (exported-stays setup done x)))
 
 exported-start : (setup : Setup) (done : List SpanStep) (r : Bool) (sc : ℕ) (p : Parent) (k : Kind) (at : ℕ) (name : List ℕ) → exported_spans setup (done ++ start r sc p k at name ∷ []) ≡ exported_spans setup done
 exported-start setup done r sc p k at name =
     let x : SpanStep = start r sc p k at name in
-    ap (filter_map (exported_at setup (done ++ x ∷ []))) (ap (distinct_of same) (ends-append 0 done (x ∷ []) ∙ append-nil (ends_behind 0 done))) ∙ ended-before setup done x
+    ap (filter_map (exported_at setup (done ++ x ∷ []))) (ap (distinct_of same) (ends-append 0 done (x ∷ []) ∙ append-nil (ends_after 0 done))) ∙ ended-before setup done x
 
 -- A call that isn't the first end of a span that has started adds no ended span.
 exported-no-more : (setup : Setup) (done : List SpanStep) (n : ℕ) (c : Call) → (is_end c && nat_lt n (start_count done) && not (list_any is_end (calls_on n done))) ≡ false →
@@ -297,17 +297,17 @@ exported-no-more : (setup : Setup) (done : List SpanStep) (n : ℕ) (c : Call) �
 exported-no-more setup done n c h = ap (filter_map (exported_at setup (done ++ call n c ∷ []))) (ap (distinct_of same) (ends-append 0 done (call n c ∷ [])) ∙ by (is_end c) (nat_lt n (start_count done)) refl (list_any is_end (calls_on n done)) refl h) ∙ ended-before setup done (call n c)
   where
     by : (e l : Bool) → nat_lt n (start_count done) ≡ l → (b : Bool) → list_any is_end (calls_on n done) ≡ b → (e && l && not b) ≡ false →
-        distinct_of same (ends_behind 0 done ++ cond (e && nat_lt n (0 + start_count done)) (n ∷ []) []) ≡ ended_numbers done
-    by false l u b v k = ap (distinct_of same) (append-nil (ends_behind 0 done))
-    by true false u b v k = rw (zero-add, u) (ap (distinct_of same) (append-nil (ends_behind 0 done)))
-    by true true u true v k = rw (zero-add, u) (distinct-more same (ends_behind 0 done) n ∙ rw (ends-are n done, v) refl)
+        distinct_of same (ends_after 0 done ++ cond (e && nat_lt n (0 + start_count done)) (n ∷ []) []) ≡ ended_numbers done
+    by false l u b v k = ap (distinct_of same) (append-nil (ends_after 0 done))
+    by true false u b v k = rw (zero-add, u) (ap (distinct_of same) (append-nil (ends_after 0 done)))
+    by true true u true v k = rw (zero-add, u) (distinct-more same (ends_after 0 done) n ∙ rw (ends-are n done, v) refl)
     by true true u false v k = absurd (true≢false k)
 
 -- The first end of a span that has started adds its number to those that have ended.
 numbers-more : (done : List SpanStep) (n : ℕ) (c : Call) → is_end c ≡ true → n < start_count done → list_any is_end (calls_on n done) ≡ false → ended_numbers (done ++ call n c ∷ []) ≡ ended_numbers done ++ n ∷ []
 numbers-more done n c e l b =
     let u : nat_lt n (start_count done) ≡ true = lt-ltb n (start_count done) l in
-    ap (distinct_of same) (ends-append 0 done (call n c ∷ [])) ∙ rw (e, zero-add, u) (distinct-more same (ends_behind 0 done) n ∙ rw (ends-are n done, b) refl)
+    ap (distinct_of same) (ends-append 0 done (call n c ∷ [])) ∙ rw (e, zero-add, u) (distinct-more same (ends_after 0 done) n ∙ rw (ends-are n done, b) refl)
 
 filter_map-few : {B : Type 0} (f : ℕ → Option B) (ns : List ℕ) → length (filter_map f ns) ≤ length ns
 filter_map-few f [] = omega arith
@@ -410,11 +410,11 @@ module _ (P : Option StartedSpan → Type 0) (setup : Setup) (each : (earlier : 
   each-push [] earlier r sc p k at name h = (each earlier r sc p k at name, tt)
   each-push (o ∷ os) earlier r sc p k at name h = (h.0, each-push os earlier r sc p k at name h.1)
 
-  each-behind : (earlier : List StartResult) (steps : List SpanStep) → AllByRecursion (λ o. P o.span) earlier → AllByRecursion (λ o. P o.span) (start_results_behind setup earlier steps)
-  unfolding start_results_behind
-  each-behind earlier [] h = h
-  each-behind earlier (start r sc p k at name ∷ steps) h = each-behind (earlier ++ start_result setup earlier r sc p k at name ∷ []) steps (each-push earlier earlier r sc p k at name h)
-  each-behind earlier (call n c ∷ steps) h = each-behind earlier steps h
+  each-after : (earlier : List StartResult) (steps : List SpanStep) → AllByRecursion (λ o. P o.span) earlier → AllByRecursion (λ o. P o.span) (start_results_after setup earlier steps)
+  unfolding start_results_after
+  each-after earlier [] h = h
+  each-after earlier (start r sc p k at name ∷ steps) h = each-after (earlier ++ start_result setup earlier r sc p k at name ∷ []) steps (each-push earlier earlier r sc p k at name h)
+  each-after earlier (call n c ∷ steps) h = each-after earlier steps h
 
   each-at : (os : List StartResult) → AllByRecursion (λ o. P o.span) os → (n : ℕ) (o : StartResult) → slice_get os n ≡ Some o → P o.span
   each-at [] h n o e = cc
@@ -423,7 +423,7 @@ module _ (P : Option StartedSpan → Type 0) (setup : Setup) (each : (earlier : 
 
   -- What holds of the result of any start holds of the start with this number.
   pub each-outcome : (steps : List SpanStep) (n : ℕ) (o : StartResult) → slice_get (start_results setup steps) n ≡ Some o → P o.span
-  each-outcome steps n o e = each-at (start_results setup steps) (each-behind [] steps tt) n o e
+  each-outcome steps n o e = each-at (start_results setup steps) (each-after [] steps tt) n o e
 
 refused-flagged : (refused : Bool) (o : StartResult) → Flagged o.span → Flagged (unless_refused refused o).span
 refused-flagged true o h = tt

@@ -11,9 +11,9 @@ use Rattle.model_desk.specs.Queue.{DeskEvent}
 use Rattle.model_desk.proofs.Lists.{none-more, some-more, last-more, any-more}
 use Rattle.model_run.specs.Steps.{Step, is_shutdown}
 use Rattle.model_run.specs.History.{Setup, SpanStep, StartResult, span_step, exported_of, exported_if_sampled, ended_spans}
-use Rattle.model_run.specs.Runs.{Answer, started, no_randomness, no_span, out_of_memory, done, ended, taken, not_taken, encoded, sent, early, replied, nothing, Answered, is_refused, span_steps, starts_so_far, span_at, calls_so_far, before_shutdown, ended_by, span_of_end, event_by, events_behind, desk_events}
+use Rattle.model_run.specs.Runs.{Answer, started, no_randomness, no_span, out_of_memory, done, ended, taken, not_taken, encoded, sent, early, replied, nothing, Answered, is_refused, span_steps, starts_so_far, span_at, calls_so_far, before_shutdown, ended_by, span_of_end, event_by, events_after, desk_events}
 use Rattle.model_span.specs.Attributes.{last_or}
-use Rattle.model_run.specs.Answers.{RunConfig, Progress, progress_by, progress, attempts_by, last_attempt, IsAnswer, AreAnswers, AreAnswersBehind}
+use Rattle.model_run.specs.Answers.{RunConfig, Progress, progress_by, progress, attempts_by, last_attempt, IsAnswer, AreAnswers, AreAnswersAfter}
 use Rattle.model_run.specs.Headline.{Attempt, attempt_by, attempts}
 
 -- ---- the steps that count for the spans
@@ -103,17 +103,17 @@ one-of : {B : Type 0} (o : Option B) → cons_option o [] ≡ option_to_list o
 one-of None = refl
 one-of (Some x) = refl
 
-events-append : (setup : Setup) (before h : List Answered) (x : Answered) → events_behind setup before (h ++ x ∷ []) ≡ events_behind setup before h ++ option_to_list (event_by setup (before ++ h) x.answer x.step)
+events-append : (setup : Setup) (before h : List Answered) (x : Answered) → events_after setup before (h ++ x ∷ []) ≡ events_after setup before h ++ option_to_list (event_by setup (before ++ h) x.answer x.step)
 events-append setup before [] x = one-of (event_by setup before x.answer x.step) ∙ ap (λ b. option_to_list (event_by setup b x.answer x.step)) (sym (append-nil before))
 events-append setup before (y ∷ h) x =
     ap (cons_option (event_by setup before y.answer y.step))
-    (events-append setup (before ++ y ∷ []) h x ∙ ap (λ b. events_behind setup (before ++ y ∷ []) h ++ option_to_list (event_by setup b x.answer x.step)) (append_assoc before (y ∷ []) h))
-    ∙ cons-append (event_by setup before y.answer y.step) (events_behind setup (before ++ y ∷ []) h) (option_to_list (event_by setup (before ++ y ∷ h) x.answer x.step))
+    (events-append setup (before ++ y ∷ []) h x ∙ ap (λ b. events_after setup (before ++ y ∷ []) h ++ option_to_list (event_by setup b x.answer x.step)) (append_assoc before (y ∷ []) h))
+    ∙ cons-append (event_by setup before y.answer y.step) (events_after setup (before ++ y ∷ []) h) (option_to_list (event_by setup (before ++ y ∷ h) x.answer x.step))
 
 -- One more step adds what it does at the queue, if anything.
 pub events-more : (setup : Setup) (h : List Answered) (x : Answered) (o : Option DeskEvent) → event_by setup h x.answer x.step ≡ o → desk_events setup (h ++ x ∷ []) ≡ desk_events setup h ++ option_to_list o
 unfolding desk_events
-events-more setup h x o e = events-append setup [] h x ∙ ap (λ p. events_behind setup [] h ++ option_to_list p) e
+events-more setup h x o e = events-append setup [] h x ∙ ap (λ p. events_after setup [] h ++ option_to_list p) e
 
 -- What is exported of a start that gave a span is that span, if it is sampled.
 pub exported-found : (calls : List Call) (o : Option StartResult) (s : StartedSpan) → option_and_then (λ o. o.span) o ≡ Some s → exported_of calls o ≡ exported_if_sampled calls s
@@ -185,20 +185,20 @@ attempts-some h x a e = some-more (λ x. attempt_by x.answer) h x a e
 
 -- ---- answers
 
-answers-behind : (run : RunConfig) (before h : List Answered) (x : Answered) → AreAnswersBehind run before h → IsAnswer run (before ++ h) x → AreAnswersBehind run before (h ++ x ∷ [])
-answers-behind run before [] x a i = (rw (append-nil before) at i, tt)
-answers-behind run before (y ∷ h) x a i = (a.0, answers-behind run (before ++ y ∷ []) h x a.1 (rw (append_assoc before (y ∷ []) h) i))
+answers-after : (run : RunConfig) (before h : List Answered) (x : Answered) → AreAnswersAfter run before h → IsAnswer run (before ++ h) x → AreAnswersAfter run before (h ++ x ∷ [])
+answers-after run before [] x a i = (rw (append-nil before) at i, tt)
+answers-after run before (y ∷ h) x a i = (a.0, answers-after run (before ++ y ∷ []) h x a.1 (rw (append_assoc before (y ∷ []) h) i))
 
 -- Where all answers so far are right, and so is one more, all of them are.
 pub answers-more : (run : RunConfig) (h : List Answered) (x : Answered) → AreAnswers run h → IsAnswer run h x → AreAnswers run (h ++ x ∷ [])
 unfolding AreAnswers
-answers-more run h x a i = answers-behind run [] h x a i
+answers-more run h x a i = answers-after run [] h x a i
 
-answer-behind : (run : RunConfig) (first before later : List Answered) (x : Answered) → AreAnswersBehind run first (before ++ x ∷ later) → IsAnswer run (first ++ before) x
-answer-behind run first [] later x w = subst (λ b. IsAnswer run b x) (sym (append-nil first)) w.0
-answer-behind run first (y ∷ before) later x w = subst (λ b. IsAnswer run b x) (append_assoc first (y ∷ []) before) (answer-behind run (first ++ y ∷ []) before later x w.1)
+answer-after : (run : RunConfig) (first before later : List Answered) (x : Answered) → AreAnswersAfter run first (before ++ x ∷ later) → IsAnswer run (first ++ before) x
+answer-after run first [] later x w = subst (λ b. IsAnswer run b x) (sym (append-nil first)) w.0
+answer-after run first (y ∷ before) later x w = subst (λ b. IsAnswer run b x) (append_assoc first (y ∷ []) before) (answer-after run (first ++ y ∷ []) before later x w.1)
 
 -- Each answer is right after the steps before it.
 pub answer-at : (run : RunConfig) (before later : List Answered) (x : Answered) → AreAnswers run (before ++ x ∷ later) → IsAnswer run before x
 unfolding AreAnswers
-answer-at run before later x w = answer-behind run [] before later x w
+answer-at run before later x w = answer-after run [] before later x w

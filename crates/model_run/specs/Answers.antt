@@ -197,11 +197,11 @@ pub record IsAnswer (run : RunConfig) (before : List Answered) (x : Answered) : 
   pub given : Given
   pub is : x.answer ≡ answer_to run before given x.step
 
-abbrev pub AreAnswersBehind : RunConfig → List Answered → List Answered → Type 0
-AreAnswersBehind run before [] = Unit {0}
-AreAnswersBehind run before (x ∷ history) =
-    IsAnswer run before x × AreAnswersBehind run (before ++ x ∷ []) history
+abbrev pub AreAnswersAfter : RunConfig → List Answered → List Answered → Type 0
+AreAnswersAfter run before [] = Unit {0}
+AreAnswersAfter run before (x ∷ history) =
+    IsAnswer run before x × AreAnswersAfter run (before ++ x ∷ []) history
 
 -- Each answer is right after the steps before it.
 unfoldable pub AreAnswers : RunConfig → List Answered → Type 0
-AreAnswers run history = AreAnswersBehind run [] history
+AreAnswers run history = AreAnswersAfter run [] history

@@ -85,16 +85,16 @@ start_result setup earlier refused scope parent kind at name =
     (parent_among earlier parent) kind at name)
 
 -- what the starts among some steps come to, in order, each after those before it
-unfoldable pub start_results_behind : Setup → List StartResult → List SpanStep → List StartResult
-start_results_behind setup earlier [] = earlier
-start_results_behind setup earlier (start refused scope parent kind at name ∷ steps) =
-    start_results_behind setup
+unfoldable pub start_results_after : Setup → List StartResult → List SpanStep → List StartResult
+start_results_after setup earlier [] = earlier
+start_results_after setup earlier (start refused scope parent kind at name ∷ steps) =
+    start_results_after setup
     (earlier ++ start_result setup earlier refused scope parent kind at name ∷ []) steps
-start_results_behind setup earlier (call n c ∷ steps) = start_results_behind setup earlier steps
+start_results_after setup earlier (call n c ∷ steps) = start_results_after setup earlier steps
 
 -- what the starts come to
 abbrev pub start_results : Setup → List SpanStep → List StartResult
-start_results setup steps = start_results_behind setup [] steps
+start_results setup steps = start_results_after setup [] steps
 
 -- how many starts there are
 abbrev pub start_count : List SpanStep → ℕ
@@ -105,11 +105,11 @@ start_count (call n c ∷ steps) = start_count steps
 -- ---- calls
 
 -- the steps after the start with this number
-abbrev pub behind_start : ℕ → List SpanStep → List SpanStep
-behind_start n [] = []
-behind_start zero (start refused scope parent kind at name ∷ steps) = steps
-behind_start (suc n) (start refused scope parent kind at name ∷ steps) = behind_start n steps
-behind_start n (call m c ∷ steps) = behind_start n steps
+abbrev pub later_start : ℕ → List SpanStep → List SpanStep
+later_start n [] = []
+later_start zero (start refused scope parent kind at name ∷ steps) = steps
+later_start (suc n) (start refused scope parent kind at name ∷ steps) = later_start n steps
+later_start n (call m c ∷ steps) = later_start n steps
 
 -- the call that a step makes on the span with this number, if it makes one
 abbrev pub call_on : ℕ → SpanStep → Option Call
@@ -118,24 +118,24 @@ call_on n (call m c) = if m == n then Some c else None
 
 -- the calls on the span with this number: those after its start
 abbrev pub calls_on : ℕ → List SpanStep → List Call
-calls_on n steps = filter_map (call_on n) (behind_start n steps)
+calls_on n steps = filter_map (call_on n) (later_start n steps)
 
 -- ---- ends
 
 -- Whose ends there are, in order: for each the number of its span, where a start of this number
 -- comes before, also one that gave no span. The steps come after `started` starts.
-abbrev pub ends_behind : ℕ → List SpanStep → List ℕ
-ends_behind started [] = []
-ends_behind started (start refused scope parent kind at name ∷ steps) =
-    ends_behind (started + 1) steps
-ends_behind started (call n c ∷ steps) =
-    if is_end c && nat_lt n started then n ∷ ends_behind started steps
-    else ends_behind started steps
+abbrev pub ends_after : ℕ → List SpanStep → List ℕ
+ends_after started [] = []
+ends_after started (start refused scope parent kind at name ∷ steps) =
+    ends_after (started + 1) steps
+ends_after started (call n c ∷ steps) =
+    if is_end c && nat_lt n started then n ∷ ends_after started steps
+    else ends_after started steps
 
 -- The numbers whose ends count, in the order of their first ends; those too whose start gave no
 -- span. (Trace API, End)
 abbrev pub ended_numbers : List SpanStep → List ℕ
-ended_numbers steps = distinct_of (λ n m. n == m) (ends_behind 0 steps)
+ended_numbers steps = distinct_of (λ n m. n == m) (ends_after 0 steps)
 
 -- what is exported of a span that has started, if it is sampled (Trace SDK, Sampling)
 abbrev pub exported_if_sampled : List Call → StartedSpan → Option SpanData

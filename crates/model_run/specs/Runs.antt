@@ -142,12 +142,12 @@ event_by setup before early step = None
 event_by setup before nothing step = None
 
 -- what these steps do there, in order, after others
-abbrev pub events_behind : Setup → List Answered → List Answered → List DeskEvent
-events_behind setup before [] = []
-events_behind setup before (x ∷ later) =
+abbrev pub events_after : Setup → List Answered → List Answered → List DeskEvent
+events_after setup before [] = []
+events_after setup before (x ∷ later) =
     cons_option (event_by setup before x.answer x.step)
-    (events_behind setup (before ++ x ∷ []) later)
+    (events_after setup (before ++ x ∷ []) later)
 
 -- what is done at the queue
 unfoldable pub desk_events : Setup → List Answered → List DeskEvent
-desk_events setup history = events_behind setup [] history
+desk_events setup history = events_after setup [] history

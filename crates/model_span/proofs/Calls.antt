@@ -113,10 +113,10 @@ ends-at old at = record {
 }
 
 -- The calls after the first end count for nothing.
-pub span-behind : (limits : SpanLimits) (start : Start) (calls more : List Call) (at : ℕ) → live_calls calls ≡ calls →
+pub span-after : (limits : SpanLimits) (start : Start) (calls more : List Call) (at : ℕ) → live_calls calls ≡ calls →
     span limits start (calls ++ end at ∷ more) ≡ span limits start (calls ++ end at ∷ [])
 unfolding span
-span-behind limits start calls more at h =
+span-after limits start calls more at h =
     let n : NoneEnds calls = none-ends calls h in
     let none : (rest : List Call) → live_calls (end at ∷ rest) ≡ [] = λ rest. live-cons (end at) rest in
     let same : live_calls (calls ++ end at ∷ more) ≡ live_calls (calls ++ end at ∷ []) = rw (live-append calls (end at ∷ more) n, live-append calls (end at ∷ []) n, none more, none []) refl in

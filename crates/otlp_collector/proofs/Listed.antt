@@ -42,5 +42,5 @@ pub part-of : {X : Type 0} (f : X → List ℕ) (xs : List X) (at : ℕ) (x : X)
 part-of f xs at x within is = subst (λ y. length (f y) ≤ length (listed (map f xs))) (sym is) (part-at f xs at x within)
 
 -- Two texts that are appended in turn are appended together.
-pub behind : (old mid new first then : List ℕ) → mid ≡ old ++ first → new ≡ mid ++ then → new ≡ old ++ (first ++ then)
-behind old mid new first then to-mid to-new = to-new ∙ ap (λ l. l ++ then) to-mid ∙ append_assoc old first then
+pub appended : (old mid new first then : List ℕ) → mid ≡ old ++ first → new ≡ mid ++ then → new ≡ old ++ (first ++ then)
+appended old mid new first then to-mid to-new = to-new ∙ ap (λ l. l ++ then) to-mid ∙ append_assoc old first then

@@ -10,7 +10,7 @@ use Rattle.otlp_read.specs.Values.{values_view, pairs_view}
 use Rattle.otlp_read.proofs.ValueViews.{view-Empty, view-Text, view-Bool, view-Int, view-Double, view-Array, view-Pairs, view-Bytes}
 use Rattle.otlp_collector.specs.Lines.{text_word, bytes_word, listed, value_word, value_words, pair_words}
 use Rattle.otlp_collector.specs.Words.{any_word, pair_word}
-use Rattle.otlp_collector.proofs.Listed.{behind}
+use Rattle.otlp_collector.proofs.Listed.{appended}
 
 words-of : {A : Type 0} (vs : List (AnyValue A)) → value_words (as_values (values_view vs)) ≡ map any_word vs
 unfolding value_words
@@ -76,7 +76,7 @@ told v which old new word is says more = more ∙ ap (λ l. old ++ l) (sym (ap a
 -- A mark, and then the rest of the word, which a call writes, are the word of the value.
 pub told-by : {A T E : Type 0} (r : Result T E) (v which : AnyValue A) (old mid new mark word : List ℕ) → v ≡ which → any_word which ≡ mark ++ word → mid ≡ old ++ mark
     → OnOk r (new ≡ mid ++ word) → OnOk r (new ≡ old ++ any_word v)
-told-by (Ok x) v which old mid new mark word is says marked more = told v which old new (mark ++ word) is says (behind old mid new mark word marked more)
+told-by (Ok x) v which old mid new mark word is says marked more = told v which old new (mark ++ word) is says (appended old mid new mark word marked more)
 told-by (Err e) v which old mid new mark word is says marked more = tt
 
 -- The word that a call writes for a value of a known kind is the word of the value.
@@ -106,9 +106,9 @@ pub value-shorter : {A : Type 0} (p : String A × AnyValue A) → length (any_wo
 value-shorter p = omega (arith, length-append (text_word (string_bytes p.0)) (61 ∷ any_word p.1))
 
 -- A comma or nothing, the key with `=`, and the value's word, in turn, write the pair's word.
-pub pair-behind : {A : Type 0} (p : String A × AnyValue A) (key old mid new comma : List ℕ) → key ≡ string_bytes p.0
+pub pair-after : {A : Type 0} (p : String A × AnyValue A) (key old mid new comma : List ℕ) → key ≡ string_bytes p.0
     → mid ≡ old ++ (comma ++ (text_word key ++ codes "=")) → new ≡ mid ++ any_word p.1 → new ≡ old ++ (comma ++ pair_word p)
-pair-behind p key old mid new comma is to-mid to-new =
-    behind old mid new (comma ++ (text_word key ++ codes "=")) (any_word p.1) to-mid to-new
+pair-after p key old mid new comma is to-mid to-new =
+    appended old mid new (comma ++ (text_word key ++ codes "=")) (any_word p.1) to-mid to-new
     ∙ ap (λ l. old ++ l)
     (append_assoc comma (text_word key ++ codes "=") (any_word p.1) ∙ ap (λ l. comma ++ l) (append_assoc (text_word key) (codes "=") (any_word p.1) ∙ ap (λ k. text_word k ++ 61 ∷ any_word p.1) is))

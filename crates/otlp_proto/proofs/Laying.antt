@@ -25,8 +25,8 @@ lays-both a b (counted n) (filled front room) e p q = absurd p
 lays-both a b (filled front room) d e p q = λ l small.
     let long = length-append a b in
     let fits : length a ≤ room = omega (arith, l, long) in
-    let behind : Lays b (filled (front ++ a) (room - length a)) e = subst (λ x. Lays b x e) (p fits small) q in
-    behind (omega (arith, l, long)) (omega (arith, small)) ∙ ap (λ bs. filled bs (room - length a - length b)) (append_assoc front a b) ∙ ap (λ x. filled (front ++ (a ++ b)) x) (omega (arith, long))
+    let appended : Lays b (filled (front ++ a) (room - length a)) e = subst (λ x. Lays b x e) (p fits small) q in
+    appended (omega (arith, l, long)) (omega (arith, small)) ∙ ap (λ bs. filled bs (room - length a - length b)) (append_assoc front a b) ∙ ap (λ x. filled (front ++ (a ++ b)) x) (omega (arith, long))
 
 -- Bytes equal to those laid are laid too.
 pub lays-as : {a b : List ℕ} (c d : Cursor) → a ≡ b → Lays a c d → Lays b c d
@@ -82,7 +82,7 @@ no-room bs front room l = λ fits small. absurd (omega (arith, l, fits))
 -- Bytes that are put at the end of what a buffer holds are laid.
 pub put-at : (bs old new : List ℕ) (at next : ℕ) → PutsAt bs at old new next → Lays bs (filled (take at old) (length old - at)) (filled (take next new) (length new - next))
 put-at bs old new at next p = λ fits small.
-    let same : length new - next ≡ length old - next = sym (length-drop next new) ∙ ap length p.behind ∙ length-drop next old in
+    let same : length new - next ≡ length old - next = sym (length-drop next new) ∙ ap length p.appended ∙ length-drop next old in
     ap (λ front. filled front (length new - next)) p.front ∙ ap (filled (take at old ++ bs)) (omega (arith, same, p.place))
 
 -- A count of the bytes that begins at 0 is their length, saturated.

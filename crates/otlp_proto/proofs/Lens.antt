@@ -48,13 +48,13 @@ flat-more f g xs i x l e = rw (add-one, take-suc xs i x l) (ap (flat_map f) (map
 
 -- The lengths of spans, put into an empty list, come first in it.
 pub begin-all : (xs : List SpanData) (lens : List ℕ) → AddsLens xs [] lens → BeginLens xs lens
-begin-all xs lens h = record { behind = []; lens = h.lens ∙ sym (append-nil (map span_len xs)); whole = h.whole }
+begin-all xs lens h = record { appended = []; lens = h.lens ∙ sym (append-nil (map span_len xs)); whole = h.whole }
 
 -- Where the lengths of two lists of spans come first, so do those of the first list.
 pub begin-first : (xs ys : List SpanData) (lens : List ℕ) → BeginLens (xs ++ ys) lens → BeginLens xs lens
 begin-first xs ys lens h = record {
-  behind = map span_len ys ++ h.behind;
-  lens = h.lens ∙ ap (λ ls. ls ++ h.behind) (map-append span_len xs ys) ∙ append_assoc (map span_len xs) (map span_len ys) h.behind;
+  appended = map span_len ys ++ h.appended;
+  lens = h.lens ∙ ap (λ ls. ls ++ h.appended) (map-append span_len xs ys) ∙ append_assoc (map span_len xs) (map span_len ys) h.appended;
   whole = all-first IsWholeSpan xs ys h.whole;
 }
 
@@ -64,15 +64,15 @@ drop-front xs ys n e = rw e (drop-append_seam xs ys)
 -- The lengths of the second list come first among those left after the first list's lengths.
 pub begin-last : (xs ys : List SpanData) (lens : List ℕ) → BeginLens (xs ++ ys) lens → BeginLens ys (drop (length xs) lens)
 begin-last xs ys lens h = record {
-  behind = h.behind;
-  lens = ap (drop (length xs)) (h.lens ∙ ap (λ ls. ls ++ h.behind) (map-append span_len xs ys) ∙ append_assoc (map span_len xs) (map span_len ys) h.behind) ∙ drop-front (map span_len xs) (map span_len ys ++ h.behind) (length xs) (sym (length-map xs span_len));
+  appended = h.appended;
+  lens = ap (drop (length xs)) (h.lens ∙ ap (λ ls. ls ++ h.appended) (map-append span_len xs ys) ∙ append_assoc (map span_len xs) (map span_len ys) h.appended) ∙ drop-front (map span_len xs) (map span_len ys ++ h.appended) (length xs) (sym (length-map xs span_len));
   whole = all-last IsWholeSpan xs ys h.whole;
 }
 
 -- There are at least as many lengths as spans.
 pub enough-lens : (xs : List SpanData) (lens : List ℕ) → BeginLens xs lens → length xs ≤ length lens
 enough-lens xs lens h =
-    let long = length-append (map span_len xs) h.behind in
+    let long = length-append (map span_len xs) h.appended in
     omega (arith, ap length h.lens, long, length-map xs span_len)
 
 -- ---- one length of those that come first
@@ -85,7 +85,7 @@ all-at P (x ∷ xs) (suc i) d l h = all-at P xs i d (omega (arith, l)) h.1
 -- Each of the lengths that come first is that of the span at its place.
 pub begin-at : (xs : List SpanData) (lens : List ℕ) (i n : ℕ) (x : SpanData) → BeginLens xs lens → i < length xs → x ≡ get_or xs i x → n ≡ get_or lens i 0 → Measures (span_bytes x) (IsWholeSpan x) n
 begin-at xs lens i n x h l is e = record {
-  size = e ∙ ap (λ ls. get_or ls i 0) h.lens ∙ get_or-append (map span_len xs) h.behind 0 i (rw length-map l) ∙ get_or-map span_len xs i x 0 l ∙ ap span_len (sym is);
+  size = e ∙ ap (λ ls. get_or ls i 0) h.lens ∙ get_or-append (map span_len xs) h.appended 0 i (rw length-map l) ∙ get_or-map span_len xs i x 0 l ∙ ap span_len (sym is);
   whole = rw is (all-at IsWholeSpan xs i x l h.whole);
 }
 

@@ -78,6 +78,6 @@ pub record AddsLens (spans : List SpanData) (old new : List ℕ) : Type 0 where
 
 -- the lengths of these spans come first
 pub record BeginLens (spans : List SpanData) (all : List ℕ) : Type 0 where
-  pub behind : List ℕ
-  pub lens : all ≡ map span_len spans ++ behind
+  pub appended : List ℕ
+  pub lens : all ≡ map span_len spans ++ appended
   pub whole : AllByRecursion IsWholeSpan spans

@@ -6,7 +6,7 @@ use Rattle.std.proofs.lemmas.List.{length-map, map-append, take-append-drop}
 use Rattle.std.proofs.Math.Seq.{drop-cons, take-suc}
 use Rattle.model_span.specs.Attributes.{Attribute, AttributeList, Kept, Limits, SetsPair, attribute_list, attributes, is_empty}
 use Rattle.model_span.specs.Spans.{Call, SpanLimits, unset, attribute_limits, set_attribute, add_link, end, Context, Event, event_of, Link, link, is_ignored, is_valid, no_pairs, is_end, Start, Span, Resource, Scope, SpanRecord, SpanData, KeepsPlace, Records, Adds, Ends, span}
-use Rattle.model_span.proofs.Calls.{AddsEvent, adds-attribute, adds-event, adds-counted-event, adds-link, adds-counted-link, first-none, span-ended, span-behind, span-unended}
+use Rattle.model_span.proofs.Calls.{AddsEvent, adds-attribute, adds-event, adds-counted-event, adds-link, adds-counted-link, first-none, span-ended, span-after, span-unended}
 use Rattle.otlp_value.specs.declared.Value.{Value}
 use Rattle.otlp_value.specs.Value.{attributes_view}
 use Rattle.otlp_span.specs.declared.body.SpanBody.{SpanBody}
@@ -221,7 +221,7 @@ pub ended : (first r : SpanRecord) (e : SpanData) (start : Start) (before after 
     e ≡ record { resource = first.resource; scope = first.scope; span = span first.limits start (before ++ end at ∷ after); ticket = 0 }
 ended first r e start before after at place rec ends =
     let whole : e.span ≡ span first.limits start (before ++ end at ∷ after) =
-    ends.value start before rec ∙ ap (λ l. span l start (before ++ end at ∷ [])) place.limits ∙ sym (span-behind first.limits start before after at rec.none_ends) in
+    ends.value start before rec ∙ ap (λ l. span l start (before ++ end at ∷ [])) place.limits ∙ sym (span-after first.limits start before after at rec.none_ends) in
     same-ended e first.resource first.scope _ (ends.resource ∙ place.resource) (ends.scope ∙ place.scope) whole ends.ticket
 
 -- A span that none of its calls ended, closed at the time of its start, is the span that its calls

@@ -18,16 +18,16 @@ use Rattle.otlp_wire.proofs.Named.{Within, names-within, within-left, within-rig
 
 -- After any fields of which the old value was gathered, the new value is gathered of those and
 -- these fields.
-abbrev pub Behind : {X : Type 0} → (X → List Field → Type 0) → X → X → List Field → Type 0
-Behind Q old new fields = (others : List Field) → Q old others → Q new (others ++ fields)
+abbrev pub After : {X : Type 0} → (X → List Field → Type 0) → X → X → List Field → Type 0
+After Q old new fields = (others : List Field) → Q old others → Q new (others ++ fields)
 
 -- After no field, what was gathered is as before.
-pub behind-none : {X : Type 0} (Q : X → List Field → Type 0) (x : X) → Behind Q x x []
-behind-none Q x others h = subst (Q x) (sym (append-nil others)) h
+pub later-none : {X : Type 0} (Q : X → List Field → Type 0) (x : X) → After Q x x []
+later-none Q x others h = subst (Q x) (sym (append-nil others)) h
 
 -- One field more adds to what was gathered after other fields.
-pub behind-more : {X : Type 0} (Q : X → List Field → Type 0) (old mid new : X) (f : Field) → ((fields : List Field) → Q mid fields → Q new (fields ++ f ∷ [])) → (fields : List Field) → Behind Q old mid fields → Behind Q old new (fields ++ f ∷ [])
-behind-more Q old mid new f step fields h others k = subst (Q new) (append_assoc others fields (f ∷ [])) (step (others ++ fields) (h others k))
+pub after-more : {X : Type 0} (Q : X → List Field → Type 0) (old mid new : X) (f : Field) → ((fields : List Field) → Q mid fields → Q new (fields ++ f ∷ [])) → (fields : List Field) → After Q old mid fields → After Q old new (fields ++ f ∷ [])
+after-more Q old mid new f step fields h others k = subst (Q new) (append_assoc others fields (f ∷ [])) (step (others ++ fields) (h others k))
 
 -- ---- faults
 

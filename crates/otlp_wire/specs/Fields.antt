@@ -59,8 +59,8 @@ outcome_count left = at_most (length left.value + length left.faults)
 -- some bytes of these, one after the other
 pub record IsPart (part whole : List ℕ) : Type 0 where
   pub before : List ℕ
-  pub behind : List ℕ
-  pub exact : whole ≡ before ++ part ++ behind
+  pub appended : List ℕ
+  pub exact : whole ≡ before ++ part ++ appended
 
 -- what each field holds is a part of these bytes
 abbrev pub ArePartsOf : List ℕ → List Wire.Field → Type 0

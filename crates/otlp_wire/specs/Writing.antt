@@ -33,4 +33,4 @@ FitsAt bytes at out = at + length bytes ≤ length out
 pub record PutsAt (bytes : List ℕ) (at : ℕ) (old new : List ℕ) (next : ℕ) : Type 0 where
   pub place : next ≡ at + length bytes
   pub front : take next new ≡ take at old ++ bytes
-  pub behind : drop next new ≡ drop next old
+  pub appended : drop next new ≡ drop next old

@@ -18,22 +18,22 @@ last-index eq laws es last key v unique there same =
     let first : position (eq last) (keys_of es) ≡ Some (length es - 1) = index-first (eq last) es (length es - 1) (own_first eq laws es (length es - 1) last v unique there) in
     sym first ∙ ap (λ test. position test (keys_of es)) alike
 
-behind : {K T A : Type 0} (eq : K → K → Bool) (k : K) (x : T) (old new : Vec T A) → new.items ≡ old.items ++ x ∷ [] → (es : List (K × Vec T A)) (i : ℕ) → i < length (keys_of es) → eq k (get_or (keys_of es) i k) ≡ true →
+appended : {K T A : Type 0} (eq : K → K → Bool) (k : K) (x : T) (old new : Vec T A) → new.items ≡ old.items ++ x ∷ [] → (es : List (K × Vec T A)) (i : ℕ) → i < length (keys_of es) → eq k (get_or (keys_of es) i k) ≡ true →
     ((j : ℕ) → j < i → eq k (get_or (keys_of es) j k) ≡ false) → slice_get (values_of es) i ≡ Some old → groups_of (set_value_at es i new) ≡ with_item eq (groups_of es) k x
-behind eq k x old new p [] i l same before at = absurd (omega (arith, l))
-behind eq k x old new p (e ∷ es) zero l same before at =
+appended eq k x old new p [] i l same before at = absurd (omega (arith, l))
+appended eq k x old new p (e ∷ es) zero l same before at =
     let own : e.1 ≡ old = cc in
     rw same (ap (λ ys. record { key = e.0; items = ys } ∷ groups_of es) (p ∙ ap (λ v. v.items ++ x ∷ []) (sym own)))
-behind eq k x old new p (e ∷ es) (suc i) l same before at =
+appended eq k x old new p (e ∷ es) (suc i) l same before at =
     let other : eq k e.0 ≡ false = before 0 (omega arith) in
-    rw other (ap (λ gs. record { key = e.0; items = e.1.items } ∷ gs) (behind eq k x old new p es i (omega (arith, l)) same (λ j h. before (suc j) (omega (arith, h))) at))
+    rw other (ap (λ gs. record { key = e.0; items = e.1.items } ∷ gs) (appended eq k x old new p es i (omega (arith, l)) same (λ j h. before (suc j) (omega (arith, h))) at))
 
 -- An item that is put after those of its key is added as in the model.
-pub added-behind : {K T A : Type 0} (eq : K → K → Bool) (es : List (K × Vec T A)) (k : K) (x : T) (i : ℕ) (old new : Vec T A) → position (eq k) (keys_of es) ≡ Some i → slice_get (values_of es) i ≡ Some old → new.items ≡ old.items ++ x ∷ [] →
+pub added-after : {K T A : Type 0} (eq : K → K → Bool) (es : List (K × Vec T A)) (k : K) (x : T) (i : ℕ) (old new : Vec T A) → position (eq k) (keys_of es) ≡ Some i → slice_get (values_of es) i ≡ Some old → new.items ≡ old.items ++ x ∷ [] →
     groups_of (set_value_at es i new) ≡ with_item eq (groups_of es) k x
-added-behind eq es k x i old new there at p =
+added-after eq es k x i old new there at p =
     let found = position-Some (eq k) (keys_of es) i k there in
-    behind eq k x old new p es i found.0 found.1 found.2 at
+    appended eq k x old new p es i found.0 found.1 found.2 at
 
 looked-up : {K T A : Type 0} (eq : K → K → Bool) (k : K) (x : T) (none new : Vec T A) → none.items ≡ [] → (es : List (K × Vec T A)) → new.items ≡ (unwrap_or (lookup (eq k) es) none).items ++ x ∷ [] →
     groups_of (insert_entry eq es k new) ≡ with_item eq (groups_of es) k x

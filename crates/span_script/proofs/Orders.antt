@@ -50,17 +50,17 @@ placed true b true y false = and_false b ∙ sym (and_false y) ∙ ap (λ e. y &
 placed true b true y true = ap (λ e. b && e) refl ∙ and_comm b y ∙ ap (λ e. y && e) (sym (and_true b))
 
 -- an attribute, after those before it
-behind_others : (a b y c : Bool) → ((a && b) && (y && (c && true))) ≡ ((a && y) && (b && c))
-behind_others false b y c = refl
-behind_others true b false c = and_false b
-behind_others true b true true = refl
-behind_others true b true false = refl
+after_others : (a b y c : Bool) → ((a && b) && (y && (c && true))) ≡ ((a && y) && (b && c))
+after_others false b y c = refl
+after_others true b false c = and_false b
+after_others true b true true = refl
+after_others true b true false = refl
 
 -- the same after another condition
-behind : (a b m x y z : Bool) → ((a && b) && x) ≡ ((a && y) && z) → ((a && b) && (m && x)) ≡ ((a && (m && y)) && z)
-behind a b true x y z e = e
-behind true b false x y z e = and_false b
-behind false b false x y z e = refl
+appended : (a b m x y z : Bool) → ((a && b) && x) ≡ ((a && y) && z) → ((a && b) && (m && x)) ≡ ((a && (m && y)) && z)
+appended a b true x y z e = e
+appended true b false x y z e = and_false b
+appended false b false x y z e = refl
 
 -- ---- one more line
 
@@ -166,15 +166,15 @@ is_last ls (sampler name) =
 is_last ls (limits x) =
     let l = limits x in
     rw (setting_last ls l refl, none_more sampler_in ls l refl, one_more limits_in ls l x refl, two_if_some (filter_map limits_in ls) x, none_more desk_in ls l refl, none_more max_body_in ls l refl, none_more scope_in ls l refl, same_before ls l refl)
-    (behind (settings_first ls) (no_items (filter_map step_in ls)) (at_most_one (filter_map sampler_in ls)) _ _ _ (once (settings_first ls) (no_items (filter_map step_in ls)) (filter_map limits_in ls) _))
+    (appended (settings_first ls) (no_items (filter_map step_in ls)) (at_most_one (filter_map sampler_in ls)) _ _ _ (once (settings_first ls) (no_items (filter_map step_in ls)) (filter_map limits_in ls) _))
 is_last ls (desk c) =
     let l = desk c in
     rw (setting_last ls l refl, none_more sampler_in ls l refl, none_more limits_in ls l refl, one_more desk_in ls l c refl, two_if_some (filter_map desk_in ls) c, none_more max_body_in ls l refl, none_more scope_in ls l refl, same_before ls l refl)
-    (behind (settings_first ls) (no_items (filter_map step_in ls)) (at_most_one (filter_map sampler_in ls)) _ _ _ (behind (settings_first ls) (no_items (filter_map step_in ls)) (at_most_one (filter_map limits_in ls)) _ _ _ (once (settings_first ls) (no_items (filter_map step_in ls)) (filter_map desk_in ls) _)))
+    (appended (settings_first ls) (no_items (filter_map step_in ls)) (at_most_one (filter_map sampler_in ls)) _ _ _ (appended (settings_first ls) (no_items (filter_map step_in ls)) (at_most_one (filter_map limits_in ls)) _ _ _ (once (settings_first ls) (no_items (filter_map step_in ls)) (filter_map desk_in ls) _)))
 is_last ls (max_body n) =
     let l = max_body n in
     rw (setting_last ls l refl, none_more sampler_in ls l refl, none_more limits_in ls l refl, none_more desk_in ls l refl, one_more max_body_in ls l n refl, two_if_some (filter_map max_body_in ls) n, none_more scope_in ls l refl, same_before ls l refl)
-    (behind (settings_first ls) (no_items (filter_map step_in ls)) (at_most_one (filter_map sampler_in ls)) _ _ _ (behind (settings_first ls) (no_items (filter_map step_in ls)) (at_most_one (filter_map limits_in ls)) _ _ _ (behind (settings_first ls) (no_items (filter_map step_in ls)) (at_most_one (filter_map desk_in ls)) _ _ _ (once (settings_first ls) (no_items (filter_map step_in ls)) (filter_map max_body_in ls) _))))
+    (appended (settings_first ls) (no_items (filter_map step_in ls)) (at_most_one (filter_map sampler_in ls)) _ _ _ (appended (settings_first ls) (no_items (filter_map step_in ls)) (at_most_one (filter_map limits_in ls)) _ _ _ (appended (settings_first ls) (no_items (filter_map step_in ls)) (at_most_one (filter_map desk_in ls)) _ _ _ (once (settings_first ls) (no_items (filter_map step_in ls)) (filter_map max_body_in ls) _))))
 is_last ls (resource p) =
     let l = resource p in
     rw (setting_last ls l refl, none_more sampler_in ls l refl, none_more limits_in ls l refl, none_more desk_in ls l refl, none_more max_body_in ls l refl, none_more scope_in ls l refl, same_before ls l refl)
@@ -182,11 +182,11 @@ is_last ls (resource p) =
 is_last ls (scope n x) =
     let l = scope n x in
     rw (setting_last ls l refl, none_more sampler_in ls l refl, none_more limits_in ls l refl, none_more desk_in ls l refl, none_more max_body_in ls l refl, one_more scope_in ls l (n, x) refl, number_last 0 (filter_map scope_in ls) n x, same_before ls l refl, scope_count ls)
-    (behind (settings_first ls) (no_items (filter_map step_in ls)) (at_most_one (filter_map sampler_in ls)) _ _ _ (behind (settings_first ls) (no_items (filter_map step_in ls)) (at_most_one (filter_map limits_in ls)) _ _ _ (behind (settings_first ls) (no_items (filter_map step_in ls)) (at_most_one (filter_map desk_in ls)) _ _ _ (behind (settings_first ls) (no_items (filter_map step_in ls)) (at_most_one (filter_map max_body_in ls)) _ _ _ (placed (settings_first ls) (no_items (filter_map step_in ls)) (numbered_from 0 (filter_map scope_in ls)) (on_scopes_before 0 ls) _)))))
+    (appended (settings_first ls) (no_items (filter_map step_in ls)) (at_most_one (filter_map sampler_in ls)) _ _ _ (appended (settings_first ls) (no_items (filter_map step_in ls)) (at_most_one (filter_map limits_in ls)) _ _ _ (appended (settings_first ls) (no_items (filter_map step_in ls)) (at_most_one (filter_map desk_in ls)) _ _ _ (appended (settings_first ls) (no_items (filter_map step_in ls)) (at_most_one (filter_map max_body_in ls)) _ _ _ (placed (settings_first ls) (no_items (filter_map step_in ls)) (numbered_from 0 (filter_map scope_in ls)) (on_scopes_before 0 ls) _)))))
 is_last ls (scope_attribute n p) =
     let l = scope_attribute n p in
     rw (setting_last ls l refl, none_more sampler_in ls l refl, none_more limits_in ls l refl, none_more desk_in ls l refl, none_more max_body_in ls l refl, none_more scope_in ls l refl, before_last 0 ls l, scope_count ls)
-    (behind (settings_first ls) (no_items (filter_map step_in ls)) (at_most_one (filter_map sampler_in ls)) _ _ _ (behind (settings_first ls) (no_items (filter_map step_in ls)) (at_most_one (filter_map limits_in ls)) _ _ _ (behind (settings_first ls) (no_items (filter_map step_in ls)) (at_most_one (filter_map desk_in ls)) _ _ _ (behind (settings_first ls) (no_items (filter_map step_in ls)) (at_most_one (filter_map max_body_in ls)) _ _ _ (behind (settings_first ls) (no_items (filter_map step_in ls)) (numbered_from 0 (filter_map scope_in ls)) _ _ _ (behind_others (settings_first ls) (no_items (filter_map step_in ls)) (on_scopes_before 0 ls) _))))))
+    (appended (settings_first ls) (no_items (filter_map step_in ls)) (at_most_one (filter_map sampler_in ls)) _ _ _ (appended (settings_first ls) (no_items (filter_map step_in ls)) (at_most_one (filter_map limits_in ls)) _ _ _ (appended (settings_first ls) (no_items (filter_map step_in ls)) (at_most_one (filter_map desk_in ls)) _ _ _ (appended (settings_first ls) (no_items (filter_map step_in ls)) (at_most_one (filter_map max_body_in ls)) _ _ _ (appended (settings_first ls) (no_items (filter_map step_in ls)) (numbered_from 0 (filter_map scope_in ls)) _ _ _ (after_others (settings_first ls) (no_items (filter_map step_in ls)) (on_scopes_before 0 ls) _))))))
 is_last ls (outcome o) =
     let l = outcome o in
     rw (others_last ls l refl, none_more sampler_in ls l refl, none_more limits_in ls l refl, none_more desk_in ls l refl, none_more max_body_in ls l refl, none_more scope_in ls l refl, same_before ls l refl)

@@ -8,7 +8,7 @@ use Rattle.text_words.specs.Words.{Gives, in_front}
 use Rattle.span_script.specs.Values.{pair_of, pairs_of}
 use Rattle.text_words.specs.declared.WordFault.{WordFault}
 use Rattle.text_words.specs.declared.WordFault.TheVariants.{Bad, OutOfMemory}
-use Rattle.text_words.proofs.Each.{words_at, behind, one_more}
+use Rattle.text_words.proofs.Each.{words_at, appended, one_more}
 
 -- the words begin with this pair
 at_pair : (words : List (Bor (List ℕ))) (d : Bor (List ℕ)) → 2 ≤ length words
@@ -21,30 +21,30 @@ at_pair (key ∷ value ∷ others) d some = refl
 -- After one more pair, the rest of the words gives the same list of pairs.
 pub goes_on : (front : List Attribute) (words : List (Bor (List ℕ))) (d : Bor (List ℕ)) (p : Attribute) (whole : Option (List Attribute))
     → 2 ≤ length words → pair_of (get_or words 0 d).now (get_or words 1 d).now ≡ Some p
-    → behind front (pairs_of (words_at words)) ≡ whole → behind (front ++ p ∷ []) (pairs_of (words_at (drop 2 words))) ≡ whole
+    → appended front (pairs_of (words_at words)) ≡ whole → appended (front ++ p ∷ []) (pairs_of (words_at (drop 2 words))) ≡ whole
 goes_on front words d p whole some found so_far =
     one_more front p (pairs_of (words_at (drop 2 words)))
-    ∙ ap (λ o. behind front (in_front o (pairs_of (words_at (drop 2 words))))) (sym found)
-    ∙ ap (behind front) (sym (at_pair words d some)) ∙ so_far
+    ∙ ap (λ o. appended front (in_front o (pairs_of (words_at (drop 2 words))))) (sym found)
+    ∙ ap (appended front) (sym (at_pair words d some)) ∙ so_far
 
 -- A bad pair, or memory that is refused for one, is the fault of the whole list.
 pub stops : (A : Type 0) (front : List Attribute) (words : List (Bor (List ℕ))) (d : Bor (List ℕ)) (fault : WordFault) (whole : Option (List Attribute))
     → 2 ≤ length words → Gives (attribute_view {A = A}) (Err fault) (pair_of (get_or words 0 d).now (get_or words 1 d).now)
-    → behind front (pairs_of (words_at words)) ≡ whole → Gives {X = Vec (String A × Value A) A} (λ pairs. attributes_view pairs.items) (Err fault) whole
+    → appended front (pairs_of (words_at words)) ≡ whole → Gives {X = Vec (String A × Value A) A} (λ pairs. attributes_view pairs.items) (Err fault) whole
 stops A front words d Bad whole some bad so_far =
-    sym so_far ∙ ap (behind front) (at_pair words d some ∙ ap (λ o. in_front o (pairs_of (words_at (drop 2 words)))) bad)
+    sym so_far ∙ ap (appended front) (at_pair words d some ∙ ap (λ o. in_front o (pairs_of (words_at (drop 2 words)))) bad)
 stops A front words d OutOfMemory whole some bad so_far = tt
 
 -- Once no word is left, the pairs so far are the whole list.
 pub is_done : (front : List Attribute) (words : List (Bor (List ℕ))) (whole : Option (List Attribute)) → length words ≡ 0
-    → behind front (pairs_of (words_at words)) ≡ whole → whole ≡ Some front
+    → appended front (pairs_of (words_at words)) ≡ whole → whole ≡ Some front
 unfolding pairs_of
 is_done front [] whole none so_far = sym so_far ∙ ap Some (append-nil front)
 is_done front (w ∷ others) whole none so_far = absurd (omega arith)
 
 -- A key without a value at the end makes the whole list bad.
 pub no_value : (front : List Attribute) (words : List (Bor (List ℕ))) (whole : Option (List Attribute)) → 0 < length words → length words < 2
-    → behind front (pairs_of (words_at words)) ≡ whole → whole ≡ None
+    → appended front (pairs_of (words_at words)) ≡ whole → whole ≡ None
 unfolding pairs_of
 no_value front [] whole some few so_far = absurd (omega arith)
 no_value front (key ∷ []) whole some few so_far = sym so_far

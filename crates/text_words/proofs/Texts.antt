@@ -7,7 +7,7 @@ use Rattle.std.proofs.lemmas.Str.{IsUtf8-string_bytes, IsUtf8-from_is_utf8, is_u
 use Rattle.std.specs.Result.{result_ok}
 use Rattle.hex.specs.Hex.{decode_sized, decode_pairs, hex_digit_value}
 use Rattle.text_words.specs.Words.{hex_byte, bytes_of, first_byte_of, in_front, utf8_of}
-use Rattle.text_words.proofs.Each.{behind, one_more}
+use Rattle.text_words.proofs.Each.{appended, one_more}
 
 pairs_of : (high low : ℕ) (h l : Option ℕ) → hex_digit_value high ≡ h → hex_digit_value low ≡ l
     → result_ok (decode_pairs 0 (high ∷ low ∷ [])) ≡ option_map (λ b. b ∷ []) (hex_byte high low)
@@ -49,18 +49,18 @@ begins c (d ∷ e ∷ rest) = elim (cases_Bool (eqb c 37)) [ inl h ↦ rw h (esc
 
 -- After one more byte, the rest of the word spells the rest of the same text.
 pub goes_on : (front w rest : List ℕ) (b : ℕ) (whole : Option (List ℕ))
-    → first_byte_of w ≡ Some (b, rest) → behind front (bytes_of w) ≡ whole → behind (front ++ b ∷ []) (bytes_of rest) ≡ whole
+    → first_byte_of w ≡ Some (b, rest) → appended front (bytes_of w) ≡ whole → appended (front ++ b ∷ []) (bytes_of rest) ≡ whole
 goes_on front [] rest b whole first so_far = cc
 goes_on front (c ∷ cs) rest b whole first so_far =
-    one_more front b (bytes_of rest) ∙ ap (λ o. behind front (option_and_then first_and_rest o)) (sym first) ∙ ap (behind front) (sym (begins c cs)) ∙ so_far
+    one_more front b (bytes_of rest) ∙ ap (λ o. appended front (option_and_then first_and_rest o)) (sym first) ∙ ap (appended front) (sym (begins c cs)) ∙ so_far
 
 -- A word that spells no byte at some place spells nothing.
-pub stops : (front w : List ℕ) (whole : Option (List ℕ)) → 0 < length w → first_byte_of w ≡ None → behind front (bytes_of w) ≡ whole → whole ≡ None
+pub stops : (front w : List ℕ) (whole : Option (List ℕ)) → 0 < length w → first_byte_of w ≡ None → appended front (bytes_of w) ≡ whole → whole ≡ None
 stops front [] whole some first so_far = absurd (omega arith)
-stops front (c ∷ cs) whole some first so_far = sym so_far ∙ ap (behind front) (begins c cs ∙ ap (option_and_then first_and_rest) first)
+stops front (c ∷ cs) whole some first so_far = sym so_far ∙ ap (appended front) (begins c cs ∙ ap (option_and_then first_and_rest) first)
 
 -- Once no byte of the word is left, the bytes so far are what the word spells.
-pub is_done : (front w : List ℕ) (whole : Option (List ℕ)) → length w ≡ 0 → behind front (bytes_of w) ≡ whole → whole ≡ Some front
+pub is_done : (front w : List ℕ) (whole : Option (List ℕ)) → length w ≡ 0 → appended front (bytes_of w) ≡ whole → whole ≡ Some front
 unfolding bytes_of
 is_done front [] whole empty so_far = sym so_far ∙ ap Some (append-nil front)
 is_done front (c ∷ cs) whole empty so_far = absurd (omega arith)

@@ -34,11 +34,11 @@ no-trace parent s t e spent =
     (rw (← e) refl, record { stream = spent.stream ∙ ap (λ k. after_words k s) (sym all); words = spent.words ∙ ap (λ k. words_after k (words_of s)) (sym all) })
 
 -- A span identifier that is drawn after a trace identifier completes the identifiers of the start.
-pub behind-trace : (parent : Option Context) (trace : List ℕ) (id : Option (List ℕ)) (s t u : Stream) → Some trace ≡ trace_of parent (words_of s) → Spends (trace_words parent) s t →
+pub after-trace : (parent : Option Context) (trace : List ℕ) (id : Option (List ℕ)) (s t u : Stream) → Some trace ≡ trace_of parent (words_of s) → Spends (trace_words parent) s t →
     id ≡ span_id (words_of t) → Spends (words_spent 1) t u →
     (option_map (λ i. record { trace = trace; span = i }) id ≡ ids_of parent (words_of s)) × Spends (ids_words parent) s u
 unfolding ids_of ids_words
-behind-trace parent trace id s t u e spent f more =
+after-trace parent trace id s t u e spent f more =
     let n = trace_words parent (words_of s) in
     let m = words_spent 1 (words_of t) in
     let all : ids_words parent (words_of s) ≡ n + m = rw (← e, spent.words) refl in (

@@ -8,7 +8,7 @@ use Rattle.model_desk.proofs.Lists.{count-more}
 use Rattle.model_run.specs.Runs.{Answered}
 use Rattle.model_run.specs.Headline.{attempts, attempt_by}
 use Rattle.trace_run.specs.Lines.{is_start, starts}
-use Rattle.trace_run.specs.Places.{IsBehind}
+use Rattle.trace_run.specs.Places.{IsAfter}
 use Rattle.trace_run.specs.declared.text.place.Place.{Place}
 use mir.Val.{bool_byte}
 
@@ -27,11 +27,11 @@ sent-more before x =
     ap length (filter_map-append attempted before (x ∷ [])) ∙ length-some (attempt_by x.answer) (attempts before)
 
 -- A place after some steps becomes the place after one more, once it counts this step.
-pub behind-more : (before : List Answered) (x : Answered) (old new : Place) → IsBehind before old
+pub after-more : (before : List Answered) (x : Answered) (old new : Place) → IsAfter before old
     → new.starts ≡ old.starts + cond (is_start x.step) 1 0
     → new.sent ≡ old.sent + cond (is_some (attempt_by x.answer)) 1 0
-    → IsBehind (before ++ x ∷ []) new
-behind-more before x old new is starts-is sent-is = record {
+    → IsAfter (before ++ x ∷ []) new
+after-more before x old new is starts-is sent-is = record {
   starts = starts-is ∙ ap (λ n. n + cond (is_start x.step) 1 0) is.starts ∙ sym (count-more (λ (y : Answered). is_start y.step) before x);
   sent = sent-is ∙ ap (λ n. n + cond (is_some (attempt_by x.answer)) 1 0) is.sent ∙ sym (sent-more before x);
 }

@@ -111,15 +111,15 @@ of-law holds law run steps first answers all w = subst (λ xs. holds run (histor
 -- ---- the first steps of a list
 
 -- The history of the answered first steps has as many entries as there are answers.
-pub behind-length : {A : Type 0} (steps : List (CodeStep A)) (answers : List CodeAnswer) (i : ℕ) → length answers ≡ i → i < length steps → length (history_view (take i steps) answers) ≡ i
-behind-length steps answers i e l =
+pub after-length : {A : Type 0} (steps : List (CodeStep A)) (answers : List CodeAnswer) (i : ℕ) → length answers ≡ i → i < length steps → length (history_view (take i steps) answers) ≡ i
+after-length steps answers i e l =
     let m : length (take i steps) ≡ i = length-take-le i steps (omega (arith, l)) in
     view-length (take i steps) answers (e ∙ sym m) ∙ m
 
 -- The history of the first steps grows by the next step and its answer.
-pub behind-push : {A : Type 0} (steps : List (CodeStep A)) (answers : List CodeAnswer) (i : ℕ) (step : CodeStep A) (answer : CodeAnswer) → length answers ≡ i → i < length steps → step ≡ get_or steps i step
+pub after-push : {A : Type 0} (steps : List (CodeStep A)) (answers : List CodeAnswer) (i : ℕ) (step : CodeStep A) (answer : CodeAnswer) → length answers ≡ i → i < length steps → step ≡ get_or steps i step
     → history_view (take (i + 1) steps) (answers ++ answer ∷ []) ≡ history_view (take i steps) answers ++ record { step = step_view step; answer = answer_view answer } ∷ []
-behind-push steps answers i step answer e l s =
+after-push steps answers i step answer e l s =
     let m : length (take i steps) ≡ i = length-take-le i steps (omega (arith, l)) in
     let next : take (i + 1) steps ≡ take i steps ++ step ∷ [] = ap (λ k. take k steps) (let one : i + 1 ≡ suc i = omega arith in one) ∙ take-suc steps i step l ∙ ap (λ y. take i steps ++ y ∷ []) (sym s) in
     ap (λ xs. history_view xs (answers ++ answer ∷ [])) next ∙ view-push (take i steps) answers step answer (e ∙ sym m)

@@ -12,7 +12,7 @@ use Rattle.model_span.specs.Sampling.{SamplerMeaning, is_recording}
 use Rattle.model_span.specs.Spans.{Call, Context, Scope, Kind, span}
 use Rattle.model_span.specs.Starts.{Tracer, Provider, HeldSpan, StartedSpan, held_span, start_request, started_span, ids_words}
 use Rattle.model_run.specs.Steps.{Parent, root, numbered, given}
-use Rattle.model_run.specs.History.{SpanStep, Setup, StartResult, start, call, no_span as nothing_started, start_result, start_result_in, start_results_behind, start_results, start_count, parent_among, unless_refused, words_left, calls_on, call_on, context_of_result}
+use Rattle.model_run.specs.History.{SpanStep, Setup, StartResult, start, call, no_span as nothing_started, start_result, start_result_in, start_results_after, start_results, start_count, parent_among, unless_refused, words_left, calls_on, call_on, context_of_result}
 use Rattle.model_run.proofs.Histories.{starts-append, outcomes-call, outcomes-start, outcomes-many, calls-more, calls-past, calls-first, get-first}
 use Rattle.model_run.specs.Runs.{is_refused}
 use Rattle.model_run.specs.Answers.{start_answer, takes_memory}
@@ -320,7 +320,7 @@ comes-span {span = span} trace id h t i =
 -- A table without spans, with the words of the setup, is the table of no steps.
 pub begun : {S R : Type 0} (meaning : S → SamplerMeaning) (stream : R → Stream) (setup : Setup) (t : TableWith S R) → map (tracer_view meaning) t.tracers ≡ model_tracers setup.provider setup.scopes →
     words_of (stream t.rng) ≡ setup.words → t.spans ≡ [] → IsTable meaning stream setup [] t
-unfolding start_results_behind
+unfolding start_results_after
 begun meaning stream setup t tracers w s = record {
   tracers = tracers;
   words = w ∙ none-spent setup.words;

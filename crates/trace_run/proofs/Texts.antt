@@ -6,8 +6,8 @@ use Rattle.trace_history.specs.declared.answer.Answer.{Answer}
 use Rattle.trace_history.specs.declared.step.Step.{Step}
 use Rattle.model_run.specs.Runs.{Answered}
 use Rattle.span_exporter.specs.Handed.{Handed}
-use Rattle.trace_run.specs.Lines.{line_of, lines_behind, answers_text}
-use Rattle.trace_run.specs.Places.{IsBehind}
+use Rattle.trace_run.specs.Lines.{line_of, lines_after, answers_text}
+use Rattle.trace_run.specs.Places.{IsAfter}
 use Rattle.trace_run.proofs.Places.{starts-few, sent-few}
 use Rattle.trace_run.specs.declared.text.place.Place.{Place}
 
@@ -15,36 +15,36 @@ use Rattle.trace_run.specs.declared.text.place.Place.{Place}
 pub record Written {A : Type 0} (handed : List Handed) (steps : List (Step A)) (answers : List Answer) (old new : List ℕ) (place : Place)
     (later : List (Step A)) (rest : List Answer) : Type 0 where
   pub before : List Answered
-  pub behind : IsBehind before place
+  pub appended : IsAfter before place
   pub count : length before + length later ≡ length steps
-  pub text : new ++ lines_behind handed before (history_view later rest) ≡ old ++ answers_text handed (history_view steps answers)
+  pub text : new ++ lines_after handed before (history_view later rest) ≡ old ++ answers_text handed (history_view steps answers)
 
 module _ {A : Type 0} (handed : List Handed) (steps : List (Step A)) (answers : List Answer) (old : List ℕ) where
   -- Before the first line, no step has a line, and all are left to write.
-  pub written-first : (place : Place) (later : List (Step A)) (rest : List Answer) → IsBehind [] place → later ≡ steps → rest ≡ answers
+  pub written-first : (place : Place) (later : List (Step A)) (rest : List Answer) → IsAfter [] place → later ≡ steps → rest ≡ answers
       → Written handed steps answers old old place later rest
   written-first place later rest is all-steps all-answers = record {
     before = [];
-    behind = is;
+    appended = is;
     count = omega (arith, ap length all-steps);
-    text = λ i. old ++ lines_behind handed [] (history_view (all-steps i) (all-answers i));
+    text = λ i. old ++ lines_after handed [] (history_view (all-steps i) (all-answers i));
   }
 
   -- One more line moves the next step to those that have a line.
   pub written-more : (text next : List ℕ) (place after : Place) (step : Step A) (answer : Answer) (later : List (Step A)) (rest : List Answer)
       → (w : Written handed steps answers old text place (step ∷ later) (answer ∷ rest))
-      → ((before : List Answered) → IsBehind before place → next ≡ text ++ line_of handed before (record { step = step_view step; answer = answer_view answer }))
-      → ((before : List Answered) → IsBehind before place → IsBehind (before ++ record { step = step_view step; answer = answer_view answer } ∷ []) after)
+      → ((before : List Answered) → IsAfter before place → next ≡ text ++ line_of handed before (record { step = step_view step; answer = answer_view answer }))
+      → ((before : List Answered) → IsAfter before place → IsAfter (before ++ record { step = step_view step; answer = answer_view answer } ∷ []) after)
       → Written handed steps answers old next after later rest
-  unfolding lines_behind
+  unfolding lines_after
   written-more text next place after step answer later rest w line moves =
       let x : Answered = record { step = step_view step; answer = answer_view answer } in
       record {
         before = w.before ++ x ∷ [];
-        behind = moves w.before w.behind;
+        appended = moves w.before w.appended;
         count = omega (arith, length-append w.before (x ∷ []), w.count);
         text =
-            ap (λ l. l ++ lines_behind handed (w.before ++ x ∷ []) (history_view later rest)) (line w.before w.behind)
+            ap (λ l. l ++ lines_after handed (w.before ++ x ∷ []) (history_view later rest)) (line w.before w.appended)
             ∙ append_assoc text (line_of handed w.before x) _
             ∙ w.text;
       }
@@ -53,12 +53,12 @@ module _ {A : Type 0} (handed : List Handed) (steps : List (Step A)) (answers : 
   pub room-left : (text : List ℕ) (place : Place) (step : Step A) (left later : List (Step A)) (rest : List Answer) → Written handed steps answers old text place left rest
       → left ≡ step ∷ later → length steps < 2 ^ 64 → (place.starts < 2 ^ 64 - 1) × (place.sent < 2 ^ 64 - 1)
   room-left text place step left later rest w more few = (
-    omega (arith, w.behind.starts, starts-few w.before, w.count, ap length more),
-    omega (arith, w.behind.sent, sent-few w.before, w.count, ap length more),
+    omega (arith, w.appended.starts, starts-few w.before, w.count, ap length more),
+    omega (arith, w.appended.sent, sent-few w.before, w.count, ap length more),
   )
 
-  nothing-left : (text : List ℕ) (before : List Answered) → text ≡ text ++ lines_behind handed before []
-  unfolding lines_behind
+  nothing-left : (text : List ℕ) (before : List Answered) → text ≡ text ++ lines_after handed before []
+  unfolding lines_after
   nothing-left text before = sym (append-nil text)
 
   -- The text has all lines once no step or no answer is left.

@@ -125,14 +125,14 @@ abbrev pub line_of : List Handed → List Answered → Answered → List ℕ
 line_of handed before x = line (words_of handed before x.step x.answer)
 
 -- the lines of steps after others
-unfoldable pub lines_behind : List Handed → List Answered → List Answered → List ℕ
-lines_behind handed before [] = []
-lines_behind handed before (x ∷ history) =
-    line_of handed before x ++ lines_behind handed (before ++ x ∷ []) history
+unfoldable pub lines_after : List Handed → List Answered → List Answered → List ℕ
+lines_after handed before [] = []
+lines_after handed before (x ∷ history) =
+    line_of handed before x ++ lines_after handed (before ++ x ∷ []) history
 
 -- the lines of a run, where the exporter was handed these
 abbrev pub answers_text : List Handed → List Answered → List ℕ
-answers_text handed history = lines_behind handed [] history
+answers_text handed history = lines_after handed [] history
 
 -- ---- the report
 

@@ -6,6 +6,6 @@ use Rattle.trace_run.specs.Lines.{starts}
 use Rattle.trace_run.specs.declared.text.place.Place.{Place}
 
 -- the next step comes after these
-pub record IsBehind (before : List Answered) (place : Place) : Type 0 where
+pub record IsAfter (before : List Answered) (place : Place) : Type 0 where
   pub starts : place.starts ≡ starts before
   pub sent : place.sent ≡ length (attempts before)

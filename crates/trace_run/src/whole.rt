@@ -6,8 +6,8 @@ ghost use Rattle.model_run.specs.Answers.{AreAnswers, desk_after};
 ghost use Rattle.model_run.specs.Headline.{pending_after};
 ghost use Rattle.trace_history.specs.Answers.{history_view};
 ghost use Rattle.trace_run.specs.Out.{shown};
-ghost use Rattle.law_run.specs.Laws.{LateBehindShutdown, DroppedWhereFull, QueuedWhereRoom};
-ghost use Rattle.law_run.specs.Laws.{TakenWhereDue, TakesTheFirst, TakenBehindShutdown};
+ghost use Rattle.law_run.specs.Laws.{LateAfterShutdown, DroppedWhereFull, QueuedWhereRoom};
+ghost use Rattle.law_run.specs.Laws.{TakenWhereDue, TakesTheFirst, TakenAfterShutdown};
 ghost use Rattle.law_run.specs.Laws.{OneBatchIsOut, EncodedWhereItFits, DroppedUnencoded};
 ghost use Rattle.law_run.specs.Laws.{DroppedBatchIsNamed, AttemptsAreNumbered, AttemptsAreFew};
 ghost use Rattle.law_run.specs.Laws.{AttemptsAreFiveAtMost, NoAttemptIsEarly, RepliesAreDecided};
@@ -66,7 +66,7 @@ pub fn run<S: Sampler + Drop, R: Rng + Drop, E: Exporter, A: Allocator + Copy>(
     // The first end of a sampled span: after a shutdown it is late; else the span is dropped where
     // the queue is full, and waits where it isn't.
     ensures late { IfOk result
-        (OfRun S.meaning R.stream config steps.now LateBehindShutdown) }
+        (OfRun S.meaning R.stream config steps.now LateAfterShutdown) }
     ensures full { IfOk result
         (OfRun S.meaning R.stream config steps.now DroppedWhereFull) }
     ensures queued { IfOk result
@@ -76,7 +76,7 @@ pub fn run<S: Sampler + Drop, R: Rng + Drop, E: Exporter, A: Allocator + Copy>(
     ensures due { IfOk result (OfRun S.meaning R.stream config steps.now TakenWhereDue) }
     ensures first { IfOk result (OfRun S.meaning R.stream config steps.now TakesTheFirst) }
     ensures shutdown { IfOk result
-        (OfRun S.meaning R.stream config steps.now TakenBehindShutdown) }
+        (OfRun S.meaning R.stream config steps.now TakenAfterShutdown) }
     ensures one_out { IfOk result
         (OfRun S.meaning R.stream config steps.now (λ run. OneBatchIsOut)) }
 

@@ -43,15 +43,15 @@ drop-next zero ws = refl
 drop-next (suc n) [] = rw drop-nil refl
 drop-next (suc n) (w ∷ ws) = drop-next n ws
 
-words-behind : (ws : List ℕ) (n : ℕ) → after_words n (stream ws) ≡ stream (drop n ws)
+words-after : (ws : List ℕ) (n : ℕ) → after_words n (stream ws) ≡ stream (drop n ws)
 unfolding after_words next_u64 stream_of
-words-behind ws zero = refl
-words-behind ws (suc n) = ap (λ t. (next_u64 t).1) (words-behind ws n) ∙ ap (λ p. p.1) (next_u64-stream_of (steps_u64_high next) (drop n ws)) ∙ ap stream (drop-next n ws)
+words-after ws zero = refl
+words-after ws (suc n) = ap (λ t. (next_u64 t).1) (words-after ws n) ∙ ap (λ p. p.1) (next_u64-stream_of (steps_u64_high next) (drop n ws)) ∙ ap stream (drop-next n ws)
 
 -- The words of a generator's stream are those of the script, and then zeros.
 pub words-are : (ws : List ℕ) → words_of (stream ws) ≡ words_of_list ws
 unfolding words_of next_u64 stream_of
-words-are ws = fun_ext (λ n. ap (λ t. (next_u64 t).0) (words-behind ws n) ∙ get_or-drop n ws 0 0 ∙ ap (λ i. get_or ws i 0) (add-zero n))
+words-are ws = fun_ext (λ n. ap (λ t. (next_u64 t).0) (words-after ws n) ∙ get_or-drop n ws 0 0 ∙ ap (λ i. get_or ws i 0) (add-zero n))
 
 -- ---- ends
 

@@ -284,7 +284,7 @@ module _ (tree : List (Option ℕ)) (places : List Place) (order : List ℕ) (ro
   moved : IsPermutation order ((indices rows ++ x.index ∷ []) ++ ((children ++ indices pile) ++ later))
   unfolding waiting children
   moved =
-      let behind : IsPermutation (indices pile ++ waiting) ((children_of tree order x.index ++ indices pile) ++ later) =
+      let appended : IsPermutation (indices pile ++ waiting) ((children_of tree order x.index ++ indices pile) ++ later) =
       IsPermutation-trans (indices pile ++ waiting) (indices pile ++ (children_of tree order x.index ++ later)) ((children_of tree order x.index ++ indices pile) ++ later)
       (IsPermutation-append_right (indices pile) waiting (children_of tree order x.index ++ later) waiting_split)
       (subst (λ l. IsPermutation l ((children_of tree order x.index ++ indices pile) ++ later)) (append_assoc (indices pile) (children_of tree order x.index) later)
@@ -294,7 +294,7 @@ module _ (tree : List (Option ℕ)) (places : List Place) (order : List ℕ) (ro
       (IsPermutation-trans order (indices rows ++ (x.index ∷ (indices pile ++ waiting))) (indices rows ++ (x.index ∷ ((children_of tree order x.index ++ indices pile) ++ later)))
       w.each_once
       (IsPermutation-append_right (indices rows) (x.index ∷ (indices pile ++ waiting)) (x.index ∷ ((children_of tree order x.index ++ indices pile) ++ later))
-      (IsPermutation-cons x.index (indices pile ++ waiting) ((children_of tree order x.index ++ indices pile) ++ later) behind)))
+      (IsPermutation-cons x.index (indices pile ++ waiting) ((children_of tree order x.index ++ indices pile) ++ later) appended)))
 
   indices_more : indices (rows ++ x ∷ []) ≡ indices rows ++ x.index ∷ []
   indices_more = map-append (λ (r : Row). r.index) rows (x ∷ [])

@@ -8,12 +8,12 @@ use Rattle.std.proofs.lemmas.List.{map-append}
 use Rattle.json.specs.Token.{Token}
 use Rattle.view_json.specs.Seen.{Seen, seen, seen_of}
 
-pub behind : {X : Type 0} (s0 s1 s2 a b : List X) → s1 ≡ s0 ++ a → s2 ≡ s1 ++ b → s2 ≡ s0 ++ (a ++ b)
-behind s0 s1 s2 a b first then = then ∙ ap (λ l. l ++ b) first ∙ append_assoc s0 a b
+pub appended : {X : Type 0} (s0 s1 s2 a b : List X) → s1 ≡ s0 ++ a → s2 ≡ s1 ++ b → s2 ≡ s0 ++ (a ++ b)
+appended s0 s1 s2 a b first then = then ∙ ap (λ l. l ++ b) first ∙ append_assoc s0 a b
 
 -- the same where the last one may fail
 pub last : {X T E : Type 0} (r : Result T E) (s0 s1 s2 a b : List X) → s1 ≡ s0 ++ a → OnOk r (s2 ≡ s1 ++ b) → OnOk r (s2 ≡ s0 ++ (a ++ b))
-last (Ok x) s0 s1 s2 a b first then = behind s0 s1 s2 a b first then
+last (Ok x) s0 s1 s2 a b first then = appended s0 s1 s2 a b first then
 last (Err e) s0 s1 s2 a b first then = tt
 
 -- what is written, under another name of its value
@@ -48,5 +48,5 @@ pub list_written : {X T E : Type 0} (r : Result T E) (f : X → List Seen) (xs :
     → s2 ++ flat_map f (drop i xs) ≡ s1 ++ flat_map f xs → length xs ≤ i → OnOk r (s3 ≡ s2 ++ back) → OnOk r (s3 ≡ s0 ++ (front ++ (flat_map f xs ++ back)))
 list_written (Ok x) f xs i s0 s1 s2 s3 front back begun h ends done =
     let all : s2 ≡ s1 ++ flat_map f xs = sym (append-nil s2) ∙ ap (λ l. s2 ++ flat_map f l) (sym (none_left xs i ends)) ∙ h in
-    behind s0 s1 s3 front (flat_map f xs ++ back) begun (behind s1 s2 s3 (flat_map f xs) back all done)
+    appended s0 s1 s3 front (flat_map f xs ++ back) begun (appended s1 s2 s3 (flat_map f xs) back all done)
 list_written (Err e) f xs i s0 s1 s2 s3 front back begun h ends done = tt

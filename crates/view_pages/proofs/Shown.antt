@@ -95,10 +95,10 @@ unfolding html_bytes
 value_shorter p = omega (arith, length-append (html_bytes (TextPart (string_bytes p.0))) (codes "<dd>" ++ html_bytes (any_html p.1)))
 
 -- a key, and then its value
-pub pair_behind : {A : Type 0} (p : String A × AnyValue A) (key old mid new : List ℕ) → key ≡ string_bytes p.0
+pub pair_after : {A : Type 0} (p : String A × AnyValue A) (key old mid new : List ℕ) → key ≡ string_bytes p.0
     → mid ≡ old ++ html_bytes (Markup (codes "<dt>") ▹ TextPart key ▹ Markup (codes "<dd>")) → new ≡ mid ++ html_bytes (any_html p.1) → new ≡ old ++ html_bytes (pair_html p)
 unfolding html_bytes
-pair_behind p key old mid new is to-mid to-new =
+pair_after p key old mid new is to-mid to-new =
     to-new ∙ ap (λ l. l ++ html_bytes (any_html p.1)) to-mid
     ∙ append_assoc old (codes "<dt>" ++ (html_bytes (TextPart key) ++ codes "<dd>")) (html_bytes (any_html p.1))
     ∙ ap (λ l. old ++ (codes "<dt>" ++ l)) (append_assoc (html_bytes (TextPart key)) (codes "<dd>") (html_bytes (any_html p.1)) ∙ ap (λ k. html_bytes (TextPart k) ++ (codes "<dd>" ++ html_bytes (any_html p.1))) is)

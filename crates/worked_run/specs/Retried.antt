@@ -11,7 +11,7 @@ use Rattle.model_run.specs.Runs.{Answer, taken, encoded, sent, replied, Answered
 use Rattle.model_run.specs.Headline.{PendingBatch, pending_after}
 use Rattle.model_run.specs.Answers.{desk_after}
 use Rattle.worked_run.specs.Worked.{queue_of, first, child, ends, started, queued, told}
-use Rattle.worked_run.specs.Worked.{history_behind}
+use Rattle.worked_run.specs.Worked.{history_after}
 
 -- the collector is busy, and asks for two seconds
 abbrev pub busy : Outcome
@@ -35,22 +35,22 @@ retried =
 
 -- what its steps are answered
 unfoldable pub retried_history : List Answered
-unfolding history_behind
-retried_history = history_behind (queue_of 4) [] [] (busy ∷ []) (map (λ x. x.step) retried)
+unfolding history_after
+retried_history = history_after (queue_of 4) [] [] (busy ∷ []) (map (λ x. x.step) retried)
 
 -- what the queue shows while the batch waits
 unfoldable pub waiting_desk : Desk
-unfolding history_behind
+unfolding history_after
 waiting_desk = desk_after (queue_of 4) waiting
 
 -- the batch that is out meanwhile
 unfoldable pub waiting_out : Option PendingBatch
-unfolding history_behind
+unfolding history_after
 waiting_out = pending_after (queue_of 4).setup waiting
 
 -- what is done at the queue in all
 unfoldable pub retried_events : List DeskEvent
-unfolding history_behind
+unfolding history_after
 retried_events = desk_events (queue_of 4).setup retried
 
 -- the spans that were handed to the exporter

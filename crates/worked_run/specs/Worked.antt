@@ -22,7 +22,7 @@ use Rattle.model_desk.specs.Desks.{DeskConfig, Desk, desk_of}
 use Rattle.law_desk.specs.Queues.{places}
 use Rattle.model_retry.specs.Waits.{RetryConfig}
 use Rattle.model_run.specs.Steps.{Parent, root, Step}
-use Rattle.model_run.specs.History.{Setup, start_results_behind}
+use Rattle.model_run.specs.History.{Setup, start_results_after}
 use Rattle.model_run.specs.Runs.{Answer, sent, Answered, ended_by, desk_events}
 use Rattle.model_run.specs.Runs as runs
 use Rattle.model_run.specs.Headline.{Attempt, PendingBatch, pending_after}
@@ -157,23 +157,23 @@ is_sent _ = false
 
 -- The history of steps after others. Memory is refused at these places, from 0 on, and the
 -- exporter has these outcomes, and then delivers.
-unfoldable pub history_behind : RunConfig → List ℕ → List Answered → List Outcome → List Step
+unfoldable pub history_after : RunConfig → List ℕ → List Answered → List Outcome → List Step
     → List Answered
-unfolding desk_after desk_of desk_events ended_by progress last_attempt start_results_behind
+unfolding desk_after desk_of desk_events ended_by progress last_attempt start_results_after
     started_span ids_of ids_words first_valid span chars encode groups body_length canon
     septets_of
-history_behind run scarce before outcomes [] = before
-history_behind run scarce before outcomes (step ∷ later) =
+history_after run scarce before outcomes [] = before
+history_after run scarce before outcomes (step ∷ later) =
     let refused = list_any (λ place. place == length before) scarce in
     let outcome = first_or Outcome.delivered outcomes in
     let answer = answer_to run before (record { refused = refused; outcome = outcome }) step in
-    history_behind run scarce (before ++ record { step = step; answer = answer } ∷ [])
+    history_after run scarce (before ++ record { step = step; answer = answer } ∷ [])
     (if is_sent answer then drop 1 outcomes else outcomes) later
 
 -- where memory is ample and each batch is delivered
 unfoldable pub history : RunConfig → List Step → List Answered
-unfolding history_behind
-history run done = history_behind run [] [] [] done
+unfolding history_after
+history run done = history_after run [] [] [] done
 
 abbrev pub answers_of : List Answered → List Answer
 answers_of all = map (λ x. x.answer) all
@@ -185,29 +185,29 @@ answers_from n run done = drop n (answers_of (history run done))
 
 -- the same, where memory is refused at these places
 unfoldable pub answers_without : List ℕ → ℕ → RunConfig → List Step → List Answer
-unfolding history_behind
-answers_without scarce n run done = drop n (answers_of (history_behind run scarce [] [] done))
+unfolding history_after
+answers_without scarce n run done = drop n (answers_of (history_after run scarce [] [] done))
 
 -- the same, where the exporter has these outcomes first
 unfoldable pub answers_by : List Outcome → ℕ → RunConfig → List Step → List Answer
-unfolding history_behind
-answers_by outcomes n run done = drop n (answers_of (history_behind run [] [] outcomes done))
+unfolding history_after
+answers_by outcomes n run done = drop n (answers_of (history_after run [] [] outcomes done))
 
 -- the names of the spans that are dropped, the newest first, where memory is refused at these
 -- places
 unfoldable pub named_by : List ℕ → RunConfig → List Step → List Entry
-unfolding history_behind
-named_by scarce run done = (desk_after run (history_behind run scarce [] [] done)).ledger
+unfolding history_after
+named_by scarce run done = (desk_after run (history_after run scarce [] [] done)).ledger
 
 -- the names of the spans that are lost, the newest first, with these outcomes
 unfoldable pub lost_by : List Outcome → RunConfig → List Step → List Entry
-unfolding history_behind
-lost_by outcomes run done = (desk_after run (history_behind run [] [] outcomes done)).lost
+unfolding history_after
+lost_by outcomes run done = (desk_after run (history_after run [] [] outcomes done)).lost
 
 -- the spans that a run ends, where memory is refused at these places
 unfoldable pub ended_without : List ℕ → RunConfig → List Step → List SpanData
-unfolding history_behind
-ended_without scarce run done = ended_by run.setup (history_behind run scarce [] [] done)
+unfolding history_after
+ended_without scarce run done = ended_by run.setup (history_after run scarce [] [] done)
 
 -- ---- answers
 
@@ -306,7 +306,7 @@ worked_steps = map (λ x. x.step) worked
 
 -- what it makes of its spans
 unfoldable pub worked_spans : List SpanData
-unfolding ended_by start_results_behind started_span ids_of ids_words first_valid span chars encode
+unfolding ended_by start_results_after started_span ids_of ids_words first_valid span chars encode
 worked_spans = ended_by (queue_of 2).setup worked
 
 -- what it does at the queue

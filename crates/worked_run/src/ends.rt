@@ -21,7 +21,7 @@ pub fn tickets()
     ensures other_order { answers_from 2 (queue_of 4) (family 1 ++ ends 1 ∷ ends 0 ∷ []) ≡
         queued 0 ∷ queued 1 ∷ [] }
     // A ticket that found the queue full is spent.
-    ensures behind_a_full_one { answers_from 4 (queue_of 2)
+    ensures after_a_full_one { answers_from 4 (queue_of 2)
         (family 3 ++ ends 0 ∷ ends 1 ∷ ends 2 ∷ Step.take 0 ∷ ends 3 ∷ []) ≡
         queued 0 ∷ queued 1 ∷ full 2 ∷ Answer.taken 1 2 ∷ queued 3 ∷ [] }
     ensures second_end { answers_from 1 (queue_of 4) (first ∷ ends 0 ∷ ends 0 ∷ []) ≡
@@ -38,7 +38,7 @@ pub fn unsampled()
         (first ∷ ends 0 ∷ ends 0 ∷ []) ≡ not_sampled ∷ already_ended ∷ [] }
     ensures only_recorded { answers_from 1 (run_with (λ _. record_only) (1 ∷ 2 ∷ 3 ∷ []))
         (first ∷ ends 0 ∷ ends 0 ∷ []) ≡ not_sampled ∷ already_ended ∷ [] }
-    ensures behind_the_shutdown { answers_from 2 (run_with always_off (1 ∷ 2 ∷ 3 ∷ []))
+    ensures after_the_shutdown { answers_from 2 (run_with always_off (1 ∷ 2 ∷ 3 ∷ []))
         (first ∷ Step.shutdown ∷ ends 0 ∷ ends 0 ∷ []) ≡ not_sampled ∷ already_ended ∷ [] }
     // A root that is dropped, and the child of a sampled parent of elsewhere.
     ensures one_of_two { answers_from 2 (run_with (as_parent always_off) (1 ∷ 2 ∷ 3 ∷ 4 ∷ []))
@@ -55,7 +55,7 @@ pub fn shutdown()
     ensures late_and_full { answers_from 3 (queue_of 2)
         (family 2 ++ ends 0 ∷ ends 1 ∷ Step.shutdown ∷ ends 2 ∷ []) ≡
         queued 0 ∷ queued 1 ∷ Answer.shutdown ∷ late ∷ [] }
-    ensures started_behind { answers_from 0 (queue_of 4) (Step.shutdown ∷ first ∷ ends 0 ∷ []) ≡
+    ensures started_later { answers_from 0 (queue_of 4) (Step.shutdown ∷ first ∷ ends 0 ∷ []) ≡
         Answer.shutdown ∷ started 3 ∷ late ∷ [] }
     // A flush closes nothing.
     ensures flush { answers_from 1 (queue_of 4) (first ∷ Step.flush ∷ ends 0 ∷ []) ≡
@@ -78,10 +78,10 @@ pub fn calls()
     ensures no_span { answers_without (0 ∷ []) 0 (queue_of 4) (calls 0 (set "k" (pos 1)) ∷ []) ≡
         no_span ∷ [] }
     ensures end { answers_without (1 ∷ []) 1 (queue_of 4) (first ∷ ends 0 ∷ []) ≡ queued 0 ∷ [] }
-    ensures behind_the_end { answers_without (2 ∷ 3 ∷ []) 1 (queue_of 4)
+    ensures after_the_end { answers_without (2 ∷ 3 ∷ []) 1 (queue_of 4)
         (first ∷ ends 0 ∷ calls 0 (set "k" (pos 1)) ∷ ends 0 ∷ []) ≡
         queued 0 ∷ done ∷ already_ended ∷ [] }
-    ensures behind_a_late_end { answers_without (3 ∷ []) 2 (queue_of 4)
+    ensures after_a_late_end { answers_without (3 ∷ []) 2 (queue_of 4)
         (first ∷ Step.shutdown ∷ ends 0 ∷ calls 0 (set "k" (pos 1)) ∷ []) ≡ late ∷ done ∷ [] }
     ensures dropped { answers_without (1 ∷ []) 1 (run_with always_off (1 ∷ 2 ∷ 3 ∷ []))
         (first ∷ calls 0 (set "k" (pos 1)) ∷ []) ≡ done ∷ [] }
@@ -97,7 +97,7 @@ pub fn values()
         (first ∷ calls 0 (set "k" (pos 1)) ∷ calls 0 (set "l" (pos 2)) ∷ ends 0 ∷ []) ≡
         ended_span 0 3 None "a" (pair "l" (pos 2) ∷ []) ∷ [] }
     // Nor does a call after the end.
-    ensures behind_the_end { ended_without [] (queue_of 4)
+    ensures after_the_end { ended_without [] (queue_of 4)
         (first ∷ ends 0 ∷ calls 0 (set "k" (pos 1)) ∷ calls 0 (Call.end 9) ∷ []) ≡
         first_span 0 ∷ [] }
     ensures other_order { ended_without [] (queue_of 4) (family 2 ++ ends 2 ∷ ends 0 ∷ []) ≡

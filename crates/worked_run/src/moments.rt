@@ -26,7 +26,7 @@ pub fn flush_and_shutdown()
     ensures after_a_flush { is_due_after four (ends (0 ∷ []) ++ flush ∷ []) 0 ≡ true }
     ensures after_a_shutdown { is_due_after four (ends (0 ∷ []) ++ shutdown ∷ []) 0 ≡ true }
     ensures nothing_waits { is_due_after four (shutdown ∷ []) 5000000000 ≡ false }
-    ensures ended_behind_the_flush { is_due_after four (flush ∷ ends (0 ∷ [])) 0 ≡ false }
+    ensures ended_after_the_flush { is_due_after four (flush ∷ ends (0 ∷ [])) 0 ≡ false }
     ensures late { late_count (ends (0 ∷ []) ++ shutdown ∷ late ∷ late ∷ []) ≡ 2 }
     ensures closed { (shown four (ends (0 ∷ []) ++ shutdown ∷ late ∷ [])).closed ≡ true }
     ensures open { (shown four (ends (0 ∷ []) ++ flush ∷ [])).closed ≡ false }

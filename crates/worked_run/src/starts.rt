@@ -29,7 +29,7 @@ pub fn identifiers()
         (starts 0 (given (record (context true 1 "k=v") { span = replicate 8 0 })) ∷ []) ≡
         started 3 ∷ [] }
     // After a shutdown spans start as before.
-    ensures behind_the_shutdown { answers_from 0 (queue_of 4)
+    ensures after_the_shutdown { answers_from 0 (queue_of 4)
         (Step.shutdown ∷ first ∷ []) ≡ Answer.shutdown ∷ started 3 ∷ [] }
 {}
 

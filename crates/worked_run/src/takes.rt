@@ -17,7 +17,7 @@ pub fn asked()
         queued 0 ∷ not_taken ∷ queued 1 ∷ taken 1 2 ∷ [] }
     ensures flush { answers_from 1 (queue_of 4) (first ∷ ends 0 ∷ Step.flush ∷ Step.take 0 ∷ []) ≡
         queued 0 ∷ Answer.flush ∷ taken 1 1 ∷ [] }
-    ensures ended_behind_the_flush { answers_from 1 (queue_of 4)
+    ensures ended_after_the_flush { answers_from 1 (queue_of 4)
         (first ∷ Step.flush ∷ ends 0 ∷ Step.take 0 ∷ []) ≡
         Answer.flush ∷ queued 0 ∷ not_taken ∷ [] }
     ensures shutdown { answers_from 1 (queue_of 4)

@@ -45,7 +45,7 @@ pub fn asked_waits()
     ensures in_seconds { asked (seconds 7) 5 ≡ again 7000000005 }
     ensures too_long { asked (seconds 301) 0 ≡ again 300000000000 }
     ensures at_a_date { asked (date 784111777) 784111775000000000 ≡ again 784111777000000000 }
-    ensures behind_it { asked (date 784111777) 784111777000000001 ≡ again 784111777000000001 }
+    ensures after_it { asked (date 784111777) 784111777000000001 ≡ again 784111777000000001 }
     ensures long_before_it { asked (date 784111777) 0 ≡ again 300000000000 }
     ensures at_the_last { next_after usual 5 (later 503 (Some (seconds 7))) 0 0 ≡
         give_up attempts }
@@ -55,7 +55,7 @@ pub fn asked_waits()
 pub fn least_waits()
     ensures at_once { next_after patient 1 (later 503 (Some (seconds 0))) 5 0 ≡
         again 2000000005 }
-    ensures date_behind { next_after patient 1 (later 503 (Some (date 1))) 3000000000 0 ≡
+    ensures date_after { next_after patient 1 (later 503 (Some (date 1))) 3000000000 0 ≡
         again 5000000000 }
     ensures backoff { next_after patient 1 no_reply 0 0 ≡ again 2000000000 }
     ensures longer { next_after patient 1 (later 429 (Some (seconds 7))) 5 0 ≡

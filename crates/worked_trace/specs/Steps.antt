@@ -15,7 +15,7 @@ use Rattle.model_span.specs.Starts.{Ids, Provider, StartedSpan, HeldSpan, SpanSt
 use Rattle.model_span.specs.Starts.{started_span, ids_of, ids_words, held_span, recording}
 use Rattle.model_run.specs.Steps.{Parent}
 use Rattle.model_run.specs.History.{SpanStep, Setup, StartResult, start, start_results}
-use Rattle.model_run.specs.History.{start_results_behind, ended_spans}
+use Rattle.model_run.specs.History.{start_results_after, ended_spans}
 use Rattle.worked_trace.specs.Hex.{hex}
 use Rattle.worked_trace.specs.Samples.{trace_id, span_id, pair, resource_with, scope_s, scope_t}
 
@@ -196,11 +196,11 @@ setup_with sampler words =
     }
 
 unfoldable pub outcomes_by : SamplerMeaning → List ℕ → List SpanStep → List StartResult
-unfolding start_results_behind started_span ids_of ids_words first_valid
+unfolding start_results_after started_span ids_of ids_words first_valid
 outcomes_by sampler words steps = start_results (setup_with sampler words) steps
 
 unfoldable pub ended_by : SamplerMeaning → List ℕ → List SpanStep → List SpanData
-unfolding start_results_behind started_span ids_of ids_words first_valid span chars encode
+unfolding start_results_after started_span ids_of ids_words first_valid span chars encode
 ended_by sampler words steps = ended_spans (setup_with sampler words) steps
 
 -- a start that takes this many words and gives this span

@@ -43,7 +43,7 @@ pub fn wire()
     // A tag may be longer than it has to be.
     ensures long_tag { read (hex "8a 00 00") ≡ read (hex "0a 00") }
     // A message that breaks off ends where its length says, and the one after it counts.
-    ensures message_behind_a_fault { read (hex "0a 01 80 0a 00") ≡
+    ensures message_after_a_fault { read (hex "0a 01 80 0a 00") ≡
         record (read (hex "0a 00 0a 00")) { faults = truncated ∷ [] } }
     // Fields before a fault count: a name that is not UTF-8, and after it one that breaks off.
     // (profile)

@@ -39,7 +39,7 @@ fn put_scope<'l, A: Allocator, S: Sink>(
     ensures put { let message = model.scope_spans_message (scope_group_view group.now) in
         Carries (field_bytes (bytes_field number (canon Tables.scope_spans message)))
         (IsMessage Tables.scope_spans message) (S.cursor sink.old) (S.cursor sink.new) }
-    ensures behind { let scope = scope_group_view group.now in
+    ensures appended { let scope = scope_group_view group.now in
         result.now ≡ drop (length scope.items) lens.now }
 {
     let mut length = Length::new();
@@ -64,7 +64,7 @@ fn put_resource_spans<'l, A: Allocator, S: Sink>(
     ensures put { PutsAll Tables.resource_spans
         (model.resource_spans_message (resource_group_view group.now))
         (S.cursor sink.old) (S.cursor sink.new) }
-    ensures behind { result.now
+    ensures appended { result.now
         ≡ drop (length (spans_in (resource_group_view group.now))) lens.now }
 {
     put_one(sink, 1, group.resource);
@@ -87,7 +87,7 @@ fn put_resource<'l, A: Allocator, S: Sink>(
     ensures put { let message = model.resource_spans_message (resource_group_view group.now) in
         Carries (field_bytes (bytes_field number (canon Tables.resource_spans message)))
         (IsMessage Tables.resource_spans message) (S.cursor sink.old) (S.cursor sink.new) }
-    ensures behind { result.now
+    ensures appended { result.now
         ≡ drop (length (spans_in (resource_group_view group.now))) lens.now }
 {
     let mut length = Length::new();

@@ -5,7 +5,7 @@ ghost use Rattle.span_exporter.specs.Views.{handed_view};
 ghost use Rattle.trace_history.specs.Answers.{answer_view, history_view};
 ghost use Rattle.trace_history.specs.Steps.{step_view};
 ghost use Rattle.trace_run.specs.Lines.{answers_text, body_of, line_of};
-ghost use Rattle.trace_run.specs.Places.{IsBehind};
+ghost use Rattle.trace_run.specs.Places.{IsAfter};
 
 use crate::text::lines::{
     write_attempt, write_call, write_encode, write_end, write_reply, write_start, write_take,
@@ -54,7 +54,7 @@ pub fn write_answers<A: Allocator + Copy>(
     let mut place = Place::first();
     for (step, answer) in steps.iter().zip(answers) {
         write_answer(out, &place, handed, step, answer)?;
-        place = place.behind(step, answer);
+        place = place.after(step, answer);
     }
     Ok(())
 }
@@ -67,7 +67,7 @@ fn write_answer<A: Allocator + Copy>(
     step: &Step<A>,
     answer: &Answer,
 ) -> Result<(), OutOfMemory>
-    ensures { OnOk result ((before : List Answered) → IsBehind before place.now →
+    ensures { OnOk result ((before : List Answered) → IsAfter before place.now →
         string_bytes out.new ≡ string_bytes out.old ++ line_of (map handed_view handed.now) before
         (record { step = step_view step.now; answer = answer_view answer.now })) }
 {

@@ -5,7 +5,7 @@ ghost use Rattle.model_run.specs.Runs.{Answered};
 ghost use Rattle.trace_history.specs.Answers.{answer_view};
 ghost use Rattle.trace_history.specs.Steps.{step_view};
 ghost use Rattle.trace_run.specs.Lines.{is_start as begins};
-ghost use Rattle.trace_run.specs.Places.{IsBehind};
+ghost use Rattle.trace_run.specs.Places.{IsAfter};
 
 use std::alloc::Allocator;
 use trace_history::{Answer, Step};
@@ -22,16 +22,16 @@ pub(crate) struct Place {
 impl Place {
     /// The place of the first step.
     pub(crate) fn first() -> Place
-        ensures { IsBehind [] result }
+        ensures { IsAfter [] result }
     {
         Place { starts: 0, sent: 0 }
     }
 
     /// The place after a step in this one.
-    pub(crate) fn behind<A: Allocator>(self, step: &Step<A>, answer: &Answer) -> Place
+    pub(crate) fn after<A: Allocator>(self, step: &Step<A>, answer: &Answer) -> Place
         requires starts { self.starts < 2 ^ 64 - 1 }
         requires sent { self.sent < 2 ^ 64 - 1 }
-        ensures { (before : List Answered) → IsBehind before self → IsBehind
+        ensures { (before : List Answered) → IsAfter before self → IsAfter
             (before ++ record { step = step_view step.now; answer = answer_view answer.now } ∷ [])
             result }
     {

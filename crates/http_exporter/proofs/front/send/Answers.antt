@@ -1,6 +1,6 @@
 use Rattle.std.proofs.Common.{arith, length}
 use Rattle.otlp_http.specs.Request.{head_for}
-use Rattle.http_exporter.proofs.FrontLemmas.{front_and_rest, on_err, sent_both, stopped_behind}
+use Rattle.http_exporter.proofs.FrontLemmas.{front_and_rest, on_err, sent_both, stopped_after}
 use Rattle.http_exporter.proofs.front.send.Goals as goal
 
 pub returns-clause-sent : goal.returns-clause-sent
@@ -22,4 +22,4 @@ returns-in_err-write_all-2-clause-stopped g c =
     let is = front_and_rest (head_for c.args.connection c.args.target.now (length body)) body _ _ _ _ c.head_length-head.ensures (omega (arith, room))
     front.beginning front.whole taken.taken taken.full in
     on_err c.from_residual-in_err-write_all-2.result
-    (stopped_behind _ _ _ _ _ _ is c.in_ok-write_all.ensures.sent c.in_err-write_all-2.ensures.stopped)
+    (stopped_after _ _ _ _ _ _ is c.in_ok-write_all.ensures.sent c.in_err-write_all-2.ensures.stopped)

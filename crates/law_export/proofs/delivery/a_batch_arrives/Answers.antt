@@ -1,5 +1,5 @@
 use Rattle.law_export.proofs.Delivered.{batch_arrives, one_of_two}
-use Rattle.law_export.proofs.Behind.{behind_left}
+use Rattle.law_export.proofs.After.{later_left}
 use Rattle.law_export.proofs.Memory.{unavailable}
 use Rattle.law_export.proofs.delivery.a_batch_arrives.Goals as goal
 
@@ -12,5 +12,5 @@ returns-clause-broken_off c = one_of_two c.bytes_mean_one_request.ensures.post
 pub returns-clause-unavailable : goal.returns-clause-unavailable
 returns-clause-unavailable c = unavailable
 
-pub returns-clause-behind : goal.returns-clause-behind
-returns-clause-behind c = behind_left
+pub returns-clause-appended : goal.returns-clause-appended
+returns-clause-appended c = later_left

@@ -5,8 +5,8 @@ use Rattle.hex.specs.Hex.{encode_lower}
 use Rattle.otlp_read.specs.declared.any_value.AnyValue.{Empty, Text, Bool as Truth, Int, Double, Array, Pairs, Bytes}
 use Rattle.otlp_collector.specs.Lines.{comma_before, listed, text_word, bytes_word}
 use Rattle.otlp_collector.specs.Words.{any_word, pair_word}
-use Rattle.otlp_collector.proofs.Listed.{left-more, part-of, behind}
-use Rattle.otlp_collector.proofs.Views.{word-Empty, word-Text, word-true, word-false, word-Int, word-Double, word-Array, word-Pairs, word-Bytes, told, told-by, told-call, array-longer, pairs-longer, value-shorter, pair-behind}
+use Rattle.otlp_collector.proofs.Listed.{left-more, part-of, appended}
+use Rattle.otlp_collector.proofs.Views.{word-Empty, word-Text, word-true, word-false, word-Int, word-Double, word-Array, word-Pairs, word-Bytes, told, told-by, told-call, array-longer, pairs-longer, value-shorter, pair-after}
 use Rattle.otlp_collector.proofs.value.+value.Goals as goal
 
 pub push_array-push_value-requires : goal.push_array-push_value-requires
@@ -17,7 +17,7 @@ push_array-push_value-requires g t c κs within =
 pub push_array-loop-at-preserved : goal.push_array-loop-at-preserved
 push_array-loop-at-preserved g t c =
     left-more any_word c.args.values.now c.loop-at.at c.index-values-at.result (string_bytes c.push_str.new.self) (string_bytes c.loop-at.out) (string_bytes c.push_value.new.out) c.loop-at-test.true c.index-values-at.is c.loop-at.invariant
-    (behind (string_bytes c.loop-at.out) (string_bytes c.push_comma.new.out) (string_bytes c.push_value.new.out) (comma_before c.loop-at.at) (any_word c.index-values-at.result) c.in_ok-push_comma.ensures c.in_ok-push_value.ensures)
+    (appended (string_bytes c.loop-at.out) (string_bytes c.push_comma.new.out) (string_bytes c.push_value.new.out) (comma_before c.loop-at.at) (any_word c.index-values-at.result) c.in_ok-push_comma.ensures c.in_ok-push_value.ensures)
 
 pub push_pairs-push_value-requires : goal.push_pairs-push_value-requires
 push_pairs-push_value-requires g t c κs within =
@@ -27,7 +27,7 @@ push_pairs-push_value-requires g t c κs within =
 pub push_pairs-loop-at-preserved : goal.push_pairs-loop-at-preserved
 push_pairs-loop-at-preserved g t c =
     left-more pair_word c.args.pairs.now c.loop-at.at c.index-pairs-at.result (string_bytes c.push_str.new.self) (string_bytes c.loop-at.out) (string_bytes c.push_value.new.out) c.loop-at-test.true c.index-pairs-at.is c.loop-at.invariant
-    (pair-behind c.index-pairs-at.result c.deref.result.now (string_bytes c.loop-at.out) (string_bytes c.push_key.new.out) (string_bytes c.push_value.new.out) (comma_before c.loop-at.at) c.deref.ensures c.in_ok-push_key.ensures c.in_ok-push_value.ensures)
+    (pair-after c.index-pairs-at.result c.deref.result.now (string_bytes c.loop-at.out) (string_bytes c.push_key.new.out) (string_bytes c.push_value.new.out) (comma_before c.loop-at.at) c.deref.ensures c.in_ok-push_key.ensures c.in_ok-push_value.ensures)
 
 pub push_value-push_array-requires : goal.push_value-push_array-requires
 push_value-push_array-requires g t c κs within =

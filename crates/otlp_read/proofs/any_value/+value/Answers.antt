@@ -14,7 +14,7 @@ use Rattle.otlp_read.specs.Members.{parts_view, members_from_last, Holds, Runs}
 use Rattle.otlp_read.specs.Values.{any_value_view, values_view, pair_view, pairs_view}
 use Rattle.otlp_wire.specs.declared.fault.ReadFault.TheVariants.{Wire}
 use Rattle.otlp_wire.proofs.FieldsRead.{read-more}
-use Rattle.otlp_wire.proofs.GatherSteps.{Behind, behind-more, row-fails, field-fails, kept-part}
+use Rattle.otlp_wire.proofs.GatherSteps.{After, after-more, row-fails, field-fails, kept-part}
 use Rattle.otlp_wire.proofs.Finished.{on-err, on-ok}
 use Rattle.otlp_read.proofs.ValueViews.{view-Empty, view-Text, view-Bool, view-Int, view-Double, view-Pairs, view-Bytes}
 use Rattle.otlp_read.proofs.PairSteps.{is-too-deep}
@@ -34,8 +34,8 @@ push_values-loop-field-preserved-in_default g t c =
     let gives = subst (λ r. GivesField c.loop-field.field-iterator (Some r) c.next.new.self) c.in_ok-field.was c.in-Some.ensures.steps in (
       tt,
       tt,
-      read-more (Behind (IsGathered (value c.args.depth) Tables.array_value) (values_view c.args.values.now.items ▸ tt) (values_view c.loop-field.values.items ▸ tt)) (Behind (IsGathered (value c.args.depth) Tables.array_value) (values_view c.args.values.now.items ▸ tt) (values_view c.loop-field.values.items ▸ tt)) (row c.args.part.now) _ _ (field_of c.in_ok-field.field-0) c.loop-field.invariant.2 gives
-          (behind-more (IsGathered (value c.args.depth) Tables.array_value) (values_view c.args.values.now.items ▸ tt) (values_view c.loop-field.values.items ▸ tt) (values_view c.loop-field.values.items ▸ tt) (field_of c.in_ok-field.field-0) (list-skips (value c.args.depth) any (values_view c.loop-field.values.items) (field_of c.in_ok-field.field-0) (c.in_default.ensures (repeated any) refl))),
+      read-more (After (IsGathered (value c.args.depth) Tables.array_value) (values_view c.args.values.now.items ▸ tt) (values_view c.loop-field.values.items ▸ tt)) (After (IsGathered (value c.args.depth) Tables.array_value) (values_view c.args.values.now.items ▸ tt) (values_view c.loop-field.values.items ▸ tt)) (row c.args.part.now) _ _ (field_of c.in_ok-field.field-0) c.loop-field.invariant.2 gives
+          (after-more (IsGathered (value c.args.depth) Tables.array_value) (values_view c.args.values.now.items ▸ tt) (values_view c.loop-field.values.items ▸ tt) (values_view c.loop-field.values.items ▸ tt) (field_of c.in_ok-field.field-0) (list-skips (value c.args.depth) any (values_view c.loop-field.values.items) (field_of c.in_ok-field.field-0) (c.in_default.ensures (repeated any) refl))),
     )
 
 pub push_values-returns-in_err-read_value-clause-err : goal.push_values-returns-in_err-read_value-clause-err
@@ -52,8 +52,8 @@ push_values-loop-field-preserved g t c =
     let pushed = ap values_view c.in_ok-push.ensures.items ∙ map-append any_value_view c.loop-field.values.items (c.in_ok-read_value.field-0 ∷ []) in (
       tt,
       tt,
-      read-more (Behind (IsGathered (value c.args.depth) Tables.array_value) (values_view c.args.values.now.items ▸ tt) (values_view c.loop-field.values.items ▸ tt)) (Behind (IsGathered (value c.args.depth) Tables.array_value) (values_view c.args.values.now.items ▸ tt) (values_view c.push.new.self.items ▸ tt)) (row c.args.part.now) _ _ (field_of c.in_ok-field.field-0) c.loop-field.invariant.2 gives
-          (behind-more (IsGathered (value c.args.depth) Tables.array_value) (values_view c.args.values.now.items ▸ tt) (values_view c.loop-field.values.items ▸ tt) (values_view c.push.new.self.items ▸ tt) (field_of c.in_ok-field.field-0) (list-more (value c.args.depth) any (values_view c.loop-field.values.items) (values_view c.push.new.self.items) (any_value_view c.in_ok-read_value.field-0) (field_of c.in_ok-field.field-0) (len c.in-Some-bytes_in.content.now) (c.in-Some-bytes_in.ensures (repeated any) refl)
+      read-more (After (IsGathered (value c.args.depth) Tables.array_value) (values_view c.args.values.now.items ▸ tt) (values_view c.loop-field.values.items ▸ tt)) (After (IsGathered (value c.args.depth) Tables.array_value) (values_view c.args.values.now.items ▸ tt) (values_view c.push.new.self.items ▸ tt)) (row c.args.part.now) _ _ (field_of c.in_ok-field.field-0) c.loop-field.invariant.2 gives
+          (after-more (IsGathered (value c.args.depth) Tables.array_value) (values_view c.args.values.now.items ▸ tt) (values_view c.loop-field.values.items ▸ tt) (values_view c.push.new.self.items ▸ tt) (field_of c.in_ok-field.field-0) (list-more (value c.args.depth) any (values_view c.loop-field.values.items) (values_view c.push.new.self.items) (any_value_view c.in_ok-read_value.field-0) (field_of c.in_ok-field.field-0) (len c.in-Some-bytes_in.content.now) (c.in-Some-bytes_in.ensures (repeated any) refl)
           (subst (λ r. Reads r (any_value_view c.in_ok-read_value.field-0)) (sym (any-reads (value c.args.depth) (len c.in-Some-bytes_in.content.now ∷ []))) c.in_ok-read_value.ensures.ok) pushed)),
     )
 
@@ -69,8 +69,8 @@ push_pairs-loop-field-preserved-in_default g t c =
     let gives = subst (λ r. GivesField c.loop-field.field-iterator (Some r) c.next.new.self) c.in_ok-field.was c.in-Some.ensures.steps in (
       tt,
       tt,
-      read-more (Behind (IsGathered (value c.args.depth) Tables.key_value_list) (pairs_view c.args.pairs.now.items ▸ tt) (pairs_view c.loop-field.pairs.items ▸ tt)) (Behind (IsGathered (value c.args.depth) Tables.key_value_list) (pairs_view c.args.pairs.now.items ▸ tt) (pairs_view c.loop-field.pairs.items ▸ tt)) (row c.args.part.now) _ _ (field_of c.in_ok-field.field-0) c.loop-field.invariant.2 gives
-          (behind-more (IsGathered (value c.args.depth) Tables.key_value_list) (pairs_view c.args.pairs.now.items ▸ tt) (pairs_view c.loop-field.pairs.items ▸ tt) (pairs_view c.loop-field.pairs.items ▸ tt) (field_of c.in_ok-field.field-0) (list-skips (value c.args.depth) (message Tables.key_value) (pairs_view c.loop-field.pairs.items) (field_of c.in_ok-field.field-0) (c.in_default.ensures (repeated (message Tables.key_value)) refl))),
+      read-more (After (IsGathered (value c.args.depth) Tables.key_value_list) (pairs_view c.args.pairs.now.items ▸ tt) (pairs_view c.loop-field.pairs.items ▸ tt)) (After (IsGathered (value c.args.depth) Tables.key_value_list) (pairs_view c.args.pairs.now.items ▸ tt) (pairs_view c.loop-field.pairs.items ▸ tt)) (row c.args.part.now) _ _ (field_of c.in_ok-field.field-0) c.loop-field.invariant.2 gives
+          (after-more (IsGathered (value c.args.depth) Tables.key_value_list) (pairs_view c.args.pairs.now.items ▸ tt) (pairs_view c.loop-field.pairs.items ▸ tt) (pairs_view c.loop-field.pairs.items ▸ tt) (field_of c.in_ok-field.field-0) (list-skips (value c.args.depth) (message Tables.key_value) (pairs_view c.loop-field.pairs.items) (field_of c.in_ok-field.field-0) (c.in_default.ensures (repeated (message Tables.key_value)) refl))),
     )
 
 pub push_pairs-returns-in_err-read_pair-clause-err : goal.push_pairs-returns-in_err-read_pair-clause-err
@@ -87,8 +87,8 @@ push_pairs-loop-field-preserved g t c =
     let pushed = ap pairs_view c.in_ok-push.ensures.items ∙ map-append pair_view c.loop-field.pairs.items (c.in_ok-read_pair.field-0 ∷ []) in (
       tt,
       tt,
-      read-more (Behind (IsGathered (value c.args.depth) Tables.key_value_list) (pairs_view c.args.pairs.now.items ▸ tt) (pairs_view c.loop-field.pairs.items ▸ tt)) (Behind (IsGathered (value c.args.depth) Tables.key_value_list) (pairs_view c.args.pairs.now.items ▸ tt) (pairs_view c.push.new.self.items ▸ tt)) (row c.args.part.now) _ _ (field_of c.in_ok-field.field-0) c.loop-field.invariant.2 gives
-          (behind-more (IsGathered (value c.args.depth) Tables.key_value_list) (pairs_view c.args.pairs.now.items ▸ tt) (pairs_view c.loop-field.pairs.items ▸ tt) (pairs_view c.push.new.self.items ▸ tt) (field_of c.in_ok-field.field-0) (list-more (value c.args.depth) (message Tables.key_value) (pairs_view c.loop-field.pairs.items) (pairs_view c.push.new.self.items) (pair_view c.in_ok-read_pair.field-0) (field_of c.in_ok-field.field-0) (len c.in-Some-bytes_in.content.now) (c.in-Some-bytes_in.ensures (repeated (message Tables.key_value)) refl)
+      read-more (After (IsGathered (value c.args.depth) Tables.key_value_list) (pairs_view c.args.pairs.now.items ▸ tt) (pairs_view c.loop-field.pairs.items ▸ tt)) (After (IsGathered (value c.args.depth) Tables.key_value_list) (pairs_view c.args.pairs.now.items ▸ tt) (pairs_view c.push.new.self.items ▸ tt)) (row c.args.part.now) _ _ (field_of c.in_ok-field.field-0) c.loop-field.invariant.2 gives
+          (after-more (IsGathered (value c.args.depth) Tables.key_value_list) (pairs_view c.args.pairs.now.items ▸ tt) (pairs_view c.loop-field.pairs.items ▸ tt) (pairs_view c.push.new.self.items ▸ tt) (field_of c.in_ok-field.field-0) (list-more (value c.args.depth) (message Tables.key_value) (pairs_view c.loop-field.pairs.items) (pairs_view c.push.new.self.items) (pair_view c.in_ok-read_pair.field-0) (field_of c.in_ok-field.field-0) (len c.in-Some-bytes_in.content.now) (c.in-Some-bytes_in.ensures (repeated (message Tables.key_value)) refl)
           c.in_ok-read_pair.ensures.ok pushed)),
     )
 

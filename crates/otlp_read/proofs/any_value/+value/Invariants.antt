@@ -7,7 +7,7 @@ use Rattle.otlp_read.specs.Values.{values_view, pairs_view}
 use Rattle.otlp_wire.specs.Gathering.{IsGathered, IsKept}
 use Rattle.otlp_read.specs.Members.{parts_view}
 use Rattle.otlp_wire.proofs.FieldsRead.{FieldsRead}
-use Rattle.otlp_wire.proofs.GatherSteps.{Behind}
+use Rattle.otlp_wire.proofs.GatherSteps.{After}
 use Rattle.otlp_read.proofs.any_value.+value.Given as goal
 
 abbrev pub decreases-value_of : goal.decreases-value_of
@@ -35,13 +35,13 @@ abbrev pub invariant-push_values-loop-field : goal.invariant-push_values-loop-fi
 invariant-push_values-loop-field g l =
     (goal.iterator-push_values-loop-field g).can_next l.field-iterator ×
     (goal.iterator-push_values-loop-field g).is_finite l.field-iterator ×
-    FieldsRead (Behind (IsGathered (value l.depth) Tables.array_value) (values_view l.fn.values.items ▸ tt) (values_view l.values.items ▸ tt)) (row l.part) l.field-iterator
+    FieldsRead (After (IsGathered (value l.depth) Tables.array_value) (values_view l.fn.values.items ▸ tt) (values_view l.values.items ▸ tt)) (row l.part) l.field-iterator
 
 abbrev pub invariant-push_pairs-loop-field : goal.invariant-push_pairs-loop-field
 invariant-push_pairs-loop-field g l =
     (goal.iterator-push_pairs-loop-field g).can_next l.field-iterator ×
     (goal.iterator-push_pairs-loop-field g).is_finite l.field-iterator ×
-    FieldsRead (Behind (IsGathered (value l.depth) Tables.key_value_list) (pairs_view l.fn.pairs.items ▸ tt) (pairs_view l.pairs.items ▸ tt)) (row l.part) l.field-iterator
+    FieldsRead (After (IsGathered (value l.depth) Tables.key_value_list) (pairs_view l.fn.pairs.items ▸ tt) (pairs_view l.pairs.items ▸ tt)) (row l.part) l.field-iterator
 
 abbrev pub invariant-read_values-loop-part : goal.invariant-read_values-loop-part
 invariant-read_values-loop-part g l = IsKept (value l.depth) (message Tables.array_value) (values_view l.values.items ▸ tt) (parts_view (take l.part-index l.parts))

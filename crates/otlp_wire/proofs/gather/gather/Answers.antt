@@ -5,7 +5,7 @@ use Rattle.otlp_wire.specs.Fields.{GivesField, field_of}
 use Rattle.otlp_wire.specs.Faults.{NamesOne}
 use Rattle.otlp_wire.specs.Gathering.{IsGathered, part_faults}
 use Rattle.otlp_wire.proofs.FieldsRead.{read-more}
-use Rattle.otlp_wire.proofs.GatherSteps.{Behind, behind-more, field-fails, has-bytes}
+use Rattle.otlp_wire.proofs.GatherSteps.{After, after-more, field-fails, has-bytes}
 use Rattle.otlp_wire.proofs.gather.gather.Goals as goal
 
 pub returns-in_err-take-clause-err : goal.returns-in_err-take-clause-err
@@ -28,6 +28,6 @@ loop-field-preserved g c =
     let f = field_of c.in_ok-field.field-0 in (
       tt,
       tt,
-      read-more (Behind Q (seen c.args.gathered.now) (seen c.loop-field.gathered)) (Behind Q (seen c.args.gathered.now) (seen c.take.new.self)) (row c.args.content.now) _ _ f c.loop-field.invariant.2 gives
-          (behind-more Q (seen c.args.gathered.now) (seen c.loop-field.gathered) (seen c.take.new.self) f c.in_ok-take.ensures.ok),
+      read-more (After Q (seen c.args.gathered.now) (seen c.loop-field.gathered)) (After Q (seen c.args.gathered.now) (seen c.take.new.self)) (row c.args.content.now) _ _ f c.loop-field.invariant.2 gives
+          (after-more Q (seen c.args.gathered.now) (seen c.loop-field.gathered) (seen c.take.new.self) f c.in_ok-take.ensures.ok),
     )

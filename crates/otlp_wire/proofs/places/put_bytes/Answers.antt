@@ -9,5 +9,5 @@ returns c =
     let long : length c.copy_from_slice.new.self ≡ length c.args.bytes.now = ap length wrote in record {
       place = refl;
       front = take-put_mid c.args.at _ c.args.out.now _ _ (omega (arith, long)) (omega (arith, fits)) ∙ rw wrote refl;
-      behind = drop-put_mid c.args.at _ c.args.out.now _ _ (omega arith) (omega (arith, fits)) (omega (arith, long));
+      appended = drop-put_mid c.args.at _ c.args.out.now _ _ (omega arith) (omega (arith, fits)) (omega (arith, long));
     }

@@ -8,7 +8,7 @@ use Rattle.otlp_wire.proofs.places.put_varint.Goals as goal
 
 pub loop-unwritten-init : goal.loop-unwritten-init
 unfolding shortest payload_bytes
-loop-unwritten-init c = record { room = 9; in_range = omega (arith, c.ranges.value.fits); begun = []; whole = refl; place = omega arith; front = sym (append-nil _); behind = refl; len = refl; has_room = c.requires }
+loop-unwritten-init c = record { room = 9; in_range = omega (arith, c.ranges.value.fits); begun = []; whole = refl; place = omega arith; front = sym (append-nil _); appended = refl; len = refl; has_room = c.requires }
 
 pub bounds-out-next : goal.bounds-out-next
 bounds-out-next c =
@@ -24,8 +24,8 @@ bounds-out-next-2 c =
 more-front : (old out begun : List ℕ) (at next b : ℕ) → next < length out → take next out ≡ take at old ++ begun → take (next + 1) (set out next b) ≡ take at old ++ (begun ++ b ∷ [])
 more-front old out begun at next b l e = take_more_set out next b l ∙ ap (λ bs. bs ++ b ∷ []) e ∙ append_assoc (take at old) begun (b ∷ [])
 
-fewer-behind : (old out : List ℕ) (next b : ℕ) → next < length out → length out ≡ length old → drop next out ≡ drop next old → drop (next + 1) (set out next b) ≡ drop (next + 1) old
-fewer-behind old out next b l len e = drop-set-lt (next + 1) out next b (omega arith) ∙ (sym (drop-drop 1 next out) ∙ ap (drop 1) e ∙ drop-drop 1 next old)
+fewer-after : (old out : List ℕ) (next b : ℕ) → next < length out → length out ≡ length old → drop next out ≡ drop next old → drop (next + 1) (set out next b) ≡ drop (next + 1) old
+fewer-after old out next b l len e = drop-set-lt (next + 1) out next b (omega arith) ∙ (sym (drop-drop 1 next out) ∙ ap (drop 1) e ∙ drop-drop 1 next old)
 
 -- After one more byte, the number is begun with one more group.
 begun-more : (value at : ℕ) (old out : List ℕ) (next rest : ℕ) → (i : Begun value at old out next rest) → MoreGroups i.room rest → next < length out →
@@ -38,7 +38,7 @@ begun-more value at old out next rest i more l =
       whole = append_assoc i.begun ((rest % 128 + 128) ∷ []) _ ∙ ap (λ bs. i.begun ++ bs) (sym more.first) ∙ i.whole;
       place = omega (arith, i.place, long);
       front = more-front old out i.begun at next _ l i.front;
-      behind = fewer-behind old out next _ l i.len i.behind;
+      appended = fewer-after old out next _ l i.len i.appended;
       len = length-set out next _ ∙ i.len;
       has_room = omega (arith, i.has_room, ap length more.first);
     }
@@ -58,7 +58,7 @@ begun-all value at old out next rest i low =
     let l : next < length out = omega (arith, i.len, i.has_room, ap length last) in record {
       place = omega (arith, i.place, long, ap length all);
       front = more-front old out i.begun at next rest l i.front ∙ ap (λ bs. take at old ++ bs) all;
-      behind = fewer-behind old out next rest l i.len i.behind;
+      appended = fewer-after old out next rest l i.len i.appended;
     }
 
 pub returns : goal.returns

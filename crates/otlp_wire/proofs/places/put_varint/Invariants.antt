@@ -10,7 +10,7 @@ pub record Begun (value at : ℕ) (old out : List ℕ) (next rest : ℕ) : Type 
   pub whole : begun ++ septets_of room rest ≡ shortest value
   pub place : next ≡ at + length begun
   pub front : take next out ≡ take at old ++ begun
-  pub behind : drop next out ≡ drop next old
+  pub appended : drop next out ≡ drop next old
   pub len : length out ≡ length old
   pub has_room : next + length (septets_of room rest) ≤ length old
 

@@ -1,11 +1,11 @@
 use Rattle.std.proofs.Common.{◌∙◌, ap, rules}
 use Rattle.std.specs.Option.{unwrap_or}
-use Rattle.scope_group.proofs.Adding.{added-behind, added-by-entry}
+use Rattle.scope_group.proofs.Adding.{added-after, added-by-entry}
 use Rattle.scope_group.proofs.keyed.add.Goals as goal
 
 pub returns-in-Some : goal.returns-in-Some
 returns-in-Some g c =
-    added-behind g.K.PartialEq.eq c.args.groups.now.entries c.args.key c.args.item c.in-Some.index c.index_mut.result.now c.push.new.self c.in-Some.ensures c.index_mut.ensures.value c.in_ok-push.ensures.items
+    added-after g.K.PartialEq.eq c.args.groups.now.entries c.args.key c.args.item c.in-Some.index c.index_mut.result.now c.push.new.self c.in-Some.ensures c.index_mut.ensures.value c.in_ok-push.ensures.items
 
 pub returns : goal.returns
 returns g c =

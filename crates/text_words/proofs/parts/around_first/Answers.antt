@@ -12,6 +12,6 @@ returns-in_err-place c =
 pub returns : goal.returns
 returns c =
     let found = position_from_yields_List (λ b. b == c.args.separator) _ _ _ c.position.ensures.ran (YieldsList-from_slice c.args.text.now c.iter.ensures.rest) (λ x b q k. search (rules, tests)) in
-    let behind = c.in_ok-place.place + 1 in
-    let rest : take (length c.args.text.now - behind) (drop behind c.args.text.now) ≡ drop behind c.args.text.now = take_all _ _ (omega (arith, length-drop behind c.args.text.now)) in
+    let appended = c.in_ok-place.place + 1 in
+    let rest : take (length c.args.text.now - appended) (drop appended c.args.text.now) ≡ drop appended c.args.text.now = take_all _ _ (omega (arith, length-drop appended c.args.text.now)) in
     rw (rest, sym found ∙ c.in_ok-place.was) refl

@@ -1,13 +1,13 @@
 use Rattle.std.proofs.Common.{◌<◌, ◌+◌, ◌-◌, ◌^◌, refl, sym, ap, ◌∙◌, arith, length, take, take_all}
 use Rattle.std.proofs.lemmas.List.{length_push}
 use Rattle.model_run.specs.Runs.{Answered}
-use Rattle.law_run.specs.Laws.{OfSettings, LateBehindShutdown, DroppedWhereFull, QueuedWhereRoom, TakenWhereDue, TakesTheFirst, TakenBehindShutdown, OneBatchIsOut, EncodedWhereItFits, DroppedUnencoded, AttemptsAreNumbered, AttemptsAreFew, AttemptsAreFiveAtMost, NoAttemptIsEarly, RepliesAreDecided}
+use Rattle.law_run.specs.Laws.{OfSettings, LateAfterShutdown, DroppedWhereFull, QueuedWhereRoom, TakenWhereDue, TakesTheFirst, TakenAfterShutdown, OneBatchIsOut, EncodedWhereItFits, DroppedUnencoded, AttemptsAreNumbered, AttemptsAreFew, AttemptsAreFiveAtMost, NoAttemptIsEarly, RepliesAreDecided}
 use Rattle.trace_history.specs.Answers.{answer_view, history_view}
 use Rattle.trace_history.specs.Steps.{step_view}
 use Rattle.trace_run.specs.Run.{run_config}
 use Rattle.trace_run.proofs.Standing.{desk-is}
 use Rattle.trace_run.proofs.Bodies.{body-stays, headline, canonical}
-use Rattle.trace_run.proofs.Runs.{stands-first, tells-none, tells-more, tells-still, attempts-push, is-allowed, of-law, behind-length, behind-push}
+use Rattle.trace_run.proofs.Runs.{stands-first, tells-none, tells-more, tells-still, attempts-push, is-allowed, of-law, after-length, after-push}
 use Rattle.trace_run.proofs.whole.run.Goals as goal
 
 pub loop-step-init : goal.loop-step-init
@@ -26,7 +26,7 @@ loop-step-init g c = record {
 pub take_step-answer-requires-clause-room : goal.take_step-answer-requires-clause-room
 take_step-answer-requires-clause-room g c =
     let i = c.loop-step.invariant in
-    let many = behind-length c.args.steps.now c.loop-step.answers.items c.loop-step.step-index i.count c.loop-step-test.true in
+    let many = after-length c.args.steps.now c.loop-step.answers.items c.loop-step.step-index i.count c.loop-step-test.true in
     omega (arith, i.stands.bound, many, c.loop-step-test.true, i.table_room)
 
 pub loop-step-preserved : goal.loop-step-preserved
@@ -34,8 +34,8 @@ loop-step-preserved g c =
     let i = c.loop-step.invariant in
     let run = run_config g.S.Sampler.meaning g.R.Rng.stream c.args.config in
     let h = history_view (take c.loop-step.step-index c.args.steps.now) c.loop-step.answers.items in
-    let small : length h < 2 ^ 64 - 1 = omega (arith, behind-length c.args.steps.now c.loop-step.answers.items c.loop-step.step-index i.count c.loop-step-test.true, c.loop-step-test.true) in
-    let pushed = behind-push c.args.steps.now c.loop-step.answers.items c.loop-step.step-index c.step-item.result c.take_step-answer.result.0 i.count c.loop-step-test.true c.step-item.is in
+    let small : length h < 2 ^ 64 - 1 = omega (arith, after-length c.args.steps.now c.loop-step.answers.items c.loop-step.step-index i.count c.loop-step-test.true, c.loop-step-test.true) in
+    let pushed = after-push c.args.steps.now c.loop-step.answers.items c.loop-step.step-index c.step-item.result c.take_step-answer.result.0 i.count c.loop-step-test.true c.step-item.is in
     let x : Answered = record { step = step_view c.step-item.result; answer = answer_view c.take_step-answer.result.0 } in
     let stands = c.take_step-answer.ensures.goes_on run h small (sym i.retry) (sym i.max_body) i.stands in
     let still = body-stays c.batches_are_slices.ensures.stay run.setup h x _ stands.history in
@@ -98,7 +98,7 @@ returns-clause-ledger g c = c.none_is_unaccounted_for.ensures.named (run_config 
 -- ---- laws of each run
 
 pub returns-clause-late : goal.returns-clause-late
-returns-clause-late g c = of-law LateBehindShutdown c.ends_are_answered.ensures.late (run_config g.S.Sampler.meaning g.R.Rng.stream c.args.config) _ _ _ (take_all c.loop-step.step-index c.args.steps.now c.loop-step-test.false) c.loop-step.invariant.stands.answers
+returns-clause-late g c = of-law LateAfterShutdown c.ends_are_answered.ensures.late (run_config g.S.Sampler.meaning g.R.Rng.stream c.args.config) _ _ _ (take_all c.loop-step.step-index c.args.steps.now c.loop-step-test.false) c.loop-step.invariant.stands.answers
 
 pub returns-clause-full : goal.returns-clause-full
 returns-clause-full g c = of-law DroppedWhereFull c.ends_are_answered.ensures.full (run_config g.S.Sampler.meaning g.R.Rng.stream c.args.config) _ _ _ (take_all c.loop-step.step-index c.args.steps.now c.loop-step-test.false) c.loop-step.invariant.stands.answers
@@ -113,7 +113,7 @@ pub returns-clause-first : goal.returns-clause-first
 returns-clause-first g c = of-law TakesTheFirst c.takes_are_answered.ensures.first (run_config g.S.Sampler.meaning g.R.Rng.stream c.args.config) _ _ _ (take_all c.loop-step.step-index c.args.steps.now c.loop-step-test.false) c.loop-step.invariant.stands.answers
 
 pub returns-clause-shutdown : goal.returns-clause-shutdown
-returns-clause-shutdown g c = of-law TakenBehindShutdown c.takes_are_answered.ensures.shutdown (run_config g.S.Sampler.meaning g.R.Rng.stream c.args.config) _ _ _ (take_all c.loop-step.step-index c.args.steps.now c.loop-step-test.false) c.loop-step.invariant.stands.answers
+returns-clause-shutdown g c = of-law TakenAfterShutdown c.takes_are_answered.ensures.shutdown (run_config g.S.Sampler.meaning g.R.Rng.stream c.args.config) _ _ _ (take_all c.loop-step.step-index c.args.steps.now c.loop-step-test.false) c.loop-step.invariant.stands.answers
 
 pub returns-clause-one_out : goal.returns-clause-one_out
 returns-clause-one_out g c = of-law (λ run. OneBatchIsOut) c.one_batch_is_out.ensures.one (run_config g.S.Sampler.meaning g.R.Rng.stream c.args.config) _ _ _ (take_all c.loop-step.step-index c.args.steps.now c.loop-step-test.false) c.loop-step.invariant.stands.answers

@@ -1,5 +1,5 @@
 use Rattle.view_json.specs.Lists.{line_tokens}
-use Rattle.view_json.proofs.Chains.{behind}
+use Rattle.view_json.proofs.Chains.{appended}
 use Rattle.view_json.proofs.list.push_line.Goals as goal
 
 pub returns-clause-tokens : goal.returns-clause-tokens
@@ -9,6 +9,6 @@ returns-clause-tokens g c =
     let s1 = c.begin.new.out.tokens in
     let s2 = c.push_names.new.out.tokens in
     let s3 = c.push_counts.new.out.tokens in
-    behind s0 s3 c.end.new.out.tokens _ _
-    (behind s0 s2 s3 _ _ (behind s0 s1 s2 _ _ c.in_ok-begin.ensures.tokens c.in_ok-push_names.ensures.tokens) c.in_ok-push_counts.ensures.tokens)
+    appended s0 s3 c.end.new.out.tokens _ _
+    (appended s0 s2 s3 _ _ (appended s0 s1 s2 _ _ c.in_ok-begin.ensures.tokens c.in_ok-push_names.ensures.tokens) c.in_ok-push_counts.ensures.tokens)
     c.in_ok-end.ensures.tokens

@@ -1,5 +1,5 @@
 use Rattle.view_json.specs.Lists.{span_counts}
-use Rattle.view_json.proofs.Chains.{behind}
+use Rattle.view_json.proofs.Chains.{appended}
 use Rattle.view_json.proofs.list.push_span_counts.Goals as goal
 
 pub returns-clause-tokens : goal.returns-clause-tokens
@@ -8,6 +8,6 @@ returns-clause-tokens g c =
     let s0 = c.args.out.now.tokens in
     let s1 = c.push_number.new.out.tokens in
     let s2 = c.push_number-2.new.out.tokens in
-    behind s0 s2 c.push_number-3.new.out.tokens _ _
-    (behind s0 s1 s2 _ _ c.in_ok-push_number.ensures.tokens c.in_ok-push_number-2.ensures.tokens)
+    appended s0 s2 c.push_number-3.new.out.tokens _ _
+    (appended s0 s1 s2 _ _ c.in_ok-push_number.ensures.tokens c.in_ok-push_number-2.ensures.tokens)
     c.in_ok-push_number-3.ensures.tokens

@@ -1,6 +1,6 @@
 use Rattle.std.proofs.Common.{string_bytes}
 use Rattle.view_json.specs.Metrics.{span_metrics}
-use Rattle.view_json.proofs.Chains.{behind}
+use Rattle.view_json.proofs.Chains.{appended}
 use Rattle.view_json.proofs.metrics.push_span_metrics.Goals as goal
 
 pub returns : goal.returns
@@ -9,6 +9,6 @@ returns g c =
     let s0 = string_bytes c.args.out.now in
     let s1 = string_bytes c.push_metric.new.out in
     let s2 = string_bytes c.push_metric-2.new.out in
-    behind s0 s2 (string_bytes c.push_metric-3.new.out) _ _
-    (behind s0 s1 s2 _ _ c.in_ok-push_metric.ensures c.in_ok-push_metric-2.ensures)
+    appended s0 s2 (string_bytes c.push_metric-3.new.out) _ _
+    (appended s0 s1 s2 _ _ c.in_ok-push_metric.ensures c.in_ok-push_metric-2.ensures)
     c.in_ok-push_metric-3.ensures

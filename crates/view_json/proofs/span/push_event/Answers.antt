@@ -2,7 +2,7 @@ use Rattle.std.proofs.Common.{codes}
 use Rattle.view_json.specs.Seen.{number_member, seen, text_member}
 use Rattle.view_json.specs.Spans.{event_seen}
 use Rattle.view_json.specs.Values.{attributes_member}
-use Rattle.view_json.proofs.Chains.{behind, last, named}
+use Rattle.view_json.proofs.Chains.{appended, last, named}
 use Rattle.view_json.proofs.span.push_event.Goals as goal
 
 pub returns-clause-seen : goal.returns-clause-seen
@@ -15,10 +15,10 @@ returns-clause-seen g c =
     let s4 = seen c.push_attributes.new.out.tokens in
     let s5 = seen c.push_number.new.out.tokens in
     last c.end.result s0 s5 (seen c.end.new.out.tokens) _ _
-    (behind s0 s4 s5 _ _
-    (behind s0 s3 s4 _ _
-    (behind s0 s2 s3 _ _
-    (behind s0 s1 s2 _ _ c.in_ok-begin.ensures.seen
+    (appended s0 s4 s5 _ _
+    (appended s0 s3 s4 _ _
+    (appended s0 s2 s3 _ _
+    (appended s0 s1 s2 _ _ c.in_ok-begin.ensures.seen
     c.in_ok-push_long.ensures.seen)
     (named (λ l. seen (text_member (codes "name") l)) s2 s3 c.in_ok-push_text.ensures.seen c.deref.ensures))
     (named attributes_member s3 s4 c.in_ok-push_attributes.ensures.seen c.deref-2.ensures.value))

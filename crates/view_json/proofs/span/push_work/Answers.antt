@@ -1,7 +1,7 @@
 use Rattle.std.proofs.Common.{codes, SFits, rules, to_z-of_z, w32}
 use Rattle.view_json.specs.Seen.{seen, signed_member, text_member}
 use Rattle.view_json.specs.Spans.{work_members}
-use Rattle.view_json.proofs.Chains.{behind, last, named}
+use Rattle.view_json.proofs.Chains.{appended, last, named}
 use Rattle.view_json.proofs.span.push_work.Goals as goal
 
 pub returns-clause-seen : goal.returns-clause-seen
@@ -13,8 +13,8 @@ returns-clause-seen g c =
     let s3 = seen c.push_long.new.out.tokens in
     let fits : SFits w32 c.args.span.now.kind = search rules in
     last c.push_long-2.result s0 s3 (seen c.push_long-2.new.out.tokens) _ _
-    (behind s0 s2 s3 _ _
-    (behind s0 s1 s2 _ _ (named (λ l. seen (text_member (codes "name") l)) s0 s1 c.in_ok-push_text.ensures.seen c.deref.ensures)
+    (appended s0 s2 s3 _ _
+    (appended s0 s1 s2 _ _ (named (λ l. seen (text_member (codes "name") l)) s0 s1 c.in_ok-push_text.ensures.seen c.deref.ensures)
     (named (λ l. seen (signed_member (codes "kind") l)) s1 s2 c.in_ok-push_signed.ensures.seen (to_z-of_z fits)))
     c.in_ok-push_long.ensures.seen)
     c.push_long-2.ensures.seen

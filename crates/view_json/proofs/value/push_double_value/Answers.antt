@@ -1,10 +1,10 @@
 use Rattle.view_json.specs.Seen.{seen}
-use Rattle.view_json.proofs.Chains.{behind, last}
+use Rattle.view_json.proofs.Chains.{appended, last}
 use Rattle.view_json.proofs.value.push_double_value.Goals as goal
 
 pub returns-clause-seen : goal.returns-clause-seen
 returns-clause-seen g c =
     last c.end.result (seen c.args.out.now.tokens) (seen c.push_float.new.out.tokens) (seen c.end.new.out.tokens) _ _
-    (behind (seen c.args.out.now.tokens) (seen c.push_key.new.out.tokens) (seen c.push_float.new.out.tokens) _ _
-    (behind (seen c.args.out.now.tokens) (seen c.begin.new.out.tokens) (seen c.push_key.new.out.tokens) _ _ c.in_ok-begin.ensures.seen c.in_ok-push_key.ensures.seen)
+    (appended (seen c.args.out.now.tokens) (seen c.push_key.new.out.tokens) (seen c.push_float.new.out.tokens) _ _
+    (appended (seen c.args.out.now.tokens) (seen c.begin.new.out.tokens) (seen c.push_key.new.out.tokens) _ _ c.in_ok-begin.ensures.seen c.in_ok-push_key.ensures.seen)
     c.in_ok-push_float.ensures.seen) c.end.ensures.seen

@@ -3,7 +3,7 @@ use Rattle.otlp_read.specs.declared.any_value.AnyValue.{Empty, Text, Bool as Tru
 use Rattle.view_pages.specs.Html.{Markup, Text as TextPart, Signed}
 use Rattle.view_pages.specs.Values.{item_html, pair_html, double_html, bytes_html}
 use Rattle.view_pages.proofs.Each.{each_more, part_within}
-use Rattle.view_pages.proofs.Shown.{html-Empty, html-Text, html-true, html-false, html-Int, html-Double, html-Bytes, html-Array, html-Pairs, array_html, list_html, told_call, array_longer, pairs_longer, item_longer, value_shorter, pair_behind}
+use Rattle.view_pages.proofs.Shown.{html-Empty, html-Text, html-true, html-false, html-Int, html-Double, html-Bytes, html-Array, html-Pairs, array_html, list_html, told_call, array_longer, pairs_longer, item_longer, value_shorter, pair_after}
 use Rattle.view_pages.proofs.value.+value.Goals as goal
 
 pub push_array-push_value-requires : goal.push_array-push_value-requires
@@ -19,7 +19,7 @@ push_list-push_value-requires g t c κs within =
 pub push_list-loop-key-preserved : goal.push_list-loop-key-preserved
 push_list-loop-key-preserved g t c =
     each_more pair_html c.args.pairs.now c.loop-key.key-index c.loop-key-item.result (string_bytes c.push_markup.new.out) (string_bytes c.loop-key.out) (string_bytes c.push_value.new.out) c.loop-key-test.true c.loop-key-item.is c.loop-key.invariant
-    (pair_behind c.loop-key-item.result c.deref.result.now (string_bytes c.loop-key.out) (string_bytes c.push_key.new.out) (string_bytes c.push_value.new.out) c.deref.ensures c.in_ok-push_key.ensures c.in_ok-push_value.ensures)
+    (pair_after c.loop-key-item.result c.deref.result.now (string_bytes c.loop-key.out) (string_bytes c.push_key.new.out) (string_bytes c.push_value.new.out) c.deref.ensures c.in_ok-push_key.ensures c.in_ok-push_value.ensures)
 
 pub push_value-push_array-requires : goal.push_value-push_array-requires
 push_value-push_array-requires g t c κs within =

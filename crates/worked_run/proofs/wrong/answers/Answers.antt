@@ -8,7 +8,7 @@ use Rattle.model_export.specs.Export.{groups, body_length}
 use Rattle.model_retry.specs.Retries.{Outcome}
 use Rattle.model_desk.specs.Desks.{desk_of}
 use Rattle.model_run.specs.Steps.{Step}
-use Rattle.model_run.specs.History.{start_results_behind}
+use Rattle.model_run.specs.History.{start_results_after}
 use Rattle.model_run.specs.Runs.{Answer, taken, not_taken, encoded, sent, nothing, ended_by, desk_events}
 use Rattle.model_run.specs.Answers.{progress, desk_after, IsAnswer, AreAnswers}
 use Rattle.worked_run.specs.Worked.{queue_of, worked, told, ends, queued, full, late}
@@ -32,7 +32,7 @@ is-dropped true e = cc
 is-dropped false e = cc
 
 pub returns : goal.returns
-unfolding desk_after desk_of desk_events ended_by progress start_results_behind started_span ids_of ids_words first_valid span groups body_length canon septets_of
+unfolding desk_after desk_of desk_events ended_by progress start_results_after started_span ids_of ids_words first_valid span groups body_length canon septets_of
 returns c = record {
   late_before = λ w. let e : late ≡ full 2 = (told-at 8 (ends 2) late w).is in cc;
   full_while_room = λ w. let e : full 3 ≡ queued 3 = (told-at 13 (ends 3) (full 3) w).is in cc;

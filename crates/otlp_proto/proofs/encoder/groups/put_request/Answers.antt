@@ -21,7 +21,7 @@ loop-group-preserved g c =
     let before = groups_view (take c.loop-group.group-index c.args.groups.now) in (
       rw (through-index resource_group_view c.args.groups.now c.loop-group.group-index c.group-item.result c.loop-group-test.true c.group-item.is)
           (each-more 1 (λ x. canon Tables.resource_spans (resource_spans_message x)) (λ x. IsMessage Tables.resource_spans (resource_spans_message x)) before (resource_group_view c.group-item.result) c.loop-group.invariant.0 c.put_resource-rest.ensures.put),
-      drop-next spans_in resource_group_view c.args.groups.now c.args.lens.now c.loop-group.rest.now c.loop-group.group-index c.group-item.result c.loop-group-test.true c.group-item.is c.loop-group.invariant.1 c.put_resource-rest.ensures.behind,
+      drop-next spans_in resource_group_view c.args.groups.now c.args.lens.now c.loop-group.rest.now c.loop-group.group-index c.group-item.result c.loop-group-test.true c.group-item.is c.loop-group.invariant.1 c.put_resource-rest.ensures.appended,
     )
 
 pub returns : goal.returns

@@ -21,7 +21,7 @@ loop-scope_group-preserved g c =
     let before = map scope_group_view (take c.loop-scope_group.scope_group-index items) in (
       rw (through-index scope_group_view items c.loop-scope_group.scope_group-index c.scope_group-item.result c.loop-scope_group-test.true c.scope_group-item.is)
           (each-more 2 (λ x. canon Tables.scope_spans (scope_spans_message x)) (λ x. IsMessage Tables.scope_spans (scope_spans_message x)) before (scope_group_view c.scope_group-item.result) c.loop-scope_group.invariant.0 c.put_scope-rest.ensures.put),
-      drop-next (λ scope. scope.items) scope_group_view items c.args.lens.now c.loop-scope_group.rest.now c.loop-scope_group.scope_group-index c.scope_group-item.result c.loop-scope_group-test.true c.scope_group-item.is c.loop-scope_group.invariant.1 c.put_scope-rest.ensures.behind,
+      drop-next (λ scope. scope.items) scope_group_view items c.args.lens.now c.loop-scope_group.rest.now c.loop-scope_group.scope_group-index c.scope_group-item.result c.loop-scope_group-test.true c.scope_group-item.is c.loop-scope_group.invariant.1 c.put_scope-rest.ensures.appended,
     )
 
 pub returns-clause-put : goal.returns-clause-put
@@ -30,5 +30,5 @@ returns-clause-put g c =
     let url = rw c.as_str.ensures.value at c.put_text.ensures in
     and-field (put-message refl c.put_one.ensures) (and-field (put-messages scope_spans_message _ all) (and-field url no-field))
 
-pub returns-clause-behind : goal.returns-clause-behind
-returns-clause-behind g c = rw (take_all c.loop-scope_group.scope_group-index c.deref-scope_group-items.result.now c.loop-scope_group-test.false, c.deref-scope_group-items.ensures.value) at c.loop-scope_group.invariant.1
+pub returns-clause-appended : goal.returns-clause-appended
+returns-clause-appended g c = rw (take_all c.loop-scope_group.scope_group-index c.deref-scope_group-items.result.now c.loop-scope_group-test.false, c.deref-scope_group-items.ensures.value) at c.loop-scope_group.invariant.1

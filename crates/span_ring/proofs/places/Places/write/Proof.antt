@@ -67,7 +67,7 @@ write_spec 𝓤 𝓛 𝓜 𝓡 wired X L =
     in_a_block ! d.at (λ (r : Ptr). places_own R r d.before d.items d.after) (id⊢ 𝓤 (never 𝓤)) (λ b o e. fsplit ! $ flt_l ! (λ small.
     let sizes = within_all d.before (length d.items) d.after s small in let tiny : s < 2 ^ 64 = sizes.0 (omega arith) in let far : i * s < 2 ^ 64 = sizes.1 i (omega arith) in
     let moved : i * s ≡ (d.before + length d.items) * s = ap (λ (n : ℕ). n * s) index in
-    let behind : i * s + o ≡ length d.items * s + (d.before * s + o) = omega (arith, moved, add-mul d.before (length d.items) s) in
+    let appended : i * s + o ≡ length d.items * s + (d.before * s + o) = omega (arith, moved, add-mul d.before (length d.items) s) in
     let further : i * s + o + s ≡ (d.before + length xs) * s + o =
     let longer_by_one : d.before + length xs ≡ d.before + length d.items + 1 = omega (arith, length_push d.items x) in
     omega (arith, moved, ap (λ (n : ℕ). n * s) longer_by_one, add-mul (d.before + length d.items) 1 s, one-mul s) in
@@ -84,7 +84,7 @@ write_spec 𝓤 𝓛 𝓜 𝓡 wired X L =
     -- [the item's cell; room after it; the others; room before them; the mark; its cell; the open
     -- borrow; the other token; what the item owns]
     move ! (0 ∷ 10 ∷ []) $ use2 𝓛 (‵ (part_at R full_share x b (i * s + o))) (part_in 𝓛 R refl full_share x b (i * s + o) w) $ move ! (2 ∷ 0 ∷ []) $
-    use2 𝓛 (‵ (items_own R b (d.before * s + o) xs)) (one_more 𝓛 b R x d.items (d.before * s + o) (i * s + o) behind) $
+    use2 𝓛 (‵ (items_own R b (d.before * s + o) xs)) (one_more 𝓛 b R x d.items (d.before * s + o) (i * s + o) appended) $
     rewrite ! 1 (λ (k : ℕ). ‵ (froom (bare (ty_array τ left)) b k)) further refl $ fjoin ! $ move ! (1 ∷ 0 ∷ []) $ fjoin ! $
     flt_i ! ((d.before + length xs + left) * s) (2 ^ 63) (subst (λ (n : ℕ). n * s < 2 ^ 63) as_many small) $ fjoin ! $
     rewrite ! 0 (λ (r : Ptr). ‵ (places_own R r d.before xs left)) (sym e) refl $ move ! (1 ∷ 0 ∷ []) $ fjoin ! $ move ! (1 ∷ 0 ∷ 2 ∷ 3 ∷ 4 ∷ []) $ closes ! tt O new vs rb ro $

@@ -1,12 +1,12 @@
 use Rattle.std.proofs.Common.{refl, ◌∙◌}
 use Rattle.trace_history.specs.Answers.{answer_view}
 use Rattle.trace_history.specs.Steps.{step_view}
-use Rattle.trace_run.proofs.Places.{behind-more, one-if}
-use Rattle.trace_run.proofs.text.place.Place.behind.Goals as goal
+use Rattle.trace_run.proofs.Places.{after-more, one-if}
+use Rattle.trace_run.proofs.text.place.Place.appended.Goals as goal
 
 pub returns : goal.returns
 returns g c before is =
     let from = c.from.ensures ∙ one-if _ in
     let from-2 = c.from-2.ensures ∙ one-if _ in
-    behind-more before (record { step = step_view c.args.step.now; answer = answer_view c.args.answer.now }) c.args.self _ is
+    after-more before (record { step = step_view c.args.step.now; answer = answer_view c.args.answer.now }) c.args.self _ is
     (rw (from, c.is_start.ensures) refl) (rw (from-2, c.is_sent.ensures) refl)
