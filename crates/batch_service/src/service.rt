@@ -21,7 +21,8 @@ use batch_processor::{
     Pass, SystemClock, WorkEnd, WorkerLeft,
 };
 use drop_ledger::NameSink;
-use rand::{make_rng, rngs::StdRng};
+use rand::make_rng;
+use rand::rngs::StdRng;
 use rand_core::Rng;
 use span_exporter::Exporter;
 use std::alloc::{AllocError, Global};

@@ -2,7 +2,8 @@
 use anyhow::Result;
 use std::io::{self, Write};
 use std::process::ExitCode;
-use trace_kit::{http::HttpExporter, processor::Served};
+use trace_kit::http::HttpExporter;
+use trace_kit::processor::Served;
 use trace_kit::queue::{DropCounts, Totals};
 
 /// How many spans were dropped, for whatever reason.

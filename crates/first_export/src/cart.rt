@@ -1,6 +1,7 @@
 //! A request for a cart, and the query that it makes.
 use anyhow::Result;
-use rand::{make_rng, rngs::StdRng};
+use rand::make_rng;
+use rand::rngs::StdRng;
 use std::alloc::Global;
 use std::random::RandomSource;
 use std::sync::Arc;

@@ -16,8 +16,10 @@ use crate::place::read_place;
 use anyhow::Result;
 use std::io::Write;
 use std::process::ExitCode;
-use trace_kit::{export::RetryConfig, http::HttpExporter, queue::NameLines};
+use trace_kit::export::RetryConfig;
+use trace_kit::http::HttpExporter;
 use trace_kit::processor::{BatchConfig, Done, serve};
+use trace_kit::queue::NameLines;
 
 fn main(rt: HostRuntime) -> Result<ExitCode> {
     let alloc = rt.alloc();

@@ -1,6 +1,7 @@
 //! The spans of a checkout.
 use anyhow::Result;
-use rand::{SeedableRng, rngs::StdRng};
+use rand::SeedableRng;
+use rand::rngs::StdRng;
 use std::alloc::Global;
 use std::sync::Arc;
 use trace_kit::trace::{

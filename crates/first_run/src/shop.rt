@@ -5,8 +5,9 @@ use anyhow::{Result, ensure};
 use std::alloc::Global;
 use std::sync::{Arc, Mutex, Wait};
 use std::time::Clock;
-use trace_kit::{export::RetryConfig, queue::DeskConfig};
+use trace_kit::export::RetryConfig;
 use trace_kit::processor::{BatchConfig, ServicePass, Work};
+use trace_kit::queue::DeskConfig;
 
 /// How many threads serve checkouts.
 pub const THREADS: usize = 3;

@@ -5,7 +5,8 @@ use std::io::Eprint;
 use std::sync::Wait;
 use std::time::{Clock, Duration};
 use trace_kit::http::{Failure, FailureWatch};
-use trace_kit::{processor::ServicePass, queue::Totals};
+use trace_kit::processor::ServicePass;
+use trace_kit::queue::Totals;
 
 /// How many seconds there are between two lines.
 const PAUSE_S: u64 = 1;

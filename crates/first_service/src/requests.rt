@@ -1,6 +1,7 @@
 //! The requests that a thread serves.
 use anyhow::Result;
-use rand::{Rng, make_rng, rngs::StdRng};
+use rand::rngs::StdRng;
+use rand::{Rng, make_rng};
 use std::alloc::Global;
 use std::random::RandomSource;
 use std::sync::Arc;

@@ -9,11 +9,12 @@ use std::io::Eprint;
 use std::random::RandomSource;
 use std::sync::{Arc, Wait};
 use std::time::Clock;
-use trace_kit::{export::RetryConfig, queue::DeskConfig};
+use trace_kit::export::RetryConfig;
 use trace_kit::http::{
     DEFAULT_PATH, DEFAULT_PORT, FailureWatch, LinkExporter, Target, WatchedExporter,
 };
 use trace_kit::processor::{BatchConfig, ServicePass, Work};
+use trace_kit::queue::DeskConfig;
 
 /// How many threads serve requests. One more prints.
 pub const THREADS: usize = 4;

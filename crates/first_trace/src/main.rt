@@ -6,7 +6,8 @@ mod cart;
 mod tree;
 
 use anyhow::Result;
-use rand::{make_rng, rngs::StdRng};
+use rand::make_rng;
+use rand::rngs::StdRng;
 use std::io::Write;
 
 fn main(rt: HostRuntime) -> Result<()> {

@@ -1,6 +1,7 @@
 //! A connection, with no IO of its own.
 
-ghost use Rattle.std.specs.Prelude.{◌≡◌, ◌≤◌, ℕ, ◌↔◌, ◌<◌, false, [], List, drop, length, min, take, vec_len, IfOk, OnErr, IsTrue};
+ghost use Rattle.std.specs.Prelude.{◌≡◌, ◌≤◌, ℕ, ◌↔◌, ◌<◌, false, [], List, drop, length, min};
+ghost use Rattle.std.specs.Prelude.{take, vec_len, IfOk, OnErr, IsTrue};
 ghost use Rattle.std.specs.Io.KnownBytes.{Appends, Keeps};
 
 use crate::input::Input;
@@ -8,7 +9,8 @@ use crate::limits::{MAX_FIELDS, MAX_PENDING};
 use crate::output::Output;
 use crate::{Limits, Phase, Pieces, Service};
 use bytes::Bytes;
-use http::{HeaderMap, Method, Request, Uri, Version, request::Parts};
+use http::request::Parts;
+use http::{HeaderMap, Method, Request, Uri, Version};
 use http1::Server;
 use httparse::spans::EMPTY_HEADER_SPAN;
 use std::alloc::Global;
@@ -68,7 +70,9 @@ pub(crate) fn blank_request(alloc: Global, keys: RandomState) -> Request<Bytes> 
 }
 
 impl<P> Connection<P> {
-    ghost use Rattle.http_connection.specs.Connections.{pending_of, held_of, phase_of, place_of, wants_advance_of, wants_read_of, is_aborted};
+    ghost use Rattle.http_connection.specs.Connections.{pending_of, held_of, phase_of, place_of};
+    ghost use Rattle.http_connection.specs.Connections.{wants_advance_of, wants_read_of};
+    ghost use Rattle.http_connection.specs.Connections.{is_aborted};
     ghost use Rattle.http_connection.specs.Runs.{Place};
 
     /// A connection on which nothing has come. It takes no memory. The client chooses the names of

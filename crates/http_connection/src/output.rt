@@ -1,6 +1,7 @@
 //! The bytes that wait to be written.
 
-ghost use Rattle.std.specs.Prelude.{◌≡◌, ◌+◌, ◌-◌, ◌≤◌, [], length, drop, vec_len, vec_capacity, OnOk};
+ghost use Rattle.std.specs.Prelude.{◌≡◌, ◌+◌, ◌-◌, ◌≤◌, [], length, drop, vec_len, vec_capacity};
+ghost use Rattle.std.specs.Prelude.{OnOk};
 
 use bytes::BufMut;
 use std::alloc::{AllocError, Global};

@@ -1,6 +1,8 @@
 //! The steps of a connection.
 
-ghost use Rattle.std.specs.Prelude.{◌≡◌, ◌⊎◌, ◌++◌, [], ◌<◌, ◌≤◌, ◌*◌, ◌+◌, ◌-◌, false, true, length, slice_range, vec_len, Some, IfNone, OnOk, IsFalse, IsTrue, if◌then◌else◌};
+ghost use Rattle.std.specs.Prelude.{◌≡◌, ◌⊎◌, ◌++◌, [], ◌<◌, ◌≤◌, ◌*◌, ◌+◌, ◌-◌, false, true};
+ghost use Rattle.std.specs.Prelude.{length, slice_range, vec_len, Some, IfNone, OnOk, IsFalse};
+ghost use Rattle.std.specs.Prelude.{IsTrue, if◌then◌else◌};
 ghost use Rattle.http.specs.Request.{body_of, head_of, with_body};
 ghost use Rattle.http1.specs.Conn.{finish_text};
 ghost use Rattle.http1.specs.Framing.{method_kind};
@@ -17,7 +19,8 @@ use crate::{Pieces, Refusal, Service};
 use bytes::Bytes;
 use http::{Method, Request};
 use http_server::Response;
-use http1::{BodySize, Event, framing::MethodKind};
+use http1::framing::MethodKind;
+use http1::{BodySize, Event};
 use httparse::spans::{HeaderSpan, RequestSpans, Span};
 use std::alloc::AllocError;
 use std::mem;
@@ -35,7 +38,8 @@ fn set_body(request: &mut Request<Bytes>, body: Bytes)
 }
 
 impl<P: Pieces + Drop> Connection<P> {
-    ghost use Rattle.http_connection.specs.Connections.{Rests, RunsOn, WritesOn, is_aborted, max_body_of, pending_of, place_of, work};
+    ghost use Rattle.http_connection.specs.Connections.{Rests, RunsOn, WritesOn, is_aborted};
+    ghost use Rattle.http_connection.specs.Connections.{max_body_of, pending_of, place_of, work};
     ghost use Rattle.http_connection.specs.Runs.{Place, IsOpen, Runs, asks_head, place_after};
     ghost use Rattle.http_connection.specs.Texts.{opening_text, piece_text, refusal_text};
 

@@ -204,8 +204,8 @@ fn read_timeout<A: Allocator + Copy>(
 }
 
 /// The settings that these names and values make, variable by variable. Of equal names the last
-/// counts, and an empty value counts as unset. A value that can't be read, or that asks for what the
-/// kit doesn't have, leaves its default, and is once in the list of faults.
+/// counts, and an empty value counts as unset. A value that can't be read, or that asks for what
+/// the kit doesn't have, leaves its default, and is once in the list of faults.
 ///
 /// # Errors
 ///

@@ -3,9 +3,9 @@
 ghost use Rattle.std.specs.Prelude.{◌≤◌, [], IfOk, Some};
 ghost use Rattle.otlp_collector.specs.Served.{PrintsOne};
 
+use crate::PrintFault;
 use crate::served::{print_none, serve};
 use http_wire::{Counted, HeadLimits};
-use crate::PrintFault;
 use std::alloc::Global;
 use std::io;
 use std::io::{BufReader, Read, Write};

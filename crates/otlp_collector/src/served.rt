@@ -7,8 +7,8 @@ ghost use Rattle.otlp_collector.specs.Served.{connection_line, connection_text};
 ghost use Rattle.otlp_collector.specs.Served.{no_outcome, outcome_view};
 ghost use Rattle.otlp_collector.specs.Printed.{AppendsFront, CountsFailedWrite};
 
-use http_wire::{FaultRead, FaultWrite, HeadLimits, write_pieces};
 use crate::{Answered, PrintFault, answer, print_spans};
+use http_wire::{FaultRead, FaultWrite, HeadLimits, write_pieces};
 use std::alloc::{AllocError, Allocator, Global};
 
 /// The line of the connection with this number, which has this status, or `none`.

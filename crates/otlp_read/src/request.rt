@@ -16,7 +16,9 @@ ghost use Rattle.otlp_read.specs.Requests.{request_view, request_gathered};
 
 use crate::resource::{InstrumentationScope, InstrumentationScopeParts, Resource, ResourceParts};
 use crate::span::{Span, SpanParts};
-use otlp_wire::{Field, GatherFields, ReadFault, gather_all, gather_in, last_bytes, push_message, read_text};
+use otlp_wire::{
+    Field, GatherFields, ReadFault, gather_all, gather_in, last_bytes, push_message, read_text,
+};
 use std::alloc::{Allocator, Global};
 
 /// The spans of a scope (opentelemetry-proto, trace.proto: ScopeSpans).

@@ -15,7 +15,10 @@ ghost use Rattle.otlp_read.specs.Resources.{resource_view, resource_gathered, sc
 ghost use Rattle.otlp_read.specs.Resources.{scope_gathered};
 
 use crate::any_value::{AnyValue, push_attribute};
-use otlp_wire::{Field, Fields, GatherFields, ReadFault, bytes_in, last_bytes, last_varint, low_32_bits, read_text};
+use otlp_wire::{
+    Field, Fields, GatherFields, ReadFault, bytes_in, last_bytes, last_varint, low_32_bits,
+    read_text,
+};
 use std::alloc::{Allocator, Global};
 
 /// What made the spans (opentelemetry-proto, resource.proto: Resource). Entity references are not

@@ -16,7 +16,10 @@ ghost use Rattle.otlp_read.specs.Spans.{event_gathered, link_view, link_gathered
 ghost use Rattle.otlp_read.specs.Spans.{span_view, span_gathered};
 
 use crate::any_value::{AnyValue, push_attribute};
-use otlp_wire::{Field, Fields, GatherFields, ReadFault, bytes_in, copy_bytes, last_bytes, last_fixed32, last_fixed64, last_varint, low_32_bits, push_message, read_text};
+use otlp_wire::{
+    Field, Fields, GatherFields, ReadFault, bytes_in, copy_bytes, last_bytes, last_fixed32,
+    last_fixed64, last_varint, low_32_bits, push_message, read_text,
+};
 use std::alloc::{Allocator, Global};
 
 /// Whether the operation that the span describes went well (opentelemetry-proto, trace.proto:

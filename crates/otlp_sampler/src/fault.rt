@@ -8,8 +8,8 @@ pub enum RatioFault {
     /// The text is empty.
     #[error("no ratio: the text is empty")]
     Empty,
-    /// The text isn't decimal digits with at most one point, with or without an exponent after them.
-    /// A blank is refused, too, and so is a sign before the number.
+    /// The text isn't decimal digits with at most one point, with or without an exponent after
+    /// them. A blank is refused, too, and so is a sign before the number.
     #[error("bad ratio: it is a decimal number such as 0.25 or 1e-3, without a sign before it")]
     NotANumber,
     /// The ratio is above 1.

@@ -115,8 +115,8 @@ fn is_plain(fields: &HeaderMap) -> bool
     are_identity(fields.get_all("content-encoding").iter())
 }
 
-/// What a request with this method, target and fields is answered that a collector refuses, and none
-/// where it is for it: as `Post::refusal`, for requests that another reader has read.
+/// What a request with this method, target and fields is answered that a collector refuses, and
+/// none where it is for it: as `Post::refusal`, for requests that another reader has read.
 pub fn refusal_of(method: &str, target: &[u8], fields: &HeaderMap) -> Option<PostReply>
     ensures { result ≡ refusal_of (record {
       method = method.now;

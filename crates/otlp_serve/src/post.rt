@@ -13,8 +13,11 @@ use crate::answer::refusal_of;
 use crate::fault::PostFault;
 use crate::head::RequestHeads;
 use crate::reply::PostReply;
-use http_wire::{FaultRead, HeadLimits, HttpFault, MOST_FIELDS, keep_fields, read_body, read_head, request_framing};
 use http_header::HeaderMap;
+use http_wire::{
+    FaultRead, HeadLimits, HttpFault, MOST_FIELDS, keep_fields, read_body, read_head,
+    request_framing,
+};
 use httparse::spans::HeaderSpan;
 use std::alloc::{Allocator, Global};
 use std::str;

@@ -1,7 +1,7 @@
 //! Why a message could not be read.
 
-use otlp_ids::OutOfMemory;
 use crate::WireFault;
+use otlp_ids::OutOfMemory;
 use std::alloc::AllocFailed;
 use thiserror::Error;
 

@@ -18,8 +18,8 @@ ghost use Rattle.otlp_wire.specs.Response.{Rejects, message_text};
 
 use crate::fault::ReadFault;
 use crate::payloads::{bytes_in, varint_in};
-use otlp_ids::copy_text;
 use crate::{Field, Fields, WireFault};
+use otlp_ids::copy_text;
 use std::alloc::{Allocator, Global};
 use std::marker::Model;
 use std::str;

@@ -10,8 +10,8 @@ ghost use Rattle.model_message.specs.Canon.{row_bytes, unless_empty};
 ghost use Rattle.otlp_wire.specs.Response.{partial_fields};
 
 use crate::response::{PartialSuccess, Response};
-use otlp_ids::OutOfMemory;
 use crate::{write_len, write_varint};
+use otlp_ids::OutOfMemory;
 use std::alloc::Allocator;
 
 /// Appends the field of this number that holds these bytes, also where there are none.

@@ -4,7 +4,8 @@ ghost use Rattle.std.specs.Io.KnownBytes.{Keeps};
 ghost use Rattle.program_args.specs.Faults.{fault_of_error, status_of};
 ghost use Rattle.program_args.specs.declared.fault.ArgFault.TheVariants as faults;
 
-use clap::{Error, error::ErrorKind};
+use clap::Error;
+use clap::error::ErrorKind;
 use std::alloc::AllocError;
 use std::fmt::Display;
 use std::io;

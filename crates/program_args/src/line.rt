@@ -6,7 +6,9 @@ ghost use Rattle.program_args.specs.Line.{rule_of_number, rule_of_text};
 ghost use Rattle.program_args.specs.Faults.{IsMistake};
 
 use crate::fault::ArgFault;
-use clap::{Arg, ArgAction, Command, Error, builder::ValueParser, error::ErrorKind};
+use clap::builder::ValueParser;
+use clap::error::ErrorKind;
+use clap::{Arg, ArgAction, Command, Error};
 use std::alloc::Global;
 
 /// The version that `--version` prints: that of each program of this repository.

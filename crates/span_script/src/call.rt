@@ -10,8 +10,8 @@ ghost use Rattle.span_script.specs.Calls.{name_call, plain_status_of, status_cal
 use crate::context::parse_context;
 use crate::value::{parse_pair, parse_pairs};
 use otlp_span::{SpanCall, Status};
-use text_words::{WordFault, number, text};
 use std::alloc::Allocator;
+use text_words::{WordFault, number, text};
 
 /// Reads a call of this name, and the words after the span's number.
 #[tactic(auto, unfolding(crate::specs::Calls::call_of))]

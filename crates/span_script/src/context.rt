@@ -9,9 +9,9 @@ ghost use Rattle.span_script.specs.Contexts.{parent_of, plain_parent_of};
 ghost use Rattle.text_words.specs.declared.WordFault.TheVariants.{Bad};
 
 use otlp_ids::{SpanContext, SpanId, TraceFlags, TraceId};
-use text_words::{WordFault, around_first, byte, small_number, text};
 use std::alloc::Allocator;
 use std::str;
+use text_words::{WordFault, around_first, byte, small_number, text};
 use trace_history::Parent;
 
 /// Reads the parent of a span that starts: `root`, the number of a span, or `remote:` or `local:`

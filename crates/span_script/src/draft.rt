@@ -19,8 +19,8 @@ use batch_desk::DeskConfig;
 use otlp_span::SpanLimits;
 use otlp_value::{AttributeList, Value};
 use retry_core::Outcome;
-use text_words::WordFault;
 use std::alloc::Allocator;
+use text_words::WordFault;
 use trace_history::Step;
 
 /// What the lines so far say.

@@ -19,10 +19,10 @@ use batch_desk::DeskConfig;
 use otlp_span::SpanLimits;
 use otlp_value::Value;
 use retry_core::Outcome;
-use text_words::{WordFault, generator_words, number, parts_of, small_number, text};
 use span_ring::MAX_QUEUE;
 use std::alloc::Allocator;
 use std::str;
+use text_words::{WordFault, generator_words, number, parts_of, small_number, text};
 use trace_history::Step;
 
 /// What a line says.

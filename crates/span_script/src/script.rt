@@ -14,8 +14,8 @@ use otlp_ids::OutOfMemory;
 use otlp_span::{Scope, SpanLimits};
 use otlp_value::Value;
 use retry_core::Outcome;
-use text_words::{WordFault, parts_of};
 use std::alloc::{Allocator, Global};
+use text_words::{WordFault, parts_of};
 use thiserror::Error;
 use trace_history::Step;
 

@@ -12,8 +12,8 @@ ghost use Rattle.text_words.specs.declared.WordFault.TheVariants.{Bad};
 use crate::call::parse_call;
 use crate::context::parse_parent;
 use otlp_span::{Kind, SpanCall};
-use text_words::{WordFault, number, small_number, text};
 use std::alloc::Allocator;
+use text_words::{WordFault, number, small_number, text};
 use trace_history::Step;
 
 /// Reads a step of this name, and the words after it.

@@ -8,8 +8,8 @@ ghost use Rattle.span_script.specs.Values.{value_of_kind};
 ghost use Rattle.text_words.specs.declared.WordFault.TheVariants.{Bad};
 
 use otlp_value::Value;
-use text_words::{WordFault, integer, parts_of, text};
 use std::alloc::{AllocError, Allocator};
+use text_words::{WordFault, integer, parts_of, text};
 
 /// Any number of keys, each with a value after it.
 pub(crate) fn parse_pairs<A: Allocator + Copy>(

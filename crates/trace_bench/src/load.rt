@@ -5,14 +5,15 @@ use otlp_ids::OutOfMemory;
 use otlp_sampler::AlwaysOn;
 use otlp_span::{Kind, Resource, Scope, SpanData, SpanLimits};
 use otlp_value::Value;
-use rand::{make_rng, rngs::StdRng};
+use rand::make_rng;
+use rand::rngs::StdRng;
 use rand_core::Rng;
-use trace_api::{EndPass, Provider, Span, SpanExt, Tracer};
 use std::alloc::Global;
 use std::random::RandomSource;
 use std::sync::Arc;
 use std::time::{Clock, Duration, Instant};
 use std::{io, thread};
+use trace_api::{EndPass, Provider, Span, SpanExt, Tracer};
 
 /// When a span starts, in nanoseconds since 1970.
 const START: u64 = 1_700_000_000_000_000_000;

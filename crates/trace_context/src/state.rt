@@ -7,8 +7,8 @@ ghost use Rattle.trace_context.specs.Tracestate as spec;
 
 use crate::keys::{is_key, is_value};
 use otlp_ids::OutOfMemory;
-use text_words::{around_first, parts_of, trimmed};
 use std::alloc::Allocator;
+use text_words::{around_first, parts_of, trimmed};
 
 /// The most entries that a trace state has (W3C Trace Context, "tracestate", "list").
 const MOST_ENTRIES: usize = 32;

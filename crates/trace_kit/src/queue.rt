@@ -6,7 +6,9 @@ pub use batch_desk::{
     Admitted, Batch, Desk, DeskConfig, DrainedNames, FateCounts, Mark, NamedBatch, SettledBatch,
     Totals, loss_reason,
 };
-pub use drop_ledger::{DEFAULT_NAMES, DropCounts, Ledger, NameLines, NameSink, NewestNames, ReasonCounts};
+pub use drop_ledger::{
+    DEFAULT_NAMES, DropCounts, Ledger, NameLines, NameSink, NewestNames, ReasonCounts,
+};
 pub use otlp_span::{Entries, Entry, Reason, Slip};
 pub use retry_core::Fate;
 pub use span_ring::{MAX_QUEUE, RingFault, Run, SpanRing};

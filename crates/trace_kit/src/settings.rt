@@ -2,4 +2,7 @@
 //! Variable Specification"; OTLP Specification, "OTLP Exporter Configuration"):
 //! [`settings_of_environment`], and [`settings_of`] for any list of names and values. Each value
 //! that can't be read is a [`SettingFault`].
-pub use otel_settings::{Instead, NamedSampler, ResourceFault, SamplerName, SettingFault, Settings, Variable, resource_attributes, resource_pairs, settings_of, settings_of_environment};
+pub use otel_settings::{
+    Instead, NamedSampler, ResourceFault, SamplerName, SettingFault, Settings, Variable,
+    resource_attributes, resource_pairs, settings_of, settings_of_environment,
+};

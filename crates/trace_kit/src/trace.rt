@@ -3,10 +3,15 @@
 //! [`EndPass`]. With [`start_span`] and [`SpanExt`] the same takes fewer words: names, keys and
 //! values are lent and copied.
 pub use otlp_ids::{IdFault, OutOfMemory, SpanContext, SpanId, TraceFlags, TraceId};
-pub use otlp_sampler::{AlwaysOff, AlwaysOn, Decision, ParentBased, RatioFault, Sampler, TraceIdRatio};
+pub use otlp_sampler::{
+    AlwaysOff, AlwaysOn, Decision, ParentBased, RatioFault, Sampler, TraceIdRatio,
+};
 pub use otlp_span::{
     Event, Kind, Link, Open, Resource, Scope, SpanCall, SpanData, SpanLimits, SpanRecord, Status,
     replay,
 };
 pub use otlp_value::{AttributeList, Limits, Value};
-pub use trace_api::{BodyPass, EndPass, Ended, KeyValue, LinkRef, Provider, Span, SpanExt, SpanRequest, StartFault, ToValue, Tracer, ValueRef, WordsRng, start_span};
+pub use trace_api::{
+    BodyPass, EndPass, Ended, KeyValue, LinkRef, Provider, Span, SpanExt, SpanRequest, StartFault,
+    ToValue, Tracer, ValueRef, WordsRng, start_span,
+};

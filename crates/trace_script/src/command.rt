@@ -5,7 +5,8 @@ ghost use Rattle.clap.specs.Words.{FailsBy, kind_of};
 ghost use Rattle.trace_script.specs.Command.{AskForBody, AskForRun, word_faults};
 
 use crate::failure::{Failure, tell};
-use clap::{Arg, ArgAction, Command, Error, error::ErrorKind};
+use clap::error::ErrorKind;
+use clap::{Arg, ArgAction, Command, Error};
 use std::alloc::Global;
 use std::io;
 use std::io::Write;

@@ -3,10 +3,10 @@
 //! ends.
 #![tactic(auto)]
 
-use trace_script::trace_script;
 use std::io::{BufReader, BufWriter};
 use std::process::ExitCode;
 use std::{env, io};
+use trace_script::trace_script;
 
 fn main(rt: HostRuntime) -> io::Result<ExitCode> {
     let mut words = Vec::new(rt.alloc());

@@ -24,6 +24,7 @@ same-loss a b e =
     let same = and_parts _ (reason.eq-value.it a.reason b.reason) e in
     ap₂ (λ n r. record { number = n; reason = r }) (eqb-true a.number b.number same.0) (same-reason a.reason b.reason same.1)
 
+-- Lists that compare as equal, place by place, are equal.
 pub same-losses : (xs ys : List Loss) → pointwise loss.eq-value.it xs ys ≡ true → xs ≡ ys
 same-losses [] [] e = refl
 same-losses [] (y ∷ ys) e = absurd (false≢true e)

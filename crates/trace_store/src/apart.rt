@@ -11,14 +11,14 @@ ghost use Rattle.trace_store.specs.Requests.{spans_of_parts, spans_of_request, s
 ghost use Rattle.trace_store.specs.Requests.{spans_of_scope};
 ghost use Rattle.trace_store.specs.Sizes.{at_most_64_bits, resource_bytes};
 
+use crate::Part;
 use crate::group::group;
 use crate::key::trace_key;
-use crate::span_size::{resource_size, scope_size};
 use crate::span::{ViewResource, ViewScope, ViewSpan};
+use crate::span_size::{resource_size, scope_size};
 use otlp_read::{Request, ResourceSpans, ScopeSpans, Span};
 use std::alloc::{AllocError, Allocator};
 use std::sync::Arc;
-use crate::Part;
 
 /// A span, with the number of its trace.
 type Keyed<A> = (u128, Arc<ViewSpan<A>, A>);

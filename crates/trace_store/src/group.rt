@@ -4,10 +4,10 @@ ghost use Rattle.std.specs.Prelude.{◌⊎◌, IfOk, OnOk};
 ghost use Rattle.std.specs.List.Sorted.{IsNonDecreasingBy};
 ghost use Rattle.trace_store.specs.SpanParts.{ArePartsOf, BeginsPart, JoinsLast};
 
+use crate::Part;
 use std::alloc::{AllocError, Allocator};
 use std::collections::LinkedList;
 use std::mem;
-use crate::Part;
 
 /// Puts one more span to the last part, if that is of its trace or empty, or else begins a new
 /// part, and puts the last one to the others.

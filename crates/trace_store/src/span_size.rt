@@ -5,10 +5,10 @@ ghost use Rattle.trace_store.specs.Sizes.{at_most_64_bits, event_bytes, link_byt
 ghost use Rattle.trace_store.specs.Sizes.{resource_bytes, scope_bytes, span_bytes, texts_bytes};
 ghost use Rattle.trace_store.specs.Sizes.{value_bytes};
 
+use crate::SpanSize;
 use crate::span::{ViewResource, ViewScope, ViewSpan};
 use otlp_read::{AnyValue, Event, Link, Span};
 use std::alloc::Allocator;
-use crate::SpanSize;
 
 /// What a value takes besides its text, its bytes or the values in it.
 const VALUE: u64 = 48;

@@ -5,12 +5,12 @@ ghost use Rattle.std.specs.Option.{option_map};
 ghost use Rattle.std.specs.Arc.{arc_value};
 ghost use Rattle.trace_store.specs.Digests as spec;
 
+use crate::Digest;
 use crate::facts::{end_of, is_error, names_none};
 use crate::span::ViewSpan;
 use std::alloc::{AllocError, Allocator, Global};
 use std::marker::Model;
 use std::sync::Arc;
-use crate::Digest;
 
 /// What a trace is, in short: its root, when it began and ended, and how many spans it has. It
 /// shares the root with whoever keeps the trace, and takes no memory of its own.

@@ -1,10 +1,10 @@
 //! The peers of the program: they join, have turns, and leave.
 
 use crate::peer::{Peer, Turn};
+use crate::{Accepting, Due, Longest, Pending, Stage, StageTimes, Waiter};
 use http_connection::{Connection, Limits, Pieces, Service};
 use mio::net::{TcpListener, TcpStream};
 use mio::{Interest, Poll, Token};
-use crate::{Accepting, Due, Longest, Pending, Stage, StageTimes, Waiter};
 use slab::Slab;
 use std::alloc::Global;
 use std::hash::RandomState;

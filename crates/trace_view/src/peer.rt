@@ -4,8 +4,8 @@ ghost use Rattle.http_connection.specs.Connections.{held_of, place_of};
 ghost use Rattle.trace_view.specs.Serving.{IsSeen, Serves, connection_of};
 ghost use Rattle.trace_view.specs.Stages.{stage_at};
 
-use http_connection::{Connection, Phase, Pieces, Service};
 use crate::{Due, PeerClock, Sight, Stage, StageTimes};
+use http_connection::{Connection, Phase, Pieces, Service};
 use std::io::{self, ErrorKind, Read, Write};
 
 /// How often a peer is read or written before others have their turn. Of a long answer only one

@@ -1,9 +1,10 @@
 //! Rounds of turns.
 
+use crate::TICK_MS;
 use crate::crowd::{Crowd, LISTENER, Settings, now_ms};
 use http_connection::{Pieces, Service};
-use mio::{Events, net::TcpListener};
-use crate::TICK_MS;
+use mio::Events;
+use mio::net::TcpListener;
 use std::alloc::Global;
 use std::net::Net;
 use std::random::RandomSource;

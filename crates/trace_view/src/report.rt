@@ -1,7 +1,7 @@
 //! The lines on refused requests.
 
-use http::StatusCode;
 use crate::{Complaints, Line};
+use http::StatusCode;
 use std::io::Write;
 use view_service::Tallies;
 

@@ -1,10 +1,10 @@
 //! `trace-view` receives spans by OTLP/HTTP, keeps the newest traces, and shows them in a browser.
 #![tactic(auto)]
 
-use trace_view::run_view;
 use std::io::BufWriter;
 use std::process::ExitCode;
 use std::{env, io};
+use trace_view::run_view;
 use view_service::Site;
 
 fn main(rt: HostRuntime) -> io::Result<ExitCode> {

@@ -17,7 +17,6 @@ use crate::fault::GetFault;
 use crate::start::{Begun, begin};
 use batch_processor::Clock;
 use http_exporter::Dial;
-use trace_api::{EndPass, Ending, Span, Tracer, count_untraced, end_span};
 use itoa::Buffer;
 use otlp_http::{Reply, Target};
 use otlp_ids::SpanContext;
@@ -26,6 +25,7 @@ use otlp_span::SpanData;
 use rand_core::Rng;
 use std::alloc::Global;
 use std::marker::Model;
+use trace_api::{EndPass, Ending, Span, Tracer, count_untraced, end_span};
 
 /// What a client works with.
 #[derive(Drop)]

@@ -10,7 +10,6 @@ ghost use Rattle.traced_client.specs.Spans as spec;
 ghost use Rattle.traced_client.specs.Spans.{HasStarted, StartsClient, carried_by};
 
 use crate::request::Field;
-use trace_api::{KeyValue, Span, SpanRequest, StartFault, Tracer, ValueRef, int_value, start_span, text_pair};
 use itoa::Buffer;
 use otlp_http::Target;
 use otlp_ids::{OutOfMemory, SpanContext};
@@ -18,6 +17,9 @@ use otlp_sampler::Sampler;
 use otlp_span::Kind;
 use rand_core::Rng;
 use std::alloc::Global;
+use trace_api::{
+    KeyValue, Span, SpanRequest, StartFault, Tracer, ValueRef, int_value, start_span, text_pair,
+};
 use trace_context::inject;
 
 /// How a request begins.

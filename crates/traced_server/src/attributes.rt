@@ -10,10 +10,10 @@ use crate::method::{method_value, original_method};
 use crate::start::ServerName;
 use bytes::Bytes;
 use http::{HeaderMap, HeaderValue, Request, Version};
-use trace_api::{KeyValue, ValueRef, int_value, text_pair};
 use otlp_ids::OutOfMemory;
 use std::alloc::Global;
 use std::str;
+use trace_api::{KeyValue, ValueRef, int_value, text_pair};
 
 /// The version of HTTP, without its name.
 fn version_text(version: Version) -> &'static str

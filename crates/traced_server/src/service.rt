@@ -15,12 +15,12 @@ use batch_processor::Clock;
 use bytes::Bytes;
 use http::{Request, StatusCode};
 use http_server::{Response, Service};
-use trace_api::{EndPass, Ending, Span, count_untraced, end_span};
 use otlp_ids::SpanContext;
 use otlp_sampler::Sampler;
 use otlp_span::SpanData;
 use rand_core::Rng;
 use std::alloc::{AllocError, Global};
+use trace_api::{EndPass, Ending, Span, count_untraced, end_span};
 
 /// A handler whose requests have spans, each of which ends on the pass.
 ///

@@ -17,8 +17,8 @@ use otlp_ids::SpanContext;
 use otlp_sampler::Sampler;
 use otlp_span::Kind;
 use rand_core::Rng;
-use trace_api::{KeyValue, Span, SpanRequest, StartFault, Tracer, start_span};
 use std::alloc::Global;
+use trace_api::{KeyValue, Span, SpanRequest, StartFault, Tracer, start_span};
 
 /// What a server is reached by (Semantic Conventions, "server.address", "server.port").
 #[derive(Debug, Clone, Copy)]

@@ -9,15 +9,18 @@ use lib.Ieee.{is_nan as nan_test}
 use Rattle.json.specs.Token.{Token, number, string}
 use Rattle.view_json.specs.Seen.{Other, Number, float_seen, seen, seen_of}
 
+-- Bits are those of no number exactly where, without the sign, they are above those of infinity.
 pub nan_at : (bits : ℕ) → is_nan (from_bits binary64 bits) ≡ nat_lt 0x7ff0_0000_0000_0000 (bits % 2 ^ 63)
 nan_at bits = sym (nan_bits_is binary64 bits) ∙ nan_bits_above binary64 bits
 
+-- A double that is no number is seen as the text NaN.
 pub nan_seen : (x : Float) → is_nan x ≡ true → Other (string (codes "NaN")) ≡ float_seen x
 unfolding nan_test
 nan_seen nan h = refl
 nan_seen (inf s) h = cc
 nan_seen (fin s m e) h = cc
 
+-- An infinite double with a sign is seen as the text -Infinity.
 pub minus_seen : (x : Float) → is_nan x ≡ false → float_is_finite x ≡ false → is_sign_negative x ≡ true → Other (string (codes "-Infinity")) ≡ float_seen x
 unfolding nan_test float_is_finite is_sign_negative
 minus_seen nan h f n = cc
@@ -25,6 +28,7 @@ minus_seen (inf true) h f n = refl
 minus_seen (inf false) h f n = cc
 minus_seen (fin s m e) h f n = cc
 
+-- An infinite double without a sign is seen as the text Infinity.
 pub plus_seen : (x : Float) → is_nan x ≡ false → float_is_finite x ≡ false → is_sign_negative x ≡ false → Other (string (codes "Infinity")) ≡ float_seen x
 unfolding nan_test float_is_finite is_sign_negative
 plus_seen nan h f n = cc

@@ -257,8 +257,8 @@ fn push_pending<A: Allocator>(out: &mut Writer<A>, bytes: Option<u64>) -> Result
 /// What is counted, as JSON (profile): an object with the numbers `received`, `kept` and `evicted`
 /// of spans, with `traces` and `evictedTraces` of traces, with `pendingBytes` where that is known,
 /// and with the array `lastEvicted` of the traces of `last_evicted`, in its order: by their
-/// identifiers, each 32 hexadecimal digits in lower case. The caller puts the trace that was evicted
-/// last first.
+/// identifiers, each 32 hexadecimal digits in lower case. The caller puts the trace that was
+/// evicted last first.
 ///
 /// # Errors
 ///

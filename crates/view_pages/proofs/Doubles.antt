@@ -44,6 +44,7 @@ lacks_sign : (negative : Bool) → lacks (sign_text negative) ≡ true
 unfolding sign_text
 lacks_sign negative = lacks_cond negative _ _ (λ e. refl) (λ e. refl)
 
+-- The text of a double has no `<`.
 pub lacks_double : (bits : ℕ) → lacks (double_text bits) ≡ true
 unfolding double_text
 lacks_double bits =

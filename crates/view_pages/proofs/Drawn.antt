@@ -9,6 +9,7 @@ use Rattle.trace_tree.specs.declared.span.TreeSpan.{TreeSpan}
 use Rattle.trace_store.specs.declared.span.ViewSpan.{ViewSpan}
 use Rattle.view_pages.specs.Pages.{AreRows, AreTreeSpans, tree_view, span_view}
 
+-- The tree has as many spans as the trace.
 pub as_many : {A : Type 0} (spans : List (Bor (ViewSpan A))) (tree : List TreeSpan) → AreTreeSpans spans tree → length tree ≡ length spans
 as_many spans tree same = sym (length-map tree tree_view) ∙ ap length same ∙ length-map spans span_view
 

@@ -59,6 +59,7 @@ lacks_encode c h =
 same_byte : (c : ℕ) → not (c == 60) ≡ true → c ≡ 60 → ⊥
 same_byte c h e = grind arith
 
+-- Characters without `<` have no `<` in their UTF-8.
 pub lacks_encodes : (cs : List ℕ) → lacks cs ≡ true → lacks (encode_utf8_all cs) ≡ true
 lacks_encodes [] h = refl
 lacks_encodes (c ∷ cs) h =
@@ -97,10 +98,12 @@ lacks_onto (suc k) n acc h =
     let more : lacks (digit_glyph false (n % 10) ∷ acc) ≡ true = one_more (digit_glyph false (n % 10)) acc (glyph_other (n % 10)) h in
     lacks_cond (n / 10 == 0) _ _ (λ e. more) (λ e. lacks_onto k (n / 10) (digit_glyph false (n % 10) ∷ acc) more)
 
+-- A number in decimal digits has no `<`.
 pub lacks_decimal : (n : ℕ) → lacks (decimal n) ≡ true
 unfolding digits
 lacks_decimal n = lacks_onto 64 n [] refl
 
+-- A signed number in decimal digits has no `<`.
 pub lacks_signed : (z : ℤ) → lacks (signed_decimal z) ≡ true
 lacks_signed (pos n) = lacks_decimal n
 lacks_signed (negsuc n) = one_more 45 (decimal (suc n)) (λ k. omega arith) (lacks_decimal (suc n))
@@ -111,6 +114,7 @@ lacks_at [] k h e = omega arith
 lacks_at (x ∷ xs) zero h e = same_byte x (parts (not (x == 60)) (lacks xs) h).0 e
 lacks_at (x ∷ xs) (suc k) h e = lacks_at xs k (parts (not (x == 60)) (lacks xs) h).1 e
 
+-- Bytes in hexadecimal digits have no `<`.
 pub lacks_digits : (bytes : List ℕ) → lacks (encode_lower bytes) ≡ true
 unfolding encode_with
 lacks_digits [] = refl

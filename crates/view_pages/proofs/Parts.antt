@@ -24,6 +24,7 @@ after r old mid new first next written then =
 pub same : {X : Type 0} (x y : X) (old new : List ℕ) (part : X → Html) → x ≡ y → new ≡ old ++ html_bytes (part x) → new ≡ old ++ html_bytes (part y)
 same x y old new part is written = written ∙ ap (λ z. old ++ html_bytes (part z)) is
 
+-- What was appended for a value was appended for an equal one.
 pub same_ok : {X T E : Type 0} (r : Result T E) (x y : X) (old new : List ℕ) (part : X → Html) → x ≡ y
     → OnOk r (new ≡ old ++ html_bytes (part x)) → OnOk r (new ≡ old ++ html_bytes (part y))
 same_ok r x y old new part is written = subst (λ z. OnOk r (new ≡ old ++ html_bytes (part z))) is written

@@ -47,6 +47,7 @@ pub draws : {A : Type 0} (trace : ℕ) (spans : List (Arc (ViewSpan A) A)) (line
 draws trace spans lines frame plan =
     (plan.lent, plan.are_lent, plan.rows, plan.are_rows, ap html_bytes (planned_is trace spans lines frame plan))
 
+-- The rows that are read of a planned page are the places of the list, each once.
 pub reads_back : {A : Type 0} (trace : ℕ) (spans : List (Arc (ViewSpan A) A)) (lines : List Line) (frame : Frame) → length spans < 2 ^ 64 → IsPlan spans lines frame
     → ArePlaces (length spans) (places_in (html_bytes (planned trace spans lines frame)))
 reads_back trace spans lines frame small plan =
@@ -77,5 +78,6 @@ row_some row old new is =
     let longer : length new ≡ length old + length (html_bytes (row_html row)) = ap length is ∙ length-append old (html_bytes (row_html row)) in
     omega (arith, longer)
 
+-- Order of numbers is transitive.
 pub longer : (a b c : ℕ) → a < b → b < c → a < c
 longer a b c h k = omega arith

@@ -74,6 +74,7 @@ rowless_text (b ∷ bs) h =
     let p = lacks_parts (not (b == 60)) (lacks bs) h in
     rowless_by (60 == b) (agrees (codes "li data-row='") bs) (is_rowless bs) (turned b p.0) (rowless_text bs p.1)
 
+-- A text without `<` has no row, and the reading goes on after it.
 pub skip_text : (text rest : List ℕ) → lacks text ≡ true → places_in (text ++ rest) ≡ places_in rest
 skip_text text rest h = skip text rest (rowless_text text h)
 
@@ -87,6 +88,7 @@ IsRowless (Signed z) = Unit {0}
 IsRowless (Digits bytes) = Unit {0}
 IsRowless (first ▹ next) = IsRowless first × IsRowless next
 
+-- A part without rows has no row, and the reading goes on after it.
 pub skip_parts : (part : Html) (rest : List ℕ) → IsRowless part → places_in (html_bytes part ++ rest) ≡ places_in rest
 unfolding html_bytes
 skip_parts Nothing rest h = refl
@@ -123,6 +125,7 @@ after_start : (after : List ℕ) → places_in (row_start ++ after) ≡ place_he
 unfolding places_in
 after_start after = refl
 
+-- The mark of a row is read as its number, and the reading goes on after it.
 pub reads_row : (n : ℕ) (rest : List ℕ) → n < 2 ^ 64 → places_in (row_start ++ (decimal n ++ 39 ∷ rest)) ≡ n ∷ places_in rest
 reads_row n rest h =
     after_start (decimal n ++ 39 ∷ rest)

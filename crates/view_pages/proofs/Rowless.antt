@@ -298,6 +298,7 @@ unfolding span_html
 rowless_span s line frame =
     (rowless_tag s line frame, (rowless_label s line.row.place line.mark.is_repeated, (rowless_time s.span frame, (rowless_panel s line.row.place, refl))))
 
+-- What follows the mark of a row, up to the next one, has no mark of a row.
 pub rowless_rest : {A : Type 0} (at : Option (ViewSpan A)) (line : Line) (frame : Frame) → IsRowless (span_rest at line frame)
 rowless_rest None line frame = tt
 rowless_rest (Some s) line frame = rowless_span s line frame
@@ -321,6 +322,7 @@ unfolding axis_html
 rowless_axis whole =
     (refl, (rowless_duration (whole / 4), (refl, (rowless_duration (whole / 2), (refl, (rowless_duration (whole - whole / 4), (refl, (rowless_duration whole, refl))))))))
 
+-- What is above the rows has no mark of a row.
 pub rowless_head : (trace count : ℕ) (frame : Frame) → IsRowless (head_html trace count frame)
 unfolding head_html
 rowless_head trace count frame = (rowless_title _, (rowless_counts _ _ _, (rowless_axis _, refl)))

@@ -14,6 +14,7 @@ unfolding html_bytes
 after_end part xs at end text past is =
     append-nil text ∙ is ∙ ap (λ l. html_bytes (each part l) ++ html_bytes end) (sym (drop_of_length-le xs past))
 
+-- What is not false is true.
 pub not_false : (b : Bool) → not b ≡ false → b ≡ true
 not_false true h = refl
 not_false false h = cc

@@ -11,8 +11,8 @@ use crate::service::{colour_by, services_of};
 use otlp_ids::OutOfMemory;
 use std::alloc::Allocator;
 use std::collections::BTreeMap;
-use trace_tree::Row;
 use trace_store::ViewSpan;
+use trace_tree::Row;
 
 /// A row, with what its span is among the others of its trace.
 #[derive(Clone, Copy)]

@@ -18,8 +18,8 @@ use crate::value::push_list;
 use otlp_ids::OutOfMemory;
 use otlp_read::{AnyValue, Event, Link, Span, Status};
 use std::alloc::Allocator;
-use trace_tree::Place;
 use trace_store::{ViewResource, ViewScope, ViewSpan};
+use trace_tree::Place;
 
 /// Appends how many parts the sender dropped, unless it is none.
 #[tactic(auto, unfolding(crate::specs::Html::html_bytes, crate::specs::Panels::dropped_html))]

@@ -18,8 +18,8 @@ use otlp_ids::OutOfMemory;
 use otlp_read::{Event, Span};
 use std::alloc::Allocator;
 use std::sync::Arc;
-use trace_tree::Place;
 use trace_store::ViewSpan;
+use trace_tree::Place;
 
 /// Appends words where something holds.
 #[tactic(auto, unfolding(crate::specs::Html::html_bytes, crate::specs::Rows::remark_html))]

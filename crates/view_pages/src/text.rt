@@ -8,8 +8,8 @@ ghost use Rattle.view_pages.specs.Pages.{AreRows};
 use crate::tree::tree_spans;
 use otlp_ids::OutOfMemory;
 use std::alloc::Allocator;
-use trace_tree::{arrange, write_tree};
 use trace_store::ViewSpan;
+use trace_tree::{arrange, write_tree};
 
 /// How many columns the bars of the text of a trace have.
 const TEXT_WIDTH: usize = 40;

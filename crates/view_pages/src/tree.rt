@@ -10,8 +10,8 @@ use crate::facts::is_error;
 use otlp_ids::OutOfMemory;
 use std::alloc::Allocator;
 use std::sync::Arc;
-use trace_tree::{Row, TreeSpan, arrange};
 use trace_store::ViewSpan;
+use trace_tree::{Row, TreeSpan, arrange};
 
 /// What the tree needs of a span.
 fn tree_span<'a, A: Allocator>(span: &'a ViewSpan<A>) -> TreeSpan<'a>

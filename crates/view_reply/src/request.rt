@@ -25,8 +25,8 @@ pub fn is_export_path(path: &str) -> bool
     path == "/v1/traces" || path == "/v1/metrics" || path == "/v1/logs"
 }
 
-/// Whether a request is an export, or is answered as one: a post, or a request for a path of exports
-/// (OTLP Specification, "OTLP/HTTP Request"; profile).
+/// Whether a request is an export, or is answered as one: a post, or a request for a path of
+/// exports (OTLP Specification, "OTLP/HTTP Request"; profile).
 pub fn is_export(request: &Request<Bytes>) -> bool
     ensures { result ≡ spec.is_export (head_of request.now) }
 {

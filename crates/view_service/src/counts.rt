@@ -1,9 +1,9 @@
 //! What is counted, as it is written.
 
+use crate::{Counts, Tallies};
 use http::StatusCode;
 use std::alloc::{AllocError, Global};
 use view_json::{Answered, Stats};
-use crate::{Counts, Tallies};
 
 /// What is counted of spans.
 pub(crate) fn stats_of(spans: &Counts) -> Stats {

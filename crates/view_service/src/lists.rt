@@ -1,10 +1,10 @@
 //! Traces, as a list has them.
 
+use crate::Listed;
 use std::alloc::{AllocError, Global};
+use trace_store::TraceDigest;
 use view_json::TraceLine;
 use view_pages::{Summary, summary_of_digest};
-use crate::Listed;
-use trace_store::TraceDigest;
 
 /// A summary of each trace, in order.
 pub(crate) fn summaries_of(

@@ -74,8 +74,8 @@ fn size_of_body(request: &Request<Bytes>) -> u64
     request_size(request.body().as_slice())
 }
 
-/// Why a request isn't read, if it isn't: it isn't for a collector, or it takes more memory than may
-/// still be pending.
+/// Why a request isn't read, if it isn't: it isn't for a collector, or it takes more memory than
+/// may still be pending.
 fn denial_of(request: &Request<Bytes>, room: usize) -> Option<Denial>
     ensures { result ≡ denial_of (post_of request.now) room }
 {

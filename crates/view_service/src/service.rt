@@ -21,8 +21,8 @@ use http_connection::{Refusal, Service};
 use http_server::Response;
 use std::alloc::{AllocError, Global};
 use std::sync::Arc;
-use view_reply::{Denial, Hosts, Tallies, denial_format, fill_denial, is_export_path, path_of};
 use trace_store::{TraceDigest, ViewSpan};
+use view_reply::{Denial, Hosts, Tallies, denial_format, fill_denial, is_export_path, path_of};
 
 /// Receives spans by `POST /v1/traces`, and shows by `GET` what its keeper has.
 ///

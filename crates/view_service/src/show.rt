@@ -19,10 +19,10 @@ use otlp_ids::TraceId;
 use std::alloc::{AllocError, Global};
 use std::str;
 use std::sync::Arc;
+use trace_store::{TraceDigest, ViewSpan, trace_key};
 use view_reply::{
     Denial, Format, Tallies, add_format, asked_host, denial_format, fill_denial, path_of,
 };
-use trace_store::{TraceDigest, ViewSpan, trace_key};
 
 /// The list shows this many traces at most.
 const LISTED: usize = 1_000;

@@ -4,19 +4,19 @@ ghost use Rattle.std.specs.Prelude.{◌≡◌, ◌++◌, IfOk, IsOk, List, OnOk,
 ghost use Rattle.view_service.specs.Drawn.{DrawsJson, DrawsText, Draws, site_writes};
 
 use crate::counts::{answered_of, stats_of};
-use crate::site_filter::SiteFilter;
 use crate::lists::{lines_of, summaries_of};
 use crate::page::SitePage;
 use crate::script::SCRIPT;
+use crate::site_filter::SiteFilter;
 use crate::spans::{as_list, lend};
+use crate::{Asked, Counts, ListForm, Listed, Pages, Tallies, TraceForm};
 use std::alloc::{AllocError, Global};
 use std::sync::Arc;
+use trace_store::{TraceDigest, ViewSpan};
 use view_json::{write_metrics, write_stats, write_trace, write_traces};
 use view_pages::{
     Filter, FilterFault, STYLE, TracePage, write_list_page, write_notice_page, write_trace_text,
 };
-use crate::{Asked, Counts, ListForm, Listed, Pages, Tallies, TraceForm};
-use trace_store::{TraceDigest, ViewSpan};
 
 /// The pages of `view_pages`, and the answers for programs of `view_json`.
 #[derive(Clone, Copy, Debug)]

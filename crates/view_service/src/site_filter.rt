@@ -1,10 +1,10 @@
 //! Which traces are listed.
 
+use crate::TraceFilter;
 use std::collections::LinkedList;
 use std::sync::Arc;
-use view_pages::{Filter, summary_of_digest};
-use crate::TraceFilter;
 use trace_store::{TraceDigest, ViewSpan};
+use view_pages::{Filter, summary_of_digest};
 
 /// The filter of a query, over what a store keeps.
 #[derive(Drop)]

@@ -4,9 +4,9 @@ use crate::tests::short_calls::built;
 use crate::tests::spans::only_span;
 use otlp_sampler::AlwaysOn;
 use otlp_value::Value;
-use trace_api::{BodyPass, Ended, KeyValue, SpanExt};
 use std::alloc::{Allocator, Global};
 use std::process::Abort;
+use trace_api::{BodyPass, Ended, KeyValue, SpanExt};
 
 const MANY: usize = 1_000;
 

@@ -3,9 +3,11 @@ use crate::tests::spans::{START, provider, remote, scope};
 use otlp_ids::{OutOfMemory, SpanContext};
 use otlp_sampler::Sampler;
 use otlp_span::{Kind, SpanLimits};
-use trace_api::{KeyValue, LinkRef, Span, SpanExt, SpanRequest, StartFault, ValueRef, WordsRng, start_span};
 use std::alloc::Allocator;
 use std::process::Abort;
+use trace_api::{
+    KeyValue, LinkRef, Span, SpanExt, SpanRequest, StartFault, ValueRef, WordsRng, start_span,
+};
 
 const MISS: u64 = 1_500;
 

@@ -1,8 +1,8 @@
 //! Resource attributes as a text.
 
 use crate::tests::equal::{assert_displayed, assert_equal};
-use otlp_value::Value;
 use otel_settings::{ResourceFault, resource_attributes, resource_pairs};
+use otlp_value::Value;
 use std::alloc::Allocator;
 use std::process::Abort;
 use test_support::FailingAllocator;

@@ -3,7 +3,10 @@
 
 use crate::tests::equal::{assert_displayed, assert_equal};
 use linked_list_allocator::LocalHeap;
-use otlp_wire::{PartialSuccess, ReadFault, Response, WireFault, read_partial_bytes, read_rejected_spans, read_response, read_status_message, write_response};
+use otlp_wire::{
+    PartialSuccess, ReadFault, Response, WireFault, read_partial_bytes, read_rejected_spans,
+    read_response, read_status_message, write_response,
+};
 use std::alloc::{Allocator, Global};
 use std::process::Abort;
 use test_support::FailingAllocator;

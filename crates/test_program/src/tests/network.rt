@@ -4,8 +4,8 @@
 
 use crate::tests::equal::assert_equal;
 use http_exporter::{DEFAULT_EXPORT_TIMEOUT_MS, Dial, TcpDial};
-use otlp_http::{FaultRead, FaultWrite};
 use otlp_collector::{CollectorArgs, collect};
+use otlp_http::{FaultRead, FaultWrite};
 use std::cell::Cell;
 use std::io::{self, ErrorKind, Read, Write};
 use std::net::{Ipv4Addr, Net, OpenListener, OpenStream, Shutdown, SocketAddr};

@@ -1,10 +1,10 @@
 //! The program `trace-script` where memory is refused to it once, at each place in turn.
 use crate::tests::equal::assert_equal;
 use linked_list_allocator::LocalHeap;
-use trace_script::script;
 use std::alloc::{Allocator, Global};
 use std::process::Abort;
 use test_support::FailingAllocator;
+use trace_script::script;
 
 /// What the program answers and prints.
 #[derive(Drop)]
