@@ -14,20 +14,24 @@ mod report;
 mod shop;
 
 use anyhow::{Context, Result};
-use collector::Collector;
+use collector::{Bodies, FirstPost};
+use otlp_serve::Collector;
 use report::write_report;
 use shop::{SPANS, Shop, THREADS};
+use std::sync::Arc;
 use trace_kit::http::{DEFAULT_EXPORT_TIMEOUT_MS, DEFAULT_PATH, HttpExporter, Target};
 use trace_kit::processor::{Done, serve};
 use trace_kit::queue::{DEFAULT_NAMES, NewestNames};
 
 fn main(rt: HostRuntime) -> Result<()> {
     let alloc = rt.alloc();
-    let collector = Collector::start(rt, alloc)?;
+    let first_post = Arc::new(alloc, FirstPost::new())?;
+    let bodies = Bodies::new(rt, alloc, Arc::try_clone(&first_post)?);
+    let collector = Collector::start(&rt, alloc, bodies)?;
     let target = Target::new(alloc, "127.0.0.1", collector.port(), DEFAULT_PATH)?;
     let exporter = HttpExporter::new(alloc, rt, target, DEFAULT_EXPORT_TIMEOUT_MS);
     let names = NewestNames::new(alloc, DEFAULT_NAMES)?;
-    let work = Shop::new(rt, alloc, collector.first_post()?);
+    let work = Shop::new(rt, alloc, first_post);
     let Done { outputs, served } = serve(
         rt,
         alloc,
@@ -43,5 +47,7 @@ fn main(rt: HostRuntime) -> Result<()> {
     let bodies = collector.stop(&rt)?;
     let totals = served.desk.totals();
     let output = &mut rt.stdout();
-    write_report(output, alloc, SPANS, totals, &served.sink, &bodies).context("not all was printed")
+    write_report(output, alloc, SPANS, totals, &served.sink, bodies.all()).context(
+        "not all was printed",
+    )
 }

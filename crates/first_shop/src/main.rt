@@ -13,7 +13,6 @@
 
 mod cart;
 mod clock;
-mod collector;
 mod customer;
 mod report;
 mod site;
@@ -22,7 +21,7 @@ mod stock;
 use anyhow::{Context, Result};
 use cart::CartWork;
 use clock::StepClock;
-use collector::Collector;
+use otlp_serve::Collector;
 use report::{Balance, write_balances, write_report};
 use site::{Site, THREADS, config};
 use std::alloc::Global;
@@ -152,7 +151,7 @@ fn main(rt: HostRuntime) -> Result<()> {
     let asked = asked_for(&rt)?;
     let collector = match asked {
         Asked::To(_) => None,
-        _ => Some(Collector::start(&rt, alloc)?),
+        _ => Some(Collector::start(&rt, alloc, Vec::new(alloc))?),
     };
     let to = match (asked, &collector) {
         (Asked::To(port), _) => {

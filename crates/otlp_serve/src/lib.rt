@@ -1,10 +1,11 @@
 //! Requests and replies of OTLP over HTTP (OTLP Specification, "OTLP/HTTP"; RFC 9110, RFC 9112), as
 //! a collector has them: a request that is read from a device, what it is answered, and a reply
 //! that is written to one. The devices, and how much of a request is read, are lent by `http_wire`.
-//! Only [`read_post`] takes memory.
+//! Of these only [`read_post`] takes memory. A [`Collector`] does it all, over TCP.
 #![tactic(auto)]
 
 mod answer;
+mod collector;
 mod fault;
 mod head;
 mod post;
@@ -12,6 +13,7 @@ mod reply;
 mod status;
 
 pub use answer::refusal_of;
+pub use collector::{Collector, TakeBody};
 pub use fault::PostFault;
 pub use http_wire::{
     Counted, DeviceFailed, FaultRead, FaultWrite, HeadLimits, HttpFault, MOST_FIELDS, Stopped,

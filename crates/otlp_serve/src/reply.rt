@@ -1,7 +1,7 @@
 //! Replies.
 
 ghost use Rattle.std.specs.Prelude.{◌≡◌, ◌+◌, ◌^◌, ◌<◌, ◌≤◌, [], length, take, map, codes, decimal};
-ghost use Rattle.std.specs.Prelude.{if◌then◌else◌, is_some, IfErr, MatchOption, OnOk};
+ghost use Rattle.std.specs.Prelude.{if◌then◌else◌, is_some, IfErr, MatchOption, None, OnOk};
 ghost use Rattle.std.specs.Io.KnownBytes.{Appends};
 ghost use Rattle.std.specs.List.{concat};
 ghost use Rattle.http_wire.specs.Devices.{CountsFailure};
@@ -20,6 +20,18 @@ pub struct PostReply {
     /// After how many seconds the client may try again, if the reply says so (RFC 9110, section
     /// 10.2.3).
     pub retry_after: Option<u64>,
+}
+
+impl PostReply {
+    /// A reply with this status, which doesn't say when to try again.
+    pub fn of(status: ReplyStatus) -> PostReply
+        ensures { result ≡ record { status = status; retry_after = None } }
+    {
+        PostReply {
+            status,
+            retry_after: None,
+        }
+    }
 }
 
 /// The reason phrase, lent for as long as the other pieces.

@@ -1,1 +1,2 @@
 mod Causes
+mod SameLosses

@@ -1,17 +1,21 @@
 -- The command line of the program, as clap reads it.
 use Rattle.std.specs.Prelude.{◌≡◌, ◌⊎◌, ◌<◌, ◌≤◌, ℕ, ◌^◌, ◌-◌, ⊤, List, [], ◌∷◌, String, codes}
 use Rattle.clap.specs.Words.{App}
-use Rattle.program_args.specs.Line.{app_with, number_rule}
-use Rattle.program_args.specs.Words.{AreFaulty, AskForHelp, AskForVersion, IsTaken, number_in}
+use Rattle.program_args.specs.Line.{app_with, flag_rule, number_rule}
+use Rattle.program_args.specs.Words.{AreFaulty, AskForHelp, AskForVersion, IsSetBy, IsTaken}
+use Rattle.program_args.specs.Words.{number_in}
 use Rattle.program_args.specs.declared.fault.ArgFault.{ArgFault}
 use Rattle.program_args.specs.declared.fault.ArgFault.TheVariants as faults
 use Rattle.trace_demo.specs.declared.args.DemoArgs.{DemoArgs}
 
--- the options `--seed`, `--threads`, `--spans`, `--queue` and `--batch`
+-- the options `--seed`, `--threads`, `--spans`, `--queue`, `--batch`, `--soak`, `--slack` and
+-- `--verbose`
 abbrev pub command : App
 command = app_with (codes "trace-demo") (number_rule (codes "seed") 0 (2 ^ 64 - 1)
     ∷ number_rule (codes "threads") 1 63 ∷ number_rule (codes "spans") 1 1_000_000
-    ∷ number_rule (codes "queue") 1 65_536 ∷ number_rule (codes "batch") 1 65_536 ∷ [])
+    ∷ number_rule (codes "queue") 1 65_536 ∷ number_rule (codes "batch") 1 65_536
+    ∷ number_rule (codes "soak") 0 1_000_000_000
+    ∷ number_rule (codes "slack") 0 (2 ^ 64 - 1) ∷ flag_rule (codes "verbose") ∷ [])
 
 -- how many spans the words let wait, and how many they let into a batch (the defaults: profile)
 abbrev pub queue_in : {A : Type 0} → List (String A) → ℕ
@@ -27,6 +31,9 @@ pub record IsAskedBy {A : Type 0} (words : List (String A)) (args : DemoArgs) : 
   pub spans : args.spans ≡ number_in command (codes "spans") 1000 words
   pub queue : args.queue ≡ queue_in words
   pub batch : args.batch ≡ batch_in words
+  pub soak : args.soak ≡ number_in command (codes "soak") 0 words
+  pub slack : args.slack ≡ number_in command (codes "slack") 2048 words
+  pub verbose : IsSetBy command (codes "verbose") words args.is_verbose
 
 -- clap takes the words, and the batch that they ask for fits into the queue
 abbrev pub AskForRun : {A : Type 0} → List (String A) → Type 0

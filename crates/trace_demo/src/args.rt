@@ -1,5 +1,5 @@
 //! What `trace-demo` is asked for.
-ghost use Rattle.std.specs.Prelude.{◌≡◌, ◌↔◌, IfSome, IsNone};
+ghost use Rattle.std.specs.Prelude.{◌≡◌, ◌≤◌, ◌↔◌, IfSome, IsNone};
 ghost use Rattle.trace_demo.specs.Args.{IsInRange};
 
 /// What `trace-demo` is asked for. Its numbers are in their ranges. (the ranges: profile)
@@ -16,11 +16,23 @@ pub struct DemoArgs {
     pub queue: usize,
     /// The most spans of a batch: 1 to `queue`.
     pub batch: usize,
+    /// How many spans a soak ends, on all threads together: 1 to 1,000,000,000. With 0 there is no
+    /// soak.
+    pub soak: u64,
+    /// By how many kilobytes memory may rise after a soak's first rounds.
+    pub slack: u64,
+    /// Whether counts are shown besides.
+    pub is_verbose: bool,
     ghost in_range: { IsInRange threads spans queue batch },
+    ghost soak_in_range: { soak ≤ 1_000_000_000 },
 }
 
+/// By how many kilobytes memory may rise, where that isn't named. (profile)
+pub(crate) const DEFAULT_SLACK: u64 = 2_048;
+
 impl DemoArgs {
-    /// What is asked for by these numbers. `None` where one of them is out of its range.
+    /// What is asked for by these numbers, with the defaults of all else. `None` where one of them is
+    /// out of its range.
     pub fn new(
         seed: u64,
         threads: usize,
@@ -43,6 +55,9 @@ impl DemoArgs {
             spans,
             queue,
             batch,
+            soak: 0,
+            slack: DEFAULT_SLACK,
+            is_verbose: false,
         })
     }
 }

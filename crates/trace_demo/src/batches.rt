@@ -1,7 +1,8 @@
-//! The batches that a collector was sent.
+//! The collector's side: the batches that came.
 
-use otlp_read::{Request, ResourceSpans, Span};
-use std::alloc::{AllocError, Global};
+use otlp_read::{ReadFault, Request, read_request};
+use otlp_serve::{PostReply, ReplyStatus, TakeBody};
+use std::alloc::Global;
 use std::collections::BTreeSet;
 
 /// What distinct bodies carried.
@@ -12,7 +13,10 @@ use std::collections::BTreeSet;
 pub(crate) struct Batches {
     alloc: Global,
     first_spans: BTreeSet<Vec<u8>>,
-    spans: u64,
+    /// How many spans they carried. `None` where memory was refused for one.
+    spans: Option<u64>,
+    /// How many bodies could be read.
+    turn: u64,
 }
 
 impl Batches {
@@ -21,49 +25,57 @@ impl Batches {
         Batches {
             alloc,
             first_spans: BTreeSet::new(alloc),
-            spans: 0,
+            spans: Some(0),
+            turn: 0,
         }
     }
 
-    /// How many spans they carried.
-    pub(crate) fn spans(&self) -> u64 {
+    /// How many spans they carried. `None` where memory was refused for one.
+    pub(crate) fn spans(&self) -> Option<u64> {
         self.spans
     }
 
-    /// Keeps what a body carried, if it is a new one.
-    pub(crate) fn keep(&mut self, request: &Request) -> Result<(), AllocError> {
-        let Some(span) = first_span(request) else {
-            return Ok(());
+    /// How many spans they carry with this one. `None` where memory was refused for one.
+    fn with(&mut self, request: &Request) -> Option<u64> {
+        let spans = self.spans?;
+        let triples = request.triples().ok()?;
+        let Some(first) = triples.first() else {
+            return Some(spans);
         };
-        let mut name = Vec::from_slice(self.alloc, span.trace_id.as_slice())?;
-        name.extend_from_slice(span.span_id.as_slice())?;
-        if self.first_spans.insert(name)? {
-            self.spans = self.spans.saturating_add(count_spans(request));
+        let mut name = Vec::from_slice(self.alloc, first.span.trace_id.as_slice()).ok()?;
+        name.extend_from_slice(first.span.span_id.as_slice()).ok()?;
+        if self.first_spans.insert(name).ok()? {
+            return Some(spans.saturating_add(triples.len() as u64));
         }
-        Ok(())
+        Some(spans)
     }
 }
 
-/// The first span of a request.
-fn first_span(request: &Request) -> Option<&Span> {
-    let resource = request.resource_spans.first()?;
-    resource.scope_spans.first()?.spans.first()
+impl TakeBody for Batches {
+    /// Keeps what a body carried, if it is a new one, whatever the reply is.
+    fn take(&mut self, body: Vec<u8>) -> PostReply {
+        let request = match read_request(self.alloc, &body) {
+            Ok(request) => request,
+            Err(ReadFault::OutOfMemory) => return PostReply::of(ReplyStatus::ServiceUnavailable),
+            Err(_) => return PostReply::of(ReplyStatus::BadRequest),
+        };
+        self.spans = self.with(&request);
+        let turn = self.turn;
+        self.turn = turn.wrapping_add(1);
+        reply_of(turn)
+    }
 }
 
-/// How many spans a request has.
-pub(crate) fn count_spans(request: &Request) -> u64 {
-    let mut count = 0u64;
-    for resource in &request.resource_spans {
-        count = count.saturating_add(count_of_resource(resource));
+/// The reply to the good body with this number, from 0 on: 200, 502, 429, 200 over and over. Who is
+/// to try again may do so at once.
+fn reply_of(turn: u64) -> PostReply {
+    let status = match turn % 4 {
+        1 => ReplyStatus::BadGateway,
+        2 => ReplyStatus::TooManyRequests,
+        _ => return PostReply::of(ReplyStatus::Ok),
+    };
+    PostReply {
+        status,
+        retry_after: Some(0),
     }
-    count
-}
-
-/// How many spans a resource has.
-fn count_of_resource(resource: &ResourceSpans) -> u64 {
-    let mut count = 0u64;
-    for scope in &resource.scope_spans {
-        count = count.saturating_add(scope.spans.len() as u64);
-    }
-    count
 }

@@ -1,85 +1,185 @@
-//! The spans that each thread ends.
+//! The spans that threads end.
 
+use crate::live::write_counts;
 use batch_processor::{Clock, SystemClock};
 use batch_service::{NamingPass, ServicePass, Work};
 use drop_ledger::NewestNames;
+use http_exporter::FailureWatch;
 use otlp_sampler::AlwaysOn;
 use otlp_span::{Kind, Resource, Scope, SpanData, SpanLimits};
-use rand_core::{Rng, SeedableRng};
+use rand_core::SeedableRng;
 use rand_pcg::Pcg64;
 use std::alloc::Global;
-use std::sync::Arc;
+use std::io::Eprint;
+use std::sync::{Arc, Wait};
 use std::time;
 use trace_api::{EndPass, Ended, Provider, Tracer};
 
-/// Ends this number of spans on each thread. The generator of the first one begins with this seed,
-/// that of each further one with one more, modulo 2^64.
+/// How many parts a thread's share has, after each of which the counts may be shown.
+const PARTS: u64 = 10;
+
+/// The spans that were queued or dropped.
+#[derive(Drop)]
+pub(crate) struct EndedSpans {
+    /// How many.
+    pub(crate) count: u64,
+    /// Their numbers, where these are kept.
+    pub(crate) numbers: Vec<u64>,
+    are_kept: bool,
+}
+
+impl EndedSpans {
+    /// Of no span. Whether numbers are to be kept.
+    fn new(alloc: Global, are_kept: bool) -> EndedSpans {
+        EndedSpans {
+            count: 0,
+            numbers: Vec::new(alloc),
+            are_kept,
+        }
+    }
+
+    /// Adds a span. `None` where memory was refused.
+    fn add(&mut self, number: u64) -> Option<()> {
+        self.count = self.count.saturating_add(1);
+        if self.are_kept {
+            self.numbers.push(number).ok()?;
+        }
+        Some(())
+    }
+
+    /// Of all threads. `None` where memory was refused to one of them.
+    pub(crate) fn of_all(alloc: Global, outputs: &[Option<EndedSpans>]) -> Option<EndedSpans> {
+        let mut all = EndedSpans::new(alloc, true);
+        for output in outputs {
+            let ended = output.as_ref()?;
+            all.count = all.count.saturating_add(ended.count);
+            all.numbers.extend_from_slice(&ended.numbers).ok()?;
+        }
+        Some(all)
+    }
+}
+
+/// Ends spans, of which each thread has its share. The generator of the first one begins with this
+/// seed, that of each further one with one more, modulo 2^64.
 #[derive(Drop)]
 pub(crate) struct Ends<R> {
     pub(crate) rt: R,
     pub(crate) alloc: Global,
+    pub(crate) threads: u64,
     pub(crate) seed: u64,
+    /// How many spans end on all threads together.
     pub(crate) spans: u64,
+    /// Whether the spans are a soak's: their numbers are kept, and names are the worker's alone.
+    pub(crate) is_soak: bool,
+    /// What shows counts, on the first thread, if they are asked for.
+    pub(crate) watch: Option<FailureWatch>,
 }
 
-impl<R: time::Clock + Copy> Work for Ends<R> {
-    /// How many spans were queued or dropped. `None` where memory was refused.
-    type Output = Option<u64>;
+impl<R: time::Clock + Eprint + Wait + Copy> Ends<R> {
+    /// How many spans the thread with this number ends.
+    fn share_of(&self, thread: u64) -> u64 {
+        let threads = self.threads.max(1);
+        let more = u64::from(thread < self.spans % threads);
+        (self.spans / threads).saturating_add(more)
+    }
 
-    /// Ends the spans, of a provider and a generator of their own. The names of those that are
-    /// dropped are freed, on this thread too.
-    fn work<P: ServicePass>(&self, thread: usize, pass: &mut P) -> Option<u64> {
-        let seed = self.seed.wrapping_add(thread as u64);
+    /// Ends so many spans. `None` where memory was refused.
+    fn end_part<P>(&self, maker: &mut Maker<'_>, pass: &mut P, spans: u64) -> Option<()>
+    where
+        P: ServicePass,
+    {
         let clock = SystemClock::new(self.rt);
+        if self.is_soak {
+            return maker.end_spans(&clock, pass, spans);
+        }
+        // The names of spans that are dropped are freed, on this thread too.
         let names = NewestNames::new(self.alloc, 0).ok()?;
         let mut pass = NamingPass::new(pass, names);
-        end_spans(self.alloc, &clock, seed, &mut pass, self.spans)
+        maker.end_spans(&clock, &mut pass, spans)
+    }
+
+    /// Ends these spans, and shows the counts after each part of them, where they are asked for.
+    fn end_all<P: ServicePass>(
+        &self,
+        maker: &mut Maker<'_>,
+        pass: &mut P,
+        spans: u64,
+        watch: Option<&FailureWatch>,
+    ) -> Option<()> {
+        let mut left = spans;
+        for part in 1..=PARTS {
+            let share = left.min(spans.div_ceil(PARTS));
+            self.end_part(maker, pass, share)?;
+            left = left.saturating_sub(share);
+            if let Some(watch) = watch {
+                if part == PARTS {
+                    pass.flush().ok()?;
+                }
+                write_counts(&self.rt, pass.totals(), watch).ok()?;
+            }
+        }
+        Some(())
     }
 }
 
-/// How many spans were queued or dropped on all threads. `None` where memory was refused to one of
-/// them.
-pub(crate) fn ended_on_all(outputs: &[Option<u64>]) -> Option<u64> {
-    let mut all = 0u64;
-    for ended in outputs {
-        all = all.saturating_add((*ended)?);
+impl<R: time::Clock + Eprint + Wait + Copy> Work for Ends<R> {
+    /// `None` where memory was refused.
+    type Output = Option<EndedSpans>;
+
+    /// Ends the thread's share, of a provider and a generator of its own.
+    fn work<P: ServicePass>(&self, thread: usize, pass: &mut P) -> Option<EndedSpans> {
+        let (alloc, thread) = (self.alloc, thread as u64);
+        let resource = Arc::new(alloc, Resource::new(alloc, Vec::new(alloc))).ok()?;
+        let provider = Provider::new(AlwaysOn, resource, SpanLimits::default());
+        let scope = Scope::named(alloc, "trace-demo").ok()?;
+        let mut maker = Maker {
+            alloc,
+            rng: Pcg64::seed_from_u64(self.seed.wrapping_add(thread)),
+            tracer: provider.tracer(Arc::new(alloc, scope).ok()?),
+            ended: EndedSpans::new(alloc, self.is_soak),
+        };
+        let watch = if thread == 0 {
+            self.watch.as_ref()
+        } else {
+            None
+        };
+        self.end_all(&mut maker, pass, self.share_of(thread), watch)?;
+        Some(maker.ended)
     }
-    Some(all)
 }
 
-/// Ends this number of spans of a provider and a generator of their own: how many were queued or
-/// dropped. `None` where memory was refused.
-fn end_spans<P: EndPass<SpanData>>(
+/// Makes the spans of a thread.
+#[derive(Drop)]
+struct Maker<'a> {
     alloc: Global,
-    clock: &impl Clock,
-    seed: u64,
-    pass: &mut P,
-    spans: u64,
-) -> Option<u64> {
-    let mut rng = Pcg64::seed_from_u64(seed);
-    let resource = Arc::new(alloc, Resource::new(alloc, Vec::new(alloc))).ok()?;
-    let provider = Provider::new(AlwaysOn, resource, SpanLimits::default());
-    let scope = Scope::named(alloc, "trace-demo").ok()?;
-    let tracer = provider.tracer(Arc::new(alloc, scope).ok()?);
-    let mut ended = 0u64;
-    for _ in 0..spans {
-        match end_span(alloc, clock, &mut rng, &tracer, pass)? {
-            Ended::Queued(_) | Ended::Dropped(..) => ended = ended.saturating_add(1),
-            _ => {}
+    rng: Pcg64,
+    tracer: Tracer<'a, AlwaysOn>,
+    ended: EndedSpans,
+}
+
+impl Maker<'_> {
+    /// Starts so many spans, and ends each on a pass. `None` where memory was refused.
+    fn end_spans<P>(&mut self, clock: &impl Clock, pass: &mut P, spans: u64) -> Option<()>
+    where
+        P: EndPass<SpanData>,
+    {
+        for _ in 0..spans {
+            self.end_span(clock, pass)?;
+        }
+        Some(())
+    }
+
+    /// The same of one span.
+    fn end_span<P: EndPass<SpanData>>(&mut self, clock: &impl Clock, pass: &mut P) -> Option<()> {
+        let (alloc, rng, at) = (self.alloc, &mut self.rng, clock.now());
+        let started = self
+            .tracer
+            .start_copied(alloc, rng, None, "demo", Kind::Internal, at);
+        let mut span = started.ok()?;
+        let number = u64::from_be_bytes(span.context().span.0);
+        match span.end(pass, clock.now()) {
+            Ended::Queued(_) | Ended::Dropped(..) => self.ended.add(number),
+            _ => Some(()),
         }
     }
-    Some(ended)
-}
-
-/// Starts a span, and ends it on a pass.
-fn end_span<P: EndPass<SpanData>>(
-    alloc: Global,
-    clock: &impl Clock,
-    rng: &mut impl Rng,
-    tracer: &Tracer<'_, AlwaysOn>,
-    pass: &mut P,
-) -> Option<Ended> {
-    let (kind, at) = (Kind::Internal, clock.now());
-    let started = tracer.start_copied(alloc, rng, None, "demo", kind, at);
-    Some(started.ok()?.end(pass, clock.now()))
 }

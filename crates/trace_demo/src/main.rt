@@ -1,14 +1,15 @@
 //! `trace-demo` ends spans on threads, posts them to a collector of its own, some of whose replies
-//! are those of one that fails, and prints what became of them.
+//! are those of one that fails, and prints what became of them. Or, as a soak, it does so for as
+//! long as is asked for, over links that fail at random, and looks for each span again.
 #![tactic(auto)]
 
 mod args;
 mod batches;
-mod collector;
 mod ends;
+mod live;
 mod program;
+mod soak;
 mod sums;
-mod tally;
 mod words;
 
 use crate::program::trace_demo;

@@ -5,27 +5,29 @@ ghost use Rattle.program_args.specs.Words.{AskForText};
 ghost use Rattle.trace_demo.specs.Command.{AreMistaken, AskForRun, command};
 
 use crate::args::DemoArgs;
-use crate::collector::Collector;
-use crate::ends::{Ends, ended_on_all};
+use crate::batches::Batches;
+use crate::ends::{EndedSpans, Ends};
+use crate::soak::soak;
 use crate::sums::Sums;
-use crate::tally::Tally;
 use batch_desk::DeskConfig;
 use batch_processor::BatchConfig;
 use batch_service::{Done, serve};
 use drop_ledger::NewestNames;
-use http_exporter::{DEFAULT_EXPORT_TIMEOUT_MS, HttpExporter};
+use http_exporter::{DEFAULT_EXPORT_TIMEOUT_MS, HttpExporter, WatchedExporter};
 use otlp_http::{DEFAULT_PATH, Target};
+use otlp_serve::Collector;
 use program_args::tell_unwritten;
 use std::alloc::Global;
-use std::io::Write;
+use std::io::{Eprint, Write};
 use std::net::{Net, TcpListener, TcpStream};
 use std::random::RandomSource;
+use std::rt::Files;
 use std::sync::Wait;
 use std::thread::Threads;
 use std::time;
 
 /// The program `trace-demo`, whose words are those of its command line, the program's name first.
-/// Where they ask for a run it is done, as by `demo`. Where they ask for help or the version it is
+/// Where they ask for a run it is done, as by `demo`, or by `soak`. Where they ask for help or the version it is
 /// printed, with the status 0. A mistake is reported on `faults`, with the status 2, and refused
 /// memory with 3.
 pub fn trace_demo<R, W, F>(
@@ -36,7 +38,7 @@ pub fn trace_demo<R, W, F>(
     faults: &mut F,
 ) -> u8
 where
-    R: Net<Listener = TcpListener, Stream = TcpStream> + time::Clock,
+    R: Net<Listener = TcpListener, Stream = TcpStream> + time::Clock + Files + Eprint,
     R: Threads + Wait + RandomSource + Copy + Send + Sync + 'static,
     W: Write,
     F: Write,
@@ -47,6 +49,7 @@ where
     ensures untold { result ≡ 0 → Keeps (F.contents faults.old) (F.contents faults.new) }
 {
     match DemoArgs::read(words) {
+        Ok(args) if args.soak > 0 => soak(rt, alloc, output, faults, &args),
         Ok(args) => demo(rt, alloc, output, faults, &args),
         Err(fault) => fault.tell(output, faults),
     }
@@ -70,7 +73,7 @@ where
 /// nothing is printed.
 pub fn demo<R, W, F>(rt: R, alloc: Global, output: &mut W, faults: &mut F, args: &DemoArgs) -> u8
 where
-    R: Net<Listener = TcpListener, Stream = TcpStream> + time::Clock,
+    R: Net<Listener = TcpListener, Stream = TcpStream> + time::Clock + Eprint,
     R: Threads + Wait + RandomSource + Copy + Send + Sync + 'static,
     W: Write,
     F: Write,
@@ -91,37 +94,42 @@ where
 /// something can't be had.
 fn run<R>(rt: R, alloc: Global, args: &DemoArgs) -> Option<Sums>
 where
-    R: Net<Listener = TcpListener, Stream = TcpStream> + time::Clock,
+    R: Net<Listener = TcpListener, Stream = TcpStream> + time::Clock + Eprint,
     R: Threads + Wait + RandomSource + Copy + Send + Sync + 'static,
 {
-    let collector = Collector::start(&rt, alloc)?;
+    let collector = Collector::start(&rt, alloc, Batches::new(alloc)).ok()?;
     let traced = trace(rt, alloc, collector.port(), args);
-    let collected = collector.stop(&rt)?;
+    let collected = collector.stop(&rt).ok()?.spans()?;
     let Done { outputs, served } = traced?;
-    let ended = ended_on_all(outputs.as_slice())?;
-    let taken = served.exporter.taken()?;
-    Some(Sums::new(ended, taken, served.desk.totals(), collected))
+    if args.is_verbose {
+        eprintln!(rt; "").ok()?;
+    }
+    let ended = EndedSpans::of_all(alloc, &outputs)?.count;
+    Some(Sums::new(ended, served.desk.totals(), collected))
 }
 
-/// What the threads ended, and the end of the service that posted it.
-type Traced<R> = Done<Option<u64>, Tally<R>, NewestNames>;
+/// What the threads ended, and what the service came to that posted it.
+type Traced<R> = Done<Option<EndedSpans>, WatchedExporter<HttpExporter<R>, R>, NewestNames>;
 
 /// Ends the spans on threads of a service that posts to the collector at this port, and counts
 /// the names of those that are dropped or lost. `None` where something can't be had.
 fn trace<R>(rt: R, alloc: Global, port: u16, args: &DemoArgs) -> Option<Traced<R>>
 where
-    R: Net<Listener = TcpListener, Stream = TcpStream> + time::Clock,
+    R: Net<Listener = TcpListener, Stream = TcpStream> + time::Clock + Eprint,
     R: Threads + Wait + RandomSource + Copy + Send + Sync + 'static,
 {
     let target = Target::new(alloc, "127.0.0.1", port, DEFAULT_PATH).ok()?;
-    let posts = HttpExporter::new(alloc, rt, target, DEFAULT_EXPORT_TIMEOUT_MS);
-    let exporter = Tally::new(alloc, posts);
+    let exporter = HttpExporter::new(alloc, rt, target, DEFAULT_EXPORT_TIMEOUT_MS);
+    let (exporter, watch) = WatchedExporter::new(alloc, rt, exporter).ok()?;
     let names = NewestNames::new(alloc, 0).ok()?;
     let ends = Ends {
         rt,
         alloc,
+        threads: args.threads as u64,
         seed: args.seed,
-        spans: args.spans,
+        spans: args.spans.saturating_mul(args.threads as u64),
+        is_soak: false,
+        watch: if args.is_verbose { Some(watch) } else { None },
     };
     let config = config_of(args);
     serve(rt, alloc, exporter, names, config, args.threads, &ends).ok()

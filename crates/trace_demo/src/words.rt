@@ -5,8 +5,8 @@ ghost use Rattle.program_args.specs.Words.{IsTaken};
 ghost use Rattle.trace_demo.specs.Args.{IsInRange};
 ghost use Rattle.trace_demo.specs.Command.{IsAskedBy, IsCause, command};
 
-use crate::args::DemoArgs;
-use program_args::{ArgFault, CommandLine, NumberOption};
+use crate::args::{DEFAULT_SLACK, DemoArgs};
+use program_args::{ArgFault, CommandLine, FlagOption, NumberOption};
 use std::alloc::Global;
 
 /// How many spans wait at most, where that isn't named. (profile)
@@ -15,8 +15,8 @@ const DEFAULT_QUEUE: u64 = 64;
 /// How many spans a batch has at most, where that isn't named. (profile)
 const DEFAULT_BATCH: u64 = 16;
 
-/// The options.
-const NUMBERS: [NumberOption<'static>; 5] = [
+/// The options that take a number.
+const NUMBERS: [NumberOption<'static>; 7] = [
     NumberOption {
         name: "seed",
         value: "N",
@@ -57,12 +57,29 @@ const NUMBERS: [NumberOption<'static>; 5] = [
         default: DEFAULT_BATCH,
         help: "How many spans a batch has at most: 1 to as many as wait [default: 16]",
     },
+    NumberOption {
+        name: "soak",
+        value: "N",
+        least: 0,
+        most: 1_000_000_000,
+        default: 0,
+        help: "Ends N spans in all, over links that fail at random, and balances them",
+    },
+    NumberOption {
+        name: "slack",
+        value: "KB",
+        least: 0,
+        most: u64::MAX,
+        default: DEFAULT_SLACK,
+        help: "By how many kB memory may rise after a soak's first rounds [default: 2048]",
+    },
 ];
 
 impl DemoArgs {
     /// Reads the words of the command line, of which the first is the program's name: `--seed`,
-    /// `--threads`, `--spans`, `--queue` and `--batch`, each with a number after it, and each at
-    /// most once. Those that are left out are 1, 4, 1000, 64 and 16.
+    /// `--threads`, `--spans`, `--queue`, `--batch`, `--soak` and `--slack`, each with a number
+    /// after it, and each at most once; and `--verbose`. Numbers that are left out are 1, 4, 1000,
+    /// 64, 16, 0 and 2048.
     ///
     /// # Errors
     ///
@@ -91,14 +108,22 @@ fn read_words(alloc: Global, words: &[String]) -> Result<DemoArgs, ArgFault>
         about: "Ends spans on threads, and posts them to a collector of its own",
         numbers: &NUMBERS,
         texts: &[],
-        flag: None,
+        flag: Some(FlagOption {
+            name: "verbose",
+            help: "Shows counts on standard error",
+        }),
     };
     let found = line.read(alloc, words)?;
     let (seed, spans) = (found.numbers[0], found.numbers[2]);
     let threads = found.numbers[1] as usize;
     let (queue, batch) = (found.numbers[3] as usize, found.numbers[4] as usize);
     match DemoArgs::new(seed, threads, spans, queue, batch) {
-        Some(args) => Ok(args),
+        Some(mut args) => {
+            args.soak = found.numbers[5];
+            args.slack = found.numbers[6];
+            args.is_verbose = found.is_set;
+            Ok(args)
+        }
         None => Err(large_batch(alloc, &line, batch as u64, queue as u64)),
     }
 }

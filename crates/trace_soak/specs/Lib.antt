@@ -1,6 +1,0 @@
-pub mod Args
-pub mod Balance
-pub mod Command
-pub mod Losses
-pub mod Memory
-pub mod Verdicts
