@@ -38,6 +38,7 @@ audit: ## All wrong bodies, after make test; before each version (half an hour)
 	tools/wrong-bodies --all
 
 docs: ## Compare the documents with the sources, and write out/DEFINITIONS.md and out/PROMISES.md
+	tools/layout --lines
 	tools/definitions
 	tools/promises
 	tools/check-docs

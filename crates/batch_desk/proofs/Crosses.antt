@@ -105,10 +105,12 @@ abbrev S : RattleType
 S = SpanData.the_row Heap.the_row ghosts
 
 run_send : IsSend (Run.the_row S Heap.the_row ghosts)
-run_send = search (sendable, data_send, places.the_send, owner.the_send, heap.crosses) depth 60 fits 20000
+run_send =
+    search (sendable, data_send, places.the_send, owner.the_send, heap.crosses) depth 60 fits 20000
 
 ring_send : IsSend (SpanRing.the_row S Heap.the_row ghosts)
-ring_send = search (sendable, data_send, places.the_send, owner.the_send, heap.crosses) depth 60 fits 20000
+ring_send =
+    search (sendable, data_send, places.the_send, owner.the_send, heap.crosses) depth 60 fits 20000
 
 -- A batch on the heap is `Send`.
 pub batch_send : IsSend (Batch.the_row Heap.the_row ghosts)

@@ -12,5 +12,7 @@ unfolding body_bytes canonical_body
 same_bytes spans = refl
 
 -- A body that reads as its spans and has the exporter's bytes for them is the body of these spans.
-pub body_is : (spans : List SpanData) (body : List ℕ) → Reads (body_meaning body) (grouped_triples spans) → body ≡ body_bytes (groups spans) → IsBodyOf spans body
+pub body_is : (spans : List SpanData) (body : List ℕ)
+    → Reads (body_meaning body) (grouped_triples spans) → body ≡ body_bytes (groups spans)
+    → IsBodyOf spans body
 body_is spans body means is = record { means = means; canonical = is ∙ same_bytes spans }

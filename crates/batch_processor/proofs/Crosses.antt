@@ -33,11 +33,13 @@ outcome_send : IsSend Outcome.the_row
 outcome_send = search (sendable, variants_send, as_row_send) depth 60 fits 20000
 
 stage_send : IsSend (Stage.the_row Heap.the_row ghosts)
-stage_send = search (sendable, variants_send, as_row_send, outcome_send, heap.crosses) depth 60 fits 20000
+stage_send =
+    search (sendable, variants_send, as_row_send, outcome_send, heap.crosses) depth 60 fits 20000
 
 in_hand_send : IsSend (InHand.the_row Heap.the_row ghosts)
 in_hand_send =
-    let fields : FieldsHave IsSend (in_hand.the_type Heap.the_row ghosts).parts = search (sendable, batch_send, stage_send) depth 60 fits 20000 in
+    let fields : FieldsHave IsSend (in_hand.the_type Heap.the_row ghosts).parts =
+    search (sendable, batch_send, stage_send) depth 60 fits 20000 in
     view_send _ _ _ _ _ (declared_send (in_hand.the_type Heap.the_row ghosts) fields)
 
 setup_send : IsSend Setup.the_row
@@ -46,7 +48,17 @@ setup_send = search (sendable, declared_send, as_row_send, heap.crosses) depth 6
 module _ (J : RattleType) (g : naming.Ghosts J.Denot) where
   shared_send : IsSend (Shared.the_row J Heap.the_row g ghosts)
   shared_send =
-      let fields : FieldsHave IsSend (shared.the_type J Heap.the_row g ghosts).parts = search (sendable, as_row_send, variants_send, declared_send, desk_send, data_send, book.the_send, heap.crosses) depth 60 fits 20000 in
+      let fields : FieldsHave IsSend (shared.the_type J Heap.the_row g ghosts).parts =
+      search (
+        sendable,
+        as_row_send,
+        variants_send,
+        declared_send,
+        desk_send,
+        data_send,
+        book.the_send,
+        heap.crosses,
+      ) depth 60 fits 20000 in
       view_send _ _ _ _ _ (declared_send (shared.the_type J Heap.the_row g ghosts) fields)
 
   lock_send : IsSend (Lock.the_row J Heap.the_row g ghosts)
@@ -58,8 +70,10 @@ module _ (J : RattleType) (g : naming.Ghosts J.Denot) where
   -- A pass is `Send` where its runtime's value is.
   pub pass_send : (R : RattleType) → IsSend R → IsSend (Pass.the_row J R Heap.the_row g ghosts)
   pass_send R r = view_send _ _ _ _ _ (
-      declared_send (pass.the_type J R Heap.the_row g ghosts)
-      (heap.Arc-send (Lock.the_row J Heap.the_row g ghosts) lock_send lock_sync, (account.the_send J AccountState.the_row g, (as_row_send (row_field R) r, tt)))
+      declared_send (pass.the_type J R Heap.the_row g ghosts) (
+        heap.Arc-send (Lock.the_row J Heap.the_row g ghosts) lock_send lock_sync,
+        (account.the_send J AccountState.the_row g, (as_row_send (row_field R) r, tt)),
+      )
       )
 
   worker_part_send : (R : RattleType) → IsSend R → IsSend (Worker.the_row J R Heap.the_row g ghosts)
@@ -67,13 +81,33 @@ module _ (J : RattleType) (g : naming.Ghosts J.Denot) where
       let outcomes = heap.Vec-send Outcome.the_row outcome_send in
       let spent = heap.Vec-send (SpanData.the_row Heap.the_row ghosts) data_send in
       view_send _ _ _ _ _ (
-      declared_send (worker.the_type J R Heap.the_row g ghosts)
-      (heap.Arc-send (Lock.the_row J Heap.the_row g ghosts) lock_send lock_sync, (account.the_send J AccountState.the_row g, (outcomes, (spent, (setup_send, (as_row_send (row_field Heap.the_row) heap.send, (as_row_send (row_field R) r, tt)))))))
+      declared_send (worker.the_type J R Heap.the_row g ghosts) (
+        heap.Arc-send (Lock.the_row J Heap.the_row g ghosts) lock_send lock_sync,
+        (
+          account.the_send J AccountState.the_row g,
+          (
+            outcomes,
+            (
+              spent,
+              (
+                setup_send,
+                (as_row_send (row_field Heap.the_row) heap.send, (as_row_send (row_field R) r, tt)),
+              ),
+            ),
+          ),
+        ),
+      )
       )
 
   -- The worker's pass is `Send` where its runtime's value is.
-  pub worker_send : (R : RattleType) → IsSend R → IsSend (WorkerPass.the_row J R Heap.the_row g ghosts)
+  pub worker_send : (R : RattleType) → IsSend R
+      → IsSend (WorkerPass.the_row J R Heap.the_row g ghosts)
   worker_send R r = view_send _ _ _ _ _ (
-      declared_send (worker_pass.the_type J R Heap.the_row g ghosts)
-      (worker_part_send R r, (search (sendable, as_row_send, variants_send, in_hand_send) depth 60 fits 20000, (search (sendable, as_row_send) depth 60 fits 20000, tt)))
+      declared_send (worker_pass.the_type J R Heap.the_row g ghosts) (
+        worker_part_send R r,
+        (
+          search (sendable, as_row_send, variants_send, in_hand_send) depth 60 fits 20000,
+          (search (sendable, as_row_send) depth 60 fits 20000, tt),
+        ),
+      )
       )

@@ -25,13 +25,20 @@ works_more a b d first second = record {
 }
 
 -- A thread that only gives names, of both kinds, works as its contract says.
-pub gives_only : (handed : Option (List Handed)) (work : Work) (ds ls : List Entry) (s u : Option Named) (x y : PassAccount) → y ≡ after_drain ds ls x → GainsNames (both_names ds ls) s u → WorksOn (state_of handed s work x) (state_of handed u work y)
+pub gives_only : (handed : Option (List Handed)) (work : Work) (ds ls : List Entry)
+    (s u : Option Named) (x y : PassAccount)
+    → y ≡ after_drain ds ls x → GainsNames (both_names ds ls) s u
+    → WorksOn (state_of handed s work x) (state_of handed u work y)
 gives_only handed work ds ls s u x y popped gains = record {
   goes_on = goes_quiet handed handed work work refl refl refl refl refl (λ _. refl);
   names = gives_both ds ls s u x y popped gains;
 }
 
 -- A turn with more work after it is one stretch of work.
-pub turns_then : (handed handed' : Option (List Handed)) (work work' : Work) (s : Option Named) (x : PassAccount) (d : ThreadState) → GoesOn handed handed' work work' → WorksOn (state_of handed' s work' x) d → WorksOn (state_of handed s work x) d
+pub turns_then : (handed handed' : Option (List Handed)) (work work' : Work) (s : Option Named)
+    (x : PassAccount) (d : ThreadState)
+    → GoesOn handed handed' work work' → WorksOn (state_of handed' s work' x) d
+    → WorksOn (state_of handed s work x) d
 turns_then handed handed' work work' s x d turn then =
-    works_more (state_of handed s work x) (state_of handed' s work' x) d (record { goes_on = turn; names = gives_none s x }) then
+    works_more (state_of handed s work x) (state_of handed' s work' x) d
+    (record { goes_on = turn; names = gives_none s x }) then

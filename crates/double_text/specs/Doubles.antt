@@ -64,7 +64,8 @@ shortest mantissa two = decimal_from 23 mantissa two 1 0
 -- this many digits of a number below that power of ten
 unfoldable pub digits_of : ℕ → ℕ → ℕ → List ℕ
 digits_of zero ten rest = []
-digits_of (suc n) ten rest = decimal (rest / (ten / 10)) ++ digits_of n (ten / 10) (rest % (ten / 10))
+digits_of (suc n) ten rest =
+    decimal (rest / (ten / 10)) ++ digits_of n (ten / 10) (rest % (ten / 10))
 
 -- a decimal, with a point where it has places
 unfoldable pub decimal_text : Decimal → List ℕ

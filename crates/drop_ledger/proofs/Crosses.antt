@@ -10,7 +10,8 @@ use Rattle.drop_ledger.specs.contracts.names.NewestNames as NewestNames
 use Rattle.drop_ledger.specs.contracts.newest.Newest as Newest
 
 entry_send : IsSend Entry.the_row
-entry_send = search (sendable, declared_send, variants_send, as_row_send, heap.crosses) depth 60 fits 20000
+entry_send =
+    search (sendable, declared_send, variants_send, as_row_send, heap.crosses) depth 60 fits 20000
 
 kept_send : IsSend (Newest.the_row Entry.the_row Heap.the_row ghosts)
 kept_send = search (sendable, entry_send, history.the_send, heap.crosses) depth 60 fits 20000

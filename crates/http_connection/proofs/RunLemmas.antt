@@ -1,5 +1,7 @@
 -- Runs one after another.
-use Rattle.std.proofs.Common.{◌≡◌, ℕ, suc, zero, ◌+◌, ◌*◌, ◌<◌, ◌≤◌, arith, ◌⊎◌, Bool, true, false, cond, length, List, [], ◌∷◌, ◌++◌, refl, sym, ap, subst, ◌∙◌, append_assoc, append-nil, inl, inr, Option}
+use Rattle.std.proofs.Common.{◌≡◌, ℕ, suc, zero, ◌+◌, ◌*◌, ◌<◌, ◌≤◌, arith, ◌⊎◌, Bool, true, false}
+use Rattle.std.proofs.Common.{cond, length, List, [], ◌∷◌, ◌++◌, refl, sym, ap, subst, ◌∙◌}
+use Rattle.std.proofs.Common.{append_assoc, append-nil, inl, inr, Option}
 use Rattle.std.proofs.lemmas.Grind.{flat_map-append}
 use Rattle.http.specs.declared.request.Parts.{Parts}
 use Rattle.http.specs.declared.request.Request.{Request}
@@ -12,10 +14,13 @@ use Rattle.http_connection.specs.declared.limits.Phase.TheVariants.{Done}
 use Rattle.http_connection.specs.declared.limits.Refusal.{Refusal}
 use Rattle.http_connection.specs.Connections.{advances_at, phase_at, place_at, reads_at, rests_at}
 use Rattle.http_connection.specs.Texts.{continue_text, refusal_text, piece_text}
-use Rattle.http_connection.specs.Runs.{IsOpen, asks_head, answer_text, place_after, Place, Awaits, Takes, Writes, Over, Act, Took, Kept, Wrote, Does, Chain, Runs, text_of, texts_of}
+use Rattle.http_connection.specs.Runs.{IsOpen, asks_head, answer_text, place_after, Place, Awaits}
+use Rattle.http_connection.specs.Runs.{Takes, Writes, Over, Act, Took, Kept, Wrote, Does, Chain}
+use Rattle.http_connection.specs.Runs.{Runs, text_of, texts_of}
 use Rattle.http_connection.specs.Turns.{Turn, judged, Admitted, Rejected, Answered, Refused}
 
-module _ {S P : Type 0} (answers : S → Turn P → S → Type 0) (writes : P → List ℕ → Type 0) (most : ℕ) where
+module _ {S P : Type 0} (answers : S → Turn P → S → Type 0) (writes : P → List ℕ → Type 0)
+    (most : ℕ) where
   -- where it is over nothing more is done
   nothing_over : (s : S) (act : Act P) (t : S) (after : Place P)
       → Does answers writes most s Over act t after → ⊥
@@ -28,7 +33,8 @@ module _ {S P : Type 0} (answers : S → Turn P → S → Type 0) (writes : P �
 
   -- a chain from there is one from anywhere
   chain_over : (s : S) (place : Place P) (acts : List (Act P)) (t : S) (after : Place P)
-      → Chain answers writes most s Over acts t after → Chain answers writes most s place acts t after
+      → Chain answers writes most s Over acts t after
+      → Chain answers writes most s place acts t after
   chain_over s place [] t after x = (x.0, elim x.1 [ inl e ↦ inr e | inr e ↦ inr e ])
   chain_over s place (act ∷ acts) t after x = absurd (nothing_over s act x.0 x.1 x.2)
 
@@ -56,7 +62,8 @@ module _ {S P : Type 0} (answers : S → Turn P → S → Type 0) (writes : P �
       → (aborted ≡ false → now ≡ before ++ text)
       → Runs answers writes most s Awaits before t after now aborted
   admitted_run s admitted head r before t text after now aborted is x either stays same =
-      let y : answers s (Admitted head) t = subst (λ (b : Bool). answers s (judged b head r) t) is x in
+      let y : answers s (Admitted head) t =
+      subst (λ (b : Bool). answers s (judged b head r) t) is x in
       record {
         acts = Took (Admitted head) text ∷ [];
         chain = (t, Takes (head_of head) [], (y, (refl, refl, either)), (refl, stays));
@@ -70,7 +77,8 @@ module _ {S P : Type 0} (answers : S → Turn P → S → Type 0) (writes : P �
       → (aborted ≡ false → now ≡ before ++ refusal_text (asks_head head) r)
       → Runs answers writes most s Awaits before t after now aborted
   rejected_run s admitted head r before t after now aborted is x stays same =
-      let y : answers s (Rejected head r) t = subst (λ (b : Bool). answers s (judged b head r) t) is x in
+      let y : answers s (Rejected head r) t =
+      subst (λ (b : Bool). answers s (judged b head r) t) is x in
       let text = refusal_text (asks_head head) r in
       record {
         acts = Took (Rejected head r) text ∷ [];
@@ -105,7 +113,12 @@ module _ {S P : Type 0} (answers : S → Turn P → S → Type 0) (writes : P �
       let text = answer_text request r pieces server in
       record {
         acts = Took (Answered request r pieces) text ∷ [];
-        chain = (t, place_after (asks_head request) pieces, (x, (taken, refl, bound, (server, refl))), (refl, stays));
+        chain = (
+          t,
+          place_after (asks_head request) pieces,
+          (x, (taken, refl, bound, (server, refl))),
+          (refl, stays),
+        );
         text = λ lives. same lives ∙ ap (λ (z : List ℕ). before ++ z) (sym (append-nil text));
       }
 
@@ -169,14 +182,15 @@ module _ {S P : Type 0} (answers : S → Turn P → S → Type 0) (writes : P �
       → Runs answers writes most s place before m p mid over → over ≡ false
       → Runs answers writes most m p mid t after now aborted
       → Runs answers writes most s place before t after now aborted
-  runs_append {s} {place} {before} {m} {p} {mid} {over} {t} {after} {now} {aborted} x lives y = record {
-    acts = x.acts ++ y.acts;
-    chain = chain_append s place x.acts y.acts m p t after x.chain y.chain;
-    text = λ live.
-        y.text live ∙ ap (λ (z : List ℕ). z ++ texts_of y.acts) (x.text lives)
-        ∙ append_assoc before (texts_of x.acts) (texts_of y.acts)
-        ∙ ap (λ (z : List ℕ). before ++ z) (sym (flat_map-append text_of x.acts y.acts));
-  }
+  runs_append {s} {place} {before} {m} {p} {mid} {over} {t} {after} {now} {aborted} x lives y =
+      record {
+        acts = x.acts ++ y.acts;
+        chain = chain_append s place x.acts y.acts m p t after x.chain y.chain;
+        text = λ live.
+            y.text live ∙ ap (λ (z : List ℕ). z ++ texts_of y.acts) (x.text lives)
+            ∙ append_assoc before (texts_of x.acts) (texts_of y.acts)
+            ∙ ap (λ (z : List ℕ). before ++ z) (sym (flat_map-append text_of x.acts y.acts));
+      }
 
   -- what no service saw, beside any service
   chain_beside : (s : S) (place : Place P) (acts : List (Act P)) (after : Place P)
@@ -211,19 +225,22 @@ module _ {S P : Type 0} (answers : S → Turn P → S → Type 0) (writes : P �
       → more ≡ most → Runs answers writes most s place before m p mid over → over ≡ false
       → Runs answers writes more m p mid t after now aborted
       → Runs answers writes most s place before t after now aborted
-  runs_next {s} {place} {before} {m} {p} {mid} {over} {t} {after} {now} {aborted} most more same x lives y =
+  runs_next {s} {place} {before} {m} {p} {mid} {over} {t} {after} {now}
+      {aborted} most more same x lives y =
       runs_append answers writes most x lives
       (subst (λ (n : ℕ). Runs answers writes n m p mid t after now aborted) same y)
 
 -- A connection at the head of a request is at an open place.
 pub head_is_open : {P : Type 0} (stage : Stage P) (head : Parts) (body : List ℕ) → stage ≡ At.Head
     → IsOpen (place_at stage head body)
-head_is_open {P} stage head body is = subst (λ (s : Stage P). IsOpen (place_at s head body)) (sym is) tt
+head_is_open {P} stage head body is =
+    subst (λ (s : Stage P). IsOpen (place_at s head body)) (sym is) tt
 
 -- A connection at the body of a request is at an open place.
 pub body_is_open : {P : Type 0} (stage : Stage P) (head : Parts) (body : List ℕ) → stage ≡ At.Body
     → IsOpen (place_at stage head body)
-body_is_open {P} stage head body is = subst (λ (s : Stage P). IsOpen (place_at s head body)) (sym is) tt
+body_is_open {P} stage head body is =
+    subst (λ (s : Stage P). IsOpen (place_at s head body)) (sym is) tt
 
 -- The measure of the work left falls where a body ends.
 pub work_falls : (l m n r : ℕ) → n ≡ 2 * l → l ≡ m → r ≡ 1 → n < 2 * m + r
@@ -243,10 +260,12 @@ rests_open At.Aborted ended waits is = tt
 pub never_stalls : {P : Type 0} (stage : Stage P) (ended : Bool) (unread waits : ℕ)
     → rests_at stage ended waits
     → (reads_at stage ended waits ≡ true)
-    ⊎ ((0 < waits) ⊎ ((advances_at stage waits ≡ true) ⊎ (phase_at stage ended unread waits ≡ Done)))
+    ⊎ ((0 < waits)
+    ⊎ ((advances_at stage waits ≡ true) ⊎ (phase_at stage ended unread waits ≡ Done)))
 never_stalls At.Head false unread zero x = inl refl
 never_stalls At.Head false unread (suc waits) x = inr (inl (omega arith))
-never_stalls At.Head true unread waits x = elim x [ inl e ↦ absurd (cc) | inr more ↦ inr (inl more) ]
+never_stalls At.Head true unread waits x =
+    elim x [ inl e ↦ absurd (cc) | inr more ↦ inr (inl more) ]
 never_stalls At.Body false unread waits x = inl refl
 never_stalls At.Body true unread waits x = absurd (cc)
 never_stalls (At.Pieces p) ended unread zero x = inr (inr (inl refl))

@@ -1,12 +1,14 @@
 -- What a clause reads of a connection.
-use Rattle.std.specs.Prelude.{◌≡◌, ◌⊎◌, ◌<◌, ℕ, ◌+◌, ◌*◌, Bool, true, false, not, List, length, nat_lt, vec_capacity, ◌==◌, if◌then◌else◌}
+use Rattle.std.specs.Prelude.{◌≡◌, ◌⊎◌, ◌<◌, ℕ, ◌+◌, ◌*◌, Bool, true, false, not, List, length}
+use Rattle.std.specs.Prelude.{nat_lt, vec_capacity, ◌==◌, if◌then◌else◌}
 use Rattle.http.specs.declared.request.Parts.{Parts}
 use Rattle.http.specs.Request.{head_of}
 use Rattle.http_connection.specs.declared.connection.Connection.{Connection}
 use Rattle.http_connection.specs.declared.connection.Stage.{Stage}
 use Rattle.http_connection.specs.declared.connection.Stage.TheVariants as At
 use Rattle.http_connection.specs.declared.limits.Phase.{Phase}
-use Rattle.http_connection.specs.declared.limits.Phase.TheVariants.{Idle, Receiving, Answering, Discarding, Closing, Done}
+use Rattle.http_connection.specs.declared.limits.Phase.TheVariants.{Idle, Receiving, Answering}
+use Rattle.http_connection.specs.declared.limits.Phase.TheVariants.{Discarding, Closing, Done}
 use Rattle.http_connection.specs.Outputs.{waiting}
 use Rattle.http_connection.specs.Turns.{Turn}
 use Rattle.http_connection.specs.Runs.{Runs, Place, Awaits, Takes, Writes, Over}

@@ -1,5 +1,6 @@
 -- What a connection does with its service, and the bytes that it puts out for it.
-use Rattle.std.specs.Prelude.{◌≡◌, ℕ, ◌≤◌, ◌⊎◌, Bool, true, false, List, [], ◌∷◌, ◌++◌, length, flat_map, Option, Some, None, if◌then◌else◌}
+use Rattle.std.specs.Prelude.{◌≡◌, ℕ, ◌≤◌, ◌⊎◌, Bool, true, false, List, [], ◌∷◌, ◌++◌, length}
+use Rattle.std.specs.Prelude.{flat_map, Option, Some, None, if◌then◌else◌}
 use Rattle.http.specs.declared.request.Parts.{Parts}
 use Rattle.http.specs.declared.request.Request.{Request}
 use Rattle.http.specs.Request.{body_of, head_of}
@@ -66,7 +67,8 @@ IsPutOut most place (Admitted head) text after =
 IsPutOut most place (Rejected head r) text after =
     (place ≡ Awaits) × (after ≡ Over) × (text ≡ refusal_text (asks_head head) r)
 IsPutOut most place (Answered request r pieces) text after =
-    (place ≡ Takes (head_of request) (body_of request)) × (after ≡ place_after (asks_head request) pieces)
+    (place ≡ Takes (head_of request) (body_of request))
+    × (after ≡ place_after (asks_head request) pieces)
     × (length (body_of request) ≤ most)
     × ((s : Server) × (text ≡ answer_text request r pieces s))
 IsPutOut most place (Refused why r) text after =
@@ -85,7 +87,8 @@ Does answers writes most s place (Took turn text) t after =
     answers s turn t × IsPutOut most place turn text after
 Does answers writes most s place (Kept piece) t after =
     (t ≡ s)
-    × ((head : Parts) × (body : List ℕ) × (place ≡ Takes head body) × (after ≡ Takes head (body ++ piece)))
+    × ((head : Parts) × (body : List ℕ) × (place ≡ Takes head body)
+    × (after ≡ Takes head (body ++ piece)))
 Does answers writes most s place (Wrote old piece more new text) t after =
     (place ≡ Writes old) × (t ≡ s) × (after ≡ (if more then Writes new else Awaits))
     × IsPiece writes old piece more new

@@ -35,7 +35,8 @@ use Rattle.http_exporter.specs.contracts.tcp.TcpDial.TheInside as dial
 
 target_send : IsSend (Target.the_row Heap.the_row ghosts)
 target_send =
-    let fields : FieldsHave IsSend (target.the_type Heap.the_row ghosts).parts = search (sendable, as_row_send, heap.crosses) depth 60 fits 20000 in
+    let fields : FieldsHave IsSend (target.the_type Heap.the_row ghosts).parts =
+    search (sendable, as_row_send, heap.crosses) depth 60 fits 20000 in
     view_send _ _ _ _ _ (declared_send (target.the_type Heap.the_row ghosts) fields)
 
 limits_send : IsSend HeadLimits.the_row
@@ -45,35 +46,53 @@ fault_send : IsSend HttpFault.the_row
 fault_send = search (sendable, variants_send) depth 60 fits 20000
 
 message_send : IsSend Message.the_row
-message_send = view_send _ _ _ _ _ (declared_send message.the_type (search (sendable, declared_send, as_row_send) depth 60 fits 20000))
+message_send =
+    view_send _ _ _ _ _
+    (declared_send message.the_type
+    (search (sendable, declared_send, as_row_send) depth 60 fits 20000))
 
 failure_send : IsSend Failure.the_row
-failure_send = search (sendable, variants_send, as_row_send, fault_send, message_send) depth 60 fits 20000
+failure_send =
+    search (sendable, variants_send, as_row_send, fault_send, message_send) depth 60 fits 20000
 
 -- An exporter over links on the heap is `Send` where its dial is.
-pub link_exporter_send : (D : RattleType) → IsSend D → IsSend (LinkExporter.the_row D Heap.the_row ghosts)
-link_exporter_send D d = view_send _ _ _ _ _ (declared_send (exporter.the_type D Heap.the_row ghosts) (search (sendable, as_row_send, variants_send, target_send, limits_send, failure_send, heap.crosses, d) depth 60 fits 20000))
+pub link_exporter_send : (D : RattleType) → IsSend D
+    → IsSend (LinkExporter.the_row D Heap.the_row ghosts)
+link_exporter_send D d =
+    view_send _ _ _ _ _
+    (declared_send (exporter.the_type D Heap.the_row ghosts)
+    (search
+    (sendable, as_row_send, variants_send, target_send, limits_send, failure_send, heap.crosses, d)
+    depth 60 fits 20000))
 
 tcp_dial_send : (R : RattleType) → IsSend R → IsSend (TcpDial.the_row R)
-tcp_dial_send R r = view_send _ _ _ _ _ (declared_send (dial.the_type R) (search (sendable, as_row_send, r) depth 60 fits 20000))
+tcp_dial_send R r =
+    view_send _ _ _ _ _
+    (declared_send (dial.the_type R) (search (sendable, as_row_send, r) depth 60 fits 20000))
 
 -- An exporter over TCP on the heap is `Send` where its runtime's value is.
-pub http_exporter_send : (R : RattleType) → IsSend R → IsSend (LinkExporter.the_row (TcpDial.the_row R) Heap.the_row ghosts)
+pub http_exporter_send : (R : RattleType) → IsSend R
+    → IsSend (LinkExporter.the_row (TcpDial.the_row R) Heap.the_row ghosts)
 http_exporter_send R r = link_exporter_send (TcpDial.the_row R) (tcp_dial_send R r)
 
 module _ (D L : RattleType) (g : dialing.Ghosts D.Denot L.Denot)
     (r : reading.Ghosts L.Denot) (w : writing.Ghosts L.Denot) where
   -- An exporter that keeps its link is `Send` where its dial and its link are.
-  pub kept_exporter_send : IsSend D → IsSend L → IsSend (KeptExporter.the_row D Heap.the_row L g r w ghosts)
+  pub kept_exporter_send : IsSend D → IsSend L
+      → IsSend (KeptExporter.the_row D Heap.the_row L g r w ghosts)
   kept_exporter_send d l =
       let e = link_exporter_send D d in
-      view_send _ _ _ _ _ (declared_send (kept.the_type D Heap.the_row L g r w ghosts) (search (sendable, as_row_send, variants_send, e, l) depth 60 fits 20000))
+      view_send _ _ _ _ _
+      (declared_send (kept.the_type D Heap.the_row L g r w ghosts)
+      (search (sendable, as_row_send, variants_send, e, l) depth 60 fits 20000))
 
 clock_send : (R : RattleType) → IsSend R → IsSend (RuntimeClock.the_row R)
 clock_send R r = search (sendable, declared_send, r) depth 60 fits 20000
 
 countdown_send : (C : RattleType) → IsSend C → IsSend (Countdown.the_row C)
-countdown_send C c = view_send _ _ _ _ _ (declared_send (countdown.the_type C) (search (sendable, as_row_send, c) depth 60 fits 20000))
+countdown_send C c =
+    view_send _ _ _ _ _
+    (declared_send (countdown.the_type C) (search (sendable, as_row_send, c) depth 60 fits 20000))
 
 socket_send : (S : RattleType) → IsSend S → IsSend (Socket.the_row S)
 socket_send S s = search (sendable, declared_send, s) depth 60 fits 20000
@@ -81,12 +100,16 @@ socket_send S s = search (sendable, declared_send, s) depth 60 fits 20000
 deadline_send : (S C : RattleType) → IsSend S → IsSend C → IsSend (Deadline.the_row S C)
 deadline_send S C s c =
     let t = countdown_send C c in
-    view_send _ _ _ _ _ (declared_send (deadline.the_type S C) (search (sendable, as_row_send, s, t) depth 60 fits 20000))
+    view_send _ _ _ _ _
+    (declared_send (deadline.the_type S C)
+    (search (sendable, as_row_send, s, t) depth 60 fits 20000))
 
 buffered_send : (L : RattleType) → IsSend L → IsSend (Buffered.the_row L)
 buffered_send L l =
     let bytes = as_row_send (row_field (Array u8 tt 4096)) (array_send u8 4096 (search sendable)) in
-    view_send _ _ _ _ _ (declared_send (buffered.the_type L) (as_row_send (row_field L) l, (bytes, search (sendable, as_row_send) depth 60 fits 20000)))
+    view_send _ _ _ _ _
+    (declared_send (buffered.the_type L)
+    (as_row_send (row_field L) l, (bytes, search (sendable, as_row_send) depth 60 fits 20000)))
 
 -- a link over TCP, by the runtime and its streams
 abbrev pub tcp_link : RattleType → RattleType → RattleType
@@ -101,4 +124,5 @@ module _ (R S : RattleType) (g : dialing.Ghosts (TcpDial.the_row R).Denot (tcp_l
   -- An exporter that keeps its connection is `Send` where its runtime's value and stream are.
   pub kept_http_exporter_send : IsSend R → IsSend S
       → IsSend (KeptExporter.the_row (TcpDial.the_row R) Heap.the_row (tcp_link R S) g r w ghosts)
-  kept_http_exporter_send a s = kept_exporter_send _ _ g r w (tcp_dial_send R a) (tcp_link_send R S a s)
+  kept_http_exporter_send a s =
+      kept_exporter_send _ _ g r w (tcp_dial_send R a) (tcp_link_send R S a s)

@@ -1,5 +1,7 @@
 -- What fields say of lengths and of waits.
-use Rattle.std.proofs.Common.{◌≡◌, ℕ, ◌<◌, ◌^◌, Bool, true, false, ◌&&◌, cond, List, [], ◌∷◌, length, map, refl, sym, ap, ◌∙◌, bytes_eq, Option, Some, None, Result, Ok, Err, arith, inl, inr, rules}
+use Rattle.std.proofs.Common.{◌≡◌, ℕ, ◌<◌, ◌^◌, Bool, true, false, ◌&&◌, cond, List, [], ◌∷◌}
+use Rattle.std.proofs.Common.{length, map, refl, sym, ap, ◌∙◌, bytes_eq, Option, Some, None, Result}
+use Rattle.std.proofs.Common.{Ok, Err, arith, inl, inr, rules}
 use Rattle.std.specs.Prelude.{nat_lt}
 use Rattle.std.proofs.Math.Dec.{leb}
 use Rattle.std.proofs.lemmas.Bool.{cases_Bool, false≢true, leb-true, lt-ltb, ltb-true}
@@ -10,26 +12,32 @@ use Rattle.std.specs.Str.{all_ascii_digits, IsAscii, IsUtf8}
 use Rattle.std.proofs.lemmas.Str.{IsUtf8-from_ascii}
 use Rattle.std.proofs.lemmas.Str.Ascii.{IsAscii-nil, IsAscii-cons}
 use Rattle.std.specs.Str.Parse.{digits_value, digits_value_after, ParsesUnsigned}
-use Rattle.std.proofs.lemmas.Str.Parse.{IsNumeralModel, numerals_by_fold, tells_all_ascii_digits, parse_digits}
+use Rattle.std.proofs.lemmas.Str.Parse.{IsNumeralModel, numerals_by_fold, tells_all_ascii_digits}
+use Rattle.std.proofs.lemmas.Str.Parse.{parse_digits}
 use Rattle.http_header.specs.FieldValue.{FieldValue}
 use Rattle.http_wire.specs.declared.fault.HttpFault.{HttpFault}
 use Rattle.http_wire.specs.declared.fault.HttpFault.TheVariants.{BadLength}
 use Rattle.http_wire.specs.Fields.{is_digits, is_length, content_length}
 
-all_map : (value : List ℕ) (vs : List FieldValue) → list_all (bytes_eq value) (map (λ v. v.bytes) vs) ≡ list_all (λ v. bytes_eq value v.bytes) vs
+all_map : (value : List ℕ) (vs : List FieldValue)
+    → list_all (bytes_eq value) (map (λ v. v.bytes) vs) ≡ list_all (λ v. bytes_eq value v.bytes) vs
 all_map value [] = refl
 all_map value (v ∷ vs) = ap (λ t. bytes_eq value v.bytes && t) (all_map value vs)
 
 -- The length is that of the first value, if all others are equal to it and it is a length.
-pub length_of : (values : List FieldValue) (v : FieldValue) (vs : List FieldValue) (same : Bool) → values ≡ v ∷ vs
+pub length_of : (values : List FieldValue) (v : FieldValue) (vs : List FieldValue) (same : Bool)
+    → values ≡ v ∷ vs
     → same ≡ list_all (λ w. bytes_eq v.bytes w.bytes) vs
-    → content_length (map (λ w. w.bytes) values) ≡ cond (same && is_length v.bytes) (Ok (Some (digits_value 10 v.bytes))) (Err BadLength)
+    → content_length (map (λ w. w.bytes) values)
+    ≡ cond (same && is_length v.bytes) (Ok (Some (digits_value 10 v.bytes))) (Err BadLength)
 length_of values v vs same is all =
     ap (λ l. content_length (map (λ w. w.bytes) l)) is
-    ∙ ap (λ t. cond (t && is_length v.bytes) (Ok (Some (digits_value 10 v.bytes))) (Err BadLength)) (all_map v.bytes vs ∙ sym all)
+    ∙ ap (λ t. cond (t && is_length v.bytes) (Ok (Some (digits_value 10 v.bytes))) (Err BadLength))
+    (all_map v.bytes vs ∙ sym all)
 
 -- The number that was read is the length.
-pub length_some : (b : Bool) (n d : ℕ) → Some n ≡ cond b (Some d) None → ◌≡◌ {A = Result (Option ℕ) HttpFault} (Ok (Some n)) (cond b (Ok (Some d)) (Err BadLength))
+pub length_some : (b : Bool) (n d : ℕ) → Some n ≡ cond b (Some d) None
+    → ◌≡◌ {A = Result (Option ℕ) HttpFault} (Ok (Some n)) (cond b (Ok (Some d)) (Err BadLength))
 length_some true n d is = ap Ok is
 length_some false n d is = absurd cc
 
@@ -52,7 +60,8 @@ digits_ascii (b ∷ text) all =
 
 -- Digits are UTF-8.
 pub digits_text : (text : List ℕ) → is_digits text ≡ true → IsUtf8 text
-digits_text text digits = IsUtf8-from_ascii text (digits_ascii text (both (nat_lt 0 (length text)) _ digits).1)
+digits_text text digits =
+    IsUtf8-from_ascii text (digits_ascii text (both (nat_lt 0 (length text)) _ digits).1)
 
 -- The digits of a length are the digits that a parse takes.
 digits_all : (text : List ℕ) → list_all is_ascii_digit text ≡ all_ascii_digits text
@@ -73,7 +82,8 @@ length_fits text (Err e) digits parsed =
     ]
 
 -- A parse of digits gives their number where it is a length, and else none.
-pub length_parsed : {E : Type 0} (text : List ℕ) (r : Result ℕ E) → is_digits text ≡ true → ParsesUnsigned 64 10 text r
+pub length_parsed : {E : Type 0} (text : List ℕ) (r : Result ℕ E) → is_digits text ≡ true
+    → ParsesUnsigned 64 10 text r
     → result_ok r ≡ cond (is_length text) (Some (digits_value 10 text)) None
 length_parsed text r digits parses =
     let all = sym (digits_all text) ∙ (both (nat_lt 0 (length text)) _ digits).1 in

@@ -1,5 +1,6 @@
 -- The request's head, as a tree.
-use Rattle.std.proofs.Common.{◌≡◌, ℕ, ◌<◌, List, [], ◌∷◌, ◌++◌, nat_lt, true, length, refl, sym, ap, ◌∙◌, IsTrue, arith, codes, append_assoc}
+use Rattle.std.proofs.Common.{◌≡◌, ℕ, ◌<◌, List, [], ◌∷◌, ◌++◌, nat_lt, true, length, refl, sym, ap}
+use Rattle.std.proofs.Common.{◌∙◌, IsTrue, arith, codes, append_assoc}
 use Rattle.std.specs.Prelude.{All, decimal}
 use Rattle.std.specs.List.{list_all}
 use Rattle.std.proofs.lemmas.Bool.{and_parts, ltb-true}
@@ -8,7 +9,8 @@ use Rattle.std.proofs.lemmas.List.Sums.{AllPass-from_list_all}
 use Rattle.std.proofs.lemmas.Str.{IsUtf8-from_ascii}
 use Rattle.std.proofs.lemmas.Str.Ascii.{IsAscii-from_all}
 use Rattle.std.proofs.lemmas.Bool.Decides.{nat_tests}
-use Rattle.httparse.specs.Grammar.{crlf, Field, IsField, is_token_byte, is_uri_byte, is_value_byte, is_token, RequestHead, IsRequestHead, print_request}
+use Rattle.httparse.specs.Grammar.{crlf, Field, IsField, is_token_byte, is_uri_byte, is_value_byte}
+use Rattle.httparse.specs.Grammar.{is_token, RequestHead, IsRequestHead, print_request}
 use Rattle.httparse.proofs.OnLiterals.{httparse_on_literals}
 use Rattle.otlp_http.specs.Request.{request_head}
 use Rattle.law_export.proofs.Bytes.{all_four, is_visible, AreVisible, value_bytes}
@@ -72,9 +74,12 @@ regroup a b c d = sym (append_assoc (a ++ b) c d ∙ append_assoc a b (c ++ d))
 
 -- The head prints as the head that the client writes.
 pub head_text : (host : List ℕ) (port size : ℕ)
-    → print_request (head (host_of host port) (decimal size)) ≡ request_head (record { host = host; port = port; path = traces }) size
+    → print_request (head (host_of host port) (decimal size))
+    ≡ request_head (record { host = host; port = port; path = traces }) size
 unfolding httparse_on_literals request_head
-head_text host port size = ap (λ t. front ++ (t ++ return)) (regroup (host_of host port ++ return) media_line (size_line (decimal size)) close_line)
+head_text host port size =
+    ap (λ t. front ++ (t ++ return))
+    (regroup (host_of host port ++ return) media_line (size_line (decimal size)) close_line)
 
 -- ---- it is a request's head
 
@@ -86,7 +91,8 @@ media_is = AllPass-from_list_all is_visible media refl
 pub close_is : AreVisible (codes "close")
 close_is = AllPass-from_list_all is_visible (codes "close") refl
 
-field_is : (name value : List ℕ) → is_token name ≡ true → AreVisible value → IsField (field name value)
+field_is : (name value : List ℕ) → is_token name ≡ true → AreVisible value
+    → IsField (field name value)
 unfolding httparse_on_literals
 field_is name value token are =
     let parts = and_parts (nat_lt 0 (length name)) (list_all is_token_byte name) token in
@@ -96,17 +102,25 @@ field_is name value token are =
     }
 
 ascii : (bytes : List ℕ) → AreVisible bytes → All (λ b. b < 128) bytes
-ascii bytes are = All-weaker (λ b. IsTrue (is_visible b)) (λ b. b < 128) (λ b is. grind (arith, nat_tests)) bytes are
+ascii bytes are =
+    All-weaker (λ b. IsTrue (is_visible b)) (λ b. b < 128)
+    (λ b is. grind (arith, nat_tests)) bytes are
 
 -- The head is one of a request where the bytes of its host and of its size are visible.
-pub head_is : (host size : List ℕ) → AreVisible host → AreVisible size → IsRequestHead (head host size)
+pub head_is : (host size : List ℕ) → AreVisible host → AreVisible size
+    → IsRequestHead (head host size)
 unfolding httparse_on_literals
 head_is host size host_are size_are = record {
   method = (omega arith, AllPass-from_list_all is_token_byte (codes "POST") refl);
   target = (omega arith, AllPass-from_list_all is_uri_byte traces refl);
-  target_text = IsUtf8-from_ascii traces (IsAscii-from_all traces (ascii traces (AllPass-from_list_all is_visible traces refl)));
+  target_text =
+      IsUtf8-from_ascii traces
+      (IsAscii-from_all traces (ascii traces (AllPass-from_list_all is_visible traces refl)));
   minor = omega arith;
   fields =
-      all_four IsField (host_field host) media_field (size_field size) close_field (field_is (codes "Host") host refl host_are)
-      (field_is (codes "Content-Type") media refl media_is) (field_is (codes "Content-Length") size refl size_are) (field_is (codes "Connection") (codes "close") refl close_is);
+      all_four IsField (host_field host) media_field (size_field size) close_field
+      (field_is (codes "Host") host refl host_are)
+      (field_is (codes "Content-Type") media refl media_is)
+      (field_is (codes "Content-Length") size refl size_are)
+      (field_is (codes "Connection") (codes "close") refl close_is);
 }

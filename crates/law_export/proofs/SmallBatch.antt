@@ -36,7 +36,12 @@ text = refl
 
 allowed : IsAllowed small local plain_body
 unfolding hex request_head digits
-allowed = record { head_bytes = leb-true (length (request_head local (length plain_body))) 127 refl; four_fields = omega arith; body_bytes = omega arith; counted = omega arith }
+allowed = record {
+  head_bytes = leb-true (length (request_head local (length plain_body))) 127 refl;
+  four_fields = omega arith;
+  body_bytes = omega arith;
+  counted = omega arith;
+}
 
 -- The request comes to a collector whose limits just allow it.
 pub comes : Arrives small local plain_body (Some request_bytes) 0 0
@@ -45,14 +50,21 @@ comes = record {
   appended = [];
   whole = refl;
   sound = never_failed;
-  address_is = record { target = record { host = refl; path = refl; short = omega arith }; port = omega arith; path = refl };
+  address_is = record {
+    target = record { host = refl; path = refl; short = omega arith };
+    port = omega arith;
+    path = refl;
+  };
   allowed = allowed;
 }
 
 -- The bytes of the request are read as this request, and no bytes are left.
-pub came : IsPost small (Some request_bytes) (Some []) (HasFailed 0 0) (post (codes "127.0.0.1") 4318 plain_body)
+pub came : IsPost small (Some request_bytes) (Some []) (HasFailed 0 0)
+    (post (codes "127.0.0.1") 4318 plain_body)
 came =
-    subst (λ bytes. IsPost small (Some bytes) (Some []) (HasFailed 0 0) (post (codes "127.0.0.1") 4318 plain_body)) text
+    subst (λ bytes.
+    IsPost small (Some bytes) (Some []) (HasFailed 0 0) (post (codes "127.0.0.1") 4318 plain_body))
+    text
     (is_post small (codes "127.0.0.1") 4318 plain_body [] (HasFailed 0 0) (record {
       visible = host_bytes (codes "127.0.0.1") refl;
       fits = omega arith;

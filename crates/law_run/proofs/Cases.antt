@@ -8,7 +8,10 @@ use Rattle.model_desk.specs.Queue.{DeskEvent}
 use Rattle.model_desk.specs.Queue as desk
 use Rattle.model_run.specs.Steps.{Step}
 use Rattle.model_run.specs.History.{Setup}
-use Rattle.model_run.specs.Runs.{Ended, queued, handed, late, not_sampled, already_ended, Answer, started, no_randomness, no_span, out_of_memory, done, ended, taken, not_taken, encoded, sent, early, replied, nothing, Answered, take_moment, span_of_end, event_by}
+use Rattle.model_run.specs.Runs.{Ended, queued, handed, late, not_sampled, already_ended, Answer}
+use Rattle.model_run.specs.Runs.{started, no_randomness, no_span, out_of_memory, done, ended, taken}
+use Rattle.model_run.specs.Runs.{not_taken, encoded, sent, early, replied, nothing, Answered}
+use Rattle.model_run.specs.Runs.{take_moment, span_of_end, event_by}
 use Rattle.model_run.specs.Answers.{progress_by, attempts_by}
 use Rattle.model_run.specs.Headline.{attempt_by}
 use Rattle.law_run.specs.Laws.{says_taken, ends_batch, moment_by, lost_by}
@@ -31,20 +34,27 @@ pub record IsSilent (a : Answer) : Type 0 where
 
 -- what has to be shown of each answer and of what a step with it does at the queue
 pub record EventCases (step : Step) (P : Answer → Option DeskEvent → Type 0) : Type 0 where
-  pub of_queued : (ticket : ℕ) (o : Option SpanData) → P (ended (queued ticket)) (option_map desk.queued o)
-  pub of_full : (ticket : ℕ) (o : Option SpanData) → P (ended (Ended.dropped ticket queue_full)) (option_map desk.full o)
+  pub of_queued : (ticket : ℕ) (o : Option SpanData)
+      → P (ended (queued ticket)) (option_map desk.queued o)
+  pub of_full : (ticket : ℕ) (o : Option SpanData)
+      → P (ended (Ended.dropped ticket queue_full)) (option_map desk.full o)
   pub of_late : P (ended late) (Some desk.late)
   pub of_flush : P Answer.flush (Some desk.flush)
   pub of_shutdown : P Answer.shutdown (Some desk.shutdown)
-  pub of_taken : (number size : ℕ) → P (taken number size) (Some (desk.taken (take_moment step) size))
+  pub of_taken : (number size : ℕ)
+      → P (taken number size) (Some (desk.taken (take_moment step) size))
   pub of_encoded : (number size : ℕ) → P (encoded number size) None
-  pub of_dropped : (number : ℕ) (reason : Reason) → P (Answer.dropped number reason) (Some (desk.dropped reason))
-  pub of_sent : (number attempt : ℕ) (outcome : Outcome) → P (sent number attempt outcome) (if attempt == 1 then Some desk.handed else None)
-  pub of_replied : (number : ℕ) (next : Next) → P (replied number next) (option_map desk.settled (fate_of next))
+  pub of_dropped : (number : ℕ) (reason : Reason)
+      → P (Answer.dropped number reason) (Some (desk.dropped reason))
+  pub of_sent : (number attempt : ℕ) (outcome : Outcome)
+      → P (sent number attempt outcome) (if attempt == 1 then Some desk.handed else None)
+  pub of_replied : (number : ℕ) (next : Next)
+      → P (replied number next) (option_map desk.settled (fate_of next))
   -- the answers that do nothing at the queue and say nothing of a batch
   pub of_other : (a : Answer) → IsSilent a → P a None
 
-module _ (setup : Setup) (before : List Answered) (step : Step) (P : Answer → Option DeskEvent → Type 0) (c : EventCases step P) where
+module _ (setup : Setup) (before : List Answered) (step : Step)
+    (P : Answer → Option DeskEvent → Type 0) (c : EventCases step P) where
   -- What is shown of each case of an answer, with what it does at the queue, holds of every answer.
   pub by-event : (a : Answer) → P a (event_by setup before a step)
   by-event (ended (queued n)) = c.of_queued n (span_of_end setup before step n)
@@ -57,24 +67,222 @@ module _ (setup : Setup) (before : List Answered) (step : Step) (P : Answer → 
   by-event (Answer.dropped number reason) = c.of_dropped number reason
   by-event (sent number attempt outcome) = c.of_sent number attempt outcome
   by-event (replied number next) = c.of_replied number next
-  by-event (ended (handed n)) = c.of_other (ended (handed n)) (record { no_progress = refl; no_size = refl; no_number = refl; no_attempt = refl; no_moment = refl; no_take = refl; no_end = refl; no_loss = λ spans. refl })
-  by-event (ended (Ended.dropped n encode_memory)) = c.of_other (ended (Ended.dropped n encode_memory)) (record { no_progress = refl; no_size = refl; no_number = refl; no_attempt = refl; no_moment = refl; no_take = refl; no_end = refl; no_loss = λ spans. refl })
-  by-event (ended (Ended.dropped n too_large)) = c.of_other (ended (Ended.dropped n too_large)) (record { no_progress = refl; no_size = refl; no_number = refl; no_attempt = refl; no_moment = refl; no_take = refl; no_end = refl; no_loss = λ spans. refl })
-  by-event (ended (Ended.dropped n abandoned)) = c.of_other (ended (Ended.dropped n abandoned)) (record { no_progress = refl; no_size = refl; no_number = refl; no_attempt = refl; no_moment = refl; no_take = refl; no_end = refl; no_loss = λ spans. refl })
-  by-event (ended (Ended.dropped n (Reason.refused status))) = c.of_other (ended (Ended.dropped n (Reason.refused status))) (record { no_progress = refl; no_size = refl; no_number = refl; no_attempt = refl; no_moment = refl; no_take = refl; no_end = refl; no_loss = λ spans. refl })
-  by-event (ended (Ended.dropped n Reason.bad_reply)) = c.of_other (ended (Ended.dropped n Reason.bad_reply)) (record { no_progress = refl; no_size = refl; no_number = refl; no_attempt = refl; no_moment = refl; no_take = refl; no_end = refl; no_loss = λ spans. refl })
-  by-event (ended (Ended.dropped n Reason.given_up)) = c.of_other (ended (Ended.dropped n Reason.given_up)) (record { no_progress = refl; no_size = refl; no_number = refl; no_attempt = refl; no_moment = refl; no_take = refl; no_end = refl; no_loss = λ spans. refl })
-  by-event (ended (Ended.dropped n Reason.left_handed)) = c.of_other (ended (Ended.dropped n Reason.left_handed)) (record { no_progress = refl; no_size = refl; no_number = refl; no_attempt = refl; no_moment = refl; no_take = refl; no_end = refl; no_loss = λ spans. refl })
-  by-event (ended not_sampled) = c.of_other (ended not_sampled) (record { no_progress = refl; no_size = refl; no_number = refl; no_attempt = refl; no_moment = refl; no_take = refl; no_end = refl; no_loss = λ spans. refl })
-  by-event (ended already_ended) = c.of_other (ended already_ended) (record { no_progress = refl; no_size = refl; no_number = refl; no_attempt = refl; no_moment = refl; no_take = refl; no_end = refl; no_loss = λ spans. refl })
-  by-event (started ids) = c.of_other (started ids) (record { no_progress = refl; no_size = refl; no_number = refl; no_attempt = refl; no_moment = refl; no_take = refl; no_end = refl; no_loss = λ spans. refl })
-  by-event no_randomness = c.of_other no_randomness (record { no_progress = refl; no_size = refl; no_number = refl; no_attempt = refl; no_moment = refl; no_take = refl; no_end = refl; no_loss = λ spans. refl })
-  by-event no_span = c.of_other no_span (record { no_progress = refl; no_size = refl; no_number = refl; no_attempt = refl; no_moment = refl; no_take = refl; no_end = refl; no_loss = λ spans. refl })
-  by-event out_of_memory = c.of_other out_of_memory (record { no_progress = refl; no_size = refl; no_number = refl; no_attempt = refl; no_moment = refl; no_take = refl; no_end = refl; no_loss = λ spans. refl })
-  by-event done = c.of_other done (record { no_progress = refl; no_size = refl; no_number = refl; no_attempt = refl; no_moment = refl; no_take = refl; no_end = refl; no_loss = λ spans. refl })
-  by-event not_taken = c.of_other not_taken (record { no_progress = refl; no_size = refl; no_number = refl; no_attempt = refl; no_moment = refl; no_take = refl; no_end = refl; no_loss = λ spans. refl })
-  by-event early = c.of_other early (record { no_progress = refl; no_size = refl; no_number = refl; no_attempt = refl; no_moment = refl; no_take = refl; no_end = refl; no_loss = λ spans. refl })
-  by-event nothing = c.of_other nothing (record { no_progress = refl; no_size = refl; no_number = refl; no_attempt = refl; no_moment = refl; no_take = refl; no_end = refl; no_loss = λ spans. refl })
+  by-event (ended (handed n)) =
+      c.of_other (ended (handed n))
+      (record {
+        no_progress = refl;
+        no_size = refl;
+        no_number = refl;
+        no_attempt = refl;
+        no_moment = refl;
+        no_take = refl;
+        no_end = refl;
+        no_loss = λ spans. refl;
+      })
+  by-event (ended (Ended.dropped n encode_memory)) =
+      c.of_other (ended (Ended.dropped n encode_memory))
+      (record {
+        no_progress = refl;
+        no_size = refl;
+        no_number = refl;
+        no_attempt = refl;
+        no_moment = refl;
+        no_take = refl;
+        no_end = refl;
+        no_loss = λ spans. refl;
+      })
+  by-event (ended (Ended.dropped n too_large)) =
+      c.of_other (ended (Ended.dropped n too_large))
+      (record {
+        no_progress = refl;
+        no_size = refl;
+        no_number = refl;
+        no_attempt = refl;
+        no_moment = refl;
+        no_take = refl;
+        no_end = refl;
+        no_loss = λ spans. refl;
+      })
+  by-event (ended (Ended.dropped n abandoned)) =
+      c.of_other (ended (Ended.dropped n abandoned))
+      (record {
+        no_progress = refl;
+        no_size = refl;
+        no_number = refl;
+        no_attempt = refl;
+        no_moment = refl;
+        no_take = refl;
+        no_end = refl;
+        no_loss = λ spans. refl;
+      })
+  by-event (ended (Ended.dropped n (Reason.refused status))) =
+      c.of_other (ended (Ended.dropped n (Reason.refused status)))
+      (record {
+        no_progress = refl;
+        no_size = refl;
+        no_number = refl;
+        no_attempt = refl;
+        no_moment = refl;
+        no_take = refl;
+        no_end = refl;
+        no_loss = λ spans. refl;
+      })
+  by-event (ended (Ended.dropped n Reason.bad_reply)) =
+      c.of_other (ended (Ended.dropped n Reason.bad_reply))
+      (record {
+        no_progress = refl;
+        no_size = refl;
+        no_number = refl;
+        no_attempt = refl;
+        no_moment = refl;
+        no_take = refl;
+        no_end = refl;
+        no_loss = λ spans. refl;
+      })
+  by-event (ended (Ended.dropped n Reason.given_up)) =
+      c.of_other (ended (Ended.dropped n Reason.given_up))
+      (record {
+        no_progress = refl;
+        no_size = refl;
+        no_number = refl;
+        no_attempt = refl;
+        no_moment = refl;
+        no_take = refl;
+        no_end = refl;
+        no_loss = λ spans. refl;
+      })
+  by-event (ended (Ended.dropped n Reason.left_handed)) =
+      c.of_other (ended (Ended.dropped n Reason.left_handed))
+      (record {
+        no_progress = refl;
+        no_size = refl;
+        no_number = refl;
+        no_attempt = refl;
+        no_moment = refl;
+        no_take = refl;
+        no_end = refl;
+        no_loss = λ spans. refl;
+      })
+  by-event (ended not_sampled) =
+      c.of_other (ended not_sampled)
+      (record {
+        no_progress = refl;
+        no_size = refl;
+        no_number = refl;
+        no_attempt = refl;
+        no_moment = refl;
+        no_take = refl;
+        no_end = refl;
+        no_loss = λ spans. refl;
+      })
+  by-event (ended already_ended) =
+      c.of_other (ended already_ended)
+      (record {
+        no_progress = refl;
+        no_size = refl;
+        no_number = refl;
+        no_attempt = refl;
+        no_moment = refl;
+        no_take = refl;
+        no_end = refl;
+        no_loss = λ spans. refl;
+      })
+  by-event (started ids) =
+      c.of_other (started ids)
+      (record {
+        no_progress = refl;
+        no_size = refl;
+        no_number = refl;
+        no_attempt = refl;
+        no_moment = refl;
+        no_take = refl;
+        no_end = refl;
+        no_loss = λ spans. refl;
+      })
+  by-event no_randomness =
+      c.of_other no_randomness
+      (record {
+        no_progress = refl;
+        no_size = refl;
+        no_number = refl;
+        no_attempt = refl;
+        no_moment = refl;
+        no_take = refl;
+        no_end = refl;
+        no_loss = λ spans. refl;
+      })
+  by-event no_span =
+      c.of_other no_span
+      (record {
+        no_progress = refl;
+        no_size = refl;
+        no_number = refl;
+        no_attempt = refl;
+        no_moment = refl;
+        no_take = refl;
+        no_end = refl;
+        no_loss = λ spans. refl;
+      })
+  by-event out_of_memory =
+      c.of_other out_of_memory
+      (record {
+        no_progress = refl;
+        no_size = refl;
+        no_number = refl;
+        no_attempt = refl;
+        no_moment = refl;
+        no_take = refl;
+        no_end = refl;
+        no_loss = λ spans. refl;
+      })
+  by-event done =
+      c.of_other done
+      (record {
+        no_progress = refl;
+        no_size = refl;
+        no_number = refl;
+        no_attempt = refl;
+        no_moment = refl;
+        no_take = refl;
+        no_end = refl;
+        no_loss = λ spans. refl;
+      })
+  by-event not_taken =
+      c.of_other not_taken
+      (record {
+        no_progress = refl;
+        no_size = refl;
+        no_number = refl;
+        no_attempt = refl;
+        no_moment = refl;
+        no_take = refl;
+        no_end = refl;
+        no_loss = λ spans. refl;
+      })
+  by-event early =
+      c.of_other early
+      (record {
+        no_progress = refl;
+        no_size = refl;
+        no_number = refl;
+        no_attempt = refl;
+        no_moment = refl;
+        no_take = refl;
+        no_end = refl;
+        no_loss = λ spans. refl;
+      })
+  by-event nothing =
+      c.of_other nothing
+      (record {
+        no_progress = refl;
+        no_size = refl;
+        no_number = refl;
+        no_attempt = refl;
+        no_moment = refl;
+        no_take = refl;
+        no_end = refl;
+        no_loss = λ spans. refl;
+      })
 
 -- what has to be shown of each answer
 pub record AnswerCases (P : Answer → Type 0) : Type 0 where
@@ -88,11 +296,66 @@ pub record AnswerCases (P : Answer → Type 0) : Type 0 where
 
 answer-cases : (step : Step) (P : Answer → Type 0) → AnswerCases P → EventCases step (λ a o. P a)
 answer-cases step P c = record {
-  of_queued = λ n o. c.of_other (ended (queued n)) (record { no_progress = refl; no_size = refl; no_number = refl; no_attempt = refl; no_moment = refl; no_take = refl; no_end = refl; no_loss = λ spans. refl });
-  of_full = λ n o. c.of_other (ended (Ended.dropped n queue_full)) (record { no_progress = refl; no_size = refl; no_number = refl; no_attempt = refl; no_moment = refl; no_take = refl; no_end = refl; no_loss = λ spans. refl });
-  of_late = c.of_other (ended late) (record { no_progress = refl; no_size = refl; no_number = refl; no_attempt = refl; no_moment = refl; no_take = refl; no_end = refl; no_loss = λ spans. refl });
-  of_flush = c.of_other Answer.flush (record { no_progress = refl; no_size = refl; no_number = refl; no_attempt = refl; no_moment = refl; no_take = refl; no_end = refl; no_loss = λ spans. refl });
-  of_shutdown = c.of_other Answer.shutdown (record { no_progress = refl; no_size = refl; no_number = refl; no_attempt = refl; no_moment = refl; no_take = refl; no_end = refl; no_loss = λ spans. refl });
+  of_queued =
+      λ n o. c.of_other (ended (queued n))
+      (record {
+        no_progress = refl;
+        no_size = refl;
+        no_number = refl;
+        no_attempt = refl;
+        no_moment = refl;
+        no_take = refl;
+        no_end = refl;
+        no_loss = λ spans. refl;
+      });
+  of_full =
+      λ n o. c.of_other (ended (Ended.dropped n queue_full))
+      (record {
+        no_progress = refl;
+        no_size = refl;
+        no_number = refl;
+        no_attempt = refl;
+        no_moment = refl;
+        no_take = refl;
+        no_end = refl;
+        no_loss = λ spans. refl;
+      });
+  of_late =
+      c.of_other (ended late)
+      (record {
+        no_progress = refl;
+        no_size = refl;
+        no_number = refl;
+        no_attempt = refl;
+        no_moment = refl;
+        no_take = refl;
+        no_end = refl;
+        no_loss = λ spans. refl;
+      });
+  of_flush =
+      c.of_other Answer.flush
+      (record {
+        no_progress = refl;
+        no_size = refl;
+        no_number = refl;
+        no_attempt = refl;
+        no_moment = refl;
+        no_take = refl;
+        no_end = refl;
+        no_loss = λ spans. refl;
+      });
+  of_shutdown =
+      c.of_other Answer.shutdown
+      (record {
+        no_progress = refl;
+        no_size = refl;
+        no_number = refl;
+        no_attempt = refl;
+        no_moment = refl;
+        no_take = refl;
+        no_end = refl;
+        no_loss = λ spans. refl;
+      });
   of_taken = c.of_taken;
   of_encoded = c.of_encoded;
   of_dropped = c.of_dropped;

@@ -1,5 +1,6 @@
 -- What is lost, and that it is named.
-use Rattle.std.proofs.Common.{◌≡◌, refl, sym, ap, ◌∙◌, ℕ, ◌+◌, ◌≤◌, arith, List, [], ◌∷◌, ◌++◌, map, Bool, true, false, Option, Some, None, option_map}
+use Rattle.std.proofs.Common.{◌≡◌, refl, sym, ap, ◌∙◌, ℕ, ◌+◌, ◌≤◌, arith, List, [], ◌∷◌, ◌++◌, map}
+use Rattle.std.proofs.Common.{Bool, true, false, Option, Some, None, option_map}
 use Rattle.std.specs.Prelude.{◌==◌, if◌then◌else◌, option_to_list}
 use Rattle.std.proofs.lemmas.List.{append-nil}
 use Rattle.model_span.specs.Spans.{SpanData}
@@ -14,7 +15,8 @@ use Rattle.model_run.specs.History.{Setup}
 use Rattle.model_run.specs.Runs.{Answered, event_by, desk_events}
 use Rattle.model_run.specs.Answers.{RunConfig}
 use Rattle.model_run.proofs.More.{events-more}
-use Rattle.law_run.specs.Laws.{OfHistories, OfRuns, IsAllowed, lost_by, BatchesAreLost, LostWereHanded, LossesAreNamed}
+use Rattle.law_run.specs.Laws.{OfHistories, OfRuns, IsAllowed, lost_by, BatchesAreLost}
+use Rattle.law_run.specs.Laws.{LostWereHanded, LossesAreNamed}
 use Rattle.law_run.proofs.Cases.{EventCases, by-event}
 use Rattle.law_run.proofs.Steps.{none-unaccounted-for, handed-are-not-dropped, losses-name-ended}
 use Rattle.law_run.proofs.Values.{ledger-names-the-lost}
@@ -24,12 +26,14 @@ abbrev adds : List DeskEvent → Option DeskEvent → List Entry
 adds events None = []
 adds events (Some y) = losses_by events y
 
-added : (events : List DeskEvent) (o : Option DeskEvent) → losses (events ++ option_to_list o) ≡ losses events ++ adds events o
+added : (events : List DeskEvent) (o : Option DeskEvent)
+    → losses (events ++ option_to_list o) ≡ losses events ++ adds events o
 added events None = ap losses (append-nil events) ∙ sym (append-nil (losses events))
 added events (Some y) = gather-more losses_by events y
 
 -- The spans that an event loses are those that the answer says.
-by-answer : (events : List DeskEvent) (step : Step) → EventCases step (λ a o. adds events o ≡ lost_by a (last_spans events))
+by-answer : (events : List DeskEvent) (step : Step)
+    → EventCases step (λ a o. adds events o ≡ lost_by a (last_spans events))
 by-answer events step = record {
   of_queued = λ n o. by-queued o;
   of_full = λ n o. by-full o;
@@ -56,7 +60,8 @@ by-answer events step = record {
     by-handed true = refl
     by-handed false = refl
 
-    by-settled : (o : Option Fate) → adds events (option_map desk.settled o) ≡ lost_as o (last_spans events)
+    by-settled : (o : Option Fate)
+        → adds events (option_map desk.settled o) ≡ lost_as o (last_spans events)
     by-settled None = refl
     by-settled (Some f) = refl
 
@@ -65,7 +70,9 @@ batches-are-lost setup h before later x e =
     let events : List DeskEvent = desk_events setup before in
     ap losses (events-more setup before x (event_by setup before x.answer x.step) refl)
     ∙ added events (event_by setup before x.answer x.step)
-    ∙ ap (λ (es : List Entry). losses events ++ es) (by-event setup before x.step (λ a o. adds events o ≡ lost_by a (last_spans events)) (by-answer events x.step) x.answer)
+    ∙ ap (λ (es : List Entry). losses events ++ es)
+    (by-event setup before x.step (λ a o. adds events o ≡ lost_by a (last_spans events))
+    (by-answer events x.step) x.answer)
 
 lost-were-handed : OfRuns (λ run h. IsAllowed run h → LostWereHanded run.setup h)
 lost-were-handed run h w l ticket =

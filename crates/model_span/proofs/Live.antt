@@ -9,6 +9,8 @@ pub all-live : (calls : List Call) → list_any is_end calls ≡ false → live_
 all-live [] h = refl
 all-live (c ∷ calls) h = by (all-live calls) (is_end c) refl h
   where
-    by : (list_any is_end calls ≡ false → live_calls calls ≡ calls) → (b : Bool) → is_end c ≡ b → (b || list_any is_end calls) ≡ false → live_calls (c ∷ calls) ≡ c ∷ calls
+    by : (list_any is_end calls ≡ false → live_calls calls ≡ calls) → (b : Bool) → is_end c ≡ b
+        → (b || list_any is_end calls) ≡ false → live_calls (c ∷ calls) ≡ c ∷ calls
     by rest true e k = cc
-    by rest false e k = take_while-cons (λ d. not (is_end d)) c calls ∙ rw e (ap (λ l. c ∷ l) (rest k))
+    by rest false e k =
+        take_while-cons (λ d. not (is_end d)) c calls ∙ rw e (ap (λ l. c ∷ l) (rest k))

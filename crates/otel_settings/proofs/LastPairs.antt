@@ -14,9 +14,11 @@ none_named name (pair ∷ pairs) h = elim (cases_Bool (bytes_eq pair.0 name)) [
   | inr differs ↦ rw (none_named name pairs h.1, differs) refl
 ]
 
-last_named : (name value : List ℕ) (before later : Pairs) → LacksName name later → last_of name (before ++ (name, value) ∷ later) ≡ Some value
+last_named : (name value : List ℕ) (before later : Pairs) → LacksName name later
+    → last_of name (before ++ (name, value) ∷ later) ≡ Some value
 unfolding last_of
-last_named name value [] later h = rw (none_named name later h, (bytes_eq-Decides name name).1 refl) refl
+last_named name value [] later h =
+    rw (none_named name later h, (bytes_eq-Decides name name).1 refl) refl
 last_named name value (pair ∷ before) later h = rw (last_named name value before later h) refl
 
 -- The last pair of a name is the one that counts.

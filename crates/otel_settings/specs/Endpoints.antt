@@ -58,7 +58,8 @@ abbrev pub with_query : List ℕ → List ℕ → List ℕ
 with_query path [] = path
 with_query path (byte ∷ query) = (path ++ codes "?") ++ (byte ∷ query)
 
--- the path of requests, for traces or as a base of all signals, and its query (that a base keeps its
+-- the path of requests, for traces or as a base of all signals, and its query (that a base keeps
+-- its
 -- query: profile)
 unfoldable pub target_path : Bool → List ℕ → List ℕ → List ℕ
 target_path is_base path query = with_query (request_path is_base path) query

@@ -1,4 +1,5 @@
--- What the standard has and this kit hasn't: of such a variable each value is a fault but the one that
+-- What the standard has and this kit hasn't: of such a variable each value is a fault but the one
+-- that
 -- says what there is. (OpenTelemetry Specification, Environment Variable Specification, General SDK
 -- Configuration, Exporter Selection; OTLP Specification, OTLP Exporter Configuration; that they are
 -- faults: profile)

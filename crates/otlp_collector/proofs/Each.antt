@@ -1,5 +1,6 @@
 -- What is written of a list, part by part, with what is left to write.
-use Rattle.std.proofs.Common.{◌≡◌, sym, ap, ◌∙◌, ℕ, ◌+◌, ◌<◌, List, ◌∷◌, ◌++◌, length, append_assoc, map, get_or, drop}
+use Rattle.std.proofs.Common.{◌≡◌, sym, ap, ◌∙◌, ℕ, ◌+◌, ◌<◌, List, ◌∷◌, ◌++◌, length, append_assoc}
+use Rattle.std.proofs.Common.{map, get_or, drop}
 use Rattle.std.specs.List.{flat_map}
 use Rattle.std.proofs.lemmas.List.{drop_more}
 
@@ -12,5 +13,7 @@ module _ {X M : Type 0} (text : M → List ℕ) (view : X → M) (xs : List X) w
   each-more at x start old new within is before more =
       let rest = flat_map text (map view (drop (at + 1) xs)) in
       let split : flat_map text (map view (drop at xs)) ≡ text (view x) ++ rest =
-      ap (λ l. flat_map text (map view l)) (drop_more xs at x within ∙ ap (λ y. y ∷ drop (at + 1) xs) (sym is)) in
-      ap (λ l. l ++ rest) more ∙ append_assoc old (text (view x)) rest ∙ ap (λ l. old ++ l) (sym split) ∙ before
+      ap (λ l. flat_map text (map view l))
+      (drop_more xs at x within ∙ ap (λ y. y ∷ drop (at + 1) xs) (sym is)) in
+      ap (λ l. l ++ rest) more ∙ append_assoc old (text (view x)) rest
+      ∙ ap (λ l. old ++ l) (sym split) ∙ before

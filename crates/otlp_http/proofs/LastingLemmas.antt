@@ -1,5 +1,6 @@
 -- Replies after which a connection may carry another request.
-use Rattle.std.proofs.Common.{◌≡◌, ℕ, Bool, List, ◌++◌, map, codes, subst, ap, ◌∙◌, append_assoc, Option, Result}
+use Rattle.std.proofs.Common.{◌≡◌, ℕ, Bool, List, ◌++◌, map, codes, subst, ap, ◌∙◌, append_assoc}
+use Rattle.std.proofs.Common.{Option, Result}
 use Rattle.std.specs.List.{flat_map}
 use Rattle.std.specs.Io.KnownBytes.{Consumes}
 use Rattle.std.proofs.KnownBytes.{Consumes-trans}
@@ -18,19 +19,25 @@ use Rattle.otlp_http.specs.Persistence.{lasts_with, lasts_after}
 use Rattle.otlp_http.specs.Replies.{HttpReply, IsReply, framing_of}
 
 -- A head that is kept, and then a body, are a reply, and the connection lasts by that head.
-pub lasting : (limits : HeadLimits) (old mid new : Option (List ℕ)) (first before after minor status : ℕ) (kept : Entries FieldValue)
-    (framing : Framing) (wait : Option RetryAfter) (body : Result (List ℕ) HttpFault) (lasts : Bool) (taken : List ℕ)
+pub lasting : (limits : HeadLimits) (old mid new : Option (List ℕ))
+    (first before after minor status : ℕ) (kept : Entries FieldValue)
+    (framing : Framing) (wait : Option RetryAfter) (body : Result (List ℕ) HttpFault) (lasts : Bool)
+    (taken : List ℕ)
     → HasKeptHead limits old mid minor status kept → before ≡ first
     → ((fields : List NameAndValue) → KeepsFields kept fields → framing ≡ framing_of status fields)
     → wait ≡ retry_after (map (λ v. v.bytes) (get_all kept (codes "retry-after")))
     → Consumes mid new taken → IsBody framing limits taken new (HasFailed before after) body
-    → ((fields : List NameAndValue) → KeepsFields kept fields → lasts ≡ lasts_with minor framing fields body)
-    → (is : IsReply limits old new (HasFailed first after) (record { status = status; retry_after = wait; body = body }))
+    → ((fields : List NameAndValue) → KeepsFields kept fields
+    → lasts ≡ lasts_with minor framing fields body)
+    → (is : IsReply limits old new (HasFailed first after)
+    (record { status = status; retry_after = wait; body = body }))
     × (lasts ≡ lasts_after is.head body)
-lasting limits old mid new first before after minor status kept framing wait body lasts taken h same framed waits took is_body by_head =
+lasting limits old mid new first before after minor status kept framing wait body lasts taken h same
+    framed waits took is_body by_head =
     let head = h.head in
     let fields = fields_of head in
-    let framing_is : framing ≡ framing_of (status_code head) fields = framed fields h.keeps ∙ ap (λ s. framing_of s fields) h.code in (
+    let framing_is : framing ≡ framing_of (status_code head) fields =
+    framed fields h.keeps ∙ ap (λ s. framing_of s fields) h.code in (
       record {
         interims = h.interims;
         head = head;
@@ -38,7 +45,9 @@ lasting limits old mid new first before after minor status kept framing wait bod
         comes = record {
           each = h.comes.each;
           few = h.comes.few;
-          taken = subst (Consumes old new) (append_assoc (flat_map print_response h.interims) (print_response head) taken)
+          taken =
+              subst (Consumes old new)
+              (append_assoc (flat_map print_response h.interims) (print_response head) taken)
               (Consumes-trans old mid new _ taken h.comes.taken took);
         };
         valid = h.valid;

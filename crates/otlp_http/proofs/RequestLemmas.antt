@@ -1,5 +1,6 @@
 -- The text of a request.
-use Rattle.std.proofs.Common.{◌≡◌, ℕ, ◌+◌, List, [], ◌∷◌, ◌++◌, length, ap, sym, ◌∙◌, codes, arith, append_assoc, append-nil, length-append, ◌≤◌, leb-true, refl, subst}
+use Rattle.std.proofs.Common.{◌≡◌, ℕ, ◌+◌, List, [], ◌∷◌, ◌++◌, length, ap, sym, ◌∙◌, codes, arith}
+use Rattle.std.proofs.Common.{append_assoc, append-nil, length-append, ◌≤◌, leb-true, refl, subst}
 use Rattle.std.specs.Prelude.{decimal}
 use Rattle.std.specs.List.{concat}
 use Rattle.otlp_http.specs.Address.{Address}
@@ -8,26 +9,33 @@ use Rattle.otlp_http.specs.declared.request.Connection.{Connection}
 use Rattle.otlp_http.specs.declared.request.Connection.TheVariants.{Close, KeepAlive}
 
 -- The parts of six lines, one after the other, are the lines.
-lines_of_parts : (post path version host_name host colon port type size_name size close end body : List ℕ)
-    → post ++ (path ++ (version ++ (end ++ (host_name ++ (host ++ (colon ++ (port ++ (end ++ (type ++ (end
+lines_of_parts :
+    (post path version host_name host colon port type size_name size close end body : List ℕ)
+    → post
+    ++ (path ++ (version ++ (end ++ (host_name ++ (host ++ (colon ++ (port ++ (end ++ (type ++ (end
     ++ (size_name ++ (size ++ (end ++ (close ++ (end ++ (end ++ body))))))))))))))))
-    ≡ ((post ++ path ++ version) ++ end) ++ ((host_name ++ host ++ colon ++ port) ++ end) ++ (type ++ end)
+    ≡ ((post ++ path ++ version) ++ end) ++ ((host_name ++ host ++ colon ++ port) ++ end)
+    ++ (type ++ end)
     ++ ((size_name ++ size) ++ end) ++ (close ++ end) ++ end ++ body
-lines_of_parts post path version host_name host colon port type size_name size close end body = simp append_assoc
+lines_of_parts post path version host_name host colon port type size_name size close end body =
+    simp append_assoc
 
 -- The pieces that are written are the request.
 pub concat_request : (connection : Connection) (address : Address) (body : List ℕ)
-    → concat (codes "POST " ∷ address.path ∷ codes " HTTP/1.1\r\nHost: " ∷ address.host ∷ codes ":" ∷ decimal address.port
+    → concat (codes "POST " ∷ address.path ∷ codes " HTTP/1.1\r\nHost: " ∷ address.host ∷ codes ":"
+    ∷ decimal address.port
     ∷ codes "\r\nContent-Type: application/x-protobuf\r\nContent-Length: " ∷ decimal (length body)
     ∷ codes "\r\n" ∷ last_lines connection ∷ body ∷ []) ≡ text_for connection address body
 unfolding request_head kept_head
 concat_request Close address body =
-    lines_of_parts (codes "POST ") address.path (codes " HTTP/1.1") (codes "Host: ") address.host (codes ":")
+    lines_of_parts (codes "POST ") address.path (codes " HTTP/1.1") (codes "Host: ") address.host
+    (codes ":")
     (decimal address.port) (codes "Content-Type: application/x-protobuf") (codes "Content-Length: ")
     (decimal (length body)) (codes "Connection: close") (codes "\r\n") (body ++ [])
     ∙ ap (λ rest. request_head address (length body) ++ rest) (append-nil body)
 concat_request KeepAlive address body =
-    lines_of_parts (codes "POST ") address.path (codes " HTTP/1.1") (codes "Host: ") address.host (codes ":")
+    lines_of_parts (codes "POST ") address.path (codes " HTTP/1.1") (codes "Host: ") address.host
+    (codes ":")
     (decimal address.port) (codes "Content-Type: application/x-protobuf") (codes "Content-Length: ")
     (decimal (length body)) (codes "Connection: keep-alive") (codes "\r\n") (body ++ [])
     ∙ ap (λ rest. kept_head address (length body) ++ rest) (append-nil body)
@@ -39,8 +47,17 @@ last_lines_short KeepAlive = leb-true 26 26 refl
 
 -- The request is no longer than 107 bytes and the parts that vary.
 pub length-text_for : (connection : Connection) (address : Address) (body : List ℕ)
-    → length (text_for connection address body) ≤ 107 + (length address.path + (length address.host + (length (decimal address.port) + (length (decimal (length body)) + length body))))
+    → length (text_for connection address body)
+    ≤ 107
+    + (length address.path
+    + (length address.host
+    + (length (decimal address.port) + (length (decimal (length body)) + length body))))
 length-text_for connection address body =
     let short = last_lines_short connection in
-    subst (λ t. length t ≤ 107 + (length address.path + (length address.host + (length (decimal address.port) + (length (decimal (length body)) + length body)))))
-    (concat_request connection address body) (simp (length-append, append-nil) (omega (arith, short)))
+    subst (λ t. length t
+    ≤ 107
+    + (length address.path
+    + (length address.host
+    + (length (decimal address.port) + (length (decimal (length body)) + length body)))))
+    (concat_request connection address body)
+    (simp (length-append, append-nil) (omega (arith, short)))

@@ -1,12 +1,15 @@
 -- How many numbers a ratio samples.
-use Rattle.std.proofs.Common.{◌≡◌, ℕ, zero, suc, ◌+◌, ◌-◌, ◌*◌, ◌/◌, ◌^◌, ◌<◌, ◌≤◌, max, cond, inl, inr, arith, le-div_iff_mul-le, le_of_mul-le-mul_right, mul-le-mul_right, div-mul-le_self}
+use Rattle.std.proofs.Common.{◌≡◌, ℕ, zero, suc, ◌+◌, ◌-◌, ◌*◌, ◌/◌, ◌^◌, ◌<◌, ◌≤◌, max, cond, inl}
+use Rattle.std.proofs.Common.{inr, arith, le-div_iff_mul-le, le_of_mul-le-mul_right}
+use Rattle.std.proofs.Common.{mul-le-mul_right, div-mul-le_self}
 use Rattle.std.proofs.Math.Nat.{div-le_of_le-mul, mul-div_cancel_left, zero-div}
 use Rattle.std.specs.Prelude.{nat_le}
 use Rattle.std.specs.List.{count_by, range_with_len}
 use Rattle.std.proofs.lemmas.Bool.{cases_lt, cond-false, cond-true, le-leb, lt-leb, leb-true}
 use Rattle.std.proofs.lemmas.List.Sums.{sum_by-cons}
 use Rattle.otlp_sampler.specs.Ratio.{random_part, share, threshold_of}
-use Rattle.otlp_sampler.specs.Laws.{AllAreSampled, GreaterRatiosSampleMore, NoneAreSampled, ShareIsExact, sampled_below}
+use Rattle.otlp_sampler.specs.Laws.{AllAreSampled, GreaterRatiosSampleMore, NoneAreSampled}
+use Rattle.otlp_sampler.specs.Laws.{ShareIsExact, sampled_below}
 use Rattle.otlp_sampler.proofs.Identifiers.{random_part-lt}
 
 -- A ratio of at most 1 samples no more than all numbers.
@@ -17,7 +20,8 @@ share_le n d le = div-le_of_le-mul d (mul-le-mul_right (2 ^ 56) le)
 pub share_whole : (d : ℕ) → 0 < d → share d d ≡ 2 ^ 56
 share_whole d pos = mul-div_cancel_left (2 ^ 56) pos
 
-regrouped : (q n d m e s : ℕ) → q * d * e ≤ n * s * e → n * e * s ≤ m * d * s → q * e * d ≤ m * s * d
+regrouped : (q n d m e s : ℕ) → q * d * e ≤ n * s * e → n * e * s ≤ m * d * s
+    → q * e * d ≤ m * s * d
 regrouped q n d m e s less more = omega arith
 
 -- A greater ratio samples as many numbers, or more.
@@ -36,8 +40,10 @@ lower a b r s le from = omega arith
 pub greater : GreaterRatiosSampleMore
 greater n d m e trace some any le sampled =
     let grows = share-grows (2 ^ 56) n d m e some any le in
-    let from : 2 ^ 56 - share n d ≤ random_part trace = leb-true (threshold_of n d) (random_part trace) sampled in
-    le-leb (threshold_of m e) (random_part trace) (lower (share n d) (share m e) (random_part trace) (2 ^ 56) grows from)
+    let from : 2 ^ 56 - share n d ≤ random_part trace =
+    leb-true (threshold_of n d) (random_part trace) sampled in
+    le-leb (threshold_of m e) (random_part trace)
+    (lower (share n d) (share m e) (random_part trace) (2 ^ 56) grows from)
 
 above : (a r s : ℕ) → a ≡ 0 → r < s → r < s - a
 above a r s nothing less = omega arith
@@ -46,19 +52,25 @@ above a r s nothing less = omega arith
 pub none : NoneAreSampled
 none d trace some is =
     let nothing : share 0 d ≡ 0 = zero-div d in
-    lt-leb (threshold_of 0 d) (random_part trace) (above (share 0 d) (random_part trace) (2 ^ 56) nothing (random_part-lt trace is.length is.bytes))
+    lt-leb (threshold_of 0 d) (random_part trace)
+    (above (share 0 d) (random_part trace) (2 ^ 56) nothing
+    (random_part-lt trace is.length is.bytes))
 
 below : (a r s : ℕ) → a ≡ s → s - a ≤ r
 below a r s is = omega arith
 
 -- Ratio 1 samples each trace.
 pub all : AllAreSampled
-all d trace some = le-leb (threshold_of d d) (random_part trace) (below (share d d) (random_part trace) (2 ^ 56) (share_whole d some))
+all d trace some =
+    le-leb (threshold_of d d) (random_part trace)
+    (below (share d d) (random_part trace) (2 ^ 56) (share_whole d some))
 
-skipped : (w f r a n t : ℕ) → a < t → f ≡ 0 → w ≡ f + r → r ≡ a + 1 + n - max t (a + 1) → w ≡ a + suc n - max t a
+skipped : (w f r a n t : ℕ) → a < t → f ≡ 0 → w ≡ f + r → r ≡ a + 1 + n - max t (a + 1)
+    → w ≡ a + suc n - max t a
 skipped w f r a n t less first whole rest = omega arith
 
-taken : (w f r a n t : ℕ) → t ≤ a → f ≡ 1 → w ≡ f + r → r ≡ a + 1 + n - max t (a + 1) → w ≡ a + suc n - max t a
+taken : (w f r a n t : ℕ) → t ≤ a → f ≡ 1 → w ≡ f + r → r ≡ a + 1 + n - max t (a + 1)
+    → w ≡ a + suc n - max t a
 taken w f r a n t more first whole rest = omega arith
 
 -- of n numbers from a on, those from t on
@@ -69,8 +81,10 @@ counted t a (suc n) =
     let cons = sum_by-cons one a (range_with_len (a + 1) n) in
     let rest = counted t (a + 1) n in
     elim (cases_lt a t) [
-      | inl less ↦ skipped _ (one a) _ a n t less (cond-false (nat_le t a) 1 0 (lt-leb t a less)) cons rest
-      | inr more ↦ taken _ (one a) _ a n t more (cond-true (nat_le t a) 1 0 (le-leb t a more)) cons rest
+      | inl less ↦
+          skipped _ (one a) _ a n t less (cond-false (nat_le t a) 1 0 (lt-leb t a less)) cons rest
+      | inr more ↦
+          taken _ (one a) _ a n t more (cond-true (nat_le t a) 1 0 (le-leb t a more)) cons rest
     ]
 
 sampled_below-is : (t n : ℕ) → sampled_below t n ≡ n - t

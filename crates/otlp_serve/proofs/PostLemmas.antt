@@ -26,21 +26,30 @@ token_is_ascii b token = grind (arith, nat_tests)
 
 token_text : (word : List ℕ) → IsToken word → IsUtf8 word
 token_text word token =
-    IsUtf8-from_ascii _ (IsAscii-from_all _ (All-weaker (λ b. is_token_byte b ≡ true) (λ b. b < 128) token_is_ascii word token.1))
+    IsUtf8-from_ascii _
+    (IsAscii-from_all _
+    (All-weaker (λ b. is_token_byte b ≡ true) (λ b. b < 128) token_is_ascii word token.1))
 
 -- The method of a request is UTF-8.
-pub method_text : (limits : HeadLimits) (text : List ℕ) (spans : List HeaderSpan) (found : RequestSpans)
+pub method_text : (limits : HeadLimits) (text : List ℕ) (spans : List HeaderSpan)
+    (found : RequestSpans)
     → FindsRequest limits text spans found → IsUtf8 (span_bytes text found.method)
-method_text limits text spans found finds = subst IsUtf8 (sym finds.1.1.method) (token_text finds.0.method finds.1.0.valid.method)
+method_text limits text spans found finds =
+    subst IsUtf8 (sym finds.1.1.method) (token_text finds.0.method finds.1.0.valid.method)
 
 -- Where a head was kept and its body could not be read, no request came, for that fault.
-pub no_body : (limits : HeadLimits) (old mid new : Option (List ℕ)) (method target : List ℕ) (kept : Entries FieldValue)
+pub no_body : (limits : HeadLimits) (old mid new : Option (List ℕ)) (method target : List ℕ)
+    (kept : Entries FieldValue)
     (framing : Framing) (taken : List ℕ) (first before after : ℕ) (fault : HttpFault)
-    (head : HasKeptRequest limits old mid method target kept) → framing ≡ request_framing (request_fields head.head)
-    → before ≡ first → Consumes mid new taken → IsBody framing limits taken new (HasFailed before after) (Err fault)
+    (head : HasKeptRequest limits old mid method target kept)
+    → framing ≡ request_framing (request_fields head.head)
+    → before ≡ first → Consumes mid new taken
+    → IsBody framing limits taken new (HasFailed before after) (Err fault)
     → HasNoPostBody limits old new (HasFailed first after) fault
-no_body limits old mid new method target kept framing taken first before after fault head framed same more body =
-    let of_head = subst (λ f. IsBody f limits taken new (HasFailed before after) (Err fault)) framed body in
+no_body limits old mid new method target kept framing taken first before after fault head framed
+    same more body =
+    let of_head =
+    subst (λ f. IsBody f limits taken new (HasFailed before after) (Err fault)) framed body in
     record {
       head = head.head;
       taken = taken;
@@ -49,5 +58,8 @@ no_body limits old mid new method target kept framing taken first before after f
         valid = head.valid;
         kept = head.taken;
       };
-      body = subst (λ f. IsBody (request_framing (request_fields head.head)) limits taken new (HasFailed f after) (Err fault)) same of_head;
+      body =
+          subst (λ f. IsBody (request_framing (request_fields head.head)) limits taken new
+          (HasFailed f after) (Err fault))
+          same of_head;
     }

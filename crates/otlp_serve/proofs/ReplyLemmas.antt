@@ -1,5 +1,6 @@
 -- The text of a reply.
-use Rattle.std.proofs.Common.{◌≡◌, ℕ, ◌+◌, ◌<◌, ◌≤◌, ◌^◌, List, [], ◌∷◌, ◌++◌, length, ap, ◌∙◌, codes, arith, append_assoc, length-append}
+use Rattle.std.proofs.Common.{◌≡◌, ℕ, ◌+◌, ◌<◌, ◌≤◌, ◌^◌, List, [], ◌∷◌, ◌++◌, length, ap, ◌∙◌}
+use Rattle.std.proofs.Common.{codes, arith, append_assoc, length-append}
 use Rattle.std.specs.Prelude.{decimal, if◌then◌else◌, is_some, MatchOption, Option, Some, None}
 use Rattle.std.specs.List.{concat}
 use Rattle.otlp_serve.specs.declared.status.ReplyStatus.{ReplyStatus}
@@ -9,11 +10,14 @@ use Rattle.http_wire.specs.Lines.{line}
 
 -- The parts of the lines, one after the other, are the lines.
 lines_of_parts : (version code space reason type size close allow name digits last end : List ℕ)
-    → version ++ (code ++ (space ++ (reason ++ (end ++ (type ++ (end ++ (size ++ (end ++ (close ++ (end
+    → version
+    ++ (code ++ (space ++ (reason ++ (end ++ (type ++ (end ++ (size ++ (end ++ (close ++ (end
     ++ (allow ++ (name ++ (digits ++ (last ++ end))))))))))))))
-    ≡ (((version ++ code ++ space ++ reason) ++ end) ++ (type ++ end) ++ (size ++ end) ++ (close ++ end) ++ allow)
+    ≡ (((version ++ code ++ space ++ reason) ++ end) ++ (type ++ end) ++ (size ++ end)
+    ++ (close ++ end) ++ allow)
     ++ ((name ++ (digits ++ last)) ++ end)
-lines_of_parts version code space reason type size close allow name digits last end = simp append_assoc
+lines_of_parts version code space reason type size close allow name digits last end =
+    simp append_assoc
 
 -- the pieces that are written
 abbrev pub pieces : ReplyStatus → List ℕ → List ℕ → List ℕ → List (List ℕ)
@@ -23,12 +27,14 @@ pieces status name digits last =
     ∷ allow_line status ∷ name ∷ digits ∷ last ∷ codes "\r\n" ∷ []
 
 -- The pieces, one after the other, are the reply.
-pub concat_reply : (status : ReplyStatus) (name digits last wait : List ℕ) → name ++ (digits ++ last) ≡ wait
+pub concat_reply : (status : ReplyStatus) (name digits last wait : List ℕ)
+    → name ++ (digits ++ last) ≡ wait
     → concat (pieces status name digits last) ≡ reply_front status ++ (wait ++ line [])
 unfolding reply_front
 concat_reply status name digits last wait is =
     lines_of_parts (codes "HTTP/1.1 ") (decimal (code_of status)) (codes " ") (reason_of status)
-    (codes "Content-Type: application/x-protobuf") (codes "Content-Length: 0") (codes "Connection: close")
+    (codes "Content-Type: application/x-protobuf") (codes "Content-Length: 0")
+    (codes "Connection: close")
     (allow_line status) name digits last (codes "\r\n")
     ∙ ap (λ t. reply_front status ++ (t ++ line [])) is
 
@@ -59,16 +65,26 @@ allow_short statuses.ServiceUnavailable = omega arith
 allow_short statuses.GatewayTimeout = omega arith
 
 sum_of_lengths : (version code space reason middle allow name digits last end : List ℕ)
-    → length (version ++ (code ++ (space ++ (reason ++ (middle ++ (allow ++ (name ++ (digits ++ (last ++ end)))))))))
-    ≡ length version + (length code + (length space + (length reason + (length middle + (length allow + (length name + (length digits + (length last + length end))))))))
+    → length (version
+    ++ (code ++ (space ++ (reason ++ (middle ++ (allow ++ (name ++ (digits ++ (last ++ end)))))))))
+    ≡ length version
+    + (length code
+    + (length space
+    + (length reason
+    + (length middle
+    + (length allow + (length name + (length digits + (length last + length end))))))))
 sum_of_lengths version code space reason middle allow name digits last end = simp length-append
 
 -- The reply has fewer than 2^64 bytes, so its length can be counted.
-pub reply_short : (status : ReplyStatus) (name digits last : List ℕ) → length name ≤ 40 → length last ≤ 40
-    → length (decimal (code_of status)) + length digits ≤ 80 → length (concat (pieces status name digits last)) < 2 ^ 64
+pub reply_short : (status : ReplyStatus) (name digits last : List ℕ) → length name ≤ 40
+    → length last ≤ 40
+    → length (decimal (code_of status)) + length digits ≤ 80
+    → length (concat (pieces status name digits last)) < 2 ^ 64
 reply_short status name digits last short_name short_last short =
-    let sum = sum_of_lengths (codes "HTTP/1.1 ") (decimal (code_of status)) (codes " ") (reason_of status)
-    (codes "\r\nContent-Type: application/x-protobuf\r\nContent-Length: 0\r\nConnection: close\r\n") (allow_line status) name digits last (codes "\r\n") in
+    let sum =
+    sum_of_lengths (codes "HTTP/1.1 ") (decimal (code_of status)) (codes " ") (reason_of status)
+    (codes "\r\nContent-Type: application/x-protobuf\r\nContent-Length: 0\r\nConnection: close\r\n")
+    (allow_line status) name digits last (codes "\r\n") in
     let reason = reason_short status in
     let allow = allow_short status in
     omega (arith, sum, reason, allow, short_name, short_last, short)
@@ -81,7 +97,8 @@ abbrev pub wait_end : Option ℕ → List ℕ
 wait_end seconds = if is_some seconds then codes "\r\n" else []
 
 -- The seconds, with what comes before and after them, are the line of Retry-After.
-pub wait_parts : (seconds : Option ℕ) (digits : List ℕ) → MatchOption seconds (digits ≡ []) (λ n. digits ≡ decimal n)
+pub wait_parts : (seconds : Option ℕ) (digits : List ℕ)
+    → MatchOption seconds (digits ≡ []) (λ n. digits ≡ decimal n)
     → wait_name seconds ++ (digits ++ wait_end seconds) ≡ wait_line seconds
 wait_parts (Some n) digits is = ap (λ t. codes "Retry-After: " ++ (t ++ codes "\r\n")) is
 wait_parts None digits is = ap (λ t. t ++ []) is

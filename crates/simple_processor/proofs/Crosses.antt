@@ -30,17 +30,20 @@ encoder_send = search (sendable, data_send, heap.crosses) depth 60 fits 20000
 -- what the lock guards, and the lock
 export_send : (E : RattleType) → IsSend E → IsSend (ExportState.the_row E Heap.the_row ghosts)
 export_send E e =
-    let fields : FieldsHave IsSend (export.the_type E Heap.the_row ghosts).parts = search (sendable, as_row_send, e, encoder_send, ledger_send, fates.the_send) depth 30 in
+    let fields : FieldsHave IsSend (export.the_type E Heap.the_row ghosts).parts =
+    search (sendable, as_row_send, e, encoder_send, ledger_send, fates.the_send) depth 30 in
     view_send _ _ _ _ _ (declared_send (export.the_type E Heap.the_row ghosts) fields)
 
-module _ (J E : RattleType) (g : naming.Ghosts J.Denot) (h : exporter.Ghosts E.Denot) (e : IsSend E) where
+module _ (J E : RattleType) (g : naming.Ghosts J.Denot) (h : exporter.Ghosts E.Denot)
+    (e : IsSend E) where
   abbrev lock : RattleType
   lock = Mutex.the_row (Shared.the_row J E Heap.the_row g h ghosts)
 
   shared_send : IsSend (Shared.the_row J E Heap.the_row g h ghosts)
   shared_send =
       let d = export_send E e in
-      let fields : FieldsHave IsSend (shared.the_type J E Heap.the_row g h ghosts).parts = search (sendable, as_row_send, variants_send, d, book.the_send, heap.crosses) depth 30 in
+      let fields : FieldsHave IsSend (shared.the_type J E Heap.the_row g h ghosts).parts =
+      search (sendable, as_row_send, variants_send, d, book.the_send, heap.crosses) depth 30 in
       view_send _ _ _ _ _ (declared_send (shared.the_type J E Heap.the_row g h ghosts) fields)
 
   lock_send : IsSend lock
@@ -50,12 +53,16 @@ module _ (J E : RattleType) (g : naming.Ghosts J.Denot) (h : exporter.Ghosts E.D
   lock_sync = search (sendable, shared_send, heap.crosses) depth 30
 
   -- A pass is `Send` where its exporter's and its runtime's values are.
-  pub pass_send : (R : RattleType) → IsSend R → IsSend (SimplePass.the_row J E R Heap.the_row g h ghosts)
+  pub pass_send : (R : RattleType) → IsSend R
+      → IsSend (SimplePass.the_row J E R Heap.the_row g h ghosts)
   pass_send R r = view_send _ _ _ _ _ (
-      declared_send (pass.the_type J E R Heap.the_row g h ghosts)
-      (heap.Arc-send lock lock_send lock_sync, (account.the_send J AccountState.the_row g, (as_row_send (row_field R) r, tt)))
+      declared_send (pass.the_type J E R Heap.the_row g h ghosts) (
+        heap.Arc-send lock lock_send lock_sync,
+        (account.the_send J AccountState.the_row g, (as_row_send (row_field R) r, tt)),
+      )
       )
 
 -- A pass whose exporter keeps all in memory is `Send` where its runtime's value is.
-pub memory_pass_send : (J R : RattleType) (g : naming.Ghosts J.Denot) → IsSend R → IsSend (SimplePass.the_row J memory R Heap.the_row g memory_exports ghosts)
+pub memory_pass_send : (J R : RattleType) (g : naming.Ghosts J.Denot) → IsSend R
+    → IsSend (SimplePass.the_row J memory R Heap.the_row g memory_exports ghosts)
 memory_pass_send J R g r = pass_send J memory g memory_exports memory_send R r

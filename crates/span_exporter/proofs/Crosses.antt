@@ -19,4 +19,6 @@ memory_send = search (sendable, declared_send, as_row_send, heap.crosses) depth 
 
 -- what it means as an exporter
 abbrev pub memory_exports : exporter.Ghosts memory.Denot
-memory_exports = exporting.ghosts Heap.the_row ghosts exporting.no_dict (copying.ghosts Heap.the_row) exporting.no_dict
+memory_exports =
+    exporting.ghosts Heap.the_row ghosts exporting.no_dict
+    (copying.ghosts Heap.the_row) exporting.no_dict

@@ -1,5 +1,6 @@
 -- What is cited of outcomes that are given one after the other.
-use Rattle.std.proofs.Common.{◌≡◌, ℕ, zero, suc, ◌+◌, ◌<◌, List, [], ◌∷◌, map, drop, length, get_or, add-one, ap, sym, arith}
+use Rattle.std.proofs.Common.{◌≡◌, ℕ, zero, suc, ◌+◌, ◌<◌, List, [], ◌∷◌, map, drop, length, get_or}
+use Rattle.std.proofs.Common.{add-one, ap, sym, arith}
 
 first_of : {T U : Type 0} (view : T → U) (xs : List T) (n : ℕ) (x : T) → n < length xs
     → x ≡ get_or xs n x → drop n (map view xs) ≡ view x ∷ drop (suc n) (map view xs)

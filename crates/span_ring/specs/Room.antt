@@ -40,7 +40,8 @@ module _ (R P : RattleType) (g : Ghosts P.Denot) where
   abbrev pub frees : (V.the_row R P g).Denot → Fml
   frees v =
       fsep (flt (v.cap * type_size R) (2 ^ 63)) (in_block v.ptr
-      (owns_if (has_block v.cap) (g.dealloc_token v.alloc (raw (ty_array (lone R.mir) v.cap)) v.ptr)))
+      (owns_if (has_block v.cap)
+      (g.dealloc_token v.alloc (raw (ty_array (lone R.mir) v.cap)) v.ptr)))
 
   -- a `Vec` but for its items and its room
   abbrev pub Emptied : RattleType

@@ -1,5 +1,7 @@
 -- What holds of every script that is read.
-use Rattle.std.proofs.Common.{◌≡◌, ℕ, suc, ◌+◌, ◌-◌, ◌<◌, List, [], ◌∷◌, length, get_or, Option, Some, None, Result, Ok, Err, ◌⊎◌, inl, inr, refl, sym, ◌∙◌, subst, arith}
+use Rattle.std.proofs.Common.{◌≡◌, ℕ, suc, ◌+◌, ◌-◌, ◌<◌, List, [], ◌∷◌, length, get_or, Option}
+use Rattle.std.proofs.Common.{Some, None, Result, Ok, Err, ◌⊎◌, inl, inr, refl, sym, ◌∙◌, subst}
+use Rattle.std.proofs.Common.{arith}
 use Rattle.std.specs.Prelude.{unwrap_or}
 use Rattle.std.specs.Option.{IfSome}
 use Rattle.std.proofs.lemmas.Option.{cond_some}
@@ -7,7 +9,8 @@ use Rattle.model_desk.specs.Desks.{DeskConfig}
 use Rattle.span_ring.specs.SpanRing.{IsRingSize}
 use Rattle.batch_desk.specs.Desk.{default_config}
 use Rattle.text_words.specs.Words.{◌>>=◌}
-use Rattle.span_script.specs.Lines.{Line, words, sampler, limits, desk, max_body, resource, scope, scope_attribute, outcome, step, line_of}
+use Rattle.span_script.specs.Lines.{Line, words, sampler, limits, desk, max_body, resource, scope}
+use Rattle.span_script.specs.Lines.{scope_attribute, outcome, step, line_of}
 use Rattle.span_script.specs.Scripts.{Script, lines_of, script_read, IsLine}
 use Rattle.span_script.specs.Drafts.{no_script, fits, extended_script, with_line, line_read}
 use Rattle.span_script.proofs.Sizes.{IsSized, IsSizedLine, sized_line}
@@ -33,11 +36,15 @@ fitting s (scope_attribute number p) kept sized = kept
 fitting s (outcome o) kept sized = kept
 fitting s (step x) kept sized = kept
 
-with_line_kept : (s t : Script) (line : Line) → IsKept s → IsSizedLine line → with_line s line ≡ Some t → IsKept t
+with_line_kept : (s t : Script) (line : Line) → IsKept s → IsSizedLine line
+    → with_line s line ≡ Some t → IsKept t
 unfolding with_line
-with_line_kept s t line kept sized e = let p = cond_some (fits s line) (extended_script s line) t e in subst IsKept p.1 (fitting s line kept sized)
+with_line_kept s t line kept sized e =
+    let p = cond_some (fits s line) (extended_script s line) t e in
+    subst IsKept p.1 (fitting s line kept sized)
 
-line_kept : (s t : Script) (o : Option Line) → IsKept s → IfSome o IsSizedLine → (o >>= λ line. with_line s line) ≡ Some t → IsKept t
+line_kept : (s t : Script) (o : Option Line) → IsKept s → IfSome o IsSizedLine
+    → (o >>= λ line. with_line s line) ≡ Some t → IsKept t
 line_kept s t None kept sized e = cc
 line_kept s t (Some line) kept sized e = with_line_kept s t line kept sized e
 
@@ -48,11 +55,13 @@ read_kept s t (b ∷ bs) kept e = line_kept s t (line_of (b ∷ bs)) kept (sized
 
 -- ---- all lines
 
-numbered_ok : (n : ℕ) (o : Option Script) (next : Script → Result Script ℕ) (t : Script) → numbered n o next ≡ Ok t → (s : Script) × (o ≡ Some s) × (next s ≡ Ok t)
+numbered_ok : (n : ℕ) (o : Option Script) (next : Script → Result Script ℕ) (t : Script)
+    → numbered n o next ≡ Ok t → (s : Script) × (o ≡ Some s) × (next s ≡ Ok t)
 numbered_ok n None next t e = cc
 numbered_ok n (Some s) next t e = (s, refl, e)
 
-lines_kept : (n : ℕ) (s t : Script) (lines : List (List ℕ)) → IsKept s → lines_read n s lines ≡ Ok t → IsKept t
+lines_kept : (n : ℕ) (s t : Script) (lines : List (List ℕ)) → IsKept s → lines_read n s lines ≡ Ok t
+    → IsKept t
 unfolding lines_read
 lines_kept n s t [] kept e = let same : s ≡ t = cc in subst IsKept same kept
 lines_kept n s t (line ∷ lines) kept e =
@@ -63,14 +72,17 @@ text_kept : (s : Script) (text : List ℕ) → script_read text ≡ Ok s → IsK
 text_kept s text e = lines_kept 1 no_script s (lines_of text) tt (text_read text ∙ e)
 
 or_standard : (o : Option DeskConfig) → IfSome o IsSized → IsSized (unwrap_or o default_config)
-or_standard None sized = record { positive = omega arith; fits = omega arith; limited = omega arith }
+or_standard None sized =
+    record { positive = omega arith; fits = omega arith; limited = omega arith }
 or_standard (Some c) sized = sized
 
 -- The queue and batch sizes of a script that is read are sizes that a queue may have.
-pub sizes : {A : Type 0} (c : CodeScript A) (s : Script) (text : List ℕ) → Means c s → script_read text ≡ Ok s → IsRingSize c.desk.queue c.desk.batch
+pub sizes : {A : Type 0} (c : CodeScript A) (s : Script) (text : List ℕ) → Means c s
+    → script_read text ≡ Ok s → IsRingSize c.desk.queue c.desk.batch
 sizes c s text means e = subst IsSized (sym means.desk) (or_standard s.desk (text_kept s text e))
 
-numbered_err : (n m : ℕ) (o : Option Script) (next : Script → Result Script ℕ) → numbered n o next ≡ Err m
+numbered_err : (n m : ℕ) (o : Option Script) (next : Script → Result Script ℕ)
+    → numbered n o next ≡ Err m
     → ((o ≡ None) × (n ≡ m)) ⊎ ((s : Script) × (next s ≡ Err m))
 numbered_err n m None next e = inl (refl, cc)
 numbered_err n m (Some s) next e = inr (s, e)

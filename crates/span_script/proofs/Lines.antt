@@ -10,13 +10,15 @@ use Rattle.text_words.proofs.Each.{words_at}
 use Rattle.span_script.proofs.Steps.{other_than, no_step}
 
 -- A list of words that isn't empty is read word by word.
-pub some_words : (arguments : List (Bor (List ℕ))) → 0 < length arguments → words_line (words_at arguments) ≡ option_map words (each_of hex_word (words_at arguments))
+pub some_words : (arguments : List (Bor (List ℕ))) → 0 < length arguments
+    → words_line (words_at arguments) ≡ option_map words (each_of hex_word (words_at arguments))
 unfolding words_line
 some_words [] some = absurd (omega arith)
 some_words (a ∷ others) some = refl
 
 -- Bytes that aren't UTF-8 name no line.
-pub no_name : (name : List ℕ) (arguments : List (List ℕ)) → (IsUtf8 name → ⊥) → entry name arguments ≡ None
+pub no_name : (name : List ℕ) (arguments : List (List ℕ)) → (IsUtf8 name → ⊥)
+    → entry name arguments ≡ None
 unfolding entry is_utf8 chars encode
 no_name name arguments h =
     rw (

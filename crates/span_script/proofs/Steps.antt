@@ -1,5 +1,6 @@
 -- Which bytes name no step.
-use Rattle.std.proofs.Common.{◌≡◌, ℕ, ◌^◌, false, true, List, [], ◌∷◌, Option, Some, None, inl, inr, refl, sym, ap, subst, codes}
+use Rattle.std.proofs.Common.{◌≡◌, ℕ, ◌^◌, false, true, List, [], ◌∷◌, Option, Some, None, inl, inr}
+use Rattle.std.proofs.Common.{refl, sym, ap, subst, codes}
 use Rattle.std.specs.Prelude.{bytes_eq}
 use Rattle.std.specs.Str.{IsUtf8, is_utf8, chars}
 use lib.Utf8.{encode}
@@ -12,9 +13,12 @@ use Rattle.span_script.specs.Calls.{call_of}
 use Rattle.span_script.specs.Steps.{call_step, call_step_of, step_on_span, step_of}
 
 -- Bytes that aren't UTF-8 differ from every keyword that is.
-pub other_than : (name keyword : List ℕ) → (IsUtf8 name → ⊥) → is_utf8 keyword ≡ true → bytes_eq name keyword ≡ false
+pub other_than : (name keyword : List ℕ) → (IsUtf8 name → ⊥) → is_utf8 keyword ≡ true
+    → bytes_eq name keyword ≡ false
 other_than name keyword h text = elim (cases_Bool (bytes_eq name keyword)) [
-  | inl e ↦ absurd (h (subst IsUtf8 (sym ((bytes_eq-Decides name keyword).0 e)) (IsUtf8-from_is_utf8 keyword text)))
+  | inl e ↦
+      absurd (h (subst IsUtf8 (sym ((bytes_eq-Decides name keyword).0 e))
+      (IsUtf8-from_is_utf8 keyword text)))
   | inr e ↦ e
 ]
 
@@ -32,16 +36,21 @@ no_call name others h =
     )
     refl
 
-nothing_after : {X Y Z : Type 0} (o : Option X) (f : X → Y → Option Z) (p : Option Y) → p ≡ None → (o >>= λ x. p >>= f x) ≡ None
+nothing_after : {X Y Z : Type 0} (o : Option X) (f : X → Y → Option Z) (p : Option Y) → p ≡ None
+    → (o >>= λ x. p >>= f x) ≡ None
 nothing_after None f p e = refl
 nothing_after (Some x) f p e = ap (λ q. q >>= f x) e
 
-no_call_step : (name : List ℕ) (words : List (List ℕ)) → (IsUtf8 name → ⊥) → call_step name words ≡ None
+no_call_step : (name : List ℕ) (words : List (List ℕ)) → (IsUtf8 name → ⊥)
+    → call_step name words ≡ None
 unfolding call_step call_step_of
 no_call_step name [] h = refl
-no_call_step name (span ∷ others) h = nothing_after (number_below (2 ^ 32) span) (λ n c. Some (call n c)) (call_of name others) (no_call name others h)
+no_call_step name (span ∷ others) h =
+    nothing_after (number_below (2 ^ 32) span) (λ n c. Some (call n c)) (call_of name others)
+    (no_call name others h)
 
-no_step_on_span : (name : List ℕ) (words : List (List ℕ)) → (IsUtf8 name → ⊥) → step_on_span name words ≡ None
+no_step_on_span : (name : List ℕ) (words : List (List ℕ)) → (IsUtf8 name → ⊥)
+    → step_on_span name words ≡ None
 unfolding step_on_span is_utf8 chars encode
 no_step_on_span name words h =
     rw (
@@ -51,7 +60,8 @@ no_step_on_span name words h =
     (no_call_step name words h)
 
 -- Bytes that aren't UTF-8 name no step.
-pub no_step : (name : List ℕ) (words : List (List ℕ)) → (IsUtf8 name → ⊥) → step_of name words ≡ None
+pub no_step : (name : List ℕ) (words : List (List ℕ)) → (IsUtf8 name → ⊥)
+    → step_of name words ≡ None
 unfolding step_of is_utf8 chars encode
 no_step name words h =
     rw (

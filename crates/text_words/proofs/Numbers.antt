@@ -1,5 +1,6 @@
 -- What a word of decimal digits is read as.
-use Rattle.std.proofs.Common.{◌≡◌, ℕ, ◌^◌, ◌<◌, true, List, [], ◌∷◌, length, Some, Result, Ok, Err, inl, inr, refl, ap, arith, rules, tests}
+use Rattle.std.proofs.Common.{◌≡◌, ℕ, ◌^◌, ◌<◌, true, List, [], ◌∷◌, length, Some, Result, Ok, Err}
+use Rattle.std.proofs.Common.{inl, inr, refl, ap, arith, rules, tests}
 use Rattle.std.specs.Prelude.{◌&&◌}
 use Rattle.std.specs.Char.{is_ascii_digit}
 use Rattle.std.specs.Str.{IsUtf8, IsAscii, all_ascii_digits}
@@ -9,7 +10,8 @@ use Rattle.std.specs.Result.{result_ok, OkIff}
 use Rattle.std.proofs.lemmas.Bool.{and_parts, cases_lt, lt-ltb, le-ltb}
 use Rattle.std.proofs.lemmas.Str.{IsUtf8-from_ascii}
 use Rattle.std.proofs.lemmas.Str.Ascii.{IsAscii-nil, IsAscii-cons}
-use Rattle.std.proofs.lemmas.Str.Parse.{IsNumeralModel, numerals_by_weight, tells_all_ascii_digits, parse_digits}
+use Rattle.std.proofs.lemmas.Str.Parse.{IsNumeralModel, numerals_by_weight, tells_all_ascii_digits}
+use Rattle.std.proofs.lemmas.Str.Parse.{parse_digits}
 use Rattle.text_words.specs.Words.{decimal_value, number_below}
 
 -- the value of digits, as `parse` has it
@@ -30,7 +32,8 @@ pub digits_are_text : (w : List ℕ) → all_ascii_digits w ≡ true → IsUtf8 
 digits_are_text w d = IsUtf8-from_ascii w (digits_are_ascii w d)
 
 by_cases : {E : Type 0} (w : List ℕ) (r : Result ℕ E)
-    → OkIff r ((0 < length w) × (decimal_value w < 2 ^ 64)) (decimal_value w) → all_ascii_digits w ≡ true → result_ok r ≡ number_below (2 ^ 64) w
+    → OkIff r ((0 < length w) × (decimal_value w < 2 ^ 64)) (decimal_value w)
+    → all_ascii_digits w ≡ true → result_ok r ≡ number_below (2 ^ 64) w
 unfolding number_below
 by_cases [] (Ok x) p d = absurd (omega (arith, p.0.0))
 by_cases [] (Err e) p d = refl
@@ -42,7 +45,8 @@ by_cases (c ∷ cs) (Err e) p d =
     ]
 
 -- `parse` gives of decimal digits the number that they write, where 64 bits hold it.
-pub number_parsed : {E : Type 0} (w : List ℕ) (r : Result ℕ E) → ParsesUnsigned 64 10 w r → all_ascii_digits w ≡ true → result_ok r ≡ number_below (2 ^ 64) w
+pub number_parsed : {E : Type 0} (w : List ℕ) (r : Result ℕ E) → ParsesUnsigned 64 10 w r
+    → all_ascii_digits w ≡ true → result_ok r ≡ number_below (2 ^ 64) w
 number_parsed w r h d = by_cases w r (parse_digits numerals 64 w r h d) d
 
 -- A test of each byte for being a digit is the test of all bytes together.

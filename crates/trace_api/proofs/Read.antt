@@ -15,13 +15,15 @@ on-err (Ok x) f h = tt
 on-err (Err e) f h = f h
 
 -- What holds of the record of a recording span carries over to whatever follows from it.
-pub recording-with : {P Q : SpanRecord → Type 0} (state : SpanState) → ((r : SpanRecord) → P r → Q r) → IsRecordingWith P state → IsRecordingWith Q state
+pub recording-with : {P Q : SpanRecord → Type 0} (state : SpanState)
+    → ((r : SpanRecord) → P r → Q r) → IsRecordingWith P state → IsRecordingWith Q state
 recording-with (recording r) f h = f r h
 recording-with not_recording f h = h
 recording-with ended f h = h
 
 -- A fact that follows from any record holds where a span is recording.
-pub said-with : {P : SpanRecord → Type 0} {Q : Type 0} (state : SpanState) → ((r : SpanRecord) → P r → Q) → IsRecordingWith P state → Q
+pub said-with : {P : SpanRecord → Type 0} {Q : Type 0} (state : SpanState)
+    → ((r : SpanRecord) → P r → Q) → IsRecordingWith P state → Q
 said-with (recording r) f h = f r h
 said-with not_recording f h = absurd h
 said-with ended f h = absurd h

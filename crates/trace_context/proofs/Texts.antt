@@ -11,4 +11,7 @@ of_text t = rw (is_utf8-from_IsUtf8 (string_bytes t) (IsUtf8-string_bytes t)) re
 
 -- Bytes that aren't UTF-8 give an empty text.
 pub of_no_text : (bs : List ℕ) → (IsUtf8 bs → ⊥) → [] ≡ text_or_nothing bs
-of_no_text bs h = elim (cases_Bool (is_utf8 bs)) [ inl is ↦ absurd (h (IsUtf8-from_is_utf8 bs is)) | inr not_text ↦ rw not_text refl ]
+of_no_text bs h = elim (cases_Bool (is_utf8 bs)) [
+  | inl is ↦ absurd (h (IsUtf8-from_is_utf8 bs is))
+  | inr not_text ↦ rw not_text refl
+]

@@ -22,7 +22,8 @@ same-reason _ _ e = absurd (false≢true e)
 same-loss : (a b : Loss) → loss.eq-value.it a b ≡ true → a ≡ b
 same-loss a b e =
     let same = and_parts _ (reason.eq-value.it a.reason b.reason) e in
-    ap₂ (λ n r. record { number = n; reason = r }) (eqb-true a.number b.number same.0) (same-reason a.reason b.reason same.1)
+    ap₂ (λ n r. record { number = n; reason = r }) (eqb-true a.number b.number same.0)
+    (same-reason a.reason b.reason same.1)
 
 -- Lists that compare as equal, place by place, are equal.
 pub same-losses : (xs ys : List Loss) → pointwise loss.eq-value.it xs ys ≡ true → xs ≡ ys

@@ -7,7 +7,8 @@ use Rattle.batch_desk.specs.Batch.{BatchView}
 use Rattle.batch_desk.specs.Desk.{CanSettle, IsOut}
 
 -- A batch that was handed, with all its spans, can be settled.
-pub can-settle : (d : Desk) (b : BatchView) (fate : Fate) → IsOut true d b → CanSettle d fate b.number b.room (length b.spans)
+pub can-settle : (d : Desk) (b : BatchView) (fate : Fate) → IsOut true d b
+    → CanSettle d fate b.number b.room (length b.spans)
 can-settle d b fate o = record {
   out = ap (option_map (λ (x : OutBatch). (x.number, x.is_handed))) o.out;
   fits = o.room;

@@ -1,7 +1,9 @@
 -- The spans of a request, as they are kept.
-use Rattle.std.proofs.Common.{◌≡◌, refl, sym, ap, ap₂, subst, ◌∙◌, ℕ, ◌+◌, List, [], ◌∷◌, ◌++◌, map, length, arith, append_assoc, append-nil}
+use Rattle.std.proofs.Common.{◌≡◌, refl, sym, ap, ap₂, subst, ◌∙◌, ℕ, ◌+◌, List, [], ◌∷◌, ◌++◌, map}
+use Rattle.std.proofs.Common.{length, arith, append_assoc, append-nil}
 use Rattle.std.specs.Option.{option_eq}
-use Rattle.std.specs.Prelude.{◌-◌, ◌^◌, All, IfOk, if◌then◌else◌, min, nat_eq, Option, Some, None, Result, Ok, Err}
+use Rattle.std.specs.Prelude.{◌-◌, ◌^◌, All, IfOk, if◌then◌else◌, min, nat_eq, Option, Some, None}
+use Rattle.std.specs.Prelude.{Result, Ok, Err}
 use Rattle.std.specs.Arc.{arc_value}
 use Rattle.std.specs.List.{flat_map}
 use Rattle.std.specs.List.Sorted.{IsPermutation}
@@ -19,67 +21,113 @@ use Rattle.trace_store.specs.SpanParts.{entries_of, entries_of_part}
 use Rattle.trace_store.specs.Sizes.{at_most_64_bits, resource_bytes, scope_bytes}
 use Rattle.otlp_read.specs.declared.request.ResourceSpans.{ResourceSpans}
 use Rattle.otlp_read.specs.declared.request.ScopeSpans.{ScopeSpans}
-use Rattle.trace_store.specs.Requests.{Placed, IsOfOneTrace, key_of, keyed, keyed_of, placed_after, placed_of, share_of, spans_of_parts, spans_of_resource, spans_of_scope, trace_of}
+use Rattle.trace_store.specs.Requests.{Placed, IsOfOneTrace, key_of, keyed, keyed_of, placed_after}
+use Rattle.trace_store.specs.Requests.{placed_of, share_of, spans_of_parts, spans_of_resource}
+use Rattle.trace_store.specs.Requests.{spans_of_scope, trace_of}
 
 -- A kept span has the resource and the scope under which it was put.
-pub placed : {A : Type 0} (kept : Arc (ViewSpan A) A) (span : Span A) (r r' : Arc (ViewResource A) A) (s s' : Arc (ViewScope A) A) (shared : ℕ)
-    → arc_value kept ≡ record { span = span; resource = r; scope = s; shared = shared } → arc_value r ≡ arc_value r' → arc_value s ≡ arc_value s'
-    → placed_of kept ≡ record { resource = arc_value r'; scope = arc_value s'; span = span; shared = shared }
+pub placed : {A : Type 0} (kept : Arc (ViewSpan A) A) (span : Span A)
+    (r r' : Arc (ViewResource A) A) (s s' : Arc (ViewScope A) A) (shared : ℕ)
+    → arc_value kept ≡ record { span = span; resource = r; scope = s; shared = shared }
+    → arc_value r ≡ arc_value r' → arc_value s ≡ arc_value s'
+    → placed_of kept
+    ≡ record { resource = arc_value r'; scope = arc_value s'; span = span; shared = shared }
 placed {A} kept span r r' s s' shared is same_r same_s =
-    ap (λ (v : ViewSpan A). let p : Placed A = record { resource = arc_value v.resource; scope = arc_value v.scope; span = v.span; shared = v.shared } in p) is
-    ∙ ap (λ x. let p : Placed A = record { resource = x; scope = arc_value s; span = span; shared = shared } in p) same_r
-    ∙ ap (λ x. let p : Placed A = record { resource = arc_value r'; scope = x; span = span; shared = shared } in p) same_s
+    ap (λ (v : ViewSpan A). let p : Placed A =
+    record {
+      resource = arc_value v.resource;
+      scope = arc_value v.scope;
+      span = v.span;
+      shared = v.shared;
+    } in
+    p)
+    is
+    ∙ ap (λ x.
+    let p : Placed A = record { resource = x; scope = arc_value s; span = span; shared = shared } in
+    p)
+    same_r
+    ∙ ap (λ x. let p : Placed A =
+    record { resource = arc_value r'; scope = x; span = span; shared = shared } in
+    p)
+    same_s
 
 -- A kept span that is appended to a list is its last entry, under its key.
-pub kept_more : {A : Type 0} (old new : List (ℕ × Arc (ViewSpan A) A)) (key : ℕ) (kept : Arc (ViewSpan A) A) (p : Placed A) → new ≡ old ++ (key, kept) ∷ [] → placed_of kept ≡ p → keyed_of new ≡ keyed_of old ++ (key, p) ∷ []
-kept_more old new key kept p push is = ap keyed_of push ∙ map-append (λ e. (e.0, placed_of e.1)) old ((key, kept) ∷ []) ∙ ap (λ e. keyed_of old ++ (key, e) ∷ []) is
+pub kept_more : {A : Type 0} (old new : List (ℕ × Arc (ViewSpan A) A)) (key : ℕ)
+    (kept : Arc (ViewSpan A) A) (p : Placed A)
+    → new ≡ old ++ (key, kept) ∷ [] → placed_of kept ≡ p
+    → keyed_of new ≡ keyed_of old ++ (key, p) ∷ []
+kept_more old new key kept p push is =
+    ap keyed_of push ∙ map-append (λ e. (e.0, placed_of e.1)) old ((key, kept) ∷ [])
+    ∙ ap (λ e. keyed_of old ++ (key, e) ∷ []) is
 
 -- The bytes counted with the next span are its share of the resource and the scope.
-pub counted : {A : Type 0} (r : ViewResource A) (s made : ViewScope A) (before : Option ℕ) (trace size own bytes shared : ℕ)
-    → size ≡ at_most_64_bits (resource_bytes r) → own ≡ at_most_64_bits (scope_bytes made) → s ≡ made → bytes ≡ min (size + own) (2 ^ 64 - 1)
-    → shared ≡ (if option_eq nat_eq before (Some trace) then 0 else bytes) → shared ≡ share_of r s before trace
+pub counted : {A : Type 0} (r : ViewResource A) (s made : ViewScope A) (before : Option ℕ)
+    (trace size own bytes shared : ℕ)
+    → size ≡ at_most_64_bits (resource_bytes r) → own ≡ at_most_64_bits (scope_bytes made)
+    → s ≡ made → bytes ≡ min (size + own) (2 ^ 64 - 1)
+    → shared ≡ (if option_eq nat_eq before (Some trace) then 0 else bytes)
+    → shared ≡ share_of r s before trace
 counted r s made before trace size own bytes shared first second is sum share =
-    let all : bytes ≡ at_most_64_bits (resource_bytes r + scope_bytes s) = omega (arith, first, second, ap scope_bytes is, sum) in
+    let all : bytes ≡ at_most_64_bits (resource_bytes r + scope_bytes s) =
+    omega (arith, first, second, ap scope_bytes is, sum) in
     share ∙ ap (λ n. if option_eq nat_eq before (Some trace) then 0 else n) all
 
 -- After the next span of a scope is appended, the rest of the scope completes the same list.
-pub next_placed : {A : Type 0} (r : ViewResource A) (s : ViewScope A) (before : Option ℕ) (rest rest' : List (Span A)) (x : Span A) (old new whole : List (ℕ × Placed A)) (trace shared : ℕ)
-    → old ++ map keyed (placed_after r s before rest) ≡ whole → rest ≡ x ∷ rest' → trace ≡ trace_of x → shared ≡ share_of r s before trace
+pub next_placed : {A : Type 0} (r : ViewResource A) (s : ViewScope A) (before : Option ℕ)
+    (rest rest' : List (Span A)) (x : Span A) (old new whole : List (ℕ × Placed A))
+    (trace shared : ℕ)
+    → old ++ map keyed (placed_after r s before rest) ≡ whole → rest ≡ x ∷ rest'
+    → trace ≡ trace_of x → shared ≡ share_of r s before trace
     → new ≡ old ++ (trace, record { resource = r; scope = s; span = x; shared = shared }) ∷ []
     → new ++ map keyed (placed_after r s (Some trace) rest') ≡ whole
 next_placed {A} r s before rest rest' x old new whole trace shared inv next same share push =
     let q : ℕ → Placed A = λ n. record { resource = r; scope = s; span = x; shared = n } in
-    let one : (trace, q shared) ∷ map keyed (placed_after r s (Some trace) rest') ≡ map keyed (placed_after r s before rest) =
-    ap₂ (λ t n. (t, q n) ∷ map keyed (placed_after r s (Some t) rest')) same (share ∙ ap (share_of r s before) same)
+    let one : (trace, q shared) ∷ map keyed (placed_after r s (Some trace) rest')
+    ≡ map keyed (placed_after r s before rest) =
+    ap₂ (λ t n. (t, q n) ∷ map keyed (placed_after r s (Some t) rest')) same
+    (share ∙ ap (share_of r s before) same)
     ∙ sym (ap (λ l. map keyed (placed_after r s before l)) next) in
     ap (λ l. l ++ map keyed (placed_after r s (Some trace) rest')) push
     ∙ append_assoc old ((trace, q shared) ∷ []) (map keyed (placed_after r s (Some trace) rest'))
     ∙ ap (λ l. old ++ l) one ∙ inv
 
 -- After one more item of a loop, the list ends with the entries of all items so far.
-pub some_pushed : {X Y Z : Type 0} (k : Y → Z) (f : X → List Y) (start old new : List Z) (done : List X) (x : X)
-    → old ≡ start ++ map k (flat_map f done) → new ≡ old ++ map k (f x) → new ≡ start ++ map k (flat_map f (done ++ x ∷ []))
+pub some_pushed : {X Y Z : Type 0} (k : Y → Z) (f : X → List Y) (start old new : List Z)
+    (done : List X) (x : X)
+    → old ≡ start ++ map k (flat_map f done) → new ≡ old ++ map k (f x)
+    → new ≡ start ++ map k (flat_map f (done ++ x ∷ []))
 some_pushed k f start old new done x before push =
-    push ∙ ap (λ l. l ++ map k (f x)) before ∙ append_assoc start (map k (flat_map f done)) (map k (f x))
-    ∙ ap (λ l. start ++ l) (sym (ap (map k) (flat_map-append f done (x ∷ []) ∙ ap (λ l. flat_map f done ++ l) (append-nil (f x))) ∙ map-append k (flat_map f done) (f x)))
+    push ∙ ap (λ l. l ++ map k (f x)) before
+    ∙ append_assoc start (map k (flat_map f done)) (map k (f x))
+    ∙ ap (λ l. start ++ l)
+    (sym (ap (map k)
+    (flat_map-append f done (x ∷ []) ∙ ap (λ l. flat_map f done ++ l) (append-nil (f x)))
+    ∙ map-append k (flat_map f done) (f x)))
 
 -- Once no span of a scope is left, all spans of the scope are appended.
-pub scope_done : {A : Type 0} (start now : List (ℕ × Placed A)) (r : ViewResource A) (s : ViewScope A) (before : Option ℕ) (group : ScopeSpans A) (rest : List (Span A))
-    → now ++ map keyed (placed_after r s before rest) ≡ start ++ map keyed (placed_after r s None group.spans.items) → rest ≡ [] → s ≡ record { scope = group.scope; schema_url = group.schema_url }
+pub scope_done : {A : Type 0} (start now : List (ℕ × Placed A)) (r : ViewResource A)
+    (s : ViewScope A) (before : Option ℕ) (group : ScopeSpans A) (rest : List (Span A))
+    → now ++ map keyed (placed_after r s before rest)
+    ≡ start ++ map keyed (placed_after r s None group.spans.items)
+    → rest ≡ [] → s ≡ record { scope = group.scope; schema_url = group.schema_url }
     → now ≡ start ++ map keyed (spans_of_scope r group)
 scope_done start now r s before group rest h ends is =
     sym (append-nil now) ∙ ap (λ l. now ++ map keyed (placed_after r s before l)) (sym ends)
     ∙ h ∙ ap (λ x. start ++ map keyed (placed_after r x None group.spans.items)) is
 
 -- Once no scope of a resource is left, all spans of the resource are appended.
-pub resource_done : {A : Type 0} (start now : List (ℕ × Placed A)) (r : ViewResource A) (group : ResourceSpans A) (done : List (ScopeSpans A))
-    → now ≡ start ++ map keyed (flat_map (spans_of_scope r) done) → done ≡ group.scope_spans.items → r ≡ record { resource = group.resource; schema_url = group.schema_url }
+pub resource_done : {A : Type 0} (start now : List (ℕ × Placed A)) (r : ViewResource A)
+    (group : ResourceSpans A) (done : List (ScopeSpans A))
+    → now ≡ start ++ map keyed (flat_map (spans_of_scope r) done) → done ≡ group.scope_spans.items
+    → r ≡ record { resource = group.resource; schema_url = group.schema_url }
     → now ≡ start ++ map keyed (spans_of_resource group)
 resource_done start now r group done h ends is =
-    h ∙ ap (λ l. start ++ map keyed (flat_map (spans_of_scope r) l)) ends ∙ ap (λ x. start ++ map keyed (flat_map (spans_of_scope x) group.scope_spans.items)) is
+    h ∙ ap (λ l. start ++ map keyed (flat_map (spans_of_scope r) l)) ends
+    ∙ ap (λ x. start ++ map keyed (flat_map (spans_of_scope x) group.scope_spans.items)) is
 
 -- What holds of a result's value carries over to whatever follows from it.
-pub if_ok : {T E : Type 0} (P Q : T → Type 0) (r : Result T E) → ((x : T) → P x → Q x) → IfOk r P → IfOk r Q
+pub if_ok : {T E : Type 0} (P Q : T → Type 0) (r : Result T E) → ((x : T) → P x → Q x) → IfOk r P
+    → IfOk r Q
 if_ok P Q (Ok x) f h = f x h
 if_ok P Q (Err e) f h = h
 
@@ -89,28 +137,36 @@ first_of : {A : Type 0} (ps : List (Placed A)) → map (λ e. e.1) (map keyed ps
 first_of [] = refl
 first_of (p ∷ ps) = ap (λ l. p ∷ l) (first_of ps)
 
-kept_first : {A : Type 0} (es : List (ℕ × Arc (ViewSpan A) A)) → map (λ e. e.1) (keyed_of es) ≡ map (λ e. placed_of e.1) es
+kept_first : {A : Type 0} (es : List (ℕ × Arc (ViewSpan A) A))
+    → map (λ e. e.1) (keyed_of es) ≡ map (λ e. placed_of e.1) es
 kept_first [] = refl
 kept_first (e ∷ es) = ap (λ l. placed_of e.1 ∷ l) (kept_first es)
 
-part_spans : {A : Type 0} (key : ℕ) (ss : List (Arc (ViewSpan A) A)) → map (λ e. placed_of e.1) (entries_of_part (key, ss)) ≡ map placed_of ss
+part_spans : {A : Type 0} (key : ℕ) (ss : List (Arc (ViewSpan A) A))
+    → map (λ e. placed_of e.1) (entries_of_part (key, ss)) ≡ map placed_of ss
 part_spans key [] = refl
 part_spans key (s ∷ ss) = ap (λ l. placed_of s ∷ l) (part_spans key ss)
 
-parts_spans : {A : Type 0} (parts : List (ℕ × List (Arc (ViewSpan A) A))) → map (λ e. placed_of e.1) (entries_of parts) ≡ spans_of_parts parts
+parts_spans : {A : Type 0} (parts : List (ℕ × List (Arc (ViewSpan A) A)))
+    → map (λ e. placed_of e.1) (entries_of parts) ≡ spans_of_parts parts
 parts_spans [] = refl
 parts_spans (p ∷ ps) =
     map-append (λ e. placed_of e.1) (entries_of_part p) (entries_of ps)
     ∙ ap₂ (λ l m. l ++ m) (part_spans p.0 p.1) (parts_spans ps)
 
 -- The spans of the parts are those of the request, in some order.
-pub parts_are : {A : Type 0} (found sorted : List (ℕ × Arc (ViewSpan A) A)) (spans : List (Placed A)) (parts : List (ℕ × List (Arc (ViewSpan A) A)))
-    → keyed_of found ≡ map keyed spans → IsPermutation found sorted → sorted ≡ entries_of parts → IsPermutation spans (spans_of_parts parts)
+pub parts_are : {A : Type 0} (found sorted : List (ℕ × Arc (ViewSpan A) A))
+    (spans : List (Placed A)) (parts : List (ℕ × List (Arc (ViewSpan A) A)))
+    → keyed_of found ≡ map keyed spans → IsPermutation found sorted → sorted ≡ entries_of parts
+    → IsPermutation spans (spans_of_parts parts)
 parts_are found sorted spans parts keys order whole =
-    let from : map (λ e. placed_of e.1) found ≡ spans = sym (kept_first found) ∙ ap (map (λ e. e.1)) keys ∙ first_of spans in
-    let to : map (λ e. placed_of e.1) sorted ≡ spans_of_parts parts = ap (map (λ e. placed_of e.1)) whole ∙ parts_spans parts in
+    let from : map (λ e. placed_of e.1) found ≡ spans =
+    sym (kept_first found) ∙ ap (map (λ e. e.1)) keys ∙ first_of spans in
+    let to : map (λ e. placed_of e.1) sorted ≡ spans_of_parts parts =
+    ap (map (λ e. placed_of e.1)) whole ∙ parts_spans parts in
     subst (λ l. IsPermutation l (spans_of_parts parts)) from
-    (subst (λ l. IsPermutation (map (λ e. placed_of e.1) found) l) to (IsPermutation-map (λ e. placed_of e.1) found sorted order))
+    (subst (λ l. IsPermutation (map (λ e. placed_of e.1) found) l) to
+    (IsPermutation-map (λ e. placed_of e.1) found sorted order))
 
 all_left : {X : Type 0} (P : X → Type 0) (xs ys : List X) → All P (xs ++ ys) → All P xs
 all_left P xs ys h k d within =
@@ -127,26 +183,35 @@ length_map : {X Y : Type 0} (f : X → Y) (xs : List X) → length (map f xs) �
 length_map f [] = refl
 length_map f (x ∷ xs) = omega (arith, length_map f xs)
 
-one_trace : {A : Type 0} (key : ℕ) (ss : List (Arc (ViewSpan A) A)) → All HasKey (keyed_of (entries_of_part (key, ss))) → IsOfOneTrace (key, ss)
+one_trace : {A : Type 0} (key : ℕ) (ss : List (Arc (ViewSpan A) A))
+    → All HasKey (keyed_of (entries_of_part (key, ss))) → IsOfOneTrace (key, ss)
 one_trace {A} key ss h k d within =
     let f : Arc (ViewSpan A) A → ℕ × Arc (ViewSpan A) A = λ s. (key, s) in
     let v : ℕ × Arc (ViewSpan A) A → ℕ × Placed A = λ e. (e.0, placed_of e.1) in
     subst HasKey (get_or-map v (map f ss) k (f d) ∙ ap v (get_or-map f ss k d))
     (h k (v (f d)) (omega (arith, length_map v (map f ss), length_map f ss)))
 
-of_traces : {A : Type 0} (parts : List (ℕ × List (Arc (ViewSpan A) A))) → All HasKey (keyed_of (entries_of parts)) → All IsOfOneTrace parts
+of_traces : {A : Type 0} (parts : List (ℕ × List (Arc (ViewSpan A) A)))
+    → All HasKey (keyed_of (entries_of parts)) → All IsOfOneTrace parts
 of_traces [] h = All-nil _
 of_traces (p ∷ ps) h =
-    let both = subst (All HasKey) (map-append (λ e. (e.0, placed_of e.1)) (entries_of_part p) (entries_of ps)) h in
+    let both =
+    subst (All HasKey)
+    (map-append (λ e. (e.0, placed_of e.1)) (entries_of_part p) (entries_of ps)) h in
     All-cons IsOfOneTrace p ps
-    (one_trace p.0 p.1 (all_left HasKey (keyed_of (entries_of_part p)) (keyed_of (entries_of ps)) both))
+    (one_trace p.0 p.1
+    (all_left HasKey (keyed_of (entries_of_part p)) (keyed_of (entries_of ps)) both))
     (of_traces ps (all_right HasKey (keyed_of (entries_of_part p)) (keyed_of (entries_of ps)) both))
 
 -- Each span of a part is of the part's trace.
-pub parts_keep : {A : Type 0} (found sorted : List (ℕ × Arc (ViewSpan A) A)) (spans : List (Placed A)) (parts : List (ℕ × List (Arc (ViewSpan A) A)))
-    → keyed_of found ≡ map keyed spans → IsPermutation found sorted → sorted ≡ entries_of parts → All IsOfOneTrace parts
+pub parts_keep : {A : Type 0} (found sorted : List (ℕ × Arc (ViewSpan A) A))
+    (spans : List (Placed A)) (parts : List (ℕ × List (Arc (ViewSpan A) A)))
+    → keyed_of found ≡ map keyed spans → IsPermutation found sorted → sorted ≡ entries_of parts
+    → All IsOfOneTrace parts
 parts_keep found sorted spans parts keys order whole =
     let each : All HasKey (map keyed spans) = All-map HasKey keyed spans (λ k d within. refl) in
     let all : All HasKey (keyed_of found) = subst (All HasKey) (sym keys) each in
-    let moved : All HasKey (keyed_of sorted) = All-permutation HasKey (keyed_of found) (keyed_of sorted) (IsPermutation-map (λ e. (e.0, placed_of e.1)) found sorted order) all in
+    let moved : All HasKey (keyed_of sorted) =
+    All-permutation HasKey (keyed_of found) (keyed_of sorted)
+    (IsPermutation-map (λ e. (e.0, placed_of e.1)) found sorted order) all in
     of_traces parts (subst (λ l. All HasKey (keyed_of l)) whole moved)

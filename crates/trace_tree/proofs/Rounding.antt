@@ -1,5 +1,6 @@
 -- A walk round a cycle.
-use Rattle.std.proofs.Common.{◌≡◌, ◌≢◌, sym, ◌∙◌, ap, subst, ℕ, ◌<◌, ◌≤◌, min, ◌⊎◌, inl, inr, refl, Option, Some, None, List, length, set, length-set, arith}
+use Rattle.std.proofs.Common.{◌≡◌, ◌≢◌, sym, ◌∙◌, ap, subst, ℕ, ◌<◌, ◌≤◌, min, ◌⊎◌, inl, inr, refl}
+use Rattle.std.proofs.Common.{Option, Some, None, List, length, set, length-set, arith}
 use Rattle.std.proofs.lemmas.Bool.{cases_lt}
 use Rattle.trace_tree.specs.Parents.{parent_at}
 use Rattle.trace_tree.specs.Cycles.{HasAncestor, parent, above, OpensCycle}
@@ -19,28 +20,34 @@ pub record IsVisited (old new : List Mark) (start k : ℕ) : Type 0 where
   pub is : mark_at new k ≡ OnCycle
 
 -- it came there, and went on to its parent
-pub record IsPassed (parents : List (Option ℕ)) (old new : List Mark) (start first at k : ℕ) : Type 0 where
+pub record IsPassed (parents : List (Option ℕ)) (old new : List Mark)
+    (start first at k : ℕ) : Type 0 where
   pub least : first ≤ k
   pub next : ℕ
   pub is_next : parent_at parents k ≡ Some next
   pub goes : IsVisited old new start next ⊎ (next ≡ at)
 
 -- The walk round is at this span, and the first one so far is this.
-pub record IsRounding (parents : List (Option ℕ)) (old new : List Mark) (start entry first at : ℕ) : Type 0 where
+pub record IsRounding (parents : List (Option ℕ)) (old new : List Mark)
+    (start entry first at : ℕ) : Type 0 where
   pub at_in_list : at < length parents
   pub first_in_list : first < length parents
   pub same_length : length new ≡ length old
   pub old_length : length old ≡ length parents
-  pub each : (k : ℕ) → (mark_at new k ≡ mark_at old k) ⊎ ((mark_at old k ≡ SeenFrom start) × (mark_at new k ≡ OnCycle))
+  pub each : (k : ℕ)
+      → (mark_at new k ≡ mark_at old k)
+      ⊎ ((mark_at old k ≡ SeenFrom start) × (mark_at new k ≡ OnCycle))
   pub here : mark_at old at ≡ SeenFrom start
   pub leads_here : LeadsTo parents entry at
   pub passed : (k : ℕ) → IsVisited old new start k → IsPassed parents old new start first at k
   pub leads_first : LeadsTo parents entry first
   pub first_visited : IsVisited old new start first ⊎ (first ≡ at)
 
-module _ (parents : List (Option ℕ)) (old : List Mark) (start entry : ℕ) (round : IsRound parents old start entry) where
+module _ (parents : List (Option ℕ)) (old : List Mark) (start entry : ℕ)
+    (round : IsRound parents old start entry) where
   -- A walk round a cycle is at its entry at first, and has marked nothing yet.
-  pub rounding_first : length old ≡ length parents → entry < length parents → IsRounding parents old old start entry entry entry
+  pub rounding_first : length old ≡ length parents → entry < length parents
+      → IsRounding parents old old start entry entry entry
   rounding_first long within = record {
     at_in_list = within;
     first_in_list = within;
@@ -54,13 +61,18 @@ module _ (parents : List (Option ℕ)) (old : List Mark) (start entry : ℕ) (ro
     first_visited = inr refl;
   }
 
-  module _ (new : List Mark) (first at : ℕ) (w : IsRounding parents old new start entry first at) where
+  module _ (new : List Mark) (first at : ℕ)
+      (w : IsRounding parents old new start entry first at) where
     marked : List Mark
     marked = set new at OnCycle
 
-    after : (k : ℕ) → ((k ≡ at) × (mark_at marked k ≡ OnCycle)) ⊎ ((k ≢ at) × (mark_at marked k ≡ mark_at new k))
+    after : (k : ℕ)
+        → ((k ≡ at) × (mark_at marked k ≡ OnCycle))
+        ⊎ ((k ≢ at) × (mark_at marked k ≡ mark_at new k))
     unfolding marked
-    after k = set_cases new at OnCycle Unseen (subst (λ n. at < n) (sym (w.same_length ∙ w.old_length)) w.at_in_list) k
+    after k =
+        set_cases new at OnCycle Unseen
+        (subst (λ n. at < n) (sym (w.same_length ∙ w.old_length)) w.at_in_list) k
 
     marked_length : length marked ≡ length old
     unfolding marked
@@ -103,7 +115,8 @@ module _ (parents : List (Option ℕ)) (old : List Mark) (start entry : ℕ) (ro
     least_below = (omega arith, omega arith)
 
     first_after : IsVisited old marked start first
-    first_after = elim w.first_visited [ inl v ↦ visited_after first v | inr same ↦ visited_here first same ]
+    first_after =
+        elim w.first_visited [ inl v ↦ visited_after first v | inr same ↦ visited_here first same ]
 
     least_after : IsVisited old marked start least
     least_after = elim least_cases [
@@ -132,15 +145,22 @@ module _ (parents : List (Option ℕ)) (old : List Mark) (start entry : ℕ) (ro
         goes = inr refl;
       }
 
-      passed_before : (k : ℕ) → IsPassed parents old new start first at k → IsPassed parents old marked start least p k
+      passed_before : (k : ℕ) → IsPassed parents old new start first at k
+          → IsPassed parents old marked start least p k
       passed_before k h = record {
-        least = let below : least ≤ first = least_below.0 in let more : first ≤ k = h.least in omega arith;
+        least =
+            let below : least ≤ first = least_below.0 in
+            let more : first ≤ k = h.least in
+            omega arith;
         next = h.next;
         is_next = h.is_next;
-        goes = inl (elim h.goes [ inl v ↦ visited_after h.next v | inr same ↦ visited_here h.next same ]);
+        goes =
+            inl
+            (elim h.goes [ inl v ↦ visited_after h.next v | inr same ↦ visited_here h.next same ]);
       }
 
-      passed_after : (k : ℕ) → IsVisited old marked start k → IsPassed parents old marked start least p k
+      passed_after : (k : ℕ) → IsVisited old marked start k
+          → IsPassed parents old marked start least p k
       passed_after k v = elim (after k) [
         | inl h ↦ passed_here k h.0
         | inr h ↦ passed_before k (w.passed k (visited_before k h.0 v))
@@ -169,7 +189,8 @@ module _ (parents : List (Option ℕ)) (old : List Mark) (start entry : ℕ) (ro
       }
 
       -- A walk round a cycle goes on to the parent, and keeps the first span in the list so far.
-      pub rounding_more : p < length parents → IsRounding parents old (set new at OnCycle) start entry (min first at) p
+      pub rounding_more : p < length parents
+          → IsRounding parents old (set new at OnCycle) start entry (min first at) p
       unfolding marked least
       rounding_more within = rounding_on within
 
@@ -184,14 +205,16 @@ module _ (parents : List (Option ℕ)) (old : List Mark) (start entry : ℕ) (ro
       visited_at : (k : ℕ) → k ≡ at → IsVisited old new start k
       visited_at k same = subst (λ x. IsVisited old new start x) (sym same) at_visited
 
-      visited_next : (k p : ℕ) → IsVisited old new start k → parent_at parents k ≡ Some p → IsVisited old new start p
+      visited_next : (k p : ℕ) → IsVisited old new start k → parent_at parents k ≡ Some p
+          → IsVisited old new start p
       visited_next k p v e =
           let h = w.passed k v in
           let same : h.next ≡ p = one_parent parents k h.next p h.is_next e in
           subst (λ x. IsVisited old new start x) same
           (elim h.goes [ inl g ↦ g | inr g ↦ visited_at h.next g ])
 
-      visited_above : {k a : ℕ} → HasAncestor parents k a → IsVisited old new start k → IsVisited old new start a
+      visited_above : {k a : ℕ} → HasAncestor parents k a → IsVisited old new start k
+          → IsVisited old new start a
       visited_above (parent {k = k} {p = p} e) v = visited_next k p v e
       visited_above (above {k = k} {p = p} e h) v = visited_above h (visited_next k p v e)
 

@@ -1,11 +1,14 @@
 -- The order of spans by their starts.
-use Rattle.std.proofs.Common.{◌≡◌, ◌≢◌, sym, ◌∙◌, ap, subst, refl, ℕ, zero, suc, ◌+◌, ◌<◌, ◌≤◌, inl, inr, Bool, true, false, eqb, ltb, ◌||◌, ◌&&◌, List, [], ◌∷◌, ◌++◌, length, get_or, arith, All, AllPairs, Ordering}
+use Rattle.std.proofs.Common.{◌≡◌, ◌≢◌, sym, ◌∙◌, ap, subst, refl, ℕ, zero, suc, ◌+◌, ◌<◌, ◌≤◌, inl}
+use Rattle.std.proofs.Common.{inr, Bool, true, false, eqb, ltb, ◌||◌, ◌&&◌, List, [], ◌∷◌, ◌++◌}
+use Rattle.std.proofs.Common.{length, get_or, arith, All, AllPairs, Ordering}
 use Rattle.std.specs.List.{AllByRecursion as Each, range_with_len}
 use Rattle.std.specs.List.Sorted.{IsPermutation, IsSortedBy}
 use Rattle.std.specs.Ordering.{nat_cmp, is_lt, ordering_then}
 use Rattle.std.specs.Cmp.{IsTotalOrder}
 use Rattle.std.proofs.lemmas.Cmp.{then_total, on_total, nat_cmp_total}
-use Rattle.std.proofs.lemmas.Bool.{cases_eq, cases_lt, cases_order, lt-ltb, le-ltb, eq-eqb, or_left, or_right, and_from, true≢false}
+use Rattle.std.proofs.lemmas.Bool.{cases_eq, cases_lt, cases_order, lt-ltb, le-ltb, eq-eqb, or_left}
+use Rattle.std.proofs.lemmas.Bool.{or_right, and_from, true≢false}
 use Rattle.std.proofs.lemmas.List.{get_or-map, map_push, length-map}
 use Rattle.std.proofs.lemmas.List.Elements.{All-push, All-nil}
 use Rattle.std.proofs.lemmas.List.Sorted.{ranks_by, sorted_far, IsPermutation-map, All-permutation}
@@ -25,12 +28,15 @@ abbrev pub before : Start → Start → Bool
 before x y = is_lt (start_cmp x y)
 
 -- the one isn't after the other, and has another place
-earlier : (p q m n : ℕ) → is_lt (ordering_then (nat_cmp q p) (nat_cmp n m)) ≡ false → m ≢ n → (ltb p q || (eqb p q && ltb m n)) ≡ true
+earlier : (p q m n : ℕ) → is_lt (ordering_then (nat_cmp q p) (nat_cmp n m)) ≡ false → m ≢ n
+    → (ltb p q || (eqb p q && ltb m n)) ≡ true
 earlier p q m n e apart = elim (cases_order p q) [
   | inl same ↦
-      let places : is_lt (nat_cmp n m) ≡ false = rw (le-ltb q p (at_least q p (sym same)), eq-eqb q p (sym same)) at e in
+      let places : is_lt (nat_cmp n m) ≡ false =
+      rw (le-ltb q p (at_least q p (sym same)), eq-eqb q p (sym same)) at e in
       let less : m < n = smaller places in
-      or_right (ltb p q) (eqb p q && ltb m n) (and_from (eqb p q) (ltb m n) (eq-eqb p q same) (lt-ltb m n less))
+      or_right (ltb p q) (eqb p q && ltb m n)
+      (and_from (eqb p q) (ltb m n) (eq-eqb p q same) (lt-ltb m n less))
   | inr other ↦ elim other [
     | inl less ↦ or_left (ltb p q) (eqb p q && ltb m n) (lt-ltb p q less)
     | inr more ↦ absurd (true≢false (rw (lt-ltb q p more) at e))
@@ -79,15 +85,20 @@ places_once n places all k = elim (cases_lt k n) [
   | inr h ↦ let a = times-past n places all k h in omega arith
 ]
 
-module _ (spans : List TreeSpan) (old new : List Start) (starts : AreStarts spans old) (moved : IsPermutation old new) where
+module _ (spans : List TreeSpan) (old new : List Start) (starts : AreStarts spans old)
+    (moved : IsPermutation old new) where
   all_places : ArePlaces (length spans) (places_of new)
-  all_places = subst (λ l. IsPermutation l (places_of new)) starts.places (IsPermutation-map (λ (s : Start). s.1) old new moved)
+  all_places =
+      subst (λ l. IsPermutation l (places_of new)) starts.places
+      (IsPermutation-map (λ (s : Start). s.1) old new moved)
 
   each_start : All (λ (s : Start). s.0 ≡ start_at spans s.1) new
   each_start = All-permutation (λ (s : Start). s.0 ≡ start_at spans s.1) old new moved starts.each
 
   distinct : AllPairs (λ x y. x ≢ y) (places_of new)
-  distinct = All-from_Pairs (λ x y. x ≢ y) (places_of new) (all_distinct (places_of new) (places_once (length spans) (places_of new) all_places))
+  distinct =
+      All-from_Pairs (λ x y. x ≢ y) (places_of new)
+      (all_distinct (places_of new) (places_once (length spans) (places_of new) all_places))
 
   -- The sorted starts of spans give the places of the spans by their start.
   pub sorted_by_start : IsSortedBy before new → AreByStart spans (places_of new)
@@ -99,31 +110,42 @@ module _ (spans : List TreeSpan) (old new : List Start) (starts : AreStarts span
   }
     where
       order : IsTotalOrder start_cmp
-      order = then_total (on_total (λ (s : Start). s.0) nat_cmp_total) (on_total (λ (s : Start). s.1) nat_cmp_total)
+      order =
+          then_total (on_total (λ (s : Start). s.0) nat_cmp_total)
+          (on_total (λ (s : Start). s.1) nat_cmp_total)
 
       in_order : AllPairs (λ (a b : Start). precedes spans a.1 b.1 ≡ true) new
       in_order i j d less within =
           let upto : i ≤ j = omega arith in
           let first : i < length new = omega arith in
-          let far = sorted_far before (ranks_by order (λ (s : Start). s)) new sorted i j d upto within in
+          let far =
+          sorted_far before (ranks_by order (λ (s : Start). s)) new sorted i j d upto within in
           let size = length-map new (λ (s : Start). s.1) in
           let long : j < length (places_of new) = omega arith in
           let one = get_or-map (λ (s : Start). s.1) new i d d.1 first in
           let two = get_or-map (λ (s : Start). s.1) new j d d.1 within in
-          let apart : (get_or new i d).1 ≢ (get_or new j d).1 = λ e. distinct i j d.1 less long (one ∙ e ∙ sym two) in
-          by_start (get_or new i d) (get_or new j d) (each_start i d first) (each_start j d within) far apart
+          let apart : (get_or new i d).1 ≢ (get_or new j d).1 =
+          λ e. distinct i j d.1 less long (one ∙ e ∙ sym two) in
+          by_start (get_or new i d) (get_or new j d) (each_start i d first)
+          (each_start j d within) far apart
         where
-          by_start : (a b : Start) → a.0 ≡ start_at spans a.1 → b.0 ≡ start_at spans b.1 → before b a ≡ false → a.1 ≢ b.1 → precedes spans a.1 b.1 ≡ true
+          by_start : (a b : Start) → a.0 ≡ start_at spans a.1 → b.0 ≡ start_at spans b.1
+              → before b a ≡ false → a.1 ≢ b.1 → precedes spans a.1 b.1 ≡ true
           by_start a b ea eb far apart =
-              subst (λ p. (ltb p (start_at spans b.1) || (eqb p (start_at spans b.1) && ltb a.1 b.1)) ≡ true) ea
-              (subst (λ q. (ltb a.0 q || (eqb a.0 q && ltb a.1 b.1)) ≡ true) eb (earlier a.0 b.0 a.1 b.1 far apart))
+              subst (λ p.
+              (ltb p (start_at spans b.1) || (eqb p (start_at spans b.1) && ltb a.1 b.1)) ≡ true)
+              ea
+              (subst (λ q. (ltb a.0 q || (eqb a.0 q && ltb a.1 b.1)) ≡ true) eb
+              (earlier a.0 b.0 a.1 b.1 far apart))
 
 -- ---- before the sort
 
 -- A range that is longer by one ends with the number after the others.
 pub range_more : (a n : ℕ) → range_with_len a (suc n) ≡ range_with_len a n ++ (a + n) ∷ []
 range_more a zero = ap (λ k. k ∷ []) (omega arith)
-range_more a (suc n) = ap (λ l. a ∷ l) (range_more (a + 1) n ∙ ap (λ k. range_with_len (a + 1) n ++ k ∷ []) (omega arith))
+range_more a (suc n) =
+    ap (λ l. a ∷ l)
+    (range_more (a + 1) n ∙ ap (λ k. range_with_len (a + 1) n ++ k ∷ []) (omega arith))
 
 one_more : (i : ℕ) → i + 1 ≡ suc i
 one_more i = omega arith
@@ -138,20 +160,27 @@ pub record AreStartsBefore (spans : List TreeSpan) (i : ℕ) (starts : List Star
 
 -- Before the first span, the list of starts is empty.
 pub starts_first : (spans : List TreeSpan) → AreStartsBefore spans 0 []
-starts_first spans = record { places = refl; each = All-nil (λ (s : Start). s.0 ≡ start_at spans s.1) }
+starts_first spans =
+    record { places = refl; each = All-nil (λ (s : Start). s.0 ≡ start_at spans s.1) }
 
 -- After the start of one more span, the list has the starts of the spans so far.
-pub starts_more : (spans : List TreeSpan) (i : ℕ) (starts : List Start) (d : TreeSpan) → AreStartsBefore spans i starts → i < length spans
+pub starts_more : (spans : List TreeSpan) (i : ℕ) (starts : List Start) (d : TreeSpan)
+    → AreStartsBefore spans i starts → i < length spans
     → AreStartsBefore spans (i + 1) (starts ++ ((get_or spans i d).start_time_unix_nano, i) ∷ [])
 starts_more spans i starts d h within = record {
   places =
       map_push (λ (s : Start). s.1) starts ((get_or spans i d).start_time_unix_nano, i)
       ∙ ap (λ l. l ++ i ∷ []) h.places
-      ∙ sym (ap (λ n. range_with_len 0 n) (one_more i) ∙ range_more 0 i ∙ ap (λ k. range_with_len 0 i ++ k ∷ []) (none_more i));
-  each = All-push (λ (s : Start). s.0 ≡ start_at spans s.1) starts ((get_or spans i d).start_time_unix_nano, i) h.each
+      ∙ sym (ap (λ n. range_with_len 0 n) (one_more i) ∙ range_more 0 i
+      ∙ ap (λ k. range_with_len 0 i ++ k ∷ []) (none_more i));
+  each =
+      All-push (λ (s : Start). s.0 ≡ start_at spans s.1) starts
+      ((get_or spans i d).start_time_unix_nano, i) h.each
       (sym (get_or-map (λ (s : TreeSpan). s.start_time_unix_nano) spans i d 0 within));
 }
 
 -- Once all spans are done, the list has the starts of all spans.
-pub starts_all : (spans : List TreeSpan) (i : ℕ) (starts : List Start) → AreStartsBefore spans i starts → i ≡ length spans → AreStarts spans starts
-starts_all spans i starts h e = record { places = h.places ∙ ap (λ n. range_with_len 0 n) e; each = h.each }
+pub starts_all : (spans : List TreeSpan) (i : ℕ) (starts : List Start)
+    → AreStartsBefore spans i starts → i ≡ length spans → AreStarts spans starts
+starts_all spans i starts h e =
+    record { places = h.places ∙ ap (λ n. range_with_len 0 n) e; each = h.each }

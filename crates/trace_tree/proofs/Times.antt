@@ -1,10 +1,15 @@
 -- How often a number is in a list.
-use Rattle.std.proofs.Common.{◌≡◌, sym, ◌∙◌, ap, subst, refl, ℕ, zero, suc, ◌+◌, ◌<◌, ◌≤◌, inl, inr, Bool, true, false, cond, eqb, ◌||◌, List, [], ◌∷◌, ◌++◌, arith, filter}
+use Rattle.std.proofs.Common.{◌≡◌, sym, ◌∙◌, ap, subst, refl, ℕ, zero, suc, ◌+◌, ◌<◌, ◌≤◌, inl, inr}
+use Rattle.std.proofs.Common.{Bool, true, false, cond, eqb, ◌||◌, List, [], ◌∷◌, ◌++◌, arith}
+use Rattle.std.proofs.Common.{filter}
 use Rattle.std.specs.List.{range_with_len, sum_by, AllByRecursion as Each}
 use Rattle.std.specs.List.Sorted.{IsPermutation}
-use Rattle.std.proofs.lemmas.Bool.{cases_eq, cases_Bool, eq-eqb, ne_eqb, cond-true, cond-false, or_left, or_right, or_from, both_ways}
+use Rattle.std.proofs.lemmas.Bool.{cases_eq, cases_Bool, eq-eqb, ne_eqb, cond-true, cond-false}
+use Rattle.std.proofs.lemmas.Bool.{or_left, or_right, or_from, both_ways}
 use Rattle.std.proofs.lemmas.List.Recursion.{is_count_by}
-use Rattle.std.proofs.lemmas.List.Sorted.{sum_by-IsPermutation, IsPermutation-refl, IsPermutation-cons, IsPermutation-trans, IsPermutation-sym, IsPermutation-middle}
+use Rattle.std.proofs.lemmas.List.Sorted.{sum_by-IsPermutation, IsPermutation-refl}
+use Rattle.std.proofs.lemmas.List.Sorted.{IsPermutation-cons, IsPermutation-trans}
+use Rattle.std.proofs.lemmas.List.Sorted.{IsPermutation-sym, IsPermutation-middle}
 use Rattle.trace_tree.specs.Order.{ArePlaces}
 
 abbrev pub times : ℕ → List ℕ → ℕ
@@ -40,7 +45,8 @@ counted k xs = is_count_by (times k) (λ x. eqb x k) refl (λ x ys. refl) xs
 
 -- A number is as often in a list as in any other order of it.
 pub times-permutation : (k : ℕ) (xs ys : List ℕ) → IsPermutation xs ys → times k ys ≡ times k xs
-times-permutation k xs ys h = counted k ys ∙ sum_by-IsPermutation (λ x. cond (eqb x k) 1 0) xs ys h ∙ sym (counted k xs)
+times-permutation k xs ys h =
+    counted k ys ∙ sum_by-IsPermutation (λ x. cond (eqb x k) 1 0) xs ys h ∙ sym (counted k xs)
 
 not_above : (k a : ℕ) → k < a → a ≡ k → ⊥
 not_above k a h e = omega arith
@@ -63,7 +69,8 @@ past_range a zero k h = refl
 past_range a (suc n) k h =
     let more : a + 1 + n ≤ k = omega arith in
     let less : a < k = omega arith in
-    times-other k a (range_with_len (a + 1) n) (λ e. not_below a k less e) ∙ past_range (a + 1) n k more
+    times-other k a (range_with_len (a + 1) n) (λ e. not_below a k less e)
+    ∙ past_range (a + 1) n k more
 
 in_range : (a n k : ℕ) → a ≤ k → k < a + n → times k (range_with_len a n) ≡ 1
 in_range a zero k h g = absurd (no_room a k h g)
@@ -92,22 +99,28 @@ module _ (n : ℕ) (places : List ℕ) (all : ArePlaces n places) where
       times-permutation k (range_with_len 0 n) places all ∙ past_range 0 n k high
 
 -- A number that fails a test isn't among the numbers that pass it.
-pub times-filter_out : (p : ℕ → Bool) (k : ℕ) → p k ≡ false → (xs : List ℕ) → times k (filter p xs) ≡ 0
+pub times-filter_out : (p : ℕ → Bool) (k : ℕ) → p k ≡ false → (xs : List ℕ)
+    → times k (filter p xs) ≡ 0
 times-filter_out p k fails [] = refl
 times-filter_out p k fails (x ∷ xs) = elim (cases_Bool (p x)) [
   | inl pass ↦
       let apart : x ≡ k → ⊥ = λ e. both_ways (p k) fails (subst (λ y. p y ≡ true) e pass) in
-      ap (times k) (cond-true (p x) (x ∷ filter p xs) (filter p xs) pass) ∙ times-other k x (filter p xs) apart ∙ times-filter_out p k fails xs
-  | inr miss ↦ ap (times k) (cond-false (p x) (x ∷ filter p xs) (filter p xs) miss) ∙ times-filter_out p k fails xs
+      ap (times k) (cond-true (p x) (x ∷ filter p xs) (filter p xs) pass)
+      ∙ times-other k x (filter p xs) apart ∙ times-filter_out p k fails xs
+  | inr miss ↦
+      ap (times k) (cond-false (p x) (x ∷ filter p xs) (filter p xs) miss)
+      ∙ times-filter_out p k fails xs
 ]
 
 -- A filter whose test no item passes leaves no item.
 pub filter_none : (p : ℕ → Bool) (xs : List ℕ) → Each (λ k. p k ≡ false) xs → filter p xs ≡ []
 filter_none p [] all = refl
-filter_none p (x ∷ xs) all = cond-false (p x) (x ∷ filter p xs) (filter p xs) all.0 ∙ filter_none p xs all.1
+filter_none p (x ∷ xs) all =
+    cond-false (p x) (x ∷ filter p xs) (filter p xs) all.0 ∙ filter_none p xs all.1
 
 -- The numbers that pass either of two exclusive tests are those of the one and of the other.
-pub filter_split : (w c v : ℕ → Bool) → ((k : ℕ) → w k ≡ (c k || v k)) → ((k : ℕ) → c k ≡ true → v k ≡ false)
+pub filter_split : (w c v : ℕ → Bool) → ((k : ℕ) → w k ≡ (c k || v k))
+    → ((k : ℕ) → c k ≡ true → v k ≡ false)
     → (xs : List ℕ) → IsPermutation (filter w xs) (filter c xs ++ filter v xs)
 filter_split w c v each apart [] = IsPermutation-refl []
 filter_split w c v each apart (x ∷ xs) =
@@ -116,13 +129,17 @@ filter_split w c v each apart (x ∷ xs) =
       | inl is_c ↦
           let is_w : w x ≡ true = each x ∙ or_left (c x) (v x) is_c in
           let no_v : v x ≡ false = apart x is_c in
-          rw (is_c, no_v, is_w) (IsPermutation-cons x (filter w xs) (filter c xs ++ filter v xs) more)
+          rw (is_c, no_v, is_w)
+          (IsPermutation-cons x (filter w xs) (filter c xs ++ filter v xs) more)
       | inr no_c ↦ elim (cases_Bool (v x)) [
         | inl is_v ↦
             let is_w : w x ≡ true = each x ∙ or_right (c x) (v x) is_v in
-            rw (no_c, is_v, is_w) (IsPermutation-trans (x ∷ filter w xs) (x ∷ (filter c xs ++ filter v xs)) (filter c xs ++ x ∷ filter v xs)
+            rw (no_c, is_v, is_w)
+            (IsPermutation-trans (x ∷ filter w xs) (x ∷ (filter c xs ++ filter v xs))
+            (filter c xs ++ x ∷ filter v xs)
             (IsPermutation-cons x (filter w xs) (filter c xs ++ filter v xs) more)
-            (IsPermutation-sym (filter c xs ++ x ∷ filter v xs) (x ∷ (filter c xs ++ filter v xs)) (IsPermutation-middle (filter c xs) x (filter v xs))))
+            (IsPermutation-sym (filter c xs ++ x ∷ filter v xs) (x ∷ (filter c xs ++ filter v xs))
+            (IsPermutation-middle (filter c xs) x (filter v xs))))
         | inr no_v ↦
             let no_w : w x ≡ false = each x ∙ or_from (c x) (v x) no_c no_v in
             rw (no_c, no_v, no_w) more

@@ -1,5 +1,6 @@
 -- A walk from a span to its parent, and so on.
-use Rattle.std.proofs.Common.{◌≡◌, ◌≢◌, sym, ◌∙◌, ap, subst, ℕ, ◌<◌, ◌⊎◌, inl, inr, refl, Option, Some, None, List, length, set, length-set}
+use Rattle.std.proofs.Common.{◌≡◌, ◌≢◌, sym, ◌∙◌, ap, subst, ℕ, ◌<◌, ◌⊎◌, inl, inr, refl, Option}
+use Rattle.std.proofs.Common.{Some, None, List, length, set, length-set}
 use Rattle.trace_tree.specs.Parents.{parent_at}
 use Rattle.trace_tree.specs.Cycles.{HasAncestor, parent}
 use Rattle.trace_tree.specs.Walks.{mark_at, IsFresh, IsWalk, IsWalkUp, IsRound}
@@ -26,7 +27,8 @@ pub record IsWalking (parents : List (Option ℕ)) (old new : List Mark) (start 
 
 module _ (parents : List (Option ℕ)) (old : List Mark) (start : ℕ) where
   -- A walk is at its start at first, and has marked nothing yet.
-  pub walking_first : length old ≡ length parents → start < length parents → IsFresh old start → IsWalking parents old old start start
+  pub walking_first : length old ≡ length parents → start < length parents → IsFresh old start
+      → IsWalking parents old old start start
   walking_first long within fresh = record {
     at_in_list = within;
     same_length = refl;
@@ -42,9 +44,13 @@ module _ (parents : List (Option ℕ)) (old : List Mark) (start : ℕ) where
     marked : List Mark
     marked = set new at (SeenFrom start)
 
-    after : (k : ℕ) → ((k ≡ at) × (mark_at marked k ≡ SeenFrom start)) ⊎ ((k ≢ at) × (mark_at marked k ≡ mark_at new k))
+    after : (k : ℕ)
+        → ((k ≡ at) × (mark_at marked k ≡ SeenFrom start))
+        ⊎ ((k ≢ at) × (mark_at marked k ≡ mark_at new k))
     unfolding marked
-    after k = set_cases new at (SeenFrom start) Unseen (subst (λ n. at < n) (sym (w.same_length ∙ w.old_length)) w.at_in_list) k
+    after k =
+        set_cases new at (SeenFrom start) Unseen
+        (subst (λ n. at < n) (sym (w.same_length ∙ w.old_length)) w.at_in_list) k
 
     marked_length : length marked ≡ length old
     unfolding marked
@@ -56,7 +62,8 @@ module _ (parents : List (Option ℕ)) (old : List Mark) (start : ℕ) where
       | inr h ↦ elim (w.each k) [ inl e ↦ inl (h.1 ∙ e) | inr e ↦ inr (h.1 ∙ e) ]
     ]
 
-    kept_after : mark_at new at ≡ Unseen → (k : ℕ) → mark_at old k ≢ Unseen → mark_at marked k ≡ mark_at old k
+    kept_after : mark_at new at ≡ Unseen → (k : ℕ) → mark_at old k ≢ Unseen
+        → mark_at marked k ≡ mark_at old k
     kept_after unseen k ne = elim (after k) [
       | inl h ↦ absurd (ne (sym (w.kept k ne) ∙ ap (λ j. mark_at new j) h.0 ∙ unseen))
       | inr h ↦ h.1 ∙ w.kept k ne
@@ -74,7 +81,8 @@ module _ (parents : List (Option ℕ)) (old : List Mark) (start : ℕ) where
     here_after : (k : ℕ) → k ≡ at → mark_at marked k ≡ SeenFrom start
     here_after k same = elim (after k) [ inl h ↦ h.1 | inr h ↦ absurd (h.0 same) ]
 
-    walking_on : (p : ℕ) → parent_at parents at ≡ Some p → p < length parents → mark_at new at ≡ Unseen → IsWalking parents old marked start p
+    walking_on : (p : ℕ) → parent_at parents at ≡ Some p → p < length parents
+        → mark_at new at ≡ Unseen → IsWalking parents old marked start p
     walking_on p e within unseen = record {
       at_in_list = within;
       same_length = marked_length;
@@ -89,12 +97,19 @@ module _ (parents : List (Option ℕ)) (old : List Mark) (start : ℕ) where
       closed = λ k m. elim (after k) [
         | inl h ↦ (p, subst (λ x. parent_at parents x ≡ Some p) (sym h.0) e, inr refl)
         | inr h ↦
-            let c = w.closed k (sym h.1 ∙ m) in
-            (c.0, c.1, elim c.2 [ inl seen ↦ inl (seen_after c.0 seen) | inr same ↦ inl (here_after c.0 same) ])
+            let c = w.closed k (sym h.1 ∙ m) in (
+              c.0,
+              c.1,
+              elim c.2 [
+                | inl seen ↦ inl (seen_after c.0 seen)
+                | inr same ↦ inl (here_after c.0 same)
+              ],
+            )
       ];
     }
 
-    walked_top : parent_at parents at ≡ None → mark_at new at ≡ Unseen → IsWalkUp parents old marked start at
+    walked_top : parent_at parents at ≡ None → mark_at new at ≡ Unseen
+        → IsWalkUp parents old marked start at
     walked_top none unseen = record {
       walk = record {
         same_length = marked_length;
@@ -122,30 +137,37 @@ module _ (parents : List (Option ℕ)) (old : List Mark) (start : ℕ) where
     }
 
     -- A walk that comes to a mark of an earlier walk ends there.
-    pub walked_up : mark_at new at ≢ Unseen → mark_at new at ≢ SeenFrom start → IsWalkUp parents old new start at
+    pub walked_up : mark_at new at ≢ Unseen → mark_at new at ≢ SeenFrom start
+        → IsWalkUp parents old new start at
     walked_up marked_here other = record {
       walk = walked marked_here;
       ends = elim (w.each at) [ inl e ↦ inr (λ u. marked_here (e ∙ u)) | inr e ↦ absurd (other e) ];
     }
 
     -- A walk that comes to one of its own marks has found a cycle.
-    pub walked_round : mark_at new at ≡ SeenFrom start → IsWalk parents old new start at × IsRound parents new start at
+    pub walked_round : mark_at new at ≡ SeenFrom start
+        → IsWalk parents old new start at × IsRound parents new start at
     walked_round here = (
       walked (λ u. seen_is_marked start (sym here ∙ u)),
       record {
         marked = here;
-        closed = λ k m. let c = w.closed k m in
-            (c.0, c.1, elim c.2 [ inl seen ↦ seen | inr same ↦ ap (λ j. mark_at new j) same ∙ here ]);
+        closed = λ k m. let c = w.closed k m in (
+          c.0,
+          c.1,
+          elim c.2 [ inl seen ↦ seen | inr same ↦ ap (λ j. mark_at new j) same ∙ here ],
+        );
         on_cycle = w.leads at here;
       },
     )
 
     -- A walk marks the span that it is at, and goes on to the parent.
-    pub walking_more : (p : ℕ) → parent_at parents at ≡ Some p → p < length parents → mark_at new at ≡ Unseen → IsWalking parents old (set new at (SeenFrom start)) start p
+    pub walking_more : (p : ℕ) → parent_at parents at ≡ Some p → p < length parents
+        → mark_at new at ≡ Unseen → IsWalking parents old (set new at (SeenFrom start)) start p
     unfolding marked
     walking_more p e within unseen = walking_on p e within unseen
 
     -- A walk that comes to an unmarked span without a parent marks it and ends at the top.
-    pub walked_to_top : parent_at parents at ≡ None → mark_at new at ≡ Unseen → IsWalkUp parents old (set new at (SeenFrom start)) start at
+    pub walked_to_top : parent_at parents at ≡ None → mark_at new at ≡ Unseen
+        → IsWalkUp parents old (set new at (SeenFrom start)) start at
     unfolding marked
     walked_to_top none unseen = walked_top none unseen

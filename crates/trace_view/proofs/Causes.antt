@@ -8,7 +8,8 @@ use Rattle.program_args.specs.declared.fault.ArgFault.TheVariants as faults
 use Rattle.trace_view.specs.Command.{IsCause, NameNoAddress, command}
 
 -- A fault of the command line alone is a fault of the program.
-pub cause-of : {A T : Type 0} (words : List (String A)) (r : Result T ArgFault) → IfErr r (given.IsCause command words) → IfErr r (IsCause words)
+pub cause-of : {A T : Type 0} (words : List (String A)) (r : Result T ArgFault)
+    → IfErr r (given.IsCause command words) → IfErr r (IsCause words)
 cause-of words (Ok value) cause = tt
 cause-of words (Err (faults.Help text)) cause = cause
 cause-of words (Err (faults.Version text)) cause = cause
@@ -16,7 +17,8 @@ cause-of words (Err (faults.Mistake text)) cause = inl cause
 cause-of words (Err faults.OutOfMemory) cause = tt
 
 -- A mistake where a text is no address is a fault of the program.
-pub cause-of-address : {A : Type 0} (words : List (String A)) (fault : ArgFault) → IsMistake fault → NameNoAddress words → IsCause words fault
+pub cause-of-address : {A : Type 0} (words : List (String A)) (fault : ArgFault) → IsMistake fault
+    → NameNoAddress words → IsCause words fault
 cause-of-address words (faults.Help text) mistake none = absurd mistake
 cause-of-address words (faults.Version text) mistake none = absurd mistake
 cause-of-address words (faults.Mistake text) mistake none = inr none

@@ -1,5 +1,7 @@
 -- A request that was sent within its span.
-use Rattle.std.proofs.Common.{◌≡◌, refl, sym, ap, subst, ℕ, ◌+◌, List, [], ◌∷◌, map, Bool, true, false, if◌then◌else◌, Option, Some, None, IfSome, option_map, Result, inl, inr, ◌⊎◌}
+use Rattle.std.proofs.Common.{◌≡◌, refl, sym, ap, subst, ℕ, ◌+◌, List, [], ◌∷◌, map, Bool, true}
+use Rattle.std.proofs.Common.{false, if◌then◌else◌, Option, Some, None, IfSome, option_map, Result}
+use Rattle.std.proofs.Common.{inl, inr, ◌⊎◌}
 use Rattle.std.specs.List.{list_any}
 use Rattle.rand_core.specs.Stream.{Stream}
 use Rattle.http_exporter.specs.Attempts.{Shown}
@@ -18,7 +20,8 @@ use Rattle.trace_context.specs.Carriers.{Field}
 use Rattle.traced_client.specs.declared.fault.GetFault.{GetFault}
 use Rattle.traced_client.specs.Exchanges.{IsAsked}
 use Rattle.traced_client.specs.Gets.{CarriesOwn, ClientWith, Gets, IsTraced, IsUntraced, Starts}
-use Rattle.traced_client.specs.Spans.{HasStarted, carried_by, ending_of, request_calls, request_pairs}
+use Rattle.traced_client.specs.Spans.{HasStarted, carried_by, ending_of, request_calls}
+use Rattle.traced_client.specs.Spans.{request_pairs}
 
 -- no attribute is an end
 none-ends : (pairs : List Attribute) → list_any is_end (map set_attribute pairs) ≡ false
@@ -26,31 +29,47 @@ none-ends [] = refl
 none-ends (p ∷ pairs) = none-ends pairs
 
 -- a span keeps the context that it started with
-context-is : (s : StartedSpan) (calls : List Call) (held : HeldSpan) → held ≡ held_span s calls → held.context ≡ s.start.context
+context-is : (s : StartedSpan) (calls : List Call) (held : HeldSpan) → held ≡ held_span s calls
+    → held.context ≡ s.start.context
 unfolding held_span
 context-is s calls held h = ap (λ (x : HeldSpan). x.context) h
 
-module _ {S R D Link P : Type 0} (meaning : S → SamplerMeaning) (stream : R → Stream) (dials : D → List ℕ → ℕ → Option Link → D → Type 0) (shown : Shown Link) (admits : P → SpanData → Ended → P → Type 0) where
+module _ {S R D Link P : Type 0} (meaning : S → SamplerMeaning) (stream : R → Stream)
+    (dials : D → List ℕ → ℕ → Option Link → D → Type 0) (shown : Shown Link)
+    (admits : P → SpanData → Ended → P → Type 0) where
   -- the span of a request has started
-  starts-is : (old new : ClientWith S R D) (parent : Option Context) (address : Address) (begun : ℕ) (held : HeldSpan)
-      → (h : HasStarted (tracer_view meaning old.tracer) (stream old.rng) (stream new.rng) parent address begun held)
+  starts-is : (old new : ClientWith S R D) (parent : Option Context) (address : Address) (begun : ℕ)
+      (held : HeldSpan)
+      → (h : HasStarted (tracer_view meaning old.tracer) (stream old.rng)
+      (stream new.rng) parent address begun held)
       → Starts meaning stream dials shown admits old parent h.s new
-  starts-is old new parent address begun held h = record { begun = begun; started = h.started; spent = h.spent }
+  starts-is old new parent address begun held h =
+      record { begun = begun; started = h.started; spent = h.spent }
 
   -- it carries that span's context
-  carries-own : (old new : ClientWith S R D) (parent : Option Context) (address : Address) (begun : ℕ) (span : Option HeldSpan)
-      → IfSome span (HasStarted (tracer_view meaning old.tracer) (stream old.rng) (stream new.rng) parent address begun)
-      → IfSome (option_map (λ (held : HeldSpan). held.context) span) (CarriesOwn meaning stream dials shown admits old parent new)
+  carries-own : (old new : ClientWith S R D) (parent : Option Context) (address : Address)
+      (begun : ℕ) (span : Option HeldSpan)
+      → IfSome span
+      (HasStarted (tracer_view meaning old.tracer) (stream old.rng)
+      (stream new.rng) parent address begun)
+      → IfSome (option_map (λ (held : HeldSpan). held.context) span)
+      (CarriesOwn meaning stream dials shown admits old parent new)
   carries-own old new parent address begun None h = tt
-  carries-own old new parent address begun (Some held) h =
-      (h.s, starts-is old new parent address begun held h, context-is h.s (request_calls address) held h.held)
+  carries-own old new parent address begun (Some held) h = (
+    h.s,
+    starts-is old new parent address begun held h,
+    context-is h.s (request_calls address) held h.held,
+  )
 
   -- it has ended
-  traced-is : (old new : ClientWith S R D) (parent : Option Context) (address : Address) (before after : P) (result : Result HttpReply GetFault) (begun at : ℕ) (held : HeldSpan)
-      → HasStarted (tracer_view meaning old.tracer) (stream old.rng) (stream new.rng) parent address begun held
+  traced-is : (old new : ClientWith S R D) (parent : Option Context) (address : Address)
+      (before after : P) (result : Result HttpReply GetFault) (begun at : ℕ) (held : HeldSpan)
+      → HasStarted (tracer_view meaning old.tracer) (stream old.rng)
+      (stream new.rng) parent address begun held
       → EndsAs admits (ending_calls (ending_of result)) at held before after
       → new.untraced ≡ old.untraced
-      → IsTraced meaning stream dials shown admits old parent address (Some held.context) before result new after
+      → IsTraced meaning stream dials shown admits old parent address
+      (Some held.context) before result new after
   traced-is old new parent address before after result begun at held h e n = record {
     s = h.s;
     starts = starts-is old new parent address begun held h;
@@ -62,35 +81,60 @@ module _ {S R D Link P : Type 0} (meaning : S → SamplerMeaning) (stream : R �
 
   -- A traced client gets its result, and hands over the request's span or counts the request as
   -- untraced.
-  pub gets : (old new : ClientWith S R D) (parent : Option Context) (address : Address) (before after : P) (result : Result HttpReply GetFault) (begun at : ℕ) (span : Option HeldSpan) (fields : List Field) (has_ended : Bool)
-      → IfSome span (HasStarted (tracer_view meaning old.tracer) (stream old.rng) (stream new.rng) parent address begun)
+  pub gets : (old new : ClientWith S R D) (parent : Option Context) (address : Address)
+      (before after : P) (result : Result HttpReply GetFault) (begun at : ℕ)
+      (span : Option HeldSpan) (fields : List Field) (has_ended : Bool)
+      → IfSome span
+      (HasStarted (tracer_view meaning old.tracer) (stream old.rng)
+      (stream new.rng) parent address begun)
       → fields ≡ carried_by (option_map (λ (held : HeldSpan). held.context) span)
       → IsAsked dials shown address fields old.dial new.dial result
-      → (has_ended ≡ true → (held : HeldSpan) × (span ≡ Some held) × EndsAs admits (ending_calls (ending_of result)) at held before after)
+      → (has_ended ≡ true
+      → (held : HeldSpan) × (span ≡ Some held)
+      × EndsAs admits (ending_calls (ending_of result)) at held before after)
       → (has_ended ≡ false → after ≡ before)
       → new.untraced ≡ (if has_ended then old.untraced else counted_requests (old.untraced + 1))
       → new.tracer ≡ old.tracer
       → Gets meaning stream dials shown admits old parent address before result new after
-  gets old new parent address before after result begun at span fields has_ended started carried asked ends none counted tracer = record {
-    context = option_map (λ (held : HeldSpan). held.context) span;
-    asked = subst (λ f. IsAsked dials shown address f old.dial new.dial result) carried asked;
-    traced = by has_ended ends none counted;
-    tracer = tracer;
-  }
+  gets old new parent address before after result begun at span fields has_ended started carried
+      asked ends none counted tracer =
+      record {
+        context = option_map (λ (held : HeldSpan). held.context) span;
+        asked = subst (λ f. IsAsked dials shown address f old.dial new.dial result) carried asked;
+        traced = by has_ended ends none counted;
+        tracer = tracer;
+      }
     where
       with-span : (x : Option HeldSpan) (held : HeldSpan) → x ≡ Some held
-          → IfSome x (HasStarted (tracer_view meaning old.tracer) (stream old.rng) (stream new.rng) parent address begun)
-          → EndsAs admits (ending_calls (ending_of result)) at held before after → new.untraced ≡ old.untraced
-          → IsTraced meaning stream dials shown admits old parent address (option_map (λ (held : HeldSpan). held.context) x) before result new after
+          → IfSome x
+          (HasStarted (tracer_view meaning old.tracer) (stream old.rng)
+          (stream new.rng) parent address begun)
+          → EndsAs admits (ending_calls (ending_of result)) at held before after
+          → new.untraced ≡ old.untraced
+          → IsTraced meaning stream dials shown admits old parent address
+          (option_map (λ (held : HeldSpan). held.context) x) before result new after
       with-span None held h s e n = cc
       with-span (Some y) held h s e n =
           let same : y ≡ held = cc in
-          traced-is old new parent address before after result begun at y s (subst (λ z. EndsAs admits (ending_calls (ending_of result)) at z before after) (sym same) e) n
+          traced-is old new parent address before after result begun at y s
+          (subst (λ z. EndsAs admits (ending_calls (ending_of result)) at z before after)
+          (sym same) e)
+          n
 
-      by : (b : Bool) → (b ≡ true → (held : HeldSpan) × (span ≡ Some held) × EndsAs admits (ending_calls (ending_of result)) at held before after)
+      by : (b : Bool)
+          → (b ≡ true
+          → (held : HeldSpan) × (span ≡ Some held)
+          × EndsAs admits (ending_calls (ending_of result)) at held before after)
           → (b ≡ false → after ≡ before)
           → new.untraced ≡ (if b then old.untraced else counted_requests (old.untraced + 1))
-          → IsTraced meaning stream dials shown admits old parent address (option_map (λ (held : HeldSpan). held.context) span) before result new after
-          ⊎ IsUntraced meaning stream dials shown admits old parent (option_map (λ (held : HeldSpan). held.context) span) before new after
+          → IsTraced meaning stream dials shown admits old parent address
+          (option_map (λ (held : HeldSpan). held.context) span) before result new after
+          ⊎ IsUntraced meaning stream dials shown admits old parent
+          (option_map (λ (held : HeldSpan). held.context) span) before new after
       by true e u n = let h = e refl in inl (with-span span h.0 h.1 started h.2 n)
-      by false e u n = inr (record { carried = carries-own old new parent address begun span started; untouched = u refl; untraced = n })
+      by false e u n =
+          inr (record {
+            carried = carries-own old new parent address begun span started;
+            untouched = u refl;
+            untraced = n;
+          })

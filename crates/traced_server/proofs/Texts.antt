@@ -13,4 +13,7 @@ of_text bs h = rw (is_utf8-from_IsUtf8 bs h) refl
 -- Bytes that aren't UTF-8 are no text of an attribute.
 pub of_no_text : (bs : List ℕ) → (IsUtf8 bs → ⊥) → None ≡ text_of bs
 unfolding text_of
-of_no_text bs h = elim (cases_Bool (is_utf8 bs)) [ inl is ↦ absurd (h (IsUtf8-from_is_utf8 bs is)) | inr not_text ↦ rw not_text refl ]
+of_no_text bs h = elim (cases_Bool (is_utf8 bs)) [
+  | inl is ↦ absurd (h (IsUtf8-from_is_utf8 bs is))
+  | inr not_text ↦ rw not_text refl
+]

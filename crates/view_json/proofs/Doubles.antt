@@ -1,5 +1,6 @@
 -- How doubles are seen.
-use Rattle.std.proofs.Common.{◌≡◌, refl, sym, ap, ◌∙◌, ℕ, ◌%◌, ◌^◌, true, false, List, [], ◌∷◌, ◌++◌, codes}
+use Rattle.std.proofs.Common.{◌≡◌, refl, sym, ap, ◌∙◌, ℕ, ◌%◌, ◌^◌, true, false, List, [], ◌∷◌}
+use Rattle.std.proofs.Common.{◌++◌, codes}
 use Rattle.std.specs.Prelude.{OnOk, Result, Ok, Err, Some, is_nan, from_bits, nat_lt}
 use Rattle.std.specs.Float.{Float, binary64, float_is_finite, is_sign_negative, nan, inf, fin}
 use Rattle.fast_float.specs.Parse.{parse_float}
@@ -10,7 +11,8 @@ use Rattle.json.specs.Token.{Token, number, string}
 use Rattle.view_json.specs.Seen.{Other, Number, float_seen, seen, seen_of}
 
 -- Bits are those of no number exactly where, without the sign, they are above those of infinity.
-pub nan_at : (bits : ℕ) → is_nan (from_bits binary64 bits) ≡ nat_lt 0x7ff0_0000_0000_0000 (bits % 2 ^ 63)
+pub nan_at : (bits : ℕ)
+    → is_nan (from_bits binary64 bits) ≡ nat_lt 0x7ff0_0000_0000_0000 (bits % 2 ^ 63)
 nan_at bits = sym (nan_bits_is binary64 bits) ∙ nan_bits_above binary64 bits
 
 -- A double that is no number is seen as the text NaN.
@@ -21,7 +23,8 @@ nan_seen (inf s) h = cc
 nan_seen (fin s m e) h = cc
 
 -- An infinite double with a sign is seen as the text -Infinity.
-pub minus_seen : (x : Float) → is_nan x ≡ false → float_is_finite x ≡ false → is_sign_negative x ≡ true → Other (string (codes "-Infinity")) ≡ float_seen x
+pub minus_seen : (x : Float) → is_nan x ≡ false → float_is_finite x ≡ false
+    → is_sign_negative x ≡ true → Other (string (codes "-Infinity")) ≡ float_seen x
 unfolding nan_test float_is_finite is_sign_negative
 minus_seen nan h f n = cc
 minus_seen (inf true) h f n = refl
@@ -29,7 +32,8 @@ minus_seen (inf false) h f n = cc
 minus_seen (fin s m e) h f n = cc
 
 -- An infinite double without a sign is seen as the text Infinity.
-pub plus_seen : (x : Float) → is_nan x ≡ false → float_is_finite x ≡ false → is_sign_negative x ≡ false → Other (string (codes "Infinity")) ≡ float_seen x
+pub plus_seen : (x : Float) → is_nan x ≡ false → float_is_finite x ≡ false
+    → is_sign_negative x ≡ false → Other (string (codes "Infinity")) ≡ float_seen x
 unfolding nan_test float_is_finite is_sign_negative
 plus_seen nan h f n = cc
 plus_seen (inf true) h f n = cc
@@ -43,7 +47,11 @@ finite_seen (inf s) f = cc
 finite_seen (fin s m e) f = refl
 
 -- a number that was written
-pub number_written : {T E : Type 0} (r : Result T E) (old new : List Token) (x : Float) → float_is_finite x ≡ true
-    → OnOk r ((s : List ℕ) × (new ≡ old ++ number s ∷ []) × (parse_float binary64 s ≡ Some x)) → OnOk r (seen new ≡ seen old ++ float_seen x ∷ [])
-number_written (Ok u) old new x f (s, h, p) = ap seen h ∙ map-append seen_of old (number s ∷ []) ∙ ap (λ y. seen old ++ y ∷ []) (ap Number p ∙ finite_seen x f)
+pub number_written : {T E : Type 0} (r : Result T E) (old new : List Token) (x : Float)
+    → float_is_finite x ≡ true
+    → OnOk r ((s : List ℕ) × (new ≡ old ++ number s ∷ []) × (parse_float binary64 s ≡ Some x))
+    → OnOk r (seen new ≡ seen old ++ float_seen x ∷ [])
+number_written (Ok u) old new x f (s, h, p) =
+    ap seen h ∙ map-append seen_of old (number s ∷ [])
+    ∙ ap (λ y. seen old ++ y ∷ []) (ap Number p ∙ finite_seen x f)
 number_written (Err e) old new x f h = tt

@@ -9,25 +9,38 @@ use Rattle.view_json.specs.Seen.{Seen, braces, seen, text_member}
 use Rattle.view_json.specs.Values.{nested, pair_seen, pair_step, value_seen}
 
 -- A text is seen as an object whose member stringValue has it.
-pub text_seen : {A : Type 0} (t : String A) → value_seen (Text t) ≡ braces (seen (text_member (codes "stringValue") (string_bytes t)))
+pub text_seen : {A : Type 0} (t : String A)
+    → value_seen (Text t) ≡ braces (seen (text_member (codes "stringValue") (string_bytes t)))
 text_seen t = search (rules, the_lemmas)
 
-array_step : {A : Type 0} (v : Vec (AnyValue A) A) → value_seen (Array v) ≡ nested (codes "arrayValue") (flat_map (λ item. item) (map value_seen v.items))
+array_step : {A : Type 0} (v : Vec (AnyValue A) A)
+    → value_seen (Array v)
+    ≡ nested (codes "arrayValue") (flat_map (λ item. item) (map value_seen v.items))
 array_step v = search (rules, the_lemmas)
 
 -- An array is seen as its values, one after another, in arrayValue.
-pub array_seen : {A : Type 0} (v : Vec (AnyValue A) A) → value_seen (Array v) ≡ nested (codes "arrayValue") (flat_map value_seen v.items)
-array_seen v = array_step v ∙ ap (nested (codes "arrayValue")) (flat_map-map (λ item. item) value_seen v.items)
+pub array_seen : {A : Type 0} (v : Vec (AnyValue A) A)
+    → value_seen (Array v) ≡ nested (codes "arrayValue") (flat_map value_seen v.items)
+array_seen v =
+    array_step v ∙ ap (nested (codes "arrayValue")) (flat_map-map (λ item. item) value_seen v.items)
 
-pairs_step : {A : Type 0} (v : Vec (String A × AnyValue A) A) → value_seen (Pairs v) ≡ nested (codes "kvlistValue") (flat_map pair_step (map (λ p. (p.0, value_seen p.1)) v.items))
+pairs_step : {A : Type 0} (v : Vec (String A × AnyValue A) A)
+    → value_seen (Pairs v)
+    ≡ nested (codes "kvlistValue") (flat_map pair_step (map (λ p. (p.0, value_seen p.1)) v.items))
 pairs_step v = search (rules, the_lemmas)
 
 -- A list of pairs is seen as its pairs, one after another, in kvlistValue.
-pub pairs_seen : {A : Type 0} (v : Vec (String A × AnyValue A) A) → value_seen (Pairs v) ≡ nested (codes "kvlistValue") (flat_map pair_seen v.items)
-pairs_seen {A} v = pairs_step v ∙ ap (nested (codes "kvlistValue")) (flat_map-map (pair_step {A = A}) (λ p. (p.0, value_seen p.1)) v.items)
+pub pairs_seen : {A : Type 0} (v : Vec (String A × AnyValue A) A)
+    → value_seen (Pairs v) ≡ nested (codes "kvlistValue") (flat_map pair_seen v.items)
+pairs_seen {A} v =
+    pairs_step v
+    ∙ ap (nested (codes "kvlistValue"))
+    (flat_map-map (pair_step {A = A}) (λ p. (p.0, value_seen p.1)) v.items)
 
 -- what a call wrote of a value that is one of these
-pub told : {A T E : Type 0} (r : Result T E) (v which : AnyValue A) (old new word : List Seen) → v ≡ which → value_seen which ≡ word
+pub told : {A T E : Type 0} (r : Result T E) (v which : AnyValue A) (old new word : List Seen)
+    → v ≡ which → value_seen which ≡ word
     → OnOk r (new ≡ old ++ word) → OnOk r (new ≡ old ++ value_seen v)
-told (Ok x) v which old new word is says more = more ∙ ap (λ l. old ++ l) (sym (ap value_seen is ∙ says))
+told (Ok x) v which old new word is says more =
+    more ∙ ap (λ l. old ++ l) (sym (ap value_seen is ∙ says))
 told (Err e) v which old new word is says more = tt

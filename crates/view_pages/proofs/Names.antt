@@ -1,5 +1,7 @@
 -- The services of a trace, with one span more.
-use Rattle.std.proofs.Common.{◌≡◌, refl, sym, ap, subst, ◌∙◌, ℕ, ◌+◌, ◌<◌, Bool, true, false, cond, inl, inr, Option, Some, None, List, [], ◌∷◌, ◌++◌, length, length-append, take, get_or, position, arith, is_some}
+use Rattle.std.proofs.Common.{◌≡◌, refl, sym, ap, subst, ◌∙◌, ℕ, ◌+◌, ◌<◌, Bool, true, false, cond}
+use Rattle.std.proofs.Common.{inl, inr, Option, Some, None, List, [], ◌∷◌, ◌++◌, length}
+use Rattle.std.proofs.Common.{length-append, take, get_or, position, arith, is_some}
 use Rattle.std.specs.Prelude.{fold}
 use Rattle.std.specs.Borrow.{Bor}
 use Rattle.std.specs.BTreeMap.{BTreeMap, get, btree_map_len}
@@ -12,7 +14,8 @@ use Rattle.std.proofs.lemmas.List.Sums.{fold-append}
 use Rattle.std.proofs.lemmas.Slice.Eq.{bytes_eq-Decides}
 use Rattle.trace_tree.proofs.Ids.{place_kept, place_new, ties_is}
 use Rattle.trace_store.specs.declared.span.ViewSpan.{ViewSpan}
-use Rattle.view_pages.specs.Services.{AreServices, is_named, more_services, place_of_name, services_of, with_name}
+use Rattle.view_pages.specs.Services.{AreServices, is_named, more_services, place_of_name}
+use Rattle.view_pages.specs.Services.{services_of, with_name}
 use Rattle.view_pages.specs.Spans.{service_of}
 
 none_of : (o : Option ℕ) → is_some o ≡ false → o ≡ None
@@ -20,55 +23,72 @@ none_of None h = refl
 none_of (Some n) h = cc
 
 -- a name that is there
-pub name_there : (names : List (List ℕ)) (name : List ℕ) (places : BTreeMap (Bor (List ℕ)) ℕ) → is_some (place_of_name names name) ≡ true
+pub name_there : (names : List (List ℕ)) (name : List ℕ) (places : BTreeMap (Bor (List ℕ)) ℕ)
+    → is_some (place_of_name names name) ≡ true
     → AreServices names places → AreServices (with_name names name) places
 unfolding with_name
 name_there names name places there h =
-    subst (λ l. AreServices l places) (sym (cond-true (is_some (place_of_name names name)) names (names ++ name ∷ []) there)) h
+    subst (λ l. AreServices l places)
+    (sym (cond-true (is_some (place_of_name names name)) names (names ++ name ∷ []) there)) h
 
 -- where a name is, with one more that wasn't there
 place_more : (names : List (List ℕ)) (name q : List ℕ) → is_some (place_of_name names name) ≡ false
-    → cond (is_eq (slice_cmp nat_cmp name q)) (Some (length names)) (place_of_name names q) ≡ place_of_name (names ++ name ∷ []) q
+    → cond (is_eq (slice_cmp nat_cmp name q)) (Some (length names)) (place_of_name names q)
+    ≡ place_of_name (names ++ name ∷ []) q
 place_more names name q new = elim (cases_Bool (bytes_eq name q)) [
   | inl same ↦
       let e : name ≡ q = (bytes_eq-Decides name q).0 same in
-      let none : position (is_named q) names ≡ None = subst (λ l. position (is_named l) names ≡ None) e (none_of (place_of_name names name) new) in
-      cond-true (is_eq (slice_cmp nat_cmp name q)) (Some (length names)) (place_of_name names q) (ties_is name q ∙ same)
+      let none : position (is_named q) names ≡ None =
+      subst (λ l. position (is_named l) names ≡ None) e (none_of (place_of_name names name) new) in
+      cond-true (is_eq (slice_cmp nat_cmp name q)) (Some (length names)) (place_of_name names q)
+      (ties_is name q ∙ same)
       ∙ sym (place_new (is_named q) names name none same)
   | inr other ↦
-      cond-false (is_eq (slice_cmp nat_cmp name q)) (Some (length names)) (place_of_name names q) (ties_is name q ∙ other)
+      cond-false (is_eq (slice_cmp nat_cmp name q)) (Some (length names)) (place_of_name names q)
+      (ties_is name q ∙ other)
       ∙ sym (place_kept (is_named q) names name other)
 ]
 
 -- a name that isn't, and is put in at the next place
-pub name_new : (names : List (List ℕ)) (name : List ℕ) (old new : BTreeMap (Bor (List ℕ)) ℕ) (place : ℕ) → is_some (place_of_name names name) ≡ false
+pub name_new : (names : List (List ℕ)) (name : List ℕ) (old new : BTreeMap (Bor (List ℕ)) ℕ)
+    (place : ℕ)
+    → is_some (place_of_name names name) ≡ false
     → AreServices names old → place ≡ btree_map_len old
-    → ((q : Bor (List ℕ)) → get (λ x y. slice_cmp nat_cmp x.now y.now) new q ≡ cond (is_eq (slice_cmp nat_cmp name q.now)) (Some place) (get (λ x y. slice_cmp nat_cmp x.now y.now) old q))
+    → ((q : Bor (List ℕ))
+    → get (λ x y. slice_cmp nat_cmp x.now y.now) new q
+    ≡ cond (is_eq (slice_cmp nat_cmp name q.now)) (Some place)
+    (get (λ x y. slice_cmp nat_cmp x.now y.now) old q))
     → btree_map_len new ≡ btree_map_len old + 1
     → AreServices (with_name names name) new
 unfolding with_name
 name_new names name old new place fresh h at updates long =
-    subst (λ l. AreServices l new) (sym (cond-false (is_some (place_of_name names name)) names (names ++ name ∷ []) fresh))
+    subst (λ l. AreServices l new)
+    (sym (cond-false (is_some (place_of_name names name)) names (names ++ name ∷ []) fresh))
     (record {
       each = λ q.
           updates q
           ∙ ap (λ o. cond (is_eq (slice_cmp nat_cmp name q.now)) (Some place) o) (h.each q)
-          ∙ ap (λ p. cond (is_eq (slice_cmp nat_cmp name q.now)) (Some p) (place_of_name names q.now)) (at ∙ h.count)
+          ∙ ap
+          (λ p. cond (is_eq (slice_cmp nat_cmp name q.now)) (Some p) (place_of_name names q.now))
+          (at ∙ h.count)
           ∙ place_more names name q.now fresh;
       count = long ∙ ap (λ n. n + 1) h.count ∙ sym (length-append names (name ∷ []));
     })
 
 -- a map has one more, where the key wasn't there
-pub len_more : (new old : ℕ) (was : Option ℕ) → is_some was ≡ false → new ≡ old + cond (is_some was) 0 1 → new ≡ old + 1
+pub len_more : (new old : ℕ) (was : Option ℕ) → is_some was ≡ false
+    → new ≡ old + cond (is_some was) 0 1 → new ≡ old + 1
 len_more new old was none is = is ∙ ap (λ b. old + cond b 0 1) none
 
 -- the services of spans, with one span more
-pub services_more : {A : Type 0} (spans : List (Bor (ViewSpan A))) (i : ℕ) (x : Bor (ViewSpan A)) → i < length spans → x ≡ get_or spans i x
+pub services_more : {A : Type 0} (spans : List (Bor (ViewSpan A))) (i : ℕ) (x : Bor (ViewSpan A))
+    → i < length spans → x ≡ get_or spans i x
     → services_of (take (i + 1) spans) ≡ with_name (services_of (take i spans)) (service_of x.now)
 services_more spans i x within is =
     ap services_of (take_more spans i x within ∙ ap (λ s. take i spans ++ s ∷ []) (sym is))
     ∙ fold-append more_services [] (take i spans) (x ∷ [])
 
 -- those of none
-pub services_none : (places : BTreeMap (Bor (List ℕ)) ℕ) → places.entries ≡ [] → AreServices [] places
+pub services_none : (places : BTreeMap (Bor (List ℕ)) ℕ) → places.entries ≡ []
+    → AreServices [] places
 services_none places empty = record { each = λ q. rw empty refl; count = ap length empty }

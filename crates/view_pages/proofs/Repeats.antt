@@ -1,5 +1,7 @@
 -- How identifiers are used in a list of spans.
-use Rattle.std.proofs.Common.{◌≡◌, refl, sym, ap, subst, ◌∙◌, ℕ, suc, ◌+◌, ◌<◌, ◌≤◌, Bool, true, false, not, cond, nat_lt, ltb, inl, inr, Option, Some, None, List, [], ◌∷◌, ◌++◌, length, take, get_or, position, arith}
+use Rattle.std.proofs.Common.{◌≡◌, refl, sym, ap, subst, ◌∙◌, ℕ, suc, ◌+◌, ◌<◌, ◌≤◌, Bool, true}
+use Rattle.std.proofs.Common.{false, not, cond, nat_lt, ltb, inl, inr, Option, Some, None, List, []}
+use Rattle.std.proofs.Common.{◌∷◌, ◌++◌, length, take, get_or, position, arith}
 use Rattle.std.specs.Prelude.{count_by, option_map}
 use Rattle.std.specs.Borrow.{Bor}
 use Rattle.std.specs.BTreeMap.{BTreeMap}
@@ -17,11 +19,13 @@ use Rattle.trace_store.specs.declared.span.ViewSpan.{ViewSpan}
 use Rattle.view_pages.specs.Repeats.{AreUses, has_id, mark_by, mark_of, next_use, use_of}
 use Rattle.view_pages.specs.declared.repeat.Use.{Use}
 
-none_by : (b : Bool) (long first count : ℕ) → suc long ≤ cond (not b) (1 + first) 0 → (long ≤ first → count ≡ 0) → cond b 1 0 + count ≡ 0
+none_by : (b : Bool) (long first count : ℕ) → suc long ≤ cond (not b) (1 + first) 0
+    → (long ≤ first → count ≡ 0) → cond b 1 0 + count ≡ 0
 none_by true long first count h f = absurd (omega arith)
 none_by false long first count h f = let none : count ≡ 0 = f (omega arith) in omega arith
 
-some_by : (b : Bool) (long first count : ℕ) → cond (not b) (1 + first) 0 < suc long → (first < long → 1 ≤ count) → 1 ≤ cond b 1 0 + count
+some_by : (b : Bool) (long first count : ℕ) → cond (not b) (1 + first) 0 < suc long
+    → (first < long → 1 ≤ count) → 1 ≤ cond b 1 0 + count
 some_by true long first count h f = omega arith
 some_by false long first count h f = let some : 1 ≤ count = f (omega arith) in omega arith
 
@@ -36,7 +40,8 @@ module _ {X : Type 0} (p : X → Bool) where
   none_pass : (xs : List X) → length xs ≤ position_or_len p xs → count_by p xs ≡ 0
   none_pass [] h = refl
   none_pass (x ∷ xs) h =
-      sum_by-cons (λ x. cond (p x) 1 0) x xs ∙ none_by (p x) (length xs) (position_or_len p xs) (count_by p xs) h (none_pass xs)
+      sum_by-cons (λ x. cond (p x) 1 0) x xs
+      ∙ none_by (p x) (length xs) (position_or_len p xs) (count_by p xs) h (none_pass xs)
 
   some_pass : (xs : List X) → position_or_len p xs < length xs → 1 ≤ count_by p xs
   some_pass [] h = absurd (omega arith)
@@ -46,24 +51,32 @@ module _ {X : Type 0} (p : X → Bool) where
 
   count_none : (xs : List X) → position p xs ≡ None → count_by p xs ≡ 0
   count_none xs none = elim (cases_lt (position_or_len p xs) (length xs)) [
-    | inl less ↦ absurd (none-some (position_or_len p xs) (sym none ∙ cond-true (ltb (position_or_len p xs) (length xs)) (Some (position_or_len p xs)) None (lt-ltb (position_or_len p xs) (length xs) less)))
+    | inl less ↦
+        absurd (none-some (position_or_len p xs)
+        (sym none
+        ∙ cond-true (ltb (position_or_len p xs) (length xs)) (Some (position_or_len p xs)) None
+        (lt-ltb (position_or_len p xs) (length xs) less)))
     | inr all ↦ none_pass xs all
   ]
 
   count_some : (xs : List X) (i : ℕ) → position p xs ≡ Some i → 1 ≤ count_by p xs
   count_some xs i some =
-      some_pass xs (ltb-true (position_or_len p xs) (length xs) (cond_some (ltb (position_or_len p xs) (length xs)) (position_or_len p xs) i some).0)
+      some_pass xs
+      (ltb-true (position_or_len p xs) (length xs)
+      (cond_some (ltb (position_or_len p xs) (length xs)) (position_or_len p xs) i some).0)
 
   count_more : (xs : List X) (y : X) → count_by p (xs ++ y ∷ []) ≡ count_by p xs + cond (p y) 1 0
   count_more [] y = sum_by-cons (λ x. cond (p x) 1 0) y [] ∙ omega arith
   count_more (x ∷ xs) y =
       sum_by-cons (λ x. cond (p x) 1 0) x (xs ++ y ∷ [])
-      ∙ more_by (count_by p (xs ++ y ∷ [])) (cond (p y) 1 0) (count_by p xs) (cond (p x) 1 0) (count_more xs y)
+      ∙ more_by (count_by p (xs ++ y ∷ [])) (cond (p y) 1 0) (count_by p xs) (cond (p x) 1 0)
+      (count_more xs y)
       ∙ ap (λ n. n + cond (p y) 1 0) (sym (sum_by-cons (λ x. cond (p x) 1 0) x xs))
 
 -- a use by its two parts
 abbrev use_by : ℕ → Option ℕ → Option Use
-use_by count place = option_map (λ first. record { first = first; is_repeated = nat_lt 1 count }) place
+use_by count place =
+    option_map (λ first. record { first = first; is_repeated = nat_lt 1 count }) place
 
 more_is : (n : ℕ) → 1 ≤ n → nat_lt 1 (n + 1) ≡ true
 more_is n h = lt-ltb 1 (n + 1) (omega arith)
@@ -73,8 +86,11 @@ module _ {A : Type 0} (q : List ℕ) (xs : List (Bor (ViewSpan A))) (y : Bor (Vi
   use_kept : has_id q y ≡ false → use_of (xs ++ y ∷ []) q ≡ use_of xs q
   unfolding use_of
   use_kept hasnt =
-      let count : count_by (has_id q) (xs ++ y ∷ []) ≡ count_by (has_id q) xs = count_more (has_id q) xs y ∙ ap (λ b. count_by (has_id q) xs + cond b 1 0) hasnt ∙ omega arith in
-      ap (λ n. use_by n (position (has_id q) (xs ++ y ∷ []))) count ∙ ap (use_by (count_by (has_id q) xs)) (place_kept (has_id q) xs y hasnt)
+      let count : count_by (has_id q) (xs ++ y ∷ []) ≡ count_by (has_id q) xs =
+      count_more (has_id q) xs y ∙ ap (λ b. count_by (has_id q) xs + cond b 1 0) hasnt
+      ∙ omega arith in
+      ap (λ n. use_by n (position (has_id q) (xs ++ y ∷ []))) count
+      ∙ ap (use_by (count_by (has_id q) xs)) (place_kept (has_id q) xs y hasnt)
 
   count_yes : has_id q y ≡ true → count_by (has_id q) (xs ++ y ∷ []) ≡ count_by (has_id q) xs + 1
   count_yes has = count_more (has_id q) xs y ∙ ap (λ b. count_by (has_id q) xs + cond b 1 0) has
@@ -84,18 +100,23 @@ module _ {A : Type 0} (q : List ℕ) (xs : List (Bor (ViewSpan A))) (y : Bor (Vi
   unfolding use_of
   use_by_place has None none =
       ap (use_by (count_by (has_id q) (xs ++ y ∷ []))) (place_new (has_id q) xs y none has)
-      ∙ ap (λ n. use_by n (Some (length xs))) (count_yes has ∙ ap (λ n. n + 1) (count_none (has_id q) xs none))
+      ∙ ap (λ n. use_by n (Some (length xs)))
+      (count_yes has ∙ ap (λ n. n + 1) (count_none (has_id q) xs none))
   use_by_place has (Some i) some =
       ap (use_by (count_by (has_id q) (xs ++ y ∷ []))) (place_before (has_id q) xs y i some)
       ∙ ap (λ n. use_by n (Some i)) (count_yes has)
-      ∙ ap (λ b. Some (record { first = i; is_repeated = b })) (more_is (count_by (has_id q) xs) (count_some (has_id q) xs i some))
+      ∙ ap (λ b. Some (record { first = i; is_repeated = b }))
+      (more_is (count_by (has_id q) xs) (count_some (has_id q) xs i some))
 
-  use_again : has_id q y ≡ true → use_of (xs ++ y ∷ []) q ≡ Some (next_use (use_of xs q) (length xs))
+  use_again : has_id q y ≡ true
+      → use_of (xs ++ y ∷ []) q ≡ Some (next_use (use_of xs q) (length xs))
   unfolding use_of
   use_again has = use_by_place has (position (has_id q) xs) refl
 
 -- what a map of identifiers says, with one more span
-pub uses_more : {A : Type 0} (spans : List (Bor (ViewSpan A))) (i : ℕ) (x : Bor (ViewSpan A)) (q id : List ℕ) (old new before : Option Use) (v : Use) → i < length spans
+pub uses_more : {A : Type 0} (spans : List (Bor (ViewSpan A))) (i : ℕ) (x : Bor (ViewSpan A))
+    (q id : List ℕ) (old new before : Option Use) (v : Use)
+    → i < length spans
     → x ≡ get_or spans i x → id ≡ x.now.span.span_id.items
     → before ≡ use_of (take i spans) id → old ≡ use_of (take i spans) q
     → v ≡ next_use before i → new ≡ cond (is_eq (slice_cmp nat_cmp id q)) (Some v) old
@@ -103,7 +124,8 @@ pub uses_more : {A : Type 0} (spans : List (Bor (ViewSpan A))) (i : ℕ) (x : Bo
 uses_more spans i x q id old new before v within is of had was value more =
     let upto : i ≤ length spans = omega arith in
     let long : length (take i spans) ≡ i = length-take-le i spans upto in
-    let all : take (i + 1) spans ≡ take i spans ++ x ∷ [] = take_more spans i x within ∙ ap (λ s. take i spans ++ s ∷ []) (sym is) in
+    let all : take (i + 1) spans ≡ take i spans ++ x ∷ [] =
+    take_more spans i x within ∙ ap (λ s. take i spans ++ s ∷ []) (sym is) in
     elim (cases_Bool (bytes_eq id q)) [
       | inl same ↦
           let e : id ≡ q = (bytes_eq-Decides id q).0 same in
@@ -122,18 +144,21 @@ uses_more spans i x q id old new before v within is of had was value more =
           ∙ ap (λ l. use_of l q) (sym all)
     ]
 
-mark_at : {A : Type 0} (spans : List (Bor (ViewSpan A))) (id : List ℕ) (place : ℕ) (o : Option ℕ) → position (has_id id) spans ≡ o
+mark_at : {A : Type 0} (spans : List (Bor (ViewSpan A))) (id : List ℕ) (place : ℕ) (o : Option ℕ)
+    → position (has_id id) spans ≡ o
     → mark_by (use_by (count_by (has_id id) spans) o) place ≡ mark_of spans id place
 unfolding mark_of
 mark_at spans id place None none = rw (count_none (has_id id) spans none, none) refl
 mark_at spans id place (Some i) some = rw some refl
 
 -- what a row says of an identifier, by its use
-pub mark_of_use : {A : Type 0} (spans : List (Bor (ViewSpan A))) (id : List ℕ) (place : ℕ) → mark_by (use_of spans id) place ≡ mark_of spans id place
+pub mark_of_use : {A : Type 0} (spans : List (Bor (ViewSpan A))) (id : List ℕ) (place : ℕ)
+    → mark_by (use_of spans id) place ≡ mark_of spans id place
 unfolding use_of
 mark_of_use spans id place = mark_at spans id place (position (has_id id) spans) refl
 
 -- a map with no entries says that no span has an identifier
-pub uses_none : {A : Type 0} (uses : BTreeMap (Bor (List ℕ)) Use) → uses.entries ≡ [] → AreUses {A = A} [] uses
+pub uses_none : {A : Type 0} (uses : BTreeMap (Bor (List ℕ)) Use) → uses.entries ≡ []
+    → AreUses {A = A} [] uses
 unfolding use_of
 uses_none uses empty = record { each = λ id. rw empty refl }

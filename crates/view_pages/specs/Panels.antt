@@ -48,7 +48,8 @@ event_name_html start event =
 -- an event, with when it was, and its attributes (opentelemetry-proto, trace.proto: Span.Event)
 unfoldable pub event_html : {A : Type 0} → ℕ → Event A → Html
 event_html start event =
-    event_name_html start event ▹ dropped_html event.dropped_attributes_count ▹ Markup (codes "</h5>")
+    event_name_html start event ▹ dropped_html event.dropped_attributes_count
+    ▹ Markup (codes "</h5>")
     ▹ list_html event.attributes.items
 
 unfoldable pub events_html : {A : Type 0} → Span A → Html

@@ -1,6 +1,7 @@
 -- The rows of the page of a trace.
 use Rattle.std.specs.Prelude.{ℕ, ◌+◌, ◌-◌, ◌^◌, ◌==◌, min, Bool, true, false, if◌then◌else◌, Option}
-use Rattle.std.specs.Prelude.{Some, None, option_map, List, length, map, codes, slice_get, string_bytes}
+use Rattle.std.specs.Prelude.{Some, None, option_map, List, length, map, codes, slice_get}
+use Rattle.std.specs.Prelude.{string_bytes}
 use Rattle.std.specs.Borrow.{Bor}
 use Rattle.otlp_read.specs.declared.span.Event.{Event}
 use Rattle.otlp_read.specs.declared.span.Span.{Span}

@@ -3,7 +3,8 @@ use Rattle.std.proofs.Common.{◌≡◌, ◌∙◌, List, ◌++◌, ap}
 use Rattle.std.proofs.lemmas.List.{append_assoc}
 
 -- Two lists, appended one after the other, are appended together.
-pub add_two : {X : Type 0} (l0 l1 l2 a b : List X) → l1 ≡ l0 ++ a → l2 ≡ l1 ++ b → l2 ≡ l0 ++ (a ++ b)
+pub add_two : {X : Type 0} (l0 l1 l2 a b : List X) → l1 ≡ l0 ++ a → l2 ≡ l1 ++ b
+    → l2 ≡ l0 ++ (a ++ b)
 add_two l0 l1 l2 a b e1 e2 = e2 ∙ ap (λ l. l ++ b) e1 ∙ append_assoc l0 a b
 
 -- Three lists, appended one after the other, are appended together.

@@ -1,4 +1,5 @@
--- In what an answer is written, and the fields that say so. (RFC 9110, section 8.3; Content Security
+-- In what an answer is written, and the fields that say so. (RFC 9110, section 8.3; Content
+-- Security
 -- Policy Level 3; Referrer Policy; which fields: profile)
 use Rattle.std.specs.Prelude.{ℕ, List, [], ◌∷◌, ◌++◌, codes}
 use Rattle.http1.specs.Fields.{Header}

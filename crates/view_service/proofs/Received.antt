@@ -8,32 +8,49 @@ use Rattle.view_reply.specs.Requests.{denial_format}
 use Rattle.view_reply.specs.declared.denial.Denial.{Denial}
 use Rattle.view_reply.specs.declared.denial.Denial.TheVariants as denials
 use Rattle.view_reply.specs.declared.format.Format.{Format}
-use Rattle.view_service.specs.Receives.{AnswersExport, Giving, HasParts, IsUnread, Keeping, Parts, Receives, denial_of, post_of, size_of_body}
+use Rattle.view_service.specs.Receives.{AnswersExport, Giving, HasParts, IsUnread, Keeping, Parts}
+use Rattle.view_service.specs.Receives.{Receives, denial_of, post_of, size_of_body}
 use Rattle.view_service.specs.declared.receive.Unread.TheVariants as reasons
 
-module _ {A K : Type 0} (keeps : Keeping A K) (gives_up : Giving K) (old : K) (request : Request (List ℕ)) (room : ℕ)
-    (response : Response) (new : K) (format : Format) (is : format ≡ denial_format (Some (head_of request))) where
+module _ {A K : Type 0} (keeps : Keeping A K) (gives_up : Giving K) (old : K)
+    (request : Request (List ℕ)) (room : ℕ)
+    (response : Response) (new : K) (format : Format)
+    (is : format ≡ denial_format (Some (head_of request))) where
   -- A post that is denied is answered with its denial, and the keeper stays as it is.
-  pub is_refused : (denial : Denial) → denial_of (post_of request) room ≡ Some denial → IsDenial denial format response
+  pub is_refused : (denial : Denial) → denial_of (post_of request) room ≡ Some denial
+      → IsDenial denial format response
       → new ≡ old → AnswersExport keeps gives_up old request room response new
-  is_refused denial why answer same =
-      (Some denial, Receives.refused denial why refl same, subst (λ f. IsDenial denial f response) is answer)
+  is_refused denial why answer same = (
+    Some denial,
+    Receives.refused denial why refl same,
+    subst (λ f. IsDenial denial f response) is answer,
+  )
 
   -- A post whose body has a fault is answered as a bad body, and the keeper stays as it is.
-  pub is_unread : denial_of (post_of request) room ≡ None → IsUnread (post_of request).body reasons.Fault
+  pub is_unread : denial_of (post_of request) room ≡ None
+      → IsUnread (post_of request).body reasons.Fault
       → IsDenial denials.BadBody format response → new ≡ old
       → AnswersExport keeps gives_up old request room response new
-  is_unread why unread answer same =
-      (Some denials.BadBody, Receives.unread why unread refl same, subst (λ f. IsDenial denials.BadBody f response) is answer)
+  is_unread why unread answer same = (
+    Some denials.BadBody,
+    Receives.unread why unread refl same,
+    subst (λ f. IsDenial denials.BadBody f response) is answer,
+  )
 
   -- A post for which memory is missing is answered so, after the keeper gave up its oldest traces.
-  pub is_busy : denial_of (post_of request) room ≡ None → IsDenial denials.OutOfMemory format response
+  pub is_busy : denial_of (post_of request) room ≡ None
+      → IsDenial denials.OutOfMemory format response
       → gives_up old (size_of_body (post_of request).body) new
       → AnswersExport keeps gives_up old request room response new
-  is_busy why answer gave =
-      (Some denials.OutOfMemory, Receives.no_memory why refl gave, subst (λ f. IsDenial denials.OutOfMemory f response) is answer)
+  is_busy why answer gave = (
+    Some denials.OutOfMemory,
+    Receives.no_memory why refl gave,
+    subst (λ f. IsDenial denials.OutOfMemory f response) is answer,
+  )
 
   -- A post whose body has parts is answered with success, where the keeper keeps these parts.
-  pub is_kept : (parts : Parts A) → denial_of (post_of request) room ≡ None → HasParts (post_of request).body parts
-      → IsSuccess response → keeps old parts new → AnswersExport keeps gives_up old request room response new
+  pub is_kept : (parts : Parts A) → denial_of (post_of request) room ≡ None
+      → HasParts (post_of request).body parts
+      → IsSuccess response → keeps old parts new
+      → AnswersExport keeps gives_up old request room response new
   is_kept parts why has answer kept = (None, Receives.kept parts why has refl kept, answer)

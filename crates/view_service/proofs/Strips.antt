@@ -9,6 +9,7 @@ pub left_between : (front end path rest left digits : List ℕ)
     → path ≡ front ++ (digits ++ end) → left ≡ digits
 left_between front end path rest left digits prefix suffix is =
     let whole : path ≡ front ++ rest = prefix.1.1 ∙ ap (λ l. front ++ l) (sym prefix.2) in
-    let same : rest ≡ digits ++ end = append_cancel_left front rest (digits ++ end) (sym whole ∙ is) in
+    let same : rest ≡ digits ++ end =
+    append_cancel_left front rest (digits ++ end) (sym whole ∙ is) in
     let cut : rest ≡ left ++ end = suffix.1.1 ∙ ap (λ l. l ++ end) (sym suffix.2) in
     append_cancel_right left digits end (sym cut ∙ same)

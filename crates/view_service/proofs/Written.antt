@@ -7,6 +7,7 @@ of_ok (Ok x) h a = a
 of_ok (Err e) h a = cc
 
 -- What holds of a result's value carries over to whatever follows from it.
-pub if_ok : {T E : Type 0} {P Q : T → Type 0} (r : Result T E) → IfOk r P → ((x : T) → P x → Q x) → IfOk r Q
+pub if_ok : {T E : Type 0} {P Q : T → Type 0} (r : Result T E) → IfOk r P → ((x : T) → P x → Q x)
+    → IfOk r Q
 if_ok (Ok x) a f = f x a
 if_ok (Err e) a f = a

@@ -11,7 +11,8 @@ use Rattle.trace_store.specs.Digests.{TraceFacts}
 use Rattle.trace_store.specs.declared.span.ViewSpan.{ViewSpan}
 
 -- A trace with these facts and this root passes the tests of a filter but that of its services: the
--- root's name begins as is asked for, the trace took as long, and has an error if that is asked for.
+-- root's name begins as is asked for, the trace took as long, and has an error if that is asked
+-- for.
 abbrev pub takes_root : {A : Type 0} → Filter A → TraceFacts (ViewSpan A) → Option (ViewSpan A)
     → Bool
 takes_root filter facts None = false

@@ -103,7 +103,8 @@ page_denial route method = if is_read method then None else Some denials.PageMet
 
 module _ {K P R S : Type 0} (lends : Lending K S) (draws : Drawing P S) (writes : Writing R)
     (keeper : K) (pages : P) where
-  -- A trace is shown where the keeper lends its spans: all that it lends, and no others. Whatever is
+  -- A trace is shown where the keeper lends its spans: all that it lends, and no others. Whatever
+  -- is
   -- written of it is that. It is missing where the keeper lends nothing.
   abbrev pub ShowsTrace : TraceForm → ℕ → Shown → List ℕ → Option R → Type 0
   ShowsTrace form trace outcomes.Page body (Some rest) =

@@ -1,5 +1,6 @@
 -- Heads that are written out, and texts that have none.
-use Rattle.std.proofs.Common.{◌≡◌, ℕ, zero, suc, nat_lt, Bool, true, false, ◌&&◌, ◌||◌, ◌==◌, List, [], ◌∷◌, ◌++◌, length, replicate, refl, sym, ap, ◌∙◌, arith, codes}
+use Rattle.std.proofs.Common.{◌≡◌, ℕ, zero, suc, nat_lt, Bool, true, false, ◌&&◌, ◌||◌, ◌==◌, List}
+use Rattle.std.proofs.Common.{[], ◌∷◌, ◌++◌, length, replicate, refl, sym, ap, ◌∙◌, arith, codes}
 use Rattle.std.specs.Prelude.{All, Option, Some, Result, nat_le}
 use Rattle.std.specs.List.{list_all, list_any, flat_map}
 use Rattle.std.specs.Char.{is_ascii_digit}
@@ -7,7 +8,10 @@ use Rattle.std.specs.Io.KnownBytes.{Consumes}
 use Rattle.std.proofs.lemmas.List.Sums.{AllPass-from_list_all}
 use Rattle.std.proofs.lemmas.List.Elements.{All-cons, All-nil}
 use Rattle.std.proofs.lemmas.Bool.{leb-true, ltb-true, eqb-true, false≢true}
-use Rattle.httparse.specs.Grammar.{LineEnd, crlf, lf, print_blank, print_version, Field, IsField, is_token, is_token_byte, is_value_byte, ResponseHead, IsResponseHead, print_response, reason_phrase, status_code, HasNoResponse, NeverHasResponse}
+use Rattle.httparse.specs.Grammar.{LineEnd, crlf, lf, print_blank, print_version, Field, IsField}
+use Rattle.httparse.specs.Grammar.{is_token, is_token_byte, is_value_byte, ResponseHead}
+use Rattle.httparse.specs.Grammar.{IsResponseHead, print_response, reason_phrase, status_code}
+use Rattle.httparse.specs.Grammar.{HasNoResponse, NeverHasResponse}
 use Rattle.httparse.proofs.GrammarLemmas.{print_response-append}
 use Rattle.http_header.specs.FieldName.{is_field_name}
 use Rattle.http_header.specs.Token.{is_value_byte as is_kept_byte}
@@ -28,14 +32,16 @@ both true b e = (refl, e)
 both false b e = absurd (false≢true e)
 
 -- Each item of a list whose items all pass a test is as the test says.
-pub all_of : {A : Type 0} (P : A → Type 0) (test : A → Bool) → ((x : A) → test x ≡ true → P x) → (xs : List A) → list_all test xs ≡ true → All P xs
+pub all_of : {A : Type 0} (P : A → Type 0) (test : A → Bool) → ((x : A) → test x ≡ true → P x)
+    → (xs : List A) → list_all test xs ≡ true → All P xs
 all_of P test one [] e = All-nil P
 all_of P test one (x ∷ xs) e =
     let parts = both (test x) (list_all test xs) e in
     All-cons P x xs (one x parts.0) (all_of P test one xs parts.1)
 
 -- What holds of an item holds of each item of a list of copies of it.
-pub all_equal : {A : Type 0} (P : A → Type 0) (x : A) → P x → (count : ℕ) → All P (replicate count x)
+pub all_equal : {A : Type 0} (P : A → Type 0) (x : A) → P x → (count : ℕ)
+    → All P (replicate count x)
 all_equal P x is zero = All-nil P
 all_equal P x is (suc count) = All-cons P x (replicate count x) is (all_equal P x is count)
 
@@ -47,29 +53,41 @@ pub field_is : (f : Field) → is_field f ≡ true → IsField f
 field_is f e =
     let parts = both (is_token f.name) (list_all is_value_byte f.raw) e in
     let name = both (nat_lt 0 (length f.name)) (list_all is_token_byte f.name) parts.0 in
-    record { name = (ltb-true 0 (length f.name) name.0, AllPass-from_list_all is_token_byte f.name name.1); raw = AllPass-from_list_all is_value_byte f.raw parts.1 }
+    record {
+      name = (ltb-true 0 (length f.name) name.0, AllPass-from_list_all is_token_byte f.name name.1);
+      raw = AllPass-from_list_all is_value_byte f.raw parts.1;
+    }
 
 abbrev pub is_head : ResponseHead → Bool
 is_head h =
     (nat_le h.minor 1 && length h.digits == 3)
-    && ((list_all is_ascii_digit h.digits && list_all is_value_byte (reason_phrase h.reason)) && list_all is_field h.fields)
+    && ((list_all is_ascii_digit h.digits && list_all is_value_byte (reason_phrase h.reason))
+    && list_all is_field h.fields)
 
 -- A head that passes the test is the head of a response.
 pub head_is : (h : ResponseHead) → is_head h ≡ true → IsResponseHead h
 head_is h e =
     let parts = both (nat_le h.minor 1 && length h.digits == 3) _ e in
     let first = both (nat_le h.minor 1) (length h.digits == 3) parts.0 in
-    let rest = both (list_all is_ascii_digit h.digits && list_all is_value_byte (reason_phrase h.reason)) (list_all is_field h.fields) parts.1 in
-    let texts = both (list_all is_ascii_digit h.digits) (list_all is_value_byte (reason_phrase h.reason)) rest.0 in
+    let rest =
+    both (list_all is_ascii_digit h.digits && list_all is_value_byte (reason_phrase h.reason))
+    (list_all is_field h.fields) parts.1 in
+    let texts =
+    both (list_all is_ascii_digit h.digits)
+    (list_all is_value_byte (reason_phrase h.reason)) rest.0 in
     record {
       minor = leb-true h.minor 1 first.0;
-      digits = (eqb-true (length h.digits) 3 first.1, AllPass-from_list_all is_ascii_digit h.digits texts.0);
+      digits = (
+        eqb-true (length h.digits) 3 first.1,
+        AllPass-from_list_all is_ascii_digit h.digits texts.0,
+      );
       reason = AllPass-from_list_all is_value_byte (reason_phrase h.reason) texts.1;
       fields = all_of IsField is_field field_is h.fields rest.1;
     }
 
 -- A head that passes the test and is short enough is the text of a head within the limits.
-pub head_text : (limits : HeadLimits) (h : ResponseHead) → is_head h ≡ true → nat_le (length (print_response h)) limits.head ≡ true
+pub head_text : (limits : HeadLimits) (h : ResponseHead) → is_head h ≡ true
+    → nat_le (length (print_response h)) limits.head ≡ true
     → nat_le (length h.fields) limits.fields ≡ true → IsHeadText limits (print_response h) h
 head_text limits h e bytes fields = record {
   valid = head_is h e;
@@ -96,19 +114,39 @@ field name raw = record { name = name; raw = raw; end = crlf }
 
 -- a head of HTTP/1.1 with that status, reason and one field
 abbrev pub answered : List ℕ → List ℕ → Field → ResponseHead
-answered digits reason one = record { blank = []; minor = 1; digits = digits; reason = Some reason; line_end = crlf; fields = one ∷ []; last = crlf }
+answered digits reason one = record {
+  blank = [];
+  minor = 1;
+  digits = digits;
+  reason = Some reason;
+  line_end = crlf;
+  fields = one ∷ [];
+  last = crlf;
+}
 
 -- the head that is `continue`
 abbrev pub interim : ResponseHead
-interim = record { blank = []; minor = 1; digits = codes "100"; reason = Some (codes "Continue"); line_end = crlf; fields = []; last = crlf }
+interim = record {
+  blank = [];
+  minor = 1;
+  digits = codes "100";
+  reason = Some (codes "Continue");
+  line_end = crlf;
+  fields = [];
+  last = crlf;
+}
 
 -- A head that is written out, after interim heads, and a body after it are a reply.
-pub replied : (interims : List ResponseHead) (head : ResponseHead) (taken : List ℕ) {bytes left : List ℕ} {status : ℕ} {wait : Option RetryAfter} {body : Result (List ℕ) HttpFault}
+pub replied : (interims : List ResponseHead) (head : ResponseHead) (taken : List ℕ)
+    {bytes left : List ℕ} {status : ℕ} {wait : Option RetryAfter} {body : Result (List ℕ) HttpFault}
     → All (IsInterim usual) interims → nat_le (length interims) 16 ≡ true
-    → Consumes (Some bytes) (Some left) (flat_map print_response interims ++ (print_response head ++ taken))
-    → is_head head ≡ true → nat_le (length (print_response head)) usual.head ≡ true → nat_le (length head.fields) usual.fields ≡ true
+    → Consumes (Some bytes) (Some left)
+    (flat_map print_response interims ++ (print_response head ++ taken))
+    → is_head head ≡ true → nat_le (length (print_response head)) usual.head ≡ true
+    → nat_le (length head.fields) usual.fields ≡ true
     → nat_le 200 (status_code head) ≡ true → list_all is_taken (fields_of head) ≡ true
-    → status ≡ status_code head → wait ≡ retry_after (values_of (codes "retry-after") (fields_of head))
+    → status ≡ status_code head
+    → wait ≡ retry_after (values_of (codes "retry-after") (fields_of head))
     → IsBody (framing_of (status_code head) (fields_of head)) usual taken (Some left) ⊥ body
     → AreReply bytes left status wait body
 replied interims head taken each few comes is bytes fields above kept status wait body = record {
@@ -117,7 +155,10 @@ replied interims head taken each few comes is bytes fields above kept status wai
   taken = taken;
   comes = record { each = each; few = leb-true (length interims) 16 few; taken = comes };
   valid = head_text usual head is bytes fields;
-  final = λ interim. let from = leb-true 200 (status_code head) above in let below = interim.1 in omega (arith, from, below);
+  final =
+      λ interim. let from = leb-true 200 (status_code head) above in
+      let below = interim.1 in
+      omega (arith, from, below);
   kept = all_taken (fields_of head) kept;
   status = status;
   wait = wait;
@@ -136,18 +177,23 @@ or_true false = refl
 -- A text with a line feed in it passes the test for a line feed.
 pub line_feed_in : (front rest : List ℕ) → list_any is_line_feed ((front ++ 10 ∷ []) ++ rest) ≡ true
 line_feed_in [] rest = refl
-line_feed_in (b ∷ front) rest = ap (λ t. is_line_feed b || t) (line_feed_in front rest) ∙ or_true (is_line_feed b)
+line_feed_in (b ∷ front) rest =
+    ap (λ t. is_line_feed b || t) (line_feed_in front rest) ∙ or_true (is_line_feed b)
 
 -- A text without a line feed has no head of a response at its front.
 pub no_line : (text : List ℕ) → list_any is_line_feed text ≡ false → HasNoResponse text
 no_line text none h rest reads =
     let ends = head_ends h in
-    false≢true (sym none ∙ ap (list_any is_line_feed) (reads.1 ∙ ap (λ t. t ++ rest) ends.1) ∙ line_feed_in ends.0 rest)
+    false≢true (sym none ∙ ap (list_any is_line_feed) (reads.1 ∙ ap (λ t. t ++ rest) ends.1)
+    ∙ line_feed_in ends.0 rest)
 
-begins_not : (blank : List LineEnd) (minor : ℕ) (after more : List ℕ) → 120 ∷ more ≡ print_blank blank ++ (print_version minor ++ after) → ⊥
+begins_not : (blank : List LineEnd) (minor : ℕ) (after more : List ℕ)
+    → 120 ∷ more ≡ print_blank blank ++ (print_version minor ++ after) → ⊥
 begins_not [] minor after more e = let heads : ◌≡◌ {A = ℕ} 120 72 = cc in omega (arith, heads)
-begins_not (crlf ∷ blank) minor after more e = let heads : ◌≡◌ {A = ℕ} 120 13 = cc in omega (arith, heads)
-begins_not (lf ∷ blank) minor after more e = let heads : ◌≡◌ {A = ℕ} 120 10 = cc in omega (arith, heads)
+begins_not (crlf ∷ blank) minor after more e =
+    let heads : ◌≡◌ {A = ℕ} 120 13 = cc in omega (arith, heads)
+begins_not (lf ∷ blank) minor after more e =
+    let heads : ◌≡◌ {A = ℕ} 120 10 = cc in omega (arith, heads)
 
 -- No head of a response begins with an x.
 pub no_x : NeverHasResponse (codes "x")

@@ -1,5 +1,6 @@
 -- Texts of heads, taken apart by hand.
-use Rattle.std.proofs.Common.{◌≡◌, ◌≢◌, ℕ, Bool, true, false, ◌||◌, ◌==◌, List, [], ◌∷◌, ◌++◌, length, refl, sym, ap, ◌∙◌, arith, inl, inr}
+use Rattle.std.proofs.Common.{◌≡◌, ◌≢◌, ℕ, Bool, true, false, ◌||◌, ◌==◌, List, [], ◌∷◌, ◌++◌}
+use Rattle.std.proofs.Common.{length, refl, sym, ap, ◌∙◌, arith, inl, inr}
 use Rattle.std.proofs.lemmas.Bool.{false≢true}
 use Rattle.httparse.specs.Grammar.{LineEnd, crlf, lf, print_blank}
 use Rattle.http_wire.specs.declared.place.LinePart.{LinePart}
@@ -38,7 +39,8 @@ not_empty first second rest (inl e) = let sizes = ap length e in omega (arith, s
 not_empty first second rest (inr e) = let sizes = ap length e in omega (arith, sizes)
 
 -- After a line feed and a part of a line, a head is at this part of a line.
-pub at_place : (front line : List ℕ) (begun : Bool) (part : LinePart) → has_feed line ≡ false → HasBegun begun (front ++ 10 ∷ []) → IsPart part line
+pub at_place : (front line : List ℕ) (begun : Bool) (part : LinePart) → has_feed line ≡ false
+    → HasBegun begun (front ++ 10 ∷ []) → IsPart part line
     → IsPlace ((front ++ 10 ∷ []) ++ line) (record { begun = begun; line = part })
 at_place front line begun part none has is = record {
   lines = front ++ 10 ∷ [];
@@ -51,7 +53,8 @@ at_place front line begun part none has is = record {
 }
 
 -- Before the first line feed, a head is within its first line.
-pub at_first : (line : List ℕ) → has_feed line ≡ false → ¬ (IsEmptyLine line) → IsPlace line (record { begun = false; line = parts.Text })
+pub at_first : (line : List ℕ) → has_feed line ≡ false → ¬ (IsEmptyLine line)
+    → IsPlace line (record { begun = false; line = parts.Text })
 at_first line none filled = record {
   lines = [];
   line = line;

@@ -10,13 +10,20 @@ use Rattle.model_run.proofs.More.{answers-more}
 use Rattle.worked_run.specs.Worked.{is_sent, history_after, history}
 
 -- A history whose answers are right has right answers after more steps of the definition.
-pub history-after-right : (run : RunConfig) (scarce : List ℕ) (before : List Answered) (outcomes : List Outcome) (steps : List Step) → AreAnswers run before → AreAnswers run (history_after run scarce before outcomes steps)
+pub history-after-right : (run : RunConfig) (scarce : List ℕ) (before : List Answered)
+    (outcomes : List Outcome) (steps : List Step)
+    → AreAnswers run before → AreAnswers run (history_after run scarce before outcomes steps)
 unfolding history_after AreAnswers
 history-after-right run scarce before outcomes [] w = w
 history-after-right run scarce before outcomes (step ∷ later) w =
-    let given : Given = record { refused = list_any (λ place. place == length before) scarce; outcome = first_or Outcome.delivered outcomes } in
+    let given : Given =
+    record {
+      refused = list_any (λ place. place == length before) scarce;
+      outcome = first_or Outcome.delivered outcomes;
+    } in
     let x : Answered = record { step = step; answer = answer_to run before given step } in
-    history-after-right run scarce (before ++ x ∷ []) (if is_sent x.answer then drop 1 outcomes else outcomes) later
+    history-after-right run scarce (before ++ x ∷ [])
+    (if is_sent x.answer then drop 1 outcomes else outcomes) later
     (answers-more run before x w (record { given = given; is = refl }))
 
 -- Each answer in a history by the definition is right.

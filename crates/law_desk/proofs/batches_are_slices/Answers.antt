@@ -2,4 +2,9 @@ use Rattle.law_desk.proofs.Batches.{batches-first, batches-stay, batches-are-tak
 use Rattle.law_desk.proofs.batches_are_slices.Goals as goal
 
 pub returns : goal.returns
-returns c = record { first = batches-first; stay = batches-stay; all = batches-are-taken; last = last-is-last }
+returns c = record {
+  first = batches-first;
+  stay = batches-stay;
+  all = batches-are-taken;
+  last = last-is-last;
+}

@@ -2,4 +2,9 @@ use Rattle.law_desk.proofs.Counts.{tickets-add-up, accepted-add-up, taken-add-up
 use Rattle.law_desk.proofs.counts_add_up.Goals as goal
 
 pub returns : goal.returns
-returns c = record { tickets = tickets-add-up; accepted = accepted-add-up; taken = taken-add-up; waiting = queue-bounded }
+returns c = record {
+  tickets = tickets-add-up;
+  accepted = accepted-add-up;
+  taken = taken-add-up;
+  waiting = queue-bounded;
+}

@@ -3,4 +3,9 @@ use Rattle.law_desk.proofs.Losses.{losses-handed, reasons-apart}
 use Rattle.law_desk.proofs.ledger_names_the_losses.Goals as goal
 
 pub returns : goal.returns
-returns c = record { unpopped = lost-names-all; popped = lost-add-up; handed = losses-handed; apart = reasons-apart }
+returns c = record {
+  unpopped = lost-names-all;
+  popped = lost-add-up;
+  handed = losses-handed;
+  apart = reasons-apart;
+}

@@ -1,4 +1,5 @@
-use Rattle.law_run.proofs.Attempts.{attempts-are-numbered, attempts-are-in-order, attempts-are-few, attempts-are-five, no-attempt-is-early, replies-are-decided}
+use Rattle.law_run.proofs.Attempts.{attempts-are-numbered, attempts-are-in-order, attempts-are-few}
+use Rattle.law_run.proofs.Attempts.{attempts-are-five, no-attempt-is-early, replies-are-decided}
 use Rattle.law_run.proofs.attempts_are_answered.Goals as goal
 
 pub returns : goal.returns

@@ -1,5 +1,10 @@
-use Rattle.law_run.proofs.Encodings.{encoded-where-it-fits, dropped-unencoded, dropped-batch-is-named}
+use Rattle.law_run.proofs.Encodings.{encoded-where-it-fits, dropped-unencoded}
+use Rattle.law_run.proofs.Encodings.{dropped-batch-is-named}
 use Rattle.law_run.proofs.encodings_are_answered.Goals as goal
 
 pub returns : goal.returns
-returns c = record { fits = encoded-where-it-fits; dropped = dropped-unencoded; named = dropped-batch-is-named }
+returns c = record {
+  fits = encoded-where-it-fits;
+  dropped = dropped-unencoded;
+  named = dropped-batch-is-named;
+}

@@ -2,4 +2,5 @@ use Rattle.law_run.proofs.Steps.{waiting-are-ended, batches-are-ended, drops-nam
 use Rattle.law_run.proofs.queued_spans_are_ended.Goals as goal
 
 pub returns : goal.returns
-returns c = record { waiting = waiting-are-ended; batches = batches-are-ended; drops = drops-name-ended }
+returns c =
+    record { waiting = waiting-are-ended; batches = batches-are-ended; drops = drops-name-ended }

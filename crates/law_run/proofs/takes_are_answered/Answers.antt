@@ -3,4 +3,5 @@ use Rattle.law_run.proofs.Steps.{taken-after-shutdown}
 use Rattle.law_run.proofs.takes_are_answered.Goals as goal
 
 pub returns : goal.returns
-returns c = record { due = taken-where-due; first = takes-the-first; shutdown = taken-after-shutdown }
+returns c =
+    record { due = taken-where-due; first = takes-the-first; shutdown = taken-after-shutdown }

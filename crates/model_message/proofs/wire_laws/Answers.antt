@@ -5,4 +5,8 @@ use Rattle.model_message.proofs.RowLaws.{row-spelled}
 use Rattle.model_message.proofs.wire_laws.Goals as goal
 
 pub returns : goal.returns
-returns c = record { varint = prefix-free _ _ takes-number; field = prefix-free _ _ takes-field; row = row-spelled }
+returns c = record {
+  varint = prefix-free _ _ takes-number;
+  field = prefix-free _ _ takes-field;
+  row = row-spelled;
+}

@@ -6,4 +6,5 @@ use Rattle.otlp_ids.proofs.fill_with_words.Given as goal
 
 abbrev pub invariant-words : goal.invariant-words
 invariant-words g l =
-    (take (8 * l.i) l.bytes, g.R.Rng.stream l.rng) ≡ word_bytes (to_be_bytes w64) next_u64 l.i (g.R.Rng.stream l.fn.rng)
+    (take (8 * l.i) l.bytes, g.R.Rng.stream l.rng)
+    ≡ word_bytes (to_be_bytes w64) next_u64 l.i (g.R.Rng.stream l.fn.rng)

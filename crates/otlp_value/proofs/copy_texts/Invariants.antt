@@ -3,4 +3,5 @@ use Rattle.otlp_value.proofs.copy_texts.Given as goal
 
 -- The texts so far are copied.
 abbrev pub invariant-loop-text : goal.invariant-loop-text
-invariant-loop-text g l = map string_bytes l.copied.items ≡ map string_bytes (take l.text-index l.texts)
+invariant-loop-text g l =
+    map string_bytes l.copied.items ≡ map string_bytes (take l.text-index l.texts)

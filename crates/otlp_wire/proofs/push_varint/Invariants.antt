@@ -1,4 +1,5 @@
-use Rattle.std.proofs.Common.{◌≡◌, ◌≤◌, ◌<◌, ◌+◌, ◌^◌, ℕ, suc, ◌++◌, length, Vec, vec_len, vec_capacity}
+use Rattle.std.proofs.Common.{◌≡◌, ◌≤◌, ◌<◌, ◌+◌, ◌^◌, ℕ, suc, ◌++◌, length, Vec, vec_len}
+use Rattle.std.proofs.Common.{vec_capacity}
 use Rattle.model_message.specs.Canon.{septets_of, shortest}
 use Rattle.otlp_wire.proofs.push_varint.Given as goal
 

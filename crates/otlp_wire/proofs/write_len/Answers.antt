@@ -9,6 +9,10 @@ pub returns-clause-spelled : goal.returns-clause-spelled
 unfolding payload_bytes
 returns-clause-spelled g c = let bytes = c.args.bytes.now in record {
   spelling = payload_bytes (Wire.len bytes);
-  spells = record { size = shortest (length bytes); count = shortest-is (length bytes) (omega arith); whole = refl };
+  spells = record {
+    size = shortest (length bytes);
+    count = shortest-is (length bytes) (omega arith);
+    whole = refl;
+  };
   whole = grind (arith, common_steps);
 }

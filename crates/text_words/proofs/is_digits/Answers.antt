@@ -7,5 +7,6 @@ use Rattle.text_words.proofs.is_digits.Goals as goal
 
 pub returns : goal.returns
 returns c =
-    all_from_yields_List is_ascii_digit _ _ _ c.all.ensures.ran (YieldsList-from_slice c.args.word.now c.iter.ensures.rest) (λ x b q k. search (rules, tests))
+    all_from_yields_List is_ascii_digit _ _ _ c.all.ensures.ran
+    (YieldsList-from_slice c.args.word.now c.iter.ensures.rest) (λ x b q k. search (rules, tests))
     ∙ all_digits c.args.word.now

@@ -9,6 +9,8 @@ use Rattle.batch_processor.proofs.steps.settled_of.Goals as goal
 
 pub returns-in-None : goal.returns-in-None
 returns-in-None g c =
-    let fate = fate_view c.args.fate in let none = ap (option_map reason_view) (sym c.in-None.is) ∙ c.loss_reason.ensures in
+    let fate = fate_view c.args.fate in
+    let none = ap (option_map reason_view) (sym c.in-None.is) ∙ c.loss_reason.ensures in
     c.into_settled-in-None.ensures ∙ ap (settled_batch fate) c.clear_into.ensures.batch
-    ∙ ap (λ (es : List Entry). record (settled_batch fate c.args.batch) { entries = es }) (none-lost fate _ none ∙ sym (none-lost fate c.args.batch.spans none))
+    ∙ ap (λ (es : List Entry). record (settled_batch fate c.args.batch) { entries = es })
+    (none-lost fate _ none ∙ sym (none-lost fate c.args.batch.spans none))

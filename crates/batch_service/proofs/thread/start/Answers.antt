@@ -9,11 +9,16 @@ use Rattle.batch_service.proofs.thread.start.Goals as goal
 pub spawn_with-started-requires-send-F : goal.spawn_with-started-requires-send-F
 spawn_with-started-requires-send-F g c κs within =
     let b = c.type_bounds in
-    let w = thread_send (param 0 g.row.J) g.J.Naming (copied 1 g.row.R) b.send-R (param 2 g.row.E) (param 3 g.row.S) b.send-E b.send-S in
+    let w =
+    thread_send (param 0 g.row.J) g.J.Naming (copied 1 g.row.R) b.send-R (param 2 g.row.E)
+    (param 3 g.row.S) b.send-E b.send-S in
     param_send 2 _ (arg_send _ no _ (three_send _ _ _ _ w b.send-C b.send-G))
 
 -- and so may what it gives back
 pub spawn_with-started-requires-send-T : goal.spawn_with-started-requires-send-T
 spawn_with-started-requires-send-T g c κs within =
     let b = c.type_bounds in
-    param_send 3 _ (arg_send _ no _ (worked_send (param 0 g.row.J) g.J.Naming (copied 1 g.row.R) b.send-R (param 2 g.row.E) (param 3 g.row.S) b.send-E b.send-S))
+    param_send 3 _
+    (arg_send _ no _
+    (worked_send (param 0 g.row.J) g.J.Naming (copied 1 g.row.R) b.send-R (param 2 g.row.E)
+    (param 3 g.row.S) b.send-E b.send-S))

@@ -7,6 +7,9 @@ pow-requires g c = two_below c.args.power 75 c.if-power-gt75.false (omega arith)
 
 pub overflow_mul-from : goal.overflow_mul-from
 overflow_mul-from g c =
-    let small : c.pow.result ≤ 2 ^ 75 = subst (λ n. n ≤ 2 ^ 75) (sym c.pow.ensures) (two_small c.args.power 75 c.if-power-gt75.false) in
-    let below : c.from.result * c.pow.result < 2 ^ 128 = subst (λ m. m * c.pow.result < 2 ^ 128) (sym c.from.ensures) (whole_small c.args.mantissa c.pow.result c.requires small) in
+    let small : c.pow.result ≤ 2 ^ 75 =
+    subst (λ n. n ≤ 2 ^ 75) (sym c.pow.ensures) (two_small c.args.power 75 c.if-power-gt75.false) in
+    let below : c.from.result * c.pow.result < 2 ^ 128 =
+    subst (λ m. m * c.pow.result < 2 ^ 128) (sym c.from.ensures)
+    (whole_small c.args.mantissa c.pow.result c.requires small) in
     omega (arith, below)

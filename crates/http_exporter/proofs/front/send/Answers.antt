@@ -9,7 +9,10 @@ returns-clause-sent g c =
     let front = c.front_of-front.ensures in
     let taken = c.taken-front.ensures in
     let room = c.if-head-gt-FRONT_ROOM.false in
-    let is = front_and_rest (head_for c.args.connection c.args.target.now (length body)) body _ _ _ _ c.head_length-head.ensures (omega (arith, room))
+    let is =
+    front_and_rest (head_for c.args.connection c.args.target.now (length body)) body _ _ _ _
+    c.head_length-head.ensures
+    (omega (arith, room))
     front.beginning front.whole taken.taken taken.full in
     sent_both _ _ _ _ _ _ is c.in_ok-write_all.ensures.sent c.in_ok-write_all-2.ensures.sent
 
@@ -19,7 +22,11 @@ returns-in_err-write_all-2-clause-stopped g c =
     let front = c.front_of-front.ensures in
     let taken = c.taken-front.ensures in
     let room = c.if-head-gt-FRONT_ROOM.false in
-    let is = front_and_rest (head_for c.args.connection c.args.target.now (length body)) body _ _ _ _ c.head_length-head.ensures (omega (arith, room))
+    let is =
+    front_and_rest (head_for c.args.connection c.args.target.now (length body)) body _ _ _ _
+    c.head_length-head.ensures
+    (omega (arith, room))
     front.beginning front.whole taken.taken taken.full in
     on_err c.from_residual-in_err-write_all-2.result
-    (stopped_after _ _ _ _ _ _ is c.in_ok-write_all.ensures.sent c.in_err-write_all-2.ensures.stopped)
+    (stopped_after _ _ _ _ _ _ is c.in_ok-write_all.ensures.sent
+    c.in_err-write_all-2.ensures.stopped)

@@ -7,7 +7,8 @@ abbrev pub invariant-loop-at : goal.invariant-loop-at
 invariant-loop-at g l =
     let contents = g.L.FaultWrite.contents in
     let failures = g.L.FaultWrite.failures in
-    (l.at ≤ length l.piece) × Appends (contents l.initial.link) (contents l.link) (take l.at l.piece)
+    (l.at ≤ length l.piece)
+    × Appends (contents l.initial.link) (contents l.link) (take l.at l.piece)
     × (failures l.link ≡ failures l.initial.link)
 
 abbrev pub decreases-loop-at : goal.decreases-loop-at

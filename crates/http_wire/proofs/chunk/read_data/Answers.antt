@@ -13,7 +13,9 @@ pub returns-in-Err-read_expected-clause-data : goal.returns-in-Err-read_expected
 returns-in-Err-read_expected-clause-data g c =
     let front = c.in-Ok.ensures.bytes in
     let end = c.in-Err-read_expected.ensures.byte in
-    let came = return_came _ _ _ c.args.size front.0 end.0 _ _ _ c.in-Err-read_expected.fault front.1 front.2 c.in-Ok.ensures.counted end.1 end.2 in
+    let came =
+    return_came _ _ _ c.args.size front.0 end.0 _ _ _ c.in-Err-read_expected.fault front.1 front.2
+    c.in-Ok.ensures.counted end.1 end.2 in
     (front.0 ++ end.0, came.0, tt, came.1)
 
 pub returns-in-Ok-read_expected-2-clause-data : goal.returns-in-Ok-read_expected-2-clause-data
@@ -32,5 +34,8 @@ returns-in-Err-read_expected-2-clause-data g c =
     let front = c.in-Ok.ensures.bytes in
     let return = c.in-Ok-read_expected.ensures.byte in
     let end = c.in-Err-read_expected-2.ensures.byte in
-    let came = feed_came _ _ _ _ c.args.size front.0 return.0 end.0 _ _ _ c.in-Err-read_expected-2.fault front.1 front.2 return.1 return.2 (c.in-Ok-read_expected.ensures.counted ∙ c.in-Ok.ensures.counted) end.1 end.2 in
+    let came =
+    feed_came _ _ _ _ c.args.size front.0 return.0 end.0 _ _ _ c.in-Err-read_expected-2.fault
+    front.1 front.2 return.1 return.2
+    (c.in-Ok-read_expected.ensures.counted ∙ c.in-Ok.ensures.counted) end.1 end.2 in
     (front.0 ++ 13 ∷ end.0, came.0, tt, came.1)

@@ -12,9 +12,17 @@ unreachable-requires c =
     let long = ap length found.3.1 ∙ length-append (print_trailers trailers) found.2 in
     let few = found.4 in
     let room = c.requires.room in
-    c.requires.none trailers found.2 (record { valid = found.3.0; few = omega (arith, few, room); bytes = omega (arith, long, short) }, found.3.1)
+    c.requires.none trailers found.2 (
+      record {
+        valid = found.3.0;
+        few = omega (arith, few, room);
+        bytes = omega (arith, long, short);
+      },
+      found.3.1,
+    )
 
 pub returns-in-Err : goal.returns-in-Err
 returns-in-Err c =
-    let parsed : ParsesTrailers c.args.text.now c.args.limits.now.fields (Err c.in-Err.bad) = search rules in
+    let parsed : ParsesTrailers c.args.text.now c.args.limits.now.fields (Err c.in-Err.bad) =
+    search rules in
     stopped_by c.args.text.now c.args.limits.now.fields c.in-Err.bad parsed

@@ -7,7 +7,8 @@ abbrev pub invariant-loop-at : goal.invariant-loop-at
 invariant-loop-at g l =
     let contents = g.W.FaultWrite.contents in
     let failures = g.W.FaultWrite.failures in
-    (l.at ≤ length l.piece) × Appends (contents l.initial.writer) (contents l.writer) (take l.at l.piece)
+    (l.at ≤ length l.piece)
+    × Appends (contents l.initial.writer) (contents l.writer) (take l.at l.piece)
     × (failures l.writer ≡ failures l.initial.writer)
 
 abbrev pub decreases-loop-at : goal.decreases-loop-at

@@ -1,4 +1,5 @@
-use Rattle.law_export.proofs.Regrouped.{all-grouped, of-one-scope, resource-once, scope-once, none-empty, resources-in-order, scopes-in-order}
+use Rattle.law_export.proofs.Regrouped.{all-grouped, of-one-scope, resource-once, scope-once}
+use Rattle.law_export.proofs.Regrouped.{none-empty, resources-in-order, scopes-in-order}
 use Rattle.law_export.proofs.spans.groups_are_the_spans.Goals as goal
 
 pub returns : goal.returns

@@ -1,4 +1,5 @@
-use Rattle.law_export.proofs.Kept.{keys-are, at-most, none-empty, none-twice, all-set, in-order, left-out, keys-stay}
+use Rattle.law_export.proofs.Kept.{keys-are, at-most, none-empty, none-twice, all-set, in-order}
+use Rattle.law_export.proofs.Kept.{left-out, keys-stay}
 use Rattle.law_export.proofs.spans.keys_are_kept.Goals as goal
 
 pub returns : goal.returns

@@ -23,7 +23,9 @@ pub returns-clause-taken : goal.returns-clause-taken
 unfolding reply_front digits
 returns-clause-taken c = record {
   reply = Some (plain_reply Ok);
-  judges = taken (post (codes "127.0.0.1") 4318 plain_body) came refl (not_refused (codes "127.0.0.1") 4318 plain_body) (request_with batch) means refl refl;
+  judges =
+      taken (post (codes "127.0.0.1") 4318 plain_body) came refl
+      (not_refused (codes "127.0.0.1") 4318 plain_body) (request_with batch) means refl refl;
   status_is = refl;
   writes_it = refl;
 }
@@ -32,7 +34,9 @@ pub returns-clause-refused : goal.returns-clause-refused
 unfolding reply_front digits
 returns-clause-refused c = record {
   reply = Some wants_memory;
-  judges = unread (post (codes "127.0.0.1") 4318 plain_body) came refl (not_refused (codes "127.0.0.1") 4318 plain_body) OutOfMemory tt refl refl;
+  judges =
+      unread (post (codes "127.0.0.1") 4318 plain_body) came refl
+      (not_refused (codes "127.0.0.1") 4318 plain_body) OutOfMemory tt refl refl;
   status_is = refl;
   writes_it = refl;
 }

@@ -4,4 +4,5 @@ use Rattle.otel_settings.proofs.endpoint.after_text.Goals as goal
 
 pub returns : goal.returns
 unfolding after_text
-returns c = stripped c.args.front.now c.args.text.now c.strip_prefix.result c.strip_prefix.ensures.cases
+returns c =
+    stripped c.args.front.now c.args.text.now c.strip_prefix.result c.strip_prefix.ensures.cases

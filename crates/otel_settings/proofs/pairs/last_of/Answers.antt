@@ -11,5 +11,7 @@ loop-key-preserved c =
     let inside : c.loop-key.key-index < length c.args.pairs.now = omega arith in
     elim c.if-eq.branch [
       | then-eq w ↦ rw w.last-is (more_same _ _ _ _ inside (sym c.eq.ensures ∙ w.if-eq.true))
-      | else-eq w ↦ rw w.last-is (c.loop-key.invariant ∙ more_other _ _ _ _ inside (sym c.eq.ensures ∙ w.if-eq.false))
+      | else-eq w ↦
+          rw w.last-is
+          (c.loop-key.invariant ∙ more_other _ _ _ _ inside (sym c.eq.ensures ∙ w.if-eq.false))
     ]

@@ -4,4 +4,5 @@ use Rattle.otel_settings.proofs.resource_pairs.decoded.Goals as goal
 
 pub returns-in-empty : goal.returns-in-empty
 returns-in-empty g c =
-    nothing c.args.word.now (omega (arith, c.in-empty.len_below)) ∙ ap Some (sym c.new.ensures.bytes)
+    nothing c.args.word.now (omega (arith, c.in-empty.len_below))
+    ∙ ap Some (sym c.new.ensures.bytes)

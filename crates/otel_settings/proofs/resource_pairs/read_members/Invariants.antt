@@ -5,4 +5,6 @@ use Rattle.otel_settings.specs.ResourcePairs.{member_of, pairs_view}
 use Rattle.otel_settings.proofs.resource_pairs.read_members.Given as goal
 
 abbrev pub invariant-loop-member : goal.invariant-loop-member
-invariant-loop-member g l = appended (pairs_view l.all.items) (rest_of member_of l.members l.member-index) ≡ each_of member_of (words_at l.members)
+invariant-loop-member g l =
+    appended (pairs_view l.all.items) (rest_of member_of l.members l.member-index)
+    ≡ each_of member_of (words_at l.members)

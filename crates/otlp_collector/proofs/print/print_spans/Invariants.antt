@@ -9,5 +9,6 @@ abbrev pub invariant-loop-triple : goal.invariant-loop-triple
 invariant-loop-triple g l =
     let contents = g.W.FaultWrite.contents in
     let failures = g.W.FaultWrite.failures in
-    Appends (contents l.initial.writer) (contents l.writer) (spans_text (map triple_view (take l.triple-index l.triple-items)))
+    Appends (contents l.initial.writer) (contents l.writer)
+    (spans_text (map triple_view (take l.triple-index l.triple-items)))
     × (failures l.writer ≡ failures l.initial.writer)

@@ -9,6 +9,7 @@ returns g c =
     let now = g.W.Write.contents c.print_port.new.output in
     let new = g.W.Write.contents c.serve_connections.new.output in
     ok-weaker c.serve_connections.result _ _
-    (λ h. all-printed c.args.args.port c.in_ok-port.port c.args.args.count c.args.args.max_body old now new c.in_ok-port.ensures c.in_ok-print_port.ensures
+    (λ h. all-printed c.args.args.port c.in_ok-port.port c.args.args.count c.args.args.max_body old
+    now new c.in_ok-port.ensures c.in_ok-print_port.ensures
     (subst (λ limits. PrintsConnections limits c.args.args.count now new) c.limits_of.ensures h))
     c.serve_connections.ensures

@@ -13,4 +13,5 @@ loop-served-preserved g c =
     let text = c.in-Ok.text.items in
     let is : c.as_slice.result.now ≡ text = search rules in
     let gained = subst (Appends now new) is c.in_ok-print.ensures in
-    one-more c.args.limits.now c.loop-served.served _ now new c.loop-served.invariant (one-written c.args.limits.now _ text now new c.in-Ok.ensures gained)
+    one-more c.args.limits.now c.loop-served.served _ now new c.loop-served.invariant
+    (one-written c.args.limits.now _ text now new c.in-Ok.ensures gained)

@@ -10,6 +10,7 @@ abbrev pub invariant-loop-skipped : goal.invariant-loop-skipped
 invariant-loop-skipped g l =
     let remaining = g.R.FaultRead.remaining in
     let failures = g.R.FaultRead.failures in
-    ((interims : List ResponseHead) × (length interims ≡ l._skipped) × All (IsInterim l.limits) interims
+    ((interims : List ResponseHead) × (length interims ≡ l._skipped)
+    × All (IsInterim l.limits) interims
     × Consumes (remaining l.initial.reader) (remaining l.reader) (flat_map print_response interims))
     × (length l.spans ≡ l.limits.fields) × (failures l.reader ≡ failures l.initial.reader)

@@ -8,4 +8,7 @@ pub returns-in-Err-keep_fields-clause-none : goal.returns-in-Err-keep_fields-cla
 returns-in-Err-keep_fields-clause-none g c =
     let final = c.in-Ok.ensures.head in
     refused_fields _ _ _ _ _ _ _ _ final
-    (subst (λ t. RefusesFields (map (header_bytes t) (take c.in-Ok.head.headers c.read_final_head.new.spans)) c.in-Err-keep_fields.fault) c.deref.ensures.value c.in-Err-keep_fields.ensures.refused)
+    (subst (λ t. RefusesFields
+    (map (header_bytes t) (take c.in-Ok.head.headers c.read_final_head.new.spans))
+    c.in-Err-keep_fields.fault)
+    c.deref.ensures.value c.in-Err-keep_fields.ensures.refused)

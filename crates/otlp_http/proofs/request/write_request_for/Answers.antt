@@ -8,9 +8,12 @@ pub write_pieces-requires : goal.write_pieces-requires
 write_pieces-requires g c =
     let whole = length-text_for c.args.connection c.args.target.now c.args.body.now in
     let port : length (decimal c.args.target.now.port) ≤ 40 =
-    subst (λ t. length t ≤ 40) (c.format-port.ensures.text ∙ ap decimal c.port.ensures) c.format-port.ensures.short in
+    subst (λ t. length t ≤ 40)
+    (c.format-port.ensures.text ∙ ap decimal c.port.ensures) c.format-port.ensures.short in
     let digits : length (decimal (length c.args.body.now)) ≤ 40 =
     subst (λ t. length t ≤ 40) c.format-digits.ensures.text c.format-digits.ensures.short in
     let target = c.request_pieces.ensures.short in
-    let short : length (text_for c.args.connection c.args.target.now c.args.body.now) < 2 ^ 64 = omega (arith, whole, port, digits, target) in
-    subst (λ t. length t < 2 ^ 64) (sym (c.request_pieces.ensures.whole c.args.connection c.last_lines-last.ensures)) short
+    let short : length (text_for c.args.connection c.args.target.now c.args.body.now) < 2 ^ 64 =
+    omega (arith, whole, port, digits, target) in
+    subst (λ t. length t < 2 ^ 64)
+    (sym (c.request_pieces.ensures.whole c.args.connection c.last_lines-last.ensures)) short

@@ -6,5 +6,8 @@ pub returns-then-sampled : goal.returns-then-sampled
 returns-then-sampled c =
     let n = c.args.self.now.0 in
     let others : bit_and n 254 ≡ n / 2 * 2 = and_high_mask 8 1 (omega arith) n (search rules) in
-    let set : bit_or (bit_and n 254) 1 + 1 ≡ bit_and n 254 + 2 = or_low_ones 8 1 (omega arith) (bit_and n 254) (and_high_mask_twice 8 1 (omega arith) n 1 (omega arith)) in
-    rw c.if-sampled.true (let whole : bit_or (bit_and n 254) 1 ≡ (n - n % 2) + 1 = omega (arith, others, set) in whole)
+    let set : bit_or (bit_and n 254) 1 + 1 ≡ bit_and n 254 + 2 =
+    or_low_ones 8 1 (omega arith) (bit_and n 254)
+    (and_high_mask_twice 8 1 (omega arith) n 1 (omega arith)) in
+    rw c.if-sampled.true
+    (let whole : bit_or (bit_and n 254) 1 ≡ (n - n % 2) + 1 = omega (arith, others, set) in whole)

@@ -35,16 +35,24 @@ abbrev pub invariant-push_values-loop-field : goal.invariant-push_values-loop-fi
 invariant-push_values-loop-field g l =
     (goal.iterator-push_values-loop-field g).can_next l.field-iterator ×
     (goal.iterator-push_values-loop-field g).is_finite l.field-iterator ×
-    FieldsRead (After (IsGathered (value l.depth) Tables.array_value) (values_view l.fn.values.items ▸ tt) (values_view l.values.items ▸ tt)) (row l.part) l.field-iterator
+    FieldsRead (After (IsGathered (value l.depth) Tables.array_value)
+    (values_view l.fn.values.items ▸ tt) (values_view l.values.items ▸ tt))
+    (row l.part) l.field-iterator
 
 abbrev pub invariant-push_pairs-loop-field : goal.invariant-push_pairs-loop-field
 invariant-push_pairs-loop-field g l =
     (goal.iterator-push_pairs-loop-field g).can_next l.field-iterator ×
     (goal.iterator-push_pairs-loop-field g).is_finite l.field-iterator ×
-    FieldsRead (After (IsGathered (value l.depth) Tables.key_value_list) (pairs_view l.fn.pairs.items ▸ tt) (pairs_view l.pairs.items ▸ tt)) (row l.part) l.field-iterator
+    FieldsRead (After (IsGathered (value l.depth) Tables.key_value_list)
+    (pairs_view l.fn.pairs.items ▸ tt) (pairs_view l.pairs.items ▸ tt))
+    (row l.part) l.field-iterator
 
 abbrev pub invariant-read_values-loop-part : goal.invariant-read_values-loop-part
-invariant-read_values-loop-part g l = IsKept (value l.depth) (message Tables.array_value) (values_view l.values.items ▸ tt) (parts_view (take l.part-index l.parts))
+invariant-read_values-loop-part g l =
+    IsKept (value l.depth) (message Tables.array_value) (values_view l.values.items ▸ tt)
+    (parts_view (take l.part-index l.parts))
 
 abbrev pub invariant-read_pairs-loop-part : goal.invariant-read_pairs-loop-part
-invariant-read_pairs-loop-part g l = IsKept (value l.depth) (message Tables.key_value_list) (pairs_view l.pairs.items ▸ tt) (parts_view (take l.part-index l.parts))
+invariant-read_pairs-loop-part g l =
+    IsKept (value l.depth) (message Tables.key_value_list) (pairs_view l.pairs.items ▸ tt)
+    (parts_view (take l.part-index l.parts))

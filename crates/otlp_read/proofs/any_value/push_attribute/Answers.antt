@@ -1,4 +1,5 @@
-use Rattle.std.proofs.Common.{◌≡◌, refl, sym, ap, subst, ◌∙◌, Err, IfErr, List, [], ◌∷◌, ◌++◌, arith}
+use Rattle.std.proofs.Common.{◌≡◌, refl, sym, ap, subst, ◌∙◌, Err, IfErr, List, [], ◌∷◌, ◌++◌}
+use Rattle.std.proofs.Common.{arith}
 use Rattle.std.proofs.lemmas.List.{map-append}
 use Rattle.model_message.specs.Wire.{Field, len}
 use Rattle.model_message.specs.Tables
@@ -13,18 +14,40 @@ use Rattle.otlp_wire.proofs.GatherSteps.{repeated-skips, repeated-more, repeated
 use Rattle.otlp_read.proofs.any_value.push_attribute.Goals as goal
 
 pub returns-in_default-clause-ok : goal.returns-in_default-clause-ok
-returns-in_default-clause-ok g c = λ fields h. repeated-skips (value max_depth) c.args.number (message Tables.key_value) (pairs_view c.args.attributes.now.items) fields (field_of c.args.field) (c.in_default.ensures (repeated (message Tables.key_value)) refl) h
+returns-in_default-clause-ok g c =
+    λ fields h. repeated-skips (value max_depth) c.args.number (message Tables.key_value)
+    (pairs_view c.args.attributes.now.items) fields (field_of c.args.field)
+    (c.in_default.ensures (repeated (message Tables.key_value)) refl) h
 
 pub returns-in_err-read_pair-clause-err : goal.returns-in_err-read_pair-clause-err
 returns-in_err-read_pair-clause-err g c =
     let told : c.from_residual.result ≡ Err c.in_err-read_pair.field-0.0 = grind arith in
     let content = c.in-Some.content.now in
-    subst (λ r. IfErr r (λ fault. (before after : List Field) → NamesOne (field_faults (repeated (message Tables.key_value)) c.args.number before (field_of c.args.field) after) fault)) (sym told)
-    (λ before after. names-within (read (value max_depth) (message Tables.key_value) (len content ∷ [])).faults (field_faults (repeated (message Tables.key_value)) c.args.number before (field_of c.args.field) after)
-    (repeated-fails (value max_depth) c.args.number (message Tables.key_value) before after (field_of c.args.field) (len content) (c.in-Some.ensures (repeated (message Tables.key_value)) refl)) c.in_err-read_pair.field-0.0 c.in_err-read_pair.ensures.err)
+    subst (λ r. IfErr r
+    (λ fault. (before after : List Field)
+    → NamesOne (field_faults (repeated (message Tables.key_value)) c.args.number before
+    (field_of c.args.field) after)
+    fault))
+    (sym told)
+    (λ before after. names-within
+    (read (value max_depth) (message Tables.key_value) (len content ∷ [])).faults
+    (field_faults (repeated (message Tables.key_value)) c.args.number before
+    (field_of c.args.field) after)
+    (repeated-fails (value max_depth) c.args.number (message Tables.key_value) before after
+    (field_of c.args.field) (len content)
+    (c.in-Some.ensures (repeated (message Tables.key_value)) refl))
+    c.in_err-read_pair.field-0.0 c.in_err-read_pair.ensures.err)
 
 pub returns-clause-ok : goal.returns-clause-ok
 returns-clause-ok g c = λ fields h.
-    let pushed = ap pairs_view c.in_ok-push.ensures.items ∙ map-append pair_view c.args.attributes.now.items (c.in_ok-read_pair.field-0 ∷ []) in
-    subst (λ l. IsKept (value max_depth) (repeated (message Tables.key_value)) l (payloads c.args.number (repeated (message Tables.key_value)) (fields ++ (field_of c.args.field) ∷ []))) (sym pushed)
-    (repeated-more (value max_depth) c.args.number (message Tables.key_value) (pairs_view c.args.attributes.now.items) (pair_view c.in_ok-read_pair.field-0) fields (field_of c.args.field) (len c.in-Some.content.now) (c.in-Some.ensures (repeated (message Tables.key_value)) refl) c.in_ok-read_pair.ensures.ok h)
+    let pushed =
+    ap pairs_view c.in_ok-push.ensures.items
+    ∙ map-append pair_view c.args.attributes.now.items (c.in_ok-read_pair.field-0 ∷ []) in
+    subst (λ l. IsKept (value max_depth) (repeated (message Tables.key_value)) l
+    (payloads c.args.number (repeated (message Tables.key_value))
+    (fields ++ (field_of c.args.field) ∷ [])))
+    (sym pushed)
+    (repeated-more (value max_depth) c.args.number (message Tables.key_value)
+    (pairs_view c.args.attributes.now.items) (pair_view c.in_ok-read_pair.field-0) fields
+    (field_of c.args.field) (len c.in-Some.content.now)
+    (c.in-Some.ensures (repeated (message Tables.key_value)) refl) c.in_ok-read_pair.ensures.ok h)

@@ -8,4 +8,9 @@ use Rattle.otlp_read.proofs.triple.push_resource.Given as goal
 
 -- The spans of the scopes so far are appended.
 abbrev pub invariant-loop-scope_group : goal.invariant-loop-scope_group
-invariant-loop-scope_group g l = triples_view l.found.items ≡ triples_view l.fn.found.items ++ resource_triples (resource_view l.group.resource ▸ scope_groups_view (take l.scope_group-index l.scope_group-items) ▸ string_bytes l.group.schema_url ▸ tt)
+invariant-loop-scope_group g l =
+    triples_view l.found.items
+    ≡ triples_view l.fn.found.items
+    ++ resource_triples (resource_view l.group.resource
+    ▸ scope_groups_view (take l.scope_group-index l.scope_group-items)
+    ▸ string_bytes l.group.schema_url ▸ tt)

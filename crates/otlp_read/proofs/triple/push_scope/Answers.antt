@@ -17,9 +17,14 @@ loop-span-preserved g c =
       scope_schema = string_bytes c.args.scope_group.now.schema_url;
       span = x;
     } in
-    let pushed = rw (c.deref.ensures, c.deref-in-loop-span.ensures) at (map-pushed triple_view c.loop-span.found.items c.push.new.self.items _ c.in_ok-push.ensures.items) in
-    map-more triple span_view c.deref-span-items.result.now c.loop-span.span-index c.span-item.result c.loop-span-test.true c.span-item.is
-    (triples_view c.args.found.now.items) (triples_view c.loop-span.found.items) (triples_view c.push.new.self.items) c.loop-span.invariant pushed
+    let pushed =
+    rw (c.deref.ensures, c.deref-in-loop-span.ensures) at
+    (map-pushed triple_view c.loop-span.found.items c.push.new.self.items _
+    c.in_ok-push.ensures.items) in
+    map-more triple span_view c.deref-span-items.result.now c.loop-span.span-index
+    c.span-item.result c.loop-span-test.true c.span-item.is
+    (triples_view c.args.found.now.items) (triples_view c.loop-span.found.items)
+    (triples_view c.push.new.self.items) c.loop-span.invariant pushed
 
 pub returns-in_err-push-clause-memory : goal.returns-in_err-push-clause-memory
 returns-in_err-push-clause-memory g c =
@@ -30,4 +35,7 @@ returns-in_err-push-clause-memory g c =
       scope_schema = string_bytes c.args.scope_group.now.schema_url;
       span = x;
     } in
-    on-err-always _ (rw c.deref-span-items.ensures.value at (some-mapped triple span_view c.deref-span-items.result.now c.loop-span.span-index c.loop-span-test.true))
+    on-err-always _
+    (rw c.deref-span-items.ensures.value at
+    (some-mapped triple span_view c.deref-span-items.result.now c.loop-span.span-index
+    c.loop-span-test.true))

@@ -8,4 +8,9 @@ use Rattle.otlp_read.proofs.triple.push_scope.Given as goal
 
 -- The spans so far are appended.
 abbrev pub invariant-loop-span : goal.invariant-loop-span
-invariant-loop-span g l = triples_view l.found.items ≡ triples_view l.fn.found.items ++ scope_triples (resource_view l.group.resource) (string_bytes l.group.schema_url) (scope_view l.scope_group.scope ▸ spans_view (take l.span-index l.span-items) ▸ string_bytes l.scope_group.schema_url ▸ tt)
+invariant-loop-span g l =
+    triples_view l.found.items
+    ≡ triples_view l.fn.found.items
+    ++ scope_triples (resource_view l.group.resource) (string_bytes l.group.schema_url)
+    (scope_view l.scope_group.scope ▸ spans_view (take l.span-index l.span-items)
+    ▸ string_bytes l.scope_group.schema_url ▸ tt)

@@ -5,7 +5,9 @@ use Rattle.otlp_sampler.proofs.decimal.count_of_fraction.Given as goal
 
 abbrev pub invariant-digits : goal.invariant-digits
 invariant-digits l = record {
-  is : l.count ≡ share (digits_value 10 (drop l.i (l.whole ++ l.fraction))) (10 ^ length (drop l.i (l.whole ++ l.fraction)));
+  is : l.count
+      ≡ share (digits_value 10 (drop l.i (l.whole ++ l.fraction)))
+      (10 ^ length (drop l.i (l.whole ++ l.fraction)));
   small : l.count < 2 ^ 56;
   from : l.fn.point ≤ l.i;
 }

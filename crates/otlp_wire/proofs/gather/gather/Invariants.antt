@@ -10,4 +10,6 @@ invariant-loop-field g l =
     let gathered = g.G.GatherFields.gathered in
     ((goal.iterator-loop-field g).can_next l.field-iterator) ×
     ((goal.iterator-loop-field g).is_finite l.field-iterator) ×
-    FieldsRead (After (IsGathered (value max_depth) g.G.GatherFields.table) (gathered l.fn.gathered) (gathered l.gathered)) (row l.content) l.field-iterator
+    FieldsRead (After (IsGathered (value max_depth) g.G.GatherFields.table) (gathered l.fn.gathered)
+    (gathered l.gathered))
+    (row l.content) l.field-iterator

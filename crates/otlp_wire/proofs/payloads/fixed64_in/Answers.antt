@@ -6,7 +6,9 @@ pub returns-in_default : goal.returns-in_default
 returns-in_default c = no-fixed64 c.args.field c.args.number c.in_default.not-I64
 
 pub returns-then-field-number : goal.returns-then-field-number
-returns-then-field-number c = λ s w. other-number c.args.number s (field_of c.args.field) c.if-field-number.true
+returns-then-field-number c =
+    λ s w. other-number c.args.number s (field_of c.args.field) c.if-field-number.true
 
 pub returns : goal.returns
-returns c = found-fixed64 c.args.field c.args.number c.in-I64.value c.in-I64.is c.if-field-number.false
+returns c =
+    found-fixed64 c.args.field c.args.number c.in-I64.value c.in-I64.is c.if-field-number.false

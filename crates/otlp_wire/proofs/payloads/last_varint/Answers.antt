@@ -4,4 +4,7 @@ use Rattle.otlp_wire.proofs.LastPayloads.{number-more}
 use Rattle.otlp_wire.proofs.payloads.last_varint.Goals as goal
 
 pub returns : goal.returns
-returns c = λ s w fields h. c.unwrap_or.ensures ∙ number-more c.args.number s fields (field_of c.args.field) _ c.args.before (c.varint_in.ensures s w) h
+returns c =
+    λ s w fields h. c.unwrap_or.ensures
+    ∙ number-more c.args.number s fields (field_of c.args.field) _ c.args.before
+    (c.varint_in.ensures s w) h

@@ -6,8 +6,13 @@ pub returns : goal.returns
 returns c =
     let fits = c.requires in
     let wrote = c.copy_from_slice.ensures.after in
-    let long : length c.copy_from_slice.new.self ≡ length c.args.bytes.now = ap length wrote in record {
+    let long : length c.copy_from_slice.new.self ≡ length c.args.bytes.now = ap length wrote in
+    record {
       place = refl;
-      front = take-put_mid c.args.at _ c.args.out.now _ _ (omega (arith, long)) (omega (arith, fits)) ∙ rw wrote refl;
-      appended = drop-put_mid c.args.at _ c.args.out.now _ _ (omega arith) (omega (arith, fits)) (omega (arith, long));
+      front =
+          take-put_mid c.args.at _ c.args.out.now _ _ (omega (arith, long)) (omega (arith, fits))
+          ∙ rw wrote refl;
+      appended =
+          drop-put_mid c.args.at _ c.args.out.now _ _ (omega arith) (omega (arith, fits))
+          (omega (arith, long));
     }

@@ -13,10 +13,17 @@ returns-in_err-counted-clause-faulty c =
     grind (arith, bad)
 
 pub returns-in-Err-clause-err : goal.returns-in-Err-clause-err
-returns-in-Err-clause-err c = text-fault c.args.body.now c.in_ok-counted.counted c.in_ok-counted.ensures.ok c.in-Err.ensures.cases.0
+returns-in-Err-clause-err c =
+    text-fault c.args.body.now c.in_ok-counted.counted c.in_ok-counted.ensures.ok
+    c.in-Err.ensures.cases.0
 
 pub returns-in-Err-clause-faulty : goal.returns-in-Err-clause-faulty
-returns-in-Err-clause-faulty c = not-none _ _ (text-fault c.args.body.now c.in_ok-counted.counted c.in_ok-counted.ensures.ok c.in-Err.ensures.cases.0)
+returns-in-Err-clause-faulty c =
+    not-none _ _
+    (text-fault c.args.body.now c.in_ok-counted.counted c.in_ok-counted.ensures.ok
+    c.in-Err.ensures.cases.0)
 
 pub returns-in-Ok-clause-ok : goal.returns-in-Ok-clause-ok
-returns-in-Ok-clause-ok c = is-read c.args.body.now c.in_ok-counted.counted _ c.in_ok-counted.ensures.ok c.in_ok-counted.ensures.whole c.in-Ok.ensures.cases.1 c.in-Ok.ensures.cases.0
+returns-in-Ok-clause-ok c =
+    is-read c.args.body.now c.in_ok-counted.counted _ c.in_ok-counted.ensures.ok
+    c.in_ok-counted.ensures.whole c.in-Ok.ensures.cases.1 c.in-Ok.ensures.cases.0

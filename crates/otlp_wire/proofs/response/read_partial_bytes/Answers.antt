@@ -8,4 +8,5 @@ returns-clause-ok c =
     let same : to_z w64 (of_z w64 c.cast_signed.result) ≡ c.cast_signed.result = search rules in
     let counted = c.in_ok-counted.counted in
     meaning-value c.args.body.now counted c.in_ok-counted.ensures.ok
-    ∙ ap (λ spans. (spans ▸ counted.error_message.now ▸ tt) ▸ tt) (sym (same ∙ c.cast_signed.ensures))
+    ∙ ap (λ spans. (spans ▸ counted.error_message.now ▸ tt) ▸ tt)
+    (sym (same ∙ c.cast_signed.ensures))

@@ -8,4 +8,5 @@ returns-clause-app c =
     let line = c.args.line.now in
     c.in_ok-arg.ensures.shape c.flag_arg.ensures.local
     ∙ ap₂ with_rule c.in_ok-command.ensures.app c.flag_arg.ensures.rule
-    ∙ ap (with_flag (app_of_options line.program.now line.numbers.now line.texts.now)) (sym c.in-Some.is)
+    ∙ ap (with_flag (app_of_options line.program.now line.numbers.now line.texts.now))
+    (sym c.in-Some.is)

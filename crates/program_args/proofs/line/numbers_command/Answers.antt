@@ -8,4 +8,5 @@ loop-option-preserved c =
     let line = c.args.line.now in
     c.in_ok-command-2.ensures.shape c.number_arg.ensures.local
     ∙ ap₂ with_rule c.loop-option.invariant c.number_arg.ensures.rule
-    ∙ numbers-more line.program.now line.numbers.now c.loop-option.option-index _ c.loop-option-test.true
+    ∙ numbers-more line.program.now line.numbers.now c.loop-option.option-index _
+    c.loop-option-test.true

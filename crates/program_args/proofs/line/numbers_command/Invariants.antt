@@ -5,4 +5,5 @@ use Rattle.program_args.proofs.line.numbers_command.Given as goal
 
 -- the command of the options so far
 abbrev pub invariant-loop-option : goal.invariant-loop-option
-invariant-loop-option l = app_of l.command ≡ app_of_numbers l.line.program.now (take l.option-index l.line.numbers.now)
+invariant-loop-option l =
+    app_of l.command ≡ app_of_numbers l.line.program.now (take l.option-index l.line.numbers.now)

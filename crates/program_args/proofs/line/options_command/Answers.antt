@@ -13,4 +13,5 @@ loop-option-preserved c =
     let line = c.args.line.now in
     c.in_ok-command-2.ensures.shape c.text_arg.ensures.local
     ∙ ap₂ with_rule c.loop-option.invariant c.text_arg.ensures.rule
-    ∙ texts-more line.program.now line.numbers.now line.texts.now c.loop-option.option-index _ c.loop-option-test.true
+    ∙ texts-more line.program.now line.numbers.now line.texts.now c.loop-option.option-index _
+    c.loop-option-test.true

@@ -5,4 +5,6 @@ use Rattle.program_args.proofs.line.options_command.Given as goal
 
 -- the command of the options so far
 abbrev pub invariant-loop-option : goal.invariant-loop-option
-invariant-loop-option l = app_of l.command ≡ app_of_options l.line.program.now l.line.numbers.now (take l.option-index l.line.texts.now)
+invariant-loop-option l =
+    app_of l.command
+    ≡ app_of_options l.line.program.now l.line.numbers.now (take l.option-index l.line.texts.now)

@@ -14,4 +14,6 @@ returns-in-Some c =
       set = λ e. c.get_flag.ensures.value (one_text-rows found c.in-Some.flag.name.now ∙ e);
       unset = λ e. c.get_flag.ensures.other (one_text-rows found c.in-Some.flag.name.now ∙ e);
     } in
-    subst (λ (o : Option FlagOption). IfSome o (λ flag. IsSetIn (rows_of found) flag.name.now c.get_flag.result)) (sym c.in-Some.is) set
+    subst (λ (o : Option FlagOption).
+    IfSome o (λ flag. IsSetIn (rows_of found) flag.name.now c.get_flag.result))
+    (sym c.in-Some.is) set

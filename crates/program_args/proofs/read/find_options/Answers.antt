@@ -8,7 +8,12 @@ returns c =
     let line = c.args.line.now in
     let is = c.in_ok-command.ensures.app in
     record {
-      taken = faults-are c.in_ok-command.field-0 line c.args.words.now parse.result is parse.ensures.kinds;
-      rows = rows-are c.in_ok-command.field-0 line c.args.words.now parse.result is parse.ensures.matches;
-      valid = all-valid c.in_ok-command.field-0 line parse.result is c.requires parse.ensures.parsed;
+      taken =
+          faults-are c.in_ok-command.field-0 line c.args.words.now parse.result is
+          parse.ensures.kinds;
+      rows =
+          rows-are c.in_ok-command.field-0 line c.args.words.now parse.result is
+          parse.ensures.matches;
+      valid =
+          all-valid c.in_ok-command.field-0 line parse.result is c.requires parse.ensures.parsed;
     }

@@ -6,4 +6,6 @@ use Rattle.program_args.proofs.read.find_texts.Given as goal
 
 -- the texts of the options so far
 abbrev pub invariant-loop-option : goal.invariant-loop-option
-invariant-loop-option l = each_texts l.texts.items ≡ map (texts_by (rows_of (found_of l.matches))) (take l.option-index l.options)
+invariant-loop-option l =
+    each_texts l.texts.items
+    ≡ map (texts_by (rows_of (found_of l.matches))) (take l.option-index l.options)

@@ -13,7 +13,12 @@ loop-span-init g c = ap resources_view c.new-resources.ensures.empty ∙ sym (no
 
 pub loop-span-preserved : goal.loop-span-preserved
 loop-span-preserved g c =
-    one-more resource_eq (λ r. resource_view r.now) (λ x. x.now) (λ x. x.resource) (equivalence resource_eq resource_eq-Decides) _ _ _ c.resource.result _
-    (take c.loop-span.span-index c.args.spans.now) (take (c.loop-span.span-index + 1) c.args.spans.now)
-    c.in_ok-add.ensures (λ j k. resource-same _ _ (λ s t. refl) (value-same g.row.A g.A.Allocator g.A.Allocator-dict g.A.Allocator-dict) j.now k.now) c.loop-span.invariant c.resource.ensures
-    (take_more c.args.spans.now c.loop-span.span-index c.span-item.result c.loop-span-test.true ∙ ap (λ x. take c.loop-span.span-index c.args.spans.now ++ x ∷ []) (sym c.span-item.is))
+    one-more resource_eq (λ r. resource_view r.now) (λ x. x.now) (λ x. x.resource)
+    (equivalence resource_eq resource_eq-Decides) _ _ _ c.resource.result _
+    (take c.loop-span.span-index c.args.spans.now)
+    (take (c.loop-span.span-index + 1) c.args.spans.now)
+    c.in_ok-add.ensures (λ j k. resource-same _ _ (λ s t. refl)
+    (value-same g.row.A g.A.Allocator g.A.Allocator-dict g.A.Allocator-dict) j.now k.now)
+    c.loop-span.invariant c.resource.ensures
+    (take_more c.args.spans.now c.loop-span.span-index c.span-item.result c.loop-span-test.true
+    ∙ ap (λ x. take c.loop-span.span-index c.args.spans.now ++ x ∷ []) (sym c.span-item.is))

@@ -6,4 +6,5 @@ use Rattle.scope_group.proofs.groups.by_resource.Given as goal
 -- The groups are those of the spans so far.
 abbrev pub invariant-loop-span : goal.invariant-loop-span
 invariant-loop-span g l =
-    resources_view l.resources.entries ≡ groups_by resource_eq (λ x. x.resource) (take l.span-index l.spans)
+    resources_view l.resources.entries
+    ≡ groups_by resource_eq (λ x. x.resource) (take l.span-index l.spans)

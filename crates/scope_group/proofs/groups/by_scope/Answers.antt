@@ -13,7 +13,15 @@ loop-span-init g c = ap scopes_view c.new-scopes.ensures.empty ∙ sym (no-group
 
 pub loop-span-preserved : goal.loop-span-preserved
 loop-span-preserved g c =
-    one-more scope_eq (λ s. scope_view s.now) (λ x. x.now) (λ x. x.scope) (equivalence scope_eq scope_eq-Decides) _ _ _ c.scope.result c.span-item.result
-    (map (λ s. s.now) (take c.loop-span.span-index c.args.spans.now)) (map (λ s. s.now) (take (c.loop-span.span-index + 1) c.args.spans.now))
-    c.in_ok-add.ensures (λ j k. scope-same _ _ (λ s t. refl) (value-same g.row.A g.A.Allocator g.A.Allocator-dict g.A.Allocator-dict) j.now k.now) c.loop-span.invariant c.scope.ensures
-    (ap (map (λ s. s.now)) (take_more c.args.spans.now c.loop-span.span-index c.span-item.result c.loop-span-test.true ∙ ap (λ x. take c.loop-span.span-index c.args.spans.now ++ x ∷ []) (sym c.span-item.is)) ∙ map-append (λ s. s.now) (take c.loop-span.span-index c.args.spans.now) (c.span-item.result ∷ []))
+    one-more scope_eq (λ s. scope_view s.now) (λ x. x.now) (λ x. x.scope)
+    (equivalence scope_eq scope_eq-Decides) _ _ _ c.scope.result c.span-item.result
+    (map (λ s. s.now) (take c.loop-span.span-index c.args.spans.now))
+    (map (λ s. s.now) (take (c.loop-span.span-index + 1) c.args.spans.now))
+    c.in_ok-add.ensures (λ j k. scope-same _ _ (λ s t. refl)
+    (value-same g.row.A g.A.Allocator g.A.Allocator-dict g.A.Allocator-dict) j.now k.now)
+    c.loop-span.invariant c.scope.ensures
+    (ap (map (λ s. s.now))
+    (take_more c.args.spans.now c.loop-span.span-index c.span-item.result c.loop-span-test.true
+    ∙ ap (λ x. take c.loop-span.span-index c.args.spans.now ++ x ∷ []) (sym c.span-item.is))
+    ∙ map-append (λ s. s.now) (take c.loop-span.span-index c.args.spans.now)
+    (c.span-item.result ∷ []))

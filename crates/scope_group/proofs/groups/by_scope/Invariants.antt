@@ -6,4 +6,5 @@ use Rattle.scope_group.proofs.groups.by_scope.Given as goal
 -- The groups are those of the spans so far.
 abbrev pub invariant-loop-span : goal.invariant-loop-span
 invariant-loop-span g l =
-    scopes_view l.scopes.entries ≡ groups_by scope_eq (λ x. x.scope) (map (λ s. s.now) (take l.span-index l.spans))
+    scopes_view l.scopes.entries
+    ≡ groups_by scope_eq (λ x. x.scope) (map (λ s. s.now) (take l.span-index l.spans))

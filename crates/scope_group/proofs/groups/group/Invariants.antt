@@ -6,4 +6,5 @@ use Rattle.scope_group.proofs.groups.group.Given as goal
 -- The groups, and then the resources that are left, are all resources.
 abbrev pub invariant-loop-resource : goal.invariant-loop-resource
 invariant-loop-resource g l =
-    map resource_group_view l.groups.items ++ map by_scope (resources_view l.resource-iterator) ≡ map by_scope (resources_view l.initial.resource-iterator)
+    map resource_group_view l.groups.items ++ map by_scope (resources_view l.resource-iterator)
+    ≡ map by_scope (resources_view l.initial.resource-iterator)

@@ -6,4 +6,8 @@ use Rattle.simple_processor.proofs.Counts.{counts_one}
 use Rattle.simple_processor.proofs.export.count_one.Goals as goal
 
 pub returns : goal.returns
-returns c = counts_one c.args.fault.now c.args.dropped.now c.add.new.self (c.add.ensures ∙ ap (λ r. with_drops (reason_view r) 1 (drop_counts_view c.args.dropped.now)) c.reason.ensures.is)
+returns c =
+    counts_one c.args.fault.now c.args.dropped.now c.add.new.self
+    (c.add.ensures
+    ∙ ap
+    (λ r. with_drops (reason_view r) 1 (drop_counts_view c.args.dropped.now)) c.reason.ensures.is)

@@ -6,5 +6,6 @@ use Rattle.simple_processor.proofs.processor.give_passes.Given as goal
 
 abbrev pub invariant-loop-account : goal.invariant-loop-account
 invariant-loop-account g l =
-    (l.yielded ++ l.account-iterator.rest.items ≡ l.fn.accounts.items) × (vec_len l.passes ≡ length l.yielded) × (length l.fn.accounts.items ≤ vec_capacity l.passes)
+    (l.yielded ++ l.account-iterator.rest.items ≡ l.fn.accounts.items)
+    × (vec_len l.passes ≡ length l.yielded) × (length l.fn.accounts.items ≤ vec_capacity l.passes)
     × AllByRecursion (λ a. a ≡ new_account) l.passes.items

@@ -5,8 +5,10 @@ use Rattle.span_script.proofs.context.parse_side.Goals as goal
 
 pub returns-in-remote : goal.returns-in-remote
 unfolding is_remote_of
-returns-in-remote c = rw (text_from_reads c.args.side.now (codes "remote") (omega arith) (search rules)) refl
+returns-in-remote c =
+    rw (text_from_reads c.args.side.now (codes "remote") (omega arith) (search rules)) refl
 
 pub returns-in-local : goal.returns-in-local
 unfolding is_remote_of
-returns-in-local c = rw (text_from_reads c.args.side.now (codes "local") (omega arith) (search rules)) refl
+returns-in-local c =
+    rw (text_from_reads c.args.side.now (codes "local") (omega arith) (search rules)) refl

@@ -5,4 +5,5 @@ use Rattle.span_script.proofs.line.parse_sampler_name.Goals as goal
 
 pub returns-in-parent : goal.returns-in-parent
 unfolding sampler_of
-returns-in-parent c = rw (text_from_reads c.args.word.now (codes "parent") (omega arith) (search rules)) refl
+returns-in-parent c =
+    rw (text_from_reads c.args.word.now (codes "parent") (omega arith) (search rules)) refl

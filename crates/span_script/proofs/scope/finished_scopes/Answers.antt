@@ -10,6 +10,7 @@ nothing-left (x ∷ xs) h = absurd (omega (arith, h))
 pub returns : goal.returns
 returns g c =
     let at = c.loop-draft in
-    let empty : into_iter_items at.draft-iterator ≡ [] = nothing-left _ (sym at.invariant.1 ∙ c.in-None.ensures.steps.0) in
+    let empty : into_iter_items at.draft-iterator ≡ [] =
+    nothing-left _ (sym at.invariant.1 ∙ c.in-None.ensures.steps.0) in
     let all = rw (empty, c.into_iter-draft-iterator.ensures.into_iter_gives.0) at at.invariant.0 in
     sym (append-nil (map scope_view at.scopes.items)) ∙ all

@@ -6,5 +6,8 @@ use Rattle.span_script.proofs.scope.finished_scopes.Given as goal
 
 -- The scopes so far are finished.
 abbrev pub invariant-loop-draft : goal.invariant-loop-draft
-invariant-loop-draft g l = (map scope_view l.scopes.items ++ map finished_scope (map scope_draft_view (into_iter_items l.draft-iterator)) ≡ map finished_scope (map scope_draft_view (into_iter_items l.initial.draft-iterator)))
+invariant-loop-draft g l =
+    (map scope_view l.scopes.items
+    ++ map finished_scope (map scope_draft_view (into_iter_items l.draft-iterator))
+    ≡ map finished_scope (map scope_draft_view (into_iter_items l.initial.draft-iterator)))
     × (into_iter_len l.draft-iterator ≡ length (into_iter_items l.draft-iterator))

@@ -5,4 +5,6 @@ use Rattle.text_words.proofs.Each.{words_at, appended, rest_of}
 use Rattle.span_script.proofs.value.integers.Given as goal
 
 abbrev pub invariant-loop-member : goal.invariant-loop-member
-invariant-loop-member g l = appended l.all.items (rest_of signed_number l.members l.member-index) ≡ each_of signed_number (words_at l.members)
+invariant-loop-member g l =
+    appended l.all.items (rest_of signed_number l.members l.member-index)
+    ≡ each_of signed_number (words_at l.members)

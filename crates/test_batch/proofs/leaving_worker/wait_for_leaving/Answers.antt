@@ -12,6 +12,9 @@ use Rattle.test_batch.proofs.leaving_worker.wait_for_leaving.Goals as goal
 pub join-requires-send-F : goal.join-requires-send-F
 join-requires-send-F g c κs within =
     let r = c.type_bounds.send-R in
-    let task : IsSend Task.the_row = search (sendable, variants_send, as_row_send) depth 60 fits 20000 in
+    let task : IsSend Task.the_row =
+    search (sendable, variants_send, as_row_send) depth 60 fits 20000 in
     let p = crosses.pass_send (param 0 g.row.J) g.J.Naming (copied 1 g.row.R) r in
-    param_send 1 _ (arg_send _ no _ (five_send _ _ _ _ _ _ r heap.send (mut_send _ _ _ p) task (shr_send _ _ _ sends.stage_sync)))
+    param_send 1 _
+    (arg_send _ no _
+    (five_send _ _ _ _ _ _ r heap.send (mut_send _ _ _ p) task (shr_send _ _ _ sends.stage_sync)))

@@ -6,14 +6,17 @@ use lib.Utf8.{encode}
 use Rattle.httparse.specs.Grammar.{trim_ows}
 use Rattle.hex.proofs.OnLiterals.{hex_on_literals}
 use Rattle.trace_context.specs.Carriers.{outgoing}
-use Rattle.trace_context.specs.Keys.{is_key_around, is_key_byte, is_name, is_tenant, is_value, is_value_byte}
+use Rattle.trace_context.specs.Keys.{is_key_around, is_key_byte, is_name, is_tenant, is_value}
+use Rattle.trace_context.specs.Keys.{is_value_byte}
 use Rattle.trace_context.specs.Outgoing.{traceparent_text}
 use Rattle.trace_context.specs.Tracestate.{entries_in, is_entry, key_of, tracestate}
 use Rattle.traced_client.specs.Requests.{get_text}
 use Rattle.test_requests.proofs.worked_client.texts.Goals as goal
 
 pub returns-clause-traced : goal.returns-clause-traced
-unfolding get_text digits outgoing traceparent_text hex_on_literals tracestate entries_in is_entry key_of is_key_around is_key_byte is_name is_tenant is_value is_value_byte trim_ows is_utf8 chars encode
+unfolding get_text digits outgoing traceparent_text hex_on_literals tracestate entries_in is_entry
+    key_of is_key_around is_key_byte is_name is_tenant is_value is_value_byte trim_ows is_utf8 chars
+    encode
 returns-clause-traced c = refl
 
 pub returns-clause-untraced : goal.returns-clause-untraced

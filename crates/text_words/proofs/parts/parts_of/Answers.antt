@@ -6,4 +6,7 @@ use Rattle.text_words.proofs.parts.parts_of.Goals as goal
 pub returns : goal.returns
 returns g c =
     map_from_collect _ c.collect.ensures.ran
-    (YieldsList-from_slice_split _ (λ b. b == c.args.separator) c.args.bytes.now c.split.ensures.rest c.split.ensures.done c.split.ensures.closure (λ x b q k. search (rules, tests)))
+    (YieldsList-from_slice_split _
+    (λ b. b == c.args.separator) c.args.bytes.now c.split.ensures.rest c.split.ensures.done
+    c.split.ensures.closure
+    (λ x b q k. search (rules, tests)))

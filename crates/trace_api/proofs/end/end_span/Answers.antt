@@ -5,5 +5,6 @@ use Rattle.trace_api.proofs.end.end_span.Goals as goal
 pub returns-clause-ended : goal.returns-clause-ended
 returns-clause-ended g c =
     let ending = ending_view c.args.ending in
-    ends-as _ (ending_calls ending) c.args.at _ _ _ _ c.end.result (none-ends ending) c.in_ok-set_ending.ensures
+    ends-as _ (ending_calls ending) c.args.at _ _ _ _ c.end.result
+    (none-ends ending) c.in_ok-set_ending.ensures
     (record { not_sampled = c.end.ensures.not_sampled; sampled = c.end.ensures.sampled })

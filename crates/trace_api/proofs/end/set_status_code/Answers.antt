@@ -6,4 +6,5 @@ use Rattle.trace_api.proofs.end.set_status_code.Goals as goal
 pub returns : goal.returns
 returns c =
     let small : c.args.status < 2 ^ 63 = omega arith in
-    on-ok c.set.result (does-one _ _ _) (rw (c.int_value.ensures, to_z_pos w64 c.args.status small) at c.set.ensures.ok)
+    on-ok c.set.result (does-one _ _ _)
+    (rw (c.int_value.ensures, to_z_pos w64 c.args.status small) at c.set.ensures.ok)

@@ -9,17 +9,24 @@ use Rattle.trace_demo.proofs.words.read_words.Goals as goal
 
 pub returns-in_err-found-clause-refused : goal.returns-in_err-found-clause-refused
 returns-in_err-found-clause-refused c =
-    let cause : IfErr c.from_residual.result (given.IsCause command c.args.words.now) = first_of (search rules, grind (arith, common_steps)) in
+    let cause : IfErr c.from_residual.result (given.IsCause command c.args.words.now) =
+    first_of (search rules, grind (arith, common_steps)) in
     cause-of c.args.words.now c.from_residual.result cause
 
 pub returns-clause-refused : goal.returns-clause-refused
 returns-clause-refused c =
     let words = c.args.words.now in
     let within = c.in_ok-found.ensures.within in
-    let t : c.index-3.result.now ≡ number_in command (codes "threads") 4 words = first_of (search rules, grind (arith, common_steps)) in
-    let s : c.index-2.result.now ≡ number_in command (codes "spans") 1000 words = first_of (search rules, grind (arith, common_steps)) in
-    let q : c.index-4.result.now ≡ queue_in words = first_of (search rules, grind (arith, common_steps)) in
-    let b : c.index-5.result.now ≡ batch_in words = first_of (search rules, grind (arith, common_steps)) in
+    let t : c.index-3.result.now ≡ number_in command (codes "threads") 4 words =
+    first_of (search rules, grind (arith, common_steps)) in
+    let s : c.index-2.result.now ≡ number_in command (codes "spans") 1000 words =
+    first_of (search rules, grind (arith, common_steps)) in
+    let q : c.index-4.result.now ≡ queue_in words =
+    first_of (search rules, grind (arith, common_steps)) in
+    let b : c.index-5.result.now ≡ batch_in words =
+    first_of (search rules, grind (arith, common_steps)) in
     cause-of-batch words c.large_batch.result c.large_batch.ensures
-    (large-batch words c.index-3.result.now c.index-2.result.now c.index-4.result.now c.index-5.result.now (c.in-None.ensures.refused.0 refl) c.in_ok-found.ensures.taken t s q b
+    (large-batch words c.index-3.result.now c.index-2.result.now c.index-4.result.now
+    c.index-5.result.now
+    (c.in-None.ensures.refused.0 refl) c.in_ok-found.ensures.taken t s q b
     within.1.0 within.1.1.0 within.1.1.1.0 within.1.1.1.1.0)

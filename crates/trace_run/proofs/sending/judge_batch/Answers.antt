@@ -7,7 +7,8 @@ use Rattle.trace_run.proofs.Settling.{can-settle}
 use Rattle.trace_run.proofs.sending.judge_batch.Goals as goal
 
 pub settle-requires : goal.settle-requires
-settle-requires g c = can-settle _ _ _ (rw (c.in-Some.is, ← c.out.view_is, c.in-ToJudge.is) at c.requires.tied)
+settle-requires g c =
+    can-settle _ _ _ (rw (c.in-Some.is, ← c.out.view_is, c.in-ToJudge.is) at c.requires.tied)
 
 pub returns-in-Again-clause-replies : goal.returns-in-Again-clause-replies
 returns-in-Again-clause-replies g c =
@@ -31,7 +32,9 @@ returns-in_default-next g c =
         answered = ap (λ n. Replied n c.decide-next.result) c.number.ensures;
         is = decided;
         fate = fate_view c.unwrap.result;
-        ends = ap fate_of (sym decided) ∙ sym c.fate.ensures ∙ ap (option_map fate_view) c.unwrap.ensures;
+        ends =
+            ap fate_of (sym decided) ∙ sym c.fate.ensures
+            ∙ ap (option_map fate_view) c.unwrap.ensures;
         does = c.settle.ensures.history;
         out = refl;
         gone = ap (λ d. d.out) c.settle.ensures.desk;

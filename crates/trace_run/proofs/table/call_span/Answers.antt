@@ -20,7 +20,9 @@ pub returns-then-not-is_recording : goal.returns-then-not-is_recording
 returns-then-not-is_recording g c =
     let call = not-end c.args.call.now c.in_default.not-End in
     record {
-      made = λ k. does-nothing _ c.args.span.now k (sym c.is_recording.ensures ∙ c.if-not-is_recording.true);
+      made =
+          λ k. does-nothing _ c.args.span.now k
+          (sym c.is_recording.ensures ∙ c.if-not-is_recording.true);
       asks_nothing = λ k. refl;
       ended = rw call.1 tt;
     }
@@ -29,7 +31,13 @@ pub returns-then-is_err : goal.returns-then-is_err
 returns-then-is_err g c =
     let call = not-end c.args.call.now c.in_default.not-End in
     record {
-      made = λ k. (sym c.is_recording.ensures ∙ c.if-not-is_recording.false, where-refused c.copy_call.result (sym c.is_err.ensures.value ∙ c.if-is_err.true) c.copy_call.ensures.refused, where-refused c.copy_call.result (sym c.is_err.ensures.value ∙ c.if-is_err.true) c.copy_call.ensures.err);
+      made = λ k. (
+        sym c.is_recording.ensures ∙ c.if-not-is_recording.false,
+        where-refused c.copy_call.result
+            (sym c.is_err.ensures.value ∙ c.if-is_err.true) c.copy_call.ensures.refused,
+        where-refused c.copy_call.result
+            (sym c.is_err.ensures.value ∙ c.if-is_err.true) c.copy_call.ensures.err,
+      );
       asks_nothing = λ k. c.copy_call.ensures.asks_nothing;
       ended = rw call.1 tt;
     }
@@ -38,7 +46,9 @@ pub returns : goal.returns
 returns g c =
     let call = not-end c.args.call.now c.in_default.not-End in
     record {
-      made = λ k. where-made c.copy_call.result (sym c.is_err.ensures.value ∙ c.if-is_err.false) c.copy_call.ensures.ok;
+      made =
+          λ k. where-made c.copy_call.result
+          (sym c.is_err.ensures.value ∙ c.if-is_err.false) c.copy_call.ensures.ok;
       asks_nothing = λ k. c.copy_call.ensures.asks_nothing;
       ended = rw call.1 tt;
     }

@@ -4,4 +4,7 @@ use Rattle.trace_script.proofs.program.print.Given as goal
 
 -- The first bytes of the line are written.
 abbrev pub invariant-turns : goal.invariant-turns
-invariant-turns g l = (l.written ≤ length l.line) × Appends (g.W.Write.contents l.initial.output) (g.W.Write.contents l.output) (take l.written l.line)
+invariant-turns g l =
+    (l.written ≤ length l.line)
+    × Appends (g.W.Write.contents l.initial.output) (g.W.Write.contents l.output)
+    (take l.written l.line)

@@ -4,4 +4,5 @@ use Rattle.trace_store.proofs.facts.service_in.Given as goal
 
 -- those before said none
 abbrev pub invariant-loop-pair : goal.invariant-loop-pair
-invariant-loop-pair g l = spec.service_in (drop l.pair-index l.attributes) ≡ spec.service_in l.attributes
+invariant-loop-pair g l =
+    spec.service_in (drop l.pair-index l.attributes) ≡ spec.service_in l.attributes

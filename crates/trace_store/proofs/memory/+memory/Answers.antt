@@ -8,15 +8,24 @@ use Rattle.trace_store.proofs.MemorySteps.{all_sized, message_none, message_step
 use Rattle.trace_store.proofs.memory.+memory.Goals as goal
 
 pub message_size-returns-then-depth-eq0 : goal.message_size-returns-then-depth-eq0
-message_size-returns-then-depth-eq0 t c = message_none c.args.depth c.args.kind c.args.bytes.now c.if-depth-eq0.true
+message_size-returns-then-depth-eq0 t c =
+    message_none c.args.depth c.args.kind c.args.bytes.now c.if-depth-eq0.true
 
 pub message_size-returns-in_default : goal.message_size-returns-in_default
 message_size-returns-in_default t c =
-    let gives = subst (λ r. GivesField c.loop-field.field-iterator (Some r) c.next.new.self) c.in_default.is c.in-Some.ensures.steps in
-    all_sized (field_size (message_size (c.args.depth - 1)) c.args.kind) (row c.args.bytes.now) c.loop-field.field-iterator c.loop-field.total c.loop-field.invariant.2 (ap (λ (r : Reading (List Field)). r.value) gives.0)
-    ∙ ap at_most_64_bits (sym (message_step c.args.depth c.args.kind c.args.bytes.now c.if-depth-eq0.false))
+    let gives =
+    subst (λ r. GivesField c.loop-field.field-iterator (Some r) c.next.new.self) c.in_default.is
+    c.in-Some.ensures.steps in
+    all_sized (field_size (message_size (c.args.depth - 1)) c.args.kind)
+    (row c.args.bytes.now) c.loop-field.field-iterator c.loop-field.total c.loop-field.invariant.2
+    (ap (λ (r : Reading (List Field)). r.value) gives.0)
+    ∙ ap at_most_64_bits
+    (sym (message_step c.args.depth c.args.kind c.args.bytes.now c.if-depth-eq0.false))
 
 pub message_size-returns : goal.message_size-returns
 message_size-returns t c =
-    all_sized (field_size (message_size (c.args.depth - 1)) c.args.kind) (row c.args.bytes.now) c.loop-field.field-iterator c.loop-field.total c.loop-field.invariant.2 (ap (λ (r : Reading (List Field)). r.value) c.in-None.ensures.steps.0)
-    ∙ ap at_most_64_bits (sym (message_step c.args.depth c.args.kind c.args.bytes.now c.if-depth-eq0.false))
+    all_sized (field_size (message_size (c.args.depth - 1)) c.args.kind)
+    (row c.args.bytes.now) c.loop-field.field-iterator c.loop-field.total c.loop-field.invariant.2
+    (ap (λ (r : Reading (List Field)). r.value) c.in-None.ensures.steps.0)
+    ∙ ap at_most_64_bits
+    (sym (message_step c.args.depth c.args.kind c.args.bytes.now c.if-depth-eq0.false))

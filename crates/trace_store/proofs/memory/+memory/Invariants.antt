@@ -15,4 +15,5 @@ abbrev pub invariant-message_size-loop-field : goal.invariant-message_size-loop-
 invariant-message_size-loop-field l =
     (goal.iterator-message_size-loop-field).can_next l.field-iterator ×
     (goal.iterator-message_size-loop-field).is_finite l.field-iterator ×
-    SizedSoFar (field_size (message_size (l.depth - 1)) l.kind) (row l.bytes) l.field-iterator l.total
+    SizedSoFar (field_size (message_size (l.depth - 1)) l.kind)
+    (row l.bytes) l.field-iterator l.total

@@ -6,7 +6,12 @@ use Rattle.trace_store.proofs.parts.add_all.Goals as goal
 
 pub add_others-requires-clause-fits : goal.add_others-requires-clause-fits
 add_others-requires-clause-fits g c =
-    omega (arith, partway_count c.args.traces.now.entries c.args.parts.items c.add_new.new.traces.entries c.in_ok-others.others.items c.in_ok-others.ensures.ok, c.requires)
+    omega (
+      arith,
+      partway_count c.args.traces.now.entries c.args.parts.items c.add_new.new.traces.entries
+          c.in_ok-others.others.items c.in_ok-others.ensures.ok,
+      c.requires,
+    )
 
 pub returns-clause-ok : goal.returns-clause-ok
 returns-clause-ok g c =
@@ -16,6 +21,8 @@ returns-clause-ok g c =
       way.order,
       c.add_others.ensures
           ∙ ap (λ x. lru_cache (with_parts x others) c.add_new.new.traces.cap) way.are_added
-          ∙ ap (λ x. lru_cache x c.add_new.new.traces.cap) (sym (with_parts_append c.args.traces.now.entries way.added others))
-          ∙ ap (λ x. lru_cache (with_parts c.args.traces.now.entries (way.added ++ others)) x) c.in_ok-others.ensures.cap,
+          ∙ ap (λ x. lru_cache x c.add_new.new.traces.cap)
+          (sym (with_parts_append c.args.traces.now.entries way.added others))
+          ∙ ap (λ x. lru_cache (with_parts c.args.traces.now.entries (way.added ++ others)) x)
+          c.in_ok-others.ensures.cap,
     )

@@ -6,13 +6,21 @@ use Rattle.trace_store.proofs.parts.byte_total.Goals as goal
 pub returns-in_err-total_size : goal.returns-in_err-total_size
 returns-in_err-total_size g c =
     let within : c.loop-spans.spans-index < length c.args.parts.now = omega arith in
-    let more = one_more (sum_by g.S.SpanSize.size_of) c.args.parts.now c.loop-spans.spans-index c.loop-spans-item.result within c.loop-spans-item.is in
-    let most = le_all (sum_by g.S.SpanSize.size_of) c.args.parts.now (c.loop-spans.spans-index + 1) in
-    of_none _ _ c.from_residual.result c.from_residual.ensures (omega (arith, more, most, c.in_err-total_size.ensures))
+    let more =
+    one_more (sum_by g.S.SpanSize.size_of) c.args.parts.now c.loop-spans.spans-index
+    c.loop-spans-item.result within c.loop-spans-item.is in
+    let most =
+    le_all (sum_by g.S.SpanSize.size_of) c.args.parts.now (c.loop-spans.spans-index + 1) in
+    of_none _ _ c.from_residual.result c.from_residual.ensures
+    (omega (arith, more, most, c.in_err-total_size.ensures))
 
 pub returns-in_err-total : goal.returns-in_err-total
 returns-in_err-total g c =
     let within : c.loop-spans.spans-index < length c.args.parts.now = omega arith in
-    let more = one_more (sum_by g.S.SpanSize.size_of) c.args.parts.now c.loop-spans.spans-index c.loop-spans-item.result within c.loop-spans-item.is in
-    let most = le_all (sum_by g.S.SpanSize.size_of) c.args.parts.now (c.loop-spans.spans-index + 1) in
-    of_none _ _ c.from_residual-in_err-total.result c.from_residual-in_err-total.ensures (omega (arith, more, most, c.in_err-total.ensures, c.in_ok-total_size.ensures))
+    let more =
+    one_more (sum_by g.S.SpanSize.size_of) c.args.parts.now c.loop-spans.spans-index
+    c.loop-spans-item.result within c.loop-spans-item.is in
+    let most =
+    le_all (sum_by g.S.SpanSize.size_of) c.args.parts.now (c.loop-spans.spans-index + 1) in
+    of_none _ _ c.from_residual-in_err-total.result c.from_residual-in_err-total.ensures
+    (omega (arith, more, most, c.in_err-total.ensures, c.in_ok-total_size.ensures))

@@ -8,4 +8,5 @@ pub loop-preserved : goal.loop-preserved
 loop-preserved g c =
     c.pop_mru.ensures.entries
     ∙ ap (λ x. lru_cache (drop 1 x.entries) x.cap) c.loop.invariant
-    ∙ ap (λ x. lru_cache x c.args.traces.now.cap) (drop-drop 1 c.loop.counter c.args.traces.now.entries)
+    ∙ ap (λ x. lru_cache x c.args.traces.now.cap)
+    (drop-drop 1 c.loop.counter c.args.traces.now.entries)

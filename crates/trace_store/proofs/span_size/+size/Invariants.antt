@@ -5,10 +5,12 @@ use Rattle.trace_store.proofs.span_size.+size.Given as goal
 
 -- the bytes so far
 abbrev pub invariant-values_size-loop-value : goal.invariant-values_size-loop-value
-invariant-values_size-loop-value g l = l.total ≡ at_most_64_bits (sum_by value_bytes (take l.value-index l.values))
+invariant-values_size-loop-value g l =
+    l.total ≡ at_most_64_bits (sum_by value_bytes (take l.value-index l.values))
 
 abbrev pub invariant-pairs_size-loop-key : goal.invariant-pairs_size-loop-key
-invariant-pairs_size-loop-key g l = l.total ≡ at_most_64_bits (sum_by pair_bytes (take l.key-index l.pairs))
+invariant-pairs_size-loop-key g l =
+    l.total ≡ at_most_64_bits (sum_by pair_bytes (take l.key-index l.pairs))
 
 -- a value takes more than what is in it, and that no less than each part
 abbrev pub decreases-value_size : goal.decreases-value_size

@@ -9,5 +9,8 @@ put_new-requires g c = none_there _ (sym c.contains.ensures ∙ c.if-contains.fa
 pub returns-clause-ok : goal.returns-clause-ok
 returns-clause-ok g c =
     ok_map _ _ c.put_new.result
-    (λ put. put ∙ ap (λ x. lru_cache x c.args.traces.now.cap) (sym (with_absent c.args.traces.now.entries c.args.trace c.args.spans (none_there _ (sym c.contains.ensures ∙ c.if-contains.false)))))
+    (λ put. put
+    ∙ ap (λ x. lru_cache x c.args.traces.now.cap)
+    (sym (with_absent c.args.traces.now.entries c.args.trace c.args.spans
+    (none_there _ (sym c.contains.ensures ∙ c.if-contains.false)))))
     c.put_new.ensures.ok

@@ -4,7 +4,8 @@ use Rattle.std.specs.Cmp.Lexicographic.{slice_cmp}
 use Rattle.std.specs.Ordering.{nat_cmp}
 use Rattle.trace_tree.proofs.Ids.{nobody, ids_new, ids_known}
 use Rattle.trace_tree.proofs.parents.index_by_id.Goals as goal
-use Rattle.trace_tree.proofs.parents.index_by_id.Goals.{then-not-contains_key+in_ok-insert, else-not-contains_key}
+use Rattle.trace_tree.proofs.parents.index_by_id.Goals.{then-not-contains_key+in_ok-insert}
+use Rattle.trace_tree.proofs.parents.index_by_id.Goals.{else-not-contains_key}
 
 pub loop-index-preserved : goal.loop-index-preserved
 loop-index-preserved g c = λ id.
@@ -14,11 +15,16 @@ loop-index-preserved g c = λ id.
     let found = get (λ x y. slice_cmp nat_cmp x.now y.now) c.loop-index.indices key in
     elim c.if-not-contains_key.branch [
       | then-not-contains_key+in_ok-insert w ↦
-          ids_new c.args.spans.now c.loop-index.index nobody c.loop-index-test.true id.now old new found (c.loop-index.invariant key) (c.loop-index.invariant id)
+          ids_new c.args.spans.now c.loop-index.index nobody c.loop-index-test.true id.now old new
+          found
+          (c.loop-index.invariant key) (c.loop-index.invariant id)
           (sym c.contains_key.ensures ∙ w.if-not-contains_key.true)
-          (ap (λ m. get (λ x y. slice_cmp nat_cmp x.now y.now) m id) w.indices-is ∙ w.in_ok-insert.ensures.updates.0 id)
+          (ap (λ m. get (λ x y. slice_cmp nat_cmp x.now y.now) m id) w.indices-is
+          ∙ w.in_ok-insert.ensures.updates.0 id)
       | else-not-contains_key w ↦
-          ids_known c.args.spans.now c.loop-index.index nobody c.loop-index-test.true id.now old new found (c.loop-index.invariant key) (c.loop-index.invariant id)
+          ids_known c.args.spans.now c.loop-index.index nobody c.loop-index-test.true id.now old new
+          found
+          (c.loop-index.invariant key) (c.loop-index.invariant id)
           (sym c.contains_key.ensures ∙ w.if-not-contains_key.false)
           (ap (λ m. get (λ x y. slice_cmp nat_cmp x.now y.now) m id) w.indices-is)
     ]

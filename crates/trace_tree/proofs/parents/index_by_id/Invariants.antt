@@ -7,4 +7,7 @@ use Rattle.trace_tree.specs.Parents.{place_of_id}
 use Rattle.trace_tree.proofs.parents.index_by_id.Given as goal
 
 abbrev pub invariant-loop-index : goal.invariant-loop-index
-invariant-loop-index g l = (id : Bor (List ℕ)) → get (λ x y. slice_cmp nat_cmp x.now y.now) l.indices id ≡ place_of_id (take l.index l.spans) id.now
+invariant-loop-index g l =
+    (id : Bor (List ℕ))
+    → get (λ x y. slice_cmp nat_cmp x.now y.now) l.indices id
+    ≡ place_of_id (take l.index l.spans) id.now

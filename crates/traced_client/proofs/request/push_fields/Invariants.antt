@@ -5,4 +5,6 @@ use Rattle.traced_client.proofs.request.push_fields.Given as goal
 
 -- the lines of the fields below the index are added
 abbrev pub invariant-loop-name : goal.invariant-loop-name
-invariant-loop-name l = l.text.items ≡ l.initial.text.items ++ flat_map field_line (fields_view (take l.name-index l.fields))
+invariant-loop-name l =
+    l.text.items
+    ≡ l.initial.text.items ++ flat_map field_line (fields_view (take l.name-index l.fields))

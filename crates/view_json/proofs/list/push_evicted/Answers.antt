@@ -9,4 +9,5 @@ returns-clause-tokens g c =
     let s1 = c.begin_list.new.out.tokens in
     let s2 = c.push_traces.new.out.tokens in
     appended s0 s1 c.end_list.new.out.tokens _ _ c.in_ok-begin_list.ensures.tokens
-    (appended s1 s2 c.end_list.new.out.tokens _ _ c.in_ok-push_traces.ensures.tokens c.in_ok-end_list.ensures.tokens)
+    (appended s1 s2 c.end_list.new.out.tokens _ _ c.in_ok-push_traces.ensures.tokens
+    c.in_ok-end_list.ensures.tokens)

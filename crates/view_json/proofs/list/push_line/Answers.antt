@@ -10,5 +10,7 @@ returns-clause-tokens g c =
     let s2 = c.push_names.new.out.tokens in
     let s3 = c.push_counts.new.out.tokens in
     appended s0 s3 c.end.new.out.tokens _ _
-    (appended s0 s2 s3 _ _ (appended s0 s1 s2 _ _ c.in_ok-begin.ensures.tokens c.in_ok-push_names.ensures.tokens) c.in_ok-push_counts.ensures.tokens)
+    (appended s0 s2 s3 _ _
+    (appended s0 s1 s2 _ _ c.in_ok-begin.ensures.tokens c.in_ok-push_names.ensures.tokens)
+    c.in_ok-push_counts.ensures.tokens)
     c.in_ok-end.ensures.tokens

@@ -11,5 +11,8 @@ returns-clause-tokens g c =
     let s1 = c.push_hex.new.out.tokens in
     let s2 = c.push_short.new.out.tokens in
     appended s0 s2 c.push_short-2.new.out.tokens _ _
-    (appended s0 s1 s2 _ _ (c.in_ok-push_hex.ensures.tokens ∙ ap (λ l. s0 ++ hex_member (codes "traceId") l) c.to_be_bytes.ensures) c.in_ok-push_short.ensures.tokens)
+    (appended s0 s1 s2 _ _
+    (c.in_ok-push_hex.ensures.tokens
+    ∙ ap (λ l. s0 ++ hex_member (codes "traceId") l) c.to_be_bytes.ensures)
+    c.in_ok-push_short.ensures.tokens)
     c.in_ok-push_short-2.ensures.tokens

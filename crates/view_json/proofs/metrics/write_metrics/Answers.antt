@@ -12,5 +12,9 @@ returns g c =
     let s3 = string_bytes c.push_pending.new.out in
     let s4 = string_bytes c.push_metric.new.out in
     appended s0 s4 (string_bytes c.push_answers.new.out) _ _
-    (appended s0 s3 s4 _ _ (appended s0 s2 s3 _ _ (appended s0 s1 s2 _ _ c.in_ok-push_span_metrics.ensures c.in_ok-push_trace_metrics.ensures) c.in_ok-push_pending.ensures) c.in_ok-push_metric.ensures)
+    (appended s0 s3 s4 _ _
+    (appended s0 s2 s3 _ _
+    (appended s0 s1 s2 _ _ c.in_ok-push_span_metrics.ensures c.in_ok-push_trace_metrics.ensures)
+    c.in_ok-push_pending.ensures)
+    c.in_ok-push_metric.ensures)
     c.in_ok-push_answers.ensures

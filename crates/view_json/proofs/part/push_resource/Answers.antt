@@ -16,5 +16,6 @@ returns-clause-seen g c =
     (appended s0 s2 s3 _ _
     (appended s0 s1 s2 _ _ c.in_ok-begin_member.ensures.seen
     (named attributes_member s1 s2 c.in_ok-push_attributes.ensures.seen c.deref.ensures.value))
-    (named (λ l. seen (number_member (codes "droppedAttributesCount") l)) s2 s3 c.in_ok-push_number.ensures.seen c.from-dropped.ensures))
+    (named (λ l. seen (number_member (codes "droppedAttributesCount") l)) s2 s3
+    c.in_ok-push_number.ensures.seen c.from-dropped.ensures))
     c.end.ensures.seen

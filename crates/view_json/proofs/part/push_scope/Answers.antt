@@ -19,8 +19,11 @@ returns-clause-seen g c =
     (appended s0 s3 s4 _ _
     (appended s0 s2 s3 _ _
     (appended s0 s1 s2 _ _ c.in_ok-begin_member.ensures.seen
-    (named (λ l. seen (text_member (codes "name") l)) s1 s2 c.in_ok-push_text.ensures.seen c.deref.ensures))
-    (named (λ l. seen (text_member (codes "version") l)) s2 s3 c.in_ok-push_text-2.ensures.seen c.deref-2.ensures))
+    (named (λ l. seen (text_member (codes "name") l)) s1 s2 c.in_ok-push_text.ensures.seen
+    c.deref.ensures))
+    (named (λ l. seen (text_member (codes "version") l)) s2 s3 c.in_ok-push_text-2.ensures.seen
+    c.deref-2.ensures))
     (named attributes_member s3 s4 c.in_ok-push_attributes.ensures.seen c.deref-3.ensures.value))
-    (named (λ l. seen (number_member (codes "droppedAttributesCount") l)) s4 s5 c.in_ok-push_number.ensures.seen c.from-dropped.ensures))
+    (named (λ l. seen (number_member (codes "droppedAttributesCount") l)) s4 s5
+    c.in_ok-push_number.ensures.seen c.from-dropped.ensures))
     c.end.ensures.seen

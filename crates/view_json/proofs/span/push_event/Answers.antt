@@ -20,7 +20,9 @@ returns-clause-seen g c =
     (appended s0 s2 s3 _ _
     (appended s0 s1 s2 _ _ c.in_ok-begin.ensures.seen
     c.in_ok-push_long.ensures.seen)
-    (named (λ l. seen (text_member (codes "name") l)) s2 s3 c.in_ok-push_text.ensures.seen c.deref.ensures))
+    (named (λ l. seen (text_member (codes "name") l)) s2 s3 c.in_ok-push_text.ensures.seen
+    c.deref.ensures))
     (named attributes_member s3 s4 c.in_ok-push_attributes.ensures.seen c.deref-2.ensures.value))
-    (named (λ l. seen (number_member (codes "droppedAttributesCount") l)) s4 s5 c.in_ok-push_number.ensures.seen c.from-dropped.ensures))
+    (named (λ l. seen (number_member (codes "droppedAttributesCount") l)) s4 s5
+    c.in_ok-push_number.ensures.seen c.from-dropped.ensures))
     c.end.ensures.seen

@@ -7,6 +7,7 @@ use Rattle.view_json.proofs.span.push_events.Given as goal
 -- what is written, and then those that are left, are all
 abbrev pub invariant-loop-event : goal.invariant-loop-event
 invariant-loop-event g l = record {
-  written : seen l.out.tokens ++ flat_map event_seen (drop l.event-index l.events) ≡ seen l.fn.out.tokens ++ flat_map event_seen l.events;
+  written : seen l.out.tokens ++ flat_map event_seen (drop l.event-index l.events)
+      ≡ seen l.fn.out.tokens ++ flat_map event_seen l.events;
   before : l.out.before ≡ l.fn.out.before;
 }

@@ -16,8 +16,14 @@ returns-clause-seen g c =
     appended s0 s4 s5 _ _
     (appended s0 s3 s4 _ _
     (appended s0 s2 s3 _ _
-    (appended s0 s1 s2 _ _ (named (λ l. seen (hex_member (codes "traceId") l)) s0 s1 c.in_ok-push_hex.ensures.seen c.deref.ensures.value)
-    (named (λ l. seen (hex_member (codes "spanId") l)) s1 s2 c.in_ok-push_hex-2.ensures.seen c.deref-2.ensures.value))
-    (named (λ l. seen (text_member (codes "traceState") l)) s2 s3 c.in_ok-push_text.ensures.seen c.deref-3.ensures))
-    (named (λ l. seen (hex_member (codes "parentSpanId") l)) s3 s4 c.in_ok-push_hex-3.ensures.seen c.deref-4.ensures.value))
-    (named (λ l. seen (number_member (codes "flags") l)) s4 s5 c.in_ok-push_number.ensures.seen c.from.ensures)
+    (appended s0 s1 s2 _ _
+    (named (λ l. seen (hex_member (codes "traceId") l)) s0 s1 c.in_ok-push_hex.ensures.seen
+    c.deref.ensures.value)
+    (named (λ l. seen (hex_member (codes "spanId") l)) s1 s2 c.in_ok-push_hex-2.ensures.seen
+    c.deref-2.ensures.value))
+    (named (λ l. seen (text_member (codes "traceState") l)) s2 s3 c.in_ok-push_text.ensures.seen
+    c.deref-3.ensures))
+    (named (λ l. seen (hex_member (codes "parentSpanId") l)) s3 s4 c.in_ok-push_hex-3.ensures.seen
+    c.deref-4.ensures.value))
+    (named (λ l. seen (number_member (codes "flags") l)) s4 s5 c.in_ok-push_number.ensures.seen
+    c.from.ensures)

@@ -21,6 +21,8 @@ returns-clause-seen g c =
     (appended s0 s1 s2 _ _ c.in_ok-begin.ensures.seen
     c.in_ok-push_target.ensures.seen)
     (named attributes_member s2 s3 c.in_ok-push_attributes.ensures.seen c.deref.ensures.value))
-    (named (λ l. seen (number_member (codes "droppedAttributesCount") l)) s3 s4 c.in_ok-push_number.ensures.seen c.from-dropped.ensures))
-    (named (λ l. seen (number_member (codes "flags") l)) s4 s5 c.in_ok-push_number-2.ensures.seen c.from.ensures))
+    (named (λ l. seen (number_member (codes "droppedAttributesCount") l)) s3 s4
+    c.in_ok-push_number.ensures.seen c.from-dropped.ensures))
+    (named (λ l. seen (number_member (codes "flags") l)) s4 s5 c.in_ok-push_number-2.ensures.seen
+    c.from.ensures))
     c.end.ensures.seen

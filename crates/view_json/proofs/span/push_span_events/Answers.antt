@@ -17,4 +17,5 @@ returns-clause-seen g c =
     (appended s0 s1 s2 _ _ c.in_ok-begin_list.ensures.seen
     (named (flat_map event_seen) s1 s2 c.in_ok-push_events.ensures.seen c.deref.ensures.value))
     c.in_ok-end_list.ensures.seen)
-    (named (λ l. seen (number_member (codes "droppedEventsCount") l)) s3 (seen c.push_number.new.out.tokens) c.in_ok-push_number.ensures.seen c.from.ensures)
+    (named (λ l. seen (number_member (codes "droppedEventsCount") l)) s3
+    (seen c.push_number.new.out.tokens) c.in_ok-push_number.ensures.seen c.from.ensures)

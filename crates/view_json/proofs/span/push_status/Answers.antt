@@ -15,6 +15,8 @@ returns-clause-seen g c =
     last c.end.result s0 s3 (seen c.end.new.out.tokens) _ _
     (appended s0 s2 s3 _ _
     (appended s0 s1 s2 _ _ c.in_ok-begin_member.ensures.seen
-    (named (λ l. seen (text_member (codes "message") l)) s1 s2 c.in_ok-push_text.ensures.seen c.deref.ensures))
-    (named (λ l. seen (signed_member (codes "code") l)) s2 s3 c.in_ok-push_signed.ensures.seen (to_z-of_z fits)))
+    (named (λ l. seen (text_member (codes "message") l)) s1 s2 c.in_ok-push_text.ensures.seen
+    c.deref.ensures))
+    (named (λ l. seen (signed_member (codes "code") l)) s2 s3 c.in_ok-push_signed.ensures.seen
+    (to_z-of_z fits)))
     c.end.ensures.seen

@@ -12,6 +12,10 @@ returns-clause-seen g c =
     let s2 = seen c.push_hex-2.new.out.tokens in
     let s3 = seen c.push_text.new.out.tokens in
     appended s0 s2 s3 _ _
-    (appended s0 s1 s2 _ _ (named (λ l. seen (hex_member (codes "traceId") l)) s0 s1 c.in_ok-push_hex.ensures.seen c.deref.ensures.value)
-    (named (λ l. seen (hex_member (codes "spanId") l)) s1 s2 c.in_ok-push_hex-2.ensures.seen c.deref-2.ensures.value))
-    (named (λ l. seen (text_member (codes "traceState") l)) s2 s3 c.in_ok-push_text.ensures.seen c.deref-3.ensures)
+    (appended s0 s1 s2 _ _
+    (named (λ l. seen (hex_member (codes "traceId") l)) s0 s1 c.in_ok-push_hex.ensures.seen
+    c.deref.ensures.value)
+    (named (λ l. seen (hex_member (codes "spanId") l)) s1 s2 c.in_ok-push_hex-2.ensures.seen
+    c.deref-2.ensures.value))
+    (named (λ l. seen (text_member (codes "traceState") l)) s2 s3 c.in_ok-push_text.ensures.seen
+    c.deref-3.ensures)

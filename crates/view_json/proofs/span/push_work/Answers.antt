@@ -14,7 +14,10 @@ returns-clause-seen g c =
     let fits : SFits w32 c.args.span.now.kind = search rules in
     last c.push_long-2.result s0 s3 (seen c.push_long-2.new.out.tokens) _ _
     (appended s0 s2 s3 _ _
-    (appended s0 s1 s2 _ _ (named (λ l. seen (text_member (codes "name") l)) s0 s1 c.in_ok-push_text.ensures.seen c.deref.ensures)
-    (named (λ l. seen (signed_member (codes "kind") l)) s1 s2 c.in_ok-push_signed.ensures.seen (to_z-of_z fits)))
+    (appended s0 s1 s2 _ _
+    (named
+    (λ l. seen (text_member (codes "name") l)) s0 s1 c.in_ok-push_text.ensures.seen c.deref.ensures)
+    (named (λ l. seen (signed_member (codes "kind") l)) s1 s2 c.in_ok-push_signed.ensures.seen
+    (to_z-of_z fits)))
     c.in_ok-push_long.ensures.seen)
     c.push_long-2.ensures.seen

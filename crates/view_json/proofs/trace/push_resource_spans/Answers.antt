@@ -16,7 +16,11 @@ returns-clause-seen g c =
     let s6 = seen c.push_text.new.out.tokens in
     last c.end.result s0 s6 (seen c.end.new.out.tokens) _ _
     (appended s0 s5 s6 _ _
-    (appended s0 s2 s5 _ _ (appended s0 s1 s2 _ _ c.in_ok-begin.ensures.seen c.in_ok-push_resource.ensures.seen)
-    (appended s2 s4 s5 _ _ (appended s2 s3 s4 _ _ c.in_ok-begin_list.ensures.seen c.in_ok-push_scope_spans.ensures.seen) c.in_ok-end_list.ensures.seen))
-    (named (λ l. seen (text_member (codes "schemaUrl") l)) s5 s6 c.in_ok-push_text.ensures.seen c.deref.ensures))
+    (appended s0 s2 s5 _ _
+    (appended s0 s1 s2 _ _ c.in_ok-begin.ensures.seen c.in_ok-push_resource.ensures.seen)
+    (appended s2 s4 s5 _ _
+    (appended s2 s3 s4 _ _ c.in_ok-begin_list.ensures.seen c.in_ok-push_scope_spans.ensures.seen)
+    c.in_ok-end_list.ensures.seen))
+    (named (λ l. seen (text_member (codes "schemaUrl") l)) s5 s6 c.in_ok-push_text.ensures.seen
+    c.deref.ensures))
     c.end.ensures.seen

@@ -9,13 +9,15 @@ use Rattle.view_json.proofs.value.+value.Given as goal
 -- what is written, and then those that are left, are all
 abbrev pub invariant-push_array-loop-value : goal.invariant-push_array-loop-value
 invariant-push_array-loop-value g l = record {
-  written : seen l.out.tokens ++ flat_map value_seen (drop l.value-index l.values) ≡ seen l.initial.out.tokens ++ flat_map value_seen l.values;
+  written : seen l.out.tokens ++ flat_map value_seen (drop l.value-index l.values)
+      ≡ seen l.initial.out.tokens ++ flat_map value_seen l.values;
   before : l.out.before ≡ l.initial.out.before;
 }
 
 abbrev pub invariant-push_pairs-loop-key : goal.invariant-push_pairs-loop-key
 invariant-push_pairs-loop-key g l = record {
-  written : seen l.out.tokens ++ flat_map pair_seen (drop l.key-index l.pairs) ≡ seen l.initial.out.tokens ++ flat_map pair_seen l.pairs;
+  written : seen l.out.tokens ++ flat_map pair_seen (drop l.key-index l.pairs)
+      ≡ seen l.initial.out.tokens ++ flat_map pair_seen l.pairs;
   before : l.out.before ≡ l.initial.out.before;
 }
 

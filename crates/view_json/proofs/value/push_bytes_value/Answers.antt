@@ -5,5 +5,8 @@ use Rattle.view_json.proofs.value.push_bytes_value.Goals as goal
 
 pub returns-clause-seen : goal.returns-clause-seen
 returns-clause-seen g c =
-    written_is c.push_text_value.result (seen c.args.out.now.tokens) (seen c.push_text_value.new.out.tokens) _ _
-    (ap (λ t. braces (seen (text_member (codes "bytesValue") t))) (c.deref.ensures ∙ c.in_ok-text.ensures.text)) c.push_text_value.ensures.seen
+    written_is c.push_text_value.result (seen c.args.out.now.tokens)
+    (seen c.push_text_value.new.out.tokens) _ _
+    (ap (λ t. braces (seen (text_member (codes "bytesValue") t)))
+    (c.deref.ensures ∙ c.in_ok-text.ensures.text))
+    c.push_text_value.ensures.seen

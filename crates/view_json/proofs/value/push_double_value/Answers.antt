@@ -4,7 +4,10 @@ use Rattle.view_json.proofs.value.push_double_value.Goals as goal
 
 pub returns-clause-seen : goal.returns-clause-seen
 returns-clause-seen g c =
-    last c.end.result (seen c.args.out.now.tokens) (seen c.push_float.new.out.tokens) (seen c.end.new.out.tokens) _ _
-    (appended (seen c.args.out.now.tokens) (seen c.push_key.new.out.tokens) (seen c.push_float.new.out.tokens) _ _
-    (appended (seen c.args.out.now.tokens) (seen c.begin.new.out.tokens) (seen c.push_key.new.out.tokens) _ _ c.in_ok-begin.ensures.seen c.in_ok-push_key.ensures.seen)
+    last c.end.result (seen c.args.out.now.tokens) (seen c.push_float.new.out.tokens)
+    (seen c.end.new.out.tokens) _ _
+    (appended (seen c.args.out.now.tokens) (seen c.push_key.new.out.tokens)
+    (seen c.push_float.new.out.tokens) _ _
+    (appended (seen c.args.out.now.tokens) (seen c.begin.new.out.tokens)
+    (seen c.push_key.new.out.tokens) _ _ c.in_ok-begin.ensures.seen c.in_ok-push_key.ensures.seen)
     c.in_ok-push_float.ensures.seen) c.end.ensures.seen

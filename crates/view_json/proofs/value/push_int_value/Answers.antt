@@ -11,5 +11,7 @@ returns-clause-seen g c =
     let s2 = seen c.push_signed_long.new.out.tokens in
     last c.end.result s0 s2 (seen c.end.new.out.tokens) _ _
     (appended s0 s1 s2 _ _ c.in_ok-begin.ensures.seen
-    (named (λ z. seen (text_member (codes "intValue") (signed_decimal z))) s1 s2 c.in_ok-push_signed_long.ensures.seen (to_z-of_z c.ranges.number)))
+    (named (λ z. seen (text_member (codes "intValue") (signed_decimal z))) s1 s2
+    c.in_ok-push_signed_long.ensures.seen
+    (to_z-of_z c.ranges.number)))
     c.end.ensures.seen

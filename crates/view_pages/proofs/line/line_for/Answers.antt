@@ -12,7 +12,9 @@ returns-in-Some g c =
     let spans = c.args.spans.now in
     let index = c.args.row.index in
     let found : slice_get spans index ≡ Some c.in-Some.span.now =
-    slice_get_read spans (length spans) index c.in-Some.span.now refl c.in-Some.ensures.lookup.3.0 c.in-Some.ensures.lookup.1 in
+    slice_get_read spans
+    (length spans) index c.in-Some.span.now refl c.in-Some.ensures.lookup.3.0
+    c.in-Some.ensures.lookup.1 in
     line_is spans c.args.row (Some c.in-Some.span.now) c.mark_of.result c.colour_by.result found
     (c.mark_of.ensures
     ∙ ap (λ u. mark_by u index) (c.requires.uses.each c.deref.result)
@@ -24,4 +26,5 @@ returns-in-Some g c =
 
 pub returns-in-None : goal.returns-in-None
 returns-in-None g c =
-    line_is c.args.spans.now c.args.row None (record { is_first = false; is_repeated = false }) 0 (slice_get_past c.args.spans.now c.args.row.index c.in-None.ensures.lookup.3) refl refl
+    line_is c.args.spans.now c.args.row None (record { is_first = false; is_repeated = false }) 0
+    (slice_get_past c.args.spans.now c.args.row.index c.in-None.ensures.lookup.3) refl refl

@@ -5,4 +5,5 @@ use Rattle.view_pages.proofs.list.push_list_head.Goals as goal
 pub returns : goal.returns
 unfolding list_head_html
 returns g c =
-    after _ _ _ _ _ _ c.in_ok-push_start.ensures (after _ _ _ _ _ _ c.in_ok-push_markup.ensures c.push_form.ensures)
+    after _ _ _ _ _ _ c.in_ok-push_start.ensures
+    (after _ _ _ _ _ _ c.in_ok-push_markup.ensures c.push_form.ensures)

@@ -5,4 +5,5 @@ use Rattle.view_pages.proofs.list.push_none.Goals as goal
 pub returns : goal.returns
 unfolding none_html
 returns g c =
-    after _ _ _ _ _ _ c.in_ok-push_markup.ensures (after _ _ _ _ _ _ c.in_ok-push_grouped.ensures c.push_markup-2.ensures)
+    after _ _ _ _ _ _ c.in_ok-push_markup.ensures
+    (after _ _ _ _ _ _ c.in_ok-push_grouped.ensures c.push_markup-2.ensures)

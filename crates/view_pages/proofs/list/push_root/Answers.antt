@@ -9,4 +9,5 @@ pub returns-then-is_empty : goal.returns-then-is_empty
 unfolding root_html
 returns-then-is_empty g c =
     let none : (length c.args.name.now == 0) ≡ true = search rules in
-    chosen c.push_markup.result (length c.args.name.now == 0) _ _ (Markup (codes "<i>(no name)</i>")) (short_html c.args.name.now) none c.push_markup.ensures
+    chosen c.push_markup.result (length c.args.name.now == 0) _ _
+    (Markup (codes "<i>(no name)</i>")) (short_html c.args.name.now) none c.push_markup.ensures

@@ -10,5 +10,7 @@ pub returns : goal.returns
 unfolding short_html
 returns g c =
     let shown = take_chars 120 c.args.text.now in
-    after _ _ _ _ _ _ (same _ _ _ _ Text (c.deref.ensures ∙ c.in_ok-front.ensures) c.in_ok-push_text.ensures)
-    (same_ok c.push_more.result _ (nat_lt (length shown) (length c.args.text.now)) _ _ more_html (search (rules, c.in_ok-front.ensures)) c.push_more.ensures)
+    after _ _ _ _ _ _
+    (same _ _ _ _ Text (c.deref.ensures ∙ c.in_ok-front.ensures) c.in_ok-push_text.ensures)
+    (same_ok c.push_more.result _ (nat_lt (length shown) (length c.args.text.now)) _ _ more_html
+    (search (rules, c.in_ok-front.ensures)) c.push_more.ensures)

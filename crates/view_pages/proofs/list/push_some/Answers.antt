@@ -5,4 +5,7 @@ use Rattle.view_pages.proofs.list.push_some.Goals as goal
 pub returns : goal.returns
 unfolding some_html
 returns g c =
-    after _ _ _ _ _ _ c.in_ok-push_markup.ensures (after _ _ _ _ _ _ c.in_ok-push_grouped.ensures (after _ _ _ _ _ _ c.in_ok-push_markup-2.ensures (after _ _ _ _ _ _ c.in_ok-push_grouped-2.ensures c.push_markup-3.ensures)))
+    after _ _ _ _ _ _ c.in_ok-push_markup.ensures
+    (after _ _ _ _ _ _ c.in_ok-push_grouped.ensures
+    (after _ _ _ _ _ _ c.in_ok-push_markup-2.ensures
+    (after _ _ _ _ _ _ c.in_ok-push_grouped-2.ensures c.push_markup-3.ensures)))

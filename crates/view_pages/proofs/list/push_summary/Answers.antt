@@ -5,4 +5,5 @@ use Rattle.view_pages.proofs.list.push_summary.Goals as goal
 pub returns : goal.returns
 unfolding summary_html
 returns g c =
-    after _ _ _ _ _ _ c.in_ok-push_name.ensures (after _ _ _ _ _ _ c.in_ok-push_sizes.ensures c.push_when.ensures)
+    after _ _ _ _ _ _ c.in_ok-push_name.ensures
+    (after _ _ _ _ _ _ c.in_ok-push_sizes.ensures c.push_when.ensures)

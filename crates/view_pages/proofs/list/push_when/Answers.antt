@@ -5,4 +5,6 @@ use Rattle.view_pages.proofs.list.push_when.Goals as goal
 pub returns : goal.returns
 unfolding when_html
 returns g c =
-    after _ _ _ _ _ _ c.in_ok-push_markup.ensures (after _ _ _ _ _ _ c.in_ok-push_duration.ensures (after _ _ _ _ _ _ c.in_ok-push_markup-2.ensures c.push_second.ensures))
+    after _ _ _ _ _ _ c.in_ok-push_markup.ensures
+    (after _ _ _ _ _ _ c.in_ok-push_duration.ensures
+    (after _ _ _ _ _ _ c.in_ok-push_markup-2.ensures c.push_second.ensures))

@@ -8,5 +8,7 @@ use Rattle.view_pages.proofs.panel.push_trace_state.Goals as goal
 pub returns : goal.returns
 unfolding trace_state_html
 returns g c =
-    if_some c.push_text.result (length c.args.trace_state.now) Nothing (Markup (codes "<dt>trace state<dd>") ▹ Text c.args.trace_state.now) _ _ c.if-trace_state-eq0.false
+    if_some c.push_text.result (length c.args.trace_state.now) Nothing
+    (Markup (codes "<dt>trace state<dd>") ▹ Text c.args.trace_state.now) _ _
+    c.if-trace_state-eq0.false
     (after _ _ _ _ _ _ c.in_ok-push_markup.ensures c.push_text.ensures)

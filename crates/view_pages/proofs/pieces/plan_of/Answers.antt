@@ -9,7 +9,8 @@ returns g c = record {
   lent = c.in_ok-lent.lent.items;
   are_lent = c.in_ok-lent.ensures;
   rows = c.in_ok-rows.rows.items;
-  are_rows = subst (λ l. AreRows l c.in_ok-rows.rows.items) c.deref.ensures.value c.in_ok-rows.ensures;
+  are_rows =
+      subst (λ l. AreRows l c.in_ok-rows.rows.items) c.deref.ensures.value c.in_ok-rows.ensures;
   lines_are =
       c.in_ok-lines.ensures
       ∙ ap (λ l. map (line_for l) c.deref-3.result.now) c.deref-2.ensures.value

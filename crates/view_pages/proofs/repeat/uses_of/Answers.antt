@@ -13,9 +13,11 @@ loop-place-preserved g c = record {
   each = λ q.
       let old = get (λ x y. slice_cmp nat_cmp x.now y.now) c.loop-place.uses q in
       let new = get (λ x y. slice_cmp nat_cmp x.now y.now) c.insert.new.self q in
-      uses_more c.args.spans.now c.loop-place.place c.index-spans-place.result q.now c.deref-id.result.now old new c.copied-before.result c.next_use.result
+      uses_more c.args.spans.now c.loop-place.place c.index-spans-place.result q.now
+      c.deref-id.result.now old new c.copied-before.result c.next_use.result
       c.loop-place-test.true c.index-spans-place.is c.deref-id.ensures.value
-      (c.copied-before.ensures ∙ c.get.ensures.value ∙ c.loop-place.invariant.each c.deref-id.result)
+      (c.copied-before.ensures ∙ c.get.ensures.value
+      ∙ c.loop-place.invariant.each c.deref-id.result)
       (c.loop-place.invariant.each q)
       c.next_use.ensures (c.in_ok-insert.ensures.updates.0 q);
 }

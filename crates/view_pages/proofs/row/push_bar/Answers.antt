@@ -6,4 +6,9 @@ use Rattle.view_pages.proofs.row.push_bar.Goals as goal
 pub returns : goal.returns
 unfolding bar_html
 returns g c =
-    after _ _ _ _ _ _ c.in_ok-push_markup.ensures (after _ _ _ _ _ _ (same _ _ _ _ Number c.share_of.ensures.value c.in_ok-push_number.ensures) (after _ _ _ _ _ _ c.in_ok-push_markup-2.ensures (after _ _ _ _ _ _ (same _ _ _ _ Number c.width_of.ensures c.in_ok-push_number-2.ensures) c.push_markup-3.ensures)))
+    after _ _ _ _ _ _ c.in_ok-push_markup.ensures
+    (after _ _ _ _ _ _ (same _ _ _ _ Number c.share_of.ensures.value c.in_ok-push_number.ensures)
+    (after _ _ _ _ _ _ c.in_ok-push_markup-2.ensures
+    (after _ _ _ _ _ _
+    (same _ _ _ _ Number c.width_of.ensures c.in_ok-push_number-2.ensures)
+    c.push_markup-3.ensures)))

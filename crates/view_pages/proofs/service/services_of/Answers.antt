@@ -11,5 +11,6 @@ loop-span-preserved g c =
     let before = services_of (take c.loop-span.span-index c.args.spans.now) in
     subst (λ l. AreServices l c.add_name.new.places)
     (ap (with_name before) (c.as_bytes.ensures.value ∙ c.service_of.ensures)
-    ∙ sym (services_more c.args.spans.now c.loop-span.span-index c.span-item.result c.loop-span-test.true c.span-item.is))
+    ∙ sym (services_more c.args.spans.now c.loop-span.span-index c.span-item.result
+    c.loop-span-test.true c.span-item.is))
     (c.in_ok-add_name.ensures before c.loop-span.invariant)

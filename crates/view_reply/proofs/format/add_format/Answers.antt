@@ -11,7 +11,8 @@ returns-in_ok-add_safety-in_default c =
     let kind = rw c.media_type.ensures.value at first.fields in
     record {
       fields = add_two _ _ _ _ _ kind rest.fields
-          ∙ ap (λ l. fields_of c.args.response.now ++ l) (sym (safe_unless c.args.format c.in_default.not-Protobuf));
+          ∙ ap (λ l. fields_of c.args.response.now ++ l)
+          (sym (safe_unless c.args.format c.in_default.not-Protobuf));
       status = rest.status ∙ first.status;
       body = rest.body ∙ first.body;
     }

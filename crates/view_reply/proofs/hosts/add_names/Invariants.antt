@@ -7,4 +7,5 @@ use Rattle.view_reply.proofs.hosts.add_names.Given as goal
 abbrev pub invariant-loop-name : goal.invariant-loop-name
 invariant-loop-name l =
     map string_bytes l.texts.items
-    ≡ map string_bytes l.fn.texts.items ++ flat_map (λ name. as_given l.port (string_bytes name)) (take l.name-index l.names)
+    ≡ map string_bytes l.fn.texts.items
+    ++ flat_map (λ name. as_given l.port (string_bytes name)) (take l.name-index l.names)

@@ -5,7 +5,9 @@ use Rattle.view_service.proofs.site.text_of.Goals as goal
 
 pub returns : goal.returns
 returns c =
-    let text = of_ok c.write_trace_text-written.result c.in_ok-put.ensures.written c.write_trace_text-written.ensures in (
+    let text =
+    of_ok c.write_trace_text-written.result c.in_ok-put.ensures.written
+    c.write_trace_text-written.ensures in (
       c.deref.result.now,
       ap (map (λ b. b.now)) c.deref.ensures.value ∙ c.in_ok-lent.ensures,
       text.0,

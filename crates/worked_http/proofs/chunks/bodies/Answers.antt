@@ -4,17 +4,29 @@ use Rattle.httparse.specs.Grammar.{crlf, lf}
 use Rattle.httparse.proofs.OnLiterals.{httparse_on_literals}
 use Rattle.http_wire.specs.Chunks.{Chunk, IsChunk, Trailers, whole}
 use Rattle.worked_http.specs.Replied.{usual}
-use Rattle.worked_http.proofs.ChunkParts.{plain, line_is, trailers_are, chunk_is, no_chunks, plain_end, abc_body}
+use Rattle.worked_http.proofs.ChunkParts.{plain, line_is, trailers_are, chunk_is, no_chunks}
+use Rattle.worked_http.proofs.ChunkParts.{plain_end, abc_body}
 use Rattle.worked_http.proofs.chunks.bodies.Goals as goal
 
 abbrev wiki : Chunk
-wiki = record { line = record { digits = codes "4"; pad = []; extension = Some (codes "a=b") }; bytes = codes "wiki" }
+wiki = record {
+  line = record { digits = codes "4"; pad = []; extension = Some (codes "a=b") };
+  bytes = codes "wiki";
+}
 
 abbrev ten : Chunk
-ten = record { line = record { digits = codes "0A"; pad = codes " \t"; extension = None }; bytes = codes "0123456789" }
+ten = record {
+  line = record { digits = codes "0A"; pad = codes " \t"; extension = None };
+  bytes = codes "0123456789";
+}
 
 abbrev two : Trailers
-two = record { fields = record { name = codes "A"; raw = codes " b"; end = lf } ∷ record { name = codes "C"; raw = []; end = crlf } ∷ []; last = crlf }
+two = record {
+  fields =
+      record { name = codes "A"; raw = codes " b"; end = lf }
+      ∷ record { name = codes "C"; raw = []; end = crlf } ∷ [];
+  last = crlf;
+}
 
 pub returns-clause-empty : goal.returns-clause-empty
 returns-clause-empty c = no_chunks usual (codes "0\r\n\r\n") plain_end
@@ -29,8 +41,11 @@ returns-clause-dressed c = record {
   text = codes "00\r\nA: b\nC:\r\n\r\n";
   each = All-cons (IsChunk usual.head) wiki (ten ∷ [])
       (chunk_is usual.head wiki refl refl refl refl)
-      (All-cons (IsChunk usual.head) ten [] (chunk_is usual.head ten refl refl refl refl) (All-nil (IsChunk usual.head)));
+      (All-cons (IsChunk usual.head) ten [] (chunk_is usual.head ten refl refl refl refl)
+      (All-nil (IsChunk usual.head)));
   fit = omega arith;
   whole = refl;
-  ends = whole (plain (codes "00")) two (line_is usual.head (plain (codes "00")) refl refl) refl (trailers_are usual two refl refl refl) refl refl;
+  ends =
+      whole (plain (codes "00")) two (line_is usual.head (plain (codes "00")) refl refl) refl
+      (trailers_are usual two refl refl refl) refl refl;
 }

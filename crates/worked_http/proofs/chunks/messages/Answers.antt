@@ -28,23 +28,29 @@ no_end (more, a ∷ b ∷ x ∷ y ∷ rest, size, e) = omega (arith, size)
 bad : (left : List ℕ) → IsChunkedBody usual (codes "3\r\nabc0") (Some left) ⊥ (Err faults.BadChunk)
 unfolding httparse_on_literals
 bad left = no_chunks usual (codes "3\r\nabc0")
-    (no_data abc.line (codes "abc0") faults.BadChunk (line_is usual.head abc.line refl refl) (omega arith) (omega arith) refl (no_end, omega arith) refl)
+    (no_data abc.line (codes "abc0") faults.BadChunk (line_is usual.head abc.line refl refl)
+    (omega arith) (omega arith) refl (no_end, omega arith) refl)
 
 pub returns-clause-reply : goal.returns-clause-reply
 unfolding httparse_on_literals
 returns-clause-reply c =
-    replied [] ok (codes "3\r\nabc\r\n0\r\n\r\n") (All-nil (IsInterim usual)) refl refl refl refl refl refl refl refl refl (abc_body (codes "HTTP"))
+    replied [] ok (codes "3\r\nabc\r\n0\r\n\r\n")
+    (All-nil (IsInterim usual)) refl refl refl refl refl refl refl refl refl
+    (abc_body (codes "HTTP"))
 
 pub returns-clause-bad_reply : goal.returns-clause-bad_reply
 unfolding httparse_on_literals
 returns-clause-bad_reply c =
-    replied [] ok (codes "3\r\nabc0") (All-nil (IsInterim usual)) refl refl refl refl refl refl refl refl refl (bad (codes "\r\n"))
+    replied [] ok (codes "3\r\nabc0")
+    (All-nil (IsInterim usual)) refl refl refl refl refl refl refl refl refl (bad (codes "\r\n"))
 
 pub returns-clause-post : goal.returns-clause-post
 unfolding httparse_on_literals
 returns-clause-post c =
-    posted coded (codes "3\r\nabc\r\n0\r\n\r\n") refl refl refl refl refl refl refl (one_field (codes "Transfer-Encoding") (codes "chunked")) (abc_body (codes "PUT"))
+    posted coded (codes "3\r\nabc\r\n0\r\n\r\n") refl refl refl refl refl refl refl
+    (one_field (codes "Transfer-Encoding") (codes "chunked")) (abc_body (codes "PUT"))
 
 pub returns-clause-bad_post : goal.returns-clause-bad_post
 unfolding httparse_on_literals
-returns-clause-bad_post c = without_body usual coded (codes "3\r\nabc0") refl refl refl refl refl (bad (codes "\r\n"))
+returns-clause-bad_post c =
+    without_body usual coded (codes "3\r\nabc0") refl refl refl refl refl (bad (codes "\r\n"))

@@ -6,7 +6,8 @@ use Rattle.httpdate.specs.Reader.{read_name, read_tag, read_time, read_two_digit
 use Rattle.worked_http.proofs.fields.waits.Goals as goal
 
 pub returns-clause-date : goal.returns-clause-date
-unfolding parse parse_imf_fixdate read_name read_tag read_time read_two_digits read_year days_of_months days_of_years
+unfolding parse parse_imf_fixdate read_name read_tag read_time read_two_digits read_year
+    days_of_months days_of_years
 returns-clause-date c = refl
 
 pub returns-clause-word : goal.returns-clause-word

@@ -14,23 +14,33 @@ returns-clause-front c due =
 
 pub returns-clause-first : goal.returns-clause-first
 returns-clause-first c =
-    let at = at_place (13 ∷ []) (codes "HTTP/1.1 200 OK\r") false parts.Text refl (crlf ∷ [], refl) (not_empty _ _ _) in
+    let at =
+    at_place (13 ∷ []) (codes "HTTP/1.1 200 OK\r") false parts.Text refl (crlf ∷ [], refl)
+    (not_empty _ _ _) in
     due_ended (codes "\r\nHTTP/1.1 200 OK\r") (record { begun = false; line = parts.Text }) at refl
 
 pub returns-clause-field : goal.returns-clause-field
 returns-clause-field c due =
-    let at = at_place (codes "HTTP/1.1 200 OK\r") (codes "A: b\r") true parts.Text refl (not_blank _ _ (λ e. omega (arith, e)) (λ e. omega (arith, e))) (not_empty _ _ _) in
-    true≢false (ended_due (codes "HTTP/1.1 200 OK\r\nA: b\r") (record { begun = true; line = parts.Text }) at due)
+    let at =
+    at_place (codes "HTTP/1.1 200 OK\r") (codes "A: b\r") true parts.Text refl
+    (not_blank _ _ (λ e. omega (arith, e)) (λ e. omega (arith, e))) (not_empty _ _ _) in
+    true≢false (ended_due (codes "HTTP/1.1 200 OK\r\nA: b\r")
+    (record { begun = true; line = parts.Text }) at due)
 
 pub returns-clause-unended : goal.returns-clause-unended
 returns-clause-unended c = not_due (codes "HTTP/1.1 200 OK\r\n") 13 (λ e. omega (arith, e))
 
 pub returns-clause-end : goal.returns-clause-end
 returns-clause-end c =
-    let at = at_place (codes "HTTP/1.1 200 OK\r\nA: b\r") (codes "\r") true parts.Return refl (not_blank _ _ (λ e. omega (arith, e)) (λ e. omega (arith, e))) refl in
-    due_ended (codes "HTTP/1.1 200 OK\r\nA: b\r\n\r") (record { begun = true; line = parts.Return }) at refl
+    let at =
+    at_place (codes "HTTP/1.1 200 OK\r\nA: b\r") (codes "\r") true parts.Return refl
+    (not_blank _ _ (λ e. omega (arith, e)) (λ e. omega (arith, e))) refl in
+    due_ended (codes "HTTP/1.1 200 OK\r\nA: b\r\n\r")
+    (record { begun = true; line = parts.Return }) at refl
 
 pub returns-clause-feeds : goal.returns-clause-feeds
 returns-clause-feeds c =
-    let at = at_place (codes "HTTP/1.1 200 OK") [] true parts.Nothing refl (not_blank _ _ (λ e. omega (arith, e)) (λ e. omega (arith, e))) refl in
+    let at =
+    at_place (codes "HTTP/1.1 200 OK") [] true parts.Nothing refl
+    (not_blank _ _ (λ e. omega (arith, e)) (λ e. omega (arith, e))) refl in
     due_ended (codes "HTTP/1.1 200 OK\n") (record { begun = true; line = parts.Nothing }) at refl

@@ -7,7 +7,15 @@ use Rattle.worked_http.proofs.RequestHeads.{no_line, put, request_is, without_bo
 use Rattle.worked_http.proofs.posts.none.Goals as goal
 
 abbrev short : RequestHead
-short = record { blank = []; method = codes "PUT"; target = codes "/"; minor = 1; line_end = lf; fields = []; last = lf }
+short = record {
+  blank = [];
+  method = codes "PUT";
+  target = codes "/";
+  minor = 1;
+  line_end = lf;
+  fields = [];
+  last = lf;
+}
 
 abbrev sized : RequestHead
 sized = put (field (codes "Content-Length") (codes " 3"))
@@ -20,7 +28,15 @@ unfolding httparse_on_literals
 returns-clause-cut c = record {
   text = codes "PUT / HTT";
   taken = refl;
-  cause = inl (refl, (no_line (codes "PUT / HTT") refl, inl (codes "P/1.1\n\n", short, (request_is short refl, refl))), omega arith);
+  cause =
+      inl (
+        refl,
+        (
+          no_line (codes "PUT / HTT") refl,
+          inl (codes "P/1.1\n\n", short, (request_is short refl, refl)),
+        ),
+        omega arith,
+      );
 }
 
 pub returns-clause-large : goal.returns-clause-large
@@ -28,16 +44,28 @@ unfolding httparse_on_literals
 returns-clause-large c = record {
   text = codes "PUT ";
   taken = refl;
-  cause = inl (omega arith, inl ((no_line (codes "PUT ") refl, inl (codes "/ HTTP/1.1\n\n", short, (request_is short refl, refl))), refl));
+  cause =
+      inl (
+        omega arith,
+        inl (
+          (
+            no_line (codes "PUT ") refl,
+            inl (codes "/ HTTP/1.1\n\n", short, (request_is short refl, refl)),
+          ),
+          refl,
+        ),
+      );
 }
 
 pub returns-clause-cut_body : goal.returns-clause-cut_body
 unfolding httparse_on_literals
-returns-clause-cut_body c = without_body usual sized (codes "ab") refl refl refl refl refl (refl, omega arith, omega arith)
+returns-clause-cut_body c =
+    without_body usual sized (codes "ab") refl refl refl refl refl (refl, omega arith, omega arith)
 
 pub returns-clause-large_body : goal.returns-clause-large_body
 unfolding httparse_on_literals
-returns-clause-large_body c = without_body (record usual { body = 2 }) sized [] refl refl refl refl refl (refl, omega arith)
+returns-clause-large_body c =
+    without_body (record usual { body = 2 }) sized [] refl refl refl refl refl (refl, omega arith)
 
 pub returns-clause-coded : goal.returns-clause-coded
 unfolding httparse_on_literals

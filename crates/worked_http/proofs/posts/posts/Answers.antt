@@ -10,14 +10,24 @@ abbrev sized : RequestHead
 sized = put (field (codes "Content-Length") (codes " 3"))
 
 abbrev short : RequestHead
-short = record { blank = []; method = codes "GET"; target = codes "/x?y"; minor = 0; line_end = lf; fields = []; last = lf }
+short = record {
+  blank = [];
+  method = codes "GET";
+  target = codes "/x?y";
+  minor = 0;
+  line_end = lf;
+  fields = [];
+  last = lf;
+}
 
 pub returns-clause-sized : goal.returns-clause-sized
 unfolding httparse_on_literals
 returns-clause-sized c =
-    posted sized (codes "abc") refl refl refl refl refl refl refl (one_field (codes "Content-Length") (codes "3")) (refl, refl, omega arith)
+    posted sized (codes "abc") refl refl refl refl refl refl refl
+    (one_field (codes "Content-Length") (codes "3")) (refl, refl, omega arith)
 
 pub returns-clause-without_body : goal.returns-clause-without_body
 unfolding httparse_on_literals
 returns-clause-without_body c =
-    posted short [] refl refl refl refl refl refl refl (record { values = λ name. refl; names = omega arith; count = omega arith }) (refl, refl)
+    posted short [] refl refl refl refl refl refl refl
+    (record { values = λ name. refl; names = omega arith; count = omega arith }) (refl, refl)

@@ -8,7 +8,15 @@ use Rattle.worked_http.proofs.Heads.{interim, head_is, head_text, all_equal, no_
 use Rattle.worked_http.proofs.replies.none.Goals as goal
 
 abbrev no_content : ResponseHead
-no_content = record { blank = []; minor = 1; digits = codes "204"; reason = None; line_end = lf; fields = []; last = lf }
+no_content = record {
+  blank = [];
+  minor = 1;
+  digits = codes "204";
+  reason = None;
+  line_end = lf;
+  fields = [];
+  last = lf;
+}
 
 pub returns-clause-cut : goal.returns-clause-cut
 unfolding httparse_on_literals
@@ -16,7 +24,15 @@ returns-clause-cut c = record {
   interims = [];
   text = codes "HTTP/1.1 2";
   comes = record { each = All-nil (IsInterim usual); few = omega arith; taken = refl };
-  cause = inl (refl, (no_line (codes "HTTP/1.1 2") refl, (codes "04\n\n", no_content, (head_is no_content refl, refl))), omega arith);
+  cause =
+      inl (
+        refl,
+        (
+          no_line (codes "HTTP/1.1 2") refl,
+          (codes "04\n\n", no_content, (head_is no_content refl, refl)),
+        ),
+        omega arith,
+      );
 }
 
 pub returns-clause-bad : goal.returns-clause-bad
@@ -33,7 +49,17 @@ returns-clause-large c = record {
   interims = [];
   text = codes "HTTP";
   comes = record { each = All-nil _; few = omega arith; taken = refl };
-  cause = inl (omega arith, inl ((no_line (codes "HTTP") refl, (codes "/1.1 204\n\n", no_content, (head_is no_content refl, refl))), refl));
+  cause =
+      inl (
+        omega arith,
+        inl (
+          (
+            no_line (codes "HTTP") refl,
+            (codes "/1.1 204\n\n", no_content, (head_is no_content refl, refl)),
+          ),
+          refl,
+        ),
+      );
 }
 
 pub returns-clause-interims : goal.returns-clause-interims
@@ -43,6 +69,10 @@ returns-clause-interims c =
     record {
       interims = replicate 16 interim;
       text = continue;
-      comes = record { each = all_equal (IsInterim usual) interim (one, (omega arith, omega arith)) 16; few = omega arith; taken = refl };
+      comes = record {
+        each = all_equal (IsInterim usual) interim (one, (omega arith, omega arith)) 16;
+        few = omega arith;
+        taken = refl;
+      };
       cause = inr (interim, one, inl (refl, (omega arith, omega arith)));
     }

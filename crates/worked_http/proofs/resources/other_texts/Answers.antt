@@ -7,5 +7,6 @@ use Rattle.otel_settings.specs.ResourcePairs.{is_value_byte, member_of, pair_of,
 use Rattle.worked_http.proofs.resources.other_texts.Goals as goal
 
 pub returns-clause-not_utf8 : goal.returns-clause-not_utf8
-unfolding pairs_of member_of pair_of is_value_byte trim_ows is_token_byte bytes_of is_utf8 chars encode
+unfolding pairs_of member_of pair_of is_value_byte trim_ows is_token_byte bytes_of is_utf8 chars
+    encode
 returns-clause-not_utf8 c = refl

@@ -11,13 +11,16 @@ use Rattle.otel_settings.specs.Variables.{name_of}
 use Rattle.worked_http.proofs.settings.resources.Goals as goal
 
 pub returns-clause-name_wins : goal.returns-clause-name_wins
-unfolding resource_of attributes pairs_of member_of pair_of is_value_byte trim_ows is_token_byte bytes_of text_set last_of name_of is_utf8 chars encode
+unfolding resource_of attributes pairs_of member_of pair_of is_value_byte trim_ows is_token_byte
+    bytes_of text_set last_of name_of is_utf8 chars encode
 returns-clause-name_wins c = refl
 
 pub returns-clause-bad : goal.returns-clause-bad
-unfolding resource_of attributes pairs_of member_of pair_of is_value_byte trim_ows is_token_byte bytes_of text_set last_of name_of is_utf8 chars encode
+unfolding resource_of attributes pairs_of member_of pair_of is_value_byte trim_ows is_token_byte
+    bytes_of text_set last_of name_of is_utf8 chars encode
 returns-clause-bad c = refl
 
 pub returns-clause-fault : goal.returns-clause-fault
-unfolding resource_faults pairs_of member_of pair_of is_value_byte trim_ows is_token_byte bytes_of text_set last_of name_of is_utf8 chars encode
+unfolding resource_faults pairs_of member_of pair_of is_value_byte trim_ows is_token_byte bytes_of
+    text_set last_of name_of is_utf8 chars encode
 returns-clause-fault c = refl

@@ -6,7 +6,9 @@ use Rattle.model_processor.specs.PassClauses.{NamesDrops}
 use Rattle.worked_run.proofs.passes.accounts.Goals as goal
 
 -- the ledger has the entry that was not popped
-swapped : NamesDrops (named abandoned 3 ∷ []) (record { queue_full = 1; encode_memory = 0; too_large = 0; abandoned = 1 }) (named queue_full 2 ∷ named abandoned 3 ∷ []) (named queue_full 2 ∷ [])
+swapped : NamesDrops (named abandoned 3 ∷ [])
+    (record { queue_full = 1; encode_memory = 0; too_large = 0; abandoned = 1 })
+    (named queue_full 2 ∷ named abandoned 3 ∷ []) (named queue_full 2 ∷ [])
 swapped = record {
   named = IsPermutation-append_comm (named queue_full 2 ∷ []) (named abandoned 3 ∷ []);
   counted = refl;

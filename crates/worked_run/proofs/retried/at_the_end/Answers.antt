@@ -8,4 +8,5 @@ use Rattle.worked_run.proofs.retried.at_the_end.Goals as goal
 -- one exchange puts the tickets in order
 pub returns-clause-once : goal.returns-clause-once
 unfolding desk_events ended_by start_results_after started_span ids_of ids_words first_valid
-returns-clause-once c = record { moves = (0, 1) ∷ []; below = (omega arith, omega arith, tt); is = refl }
+returns-clause-once c =
+    record { moves = (0, 1) ∷ []; below = (omega arith, omega arith, tt); is = refl }

@@ -1,4 +1,5 @@
-use Rattle.std.proofs.Common.{◌≡◌, refl, ap, arith, map, List, [], ◌∷◌, length, Bool, true, false, cond, ◌==◌, get_or}
+use Rattle.std.proofs.Common.{◌≡◌, refl, ap, arith, map, List, [], ◌∷◌, length, Bool, true, false}
+use Rattle.std.proofs.Common.{cond, ◌==◌, get_or}
 use Rattle.std.specs.List.{range_with_len}
 use Rattle.model_retry.specs.Retries.{Outcome}
 use Rattle.model_run.specs.Headline.{Attempt}
@@ -7,7 +8,8 @@ use Rattle.worked_run.proofs.whole.numbers.Goals as goal
 abbrev one : List Attempt
 one = record { number = 1; attempt = 1; outcome = Outcome.delivered } ∷ []
 
-numbered-by : (b : Bool) → map (λ (a : Attempt). a.attempt) (cond b one []) ≡ range_with_len 1 (length (cond b one []))
+numbered-by : (b : Bool)
+    → map (λ (a : Attempt). a.attempt) (cond b one []) ≡ range_with_len 1 (length (cond b one []))
 numbered-by true = refl
 numbered-by false = refl
 

@@ -8,7 +8,8 @@ use Rattle.worked_run.proofs.whole.places.Goals as goal
 
 -- three exchanges put the tickets in order
 pub returns : goal.returns
-unfolding worked_places worked_events desk_events ended_by start_results_after started_span ids_of ids_words first_valid
+unfolding worked_places worked_events desk_events ended_by start_results_after started_span ids_of
+    ids_words first_valid
 returns c = record {
   tickets = refl;
   once = record {

@@ -13,9 +13,13 @@ invariant_of-self g c =
     let d = c.self.inside in
     let b = c.batch.inside in
     let fits : d.lost_count + length b.names ≤ d.handed =
-    lost-fits (option_map out_view d.out) b.number (length b.names) d.lost_count d.handed (is_loss (fate_view b.fate))
-    (ap out_state c.self.view_is ∙ c.requires.out ∙ ap (λ x. Some (x.number, true)) (sym c.batch.view_is))
-    (λ e. ap (λ x. length x.entries) c.batch.view_is ∙ c.requires.whole (ap (λ x. is_loss x.fate) (sym c.batch.view_is) ∙ e) ∙ ap (λ x. out_size x.out) (sym c.self.view_is))
+    lost-fits (option_map out_view d.out) b.number (length b.names) d.lost_count d.handed
+    (is_loss (fate_view b.fate))
+    (ap out_state c.self.view_is ∙ c.requires.out
+    ∙ ap (λ x. Some (x.number, true)) (sym c.batch.view_is))
+    (λ e. ap (λ x. length x.entries) c.batch.view_is
+    ∙ c.requires.whole (ap (λ x. is_loss x.fate) (sym c.batch.view_is) ∙ e)
+    ∙ ap (λ x. out_size x.out) (sym c.self.view_is))
     (λ e. ap length (c.batch.invariant.1 e)) c.self.invariant.counts.lost_handed in
     record {
       run_out = grind (arith, common_steps);
@@ -36,4 +40,6 @@ invariant_of-self g c =
     }
 
 pub returns-clause-history : goal.returns-clause-history
-returns-clause-history g c spans same = settled_follows _ _ _ _ spans (is_with_exporter-state _ c.args.batch.number c.requires.out) same (grind (arith, common_steps))
+returns-clause-history g c spans same =
+    settled_follows _ _ _ _ spans (is_with_exporter-state _ c.args.batch.number c.requires.out) same
+    (grind (arith, common_steps))

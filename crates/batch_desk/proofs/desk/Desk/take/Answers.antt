@@ -23,4 +23,5 @@ invariant_of-self g c = record {
 }
 
 pub returns-clause-history : goal.returns-clause-history
-returns-clause-history g c = taken_follows _ _ _ _ (search rules) (search rules) (search rules) (search rules)
+returns-clause-history g c =
+    taken_follows _ _ _ _ (search rules) (search rules) (search rules) (search rules)

@@ -6,11 +6,21 @@ use Rattle.batch_processor.proofs.shared.Shared.queue.Goals as goal
 
 pub invariant_of-self : goal.invariant_of-self
 invariant_of-self g c =
-    let desk = c.self.inside.desk in let after = c.offer-admitted.new.self in let span = c.of-seen.result.value in let answer = c.offer-admitted.result.0 in
-    kept_pass (setup_view c.self.inside.setup) c.self.inside.left c.self.inside.desk after c.self.inside.book c.record.new.self c.args.account.now c.record.new.account c.self.invariant c.record.ensures.book
-    (admit_config desk after answer span (rw c.of-seen.ensures c.offer-admitted.ensures.desk)) (after_end answer span) c.requires c.record.ensures.account
-    (λ w new is r k. admit_agrees desk after w _ new (account_in c.args.account.now) span k answer c.offer-admitted.ensures.answer (rw c.of-seen.ensures c.offer-admitted.ensures.desk) r)
+    let desk = c.self.inside.desk in
+    let after = c.offer-admitted.new.self in
+    let span = c.of-seen.result.value in
+    let answer = c.offer-admitted.result.0 in
+    kept_pass (setup_view c.self.inside.setup) c.self.inside.left c.self.inside.desk after
+    c.self.inside.book c.record.new.self c.args.account.now c.record.new.account c.self.invariant
+    c.record.ensures.book
+    (admit_config desk after answer span (rw c.of-seen.ensures c.offer-admitted.ensures.desk))
+    (after_end answer span) c.requires c.record.ensures.account
+    (λ w new is r k. admit_agrees desk after w _ new
+    (account_in c.args.account.now) span k answer c.offer-admitted.ensures.answer
+    (rw c.of-seen.ensures c.offer-admitted.ensures.desk) r)
 
 pub returns-clause-hold : goal.returns-clause-hold
 returns-clause-hold g c =
-    in_hold (setup_view c.self.inside.setup) c.self.inside.left c.self.inside.desk c.self.inside.book c.record.new.self c.args.account.now c.record.new.account c.args.self.now c.self.invariant c.record.ensures.book c.requires c.self.view_is
+    in_hold (setup_view c.self.inside.setup) c.self.inside.left c.self.inside.desk
+    c.self.inside.book c.record.new.self c.args.account.now c.record.new.account c.args.self.now
+    c.self.invariant c.record.ensures.book c.requires c.self.view_is

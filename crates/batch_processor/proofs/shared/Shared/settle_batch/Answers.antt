@@ -11,15 +11,32 @@ use Rattle.batch_processor.proofs.shared.Shared.settle_batch.Goals as goal
 
 pub invariant_of-self : goal.invariant_of-self
 invariant_of-self g c =
-    let desk = c.self.inside.desk in let after = c.settle_named.new.self in let outcomes = outcomes_view c.of-seen.result.value.items in
-    let there = contains_replaced c.self.inside.book c.args.account.now c.record.new.account c.record.new.self c.record.ensures.book in
-    let came = settled_by (setup_view c.self.inside.setup) c.self.inside.left c.self.inside.desk c.self.inside.book c.args.account.now c.args.batch c.self.invariant there c.requires.worker c.requires.out after c.settle_named.ensures.desk in
-    kept_worker (setup_view c.self.inside.setup) c.self.inside.left c.self.inside.desk after c.self.inside.book c.record.new.self c.args.account.now c.record.new.account c.self.invariant c.record.ensures.book
-    (ap (λ (d : Desk). d.config) came) (after_settle outcomes c.args.batch.fate) c.self.inside.left (λ is. is) c.requires.worker
-    (c.record.ensures.account ∙ ap (λ (f : Fate). on_worker (after_settle outcomes f) c.args.account.now) c.fate.ensures)
-    (λ passes k. settle_agrees desk (worker_in c.args.account.now) passes k _ c.requires.out.out after c.requires.out.body outcomes c.args.batch.fate refl came)
+    let desk = c.self.inside.desk in
+    let after = c.settle_named.new.self in
+    let outcomes = outcomes_view c.of-seen.result.value.items in
+    let there =
+    contains_replaced c.self.inside.book c.args.account.now c.record.new.account c.record.new.self
+    c.record.ensures.book in
+    let came =
+    settled_by (setup_view c.self.inside.setup) c.self.inside.left c.self.inside.desk
+    c.self.inside.book c.args.account.now c.args.batch c.self.invariant there c.requires.worker
+    c.requires.out after c.settle_named.ensures.desk in
+    kept_worker (setup_view c.self.inside.setup) c.self.inside.left c.self.inside.desk after
+    c.self.inside.book c.record.new.self c.args.account.now c.record.new.account c.self.invariant
+    c.record.ensures.book
+    (ap (λ (d : Desk). d.config) came) (after_settle outcomes c.args.batch.fate) c.self.inside.left
+    (λ is. is) c.requires.worker
+    (c.record.ensures.account
+    ∙ ap (λ (f : Fate). on_worker (after_settle outcomes f) c.args.account.now) c.fate.ensures)
+    (λ passes k. settle_agrees desk
+    (worker_in c.args.account.now) passes k _ c.requires.out.out after c.requires.out.body outcomes
+    c.args.batch.fate refl came)
 
 pub settle_named-requires : goal.settle_named-requires
 settle_named-requires g c =
-    let there = contains_replaced c.self.inside.book c.args.account.now c.record.new.account c.record.new.self c.record.ensures.book in
-    can_settle (setup_view c.self.inside.setup) c.self.inside.left c.self.inside.desk c.self.inside.book c.args.account.now c.args.batch c.self.invariant there c.requires.worker c.requires.out
+    let there =
+    contains_replaced c.self.inside.book c.args.account.now c.record.new.account c.record.new.self
+    c.record.ensures.book in
+    can_settle (setup_view c.self.inside.setup) c.self.inside.left c.self.inside.desk
+    c.self.inside.book c.args.account.now c.args.batch c.self.invariant there c.requires.worker
+    c.requires.out

@@ -9,7 +9,9 @@ use Rattle.batch_processor.proofs.shared.Shared.totals.Goals as goal
 pub returns-clause-counts : goal.returns-clause-counts
 returns-clause-counts g c =
     let origin = setup_view c.self.inside.setup in
-    let hold = known_hold origin c.self.inside.left c.self.inside.desk c.self.inside.book c.args.account.now c.args.self.now c.self.invariant c.recognize.ensures.there c.requires c.self.view_is in
+    let hold =
+    known_hold origin c.self.inside.left c.self.inside.desk c.self.inside.book c.args.account.now
+    c.args.self.now c.self.invariant c.recognize.ensures.there c.requires c.self.view_is in
     let e = c.totals.ensures in
     let counts : Counts c.self.inside.desk c.totals.result = record {
       accepted = e.accepted;
@@ -22,8 +24,13 @@ returns-clause-counts g c =
       fates = e.fates;
       closed = e.closed;
     } in
-    record { hold = hold; counts = subst (λ (x : Guarded). Counts x.desk c.totals.result) c.self.view_is counts }
+    record {
+      hold = hold;
+      counts = subst (λ (x : Guarded). Counts x.desk c.totals.result) c.self.view_is counts;
+    }
 
 pub invariant_of-self : goal.invariant_of-self
 invariant_of-self g c =
-    subst (λ (hs : List AnyAccount). IsShared (setup_view c.self.inside.setup) c.self.inside.left c.self.inside.desk hs) (sym c.recognize.ensures.book) c.self.invariant
+    subst (λ (hs : List AnyAccount).
+    IsShared (setup_view c.self.inside.setup) c.self.inside.left c.self.inside.desk hs)
+    (sym c.recognize.ensures.book) c.self.invariant

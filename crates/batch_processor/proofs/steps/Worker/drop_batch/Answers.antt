@@ -6,7 +6,8 @@ use Rattle.batch_processor.proofs.steps.Worker.drop_batch.Goals as goal
 
 pub drop_batch-after-requires-clause-out : goal.drop_batch-after-requires-clause-out
 drop_batch-after-requires-clause-out g c =
-    let known = c.self.invariant.0 ∙ ap (λ (s : WorkerState). worker s.origin s.account) c.self.view_is in
+    let known =
+    c.self.invariant.0 ∙ ap (λ (s : WorkerState). worker s.origin s.account) c.self.view_is in
     let x = subst (λ (h : AnyAccount). IsBatchOf h c.args.batch) (sym known) c.requires.batch in
     subst (IsNamedBatchOf c.self.inside.account) (sym c.into_named-batch.ensures)
     (record { spans = c.args.batch.spans; out = x.out; entries = refl; room = x.room })

@@ -6,7 +6,14 @@ use Rattle.batch_processor.proofs.steps.Worker.settle.Goals as goal
 
 pub settle-after-requires-clause-out : goal.settle-after-requires-clause-out
 settle-after-requires-clause-out g c =
-    let known = c.self.invariant.0 ∙ ap (λ (s : WorkerState). worker s.origin s.account) c.self.view_is in
+    let known =
+    c.self.invariant.0 ∙ ap (λ (s : WorkerState). worker s.origin s.account) c.self.view_is in
     let x = subst (λ (h : AnyAccount). IsSentBatchOf h c.args.batch) (sym known) c.requires in
     subst (IsSettledBatchOf c.self.inside.account) (sym c.settled_of-batch.ensures)
-    (record { spans = c.args.batch.spans; body = x.body; out = x.out; entries = refl; room = x.room })
+    (record {
+      spans = c.args.batch.spans;
+      body = x.body;
+      out = x.out;
+      entries = refl;
+      room = x.room;
+    })

@@ -7,11 +7,18 @@ use Rattle.batch_processor.proofs.steps.Worker.take.Goals as goal
 
 pub returns-in_default : goal.returns-in_default
 returns-in_default g c =
-    let origin = setup_view c.self.inside.setup in let a = c.self.inside.account in let os = outcomes_view c.self.inside.outcomes.items in let a' = c.take.new.account in
+    let origin = setup_view c.self.inside.setup in
+    let a = c.self.inside.account in
+    let os = outcomes_view c.self.inside.outcomes.items in
+    let a' = c.take.new.account in
     let same : a' ≡ a = search rules in
-    no_step c.args.self.now (state_of origin (worker_in a') os) None c.requires (same_state origin a os c.args.self.now c.self.invariant.0 c.self.view_is a' same)
+    no_step c.args.self.now (state_of origin (worker_in a') os) None c.requires
+    (same_state origin a os c.args.self.now c.self.invariant.0 c.self.view_is a' same)
 
 pub returns : goal.returns
 returns g c =
-    let origin = setup_view c.self.inside.setup in let os = outcomes_view c.self.inside.outcomes.items in
-    take_told origin c.self.inside.account c.take.new.account os c.args.self.now c.in-Some.batch c.requires c.self.invariant.0 c.self.view_is c.in-Some.ensures.some c.in-Some.ensures.batch c.in-Some.ensures.size
+    let origin = setup_view c.self.inside.setup in
+    let os = outcomes_view c.self.inside.outcomes.items in
+    take_told origin c.self.inside.account c.take.new.account os c.args.self.now c.in-Some.batch
+    c.requires c.self.invariant.0 c.self.view_is c.in-Some.ensures.some c.in-Some.ensures.batch
+    c.in-Some.ensures.size

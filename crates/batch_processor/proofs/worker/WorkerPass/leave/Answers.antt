@@ -6,7 +6,9 @@ use Rattle.batch_processor.proofs.worker.WorkerPass.leave.Goals as goal
 
 pub invariant_of-self-2 : goal.invariant_of-self-2
 invariant_of-self-2 g c =
-    let was : c.self.inside.in_hand ≡ Some c.in-Some.hand = sym c.take.ensures.value ∙ c.in-Some.is in
+    let was : c.self.inside.in_hand ≡ Some c.in-Some.hand =
+    sym c.take.ensures.value ∙ c.in-Some.is in
     subst (λ (h : Option Hand). IsPassWith true c.abandon.new.self h) (sym c.take.ensures.after)
     (subst (λ (s : WorkerState). IsPassWith true s None) (sym c.abandon.ensures)
-    (leaves_with c.self.inside.worker c.in-Some.hand (subst (IsWorkingWith c.self.inside.worker) was (c.self.invariant.works c.if-left.false))))
+    (leaves_with c.self.inside.worker c.in-Some.hand
+    (subst (IsWorkingWith c.self.inside.worker) was (c.self.invariant.works c.if-left.false))))

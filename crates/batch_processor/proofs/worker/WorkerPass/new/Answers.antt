@@ -10,8 +10,17 @@ use Rattle.batch_processor.proofs.worker.WorkerPass.new.Goals as goal
 
 pub invariant_of-result : goal.invariant_of-result
 invariant_of-result g c =
-    let origin = setup_view c.args.setup.now in let os = outcomes_view c.in_ok-outcomes.outcomes.items in
+    let origin = setup_view c.args.setup.now in
+    let os = outcomes_view c.in_ok-outcomes.outcomes.items in
     let none : os ≡ [] = ap outcomes_view c.in_ok-outcomes.ensures.items in
-    subst (λ (w : WorkerAccount). IsPassWith false (state_of origin w os) None) (sym (ap worker_in c.requires.account))
+    subst (λ (w : WorkerAccount). IsPassWith false (state_of origin w os) None)
+    (sym (ap worker_in c.requires.account))
     (subst (λ (xs : List Outcome). IsPassWith false (state_of origin new_worker xs) None) (sym none)
-    (pass_works false (state_of origin new_worker []) None refl (record { here = refl; retry = c.requires.retry; by_work = tt; again = tt; tied = (refl, refl) })))
+    (pass_works false (state_of origin new_worker []) None refl
+    (record {
+      here = refl;
+      retry = c.requires.retry;
+      by_work = tt;
+      again = tt;
+      tied = (refl, refl);
+    })))

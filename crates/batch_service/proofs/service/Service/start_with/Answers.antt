@@ -13,6 +13,9 @@ neither n most some few (inr many) = omega arith
 
 pub returns-clause-bad_passes : goal.returns-clause-bad_passes
 returns-clause-bad_passes g c = (
-  λ is. let other = fault_is c.with_parts.result faults.BadPasses faults.NoThread c.with_parts.ensures.fault is in cc,
-  λ bad. absurd (neither c.args.passes MAX_THREADS c.if-passes-eq0.false c.if-passes-gt-MAX_THREADS.false bad),
+  λ is. let other =
+      fault_is c.with_parts.result faults.BadPasses faults.NoThread c.with_parts.ensures.fault is in
+      cc,
+  λ bad. absurd (neither c.args.passes MAX_THREADS c.if-passes-eq0.false
+      c.if-passes-gt-MAX_THREADS.false bad),
 )

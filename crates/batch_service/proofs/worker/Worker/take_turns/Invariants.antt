@@ -6,5 +6,7 @@ use Rattle.batch_service.proofs.worker.Worker.take_turns.Given as goal
 abbrev pub invariant-loop-turn : goal.invariant-loop-turn
 invariant-loop-turn g l =
     IsPrepared (g.E.Exporter.room l.self.exporter) l.self.worker
-    × WorksOn (state_of (g.E.Exporter.handed l.initial.self.exporter) (g.S.NameSink.named l.initial.self.sink) l.initial.self.worker l.initial.self.names)
-    (state_of (g.E.Exporter.handed l.self.exporter) (g.S.NameSink.named l.self.sink) l.self.worker l.self.names)
+    × WorksOn (state_of (g.E.Exporter.handed l.initial.self.exporter)
+    (g.S.NameSink.named l.initial.self.sink) l.initial.self.worker l.initial.self.names)
+    (state_of (g.E.Exporter.handed l.self.exporter)
+    (g.S.NameSink.named l.self.sink) l.self.worker l.self.names)

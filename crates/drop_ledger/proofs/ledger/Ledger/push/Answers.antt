@@ -8,4 +8,5 @@ pub invariant_of-self : goal.invariant_of-self
 invariant_of-self g c =
     let l = c.self.inside in
     let e = entry_view c.args.entry in
-    pushed l.newest l.len l.counts c.add.new.self e c.link.result c.self.invariant c.add.ensures (c.link.ensures ∙ ap (λ o. e ∷ entries_of o) c.take-below.ensures.value)
+    pushed l.newest l.len l.counts c.add.new.self e c.link.result c.self.invariant c.add.ensures
+    (c.link.ensures ∙ ap (λ o. e ∷ entries_of o) c.take-below.ensures.value)

@@ -8,7 +8,8 @@ invariant_of-self g c =
     let n = c.self.inside in
     rw c.push.ensures.given (
       c.self.invariant.0,
-      dropped-gone entry_view n.dropped.most n.dropped.given n.lost.given c.args.entry (reason_counts_view n.older) c.self.invariant.1
+      dropped-gone entry_view n.dropped.most n.dropped.given n.lost.given c.args.entry
+          (reason_counts_view n.older) c.self.invariant.1
           c.in-Some.older (reason_counts_view c.add.new.self) c.in-Some.ensures.older c.add.ensures,
     )
 
@@ -17,5 +18,6 @@ invariant_of-self-in-None g c =
     let n = c.self.inside in
     rw c.push.ensures.given (
       c.self.invariant.0,
-      dropped-kept entry_view n.dropped.most n.dropped.given n.lost.given c.args.entry (reason_counts_view n.older) c.self.invariant.1 c.in-None.ensures.older,
+      dropped-kept entry_view n.dropped.most n.dropped.given n.lost.given c.args.entry
+          (reason_counts_view n.older) c.self.invariant.1 c.in-None.ensures.older,
     )

@@ -8,7 +8,8 @@ use Rattle.http_connection.proofs.connection.Connection.admit.Goals as goal
 pub returns-then-not-admitted-clause-runs : goal.returns-then-not-admitted-clause-runs
 returns-then-not-admitted-clause-runs g c =
     rejected_run _ _ _ _ c.in-Ok.admitted c.args.self.now.request c.admit.new.response _ _ _ _ _
-    c.if-not-admitted.true c.in-Ok.ensures.ok c.send_refusal.ensures.place c.send_refusal.ensures.text
+    c.if-not-admitted.true c.in-Ok.ensures.ok c.send_refusal.ensures.place
+    c.send_refusal.ensures.text
 
 pub returns-then-not-expects_continue-clause-runs :
     goal.returns-then-not-expects_continue-clause-runs

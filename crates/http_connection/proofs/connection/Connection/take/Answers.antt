@@ -9,7 +9,9 @@ pub returns-clause-runs : goal.returns-clause-runs
 returns-clause-runs g c =
     kept_run _ _ _ _ _ _ (head_of c.args.self.now.request) c.args.self.now.body.items
     (slice_range c.args.self.now.input.bytes.items c.args.piece.start c.args.piece.end) _ _ _
-    (λ i. place_at (c.requires.stage i) (head_of c.args.self.now.request) c.args.self.now.body.items)
-    (λ i. place_at ((c.keep.ensures.stage ∙ c.requires.stage) i) (head_of (c.keep.ensures.request i))
+    (λ i.
+    place_at (c.requires.stage i) (head_of c.args.self.now.request) c.args.self.now.body.items)
+    (λ i.
+    place_at ((c.keep.ensures.stage ∙ c.requires.stage) i) (head_of (c.keep.ensures.request i))
     (c.in-Ok.ensures.body i))
     (λ _. ap waiting c.keep.ensures.output)

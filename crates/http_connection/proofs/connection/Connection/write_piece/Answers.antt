@@ -12,7 +12,8 @@ returns-clause-writes g c =
     c.deref.ensures.value ∙ next.1 ∙ (λ i. c.new-piece.ensures.items i ++ next.0) in
     piece_run _ _ _ _ _ _ c.in-Pieces.pieces c.in-Ok.more c.next.new.self next.0
     c.args.self.now.server _ _ _
-    (λ i. place_at (c.in-Pieces.is i) (head_of c.args.self.now.request) c.args.self.now.body.items) next.2
+    (λ i. place_at (c.in-Pieces.is i) (head_of c.args.self.now.request) c.args.self.now.body.items)
+    next.2
     (λ last. c.next.ensures.ends (c.in-Ok.is ∙ ap Ok last)) c.put_piece.ensures.place
     (λ lives. c.put_piece.ensures.text lives
     ∙ (λ i. pending_of c.args.self.now ++ piece_text c.in-Ok.more c.args.self.now.server (is i)))

@@ -6,7 +6,8 @@ use Rattle.http_exporter.proofs.exporter.LinkExporter.exchange.Goals as goal
 pub returns-in-Ok : goal.returns-in-Ok
 returns-in-Ok g c = (
   _,
-  replied c.send.new.link _ (rw (← c.self.view_is) c.in-Ok.ensures.sent) c.read-reply.ensures c.outcome_of.ensures refl,
+  replied c.send.new.link _
+      (rw (← c.self.view_is) c.in-Ok.ensures.sent) c.read-reply.ensures c.outcome_of.ensures refl,
   c.failure_of.ensures,
 )
 
@@ -22,6 +23,7 @@ returns-in-Err g c =
 pub returns-in-Err-2 : goal.returns-in-Err-2
 returns-in-Err-2 g c = (
   Some WriteStopped,
-  stopped (rw (← c.self.view_is) c.if-self.false) (rw (← c.self.view_is) c.in-Err-2.ensures.stopped) refl refl,
+  stopped (rw (← c.self.view_is) c.if-self.false)
+      (rw (← c.self.view_is) c.in-Err-2.ensures.stopped) refl refl,
   (WriteStopped, refl, refl),
 )

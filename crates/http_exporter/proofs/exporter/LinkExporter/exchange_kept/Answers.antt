@@ -20,6 +20,7 @@ returns-in-Err g c =
 pub returns-in-Err-2 : goal.returns-in-Err-2
 returns-in-Err-2 g c = (
   Some WriteStopped,
-  stopped (rw (← c.self.view_is) c.if-self.false) (rw (← c.self.view_is) c.in-Err-2.ensures.stopped) refl refl refl,
+  stopped (rw (← c.self.view_is) c.if-self.false)
+      (rw (← c.self.view_is) c.in-Err-2.ensures.stopped) refl refl refl,
   (WriteStopped, refl, refl),
 )

@@ -4,10 +4,16 @@ use Rattle.http_exporter.proofs.exporter.LinkExporter.read_kept.Goals as goal
 
 pub returns-in-Ok : goal.returns-in-Ok
 returns-in-Ok g c =
-    rw (← c.self.view_is)
-    (_, read _ c.in-Ok.ensures.reply.0 c.in-Ok.ensures.reply.1 c.outcome_of.ensures refl, c.failure_of.ensures)
+    rw (← c.self.view_is) (
+      _,
+      read _ c.in-Ok.ensures.reply.0 c.in-Ok.ensures.reply.1 c.outcome_of.ensures refl,
+      c.failure_of.ensures,
+    )
 
 pub returns-in-Err : goal.returns-in-Err
 returns-in-Err g c =
-    rw (← c.self.view_is)
-    (_, none _ c.in-Err.ensures.no_reply refl c.outcome_of-in-Err.ensures refl, c.failure_of-in-Err.ensures)
+    rw (← c.self.view_is) (
+      _,
+      none _ c.in-Err.ensures.no_reply refl c.outcome_of-in-Err.ensures refl,
+      c.failure_of-in-Err.ensures,
+    )

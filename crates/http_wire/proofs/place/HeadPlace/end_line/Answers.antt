@@ -11,7 +11,8 @@ returns-clause-due c text at =
     )
 
 pub returns-clause-place : goal.returns-clause-place
-returns-clause-place c text at = place_ended text c.args.self.now c.if-self.self at (elim c.if-self.branch [
-  | then-self w ↦ search rules
-  | else-self w ↦ search rules
-])
+returns-clause-place c text at =
+    place_ended text c.args.self.now c.if-self.self at (elim c.if-self.branch [
+      | then-self w ↦ search rules
+      | else-self w ↦ search rules
+    ])

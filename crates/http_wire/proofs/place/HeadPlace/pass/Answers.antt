@@ -9,10 +9,15 @@ pub returns-clause-place : goal.returns-clause-place
 returns-clause-place c text at =
     let old = c.args.self.now in
     let byte = c.args.byte in
-    let Put : LinePart → Type 0 = λ part. IsPlace (text ++ byte ∷ []) (record { begun = old.begun; line = part }) in
+    let Put : LinePart → Type 0 =
+    λ part. IsPlace (text ++ byte ∷ []) (record { begun = old.begun; line = part }) in
     elim c.match-self.branch [
       | in-Nothing w ↦
           let begin = w.begin-self.ensures in
-          subst Put (sym w.self-is) (place_begun text byte old w.begin-self.result at c.if-byte-eq10.false w.in-Nothing.is begin.cr begin.other)
-      | in-Return w ↦ subst Put (sym w.self-is) (place_further text byte old at c.if-byte-eq10.false w.in-Return.is)
+          subst Put (sym w.self-is)
+          (place_begun text byte old w.begin-self.result at c.if-byte-eq10.false w.in-Nothing.is
+          begin.cr begin.other)
+      | in-Return w ↦
+          subst Put (sym w.self-is)
+          (place_further text byte old at c.if-byte-eq10.false w.in-Return.is)
     ]

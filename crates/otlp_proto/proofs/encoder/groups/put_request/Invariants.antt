@@ -13,5 +13,8 @@ use Rattle.otlp_proto.proofs.encoder.groups.put_request.Given as goal
 abbrev pub invariant-loop-group : goal.invariant-loop-group
 invariant-loop-group g l =
     let resources = groups_view (take l.group-index l.groups) in
-    Carries (row_bytes (map (λ x. bytes_field 1 (canon Tables.resource_spans (resource_spans_message x))) resources)) (AllByRecursion (λ x. IsMessage Tables.resource_spans (resource_spans_message x)) resources) (g.S.Sink.cursor l.fn.sink) (g.S.Sink.cursor l.sink)
+    Carries (row_bytes
+    (map (λ x. bytes_field 1 (canon Tables.resource_spans (resource_spans_message x))) resources))
+    (AllByRecursion (λ x. IsMessage Tables.resource_spans (resource_spans_message x)) resources)
+    (g.S.Sink.cursor l.fn.sink) (g.S.Sink.cursor l.sink)
     × (l.rest ≡ drop (length (all_spans resources)) l.lens)

@@ -9,21 +9,33 @@ use Rattle.otlp_proto.proofs.encoder.groups.put_resource.Goals as goal
 
 pub returns-then-not-skip-clause-put : goal.returns-then-not-skip-clause-put
 returns-then-not-skip-clause-put g c =
-    let bytes = canon Tables.resource_spans (resource_spans_message (resource_group_view c.args.group.now)) in
-    let len = counted-len _ _ _ _ c.new-length.ensures c.put_resource_spans-rest.ensures.put.bytes c.len-len.ensures.value c.len-len.ensures.small in
+    let bytes =
+    canon Tables.resource_spans (resource_spans_message (resource_group_view c.args.group.now)) in
+    let len =
+    counted-len _ _ _ _ c.new-length.ensures c.put_resource_spans-rest.ensures.put.bytes
+    c.len-len.ensures.value c.len-len.ensures.small in
     let same = rw c.if-not-skip.true at c.skip.ensures in
     record {
-      bytes = sized-field c.args.number c.len-len.result bytes _ (g.S.Sink.cursor c.put_key.new.sink) (g.S.Sink.cursor c.put_varint.new.self) _ len c.put_key.ensures c.put_varint.ensures
-          (subst (λ from. Lays bytes from (g.S.Sink.cursor c.put_resource_spans.new.sink)) same c.put_resource_spans.ensures.put.bytes);
+      bytes =
+          sized-field c.args.number c.len-len.result bytes _ (g.S.Sink.cursor c.put_key.new.sink)
+          (g.S.Sink.cursor c.put_varint.new.self) _ len c.put_key.ensures c.put_varint.ensures
+          (subst (λ from. Lays bytes from (g.S.Sink.cursor c.put_resource_spans.new.sink)) same
+          c.put_resource_spans.ensures.put.bytes);
       whole = c.put_resource_spans-rest.ensures.put.whole;
     }
 
 pub returns-else-not-skip-clause-put : goal.returns-else-not-skip-clause-put
 returns-else-not-skip-clause-put g c =
-    let bytes = canon Tables.resource_spans (resource_spans_message (resource_group_view c.args.group.now)) in
-    let len = counted-len _ _ _ _ c.new-length.ensures c.put_resource_spans-rest.ensures.put.bytes c.len-len.ensures.value c.len-len.ensures.small in
+    let bytes =
+    canon Tables.resource_spans (resource_spans_message (resource_group_view c.args.group.now)) in
+    let len =
+    counted-len _ _ _ _ c.new-length.ensures c.put_resource_spans-rest.ensures.put.bytes
+    c.len-len.ensures.value c.len-len.ensures.small in
     let skips = rw c.if-not-skip.false at c.skip.ensures in
     record {
-      bytes = sized-field c.args.number c.len-len.result bytes _ (g.S.Sink.cursor c.put_key.new.sink) (g.S.Sink.cursor c.put_varint.new.self) _ len c.put_key.ensures c.put_varint.ensures (skips bytes len);
+      bytes =
+          sized-field c.args.number c.len-len.result bytes _ (g.S.Sink.cursor c.put_key.new.sink)
+          (g.S.Sink.cursor c.put_varint.new.self) _ len c.put_key.ensures c.put_varint.ensures
+          (skips bytes len);
       whole = c.put_resource_spans-rest.ensures.put.whole;
     }

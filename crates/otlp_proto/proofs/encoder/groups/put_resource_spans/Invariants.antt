@@ -12,5 +12,8 @@ use Rattle.otlp_proto.proofs.encoder.groups.put_resource_spans.Given as goal
 abbrev pub invariant-loop-scope_group : goal.invariant-loop-scope_group
 invariant-loop-scope_group g l =
     let scopes = map scope_group_view (take l.scope_group-index l.scope_group-items) in
-    Carries (row_bytes (map (λ x. bytes_field 2 (canon Tables.scope_spans (scope_spans_message x))) scopes)) (AllByRecursion (λ x. IsMessage Tables.scope_spans (scope_spans_message x)) scopes) (g.S.Sink.cursor l.initial.sink) (g.S.Sink.cursor l.sink)
+    Carries
+    (row_bytes (map (λ x. bytes_field 2 (canon Tables.scope_spans (scope_spans_message x))) scopes))
+    (AllByRecursion (λ x. IsMessage Tables.scope_spans (scope_spans_message x)) scopes)
+    (g.S.Sink.cursor l.initial.sink) (g.S.Sink.cursor l.sink)
     × (l.rest ≡ drop (length (flat_map (λ scope. scope.items) scopes)) l.lens)

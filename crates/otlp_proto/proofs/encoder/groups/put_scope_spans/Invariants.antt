@@ -8,4 +8,5 @@ use Rattle.otlp_proto.proofs.encoder.groups.put_scope_spans.Given as goal
 abbrev pub invariant-loop-i : goal.invariant-loop-i
 invariant-loop-i g l =
     let spans = map (λ s. s.now) (take l.i l.group.spans.items) in
-    Carries (row_bytes (map (λ x. bytes_field 2 (span_bytes x)) spans)) (AllByRecursion IsWholeSpan spans) (g.S.Sink.cursor l.initial.sink) (g.S.Sink.cursor l.sink)
+    Carries (row_bytes (map (λ x. bytes_field 2 (span_bytes x)) spans))
+    (AllByRecursion IsWholeSpan spans) (g.S.Sink.cursor l.initial.sink) (g.S.Sink.cursor l.sink)

@@ -8,5 +8,8 @@ loop-item-init g c = each-none c.args.number g.T.Submessage.bytes g.T.Submessage
 pub loop-item-preserved : goal.loop-item-preserved
 loop-item-preserved g c =
     let view = g.T.Submessage.view in
-    rw (through-index view c.args.items.now c.loop-item.item-index c.item-item.result c.loop-item-test.true c.item-item.is)
-    (each-more c.args.number g.T.Submessage.bytes g.T.Submessage.is_whole (map view (take c.loop-item.item-index c.args.items.now)) (view c.item-item.result) c.loop-item.invariant c.put_one.ensures)
+    rw (through-index view c.args.items.now c.loop-item.item-index c.item-item.result
+    c.loop-item-test.true c.item-item.is)
+    (each-more c.args.number g.T.Submessage.bytes g.T.Submessage.is_whole
+    (map view (take c.loop-item.item-index c.args.items.now))
+    (view c.item-item.result) c.loop-item.invariant c.put_one.ensures)

@@ -9,8 +9,11 @@ loop-group-init g c = rw c.in_ok-lens.ensures.items (adds-none _)
 
 pub loop-group-preserved : goal.loop-group-preserved
 loop-group-preserved g c =
-    rw (flat-more spans_in resource_group_view c.args.groups.now c.loop-group.group-index c.group-item.result c.loop-group-test.true c.group-item.is)
+    rw (flat-more spans_in resource_group_view c.args.groups.now c.loop-group.group-index
+    c.group-item.result c.loop-group-test.true c.group-item.is)
     (adds-both _ _ c.loop-group.invariant c.in_ok-add_resource_lens.ensures)
 
 pub returns : goal.returns
-returns g c = rw (take_all c.loop-group.group-index c.args.groups.now c.loop-group-test.false) at c.loop-group.invariant
+returns g c =
+    rw (take_all c.loop-group.group-index c.args.groups.now c.loop-group-test.false) at
+    c.loop-group.invariant

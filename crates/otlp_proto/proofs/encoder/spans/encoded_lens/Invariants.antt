@@ -6,4 +6,5 @@ use Rattle.otlp_proto.proofs.encoder.spans.encoded_lens.Given as goal
 
 -- The lengths of the spans of the groups so far are added.
 abbrev pub invariant-loop-group : goal.invariant-loop-group
-invariant-loop-group g l = AddsLens (all_spans (groups_view (take l.group-index l.groups))) [] l.lens.items
+invariant-loop-group g l =
+    AddsLens (all_spans (groups_view (take l.group-index l.groups))) [] l.lens.items

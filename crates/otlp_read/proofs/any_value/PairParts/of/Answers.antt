@@ -13,25 +13,60 @@ use Rattle.otlp_read.proofs.PairSteps.{pair-none}
 use Rattle.otlp_read.proofs.any_value.PairParts.of.Goals as goal
 
 pub loop-field-init : goal.loop-field-init
-loop-field-init g c = (tt, tt, read-none _ (row c.args.content.now) _ (pair-none c.args.depth _ refl refl) (sym c.new-field-items.ensures.whole ∙ sym c.into_iter-field-iterator.ensures.into_iter_gives))
+loop-field-init g c = (
+  tt,
+  tt,
+  read-none _ (row c.args.content.now) _ (pair-none c.args.depth _ refl refl)
+      (sym c.new-field-items.ensures.whole
+      ∙ sym c.into_iter-field-iterator.ensures.into_iter_gives),
+)
 
 pub returns-in_err-field-clause-err : goal.returns-in_err-field-clause-err
 returns-in_err-field-clause-err g c =
-    let gives = subst (λ r. GivesField c.loop-field.field-iterator (Some r) c.next.new.self) c.in_err-field.was c.in-Some.ensures.steps in
+    let gives =
+    subst (λ r. GivesField c.loop-field.field-iterator (Some r) c.next.new.self) c.in_err-field.was
+    c.in-Some.ensures.steps in
     let told : c.from_residual.result ≡ Err (Wire c.in_err-field.field-0.0) = search rules in
-    let bad = row-fails (value c.args.depth) Tables.key_value (HoldsPair c.args.depth c.loop-field.parts) c.args.content.now _ _ c.loop-field.invariant.2 gives.0 in
-    subst (λ r. IfErr r (λ fault. NamesOne (read (value c.args.depth) (message Tables.key_value) (len c.args.content.now ∷ [])).faults fault)) (sym told)
-    (part-names (value c.args.depth) Tables.key_value [] [] c.args.content.now (Wire c.in_err-field.field-0.0) (bad _ _))
+    let bad =
+    row-fails (value c.args.depth) Tables.key_value
+    (HoldsPair c.args.depth c.loop-field.parts) c.args.content.now _ _ c.loop-field.invariant.2
+    gives.0 in
+    subst (λ r. IfErr r
+    (λ fault. NamesOne
+    (read (value c.args.depth) (message Tables.key_value) (len c.args.content.now ∷ [])).faults
+    fault))
+    (sym told)
+    (part-names (value c.args.depth) Tables.key_value [] [] c.args.content.now
+    (Wire c.in_err-field.field-0.0) (bad _ _))
 
 pub returns-in_err-parts-clause-err : goal.returns-in_err-parts-clause-err
 returns-in_err-parts-clause-err g c =
-    let gives = subst (λ r. GivesField c.loop-field.field-iterator (Some r) c.next.new.self) c.in_ok-field.was c.in-Some.ensures.steps in
+    let gives =
+    subst (λ r. GivesField c.loop-field.field-iterator (Some r) c.next.new.self) c.in_ok-field.was
+    c.in-Some.ensures.steps in
     let told : c.from_residual-in_err-parts.result ≡ Err c.in_err-parts.field-0.0 = search rules in
-    let bad = field-fails (value c.args.depth) Tables.key_value (HoldsPair c.args.depth c.loop-field.parts) c.args.content.now _ _ (field_of c.in_ok-field.field-0) c.loop-field.invariant.2 gives c.in_err-parts.field-0.0 c.in_err-parts.ensures.err in
-    subst (λ r. IfErr r (λ fault. NamesOne (read (value c.args.depth) (message Tables.key_value) (len c.args.content.now ∷ [])).faults fault)) (sym told)
-    (part-names (value c.args.depth) Tables.key_value [] [] c.args.content.now c.in_err-parts.field-0.0 (bad _ _))
+    let bad =
+    field-fails (value c.args.depth) Tables.key_value
+    (HoldsPair c.args.depth c.loop-field.parts) c.args.content.now _ _
+    (field_of c.in_ok-field.field-0) c.loop-field.invariant.2 gives c.in_err-parts.field-0.0
+    c.in_err-parts.ensures.err in
+    subst (λ r. IfErr r
+    (λ fault. NamesOne
+    (read (value c.args.depth) (message Tables.key_value) (len c.args.content.now ∷ [])).faults
+    fault))
+    (sym told)
+    (part-names
+    (value c.args.depth) Tables.key_value [] [] c.args.content.now c.in_err-parts.field-0.0
+    (bad _ _))
 
 pub loop-field-preserved : goal.loop-field-preserved
 loop-field-preserved g c =
-    let gives = subst (λ r. GivesField c.loop-field.field-iterator (Some r) c.next.new.self) c.in_ok-field.was c.in-Some.ensures.steps in
-    (tt, tt, read-more (HoldsPair c.args.depth c.loop-field.parts) (HoldsPair c.args.depth c.in_ok-parts.parts) (row c.args.content.now) _ _ (field_of c.in_ok-field.field-0) c.loop-field.invariant.2 gives c.in_ok-parts.ensures.ok)
+    let gives =
+    subst (λ r. GivesField c.loop-field.field-iterator (Some r) c.next.new.self) c.in_ok-field.was
+    c.in-Some.ensures.steps in (
+      tt,
+      tt,
+      read-more (HoldsPair c.args.depth c.loop-field.parts)
+          (HoldsPair c.args.depth c.in_ok-parts.parts) (row c.args.content.now) _ _
+          (field_of c.in_ok-field.field-0) c.loop-field.invariant.2 gives c.in_ok-parts.ensures.ok,
+    )

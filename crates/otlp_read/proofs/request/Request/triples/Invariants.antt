@@ -7,4 +7,6 @@ use Rattle.otlp_read.proofs.request.Request.triples.Given as goal
 
 -- The spans of the resources so far are found.
 abbrev pub invariant-loop-group : goal.invariant-loop-group
-invariant-loop-group g l = triples_view l.found.items ≡ triples (resource_groups_view (take l.group-index l.group-items) ▸ tt)
+invariant-loop-group g l =
+    triples_view l.found.items
+    ≡ triples (resource_groups_view (take l.group-index l.group-items) ▸ tt)

@@ -11,8 +11,23 @@ use Rattle.otlp_read.proofs.span.EventPartsGatherFields.take.Goals as goal
 pub returns-in_err-push_attribute-clause-err : goal.returns-in_err-push_attribute-clause-err
 returns-in_err-push_attribute-clause-err g c =
     let told : c.from_residual.result ≡ Err c.in_err-push_attribute.field-0.0 = grind arith in
-    subst (λ r. IfErr r (λ fault. (before after : List Field) → NamesOne (read_table (value max_depth) Tables.event (before ++ (field_of c.args.field) ∷ after)).faults fault)) (sym told)
-    (place-fails 2 Tables.event _ 3 (repeated (message Tables.key_value)) refl (field_of c.args.field) c.in_err-push_attribute.field-0.0 c.in_err-push_attribute.ensures.err)
+    subst (λ r. IfErr r
+    (λ fault. (before after : List Field)
+    → NamesOne
+    (read_table (value max_depth) Tables.event (before ++ (field_of c.args.field) ∷ after)).faults
+    fault))
+    (sym told)
+    (place-fails 2 Tables.event _ 3 (repeated (message Tables.key_value)) refl
+    (field_of c.args.field) c.in_err-push_attribute.field-0.0 c.in_err-push_attribute.ensures.err)
 
 pub returns-clause-ok : goal.returns-clause-ok
-returns-clause-ok g c = λ fields h. (c.last_fixed64-self.ensures fixed64 refl fields h.0, (c.last_bytes-self.ensures text refl fields h.1.0, (c.in_ok-push_attribute.ensures.ok fields h.1.1.0, (c.last_varint-self.ensures uint32 refl fields h.1.1.1.0, tt))))
+returns-clause-ok g c = λ fields h. (
+  c.last_fixed64-self.ensures fixed64 refl fields h.0,
+  (
+    c.last_bytes-self.ensures text refl fields h.1.0,
+    (
+      c.in_ok-push_attribute.ensures.ok fields h.1.1.0,
+      (c.last_varint-self.ensures uint32 refl fields h.1.1.1.0, tt),
+    ),
+  ),
+)

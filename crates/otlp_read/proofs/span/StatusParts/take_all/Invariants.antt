@@ -11,4 +11,6 @@ abbrev pub invariant-loop-field : goal.invariant-loop-field
 invariant-loop-field g l =
     ((goal.iterator-loop-field g).can_next l.field-iterator) ×
     ((goal.iterator-loop-field g).is_finite l.field-iterator) ×
-    FieldsRead (After (IsGathered (value max_depth) Tables.status) (status_gathered l.fn.self) (status_gathered l.self)) (row l.content) l.field-iterator
+    FieldsRead (After (IsGathered (value max_depth) Tables.status) (status_gathered l.fn.self)
+    (status_gathered l.self))
+    (row l.content) l.field-iterator

@@ -5,5 +5,6 @@ use Rattle.otlp_span.proofs.record.SpanRecord.close.Goals as goal
 
 pub returns : goal.returns
 returns g c =
-    let before : recording_view c.deref_mut.result.now ≡ c.args.self = ap recording_view c.deref_mut.ensures.value ∙ c.self.view_is in
+    let before : recording_view c.deref_mut.result.now ≡ c.args.self =
+    ap recording_view c.deref_mut.ensures.value ∙ c.self.view_is in
     rw (← before) (ends-at (recording_view c.deref_mut.result.now) c.args.end)

@@ -9,6 +9,14 @@ use Rattle.otlp_span.proofs.record.SpanRecord.open.Goals as goal
 pub returns : goal.returns
 returns g c =
     let limits = limits_view c.args.limits.now in
-    let list : c.new.result ≡ attribute_list (attribute_limits limits) [] = c.new.ensures ∙ ap (λ l. attribute_list l []) c.of_span.ensures in
-    let made : Span → SpanRecord = λ s. record { limits = limits; resource = resource_view (arc_value c.args.opening.resource); scope = scope_view (arc_value c.args.opening.scope); span = s } in
-    rw (c.in_ok-body.ensures.ok, list, c.new-2.ensures, c.new-3.ensures) (ap made (sym (span-none limits (start_view c.args.opening))))
+    let list : c.new.result ≡ attribute_list (attribute_limits limits) [] =
+    c.new.ensures ∙ ap (λ l. attribute_list l []) c.of_span.ensures in
+    let made : Span → SpanRecord =
+    λ s. record {
+      limits = limits;
+      resource = resource_view (arc_value c.args.opening.resource);
+      scope = scope_view (arc_value c.args.opening.scope);
+      span = s;
+    } in
+    rw (c.in_ok-body.ensures.ok, list, c.new-2.ensures, c.new-3.ensures)
+    (ap made (sym (span-none limits (start_view c.args.opening))))

@@ -5,5 +5,6 @@ use Rattle.otlp_span.proofs.record.SpanRecord.update_name.Goals as goal
 
 pub returns : goal.returns
 returns g c =
-    let before : recording_view c.deref_mut.result.now ≡ c.args.self.now = ap recording_view c.deref_mut.ensures.value ∙ c.self.view_is in
+    let before : recording_view c.deref_mut.result.now ≡ c.args.self.now =
+    ap recording_view c.deref_mut.ensures.value ∙ c.self.view_is in
     rw (← before) (adds-name (recording_view c.deref_mut.result.now) (string_bytes c.args.name))

@@ -4,7 +4,8 @@ use Rattle.otlp_span.specs.Slips.{entries_of, node_entries, slip_count}
 use Rattle.otlp_span.specs.Dropped.{entry_view}
 use Rattle.otlp_span.proofs.slip.Slip.into_below.Goals as goal
 
-one-more : (e : Entry) (below : Option (List Entry)) → slip_count below ≤ length (e ∷ entries_of below)
+one-more : (e : Entry) (below : Option (List Entry))
+    → slip_count below ≤ length (e ∷ entries_of below)
 one-more e None = omega arith
 one-more e (Some es) = omega arith
 

@@ -16,12 +16,16 @@ module _ (R : RattleType) (item : IsSync R) (κ : Lft) where
   items_sync b o [] = tt
   items_sync b o (x ∷ xs) = (item.shared x b o κ, items_sync b (o + type_size R) xs)
 
-  places_sync : (p : Ptr) (before : ℕ) (xs : List R.Denot) (after : ℕ) → Keyless (places_lent R p before xs after κ)
+  places_sync : (p : Ptr) (before : ℕ) (xs : List R.Denot) (after : ℕ)
+      → Keyless (places_lent R p before xs after κ)
   places_sync (block_ptr b o) before xs after = (tt, items_sync b (before * type_size R + o) xs)
   places_sync null_ptr before xs after = tt
 
 -- Places are `Sync` where their items are.
 pub sync : (R : RattleType) → IsSync R → IsSync (places.the_row R)
 sync R item = let O = places.the_type R in record {
-  shared = λ d b o κ. ((struct_sync (shape O) (search sendable, tt)).shared (to O d) b o κ, places_sync R item κ d.at d.before d.items d.after);
+  shared = λ d b o κ. (
+    (struct_sync (shape O) (search sendable, tt)).shared (to O d) b o κ,
+    places_sync R item κ d.at d.before d.items d.after,
+  );
 }

@@ -15,7 +15,13 @@ use Rattle.span_ring.proofs.room.RoomOwner.TheLaw.Statement.{statement}
 -- A `&` to the owner of a room satisfies the law of its type.
 pub shares : (R P : RattleType) (g : Ghosts P.Denot) (L : Laws R) (K : Laws P) → statement R P g L K
 unfolding part_of
-shares R P g L K = let parts = field (emptied R P g) ∷ [] in let it = inside.the_type R P g in record {
-  shr_laws = λ v b o. Struct-row_laws (record { name = it.name; args = it.args; types = it.types; fields = rows parts }) (parts_row_laws parts (emptied_shared R P g L K, tt)) (v, tt) b o;
-  shares = λ M 𝓤 𝓛 v. parts_share 𝓛 parts it.name it.args it.types (emptied_shared R P g L K, tt) (v, tt);
-}
+shares R P g L K =
+    let parts = field (emptied R P g) ∷ [] in let it = inside.the_type R P g in record {
+      shr_laws =
+          λ v b o. Struct-row_laws
+          (record { name = it.name; args = it.args; types = it.types; fields = rows parts })
+          (parts_row_laws parts (emptied_shared R P g L K, tt)) (v, tt) b o;
+      shares =
+          λ M 𝓤 𝓛 v.
+          parts_share 𝓛 parts it.name it.args it.types (emptied_shared R P g L K, tt) (v, tt);
+    }

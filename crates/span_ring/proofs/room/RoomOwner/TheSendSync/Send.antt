@@ -27,12 +27,21 @@ count_send : IsSend usize
 count_send = search sendable
 
 -- The owner of a room is `Send` where its allocator is.
-pub send : (R A : RattleType) (g : Ghosts A.Denot) → IsSend A → Frees g g.dealloc_token → IsSend (owner.the_row R A g)
+pub send : (R A : RattleType) (g : Ghosts A.Denot) → IsSend A → Frees g g.dealloc_token
+    → IsSend (owner.the_row R A g)
 send R A g alloc frees =
-    let O = emptied R A g in let all : AllSend (fields O) = (pointer_send, (count_send, (count_send, (alloc, tt)))) in
-    let words : IsSend (Emptied R A g) = owning_send O all (λ v. (tt, right_send v.ptr (has_block v.cap) _ (frees.frees v.alloc _ v.ptr)))
+    let O = emptied R A g in
+    let all : AllSend (fields O) = (pointer_send, (count_send, (count_send, (alloc, tt)))) in
+    let words : IsSend (Emptied R A g) =
+    owning_send O all
+    (λ v. (tt, right_send v.ptr (has_block v.cap) _ (frees.frees v.alloc _ v.ptr)))
     (λ k. quiet (to O) (exits_of k (fields O)) ((struct_send (shape O) all).leaving k)) in
     record {
-      owned = λ v vs. ((λ _. tt), (struct_send (record { name = []; args = []; types = []; fields = Emptied R A g ∷ [] }) (words, tt)).owned (v, tt) vs);
+      owned = λ v vs. (
+        (λ _. tt),
+        (struct_send (record { name = []; args = []; types = []; fields = Emptied R A g ∷ [] })
+            (words, tt)).owned
+            (v, tt) vs,
+      );
       leaving = λ k v w. tt;
     }

@@ -27,6 +27,16 @@ pub sync : (R A : RattleType) (g : Ghosts A.Denot) → IsSync A → IsSync (owne
 sync R A g alloc =
     let O = emptied R A g in
     let words : IsSync (Emptied R A g) = record {
-      shared = λ v b o κ. ((struct_sync (shape O) (pointer_sync, (count_sync, (count_sync, (alloc, tt))))).shared (to O v) b o κ, (tt, (there v.ptr, (tt, tt))));
+      shared = λ v b o κ. (
+        (struct_sync (shape O) (pointer_sync, (count_sync, (count_sync, (alloc, tt))))).shared
+            (to O v) b o κ,
+        (tt, (there v.ptr, (tt, tt))),
+      );
     } in
-    record { shared = λ v. (struct_sync (record { name = []; args = []; types = []; fields = Emptied R A g ∷ [] }) (words, tt)).shared (v, tt) }
+    record {
+      shared =
+          λ v. (struct_sync
+          (record { name = []; args = []; types = []; fields = Emptied R A g ∷ [] })
+          (words, tt)).shared
+          (v, tt);
+    }

@@ -8,11 +8,16 @@ use Rattle.span_ring.proofs.segments.Segments.detach_front.Goals as goal
 -- the segment that takes its place has no item
 pub returns-in-None-clause-items : goal.returns-in-None-clause-items
 returns-in-None-clause-items g c =
-    let all : AreSpare c.args.batch (c.take_last-next.new.self.items ++ c.take_last-next.result ∷ []) = rw (← c.take_last-next.ensures.items) c.requires.all_spare in
+    let all : AreSpare c.args.batch
+    (c.take_last-next.new.self.items ++ c.take_last-next.result ∷ []) =
+    rw (← c.take_last-next.ensures.items) c.requires.all_spare in
     let none : c.take_last-next.result.items ≡ [] = (last_spare c.args.batch _ _ all).1 in
     grind (arith, common_steps, append-nil, items_of_more, none)
 
 pub returns-in-None-clause-filling : goal.returns-in-None-clause-filling
 returns-in-None-clause-filling g c =
-    let all : AreSpare c.args.batch (c.take_last-next.new.self.items ++ c.take_last-next.result ∷ []) = rw (← c.take_last-next.ensures.items) c.requires.all_spare in
-    let last = last_spare c.args.batch _ _ all in rw c.replace.ensures.after (omega (arith, ap length last.1), last.2)
+    let all : AreSpare c.args.batch
+    (c.take_last-next.new.self.items ++ c.take_last-next.result ∷ []) =
+    rw (← c.take_last-next.ensures.items) c.requires.all_spare in
+    let last = last_spare c.args.batch _ _ all in
+    rw c.replace.ensures.after (omega (arith, ap length last.1), last.2)

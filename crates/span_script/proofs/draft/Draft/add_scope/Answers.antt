@@ -6,6 +6,14 @@ use Rattle.span_script.proofs.draft.Draft.add_scope.Goals as goal
 
 pub returns : goal.returns
 returns g c = λ s h.
-    let x : spans.Scope = record { name = string_bytes c.args.name; version = string_bytes c.args.version; attributes = []; schema = string_bytes c.args.schema_url } in
+    let x : spans.Scope =
+    record {
+      name = string_bytes c.args.name;
+      version = string_bytes c.args.version;
+      attributes = [];
+      schema = string_bytes c.args.schema_url;
+    } in
     let next : c.args.number ≡ length c.args.self.now.scopes.items = search rules in
-    add_scope c.args.self.now c.push.new.self s c.args.number x _ (not-false _ (sym (c.has_steps.ensures s h) ∙ c.if-has_steps.false)) next (ap (λ l. (x, l)) c.all_attributes.ensures) c.in_ok-push.ensures.items h
+    add_scope c.args.self.now c.push.new.self s c.args.number x _
+    (not-false _ (sym (c.has_steps.ensures s h) ∙ c.if-has_steps.false)) next
+    (ap (λ l. (x, l)) c.all_attributes.ensures) c.in_ok-push.ensures.items h

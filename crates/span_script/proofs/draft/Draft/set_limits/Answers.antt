@@ -4,4 +4,7 @@ use Rattle.span_script.proofs.Drafts.{set_limits}
 use Rattle.span_script.proofs.draft.Draft.set_limits.Goals as goal
 
 pub returns : goal.returns
-returns g c = λ s h. set_limits c.args.self.now s c.args.values (not-false _ (sym (c.has_steps.ensures s h) ∙ c.if-has_steps.false)) (sym (c.has_limits.ensures s h) ∙ c.if-has_limits.false) h
+returns g c =
+    λ s h. set_limits c.args.self.now s c.args.values
+    (not-false _ (sym (c.has_steps.ensures s h) ∙ c.if-has_steps.false))
+    (sym (c.has_limits.ensures s h) ∙ c.if-has_limits.false) h

@@ -4,4 +4,7 @@ use Rattle.span_script.proofs.Drafts.{set_max_body}
 use Rattle.span_script.proofs.draft.Draft.set_max_body.Goals as goal
 
 pub returns : goal.returns
-returns g c = λ s h. set_max_body c.args.self.now s c.args.greatest (not-false _ (sym (c.has_steps.ensures s h) ∙ c.if-has_steps.false)) (sym (c.has_max_body.ensures s h) ∙ c.if-has_max_body.false) h
+returns g c =
+    λ s h. set_max_body c.args.self.now s c.args.greatest
+    (not-false _ (sym (c.has_steps.ensures s h) ∙ c.if-has_steps.false))
+    (sym (c.has_max_body.ensures s h) ∙ c.if-has_max_body.false) h

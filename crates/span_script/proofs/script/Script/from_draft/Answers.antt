@@ -12,7 +12,8 @@ use Rattle.span_script.specs.declared.sampler.SamplerName.TheVariants.{AlwaysOn}
 use Rattle.span_script.proofs.script.Script.from_draft.Goals as goal
 
 -- what is set, or the standard's
-or_standard : {X Y : Type 0} (view : X → Y) (standard : Y) (o : Option X) (x : X) (P : X → Type 0) → UnwrapsOrElse o P x → (P x → view x ≡ standard)
+or_standard : {X Y : Type 0} (view : X → Y) (standard : Y) (o : Option X) (x : X) (P : X → Type 0)
+    → UnwrapsOrElse o P x → (P x → view x ≡ standard)
     → view x ≡ unwrap_or (option_map view o) standard
 or_standard view standard None x P e is = is e
 or_standard view standard (Some y) x P e is = ap view e
@@ -26,11 +27,18 @@ pub returns : goal.returns
 returns g c = λ s h. record {
   words = h.settings.0;
   sampler = c.unwrap_or.ensures ∙ ap (λ o. unwrap_or o AlwaysOn) h.settings.1;
-  limits = or_standard limits_view default_limits c.args.draft.limits _ _ c.unwrap_or_default.ensures (λ is. is) ∙ ap (λ o. unwrap_or o default_limits) h.settings.2;
-  desk = or_standard config_view default_config c.args.draft.desk _ _ c.unwrap_or_default-2.ensures (λ is. is) ∙ ap (λ o. unwrap_or o default_config) h.settings.3;
+  limits =
+      or_standard limits_view default_limits c.args.draft.limits _ _ c.unwrap_or_default.ensures
+      (λ is. is)
+      ∙ ap (λ o. unwrap_or o default_limits) h.settings.2;
+  desk =
+      or_standard config_view default_config c.args.draft.desk _ _ c.unwrap_or_default-2.ensures
+      (λ is. is)
+      ∙ ap (λ o. unwrap_or o default_config) h.settings.3;
   max_body = h.settings.4;
   resource = c.into_pairs.ensures ∙ ap (λ kept. kept.items) h.attributes.1;
-  scopes = c.in_ok-finished_scopes.ensures ∙ ap (map finished_scope) h.attributes.2 ∙ kept_each s.scopes;
+  scopes =
+      c.in_ok-finished_scopes.ensures ∙ ap (map finished_scope) h.attributes.2 ∙ kept_each s.scopes;
   outcomes = h.steps.0;
   steps = h.steps.1;
 }

@@ -17,7 +17,8 @@ use Rattle.test_processor.proofs.simple.flushes.start.Goals as goal
 waiting_send : IsSend Waiting.the_row
 waiting_send = search (sendable, declared_send, as_row_send, heap.crosses) depth 60 fits 20000
 
-pass_send : (J R : RattleType) (g : naming.Ghosts J.Denot) → IsSend R → IsSend (SimplePass.the_row J Waiting.the_row R Heap.the_row g waiting.ghosts ghosts)
+pass_send : (J R : RattleType) (g : naming.Ghosts J.Denot) → IsSend R
+    → IsSend (SimplePass.the_row J Waiting.the_row R Heap.the_row g waiting.ghosts ghosts)
 pass_send J R g r = crosses.pass_send J Waiting.the_row g waiting.ghosts waiting_send R r
 
 pub spawn-started-requires-send-F : goal.spawn-started-requires-send-F

@@ -15,4 +15,5 @@ spawn-started-requires-send-F g c κs within =
 pub spawn-started-requires-send-T : goal.spawn-started-requires-send-T
 spawn-started-requires-send-T g c κs within =
     let r = c.type_bounds.send-R in
-    param_send 2 _ (arg_send _ no _ (memory_pass_send (param 0 g.row.J) (copied 1 g.row.R) g.J.Naming r))
+    param_send 2 _
+    (arg_send _ no _ (memory_pass_send (param 0 g.row.J) (copied 1 g.row.R) g.J.Naming r))

@@ -4,20 +4,26 @@ use Rattle.trace_api.proofs.extension.SpanSpanExt.link.Goals as goal
 
 pub returns-then-not-is_recording : goal.returns-then-not-is_recording
 returns-then-not-is_recording g c = record {
-  ok = does-nothing _ c.args.self.now refl (sym c.is_recording.ensures ∙ c.if-not-is_recording.true);
+  ok =
+      does-nothing _ c.args.self.now refl (sym c.is_recording.ensures ∙ c.if-not-is_recording.true);
   ignored = λ e. refl;
   err = tt;
   refused = tt;
 }
 
 pub returns-in_err-context-clause-refused : goal.returns-in_err-context-clause-refused
-returns-in_err-context-clause-refused g c = on-err c.from_residual.result (sym c.is_recording.ensures ∙ c.if-not-is_recording.false)
+returns-in_err-context-clause-refused g c =
+    on-err c.from_residual.result (sym c.is_recording.ensures ∙ c.if-not-is_recording.false)
 
 pub returns-in_err-attributes-clause-refused : goal.returns-in_err-attributes-clause-refused
-returns-in_err-attributes-clause-refused g c = on-err c.from_residual-in_err-attributes.result (sym c.is_recording.ensures ∙ c.if-not-is_recording.false)
+returns-in_err-attributes-clause-refused g c =
+    on-err c.from_residual-in_err-attributes.result
+    (sym c.is_recording.ensures ∙ c.if-not-is_recording.false)
 
 pub returns-clause-ok : goal.returns-clause-ok
-returns-clause-ok g c = rw (← c.in_ok-context.ensures, ← c.in_ok-attributes.ensures) c.add_link.ensures.ok
+returns-clause-ok g c =
+    rw (← c.in_ok-context.ensures, ← c.in_ok-attributes.ensures) c.add_link.ensures.ok
 
 pub returns-clause-refused : goal.returns-clause-refused
-returns-clause-refused g c = on-err c.add_link.result (sym c.is_recording.ensures ∙ c.if-not-is_recording.false)
+returns-clause-refused g c =
+    on-err c.add_link.result (sym c.is_recording.ensures ∙ c.if-not-is_recording.false)

@@ -1,7 +1,8 @@
 use Rattle.std.proofs.Common.{refl}
 use Rattle.model_span.specs.Spans.{set_attribute}
 use Rattle.trace_api.specs.Lent.{lent_pair}
-use Rattle.trace_api.proofs.Made.{counted-before, does-none, ignored-next, makes-all, makes-at, makes-first, on-err}
+use Rattle.trace_api.proofs.Made.{counted-before, does-none, ignored-next, makes-all, makes-at}
+use Rattle.trace_api.proofs.Made.{makes-first, on-err}
 use Rattle.trace_api.proofs.extension.SpanSpanExt.set_all.Goals as goal
 
 pub loop-pair-init : goal.loop-pair-init
@@ -11,19 +12,33 @@ pub loop-pair-preserved : goal.loop-pair-preserved
 loop-pair-preserved g c =
     let i = c.loop-pair.invariant in
     record {
-      made = makes-at set_attribute lent_pair c.args.pairs.now c.loop-pair.pair-index _ c.args.self.now c.loop-pair.self c.set.new.self c.loop-pair-test.true i.made c.in_ok-set.ensures.ok;
-      ignored = ignored-next c.args.self.now c.loop-pair.self c.set.new.self i.ignored c.in_ok-set.ensures.ignored;
+      made =
+          makes-at set_attribute lent_pair c.args.pairs.now c.loop-pair.pair-index _ c.args.self.now
+          c.loop-pair.self c.set.new.self c.loop-pair-test.true i.made c.in_ok-set.ensures.ok;
+      ignored =
+          ignored-next c.args.self.now c.loop-pair.self c.set.new.self i.ignored
+          c.in_ok-set.ensures.ignored;
     }
 
 pub returns-in_err-set-clause-ignored : goal.returns-in_err-set-clause-ignored
-returns-in_err-set-clause-ignored g c = ignored-next c.args.self.now c.loop-pair.self c.set.new.self c.loop-pair.invariant.ignored c.in_err-set.ensures.ignored
+returns-in_err-set-clause-ignored g c =
+    ignored-next c.args.self.now c.loop-pair.self c.set.new.self c.loop-pair.invariant.ignored
+    c.in_err-set.ensures.ignored
 
 pub returns-in_err-set-clause-err : goal.returns-in_err-set-clause-err
 returns-in_err-set-clause-err g c =
-    on-err c.from_residual.result (makes-first set_attribute lent_pair c.args.pairs.now c.loop-pair.pair-index c.args.self.now c.loop-pair.self c.set.new.self c.loop-pair-test.true c.loop-pair.invariant.made c.in_err-set.ensures.err)
+    on-err c.from_residual.result
+    (makes-first set_attribute lent_pair c.args.pairs.now c.loop-pair.pair-index c.args.self.now
+    c.loop-pair.self c.set.new.self c.loop-pair-test.true c.loop-pair.invariant.made
+    c.in_err-set.ensures.err)
 
 pub returns-in_err-set-clause-refused : goal.returns-in_err-set-clause-refused
-returns-in_err-set-clause-refused g c = on-err c.from_residual.result (counted-before c.args.self.now c.loop-pair.self c.loop-pair.invariant.ignored c.in_err-set.ensures.refused)
+returns-in_err-set-clause-refused g c =
+    on-err c.from_residual.result
+    (counted-before c.args.self.now c.loop-pair.self c.loop-pair.invariant.ignored
+    c.in_err-set.ensures.refused)
 
 pub returns-clause-ok : goal.returns-clause-ok
-returns-clause-ok g c = makes-all set_attribute lent_pair c.args.pairs.now c.loop-pair.pair-index c.args.self.now c.loop-pair.self c.loop-pair-test.false c.loop-pair.invariant.made
+returns-clause-ok g c =
+    makes-all set_attribute lent_pair c.args.pairs.now c.loop-pair.pair-index c.args.self.now
+    c.loop-pair.self c.loop-pair-test.false c.loop-pair.invariant.made

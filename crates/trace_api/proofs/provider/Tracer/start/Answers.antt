@@ -8,27 +8,44 @@ use Rattle.trace_api.proofs.Drawn.{not-started, has-started, takes-memory, refus
 use Rattle.trace_api.proofs.provider.Tracer.start.Goals as goal
 
 pub returns-in_default : goal.returns-in_default
-returns-in_default g c = record { started = not-started _ _ _ c.in_default.ensures.ids; spent = c.in_default.ensures.spent }
+returns-in_default g c = record {
+  started = not-started _ _ _ c.in_default.ensures.ids;
+  spent = c.in_default.ensures.spent;
+}
 
 pub returns-in_err-open : goal.returns-in_err-open
 returns-in_err-open g c =
     let tracer : Tracer = tracer_view g.S.Sampler.meaning c.args.self.now in
-    let a : StartRequest = start_request (parent_view c.args.parent) (string_bytes c.args.name) (kind_view c.args.kind) c.args.at in
+    let a : StartRequest =
+    start_request (parent_view c.args.parent) (string_bytes c.args.name)
+    (kind_view c.args.kind) c.args.at in
     let d = c.in-Some.ensures.decided in
-    let decision : decision_view c.in-Some.decided.decision ≡ decision_of tracer a c.in-Some.decided.ids.trace.0 = rw c.as_str.ensures.value at d.decision_is in
+    let decision : decision_view c.in-Some.decided.decision
+    ≡ decision_of tracer a c.in-Some.decided.ids.trace.0 =
+    rw c.as_str.ensures.value at d.decision_is in
     record {
-      started = refused _ _ _ c.from_residual.ensures.1 (has-started tracer a _ _ c.in-Some.ensures.ids)
-          (takes-memory tracer (ids_view c.in-Some.decided.ids) (ap (λ p. record a { parent = p }) d.parent_is) decision c.in_err-open.ensures);
+      started =
+          refused _ _ _ c.from_residual.ensures.1 (has-started tracer a _ _ c.in-Some.ensures.ids)
+          (takes-memory tracer (ids_view c.in-Some.decided.ids)
+          (ap (λ p. record a { parent = p }) d.parent_is) decision c.in_err-open.ensures);
       spent = c.in-Some.ensures.spent;
     }
 
 pub returns : goal.returns
 returns g c =
     let tracer : Tracer = tracer_view g.S.Sampler.meaning c.args.self.now in
-    let a : StartRequest = start_request (parent_view c.args.parent) (string_bytes c.args.name) (kind_view c.args.kind) c.args.at in
+    let a : StartRequest =
+    start_request (parent_view c.args.parent) (string_bytes c.args.name)
+    (kind_view c.args.kind) c.args.at in
     let d = c.in-Some.ensures.decided in
-    let decision : decision_view c.in-Some.decided.decision ≡ decision_of tracer a c.in-Some.decided.ids.trace.0 = rw c.as_str.ensures.value at d.decision_is in
+    let decision : decision_view c.in-Some.decided.decision
+    ≡ decision_of tracer a c.in-Some.decided.ids.trace.0 =
+    rw c.as_str.ensures.value at d.decision_is in
     record {
-      started = (_, has-started tracer a _ _ c.in-Some.ensures.ids, c.in_ok-open.ensures ∙ rw (d.parent_is, decision) refl);
+      started = (
+        _,
+        has-started tracer a _ _ c.in-Some.ensures.ids,
+        c.in_ok-open.ensures ∙ rw (d.parent_is, decision) refl,
+      );
       spent = c.in-Some.ensures.spent;
     }

@@ -6,11 +6,18 @@ use Rattle.trace_api.proofs.span.Span.set_attribute.Goals as goal
 
 pub returns-in_default : goal.returns-in_default
 returns-in_default g c = record {
-  ok = rw (← c.self.view_is) (does-nothing _ (context_view c.self.inside.context) _ refl (not-recorded c.self.inside.state c.in_default.not-Recording));
+  ok =
+      rw (← c.self.view_is)
+      (does-nothing _ (context_view c.self.inside.context) _ refl
+      (not-recorded c.self.inside.state c.in_default.not-Recording));
   ignored = λ e. c.self.view_is;
   err = tt;
   refused_only_where_kept = tt;
 }
 
 pub returns-clause-ok : goal.returns-clause-ok
-returns-clause-ok g c = rw (← c.self.view_is, c.in-Recording.is) (on-ok c.set_attribute.result (λ a. does-recorded _ (context_view c.self.inside.context) _ _ refl a) c.set_attribute.ensures.ok)
+returns-clause-ok g c =
+    rw (← c.self.view_is, c.in-Recording.is)
+    (on-ok c.set_attribute.result
+    (λ a. does-recorded _ (context_view c.self.inside.context) _ _ refl a)
+    c.set_attribute.ensures.ok)

@@ -12,5 +12,8 @@ returns c same =
     record {
       sorted = named;
       named_are = rw c.in_ok-named.ensures.items at c.sort_unstable_by_key.ensures.permutation;
-      wanted_are = rw c.in_ok-wanted.ensures.items at (subst (λ xs. IsPermutation c.in_ok-wanted.wanted.items xs) equal c.sort_unstable_by_key-2.ensures.permutation);
+      wanted_are =
+          rw c.in_ok-wanted.ensures.items at
+          (subst (λ xs. IsPermutation c.in_ok-wanted.wanted.items xs) equal
+          c.sort_unstable_by_key-2.ensures.permutation);
     }

@@ -7,8 +7,11 @@ use Rattle.trace_demo.proofs.soak.memory.is_flat.Goals as goal
 -- the size at the index is near too
 pub loop-at-preserved : goal.loop-at-preserved
 loop-at-preserved c k below =
-    let near : IsNear c.args.first.now c.args.slack (slice_index c.args.later.now c.loop-at.at) = search rules in
+    let near : IsNear c.args.first.now c.args.slack (slice_index c.args.later.now c.loop-at.at) =
+    search rules in
     elim (cases_lt k c.loop-at.at) [
       | inl less ↦ c.loop-at.invariant k less
-      | inr most ↦ let at : c.loop-at.at ≡ k = omega (arith, most, below) in subst (λ i. IsNear c.args.first.now c.args.slack (slice_index c.args.later.now i)) at near
+      | inr most ↦
+          let at : c.loop-at.at ≡ k = omega (arith, most, below) in
+          subst (λ i. IsNear c.args.first.now c.args.slack (slice_index c.args.later.now i)) at near
     ]

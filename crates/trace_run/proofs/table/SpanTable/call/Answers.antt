@@ -14,12 +14,24 @@ returns g c =
     let before = c.args.pass.now in
     let answer = c.call_among.result in
     let slot = slice_get old.spans n in
-    let called : CallsAmong g.P.EndPass.admits n made slot old.spans before answer news after = rw (ap (λ t. t.spans) c.self.view_is) at c.call_among.ensures.called in
+    let called : CallsAmong g.P.EndPass.admits n made slot old.spans before answer news after =
+    rw (ap (λ t. t.spans) c.self.view_is) at c.call_among.ensures.called in
     record {
-      answered = λ k setup steps h. answered-is g.S.Sampler.meaning g.R.Rng.stream g.P.EndPass.admits n old news before after answer made slot refl called k setup steps h;
-      asks_nothing = λ k. asks-nothing-is g.S.Sampler.meaning g.R.Rng.stream g.P.EndPass.admits n old news before after answer made slot called k;
-      ended = ended-is g.S.Sampler.meaning g.R.Rng.stream g.P.EndPass.admits n old news before after answer made slot refl called;
-      table = λ setup steps h. table-is g.S.Sampler.meaning g.R.Rng.stream setup steps n made old _ h (ap (λ t. t.tracers) c.self.view_is) (ap (λ t. t.rng) c.self.view_is) g.P.EndPass.admits before after answer slot refl called;
-      many = many-is g.S.Sampler.meaning g.R.Rng.stream g.P.EndPass.admits n old news before after answer made slot called;
+      answered =
+          λ k setup steps h. answered-is g.S.Sampler.meaning g.R.Rng.stream g.P.EndPass.admits n old
+          news before after answer made slot refl called k setup steps h;
+      asks_nothing =
+          λ k. asks-nothing-is g.S.Sampler.meaning g.R.Rng.stream g.P.EndPass.admits n old news
+          before after answer made slot called k;
+      ended =
+          ended-is g.S.Sampler.meaning g.R.Rng.stream g.P.EndPass.admits n old news before after
+          answer made slot refl called;
+      table =
+          λ setup steps h. table-is g.S.Sampler.meaning g.R.Rng.stream setup steps n made old _ h
+          (ap (λ t. t.tracers) c.self.view_is)
+          (ap (λ t. t.rng) c.self.view_is) g.P.EndPass.admits before after answer slot refl called;
+      many =
+          many-is g.S.Sampler.meaning g.R.Rng.stream g.P.EndPass.admits n old news before after
+          answer made slot called;
       room = c.call_among.ensures.room ∙ ap (λ t. t.room) c.self.view_is;
     }

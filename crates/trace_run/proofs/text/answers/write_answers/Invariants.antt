@@ -9,4 +9,5 @@ use Rattle.trace_run.proofs.text.answers.write_answers.Given as goal
 abbrev pub invariant-loop-step : goal.invariant-loop-step
 invariant-loop-step g l =
     Written (map handed_view l.handed) l.fn.steps l.fn.answers (string_bytes l.fn.out)
-    (string_bytes l.out) l.place (iter_rest (zip_first l.step-iterator)) (iter_rest (zip_second l.step-iterator))
+    (string_bytes l.out) l.place (iter_rest (zip_first l.step-iterator))
+    (iter_rest (zip_second l.step-iterator))

@@ -5,9 +5,11 @@ use Rattle.trace_store.proofs.kept.Kept.evict.Given as goal
 -- the newest are left, and nothing was received
 abbrev pub invariant-loop-is_within : goal.invariant-loop-is_within
 invariant-loop-is_within g l = record {
-  newest : AreNewest g.S.SpanSize.size_of l.limits.max_spans l.limits.max_bytes l.fn.self.traces l.self.traces;
+  newest : AreNewest g.S.SpanSize.size_of l.limits.max_spans l.limits.max_bytes l.fn.self.traces
+      l.self.traces;
   named : Evicts l.fn.self.traces l.fn.self l.self;
-  within : IsTrue l.is_within ↔ AreWithin g.S.SpanSize.size_of l.limits.max_spans l.limits.max_bytes l.self.traces;
+  within : IsTrue l.is_within
+      ↔ AreWithin g.S.SpanSize.size_of l.limits.max_spans l.limits.max_bytes l.self.traces;
   accounted : IsAccounted l.self;
   received : l.self.received ≡ l.fn.self.received;
 }

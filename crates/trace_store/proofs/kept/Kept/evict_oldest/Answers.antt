@@ -21,9 +21,35 @@ invariant_of-self-2 g c =
     let counted = sum_last length _ _ _ c.in-Some.oldest c.in-Some.ensures in
     let pushed = c.push_back.ensures.items in
     let more = c.saturating_add-self-inside.ensures in
-    let fits : length c.push_back.new.self.items ≤ 1000 = omega (arith, ap (λ b. length b.items) pushed, last_fits c.self.inside.last_evicted.capacity (c.self.inside.last_evicted.items ++ c.in-Some.trace ∷ []), c.self.invariant.3) in
-    (omega (arith, counted, ap length c.spans-spans.ensures, c.self.invariant.0), omega arith, omega (arith, sized, ap (sum_by g.S.SpanSize.size_of) c.spans-spans.ensures, c.self.invariant.2), ap (λ b. b.capacity) pushed ∙ c.self.invariant.3, fits, omega (arith, more))
+    let fits : length c.push_back.new.self.items ≤ 1000 =
+    omega (
+      arith,
+      ap (λ b. length b.items) pushed,
+      last_fits c.self.inside.last_evicted.capacity
+          (c.self.inside.last_evicted.items ++ c.in-Some.trace ∷ []),
+      c.self.invariant.3,
+    ) in (
+      omega (arith, counted, ap length c.spans-spans.ensures, c.self.invariant.0),
+      omega arith,
+      omega (
+        arith,
+        sized,
+        ap (sum_by g.S.SpanSize.size_of) c.spans-spans.ensures,
+        c.self.invariant.2,
+      ),
+      ap (λ b. b.capacity) pushed ∙ c.self.invariant.3,
+      fits,
+      omega (arith, more),
+    )
 
 pub returns-clause-oldest : goal.returns-clause-oldest
-returns-clause-oldest g c =
-    ((c.in-Some.trace, c.in-Some.oldest), sym (ap (λ x. x.traces) c.self.view_is) ∙ c.in-Some.ensures, omega (arith, ap length c.spans-spans.ensures, ap (λ x. x.evicted) c.self.view_is), omega (arith, c.saturating_add-self-inside.ensures, ap (λ x. x.evicted_traces) c.self.view_is), ap (λ b. b.items) c.push_back.ensures.items ∙ ap (λ n. keep_last n (c.self.inside.last_evicted.items ++ c.in-Some.trace ∷ [])) c.self.invariant.3 ∙ ap (λ x. keep_last 1000 (x.last_evicted ++ c.in-Some.trace ∷ [])) c.self.view_is)
+returns-clause-oldest g c = (
+  (c.in-Some.trace, c.in-Some.oldest),
+  sym (ap (λ x. x.traces) c.self.view_is) ∙ c.in-Some.ensures,
+  omega (arith, ap length c.spans-spans.ensures, ap (λ x. x.evicted) c.self.view_is),
+  omega (arith, c.saturating_add-self-inside.ensures, ap (λ x. x.evicted_traces) c.self.view_is),
+  ap (λ b. b.items) c.push_back.ensures.items
+      ∙ ap (λ n. keep_last n (c.self.inside.last_evicted.items ++ c.in-Some.trace ∷ []))
+      c.self.invariant.3
+      ∙ ap (λ x. keep_last 1000 (x.last_evicted ++ c.in-Some.trace ∷ [])) c.self.view_is,
+)

@@ -9,7 +9,9 @@ abbrev pub invariant-loop-is_done : goal.invariant-loop-is_done
 invariant-loop-is_done g l = record {
   giving : IsGiving g.S.SpanSize.size_of l.bytes l.fn.self.traces l.self.traces;
   named : Evicts l.fn.self.traces l.fn.self l.self;
-  done : IsTrue l.is_done ↔ ((l.bytes ≤ l.before - byte_count g.S.SpanSize.size_of l.self.traces) ⊎ (l.self.traces ≡ []));
+  done : IsTrue l.is_done
+      ↔ ((l.bytes ≤ l.before - byte_count g.S.SpanSize.size_of l.self.traces)
+      ⊎ (l.self.traces ≡ []));
   accounted : IsAccounted l.self;
   received : l.self.received ≡ l.fn.self.received;
 }

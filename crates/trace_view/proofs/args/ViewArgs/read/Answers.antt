@@ -10,11 +10,16 @@ use Rattle.trace_view.proofs.args.ViewArgs.read.Goals as goal
 
 pub returns-in_err-found-clause-refused : goal.returns-in_err-found-clause-refused
 returns-in_err-found-clause-refused c =
-    let cause : IfErr c.from_residual.result (given.IsCause command c.args.words.now) = first_of (search rules, grind (arith, common_steps)) in
+    let cause : IfErr c.from_residual.result (given.IsCause command c.args.words.now) =
+    first_of (search rules, grind (arith, common_steps)) in
     cause-of c.args.words.now c.from_residual.result cause
 
 pub returns-in_default-clause-refused : goal.returns-in_default-clause-refused
 returns-in_default-clause-refused c =
-    let same : texts_of c.as_slice.result.now ≡ texts_given command (codes "address") c.args.words.now = first_of (search rules, grind (arith, common_steps)) in
-    let none : IsNoAddress (texts_given command (codes "address") c.args.words.now) = subst IsNoAddress same c.in_default.ensures in
-    cause-of-address c.args.words.now c.mistake.result c.mistake.ensures (c.in_ok-found.ensures.taken, none)
+    let same : texts_of c.as_slice.result.now
+    ≡ texts_given command (codes "address") c.args.words.now =
+    first_of (search rules, grind (arith, common_steps)) in
+    let none : IsNoAddress (texts_given command (codes "address") c.args.words.now) =
+    subst IsNoAddress same c.in_default.ensures in
+    cause-of-address c.args.words.now c.mistake.result c.mistake.ensures
+    (c.in_ok-found.ensures.taken, none)

@@ -5,10 +5,15 @@ use Rattle.trace_view.proofs.peer.Peer.serve.Goals as goal
 
 pub returns-in-Some-clause-served : goal.returns-in-Some-clause-served
 returns-in-Some-clause-served g c =
-    leads-then g.S.Service.answers g.P.Pieces.writes _ _ _ _ _ _ _ _ (ap (λ (l : Limits). l.max_body) c.loop.invariant.limits) c.loop.invariant.served c.step.ensures.served
+    leads-then g.S.Service.answers g.P.Pieces.writes _ _ _ _ _ _ _ _
+    (ap (λ (l : Limits). l.max_body) c.loop.invariant.limits) c.loop.invariant.served
+    c.step.ensures.served
 
 pub loop-preserved : goal.loop-preserved
 loop-preserved g c = record {
-  served = leads-then g.S.Service.answers g.P.Pieces.writes _ _ _ _ _ _ _ _ (ap (λ (l : Limits). l.max_body) c.loop.invariant.limits) c.loop.invariant.served c.step.ensures.served;
+  served =
+      leads-then g.S.Service.answers g.P.Pieces.writes _ _ _ _ _ _ _ _
+      (ap (λ (l : Limits). l.max_body) c.loop.invariant.limits) c.loop.invariant.served
+      c.step.ensures.served;
   limits = c.step.ensures.limits ∙ c.loop.invariant.limits;
 }

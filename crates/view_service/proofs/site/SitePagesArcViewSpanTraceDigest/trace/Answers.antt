@@ -5,8 +5,12 @@ use Rattle.view_service.proofs.site.SitePagesArcViewSpanTraceDigest.trace.Goals 
 
 pub returns-in-Text : goal.returns-in-Text
 returns-in-Text c =
-    if_ok {P = λ page. DrawsText c.deref.result.now (site_writes page)} {Q = λ page. (bytes : List ℕ) → site_writes page ≡ bytes → Draws c.args.form c.args.trace c.args.spans.items bytes}
+    if_ok {P = λ page. DrawsText c.deref.result.now (site_writes page)}
+    {Q =
+    λ page. (bytes : List ℕ) → site_writes page ≡ bytes
+    → Draws c.args.form c.args.trace c.args.spans.items bytes}
     c.text_of.result c.text_of.ensures
-    (λ page drawn bytes is. subst (λ f. Draws f c.args.trace c.args.spans.items bytes) (sym c.in-Text.is)
+    (λ page drawn bytes is.
+    subst (λ f. Draws f c.args.trace c.args.spans.items bytes) (sym c.in-Text.is)
     (subst (λ b. DrawsText c.args.spans.items b) is
     (subst (λ s. DrawsText s (site_writes page)) c.deref.ensures.value drawn)))

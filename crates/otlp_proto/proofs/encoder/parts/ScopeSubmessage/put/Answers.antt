@@ -7,4 +7,6 @@ returns g c =
     let name = rw c.as_str.ensures.value at c.put_text.ensures in
     let version = rw c.as_str-2.ensures.value at c.put_text-2.ensures in
     let attributes = rw c.as_slice.ensures.value at c.put_each.ensures in
-    carries (and-field name (and-field version (and-field (put-messages attribute_message _ attributes) (and-field no-uint32 no-field))))
+    carries (and-field name
+    (and-field version
+    (and-field (put-messages attribute_message _ attributes) (and-field no-uint32 no-field))))

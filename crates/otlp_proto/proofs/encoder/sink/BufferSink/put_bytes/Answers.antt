@@ -11,4 +11,5 @@ put_bytes-self-inside-requires g c =
 pub returns-else-has_room : goal.returns-else-has_room
 returns-else-has_room g c =
     let full = (c.has_room.ensures _ _ (sym c.self.view_is)).1 c.if-has_room.false in
-    subst (λ cursor. Lays c.args.bytes.now cursor cursor) c.self.view_is (no-room c.args.bytes.now _ _ full)
+    subst (λ cursor. Lays c.args.bytes.now cursor cursor) c.self.view_is
+    (no-room c.args.bytes.now _ _ full)

@@ -15,4 +15,5 @@ pub returns-else-has_room : goal.returns-else-has_room
 unfolding payload_bytes
 returns-else-has_room g c =
     let full = (c.has_room.ensures _ _ (sym c.self.view_is)).1 c.if-has_room.false in
-    subst (λ cursor. Lays (payload_bytes (Wire.i32 c.args.value)) cursor cursor) c.self.view_is (no-room _ _ _ full)
+    subst (λ cursor. Lays (payload_bytes (Wire.i32 c.args.value)) cursor cursor) c.self.view_is
+    (no-room _ _ _ full)

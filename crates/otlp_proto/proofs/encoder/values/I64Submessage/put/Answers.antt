@@ -8,5 +8,6 @@ pub returns : goal.returns
 returns g c =
     let number = c.args.self.now in
     let fits : SFits w64 number = search rules in
-    let is : c.cast_unsigned.result ≡ cast_unsigned w64 number = c.cast_unsigned.ensures ∙ ap (cast_unsigned w64) (to_z-of_z {w = w64} {z = number} fits) in
+    let is : c.cast_unsigned.result ≡ cast_unsigned w64 number =
+    c.cast_unsigned.ensures ∙ ap (cast_unsigned w64) (to_z-of_z {w = w64} {z = number} fits) in
     int-member number fits (rw is at c.put_varint.ensures)

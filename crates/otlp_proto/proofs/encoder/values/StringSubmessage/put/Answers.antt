@@ -5,5 +5,7 @@ use Rattle.otlp_proto.proofs.encoder.values.StringSubmessage.put.Goals as goal
 
 pub returns : goal.returns
 returns g c =
-    let text = rw c.as_str.ensures.value at (is_utf8-from_IsUtf8 c.as_str.result.now c.as_str.utf8) in
-    text-member (string_bytes c.args.self.now) text (rw (c.as_bytes.ensures.value, c.as_str.ensures.value) at c.put_len.ensures)
+    let text =
+    rw c.as_str.ensures.value at (is_utf8-from_IsUtf8 c.as_str.result.now c.as_str.utf8) in
+    text-member (string_bytes c.args.self.now) text
+    (rw (c.as_bytes.ensures.value, c.as_str.ensures.value) at c.put_len.ensures)

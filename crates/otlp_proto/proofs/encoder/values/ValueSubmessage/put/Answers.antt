@@ -15,7 +15,8 @@ returns-in-Int g c = rw c.in-Int.is (one-level _ c.put-in-Int.ensures)
 pub returns-in-Texts : goal.returns-in-Texts
 returns-in-Texts g c =
     let array = rw c.as_slice.ensures.value at c.put_one.ensures in
-    rw (c.in-Texts.is, map-map AnyValue.text string_bytes c.in-Texts.texts.items) (array-member (map (λ t. AnyValue.text (string_bytes t)) c.in-Texts.texts.items) array)
+    rw (c.in-Texts.is, map-map AnyValue.text string_bytes c.in-Texts.texts.items)
+    (array-member (map (λ t. AnyValue.text (string_bytes t)) c.in-Texts.texts.items) array)
 
 pub returns-in-Bools : goal.returns-in-Bools
 returns-in-Bools g c =
