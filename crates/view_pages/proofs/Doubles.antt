@@ -2,10 +2,10 @@
 use Rattle.std.proofs.Common.{◌≡◌, refl, ℕ, zero, suc, ◌-◌, ◌*◌, ◌/◌, ◌%◌, ◌^◌, ◌==◌, Bool, true}
 use Rattle.std.proofs.Common.{cond, List, ◌++◌, codes, Option, Some, None}
 use Rattle.std.specs.Prelude.{decimal, nat_lt}
-use Rattle.double_text.specs.Doubles.{decimal_text, digits_of, divided_text, double_text}
-use Rattle.double_text.specs.Doubles.{exponent_of, fraction_of, is_negative, large_text}
-use Rattle.double_text.specs.Doubles.{mantissa_of, power_of, shortest, shortest_text, sign_text}
-use Rattle.double_text.specs.Doubles.{size_text, small_text, times_text}
+use Rattle.page_text.specs.Doubles.{decimal_text, digits_of, divided_text, page_text}
+use Rattle.page_text.specs.Doubles.{exponent_of, fraction_of, is_negative, large_text}
+use Rattle.page_text.specs.Doubles.{mantissa_of, power_of, shortest, shortest_text, sign_text}
+use Rattle.page_text.specs.Doubles.{size_text, small_text, times_text}
 use Rattle.view_pages.proofs.Lacks.{lacks, lacks_append, lacks_cond, lacks_decimal}
 
 lacks_digits_of : (n ten rest : ℕ) → lacks (digits_of n ten rest) ≡ true
@@ -60,8 +60,8 @@ unfolding sign_text
 lacks_sign negative = lacks_cond negative _ _ (λ e. refl) (λ e. refl)
 
 -- The text of a double has no `<`.
-pub lacks_double : (bits : ℕ) → lacks (double_text bits) ≡ true
-unfolding double_text
+pub lacks_double : (bits : ℕ) → lacks (page_text bits) ≡ true
+unfolding page_text
 lacks_double bits =
     lacks_cond (exponent_of bits == 2047) _ _
     (λ e. lacks_cond (fraction_of bits == 0) _ _

@@ -7,7 +7,7 @@ use Rattle.std.specs.Fmt.{digit_glyph, digits, digits_onto, signed_decimal}
 use Rattle.std.specs.Str.{chars}
 use lib.Utf8.{encode, next}
 use Rattle.hex.specs.Hex.{encode_lower, encode_with, lower_digits}
-use Rattle.html_text.specs.Written.{char_markup, shown_char, text_markup}
+use Rattle.page_text.specs.Written.{char_markup, shown_char, text_markup}
 
 -- whether no tag begins in a text: it has no `<` (60)
 abbrev pub lacks : List ℕ → Bool

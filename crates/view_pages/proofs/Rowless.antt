@@ -2,7 +2,7 @@
 use Rattle.std.proofs.Common.{◌≡◌, refl, ℕ, ◌+◌, ◌-◌, ◌/◌, ◌%◌, ◌==◌, length, Bool, true, false}
 use Rattle.std.proofs.Common.{nat_lt, cond, List, [], ◌∷◌, ℤ, pos, negsuc, codes, Option, Some}
 use Rattle.std.proofs.Common.{None, String, string_bytes}
-use Rattle.double_text.specs.Doubles.{double_text}
+use Rattle.page_text.specs.Doubles.{page_text}
 use Rattle.model_message.specs.AnyValue.{AnyValue, AnyValues, KeyValues, none, no_values, value}
 use Rattle.model_message.specs.AnyValue.{no_pairs, pair}
 use Rattle.otlp_read.specs.Values.{any_value_view}
@@ -73,7 +73,7 @@ mutual
   rowless_value (AnyValue.bool true) = refl
   rowless_value (AnyValue.bool false) = refl
   rowless_value (AnyValue.int i) = tt
-  rowless_value (AnyValue.double d) = rowless_text (double_text d) (lacks_double d)
+  rowless_value (AnyValue.double d) = rowless_text (page_text d) (lacks_double d)
   rowless_value (AnyValue.array vs) = (refl, (rowless_values vs, refl))
   rowless_value (AnyValue.pairs ps) = (refl, (rowless_pairs ps, refl))
   rowless_value (AnyValue.bytes bs) = (refl, tt)

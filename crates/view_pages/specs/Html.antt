@@ -3,7 +3,7 @@ use Rattle.std.specs.Prelude.{ℕ, ℤ, List, [], ◌∷◌, ◌++◌, decimal, 
 use Rattle.std.specs.Fmt.{signed_decimal}
 use Rattle.std.specs.Str.{chars}
 use Rattle.hex.specs.Hex.{encode_lower}
-use Rattle.html_text.specs.Written.{text_markup}
+use Rattle.page_text.specs.Written.{text_markup}
 
 infixr 20 ◌▹◌
 -- A part of a page. What comes from outside is a text, a number or bytes, and never markup.

@@ -1,6 +1,6 @@
 -- The attributes of a panel, and their values.
 use Rattle.std.specs.Prelude.{ℕ, true, false, List, String, codes, string_bytes}
-use Rattle.double_text.specs.Doubles.{double_text}
+use Rattle.page_text.specs.Doubles.{page_text}
 use Rattle.model_message.specs.AnyValue.{AnyValue, AnyValues, KeyValues, none, no_values, value}
 use Rattle.model_message.specs.AnyValue.{no_pairs, pair}
 use Rattle.otlp_read.specs.declared.any_value.AnyValue.{AnyValue as Received}
@@ -9,7 +9,7 @@ use Rattle.view_pages.specs.Html.{Html, Nothing, Markup, Text, Signed, Digits, �
 
 -- the number that the double with these 64 bits is
 abbrev pub double_html : ℕ → Html
-double_html bits = Markup (double_text bits)
+double_html bits = Markup (page_text bits)
 
 abbrev pub bytes_html : List ℕ → Html
 bytes_html bytes = Markup (codes "0x") ▹ Digits bytes

@@ -3,8 +3,8 @@
 ghost use Rattle.std.specs.Prelude.{◌≡◌, ◌++◌, OnOk, string_bytes};
 ghost use Rattle.view_pages.specs.Html.{Digits, Markup, Number, Signed, Text, html_bytes};
 
-use html_text::write_text;
 use otlp_ids::OutOfMemory;
+use page_text::write_text;
 use std::alloc::Allocator;
 
 /// Appends what the template says.

@@ -5,9 +5,9 @@ ghost use Rattle.view_pages.specs.Html.{Markup, Signed, Text, ◌▹◌, each, h
 ghost use Rattle.view_pages.specs.Values.{any_html, bytes_html, double_html, item_html, pair_html};
 
 use crate::html::{push_digits, push_markup, push_text};
-use double_text::write_double;
 use otlp_ids::OutOfMemory;
 use otlp_read::AnyValue;
+use page_text::write_double;
 use std::alloc::Allocator;
 
 /// Appends a value.

@@ -1,6 +1,6 @@
 //! What is written of texts.
 use crate::tests::equal::assert_equal;
-use html_text::write_text;
+use page_text::write_text;
 use std::alloc::Global;
 use std::test::Fail;
 use test_support::FailingAllocator;

@@ -1,8 +1,0 @@
-use Rattle.double_text.proofs.Bounds.{ten_some}
-use Rattle.double_text.proofs.write.push_decimal.Goals as goal
-
-pub nonzero_div-value : goal.nonzero_div-value
-nonzero_div-value g c = ten_some c.args.value.ten c.args.value.places c.requires
-
-pub nonzero_rem-value : goal.nonzero_rem-value
-nonzero_rem-value g c = ten_some c.args.value.ten c.args.value.places c.requires
