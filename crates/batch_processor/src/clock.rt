@@ -1,12 +1,7 @@
 //! The clocks that a worker goes by.
 use std::sync::atomic::{AtomicU64, Ordering};
 use std::time;
-
-/// Gives the time.
-pub trait Clock {
-    /// The moment now, in nanoseconds since 1970.
-    fn now(&self) -> u64;
-}
+use trace_api::Clock;
 
 /// How far a clock goes on where the system's clock has no later moment, in nanoseconds.
 const STEP_NS: u64 = 1_000_000;
@@ -32,6 +27,10 @@ impl<R: time::Clock> SystemClock<R> {
 }
 
 impl<R: time::Clock> Clock for SystemClock<R> {
+    ghost use Rattle.std.specs.Prelude.{⊤};
+
+    ghost tells = { λ clock at. ⊤ };
+
     fn now(&self) -> u64 {
         let last = self.last.load(Ordering::SeqCst);
         let now = match nanos_since_1970(&self.rt) {
@@ -71,6 +70,10 @@ impl ManualClock {
 }
 
 impl Clock for ManualClock {
+    ghost use Rattle.std.specs.Prelude.{⊤};
+
+    ghost tells = { λ clock at. ⊤ };
+
     fn now(&self) -> u64 {
         self.now.load(Ordering::SeqCst)
     }

@@ -17,9 +17,10 @@ mod worker;
 
 pub use account::BatchBlank;
 pub use account_book::Naming;
-pub use clock::{Clock, ManualClock, SystemClock};
+pub use clock::{ManualClock, SystemClock};
 pub use config::BatchConfig;
 pub use fault::{NewFault, WorkerLeft};
 pub use pass::{Flushed, Pass};
 pub use processor::{Accounts, BatchProcessor, MAX_PASSES, Missing, Parts};
+pub use trace_api::Clock;
 pub use worker::{WorkEnd, WorkerPass};

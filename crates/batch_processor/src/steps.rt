@@ -17,7 +17,6 @@ ghost use Rattle.batch_processor.specs.Working.{TakesStep, hand_at, in_hand, pen
 ghost use Rattle.batch_processor.specs.Working.{to_judge, to_retry, to_send, work_in};
 
 use crate::account::AccountState;
-use crate::clock::Clock;
 use crate::config::Setup;
 use crate::lock::{Lock, PAUSE_MS};
 use account_book::{Account, Naming};
@@ -32,6 +31,7 @@ use std::marker::Model;
 use std::sync::{Arc, Wait};
 use std::time::Duration;
 use std::{mem, thread, time};
+use trace_api::Clock;
 
 /// How far the batch in hand is.
 #[derive(Drop)]

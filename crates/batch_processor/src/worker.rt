@@ -10,7 +10,6 @@ ghost use Rattle.batch_processor.specs.Views.{setup_view};
 ghost use Rattle.batch_processor.specs.Working.{GoesOn, IsPrepared};
 
 use crate::account::AccountState;
-use crate::clock::Clock;
 use crate::config::Setup;
 use crate::lock::Lock;
 use crate::steps::{InHand, Worker};
@@ -21,6 +20,7 @@ use std::alloc::{AllocError, Allocator, Global};
 use std::marker::Model;
 use std::sync::{Arc, Wait};
 use std::{fmt, mem, time};
+use trace_api::Clock;
 
 /// How work ended.
 #[derive(Debug, Clone, Copy, PartialEq, Eq)]

@@ -274,6 +274,10 @@ impl Minutes {
 }
 
 impl batch_processor::Clock for Minutes {
+    ghost use Rattle.std.specs.Prelude.{⊤};
+
+    ghost tells = { λ clock at. ⊤ };
+
     fn now(&self) -> u64 {
         let moment = self.0.get().saturating_add(60 * SECOND);
         self.0.set(moment);

@@ -9,3 +9,4 @@ pub mod Request
 pub mod Counts
 pub mod Endings
 pub mod Ends
+pub mod Whole

@@ -1,10 +1,12 @@
 //! Values and attributes that a program lends, and their copies.
-ghost use Rattle.std.specs.Prelude.{◌≡◌, IfOk, map, string_bytes};
+ghost use Rattle.std.specs.Prelude.{◌≡◌, IfOk, map, pos, string_bytes};
 ghost use Rattle.model_span.specs.Attributes as model;
 ghost use Rattle.otlp_ids.specs.SpanContext.{context_view};
 ghost use Rattle.otlp_value.specs.Value.{attributes_view, value_view};
 ghost use Rattle.trace_api.specs.Lent.{lent_pair, lent_pairs, lent_value};
+ghost use Rattle.trace_api.specs.Whole.{whole_value};
 
+use itoa::Buffer;
 use otlp_ids::{OutOfMemory, SpanContext, copy_text};
 use otlp_value::Value;
 use std::alloc::Allocator;
@@ -19,8 +21,16 @@ pub enum ValueRef<'a> {
     Bool(bool),
     /// A whole number of 64 bits, with its sign.
     Int(i64),
+    /// A whole number without a sign. Where it is above 2^63 - 1, the value is its decimal text
+    /// (profile).
+    Unsigned(u128),
+    /// A whole number with a sign. Where it doesn't fit 64 bits, the value is its decimal text
+    /// (profile).
+    Signed(i128),
     /// An array of texts.
     Texts(&'a [&'a str]),
+    /// An array of texts that are owned.
+    Strings(&'a [String]),
     /// An array of truth values.
     Bools(&'a [bool]),
     /// An array of whole numbers.
@@ -40,10 +50,33 @@ impl<'a> ValueRef<'a> {
             ValueRef::Text(text) => Ok(Value::Text(copy_text(alloc, text)?)),
             ValueRef::Bool(truth) => Ok(Value::Bool(truth)),
             ValueRef::Int(number) => Ok(Value::Int(number)),
+            ValueRef::Unsigned(number) => copy_unsigned(alloc, number),
+            ValueRef::Signed(number) => copy_signed(alloc, number),
             ValueRef::Texts(texts) => Ok(Value::Texts(copy_texts(alloc, texts)?)),
+            ValueRef::Strings(texts) => Ok(Value::Texts(copy_strings(alloc, texts)?)),
             ValueRef::Bools(truths) => Ok(Value::Bools(copy_items(alloc, truths)?)),
             ValueRef::Ints(numbers) => Ok(Value::Ints(copy_items(alloc, numbers)?)),
         }
+    }
+}
+
+/// A whole number, or its decimal text where it is above 2^63 - 1.
+fn copy_unsigned<A: Allocator>(alloc: A, number: u128) -> Result<Value<A>, OutOfMemory>
+    ensures { IfOk result (λ value. value_view value ≡ whole_value (pos number)) }
+{
+    match i64::try_from(number) {
+        Ok(number) => Ok(Value::Int(number)),
+        Err(_) => Ok(Value::Text(copy_text(alloc, Buffer::new().format(number))?)),
+    }
+}
+
+/// A whole number, or its decimal text where it doesn't fit 64 bits.
+fn copy_signed<A: Allocator>(alloc: A, number: i128) -> Result<Value<A>, OutOfMemory>
+    ensures { IfOk result (λ value. value_view value ≡ whole_value number) }
+{
+    match i64::try_from(number) {
+        Ok(number) => Ok(Value::Int(number)),
+        Err(_) => Ok(Value::Text(copy_text(alloc, Buffer::new().format(number))?)),
     }
 }
 
@@ -62,6 +95,20 @@ fn copy_texts<A: Allocator + Copy>(
     Ok(copied)
 }
 
+/// The same of texts that are owned.
+fn copy_strings<A: Allocator + Copy>(
+    alloc: A,
+    texts: &[String],
+) -> Result<Vec<String<A>, A>, OutOfMemory>
+    ensures { IfOk result (λ v. map string_bytes v.items ≡ map string_bytes texts.now) }
+{
+    let mut copied = Vec::with_capacity(alloc, texts.len())?;
+    for text in texts {
+        copied.push(copy_text(alloc, text.as_str())?)?;
+    }
+    Ok(copied)
+}
+
 /// The same items, on memory of their own. None at all take none.
 fn copy_items<T: Copy, A: Allocator>(alloc: A, items: &[T]) -> Result<Vec<T, A>, OutOfMemory>
     ensures { IfOk result (λ v. v.items ≡ items.now) }
@@ -71,8 +118,9 @@ fn copy_items<T: Copy, A: Allocator>(alloc: A, items: &[T]) -> Result<Vec<T, A>,
     Ok(copied)
 }
 
-/// What can be the value of an attribute: texts, truth values, whole numbers, and arrays of these.
-/// It is lent, and copied where a span keeps it.
+/// What can be the value of an attribute: texts, truth values, whole numbers of any width, and
+/// arrays of texts, of truth values and of `i64`. It is lent, and copied where a span keeps it. A
+/// whole number that doesn't fit 64 bits with a sign, as `u64::MAX`, is its decimal text (profile).
 pub trait ToValue: Drop {
     /// The value that it is.
     ghost value: { Self → model.Value };
@@ -114,11 +162,115 @@ impl ToValue for i32 {
     }
 }
 
+impl<A: Allocator + Drop> ToValue for String<A> {
+    ghost value = { λ text. model.text (string_bytes text) };
+
+    fn to_value(&self) -> ValueRef<'_> {
+        ValueRef::Text(self.as_str())
+    }
+}
+
+impl<'a, A: Allocator> ToValue for &'a String<A> {
+    ghost value = { λ text. model.text (string_bytes text.now) };
+
+    fn to_value(&self) -> ValueRef<'_> {
+        ValueRef::Text(self.as_str())
+    }
+}
+
+impl ToValue for i16 {
+    ghost value = { λ number. model.int number };
+
+    fn to_value(&self) -> ValueRef<'_> {
+        ValueRef::Int(i64::from(*self))
+    }
+}
+
+impl ToValue for i8 {
+    ghost value = { λ number. model.int number };
+
+    fn to_value(&self) -> ValueRef<'_> {
+        ValueRef::Int(i64::from(*self))
+    }
+}
+
+impl ToValue for u32 {
+    ghost value = { λ number. model.int (pos number) };
+
+    fn to_value(&self) -> ValueRef<'_> {
+        ValueRef::Int(i64::from(*self))
+    }
+}
+
+impl ToValue for u16 {
+    ghost value = { λ number. model.int (pos number) };
+
+    fn to_value(&self) -> ValueRef<'_> {
+        ValueRef::Int(i64::from(*self))
+    }
+}
+
+impl ToValue for u8 {
+    ghost value = { λ number. model.int (pos number) };
+
+    fn to_value(&self) -> ValueRef<'_> {
+        ValueRef::Int(i64::from(*self))
+    }
+}
+
+impl ToValue for isize {
+    ghost value = { λ number. model.int number };
+
+    fn to_value(&self) -> ValueRef<'_> {
+        ValueRef::Int(*self as i64)
+    }
+}
+
+impl ToValue for i128 {
+    ghost value = { whole_value };
+
+    fn to_value(&self) -> ValueRef<'_> {
+        ValueRef::Signed(*self)
+    }
+}
+
+impl ToValue for u64 {
+    ghost value = { λ number. whole_value (pos number) };
+
+    fn to_value(&self) -> ValueRef<'_> {
+        ValueRef::Unsigned(u128::from(*self))
+    }
+}
+
+impl ToValue for usize {
+    ghost value = { λ number. whole_value (pos number) };
+
+    fn to_value(&self) -> ValueRef<'_> {
+        ValueRef::Unsigned(*self as u128)
+    }
+}
+
+impl ToValue for u128 {
+    ghost value = { λ number. whole_value (pos number) };
+
+    fn to_value(&self) -> ValueRef<'_> {
+        ValueRef::Unsigned(*self)
+    }
+}
+
 impl<'a> ToValue for &'a [&'a str] {
     ghost value = { λ texts. model.texts (map (λ text. text.now) texts.now) };
 
     fn to_value(&self) -> ValueRef<'_> {
         ValueRef::Texts(*self)
+    }
+}
+
+impl<'a> ToValue for &'a [String] {
+    ghost value = { λ texts. model.texts (map string_bytes texts.now) };
+
+    fn to_value(&self) -> ValueRef<'_> {
+        ValueRef::Strings(*self)
     }
 }
 

@@ -11,6 +11,7 @@
 #![tactic(auto)]
 
 mod attribute;
+mod clock;
 mod end;
 mod extension;
 mod lent;
@@ -21,6 +22,7 @@ mod span;
 mod words;
 
 pub use attribute::{count_untraced, int_value, text_pair};
+pub use clock::Clock;
 pub use end::{Ending, end_span};
 pub use extension::SpanExt;
 pub use lent::{KeyValue, ToValue, ValueRef};

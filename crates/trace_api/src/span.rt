@@ -52,8 +52,11 @@ impl<A: Allocator> Model for Span<A> {
 }
 
 impl<A: Allocator> Span<A> {
-    /// A span that its sampler dropped.
-    pub(crate) fn not_recording(context: SpanContext<A>) -> Span<A>
+    /// A span that isn't recorded, with this context: one that a sampler dropped, or one that only
+    /// carries the context of another (Trace API, "Wrapping a SpanContext in a Span"). Its children
+    /// are children of the context, no call on it counts, and its end goes to no pass. It takes no
+    /// memory.
+    pub fn not_recording(context: SpanContext<A>) -> Span<A>
         ensures { result ≡ record { context = context_view context; state = starts.not_recording } }
     {
         Span {
