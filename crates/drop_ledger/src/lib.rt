@@ -1,9 +1,10 @@
-//! The names of spans that aren't delivered, the newest first. Each is kept on its own span's slip,
-//! so that no memory is taken to name one (profile).
+//! The names of spans that aren't delivered: where they wait, and where they go then (profile).
 //!
-//! Where the names of spans that aren't delivered go, once they are popped from the ledgers in
-//! which they waited (profile): [`NameSink`]. [`NewestNames`] keeps the newest of them, and
-//! [`NameLines`] writes a line for each.
+//! A [`Ledger`] has them, the newest first. Each name is kept on its own span's slip, so that
+//! naming a span takes no memory. [`DropCounts`] counts them by reason.
+//!
+//! A [`NameSink`] takes the names that are popped from the ledgers: [`NewestNames`] keeps the
+//! newest of them, and [`NameLines`] writes a line for each.
 #![tactic(auto)]
 
 mod counts;

@@ -1,10 +1,14 @@
-//! What both sides of OTLP over HTTP share (RFC 9110, RFC 9112): devices that count their failures,
-//! how much of a message is read and why it isn't, the fields of its head, and its body. The
-//! client's side is `otlp_http`, the collector's `otlp_serve`; each lends what its users name of
-//! these.
+//! What both sides of OTLP over HTTP share (RFC 9110, RFC 9112). The client's side is `otlp_http`,
+//! the collector's `otlp_serve`; each lends its users what they name of this crate.
 //!
-//! The head of a message of HTTP, whichever side reads it (RFC 9112, sections 2 to 5): a kind of
-//! head is what implements [`ParseHead`].
+//! - [`FaultRead`] and [`FaultWrite`] are devices that count their failures.
+//! - [`read_head`] reads the head of a message, of whatever kind implements [`ParseHead`] (RFC
+//!   9112, sections 2 to 5). [`HeadPlace`] says where a head is parsed, [`HeadLimits`] how much of
+//!   it is read, and [`HttpFault`] why there is none.
+//! - [`keep_fields`], [`content_length`] and [`retry_after`] read the fields of a head,
+//!   [`read_body`] reads the body.
+//! - [`write_pieces`] writes a text piece by piece, and [`Front`] gathers its beginning for one
+//!   write.
 #![tactic(auto)]
 
 mod body;

@@ -1,6 +1,7 @@
-//! What the calls on spans mean (OpenTelemetry Trace API and Trace SDK): definitions of attributes,
-//! identifiers, sampling, starts and calls. Their laws are in crate `law_export`.
+//! The meaning of the calls on spans (OpenTelemetry Trace API and Trace SDK), as definitions; their
+//! laws are in crate `law_export`.
 //!
-//! Why ended spans are dropped, and the names that are kept of those that are (profile):
-//! definitions.
+//! `Attributes`, `Spans` and `Starts` define what attributes, calls and starts make of a span,
+//! `Identifiers` and `Sampling` how identifiers are drawn and samplers decide. `Dropped` defines
+//! why an ended span isn't delivered, and the name that is kept of it (profile).
 #![tactic(auto)]

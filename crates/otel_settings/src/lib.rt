@@ -8,13 +8,12 @@
 //! and with what is used instead. So is a value that asks for what the kit doesn't have, as another
 //! protocol, TLS and headers.
 //!
-//! Resource attributes as a text, as `OTEL_RESOURCE_ATTRIBUTES` has them: `key1=value1,key2=value2`
+//! [`resource_attributes`] reads the text of `OTEL_RESOURCE_ATTRIBUTES`: `key1=value1,key2=value2`
 //! (OpenTelemetry Specification, "Resource SDK", "Specifying resource information via an
-//! environment variable"; W3C Baggage, "Header content", without properties).
-//!
-//! A key is a token of HTTP, and a value any visible ASCII characters but `"`, `,`, `;` and `\`; in
-//! both `%` and two hexadecimal digits are a byte, and what comes out is UTF-8. Spaces and tabs may
-//! be around keys and values. A value may be empty, and have a `=`.
+//! environment variable"; W3C Baggage, "Header content", without properties). A key is a token of
+//! HTTP, and a value any visible ASCII characters but `"`, `,`, `;` and `\`; in both `%` and two
+//! hexadecimal digits are a byte, and what comes out is UTF-8. Spaces and tabs may be around keys
+//! and values. A value may be empty, and have a `=`.
 #![tactic(auto)]
 
 mod attributes;

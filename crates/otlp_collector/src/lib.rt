@@ -1,9 +1,11 @@
-//! A collector of spans (OTLP Specification, "OTLP/HTTP"): one request of a connection is read, and
-//! answered. The spans of a request are printed as lines, of words with a space between them
-//! (profile).
+//! The program `otlp-collector` as a library, over a runtime, readers and writers: a collector of
+//! spans that prints them (OTLP Specification, "OTLP/HTTP").
 //!
-//! The program `otlp-collector`, over a runtime, readers and writers: connections that are served
-//! one after another, each with the spans of its request printed.
+//! - [`answer`] reads the one request of a connection and answers it.
+//! - [`print_spans`] prints the spans of a request as lines, of words with a space between them
+//!   (profile).
+//! - [`serve`] does both for one connection, [`collect`] for one connection after another, and
+//!   [`run_collector`] is the whole program.
 #![tactic(auto)]
 
 mod args;

@@ -1,9 +1,11 @@
-//! Samplers, which decide at its start whether a span is recorded and whether it is exported
+//! Samplers, which decide at a span's start whether it is recorded and whether it is exported
 //! (OpenTelemetry Trace SDK, "Sampling"). Nothing here takes memory.
 //!
-//! A sampler that samples a given share of all traces, without floating numbers (OpenTelemetry
-//! Trace SDK, "TraceIdRatioBased"; W3C Trace Context level 2, "random-trace-id flag"). Nothing here
-//! takes memory.
+//! [`AlwaysOn`] and [`AlwaysOff`] decide alike for all spans, [`ParentBased`] by the parent, and
+//! [`TraceIdRatio`] samples a given share of all traces, without floating numbers (OpenTelemetry
+//! Trace SDK, "TraceIdRatioBased"; W3C Trace Context level 2, "random-trace-id flag").
+//!
+//! # A ratio
 //!
 //! The last 7 bytes of a trace id are a number of 56 bits, the random part of the id. A span is
 //! sampled exactly where this number is at least the sampler's threshold, from 0 to 2^56. So a

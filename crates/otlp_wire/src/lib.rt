@@ -1,18 +1,19 @@
-//! Fields of messages as Protocol Buffers have them on the wire ("Encoding"): writers of their
-//! payloads, each of which appends to a vector, which is unchanged where it could not grow, or puts
-//! its bytes at a place of a slice that has room; and a reader of a message's fields.
+//! Messages of OTLP as Protocol Buffers have them on the wire ("Encoding"): what writes the
+//! payloads of their fields, and what reads any message by its table.
 //!
-//! Messages of OTLP as Protocol Buffers have them on the wire ("Encoding"): the fields of any
-//! message, gathered by its table, and the answer of a collector to a trace export, read and
-//! written (opentelemetry-proto, trace_service.proto), with the message of one that refuses it
-//! (google/rpc/status.proto).
+//! - The writers append a payload to a vector, which is unchanged if it can't grow, or put it at a
+//!   place of a slice that has room.
+//! - [`Fields`] reads the fields of a message one by one. [`gather_all`] reads the whole of one
+//!   into a type that implements [`GatherFields`].
+//! - [`read_response`] and [`write_response`] have the answer of a collector to a trace export
+//!   (opentelemetry-proto, trace_service.proto), [`read_status_message`] the message of one that
+//!   refuses it (google/rpc/status.proto).
 //!
-//! Whoever reads a message of another table writes a type that keeps what counts of its fields, and
-//! implements [`GatherFields`] for it: its `take` keeps a number by [`last_varint`] or
+//! The `take` of a [`GatherFields`] keeps what counts of the fields: a number by [`last_varint`],
 //! [`last_fixed64`] or [`last_fixed32`], a text or bytes by [`last_bytes`], a message by
-//! [`gather_in`], and the messages of a repeated field by [`push_message`]. What
-//! doesn't count is not looked into: fields that are unknown or of another wire type, and the texts
-//! that a later one replaces.
+//! [`gather_in`], and the messages of a repeated field by [`push_message`]. What doesn't count is
+//! not looked into: fields that are unknown or of another wire type, and texts that a later one
+//! replaces.
 #![tactic(auto)]
 
 mod content;

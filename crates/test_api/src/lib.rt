@@ -1,7 +1,8 @@
-//! Tests over public calls alone: of identifiers, contexts, values, lists of attributes, samplers
-//! and the generator of listed words; of the parts of spans and their replay; of tracers, spans,
-//! passes and short calls; of ratios, texts of resource attributes and settings; and of the
-//! allocator that refuses a call. The crate has no items of its own.
+//! Tests, over public calls alone, of what a program makes spans with.
+//!
+//! Identifiers, contexts, values, lists of attributes, samplers with their ratios, and the
+//! generator of listed words; the parts of spans and their replay; tracers, spans, passes and short
+//! calls; and settings. The crate has no items of its own.
 #![tactic(auto)]
 
 #[cfg(test)]

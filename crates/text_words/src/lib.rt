@@ -1,4 +1,6 @@
-//! The words of a line, read from bytes: numbers, hexadecimal digits, and texts (profile).
+//! Words of a text, read from bytes: numbers, hexadecimal digits, and texts (profile).
+//! `span_script` reads scripts by them, `otel_settings` the values of variables, and
+//! `trace_context` the parts of a field.
 //!
 //! A word is a slice of bytes that a separator ends. A function reads one word whole, and answers
 //! `WordFault::Bad` where the word spells nothing of its kind, and `WordFault::OutOfMemory` where

@@ -1,13 +1,12 @@
-//! Spans as a program makes them (OpenTelemetry Trace API): a provider gives tracers, a tracer
-//! starts spans, and an ended span goes to a pass.
+//! Spans as a program makes them (OpenTelemetry Trace API): a [`Provider`] gives tracers, a
+//! [`Tracer`] starts spans, and a [`Span`] that ends goes to a pass, which implements [`EndPass`].
 //!
-//! Short calls on spans: an extension trait over [`Span`](crate::Span), whose calls copy names,
-//! keys and texts that are lent to them.
-//!
-//! Each call means what calls of the Trace API mean that hand over copies.
-//!
-//! How a span of a request over HTTP ends, a server's and a client's (OpenTelemetry Semantic
-//! Conventions, "HTTP spans").
+//! - [`BodyPass`] is a pass that keeps the spans.
+//! - [`SpanExt`] and [`start_span`] are short calls: they copy the names, keys and texts that they
+//!   are lent, and then do what the calls of the Trace API do.
+//! - [`end_span`] ends the span of a request over HTTP, a server's or a client's (OpenTelemetry
+//!   Semantic Conventions, "HTTP spans").
+//! - [`WordsRng`] is a generator of listed words, for identifiers that are known beforehand.
 #![tactic(auto)]
 
 mod attribute;

@@ -1,18 +1,17 @@
-//! The newest traces of those that were received, within bounds.
+//! The newest traces of those that were received, within bounds: what keeps them, and the spans
+//! that are kept to be shown.
 //!
-//! A `TraceStore` keeps spans by the trace that they belong to, whatever a span is. It holds a
-//! limited number of spans, and of bytes: where there are more, the trace that got a span least
-//! recently goes whole. Its spans are counted, and the last 1,000 of such traces are named. So each
-//! span that was received is kept or counted as evicted, at every moment.
-//! With each trace it keeps a digest of its spans, so that a list of traces needs no walk over
-//! them.
+//! A [`TraceStore`] keeps spans by the trace that they belong to; a span is whatever has a size
+//! ([`SpanSize`]). It holds a limited number of spans, and of bytes: where there are more, the
+//! trace that got a span least recently goes whole. Its spans are counted, and the last 1,000 of
+//! such traces are named. So each span that was received is kept or counted as evicted, at every
+//! moment. With each trace it keeps a digest of its spans, so that a list of traces needs no walk
+//! over them.
 //!
-//! Spans as they are kept to be shown: each with the resource and the scope that it shares with
-//! others.
-//!
-//! `take_apart` makes them of a request that was read, in parts, one for each trace, as
-//! `trace_store` takes them. A store of `Arc<ViewSpan>` lends a trace without copying a span, and
-//! keeps a `TraceDigest` with each: its root, when it began and ended, and how many spans it has.
+//! A [`ViewSpan`] is a span to be shown, with the resource and the scope that it shares with
+//! others. [`take_apart`] makes them of a request that was read, in parts, one for each trace. A
+//! store of `Arc<ViewSpan>` lends a trace without copying a span, and keeps a [`TraceDigest`] with
+//! each: its root, when it began and ended, and how many spans it has.
 #![tactic(auto)]
 
 mod apart;

@@ -1,12 +1,12 @@
-//! The program `trace-view`, over a runtime and writers: it receives spans by OTLP, keeps the
-//! newest traces, and shows them in a browser.
+//! The program `trace-view` as a library, over a runtime and writers: it receives spans by OTLP,
+//! keeps the newest traces, and shows them in a browser.
 //!
-//! The rules by which `trace-view` serves its peers: when further ones are accepted, when a peer is
-//! over its time, which one is closed where there is no room, how many bytes may be pending, and
-//! when a refusal is reported.
-//!
-//! Serves the peers of `trace-view` by turns, on one thread: a peer that is silent, or drips, or
-//! takes a long answer, holds up no other one.
+//! - [`ViewArgs`] are its arguments, and [`run_view`] is the whole program.
+//! - [`Peers`] serves the peers by turns, on one thread: a peer that is silent, or drips, or takes
+//!   a long answer, holds up no other one.
+//! - The rules: [`Accepting`] says when further peers are accepted, [`PeerClock`] when a peer is
+//!   over its time, [`Longest`] which one is closed where there is no room, [`Pending`] how many
+//!   bytes may be pending, and [`Complaints`] when a refusal is reported.
 #![tactic(auto)]
 
 mod accepting;

@@ -1,10 +1,9 @@
-//! A service of HTTP that receives spans by OTLP, keeps them and shows them: exports come by
-//! `POST /v1/traces` (OTLP Specification, "OTLP/HTTP"), and what is kept is read by `GET`.
-//! [`ViewService`] is what an `http_connection` calls. What keeps the spans is a [`TraceKeeper`],
-//! and what writes the pages a [`Pages`].
+//! A service of HTTP that receives spans by OTLP, keeps them and shows them: exports come by `POST
+//! /v1/traces` (OTLP Specification, "OTLP/HTTP"), and what is kept is read by `GET`.
 //!
-//! The site of `trace-view`: the pages of `view_pages`, and the answers for programs of
-//! `view_json`, as `view_service` asks for them.
+//! [`ViewService`] is what an `http_connection` calls. A [`TraceKeeper`] keeps the spans, and what
+//! implements [`Pages`] writes the pages. [`Site`] is that of `trace-view`: the pages of
+//! `view_pages`, and the answers for programs of `view_json`.
 #![tactic(auto)]
 
 mod counts;
