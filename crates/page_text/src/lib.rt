@@ -10,10 +10,10 @@
 #![tactic(auto)]
 
 mod decimal;
+mod double;
 pub mod worked;
 pub mod worked_double;
 mod write;
-mod write_double;
 
+pub use double::write_double;
 pub use write::write_text;
-pub use write_double::write_double;

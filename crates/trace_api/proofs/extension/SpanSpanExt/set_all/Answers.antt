@@ -1,7 +1,7 @@
 use Rattle.std.proofs.Common.{refl}
 use Rattle.model_span.specs.Spans.{set_attribute}
 use Rattle.trace_api.specs.Lent.{lent_pair}
-use Rattle.trace_api.proofs.Made.{counted-before, does-none, ignored-next, makes-all, makes-at}
+use Rattle.trace_api.proofs.Made.{counted-before, does-none, ignored-next, makes-all, makes-next}
 use Rattle.trace_api.proofs.Made.{makes-first, on-err}
 use Rattle.trace_api.proofs.extension.SpanSpanExt.set_all.Goals as goal
 
@@ -13,8 +13,9 @@ loop-pair-preserved g c =
     let i = c.loop-pair.invariant in
     record {
       made =
-          makes-at set_attribute lent_pair c.args.pairs.now c.loop-pair.pair-index _ c.args.self.now
-          c.loop-pair.self c.set.new.self c.loop-pair-test.true i.made c.in_ok-set.ensures.ok;
+          makes-next set_attribute lent_pair c.args.pairs.now c.loop-pair.pair-index
+          c.pair-item.result c.args.self.now c.loop-pair.self c.set.new.self
+          c.loop-pair-test.true c.pair-item.is i.made c.in_ok-set.ensures.ok;
       ignored =
           ignored-next c.args.self.now c.loop-pair.self c.set.new.self i.ignored
           c.in_ok-set.ensures.ignored;

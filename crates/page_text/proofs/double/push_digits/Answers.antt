@@ -2,7 +2,7 @@ use Rattle.std.proofs.Common.{◌++◌, string_bytes}
 use Rattle.page_text.specs.Doubles.{digits_of}
 use Rattle.page_text.proofs.Bounds.{ten_less, tenth_some}
 use Rattle.page_text.proofs.Steps.{digits_all, digits_more}
-use Rattle.page_text.proofs.write_double.push_digits.Goals as goal
+use Rattle.page_text.proofs.double.push_digits.Goals as goal
 
 pub nonzero_div-rest : goal.nonzero_div-rest
 nonzero_div-rest g c =

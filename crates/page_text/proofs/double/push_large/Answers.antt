@@ -1,6 +1,6 @@
 use Rattle.std.proofs.Common.{arith, ◌*◌, ◌<◌, ◌≤◌, ◌^◌, subst, sym}
 use Rattle.page_text.proofs.Bounds.{two_below, two_small, whole_small}
-use Rattle.page_text.proofs.write_double.push_large.Goals as goal
+use Rattle.page_text.proofs.double.push_large.Goals as goal
 
 pub pow-requires : goal.pow-requires
 pow-requires g c = two_below c.args.power 75 c.if-power-gt75.false (omega arith)

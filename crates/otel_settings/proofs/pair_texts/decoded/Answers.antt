@@ -1,6 +1,6 @@
 use Rattle.std.proofs.Common.{Some, sym, ap, ◌∙◌, arith}
 use Rattle.otel_settings.proofs.Decoding.{nothing}
-use Rattle.otel_settings.proofs.resource_pairs.decoded.Goals as goal
+use Rattle.otel_settings.proofs.pair_texts.decoded.Goals as goal
 
 pub returns-in-empty : goal.returns-in-empty
 returns-in-empty g c =

@@ -1,5 +1,5 @@
 use Rattle.page_text.proofs.Bounds.{ten_some}
-use Rattle.page_text.proofs.write_double.push_decimal.Goals as goal
+use Rattle.page_text.proofs.double.push_decimal.Goals as goal
 
 pub nonzero_div-value : goal.nonzero_div-value
 nonzero_div-value g c = ten_some c.args.value.ten c.args.value.places c.requires

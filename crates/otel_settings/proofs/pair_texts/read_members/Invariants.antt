@@ -2,7 +2,7 @@ use Rattle.std.proofs.Common.{◌≡◌}
 use Rattle.text_words.specs.Words.{each_of}
 use Rattle.text_words.proofs.Each.{words_at, appended, rest_of}
 use Rattle.otel_settings.specs.ResourcePairs.{member_of, pairs_view}
-use Rattle.otel_settings.proofs.resource_pairs.read_members.Given as goal
+use Rattle.otel_settings.proofs.pair_texts.read_members.Given as goal
 
 abbrev pub invariant-loop-member : goal.invariant-loop-member
 invariant-loop-member g l =

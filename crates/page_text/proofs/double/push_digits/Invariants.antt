@@ -1,6 +1,6 @@
 use Rattle.std.proofs.Common.{◌≡◌, ◌++◌, ◌-◌, ◌^◌, string_bytes}
 use Rattle.page_text.specs.Doubles.{digits_of}
-use Rattle.page_text.proofs.write_double.push_digits.Given as goal
+use Rattle.page_text.proofs.double.push_digits.Given as goal
 
 -- the digits that are written, and those that are left
 abbrev pub invariant-loop : goal.invariant-loop

@@ -1,7 +1,7 @@
 use Rattle.std.proofs.Common.{arith, ◌≤◌, ◌^◌, subst, sym, Some, None}
 use Rattle.page_text.proofs.Bounds.{two_below, two_small}
 use Rattle.page_text.proofs.Steps.{same_text, small_by, too_small}
-use Rattle.page_text.proofs.write_double.push_small.Goals as goal
+use Rattle.page_text.proofs.double.push_small.Goals as goal
 
 pub returns-then-power-gt120 : goal.returns-then-power-gt120
 returns-then-power-gt120 g c =
