@@ -3,3 +3,4 @@ pub mod Values
 pub mod Spans
 pub mod Lists
 pub mod Metrics
+pub mod Pieces

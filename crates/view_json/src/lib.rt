@@ -1,19 +1,20 @@
 //! Traces and counts for programs: as JSON, and as Prometheus reads them.
 //!
-//! `write_trace` writes a trace as OTLP's JSON has it (opentelemetry-proto, "JSON Protobuf
-//! Encoding"), `write_traces` a list of traces, `write_stats` what is counted, and `write_metrics`
-//! the same as text for Prometheus. What a reader of JSON sees of the first three is what the
-//! definitions say.
+//! `TraceJson` writes a trace as OTLP's JSON has it (opentelemetry-proto, "JSON Protobuf Encoding"),
+//! in pieces; `write_traces` writes a list of traces, `write_stats` what is counted, and
+//! `write_metrics` the same as text for Prometheus. What a reader of JSON sees of the first three is
+//! what the definitions say.
 #![tactic(auto)]
 
 mod field;
 mod list;
 mod metrics;
 mod part;
+mod pieces;
 mod span;
 mod trace;
 mod value;
 
 pub use list::{Stats, TraceLine, write_stats, write_traces};
 pub use metrics::{Answered, write_metrics};
-pub use trace::write_trace;
+pub use pieces::TraceJson;
