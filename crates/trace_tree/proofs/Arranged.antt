@@ -8,7 +8,7 @@ use Rattle.std.proofs.lemmas.List.{length-map}
 use Rattle.std.proofs.lemmas.Option.{none-some}
 use Rattle.trace_tree.specs.Parents.{parent_of, parents_of, parent_at}
 use Rattle.trace_tree.specs.Cycles.{IsTree}
-use Rattle.trace_tree.specs.Order.{ArePlaces, places_of, precedes, AreByStart}
+use Rattle.trace_tree.specs.Order.{ArePlaces, precedes, AreByStart}
 use Rattle.trace_tree.specs.Rows.{is_root_at, IsPlace, child_parent, tree_parent, IsNested}
 use Rattle.trace_tree.specs.Rows.{EachAfter, HangsInTree, AreInOrder, place_by, place_at, ArePlaced}
 use Rattle.trace_tree.specs.Rows.{AreRowsOf}
@@ -46,25 +46,6 @@ pub record Facts (spans : List TreeSpan) (tree : List (Option ℕ)) (places : Li
   pub is_tree : IsTree (parents_of spans) tree
   pub placed : ArePlaced spans (parents_of spans) tree places
   pub by_start : AreByStart spans order
-
--- The parents, the places and the order that the code found are those of the spans.
-pub facts : (spans : List TreeSpan) (found parents again tree here there : List (Option ℕ))
-    (places known : List Place) (order sorted : List (ℕ × ℕ))
-    → found ≡ parents_of spans → parents ≡ found → again ≡ found → here ≡ tree → there ≡ tree
-    → known ≡ places → sorted ≡ order
-    → IsTree parents tree → ArePlaced spans again here places → AreByStart spans (places_of order)
-    → Facts spans there known (places_of sorted)
-facts spans found parents again tree here there places known order sorted f p a h t k o is_tree
-    placed by_start =
-    record {
-      is_tree =
-          subst (λ l. IsTree (parents_of spans) l) (sym t)
-          (subst (λ l. IsTree l tree) (p ∙ f) is_tree);
-      placed = subst (λ l. ArePlaced spans (parents_of spans) there l) (sym k)
-          (subst (λ l. ArePlaced spans (parents_of spans) l places) (h ∙ sym t)
-          (subst (λ l. ArePlaced spans l here places) (a ∙ f) placed));
-      by_start = subst (λ l. AreByStart spans (places_of l)) (sym o) by_start;
-    }
 
 module _ (spans : List TreeSpan) (tree : List (Option ℕ)) (places : List Place) (order : List ℕ)
     (rows : List Row)

@@ -8,5 +8,6 @@ pub mod Eaches
 pub mod Partway
 pub mod Ids
 pub mod Starts
+pub mod Stepping
 pub mod Families
 pub mod Arranged

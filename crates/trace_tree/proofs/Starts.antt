@@ -13,6 +13,7 @@ use Rattle.std.proofs.lemmas.List.{get_or-map, map_push, length-map}
 use Rattle.std.proofs.lemmas.List.Elements.{All-push, All-nil}
 use Rattle.std.proofs.lemmas.List.Sorted.{ranks_by, sorted_far, IsPermutation-map, All-permutation}
 use Rattle.trace_tree.specs.Order.{start_at, precedes, ArePlaces, places_of, AreStarts, AreByStart}
+use Rattle.trace_tree.specs.Steps.{AreStartsBefore}
 use Rattle.trace_tree.specs.declared.span.TreeSpan.{TreeSpan}
 use Rattle.trace_tree.proofs.Times.{times, times-same, times-other, times-place, times-past}
 use Rattle.trace_tree.proofs.Eaches.{Pairs, Pairs-map, Pairs-from_All, All-from_Pairs}
@@ -152,11 +153,6 @@ one_more i = omega arith
 
 none_more : (i : ℕ) → 0 + i ≡ i
 none_more i = omega arith
-
--- the starts of the first spans of the list
-pub record AreStartsBefore (spans : List TreeSpan) (i : ℕ) (starts : List Start) : Type 0 where
-  pub places : places_of starts ≡ range_with_len 0 i
-  pub each : All (λ (s : Start). s.0 ≡ start_at spans s.1) starts
 
 -- Before the first span, the list of starts is empty.
 pub starts_first : (spans : List TreeSpan) → AreStartsBefore spans 0 []

@@ -45,12 +45,12 @@ fn push_bar<A: Allocator>(out: &mut String<A>, width: usize, bar: Bar) -> Result
 }
 
 /// The time that a trace takes.
-#[derive(Clone, Copy)]
-struct Frame {
+#[derive(Debug, Clone, Copy, PartialEq, Eq)]
+pub struct Frame {
     /// Its earliest start, in nanoseconds since 1970.
-    from: u64,
-    /// Its latest end.
-    until: u64,
+    pub from: u64,
+    /// Its latest end, in nanoseconds since 1970.
+    pub until: u64,
 }
 
 /// Appends the bar of a span in the time of its trace, between two `|`.
@@ -74,9 +74,13 @@ fn push_time<A: Allocator>(
     Ok(out.push_str("| ")?)
 }
 
-/// Appends the line of a span.
+/// Appends the line of a span, as `write_tree` does for the row of it, in the time of its trace.
+///
+/// # Errors
+///
+/// `OutOfMemory` where the line could not be stored. It may then have been appended in part.
 #[tactic(auto, unfolding(crate::specs::Lines::line_text))]
-fn push_line<A: Allocator + Copy>(
+pub fn write_line<A: Allocator + Copy>(
     out: &mut String<A>,
     span: &TreeSpan,
     row: &Row,
@@ -105,7 +109,7 @@ fn push_row<A: Allocator + Copy>(
         ≡ string_bytes out.old ++ row_text spans.now frame width row.now) }
 {
     match spans.get(row.index) {
-        Some(span) => push_line(out, span, row, frame, width),
+        Some(span) => write_line(out, span, row, frame, width),
         None => Ok(()),
     }
 }

@@ -1,42 +1,14 @@
 //! The order of spans, and the families that it makes.
 
-ghost use Rattle.std.specs.Prelude.{◌≡◌, ◌∷◌, ◌++◌, ◌<◌, [], All, IfOk, OnErr, OnOk, length, map};
+ghost use Rattle.std.specs.Prelude.{◌≡◌, ◌∷◌, ◌++◌, ◌<◌, [], All, IfOk, OnOk, length};
 ghost use Rattle.std.specs.Prelude.{replicate, slice_set};
 ghost use Rattle.std.specs.List.{slice_index_or};
 ghost use Rattle.trace_tree.specs.Cycles.{AreInList};
-ghost use Rattle.trace_tree.specs.Order.{AreByStart, AreChildren, AreStarts, lists_of, places_of};
+ghost use Rattle.trace_tree.specs.Order.{AreChildren, lists_of, places_of};
 ghost use Rattle.trace_tree.specs.Order.{tops_of};
 
-use crate::span::TreeSpan;
 use otlp_ids::OutOfMemory;
 use std::alloc::Allocator;
-
-/// When each span starts, and its place in the list.
-fn starts<A: Allocator + Copy>(
-    alloc: A,
-    spans: &[TreeSpan],
-) -> Result<Vec<(u64, usize), A>, OutOfMemory>
-    ensures { IfOk result (λ starts. AreStarts spans.now starts.items) }
-{
-    let mut starts = Vec::with_capacity(alloc, spans.len())?;
-    for (index, span) in spans.iter().enumerate() {
-        starts.push_reserved((span.start_time_unix_nano, index));
-    }
-    Ok(starts)
-}
-
-/// When each span starts, and its place in the list: the earliest first, and those that start
-/// together in the order of the list.
-pub(crate) fn by_start<A: Allocator + Copy>(
-    alloc: A,
-    spans: &[TreeSpan],
-) -> Result<Vec<(u64, usize), A>, OutOfMemory>
-    ensures { IfOk result (λ starts. AreByStart spans.now (places_of starts.items)) }
-{
-    let mut starts = starts(alloc, spans)?;
-    starts.sort()?;
-    Ok(starts)
-}
 
 /// The spans at the top, and the children of each span, in order.
 #[derive(Drop)]
