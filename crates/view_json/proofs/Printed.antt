@@ -17,7 +17,7 @@ use Rattle.json.specs.Token.{number, boolean, null, bad}
 use Rattle.json.proofs.Numbered.{ArePrintableOrBad-tokens}
 use Rattle.json.proofs.Printed.Tokens.{tokens-print, print_from-append, ends_push}
 use Rattle.view_json.specs.Seen.{Seen, Other, braces, seen, seen_of}
-use Rattle.view_json.specs.Pieces.{IsPiece, IsText, comma_if}
+use Rattle.view_json.specs.Pieces.{IsJsonText, IsPieceBetween, comma_if}
 
 -- ---- after a bad token comes none
 
@@ -160,7 +160,7 @@ module _ (is_after : Bool) (ts : List Token) (m : List Seen) (back : tokens (pri
 
   -- An object, after a comma where one is due, is a piece of a text of more of them.
   pub object_piece : (left : List Seen)
-      → IsPiece (IsText is_after (braces m ++ left)) (IsText true left)
+      → IsPieceBetween (IsJsonText is_after (braces m ++ left)) (IsJsonText true left)
       (comma_if is_after ++ print ts)
   object_piece left more h = record {
     tokens = ts ++ h.tokens;
@@ -175,19 +175,19 @@ module _ (is_after : Bool) (ts : List Token) (m : List Seen) (back : tokens (pri
         ∙ ap (λ l. braces m ++ l) h.seen_is;
   }
 
-then_piece : (P Q R : List ℕ → Type 0) (a b : List ℕ) → IsPiece P Q a → IsPiece Q R b
-    → IsPiece P R (a ++ b)
+then_piece : (P Q R : List ℕ → Type 0) (a b : List ℕ) → IsPieceBetween P Q a → IsPieceBetween Q R b
+    → IsPieceBetween P R (a ++ b)
 then_piece P Q R a b first then more h =
     subst P (sym (append_assoc a b more)) (first (b ++ more) (then more h))
 
 -- a text that has grown by a piece
-pub grown : (P Q R : List ℕ → Type 0) (old new piece : List ℕ) → IsPiece P Q old
-    → new ≡ old ++ piece → IsPiece Q R piece → IsPiece P R new
+pub grown : (P Q R : List ℕ → Type 0) (old new piece : List ℕ) → IsPieceBetween P Q old
+    → new ≡ old ++ piece → IsPieceBetween Q R piece → IsPieceBetween P R new
 grown P Q R old new piece first is then =
-    subst (IsPiece P R) (sym is) (then_piece P Q R old piece first then)
+    subst (IsPieceBetween P R) (sym is) (then_piece P Q R old piece first then)
 
 -- the whole text is read
-pub whole_read : (what : List Seen) (text : List ℕ) → IsText false what text
+pub whole_read : (what : List Seen) (text : List ℕ) → IsJsonText false what text
     → seen (tokens text) ≡ what
 whole_read what text h =
     ap (λ l. seen (tokens l)) h.printed ∙ ap seen (tokens-print h.tokens h.are_printable)

@@ -5,14 +5,13 @@ use Rattle.std.proofs.Common.{subst}
 use Rattle.std.proofs.Math.ListN.{get_or, drop_of_length-le}
 use Rattle.std.proofs.lemmas.Bool.{lt-ltb}
 use Rattle.std.proofs.lemmas.List.{drop_more}
-use Rattle.std.specs.Prelude.{IfOk, Result, Ok, Err}
 use Rattle.std.specs.List.{flat_map}
 use Rattle.std.specs.declared.sync.Arc.{Arc}
 use Rattle.json.specs.Lex.{tokens}
 use Rattle.json.specs.Print.{ArePrintable, escape_byte, print, print_from}
 use Rattle.json.specs.Token.{Token, begin_array, begin_object, end_array, end_object, key}
 use Rattle.trace_store.specs.declared.span.ViewSpan.{ViewSpan}
-use Rattle.view_json.specs.Pieces.{IsLeft, IsPiece, IsText, comma_if, is_end, left_seen}
+use Rattle.view_json.specs.Pieces.{IsJsonText, IsLeft, IsPieceBetween, comma_if, is_end, left_seen}
 use Rattle.view_json.specs.Seen.{Seen, Other, seen}
 use Rattle.view_json.specs.Spans.{kept_seen, resource_spans_seen}
 use Rattle.view_json.specs.declared.pieces.Stage.{Stage}
@@ -21,9 +20,9 @@ use Rattle.view_json.proofs.Printed.{object_piece, some_bytes}
 
 -- what is before the spans
 head_then : (left : List Seen)
-    → IsPiece (IsText false
+    → IsPieceBetween (IsJsonText false
     (Other begin_object ∷ Other (key (codes "resourceSpans")) ∷ Other begin_array ∷ left))
-    (IsText false left) (codes "{\"resourceSpans\":[")
+    (IsJsonText false left) (codes "{\"resourceSpans\":[")
 unfolding ArePrintable print_from escape_byte
 head_then left more h = record {
   tokens = begin_object ∷ key (codes "resourceSpans") ∷ begin_array ∷ h.tokens;
@@ -36,7 +35,8 @@ head_then left more h = record {
 
 -- what is after them
 tail_then : (b : Bool)
-    → IsPiece (IsText b (Other end_array ∷ Other end_object ∷ [])) (IsText true []) (codes "]}")
+    → IsPieceBetween (IsJsonText b (Other end_array ∷ Other end_object ∷ [])) (IsJsonText true [])
+    (codes "]}")
 unfolding ArePrintable print_from
 tail_then true more h = record {
   tokens = end_array ∷ end_object ∷ h.tokens;
@@ -53,11 +53,11 @@ tail_then false more h = record {
 
 module _ {A : Type 0} (spans : List (Arc (ViewSpan A) A)) where
   -- What comes before the spans is the first piece of the text.
-  pub head_piece : IsPiece (IsLeft spans Head) (IsLeft spans (Spans 0))
+  pub head_piece : IsPieceBetween (IsLeft spans Head) (IsLeft spans (Spans 0))
       (codes "{\"resourceSpans\":[")
   head_piece more h =
       let all = flat_map kept_seen spans in
-      subst (λ what. IsText false what (codes "{\"resourceSpans\":[" ++ more))
+      subst (λ what. IsJsonText false what (codes "{\"resourceSpans\":[" ++ more))
       (ap (λ l. Other begin_object ∷ Other (key (codes "resourceSpans")) ∷ Other begin_array ∷ l)
       (sym (append_assoc all (Other end_array ∷ []) (Other end_object ∷ []))))
       (head_then (left_seen spans (Spans 0)) more h)
@@ -65,7 +65,7 @@ module _ {A : Type 0} (spans : List (Arc (ViewSpan A) A)) where
   -- The text of a span, after a comma where one is due, is the piece of that span.
   pub span_piece : (at : ℕ) (kept : Arc (ViewSpan A) A) (ts : List Token) → at < length spans
       → kept ≡ get_or spans at kept → tokens (print ts) ≡ ts → seen ts ≡ kept_seen kept
-      → IsPiece (IsLeft spans (Spans at)) (IsLeft spans (Spans (at + 1)))
+      → IsPieceBetween (IsLeft spans (Spans at)) (IsLeft spans (Spans (at + 1)))
       (comma_if (nat_lt 0 at) ++ print ts)
   unfolding resource_spans_seen
   span_piece at kept ts within is back sees more h =
@@ -76,15 +76,16 @@ module _ {A : Type 0} (spans : List (Arc (ViewSpan A) A)) where
       (Other end_array ∷ Other end_object ∷ []))
       ∙ ap (λ l. flat_map kept_seen l ++ Other end_array ∷ Other end_object ∷ [])
       (ap (λ y. y ∷ drop (at + 1) spans) is ∙ sym (drop_more spans at kept within)) in
-      subst (λ what. IsText (nat_lt 0 at) what ((comma_if (nat_lt 0 at) ++ print ts) ++ more)) all
+      subst
+      (λ what. IsJsonText (nat_lt 0 at) what ((comma_if (nat_lt 0 at) ++ print ts) ++ more)) all
       (object_piece (nat_lt 0 at) ts _ back sees left more
-      (subst (λ b. IsText b left more) after h))
+      (subst (λ b. IsJsonText b left more) after h))
 
   -- After the last span the rest of the text is what closes the list and the object.
   pub tail_piece : (at : ℕ) → length spans ≤ at
-      → IsPiece (IsLeft spans (Spans at)) (IsLeft spans End) (codes "]}")
+      → IsPieceBetween (IsLeft spans (Spans at)) (IsLeft spans End) (codes "]}")
   tail_piece at past more h =
-      subst (λ l. IsText (nat_lt 0 at)
+      subst (λ l. IsJsonText (nat_lt 0 at)
       (flat_map kept_seen l ++ Other end_array ∷ Other end_object ∷ []) (codes "]}" ++ more))
       (sym (drop_of_length-le spans past))
       (tail_then (nat_lt 0 at) more h)
@@ -103,12 +104,6 @@ module _ {A : Type 0} (spans : List (Arc (ViewSpan A) A)) where
 pub not_false : (b : Bool) → not b ≡ false → b ≡ true
 not_false true h = refl
 not_false false h = cc
-
--- What holds of a result at Ok holds of what follows from it.
-pub if_ok : {T E : Type 0} {P Q : T → Type 0} (r : Result T E) → IfOk r P → ((x : T) → P x → Q x)
-    → IfOk r Q
-if_ok (Ok x) a f = f x a
-if_ok (Err e) a f = a
 
 -- a span takes some bytes
 pub span_some : {A : Type 0} (kept : Arc (ViewSpan A) A) (ts : List Token)

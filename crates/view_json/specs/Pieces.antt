@@ -11,18 +11,17 @@ use Rattle.view_json.specs.declared.pieces.Stage.{Stage}
 use Rattle.view_json.specs.declared.pieces.Stage.TheVariants.{Head, Spans, End}
 use Rattle.view_json.specs.declared.pieces.TraceJson.{TraceJson}
 
--- A text of which a reader sees this: its tokens, printed with no space. A comma is before the
--- first
--- one if that begins a value and one has ended before the text.
-pub record IsText (is_after : Bool) (what : List Seen) (text : List ℕ) : Type 0 where
+-- A text of JSON of which a reader sees this: its tokens, printed with no space. A comma is before
+-- the first token if that begins a value, and a value has ended before the text.
+pub record IsJsonText (is_after : Bool) (what : List Seen) (text : List ℕ) : Type 0 where
   pub tokens : List Token
   pub are_printable : ArePrintable tokens
   pub printed : text ≡ print_from is_after tokens
   pub seen_is : seen tokens ≡ what
 
 -- a piece: with any text that may be left after it, it is a text that may be left before it
-abbrev pub IsPiece : (List ℕ → Type 0) → (List ℕ → Type 0) → List ℕ → Type 0
-IsPiece before after piece = (more : List ℕ) → after more → before (piece ++ more)
+abbrev pub IsPieceBetween : (List ℕ → Type 0) → (List ℕ → Type 0) → List ℕ → Type 0
+IsPieceBetween before after piece = (more : List ℕ) → after more → before (piece ++ more)
 
 -- a comma (44), where a value has ended
 abbrev pub comma_if : Bool → List ℕ
@@ -49,7 +48,7 @@ left_seen spans End = []
 
 -- a text that may be left
 abbrev pub IsLeft : {A : Type 0} → List (Arc (ViewSpan A) A) → Stage → List ℕ → Type 0
-IsLeft spans stage text = IsText (is_after stage) (left_seen spans stage) text
+IsLeft spans stage text = IsJsonText (is_after stage) (left_seen spans stage) text
 
 -- a text that may still be written
 abbrev pub StillWrites : {A : Type 0} → TraceJson A → List ℕ → Type 0

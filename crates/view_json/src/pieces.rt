@@ -5,7 +5,7 @@ ghost use Rattle.std.specs.Prelude.{IfOk, OnOk, OnErr, vec_len};
 ghost use Rattle.json.specs.Lex.{tokens};
 ghost use Rattle.json.specs.Print.{print};
 ghost use Rattle.json.specs.Token.{Token};
-ghost use Rattle.view_json.specs.Pieces.{IsLeft, IsPiece, StillWrites, comma_if, is_end};
+ghost use Rattle.view_json.specs.Pieces.{IsLeft, IsPieceBetween, StillWrites, comma_if, is_end};
 ghost use Rattle.view_json.specs.Seen.{seen};
 ghost use Rattle.view_json.specs.Spans.{kept_seen, trace_seen};
 ghost use Rattle.view_json.specs.declared.pieces.Stage.TheVariants as stages;
@@ -18,6 +18,9 @@ use trace_store::ViewSpan;
 
 /// A piece ends with the span with which it has so many bytes.
 const PIECE: usize = 65_536;
+
+/// The memory that is taken for a span at first, which most spans don't outgrow.
+const OBJECT: usize = 2_048;
 
 /// How far a trace is written.
 #[derive(Clone, Copy)]
@@ -50,37 +53,36 @@ fn push_comma<A: Allocator>(out: &mut Vec<u8, A>, is_after: bool) -> Result<(), 
     Ok(())
 }
 
-/// A text, and after it a span under its resource and its scope.
-fn with_object<A: Allocator + Copy>(
+/// A span under its resource and its scope.
+fn object_of<A: Allocator + Copy>(
     alloc: A,
-    text: Vec<u8, A>,
     kept: &Arc<ViewSpan<A>, A>,
 ) -> Result<Vec<u8, A>, AllocError>
-    ensures { IfOk result (λ more. (object : List Token)
-        × (more.items ≡ text.items ++ print object)
+    ensures { IfOk result (λ text. (object : List Token) × (text.items ≡ print object)
         × (tokens (print object) ≡ object) × (seen object ≡ kept_seen kept.now)) }
 {
-    let mut out = Writer::new(text);
+    let mut out = Writer::new(Vec::with_capacity(alloc, OBJECT)?);
     push_resource_spans(alloc, &mut out, &kept.resource, &kept.scope, &kept.span)?;
     Ok(out.into_inner())
 }
 
-/// A text, and after it the span at a place, with the comma before it.
-fn with_span<A: Allocator + Copy>(
+/// Appends the span at a place, with the comma before it.
+fn push_span<A: Allocator + Copy>(
     alloc: A,
-    text: Vec<u8, A>,
+    out: &mut Vec<u8, A>,
     spans: &[Arc<ViewSpan<A>, A>],
     at: usize,
-) -> Result<Vec<u8, A>, AllocError>
+) -> Result<(), AllocError>
     requires { at < length spans.now }
-    ensures piece { IfOk result (λ more. (piece : List ℕ) × (more.items ≡ text.items ++ piece)
-        × IsPiece (IsLeft spans.now (stages.Spans at)) (IsLeft spans.now (stages.Spans (at + 1)))
-        piece) }
-    ensures more { IfOk result (λ more. length text.items < length more.items) }
+    ensures piece { OnOk result ((piece : List ℕ) × (out.new.items ≡ out.old.items ++ piece)
+        × IsPieceBetween (IsLeft spans.now (stages.Spans at))
+        (IsLeft spans.now (stages.Spans (at + 1))) piece) }
+    ensures more { OnOk result (length out.old.items < length out.new.items) }
 {
-    let mut text = text;
-    push_comma(&mut text, at > 0)?;
-    with_object(alloc, text, &spans[at])
+    let object = object_of(alloc, &spans[at])?;
+    push_comma(out, at > 0)?;
+    out.extend_from_slice(&object)?;
+    Ok(())
 }
 
 /// The spans from a place on, at least that one, until the text has `PIECE` bytes or there are no
@@ -91,17 +93,18 @@ fn spans_from<A: Allocator + Copy>(
     from: usize,
 ) -> Result<(Vec<u8, A>, usize), AllocError>
     requires { from < length spans.now }
-    ensures piece { IfOk result (λ p. IsPiece (IsLeft spans.now (stages.Spans from))
+    ensures piece { IfOk result (λ p. IsPieceBetween (IsLeft spans.now (stages.Spans from))
         (IsLeft spans.now (stages.Spans p.1)) p.0.items) }
     ensures more { IfOk result (λ p. 0 < length p.0.items) }
 {
-    let mut text = with_span(alloc, Vec::new(alloc), spans, from)?;
+    let mut text = Vec::new(alloc);
+    push_span(alloc, &mut text, spans, from)?;
     let mut at = from + 1;
     while at < spans.len() {
         if text.len() >= PIECE {
             return Ok((text, at));
         }
-        text = with_span(alloc, text, spans, at)?;
+        push_span(alloc, &mut text, spans, at)?;
         at += 1;
     }
     Ok((text, at))
@@ -142,7 +145,7 @@ impl<A: Allocator + Copy> TraceJson<A> {
 
     /// The next piece, and how far the trace is written with it.
     fn piece(&self) -> Result<(Vec<u8, A>, Stage), AllocError>
-        ensures piece { IfOk result (λ p. IsPiece (StillWrites self.now)
+        ensures piece { IfOk result (λ p. IsPieceBetween (StillWrites self.now)
             (IsLeft self.now.spans.items p.1) p.0.items) }
         ensures more { IfOk result (λ p. is_end p.1 ≡ false → 0 < length p.0.items) }
     {
@@ -173,7 +176,7 @@ impl<A: Allocator + Copy> TraceJson<A> {
     /// is the next one.
     pub fn next(&mut self, out: &mut Vec<u8, A>) -> Result<bool, AllocError>
         ensures piece { OnOk result ((piece : List ℕ) × (out.new.items ≡ out.old.items ++ piece)
-            × IsPiece (StillWrites self.old) (StillWrites self.new) piece) }
+            × IsPieceBetween (StillWrites self.old) (StillWrites self.new) piece) }
         ensures more { IfOk result (λ more. more ≡ true → vec_len out.old < vec_len out.new) }
         ensures end { IfOk result (λ more. more ≡ false → StillWrites self.new []) }
         ensures err { OnErr result ((out.new.items ≡ out.old.items) × (self.new ≡ self.old)) }

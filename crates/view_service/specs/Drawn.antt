@@ -5,6 +5,7 @@ use Rattle.std.specs.declared.sync.Arc.{Arc}
 use Rattle.json.specs.Lex.{tokens}
 use Rattle.trace_tree.specs.Lines.{tree_text}
 use Rattle.trace_tree.specs.declared.span.Row.{Row}
+use Rattle.view_json.specs.Pieces.{StillWrites}
 use Rattle.view_json.specs.Seen.{seen}
 use Rattle.view_json.specs.Spans.{trace_seen}
 use Rattle.view_pages.specs.Html.{html_bytes}
@@ -31,7 +32,8 @@ Draws forms.Page trace spans page = DrawsPage trace spans page
 Draws forms.Text trace spans page = DrawsText spans page
 Draws forms.Json trace spans page = DrawsJson spans page
 
--- what a page still writes
-abbrev pub site_writes : SitePage → List ℕ
-site_writes (pages.Page page) = html_bytes (still_writes page)
-site_writes (pages.Whole bytes) = bytes.items
+-- what a page may still write
+abbrev pub SiteWrites : SitePage → List ℕ → Type 0
+SiteWrites (pages.Page page) bytes = html_bytes (still_writes page) ≡ bytes
+SiteWrites (pages.Json json) bytes = StillWrites json bytes
+SiteWrites (pages.Whole whole) bytes = whole.items ≡ bytes

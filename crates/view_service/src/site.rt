@@ -1,19 +1,19 @@
 //! The site.
 
 ghost use Rattle.std.specs.Prelude.{◌≡◌, ◌++◌, IfOk, IsOk, List, OnOk, string_bytes, ℕ};
-ghost use Rattle.view_service.specs.Drawn.{DrawsJson, DrawsText, Draws, site_writes};
+ghost use Rattle.view_service.specs.Drawn.{DrawsJson, DrawsText, Draws, SiteWrites};
 
 use crate::counts::{answered_of, stats_of};
 use crate::lists::{lines_of, summaries_of};
 use crate::page::SitePage;
 use crate::script::SCRIPT;
 use crate::site_filter::SiteFilter;
-use crate::spans::{as_list, lend};
+use crate::spans::lend;
 use crate::{Asked, Counts, ListForm, Listed, Pages, Tallies, TraceForm};
 use std::alloc::{AllocError, Global};
 use std::sync::Arc;
 use trace_store::{TraceDigest, ViewSpan};
-use view_json::{write_metrics, write_stats, write_trace, write_traces};
+use view_json::{TraceJson, write_metrics, write_stats, write_traces};
 use view_pages::{
     Filter, FilterFault, STYLE, TracePage, write_list_page, write_notice_page, write_trace_text,
 };
@@ -44,7 +44,8 @@ fn put<E: Drop>(out: &mut Vec<u8>, text: &String, written: Result<(), E>) -> Res
 
 /// The page of a trace.
 fn page_of(alloc: Global, trace: u128, spans: Vec<Arc<ViewSpan>>) -> Result<SitePage, AllocError>
-    ensures { IfOk result (λ page. Draws TraceForm.Page trace spans.items (site_writes page)) }
+    ensures { IfOk result (λ page. (bytes : List ℕ) → SiteWrites page bytes
+        → Draws TraceForm.Page trace spans.items bytes) }
 {
     match TracePage::new(alloc, trace, spans) {
         Ok(page) => Ok(SitePage::Page(page)),
@@ -54,7 +55,8 @@ fn page_of(alloc: Global, trace: u128, spans: Vec<Arc<ViewSpan>>) -> Result<Site
 
 /// A trace as a text.
 fn text_of(alloc: Global, spans: &[Arc<ViewSpan>]) -> Result<SitePage, AllocError>
-    ensures { IfOk result (λ page. DrawsText spans.now (site_writes page)) }
+    ensures { IfOk result (λ page. (bytes : List ℕ) → SiteWrites page bytes
+        → DrawsText spans.now bytes) }
 {
     let lent = lend(alloc, spans)?;
     let mut text = String::new(alloc);
@@ -65,11 +67,10 @@ fn text_of(alloc: Global, spans: &[Arc<ViewSpan>]) -> Result<SitePage, AllocErro
 }
 
 /// A trace in OTLP's JSON.
-fn json_of(alloc: Global, spans: Vec<Arc<ViewSpan>>) -> Result<SitePage, AllocError>
-    ensures { IfOk result (λ page. DrawsJson spans.items (site_writes page)) }
+fn json_of(alloc: Global, spans: Vec<Arc<ViewSpan>>) -> SitePage
+    ensures { (bytes : List ℕ) → SiteWrites result bytes → DrawsJson spans.items bytes }
 {
-    let spans = as_list(alloc, spans)?;
-    Ok(SitePage::Whole(write_trace(alloc, &spans)?))
+    SitePage::Json(TraceJson::new(alloc, spans))
 }
 
 /// Appends why a query can't be read.
@@ -150,13 +151,13 @@ impl Pages<Arc<ViewSpan>, TraceDigest> for Site {
         trace: u128,
         spans: Vec<Arc<ViewSpan>>,
     ) -> Result<SitePage, AllocError>
-        ensures { IfOk result (λ page. (bytes : List ℕ) → site_writes page ≡ bytes
+        ensures { IfOk result (λ page. (bytes : List ℕ) → SiteWrites page bytes
             → Draws form trace spans.items bytes) }
     {
         match form {
             TraceForm::Page => page_of(self.alloc, trace, spans),
             TraceForm::Text => text_of(self.alloc, &spans),
-            TraceForm::Json => json_of(self.alloc, spans),
+            TraceForm::Json => Ok(json_of(self.alloc, spans)),
         }
     }
 

@@ -1,10 +1,9 @@
-//! The spans of a trace, as they are lent and listed.
+//! The spans of a trace, as they are lent.
 
-ghost use Rattle.std.specs.Prelude.{◌≡◌, IfOk};
+ghost use Rattle.std.specs.Prelude.{IfOk};
 ghost use Rattle.view_pages.specs.Pages.{AreLent};
 
 use std::alloc::{AllocError, Global};
-use std::collections::LinkedList;
 use std::sync::Arc;
 use trace_store::ViewSpan;
 
@@ -18,18 +17,4 @@ pub(crate) fn lend(alloc: Global, spans: &[Arc<ViewSpan>]) -> Result<Vec<&ViewSp
         lent.push(span)?;
     }
     Ok(lent)
-}
-
-/// The same owners, as a list.
-pub(crate) fn as_list(
-    alloc: Global,
-    spans: Vec<Arc<ViewSpan>>,
-) -> Result<LinkedList<Arc<ViewSpan>>, AllocError>
-    ensures { IfOk result (λ list. list ≡ spans.items) }
-{
-    let mut list = LinkedList::new(alloc);
-    for span in spans {
-        list.push_back(span)?;
-    }
-    Ok(list)
 }

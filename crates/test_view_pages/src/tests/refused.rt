@@ -2,10 +2,11 @@
 use crate::tests::equal::assert_equal;
 use crate::tests::spans::full;
 use crate::tests::texts::{line, stats};
+use crate::tests::traces::written;
 use std::alloc::{AllocError, Allocator};
 use std::test::Fail;
 use test_support::FailingAllocator;
-use view_json::{write_stats, write_trace, write_traces};
+use view_json::{TraceJson, write_stats, write_traces};
 
 /// Makes the spans of a trace.
 fn make_spans<A: Allocator + Copy>(alloc: A) -> Result<(), AllocError> {
@@ -16,7 +17,7 @@ fn make_spans<A: Allocator + Copy>(alloc: A) -> Result<(), AllocError> {
 /// Makes the spans of a trace, and answers whether it is then written.
 fn is_trace_written<A: Allocator + Copy>(alloc: A) -> Result<bool, AllocError> {
     let spans = full(alloc)?;
-    Ok(write_trace(alloc, &spans).is_ok())
+    Ok(written(alloc, spans).is_ok())
 }
 
 #[test]
@@ -29,6 +30,39 @@ fn a_trace_for_which_memory_is_refused_is_an_error(rt: HostRuntime) -> Result<()
     for index in before.calls()..ample.calls() {
         let scarce = FailingAllocator::new(rt.alloc(), index);
         assert_equal(&rt, (index, is_trace_written(&scarce)?), (index, false));
+    }
+    Ok(())
+}
+
+/// The JSON of a trace, each piece of which is asked for again where it is refused memory.
+fn insisted<A: Allocator + Copy>(alloc: A) -> Result<Vec<u8, A>, AllocError> {
+    let mut json = TraceJson::new(alloc, full(alloc)?);
+    let mut bytes = Vec::new(alloc);
+    for _ in 0..1_000u64 {
+        match json.next(&mut bytes) {
+            Ok(false) => return Ok(bytes),
+            Ok(true) | Err(_) => {}
+        }
+    }
+    Ok(bytes)
+}
+
+/// Whether that is this text.
+fn is_insisted<A: Allocator + Copy>(alloc: A, wanted: &[u8]) -> Result<bool, AllocError> {
+    let text = insisted(alloc)?;
+    Ok(text.as_slice() == wanted)
+}
+
+#[test]
+fn a_piece_that_was_refused_memory_is_the_next_one(rt: HostRuntime) -> Result<(), Fail> {
+    let wanted = insisted(rt.alloc())?;
+    let before = FailingAllocator::new(rt.alloc(), u64::MAX);
+    make_spans(&before)?;
+    let ample = FailingAllocator::new(rt.alloc(), u64::MAX);
+    assert_equal(&rt, is_insisted(&ample, &wanted)?, true);
+    for index in before.calls()..ample.calls() {
+        let scarce = FailingAllocator::new(rt.alloc(), index);
+        assert_equal(&rt, (index, is_insisted(&scarce, &wanted)?), (index, true));
     }
     Ok(())
 }

@@ -4,7 +4,6 @@ use otlp_read::{
     Span, Status,
 };
 use std::alloc::{AllocError, Allocator};
-use std::collections::LinkedList;
 use std::sync::Arc;
 use trace_store::{ViewSpan, take_apart};
 
@@ -17,7 +16,7 @@ const TRACE: [u8; 16] = [
 type Pairs<A> = Vec<(String<A>, AnyValue<A>), A>;
 
 /// Spans as they are kept.
-pub(crate) type Kept<A> = LinkedList<Arc<ViewSpan<A>, A>, A>;
+pub(crate) type Kept<A> = Vec<Arc<ViewSpan<A>, A>, A>;
 
 /// Appends a pair.
 fn push<A: Allocator + Copy>(
@@ -196,10 +195,13 @@ pub(crate) fn kept<A: Allocator + Copy>(
     spans: Vec<Span<A>, A>,
 ) -> Result<Kept<A>, AllocError> {
     let mut parts = take_apart(alloc, request(alloc, spans)?)?;
-    match parts.pop() {
-        Some((_, spans)) => Ok(spans),
-        None => Ok(LinkedList::new(alloc)),
+    let mut all = Vec::new(alloc);
+    if let Some((_, spans)) = parts.pop() {
+        for span in spans {
+            all.push(span)?;
+        }
     }
+    Ok(all)
 }
 
 /// The one span with everything, as it is kept.

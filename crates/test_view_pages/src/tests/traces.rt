@@ -1,10 +1,10 @@
 //! Whole traces as JSON.
 use crate::tests::equal::assert_equal;
-use crate::tests::spans::{full, kept, span};
+use crate::tests::spans::{Kept, full, kept, span};
 use otlp_read::Span;
 use std::alloc::{AllocError, Allocator};
 use std::test::Fail;
-use view_json::write_trace;
+use view_json::TraceJson;
 
 /// What comes before the span with everything, and up to its attributes.
 const BEGINNING: &str =
@@ -41,9 +41,30 @@ fn joined<A: Allocator>(alloc: A, texts: &[&str]) -> Result<String<A>, AllocErro
     Ok(all)
 }
 
+/// The JSON of spans, all pieces one after another, and how many they are: below a million.
+pub(crate) fn written<A: Allocator + Copy>(
+    alloc: A,
+    spans: Kept<A>,
+) -> Result<(Vec<u8, A>, usize), AllocError> {
+    let mut json = TraceJson::new(alloc, spans);
+    let mut bytes = Vec::new(alloc);
+    for count in 1..1_000_000usize {
+        if !json.next(&mut bytes)? {
+            return Ok((bytes, count));
+        }
+    }
+    Ok((bytes, 0))
+}
+
+/// The JSON of spans.
+fn text_of<A: Allocator + Copy>(alloc: A, spans: Kept<A>) -> Result<Vec<u8, A>, AllocError> {
+    let (text, _) = written(alloc, spans)?;
+    Ok(text)
+}
+
 #[test]
 fn a_trace_is_as_otlp_has_it(rt: HostRuntime) -> Result<(), Fail> {
-    let text = write_trace(rt.alloc(), &full(rt.alloc())?)?;
+    let text = text_of(rt.alloc(), full(rt.alloc())?)?;
     let wanted = joined(rt.alloc(), &[BEGINNING, ATTRIBUTES, END])?;
     assert_equal(&rt, text.as_slice(), wanted.as_bytes());
     Ok(())
@@ -51,7 +72,7 @@ fn a_trace_is_as_otlp_has_it(rt: HostRuntime) -> Result<(), Fail> {
 
 #[test]
 fn a_trace_without_spans_has_none(rt: HostRuntime) -> Result<(), Fail> {
-    let text = write_trace(rt.alloc(), &kept(rt.alloc(), Vec::new(rt.alloc()))?)?;
+    let text = text_of(rt.alloc(), kept(rt.alloc(), Vec::new(rt.alloc()))?)?;
     assert_equal(&rt, text.as_slice(), b"{\"resourceSpans\":[]}".as_slice());
     Ok(())
 }
@@ -70,7 +91,7 @@ fn a_long_name_has_its_escapes(rt: HostRuntime) -> Result<(), Fail> {
     let name = repeated(rt.alloc(), "\"\\\n\u{1}\u{1f}</script>é", 4096)?;
     let mut spans = Vec::new(rt.alloc());
     spans.push(span(rt.alloc(), &name)?)?;
-    let text = write_trace(rt.alloc(), &kept(rt.alloc(), spans)?)?;
+    let text = text_of(rt.alloc(), kept(rt.alloc(), spans)?)?;
     let written = r#"\"\\\n\u0001\u001f</script>é"#;
     let written = repeated(rt.alloc(), written, 4096)?;
     let wanted = joined(rt.alloc(), &[FIRST, BEFORE, &written, AFTER, LAST])?;
@@ -106,8 +127,9 @@ fn many_written<A: Allocator + Copy>(alloc: A, count: u64) -> Result<String<A>, 
 #[test]
 fn ten_thousand_spans_are_all_there_in_order(rt: HostRuntime) -> Result<(), Fail> {
     let spans = kept(rt.alloc(), many(rt.alloc(), 10_000)?)?;
-    let text = write_trace(rt.alloc(), &spans)?;
+    let (text, count) = written(rt.alloc(), spans)?;
     let wanted = many_written(rt.alloc(), 10_000)?;
     assert_equal(&rt, text.as_slice() == wanted.as_bytes(), true);
+    assert_equal(&rt, text.len() / (2 * 65536) < count, true);
     Ok(())
 }

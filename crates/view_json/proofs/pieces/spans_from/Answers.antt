@@ -7,11 +7,11 @@ use Rattle.view_json.proofs.pieces.spans_from.Goals as goal
 pub loop-at-preserved : goal.loop-at-preserved
 loop-at-preserved g c =
     let left : ℕ → List ℕ → Type 0 = λ at. IsLeft c.args.spans.now (Spans at) in
-    let more = c.in_ok-text-2.ensures in
+    let more = c.in_ok-push_span-2.ensures in
     record {
       piece =
           grown (left c.args.from) (left c.loop-at.at)
-          (left (c.loop-at.at + 1)) c.loop-at.text.items c.in_ok-text-2.text.items more.piece.0
-          c.loop-at.invariant.piece more.piece.1 more.piece.2;
+          (left (c.loop-at.at + 1)) c.loop-at.text.items c.push_span-in-loop-at.new.out.items
+          more.piece.0 c.loop-at.invariant.piece more.piece.1 more.piece.2;
       more = omega (arith, c.loop-at.invariant.more, more.more);
     }
