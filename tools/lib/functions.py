@@ -76,9 +76,8 @@ class Function(collections.namedtuple("Function", "path start body end has_twins
 def homes_of(blank):
     """The types that a text has from other modules of its crate, each with that module."""
     uses = re.findall(r"\buse crate::([\w:]+?)::(?:\{([^{}]*)\}|(\w+));", blank)
-    return {
-        name: path.split("::") for path, some, one in uses for name in re.findall(r"\w+", some or one)
-    }
+    lists = [(path.split("::"), re.findall(r"\w+", some or one)) for path, some, one in uses]
+    return {name: path for path, names in lists for name in names}
 
 
 def functions(text, module):

@@ -32,7 +32,7 @@ def program_of(words, crate, arguments=""):
     path = os.path.abspath(words[0] if words else TOP / "crates" / crate / "out" / crate)
     if not os.access(path, os.X_OK):
         command = f"cd crates/{crate} && rt run{arguments and ' -- '}{arguments}"
-        sys.exit(f"{TOOL}: {path} is not built: {command}")
+        sys.exit(f"{TOOL}: {path} is not built; build it by: {command}")
     return path
 
 

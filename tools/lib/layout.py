@@ -27,7 +27,7 @@ LEVELS = {
 }
 OTHER_OPERATOR = 45
 TRAILING = {"∵", "$"}  # operators that end a line in place of beginning the next
-VALUES = {"=", "←", "↦"}  # what a value stands behind
+VALUES = {"=", "←", "↦"}  # what a value comes after
 # Words that the next word follows on the same line, and that follow the last one.
 HOLDING = {
     "let", "|", "pub", "abbrev", "unfoldable", "unfolding", "pattern", "data", "axiom", "module",
@@ -38,8 +38,8 @@ HELD = {"=", ":", "where", "in", "↦", "←", "[", *TRAILING}
 
 @dataclasses.dataclass
 class Place:
-    """A space at which a line may break: behind which word, how many brackets deep, in which of the
-    brackets, how loosely, and whether a function stands before it and its first argument behind."""
+    """A space at which a line may break: after which word, how many brackets deep, in which of the
+    brackets, how loosely, and whether a function is before it and its first argument after it."""
 
     at: int
     depth: int
@@ -154,7 +154,7 @@ class Reader:
         return ARGUMENT if is_argument else WORD
 
     def word(self, words, following, is_end):
-        """Reads the last of these words, and notes the place behind it if the line may break
+        """Reads the last of these words, and notes the place after it if the line may break
         there. It doesn't before a bracket that ends the line, which layout would join again, nor
         before an operator that does."""
         last = ""
@@ -179,7 +179,7 @@ def places_in(words, operators):
 
 
 def is_listed(words):
-    """Whether words are one tuple, record or list of cases, maybe behind `record` or `λ x.`, which
+    """Whether words are one tuple, record or list of cases, maybe after `record` or `λ x.`, which
     takes a line for each component."""
     text = re.sub(r"^λ [^.]*\. ", "", " ".join(words).rstrip(",;"))
     text = re.sub(r"^(record (?:[^\s(){}]+ )?(?=\{)|elim [^\[\]]* (?=\[ ))", "", text)
@@ -196,7 +196,7 @@ def is_listed(words):
 def filled(words, places, first, rest):
     """Words in lines of at most these widths, the first one's and the others', which break at some
     of these places. A list that takes several lines begins on the line of what is before it, and
-    what is behind it follows on the line of its end. A function stands on the line of its first
+    what is after it follows on the line of its end. A function is on the line of its first
     argument unless that fits on a line only without it."""
     cuts = [0, *(it.at + 1 for it in places), len(words)]
     pieces = [words[a:b] for a, b in zip(cuts, cuts[1:])]
@@ -218,15 +218,15 @@ def split(words, places, first, rest):
     """Words in two lines or more, which break at these places of one level, or nothing if they
     don't."""
     level, at = places[0].level, places[0].at + 1
-    before, behind = " ".join(words[:at]), " ".join(words[at:])
+    before, after = " ".join(words[:at]), " ".join(words[at:])
     if level == SEPARATED:
-        return [before, behind]
+        return [before, after]
     if level == BODY:
         cuts = [0, *(it.at + 1 for it in places), len(words)]
         return [" ".join(words[a:b]) for a, b in zip(cuts, cuts[1:])]
     if level in (VALUE, SIGNATURE):
         is_definition = words[at - 1] in VALUES
-        return [before, behind] if is_definition or len(behind) <= rest else None
+        return [before, after] if is_definition or len(after) <= rest else None
     lines = filled(words, places, first, rest)
     return lines if len(lines) > 1 else None
 

@@ -32,8 +32,10 @@ class Try:
         command = ["rt", "try", *options, *(["--", *words] if words else [])]
         how = {"stdin": subprocess.DEVNULL, "stdout": output, "stderr": subprocess.STDOUT}
         folder = TOP / "crates" / crate
-        if not (shutil.which("rt") and folder.is_dir()):
-            sys.exit(f"{TOOL}: no rt is on the path, or there is no crates/{crate}")
+        if not shutil.which("rt"):
+            sys.exit(f"{TOOL}: no rt is on the path; put the folder of Rattle's rt into PATH")
+        if not folder.is_dir():
+            sys.exit(f"{TOOL}: there is no crates/{crate}")
         self.process = subprocess.Popen(
             command, cwd=folder, text=True, start_new_session=True, **how
         )
