@@ -1,4 +1,4 @@
-//! The first program to run: a made-up shop and the collector of its spans, in one process. Three
+//! A first program to run: a made-up shop and the collector of its spans, in one process. Three
 //! threads serve checkouts, whose spans end on passes of a service, and its worker posts them in
 //! batches. Prints a trace as the collector read it, what became of all spans, the names of those
 //! that were dropped, and how a batch was sent again.

@@ -171,10 +171,9 @@ impl Maker<'_> {
 
     /// The same of one span.
     fn end_span<P: EndPass<SpanData>>(&mut self, clock: &impl Clock, pass: &mut P) -> Option<()> {
-        let (alloc, rng, at) = (self.alloc, &mut self.rng, clock.now());
-        let started = self
-            .tracer
-            .start_copied(alloc, rng, None, "demo", Kind::Internal, at);
+        let (alloc, kind, at) = (self.alloc, Kind::Internal, clock.now());
+        let tracer = &self.tracer;
+        let started = tracer.start_copied(alloc, &mut self.rng, None, "demo", kind, at);
         let mut span = started.ok()?;
         let number = u64::from_be_bytes(span.context().span.0);
         match span.end(pass, clock.now()) {

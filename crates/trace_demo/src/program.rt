@@ -27,7 +27,7 @@ use std::thread::Threads;
 use std::time;
 
 /// The program `trace-demo`, whose words are those of its command line, the program's name first.
-/// Where they ask for a run it is done, as by `demo`, or by `soak`. Where they ask for help or the version it is
+/// Where they ask for a run it is done, as by `demo`. Where they ask for help or the version it is
 /// printed, with the status 0. A mistake is reported on `faults`, with the status 2, and refused
 /// memory with 3.
 pub fn trace_demo<R, W, F>(
@@ -49,37 +49,38 @@ where
     ensures untold { result ≡ 0 → Keeps (F.contents faults.old) (F.contents faults.new) }
 {
     match DemoArgs::read(words) {
-        Ok(args) if args.soak > 0 => soak(rt, alloc, output, faults, &args),
         Ok(args) => demo(rt, alloc, output, faults, &args),
         Err(fault) => fault.tell(output, faults),
     }
 }
 
-/// Ends spans on threads, one of which is the caller's, while a worker posts them in batches to a
-/// collector on loopback, whose replies to good bodies are 200, 502, 429 and 200 over and over;
-/// after 502 and 429 it may be tried again at once. Then the processor is shut down and closed
-/// out, and the collector is ended. Prints a line for each, with its number: `ended` (the ends that
-/// were answered `Queued` or `Dropped`), `delivered` (spans of batches that were taken whole, as
-/// the replies say), `lost` (spans that the processor names as lost), `partial` (spans of batches
-/// of which the collector rejected some), `dropped`, `left`, `sum` (of the last five), `balanced`
-/// with `yes` or `no` (whether the sum is what ended), and `collected` (the spans of the distinct
-/// bodies that the collector could read, whatever it replied). (profile)
+/// Ends the spans of a soak, as `soak`, where one is asked for. Else it ends spans on threads, one
+/// of which is the caller's, while a worker posts them in batches to a collector on loopback, whose
+/// replies to good bodies are 200, 502, 429 and 200 over and over; after 502 and 429 it may be
+/// tried again at once. Then the processor is shut down and closed out, and the collector is ended.
+/// Prints a line for each, with its number: `ended` (the ends that were answered `Queued` or
+/// `Dropped`), `delivered` (spans that were handed to the exporter and aren't lost), `lost`,
+/// `dropped`, `left`, `sum` (of the last four), `balanced` with `yes` or `no` (whether the sum is
+/// what ended), and `collected` (the spans of the distinct bodies that the collector could read,
+/// whatever it replied). Counts that are asked for go to the runtime's standard error. (profile)
 ///
 /// The answer is the program's status: 0 where they are balanced and as many are collected as were
-/// handed, which are the delivered, the lost and the partial ones, and else 1. As many are
-/// collected where each body came, also where its batch is lost, since no reply said that it was
-/// taken. The status is 1 too where a write fails, which is reported on `faults` as `cannot write`,
-/// and where a port, a thread, random bytes or memory can't be had, which is reported there, and
-/// nothing is printed.
+/// handed, and else 1. As many are collected where each body came, also where its batch is lost,
+/// since no reply said that it was taken. The status is 1 too where a write fails, which is
+/// reported on `faults` as `cannot write`, and where a port, a thread, random bytes or memory can't
+/// be had, which is reported there, and nothing is printed.
 pub fn demo<R, W, F>(rt: R, alloc: Global, output: &mut W, faults: &mut F, args: &DemoArgs) -> u8
 where
-    R: Net<Listener = TcpListener, Stream = TcpStream> + time::Clock + Eprint,
+    R: Net<Listener = TcpListener, Stream = TcpStream> + time::Clock + Files + Eprint,
     R: Threads + Wait + RandomSource + Copy + Send + Sync + 'static,
     W: Write,
     F: Write,
     ensures least { result ≤ 1 }
     ensures untold { result ≡ 0 → Keeps (F.contents faults.old) (F.contents faults.new) }
 {
+    if args.soak > 0 {
+        return soak(rt, alloc, output, faults, args);
+    }
     let Some(sums) = run(rt, alloc, args) else {
         let _ = writeln!(faults, "no port, no thread, or no memory");
         return 1;
@@ -122,6 +123,7 @@ where
     let exporter = HttpExporter::new(alloc, rt, target, DEFAULT_EXPORT_TIMEOUT_MS);
     let (exporter, watch) = WatchedExporter::new(alloc, rt, exporter).ok()?;
     let names = NewestNames::new(alloc, 0).ok()?;
+    let watch = if args.is_verbose { Some(watch) } else { None };
     let ends = Ends {
         rt,
         alloc,
@@ -129,7 +131,7 @@ where
         seed: args.seed,
         spans: args.spans.saturating_mul(args.threads as u64),
         is_soak: false,
-        watch: if args.is_verbose { Some(watch) } else { None },
+        watch,
     };
     let config = config_of(args);
     serve(rt, alloc, exporter, names, config, args.threads, &ends).ok()

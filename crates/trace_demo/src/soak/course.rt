@@ -52,7 +52,8 @@ impl Course {
     pub(crate) fn place(self, is_whole: bool) -> usize {
         match self {
             Course::NoLink => 0,
-            Course::Cut(_) => 1 + usize::from(is_whole),
+            Course::Cut(_) if !is_whole => 1,
+            Course::Cut(_) => 2,
             Course::Refused => 3,
             Course::Partial => 4,
             Course::Busy => 5,
