@@ -18,3 +18,4 @@ pub mod Services
 pub mod Shown
 pub mod Shows
 pub mod Stages
+pub mod Texts

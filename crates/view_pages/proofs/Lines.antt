@@ -26,7 +26,7 @@ pub line_is : {A : Type 0} (spans : List (Bor (ViewSpan A))) (row : Row)
 line_is spans row at mark colour found m k = rw (found, m, k) refl
 
 -- spans that are lent are where their owners are
-same_span : {A : Type 0} (spans : List (Arc (ViewSpan A) A)) (lent : List (Bor (ViewSpan A)))
+pub same_span : {A : Type 0} (spans : List (Arc (ViewSpan A) A)) (lent : List (Bor (ViewSpan A)))
     (i : ℕ)
     → AreLent spans lent
     → option_map arc_value (slice_get spans i) ≡ option_map (λ b. b.now) (slice_get lent i)

@@ -11,5 +11,6 @@ pub mod Repeats
 pub mod Rows
 pub mod Services
 pub mod Spans
+pub mod Texts
 pub mod Times
 pub mod Values

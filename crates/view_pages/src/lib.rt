@@ -29,4 +29,4 @@ pub use list::{write_list_page, write_notice_page};
 pub use pieces::TracePage;
 pub use style::STYLE;
 pub use summary::{Summary, summary_of_digest};
-pub use text::write_trace_text;
+pub use text::TraceText;

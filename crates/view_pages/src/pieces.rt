@@ -20,7 +20,7 @@ use std::sync::Arc;
 use trace_store::ViewSpan;
 
 /// A piece ends with the row with which it has so many bytes.
-const PIECE: usize = 65_536;
+pub(crate) const PIECE: usize = 65_536;
 
 /// How far a page is written.
 #[derive(Clone, Copy)]
@@ -67,7 +67,7 @@ pub struct TracePage<A: Allocator + Copy = Global> {
 }
 
 /// What is known of each row, and the time that the trace takes.
-fn plan_of<A: Allocator + Copy>(
+pub(crate) fn plan_of<A: Allocator + Copy>(
     alloc: A,
     spans: &[Arc<ViewSpan<A>, A>],
 ) -> Result<(Vec<Line, A>, Frame), OutOfMemory>

@@ -14,7 +14,7 @@ use trace_store::ViewSpan;
 use trace_tree::{Row, TreeSpan, arrange};
 
 /// What the tree needs of a span.
-fn tree_span<'a, A: Allocator>(span: &'a ViewSpan<A>) -> TreeSpan<'a>
+pub(crate) fn tree_span<'a, A: Allocator>(span: &'a ViewSpan<A>) -> TreeSpan<'a>
     ensures { tree_view result ≡ span_view span.entry }
 {
     let is_error = is_error(&span.span);

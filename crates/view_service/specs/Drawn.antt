@@ -1,26 +1,19 @@
 -- What is shown of a trace: each form has all spans that were lent, and no others.
 use Rattle.std.specs.Prelude.{◌≡◌, ℕ, List}
-use Rattle.std.specs.Borrow.{Bor}
 use Rattle.std.specs.declared.sync.Arc.{Arc}
 use Rattle.json.specs.Lex.{tokens}
-use Rattle.trace_tree.specs.Lines.{tree_text}
-use Rattle.trace_tree.specs.declared.span.Row.{Row}
 use Rattle.view_json.specs.Pieces.{StillWrites}
 use Rattle.view_json.specs.Seen.{seen}
 use Rattle.view_json.specs.Spans.{trace_seen}
 use Rattle.view_pages.specs.Html.{html_bytes}
-use Rattle.view_pages.specs.Pages.{AreLent, AreRows, DrawsPage}
+use Rattle.view_pages.specs.Pages.{DrawsPage}
 use Rattle.view_pages.specs.Pieces.{still_writes}
+use Rattle.view_pages.specs.Texts.{DrawsText, still_text}
 use Rattle.view_service.specs.declared.pages.TraceForm.{TraceForm}
 use Rattle.view_service.specs.declared.pages.TraceForm.TheVariants as forms
 use Rattle.view_service.specs.declared.page.SitePage.{SitePage}
 use Rattle.view_service.specs.declared.page.SitePage.TheVariants as pages
 use Rattle.trace_store.specs.declared.span.ViewSpan.{ViewSpan}
-
--- the trace as a text of lines, whose bars have 40 columns
-abbrev pub DrawsText : {A : Type 0} → List (Arc (ViewSpan A) A) → List ℕ → Type 0
-DrawsText {A} spans page = (lent : List (Bor (ViewSpan A))) × AreLent spans lent
-    × (rows : List Row) × (drawn : AreRows lent rows) × (page ≡ tree_text drawn.tree 40 rows)
 
 -- OTLP's JSON, by what a reader finds in it
 abbrev pub DrawsJson : {A : Type 0} → List (Arc (ViewSpan A) A) → List ℕ → Type 0
@@ -35,5 +28,5 @@ Draws forms.Json trace spans page = DrawsJson spans page
 -- what a page may still write
 abbrev pub SiteWrites : SitePage → List ℕ → Type 0
 SiteWrites (pages.Page page) bytes = html_bytes (still_writes page) ≡ bytes
+SiteWrites (pages.Text text) bytes = still_text text ≡ bytes
 SiteWrites (pages.Json json) bytes = StillWrites json bytes
-SiteWrites (pages.Whole whole) bytes = whole.items ≡ bytes

@@ -20,7 +20,6 @@ mod shared;
 mod show;
 mod site;
 mod site_filter;
-mod spans;
 
 pub use account_book::{Blank, Naming};
 pub use filter::TraceFilter;

@@ -3,17 +3,17 @@
 use http_connection::Pieces;
 use std::alloc::AllocError;
 use view_json::TraceJson;
-use view_pages::TracePage;
+use view_pages::{TracePage, TraceText};
 
-/// What writes a trace: a page or JSON in pieces, or what is written whole.
+/// What writes a trace, in pieces.
 #[derive(Drop)]
 pub enum SitePage {
     /// A page for a browser.
     Page(TracePage),
+    /// A text for a terminal.
+    Text(TraceText),
     /// OTLP's JSON for a program.
     Json(TraceJson),
-    /// A text, in one piece.
-    Whole(Vec<u8>),
 }
 
 impl Pieces for SitePage {
@@ -27,12 +27,11 @@ impl Pieces for SitePage {
                 Ok(more) => Ok(more),
                 Err(_) => Err(AllocError),
             },
+            SitePage::Text(text) => match text.next(out) {
+                Ok(more) => Ok(more),
+                Err(_) => Err(AllocError),
+            },
             SitePage::Json(json) => json.next(out),
-            SitePage::Whole(bytes) => {
-                out.extend_from_slice(bytes)?;
-                bytes.clear();
-                Ok(false)
-            }
         }
     }
 }

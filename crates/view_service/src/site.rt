@@ -1,21 +1,21 @@
 //! The site.
 
 ghost use Rattle.std.specs.Prelude.{◌≡◌, ◌++◌, IfOk, IsOk, List, OnOk, string_bytes, ℕ};
-ghost use Rattle.view_service.specs.Drawn.{DrawsJson, DrawsText, Draws, SiteWrites};
+ghost use Rattle.view_pages.specs.Texts.{DrawsText};
+ghost use Rattle.view_service.specs.Drawn.{DrawsJson, Draws, SiteWrites};
 
 use crate::counts::{answered_of, stats_of};
 use crate::lists::{lines_of, summaries_of};
 use crate::page::SitePage;
 use crate::script::SCRIPT;
 use crate::site_filter::SiteFilter;
-use crate::spans::lend;
 use crate::{Asked, Counts, ListForm, Listed, Pages, Tallies, TraceForm};
 use std::alloc::{AllocError, Global};
 use std::sync::Arc;
 use trace_store::{TraceDigest, ViewSpan};
 use view_json::{TraceJson, write_metrics, write_stats, write_traces};
 use view_pages::{
-    Filter, FilterFault, STYLE, TracePage, write_list_page, write_notice_page, write_trace_text,
+    Filter, FilterFault, STYLE, TracePage, TraceText, write_list_page, write_notice_page,
 };
 
 /// The pages of `view_pages`, and the answers for programs of `view_json`.
@@ -54,16 +54,14 @@ fn page_of(alloc: Global, trace: u128, spans: Vec<Arc<ViewSpan>>) -> Result<Site
 }
 
 /// A trace as a text.
-fn text_of(alloc: Global, spans: &[Arc<ViewSpan>]) -> Result<SitePage, AllocError>
+fn text_of(alloc: Global, spans: Vec<Arc<ViewSpan>>) -> Result<SitePage, AllocError>
     ensures { IfOk result (λ page. (bytes : List ℕ) → SiteWrites page bytes
-        → DrawsText spans.now bytes) }
+        → DrawsText spans.items bytes) }
 {
-    let lent = lend(alloc, spans)?;
-    let mut text = String::new(alloc);
-    let written = write_trace_text(&mut text, &lent);
-    let mut out = Vec::new(alloc);
-    put(&mut out, &text, written)?;
-    Ok(SitePage::Whole(out))
+    match TraceText::new(alloc, spans) {
+        Ok(text) => Ok(SitePage::Text(text)),
+        Err(_) => Err(AllocError),
+    }
 }
 
 /// A trace in OTLP's JSON.
@@ -156,7 +154,7 @@ impl Pages<Arc<ViewSpan>, TraceDigest> for Site {
     {
         match form {
             TraceForm::Page => page_of(self.alloc, trace, spans),
-            TraceForm::Text => text_of(self.alloc, &spans),
+            TraceForm::Text => text_of(self.alloc, spans),
             TraceForm::Json => Ok(json_of(self.alloc, spans)),
         }
     }

@@ -173,15 +173,3 @@ pub(crate) fn owned<A: Allocator + Copy>(
     }
     Ok(spans)
 }
-
-/// References to spans.
-pub(crate) fn lent<'a, A: Allocator + Copy>(
-    alloc: A,
-    spans: &'a [ViewSpan<A>],
-) -> Result<Vec<&'a ViewSpan<A>, A>, OutOfMemory> {
-    let mut lent = Vec::new(alloc);
-    for span in spans {
-        lent.push(span)?;
-    }
-    Ok(lent)
-}

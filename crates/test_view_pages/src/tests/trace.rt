@@ -1,11 +1,11 @@
 //! The page of a trace.
 use crate::tests::equal::{assert_equal, assert_has, assert_lacks};
-use crate::tests::made::{Made, lent, owned, spans_of};
+use crate::tests::made::{Made, owned};
 use otlp_ids::OutOfMemory;
 use std::alloc::{Allocator, Global};
 use std::test::Fail;
 use test_support::FailingAllocator;
-use view_pages::{TracePage, write_trace_text};
+use view_pages::{TracePage, TraceText};
 
 /// A name that tries to leave its place and to turn the text around it.
 const HOSTILE: &str = "</b><script>alert(\"1\" & '2')</script>\u{202e}\0";
@@ -52,6 +52,22 @@ fn written<A: Allocator + Copy>(
     let mut bytes = Vec::new(alloc);
     for count in 1..1_000_000usize {
         if !page.next(&mut bytes)? {
+            return Ok((text_of(alloc, bytes), count));
+        }
+    }
+    Ok((String::new(alloc), 0))
+}
+
+/// The text of the trace of these spans, written to its end, and in how many pieces: below a
+/// million.
+fn written_text<A: Allocator + Copy>(
+    alloc: A,
+    all: &[Made],
+) -> Result<(String<A>, usize), OutOfMemory> {
+    let mut text = TraceText::new(alloc, owned(alloc, all)?)?;
+    let mut bytes = Vec::new(alloc);
+    for count in 1..1_000_000usize {
+        if !text.next(&mut bytes)? {
             return Ok((text_of(alloc, bytes), count));
         }
     }
@@ -172,10 +188,8 @@ fn a_panel_has_what_was_received(rt: HostRuntime) -> Result<(), Fail> {
 
 #[test]
 fn the_text_of_a_trace_has_a_line_for_each_span(rt: HostRuntime) -> Result<(), Fail> {
-    let alloc = rt.alloc();
-    let spans = spans_of(alloc, all().as_slice())?;
-    let mut text = String::new(alloc);
-    write_trace_text(&mut text, &lent(alloc, &spans)?)?;
+    let (text, count) = written_text(rt.alloc(), all().as_slice())?;
+    assert_equal(&rt, count, 1);
     assert_equal(&rt, count_of(&text, "\n"), 7);
     assert_has(&rt, &text, "10.0ms  parent not received\n");
     Ok(())
@@ -192,6 +206,9 @@ fn a_large_trace_is_drawn(rt: HostRuntime) -> Result<(), Fail> {
     let (text, count) = written(alloc, page)?;
     assert_equal(&rt, count_of(&text, "<li data-row='"), 10000);
     assert_equal(&rt, count_of(&text, "identifier is repeated"), 0);
+    assert_equal(&rt, text.len() / (2 * 65536) < count, true);
+    let (text, count) = written_text(alloc, &all)?;
+    assert_equal(&rt, count_of(&text, "\n"), 10000);
     assert_equal(&rt, text.len() / (2 * 65536) < count, true);
     Ok(())
 }
