@@ -1,5 +1,5 @@
 //! What `trace-demo` is asked for.
-ghost use Rattle.std.specs.Prelude.{◌≡◌, ◌≤◌, ◌↔◌, IfSome, IsNone};
+ghost use Rattle.std.specs.Prelude.{◌≡◌, ◌↔◌, IfSome, IsNone};
 ghost use Rattle.trace_demo.specs.Args.{IsInRange};
 
 /// What `trace-demo` is asked for. Its numbers are in their ranges. (the ranges: profile)
@@ -24,7 +24,6 @@ pub struct DemoArgs {
     /// Whether counts are shown besides.
     pub is_verbose: bool,
     ghost in_range: { IsInRange threads spans queue batch },
-    ghost soak_in_range: { soak ≤ 1_000_000_000 },
 }
 
 /// By how many kilobytes memory may rise, where that isn't named. (profile)

@@ -75,6 +75,18 @@ const NUMBERS: [NumberOption<'static>; 7] = [
     },
 ];
 
+/// The command line.
+const LINE: CommandLine<'static> = CommandLine {
+    program: "trace-demo",
+    about: "Ends spans on threads, and posts them to a collector of its own",
+    numbers: &NUMBERS,
+    texts: &[],
+    flag: Some(FlagOption {
+        name: "verbose",
+        help: "Shows counts on standard error",
+    }),
+};
+
 impl DemoArgs {
     /// Reads the words of the command line, of which the first is the program's name: `--seed`,
     /// `--threads`, `--spans`, `--queue`, `--batch`, `--soak` and `--slack`, each with a number
@@ -103,17 +115,7 @@ fn read_words(alloc: Global, words: &[String]) -> Result<DemoArgs, ArgFault>
     ensures in_range { IfOk result (λ a. IsInRange a.threads a.spans a.queue a.batch) }
     ensures refused { IfErr result (IsCause words.now) }
 {
-    let line = CommandLine {
-        program: "trace-demo",
-        about: "Ends spans on threads, and posts them to a collector of its own",
-        numbers: &NUMBERS,
-        texts: &[],
-        flag: Some(FlagOption {
-            name: "verbose",
-            help: "Shows counts on standard error",
-        }),
-    };
-    let found = line.read(alloc, words)?;
+    let found = LINE.read(alloc, words)?;
     let (seed, spans) = (found.numbers[0], found.numbers[2]);
     let threads = found.numbers[1] as usize;
     let (queue, batch) = (found.numbers[3] as usize, found.numbers[4] as usize);
@@ -124,7 +126,7 @@ fn read_words(alloc: Global, words: &[String]) -> Result<DemoArgs, ArgFault>
             args.is_verbose = found.is_set;
             Ok(args)
         }
-        None => Err(large_batch(alloc, &line, batch as u64, queue as u64)),
+        None => Err(large_batch(alloc, &LINE, batch as u64, queue as u64)),
     }
 }
 
