@@ -38,7 +38,7 @@ fn write_children<W: Write>(
     parent: Option<SpanId>,
     depth: usize,
 ) -> io::Result<()> {
-    // No child stands deeper than there are spans.
+    // No child is deeper than there are spans.
     if depth >= spans.len() {
         return Ok(());
     }
@@ -51,7 +51,7 @@ fn write_children<W: Write>(
     Ok(())
 }
 
-/// Writes the spans of traces that began here as a tree: a child stands indented under its parent.
+/// Writes the spans of traces that began here as a tree: a child is indented under its parent.
 pub fn write_tree<W: Write>(output: &mut W, spans: &[SpanData]) -> io::Result<()> {
     write_children(output, spans, None, 0)
 }

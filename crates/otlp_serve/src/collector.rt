@@ -45,7 +45,7 @@ impl TakeBody for Vec<Vec<u8>> {
 /// [`Post::refusal`](crate::Post::refusal) say; each other request is answered by what takes its
 /// body. A read and a write may take ten seconds each, and a body has 16 MiB at most. (profile)
 ///
-/// One that is let go goes on until the program ends.
+/// One that is freed goes on until the program ends.
 #[derive(Drop)]
 pub struct Collector<T> {
     port: u16,

@@ -1,4 +1,4 @@
--- How a span starts for a thread, and what stands in its place where it doesn't.
+-- How a span starts for a thread, and what is in its place where it doesn't.
 use Rattle.std.specs.Prelude.{◌≡◌, ℕ, ◌⊎◌, List, [], replicate, false, Option, Some, None}
 use Rattle.rand_core.specs.Stream.{Stream}
 use Rattle.model_span.specs.Sampling.{SamplerMeaning, valid_parent}

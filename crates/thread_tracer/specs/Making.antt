@@ -15,7 +15,7 @@ abbrev pub IsNotStarted : {A : Type 0} → Made A → Type 0
 IsNotStarted (Started span context) = ⊥
 IsNotStarted (NotStarted context) = Unit {0}
 
--- a span has started, and its context is given once more; or a context stands in its place
+-- a span has started, and its context is given once more; or a context is in its place
 abbrev pub Makes : {S R C A : Type 0} → (S → SamplerMeaning) → (R → Stream) → (C → ℕ → Type 0)
     → MakerState S R C → Option Context → List ℕ → Kind → Made A → MakerState S R C → Type 0
 Makes meaning stream tells old parent name kind (Started span context) new =

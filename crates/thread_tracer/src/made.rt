@@ -30,7 +30,7 @@ pub(crate) struct Maker<'a, S: Sampler, R, C, A: Allocator> {
 pub(crate) enum Made<A: Allocator> {
     /// The span, and its context once more.
     Started(Span<A>, SpanContext<A>),
-    /// The context that stands in its place.
+    /// The context in its place.
     NotStarted(SpanContext<A>),
 }
 

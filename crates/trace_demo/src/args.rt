@@ -30,8 +30,8 @@ pub struct DemoArgs {
 pub(crate) const DEFAULT_SLACK: u64 = 2_048;
 
 impl DemoArgs {
-    /// What is asked for by these numbers, with the defaults of all else. `None` where one of them is
-    /// out of its range.
+    /// What is asked for by these numbers, with the defaults of all else. `None` where one of them
+    /// is out of its range.
     pub fn new(
         seed: u64,
         threads: usize,

@@ -184,7 +184,8 @@ where
     Some(())
 }
 
-/// Ends the spans of a round on these passes, and keeps the passes. `None` where memory was refused.
+/// Ends the spans of a round on these passes, and keeps the passes. `None` where memory was
+/// refused.
 fn end_on_all<J, R>(
     rt: &R,
     alloc: Global,

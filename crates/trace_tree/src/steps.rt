@@ -29,8 +29,8 @@ pub struct Kin {
 /// The first spans of a list, of which the parents are known.
 ///
 /// `arrange` in steps, so that other work may be done between them, for a caller who looks parents
-/// up: `add` each span of the list, in order, then `open`, `sort` and make the `rows`. The steps but
-/// for `add` take time for all spans, but look no identifier up.
+/// up: `add` each span of the list, in order, then `open`, `sort` and make the `rows`. The steps
+/// but for `add` take time for all spans, but look no identifier up.
 #[derive(Drop)]
 pub struct Arranging<A: Allocator> {
     parents: Vec<Option<usize>, A>,

@@ -1,9 +1,9 @@
 //! Traces and counts for programs: as JSON, and as Prometheus reads them.
 //!
-//! `TraceJson` writes a trace as OTLP's JSON has it (opentelemetry-proto, "JSON Protobuf Encoding"),
-//! in pieces; `write_traces` writes a list of traces, `write_stats` what is counted, and
-//! `write_metrics` the same as text for Prometheus. What a reader of JSON sees of the first three is
-//! what the definitions say.
+//! `TraceJson` writes a trace as OTLP's JSON has it (opentelemetry-proto, "JSON Protobuf
+//! Encoding"), in pieces; `write_traces` writes a list of traces, `write_stats` what is counted,
+//! and `write_metrics` the same as text for Prometheus. What a reader of JSON sees of the first
+//! three is what the definitions say.
 #![tactic(auto)]
 
 mod field;
