@@ -2,12 +2,6 @@
 
 mod equal;
 mod fixture;
-mod nested;
-mod paths;
-mod refusals;
 mod serving;
-mod shapes;
 mod starting;
 mod stopping;
-mod thread;
-mod values;
